@@ -1,0 +1,4 @@
+pub mod Faults
+pub mod Messages
+pub mod Reading
+pub mod Examples
