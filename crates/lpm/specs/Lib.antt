@@ -2,3 +2,5 @@ pub mod Faults
 pub mod Messages
 pub mod Reading
 pub mod Examples
+pub mod Splits
+pub mod Writes

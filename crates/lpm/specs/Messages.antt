@@ -55,3 +55,10 @@ pub record IsFaultyAfter (bytes : List ℕ) (messages : List (List ℕ)) (fault 
 -- the numbers are bytes
 abbrev pub AreBytes : List ℕ → Type 0
 AreBytes bytes = (i : ℕ) → slice_index bytes i < 256
+
+-- bytes that end inside a message
+pub record IsCut (bytes : List ℕ) : Type 0 where
+  pub messages : List (List ℕ)
+  pub rest : List ℕ
+  pub spells : Spells bytes messages rest
+  pub some : 0 < length rest

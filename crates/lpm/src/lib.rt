@@ -5,8 +5,13 @@
 #![tactic(auto)]
 
 pub mod fault;
+pub mod laws;
+pub mod splitter;
+pub mod write;
 
 pub use fault::LpmFault;
+pub use splitter::Split;
+pub use write::write_message;
 
 /// The longest message that is read or written, in bytes.
 pub const MAX_MESSAGE_LEN: usize = 4_194_304;
