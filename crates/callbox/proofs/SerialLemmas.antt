@@ -1,15 +1,15 @@
 -- What one event does to an account, and that it stays lawful.
-use Rattle.std.proofs.Common.{◌≡◌, ◌≢◌, ℕ, zero, suc, ◌+◌, ◌-◌, ◌<◌, get_or, Bool, true, false, List, [], ◌∷◌, ◌++◌, length, Option, Some, None, refl, sym, ap, subst, ◌∙◌, append_assoc, arith, ◌⊎◌, inl, inr}
-use Rattle.std.specs.Prelude.{All, slice_get, is_none, is_some, IsTrue}
+use Rattle.std.proofs.Common.{◌≡◌, ℕ, zero, suc, ◌<◌, get_or, true, false, List, [], ◌∷◌, ◌++◌, length, Option, Some, None, refl, sym, ap, ◌∙◌, append_assoc, arith, inl, inr}
+use Rattle.std.specs.Prelude.{All, slice_get, is_none, is_some}
 use Rattle.std.proofs.lemmas.List.{append-nil, length-append}
-use Rattle.std.proofs.lemmas.List.Elements.{All-push, All-nil}
+use Rattle.std.proofs.lemmas.List.Elements.{All-nil}
 use Rattle.hpack_codec.specs.declared.fields.Field.{Field}
 use Rattle.lpm.specs.declared.fault.LpmFault.{LpmFault}
 use Rattle.lpm.specs.declared.fault.LpmFault.TheVariants.{Compressed, BadFlag, TooLong, CutAtEnd, OutOfMemory}
-use Rattle.lpm.specs.Messages.{frame, frames, IsMessage, IsFrame, IsUnfinished, IsFaulty, Spells, IsFaultyAfter, IsCut, IsNotCut}
-use Rattle.lpm.specs.Reading.{Reading, reading_of, messages_of, rest_of, fault_of, is_frame}
+use Rattle.lpm.specs.Messages.{frame, frames, IsMessage, IsUnfinished, IsFaulty, Spells, IsCut, IsNotCut}
+use Rattle.lpm.specs.Reading.{Reading, messages_of, rest_of, fault_of}
 use Rattle.lpm.specs.Splits.{Stands}
-use Rattle.lpm.proofs.Readings.{frames-push, IsFaultyAfter-longer, Spells-read, IsFaultyAfter-read, never_both}
+use Rattle.lpm.proofs.Readings.{IsFaultyAfter-longer, Spells-read, IsFaultyAfter-read, never_both}
 use Rattle.lpm.proofs.Behind.{reading_of-frame, reading_of-frames}
 use Rattle.callbox.specs.declared.account.Account.{Account}
 use Rattle.callbox.specs.declared.account.CallEvent.TheVariants as event
@@ -19,7 +19,7 @@ use Rattle.callbox.specs.declared.account.Shut.{Shut}
 use Rattle.callbox.specs.declared.account.Shut.TheVariants as shut
 use Rattle.callbox.specs.declared.account.Told.{Told}
 use Rattle.callbox.specs.declared.account.Told.TheVariants as told
-use Rattle.callbox.specs.Accounts.{Begins, IsBody, IsResponse, MayTellFault, MayTell, IsLawful}
+use Rattle.callbox.specs.Accounts.{Begins, IsBody, IsResponse, MayTell, IsLawful}
 use Rattle.callbox.specs.Runs.{telling, after_next, may_follow, last_of, after}
 use Rattle.callbox.specs.declared.serial.SerialCall.{SerialCall}
 use Rattle.callbox.specs.SerialCalls.{account_of, IsConsistent, IsFramed}

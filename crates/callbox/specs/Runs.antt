@@ -1,5 +1,5 @@
 -- The account that a list of events makes.
-use Rattle.std.specs.Prelude.{◌≡◌, ℕ, ◌-◌, Bool, true, false, List, [], ◌∷◌, ◌++◌, length, Option, Some, None, slice_get, fold, if◌then◌else◌, is_none}
+use Rattle.std.specs.Prelude.{ℕ, ◌-◌, Bool, true, false, List, [], ◌∷◌, ◌++◌, length, Option, Some, None, slice_get, fold, if◌then◌else◌, is_none}
 use Rattle.lpm.specs.declared.fault.LpmFault.{LpmFault}
 use Rattle.lpm.specs.declared.fault.LpmFault.TheVariants.{CutAtEnd}
 use Rattle.lpm.specs.Reading.{is_frame, messages_of, rest_of, fault_of}

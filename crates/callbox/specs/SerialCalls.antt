@@ -1,5 +1,5 @@
 -- What is kept while events are replayed.
-use Rattle.std.specs.Prelude.{◌≡◌, List, ◌++◌, All}
+use Rattle.std.specs.Prelude.{◌≡◌, ◌++◌, All}
 use Rattle.lpm.specs.Messages.{frames, IsMessage, IsFrame}
 use Rattle.callbox.specs.declared.account.Account.{Account}
 use Rattle.callbox.specs.declared.account.OutItem.{OutItem}

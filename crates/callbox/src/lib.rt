@@ -15,3 +15,6 @@ pub mod serial;
 pub use account::{Account, CallEvent, OutItem, Shut, Told};
 pub use sequence::Sequence;
 pub use serial::replay;
+
+#[cfg(test)]
+mod tests;

@@ -1,7 +1,12 @@
 //! Length-prefixed messages, as gRPC sends them in the DATA of a call.
 //!
-//! A message is one flag byte (0, as it isn't compressed), its length in four bytes, big-endian, and
-//! that many bytes (gRPC over HTTP/2, PROTOCOL-HTTP2.md, "Length-Prefixed-Message").
+//! A message is one flag byte (0, as it isn't compressed), its length in four bytes, big-endian, and that many
+//! bytes (gRPC over HTTP/2, PROTOCOL-HTTP2.md, "Length-Prefixed-Message"). `specs/Messages.antt` says which messages
+//! a list of bytes spells, and how far; `laws` that there is one such reading of every list. `Splitter` answers
+//! that reading, in whatever pieces the bytes come, and `write_message` spells one message.
+//!
+//! Read `fault`, `laws`, `write`, `front` (the message at the front of some bytes), then `splitter`, and `tail` (where
+//! bytes end) last.
 #![tactic(auto)]
 
 pub mod fault;
@@ -18,3 +23,6 @@ pub use write::write_message;
 
 /// The longest message that is read or written, in bytes.
 pub const MAX_MESSAGE_LEN: usize = 4_194_304;
+
+#[cfg(test)]
+mod tests;

@@ -1,7 +1,6 @@
-use Rattle.std.proofs.Common.{◌≡◌, true, false, ◌++◌, List, ℕ, Vec, sym, ap, subst, ◌∙◌, append_assoc, rules}
-use Rattle.std.specs.Prelude.{is_none, is_some}
+use Rattle.std.proofs.Common.{◌≡◌, true, false, ◌++◌, List, ℕ, sym, ap, subst, ◌∙◌, append_assoc, rules}
+use Rattle.std.specs.Prelude.{is_some}
 use Rattle.lpm.specs.Messages.{frames}
-use Rattle.callbox.specs.declared.account.Account.{Account}
 use Rattle.callbox.specs.Accounts.{MayTell}
 use Rattle.callbox.specs.SerialCalls.{account_of}
 use Rattle.callbox.proofs.SerialLemmas.{after-feed, after-feed_shut, MayTell-longer, none_unless, some_then}

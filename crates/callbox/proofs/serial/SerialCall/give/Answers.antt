@@ -1,6 +1,4 @@
-use Rattle.std.proofs.Common.{◌≡◌, true, false, ◌++◌, [], ◌∷◌, List, Option, None, Some, sym, ap, refl, subst, ◌∙◌, rules}
-use Rattle.std.specs.Option.{option_copied}
-use Rattle.callbox.specs.declared.account.Account.{Account}
+use Rattle.std.proofs.Common.{◌≡◌, true, false, ◌++◌, [], ◌∷◌, List, Option, sym, ap, refl, subst, ◌∙◌}
 use Rattle.callbox.specs.declared.account.OutItem.{OutItem}
 use Rattle.callbox.specs.Accounts.{Begins, IsResponse}
 use Rattle.callbox.specs.Runs.{may_follow, last_of}

@@ -1,7 +1,7 @@
 use Rattle.std.proofs.Common.{◌≡◌, true, false, sym, rules}
 use Rattle.std.specs.Prelude.{is_none}
 use Rattle.callbox.specs.SerialCalls.{account_of}
-use Rattle.callbox.proofs.SerialLemmas.{after-shut, after-shut_shut, MayTell-shut}
+use Rattle.callbox.proofs.SerialLemmas.{after-shut, after-shut_shut}
 use Rattle.callbox.proofs.serial.SerialCall.shut.Goals as goal
 
 pub returns-then-is_none-clause-account : goal.returns-then-is_none-clause-account

@@ -1,16 +1,10 @@
-use Rattle.std.proofs.Common.{◌≡◌, true, false, ◌++◌, [], ◌∷◌, List, ℕ, Option, None, Some, sym, ap, subst, ◌∙◌, refl, rules}
-use Rattle.std.specs.Prelude.{is_some, All}
-use Rattle.std.proofs.lemmas.List.Elements.{All-push}
-use Rattle.lpm.specs.declared.fault.LpmFault.TheVariants.{OutOfMemory}
-use Rattle.lpm.specs.Messages.{frame, frames, IsMessage, IsFaulty, IsUnfinished}
-use Rattle.lpm.proofs.Readings.{frames-push}
-use Rattle.callbox.specs.declared.account.Account.{Account}
+use Rattle.std.proofs.Common.{◌≡◌, true, false, ◌++◌, List, ℕ, Option, None, sym, ap, ◌∙◌, rules}
+use Rattle.std.specs.Prelude.{is_some}
+use Rattle.lpm.specs.Messages.{frames, IsFaulty}
 use Rattle.callbox.specs.declared.account.Told.{Told}
-use Rattle.callbox.specs.declared.account.Told.TheVariants as told
-use Rattle.callbox.specs.Accounts.{MayTell}
 use Rattle.callbox.specs.Runs.{telling}
 use Rattle.callbox.specs.SerialCalls.{account_of}
-use Rattle.callbox.proofs.SerialLemmas.{told_none, after-told_some, after-take_message, after-take_more, after-take_fault, MayTell-more, MayTell-fault, stands_there}
+use Rattle.callbox.proofs.SerialLemmas.{told_none, after-told_some, after-take_message, after-take_more, after-take_fault, MayTell-fault, stands_there}
 use Rattle.callbox.proofs.serial.SerialCall.take.Goals as goal
 
 pub returns-then-is_some-clause-account : goal.returns-then-is_some-clause-account
