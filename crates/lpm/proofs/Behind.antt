@@ -1,15 +1,14 @@
 -- The reading of whole messages and more behind them.
-use Rattle.std.proofs.Common.{◌≡◌, ℕ, zero, suc, ◌+◌, ◌<◌, ◌≤◌, Bool, true, false, cond, ltb, eqb, List, [], ◌∷◌, ◌++◌, length, take, drop, Option, Some, None, refl, sym, ap, ◌∙◌, arith, inl, inr}
+use Rattle.std.proofs.Common.{◌≡◌, ℕ, zero, suc, ◌<◌, ◌≤◌, Bool, true, false, cond, eqb, List, [], ◌∷◌, ◌++◌, length, drop, None, refl, ap, ◌∙◌, arith, inl, inr}
 use Rattle.std.specs.List.{All}
 use Rattle.std.proofs.lemmas.Bool.{cases_lt, cases_eq, lt-ltb, le-ltb, eq-eqb, ne_eqb}
-use Rattle.std.proofs.lemmas.List.{length-append, length-drop, append-nil}
+use Rattle.std.proofs.lemmas.List.{length-append, length-drop}
 use Rattle.std.proofs.lemmas.List.Elements.{All-head, All-tail}
 use Rattle.lpm.specs.declared.TheConstants.{MAX_MESSAGE_LEN}
-use Rattle.lpm.specs.declared.fault.LpmFault.{LpmFault}
-use Rattle.lpm.specs.declared.fault.LpmFault.TheVariants.{Compressed, BadFlag, TooLong}
+use Rattle.lpm.specs.declared.fault.LpmFault.TheVariants.{Compressed, BadFlag}
 use Rattle.lpm.specs.Messages.{frame, frames, announced, IsMessage}
 use Rattle.lpm.specs.Reading.{Front, Whole, Unfinished, Faulty, front_of_message, front_of_length, front_of, Reading, ended, with_front, reading_behind, reading_within, reading_of}
-use Rattle.lpm.proofs.Fronts.{length-frame, front_of-frame}
+use Rattle.lpm.proofs.Fronts.{front_of-frame}
 use Rattle.lpm.proofs.Readings.{frames-cons}
 
 -- what stands behind a message is shorter

@@ -1,9 +1,9 @@
 -- How far the message at the front goes.
-use Rattle.std.proofs.Common.{◌≡◌, ℕ, zero, suc, ◌+◌, ◌^◌, ◌<◌, ◌≤◌, Bool, true, false, cond, ltb, eqb, List, [], ◌∷◌, ◌++◌, length, get_or, take, drop, Result, Ok, Err, refl, sym, ap, subst, ◌∙◌, append_assoc, arith, inl, inr}
+use Rattle.std.proofs.Common.{◌≡◌, ℕ, suc, ◌+◌, ◌<◌, ◌≤◌, cond, ltb, eqb, List, [], ◌∷◌, ◌++◌, length, get_or, take, drop, Ok, Err, refl, sym, ap, subst, ◌∙◌, append_assoc, arith, inl, inr}
 use Rattle.std.specs.Int.{w32, from_be_bytes}
 use Rattle.std.specs.List.{concat}
 use Rattle.std.proofs.lemmas.Bool.{cases_lt, cases_eq, lt-ltb, le-ltb, eq-eqb, ne_eqb}
-use Rattle.std.proofs.lemmas.List.{append-nil, nil_from_length, take-append-drop, length-append, length-take, length-drop, drop-take, drop-drop}
+use Rattle.std.proofs.lemmas.List.{append-nil, nil_from_length, length-take, drop-take, drop-drop}
 use Rattle.std.specs.List.{All}
 use Rattle.std.proofs.lemmas.List.Elements.{All-push}
 use Rattle.std.proofs.lemmas.List.Folds.{concat-append}
@@ -12,7 +12,7 @@ use Rattle.lpm.specs.declared.fault.LpmFault.{LpmFault}
 use Rattle.lpm.specs.declared.fault.LpmFault.TheVariants.{Compressed, BadFlag, TooLong, CutAtEnd, OutOfMemory}
 use Rattle.lpm.specs.declared.splitter.Split.{Split}
 use Rattle.lpm.specs.declared.splitter.Split.TheVariants.{Message, More, Fault}
-use Rattle.lpm.specs.Messages.{frame, frames, announced, IsMessage, IsUnfinished, IsFaulty, Spells, IsFaultyAfter, AreBytes}
+use Rattle.lpm.specs.Messages.{frame, frames, announced, IsMessage, IsUnfinished, IsFaulty, IsFaultyAfter, AreBytes}
 use Rattle.lpm.specs.Splits.{Stands, Answers, Continues}
 use Rattle.lpm.specs.Fronts.{extent_of, Extends, IsExtent, TakesFront, waiting}
 use Rattle.lpm.proofs.Fronts.{AreBytes-take, is_framed}

@@ -1,5 +1,5 @@
 -- What is known of the rest behind the last whole message by its first five bytes and its length.
-use Rattle.std.proofs.Common.{take-add, ◌≡◌, ℕ, zero, suc, ◌+◌, ◌<◌, ◌≤◌, Bool, true, false, cond, ltb, eqb, List, [], ◌∷◌, ◌++◌, length, get_or, take, drop, Result, Ok, Err, refl, sym, ap, subst, ◌∙◌, append_assoc, arith, ◌⊎◌, inl, inr}
+use Rattle.std.proofs.Common.{take-add, ◌≡◌, ℕ, suc, ◌+◌, ◌<◌, ◌≤◌, Bool, true, false, cond, ltb, eqb, List, [], ◌∷◌, ◌++◌, length, get_or, take, drop, Result, Ok, Err, refl, sym, ap, subst, ◌∙◌, append_assoc, arith, ◌⊎◌, inl, inr}
 use Rattle.std.specs.List.{All, concat}
 use Rattle.std.proofs.lemmas.Bool.{cases_lt, cases_eq, lt-ltb, le-ltb, eq-eqb, ne_eqb}
 use Rattle.std.proofs.lemmas.List.{append-nil, length-append, length-take, length-drop, take_all, take-take, take-append-drop, take-append-le, take_more, drop_all, nil_from_length}
@@ -9,7 +9,7 @@ use Rattle.lpm.specs.declared.TheConstants.{MAX_MESSAGE_LEN}
 use Rattle.lpm.specs.declared.fault.LpmFault.{LpmFault}
 use Rattle.lpm.specs.declared.fault.LpmFault.TheVariants.{Compressed, BadFlag, TooLong}
 use Rattle.lpm.specs.declared.tail.Tail.{Tail}
-use Rattle.lpm.specs.Messages.{frame, frames, announced, IsMessage, IsUnfinished, IsFaulty, Spells, IsFaultyAfter, AreBytes, IsCut, IsNotCut}
+use Rattle.lpm.specs.Messages.{frame, frames, announced, IsMessage, IsUnfinished, IsFaulty, AreBytes, IsCut, IsNotCut}
 use Rattle.lpm.specs.Fronts.{extent_of}
 use Rattle.lpm.specs.Tails.{Leaves, IsFaultySomewhere}
 use Rattle.lpm.proofs.Fronts.{is_framed}

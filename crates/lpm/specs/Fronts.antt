@@ -3,7 +3,7 @@ use Rattle.std.specs.Prelude.{◌≡◌, ℕ, ◌+◌, ◌*◌, ◌<◌, ◌≤�
 use Rattle.std.specs.List.{concat}
 use Rattle.lpm.specs.declared.TheConstants.{MAX_MESSAGE_LEN}
 use Rattle.lpm.specs.declared.fault.LpmFault.{LpmFault}
-use Rattle.lpm.specs.declared.fault.LpmFault.TheVariants.{Compressed, BadFlag, TooLong, CutAtEnd, OutOfMemory}
+use Rattle.lpm.specs.declared.fault.LpmFault.TheVariants.{Compressed, BadFlag, TooLong, OutOfMemory}
 use Rattle.lpm.specs.declared.splitter.Split.{Split}
 use Rattle.lpm.specs.declared.splitter.Split.TheVariants.{Message, More, Fault}
 use Rattle.lpm.specs.Messages.{frame, announced, IsMessage, IsUnfinished, IsFaulty}

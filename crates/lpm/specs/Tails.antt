@@ -1,8 +1,8 @@
 -- What is left behind the last whole message of some bytes. The words of the crate's own functions.
-use Rattle.std.specs.Prelude.{◌≡◌, ℕ, ◌<◌, ◌≤◌, List, [], ◌++◌, length, take, All, Ok}
+use Rattle.std.specs.Prelude.{◌≡◌, ℕ, List, ◌++◌, length, take, All}
 use Rattle.lpm.specs.declared.tail.Tail.{Tail}
 use Rattle.lpm.specs.declared.fault.LpmFault.{LpmFault}
-use Rattle.lpm.specs.Messages.{frames, IsMessage, IsUnfinished, IsFaultyAfter, Spells}
+use Rattle.lpm.specs.Messages.{frames, IsMessage, IsFaultyAfter, Spells}
 
 -- behind whole messages there is this many bytes, of which the first five are known
 pub record Leaves (bytes : List ℕ) (tail : Tail) : Type 0 where

@@ -55,13 +55,13 @@ fn fault_in(split: &Split) -> Option<LpmFault> {
     }
 }
 
-/// The messages with their prefixes, joined.
-fn spelled(alloc: Global, messages: &[Bytes]) -> Result<Vec<u8>, LpmFault> {
+/// Whether the messages with their prefixes, joined, are these bytes.
+fn are_spelled(alloc: Global, messages: &[Bytes], bytes: &[u8]) -> Result<bool, LpmFault> {
     let mut out = Vec::new(alloc);
     for message in messages {
         write_message(message.as_slice(), &mut out)?;
     }
-    Ok(out)
+    Ok(out.as_slice() == bytes)
 }
 
 /// Bytes, the front of them that is whole messages, how many those are, the fault behind them, and how the bytes end.
@@ -104,6 +104,21 @@ const fn faulty(input: &'static [u8], whole: &'static [u8], count: usize, fault:
     }
 }
 
+/// Whether the answers are those of the case. The end is judged the same before the messages are answered and after it,
+/// and what was answered behind them is answered again.
+fn is_right(alloc: Global, case: Case, cut: usize, push: Push) -> Result<bool, LpmFault> {
+    let mut splitter = splitter_of(alloc, case.input, cut, push)?;
+    let ends = splitter.end() == case.end;
+    let (messages, split) = answers(alloc, &mut splitter, 9)?;
+    Ok(
+        ends && messages.len() == case.count
+            && are_spelled(alloc, &messages, case.whole)?
+            && fault_in(&split) == case.fault
+            && splitter.end() == case.end
+            && fault_in(&splitter.next()) == case.fault,
+    )
+}
+
 #[test]
 fn messages_however_cut(rt: HostRuntime) -> Result<(), Fail> {
     let cases = [
@@ -126,47 +141,8 @@ fn messages_however_cut(rt: HostRuntime) -> Result<(), Fail> {
     for case in cases {
         for cut in [1, 2, 3, 4, 5, 6, 100] {
             for push in [Push::Copied, Push::Shared, Push::Mixed] {
-                let mut splitter = splitter_of(rt.alloc(), case.input, cut, push)?;
-                // The end is judged the same before the messages are answered and after it.
-                assert_eq!(rt;
-                    splitter.end(),
-                    case.end,
-                    "{:?} by {cut} {push:?}",
-                    case.input
-                );
-                let (messages, split) = answers(rt.alloc(), &mut splitter, 9)?;
-                assert_eq!(rt;
-                    messages.len(),
-                    case.count,
-                    "{:?} by {cut} {push:?}",
-                    case.input
-                );
-                let found = spelled(rt.alloc(), &messages)?;
-                assert_eq!(rt;
-                    found.as_slice(),
-                    case.whole,
-                    "{:?} by {cut} {push:?}",
-                    case.input
-                );
-                assert_eq!(rt;
-                    fault_in(&split),
-                    case.fault,
-                    "{:?} by {cut} {push:?}",
-                    case.input
-                );
-                assert_eq!(rt;
-                    splitter.end(),
-                    case.end,
-                    "{:?} by {cut} {push:?}",
-                    case.input
-                );
-                // It answers the same again.
-                assert_eq!(rt;
-                    fault_in(&splitter.next()),
-                    case.fault,
-                    "{:?} by {cut} {push:?}",
-                    case.input
-                );
+                let is_right = is_right(rt.alloc(), case, cut, push)?;
+                assert!(rt; is_right, "{:?} by {cut} {push:?}", case.input);
             }
         }
     }

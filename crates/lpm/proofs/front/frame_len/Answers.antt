@@ -1,8 +1,6 @@
-use Rattle.std.proofs.Common.{◌≡◌, ℕ, ◌<◌, ◌≤◌, length, get_or, subst, sym, Result, arith, rules}
-use Rattle.std.proofs.lemmas.Bool.{eqb-true, eqb-false}
-use Rattle.lpm.specs.declared.fault.LpmFault.{LpmFault}
-use Rattle.lpm.specs.Fronts.{extent_of, IsExtent}
-use Rattle.lpm.proofs.Extents.{read_len, extent_is, extent_of-nil, extent_of-compressed, extent_of-bad_flag, extent_of-short, extent_of-too_long, extent_of-lawful}
+use Rattle.std.proofs.Common.{subst, sym, arith, rules}
+use Rattle.lpm.specs.Fronts.{IsExtent}
+use Rattle.lpm.proofs.Extents.{extent_is, extent_of-nil, extent_of-compressed, extent_of-bad_flag, extent_of-short, extent_of-too_long, extent_of-lawful}
 use Rattle.lpm.proofs.front.frame_len.Goals as goal
 
 pub returns-then-is_empty-clause-extent : goal.returns-then-is_empty-clause-extent

@@ -1,4 +1,4 @@
-use Rattle.std.proofs.Common.{false, eqb, length, arith}
+use Rattle.std.proofs.Common.{false, eqb, length}
 use Rattle.lpm.proofs.Alone.{frame_by_length, no_frame, tested}
 use Rattle.lpm.proofs.front.is_frame.Goals as goal
 

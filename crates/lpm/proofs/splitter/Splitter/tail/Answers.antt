@@ -1,4 +1,4 @@
-use Rattle.std.proofs.Common.{◌++◌, [], List, ℕ, ◌∙◌, ap, sym, subst, append_assoc}
+use Rattle.std.proofs.Common.{◌++◌, [], List, ℕ, ◌∙◌, ap, subst, append_assoc}
 use Rattle.std.specs.List.{concat}
 use Rattle.std.proofs.lemmas.Result.{err_from_is_err_and}
 use Rattle.lpm.specs.Tails.{IsFaultySomewhere}

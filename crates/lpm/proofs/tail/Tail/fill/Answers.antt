@@ -1,4 +1,4 @@
-use Rattle.std.proofs.Common.{◌≡◌, ◌+◌, ◌≤◌, List, ℕ, length, take, ◌∙◌, ap, sym, Result, Ok, arith}
+use Rattle.std.proofs.Common.{◌≡◌, ◌+◌, ℕ, length, take, ◌∙◌, ap, sym, Result, Ok, arith}
 use Rattle.std.proofs.lemmas.List.{take_all, length-take, length-take-le}
 use Rattle.lpm.proofs.Tails.{extent_of-le, extent_of-five, leaves_more, known_short, known_long}
 use Rattle.lpm.specs.declared.fault.LpmFault.{LpmFault}

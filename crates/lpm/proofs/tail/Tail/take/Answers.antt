@@ -1,4 +1,4 @@
-use Rattle.std.proofs.Common.{◌≡◌, List, [], ℕ, take, refl, rules, arith}
+use Rattle.std.proofs.Common.{[], refl, arith}
 use Rattle.std.proofs.lemmas.Result.{err_from_is_err_and}
 use Rattle.lpm.proofs.Extents.{extent_of-nil}
 use Rattle.lpm.proofs.Tails.{leaves_whole, ended_leaves, leaves_fault}
