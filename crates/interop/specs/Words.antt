@@ -2,10 +2,11 @@
 use Rattle.std.specs.Prelude.{◌≤◌, ℕ, Bool, true, List, [], ◌∷◌, Option, Some, None, if◌then◌else◌, codes, option_map, option_and_then}
 use Rattle.std.specs.Str.{bytes_eq}
 use Rattle.std.specs.Str.Parse.{digits_value, without_leading_plus}
-use Rattle.clap.specs.Walk.{Row, Rule, Text, is_empty, one_of}
+use Rattle.clap.specs.Walk.{Row, Rule, Text, one_of}
 use Rattle.clap.specs.ValueTests.{is_unsigned_in}
 use Rattle.clap.specs.Simple.{App, new_app, new_rule, on_top, subcommand_of, with_rule, with_subcommand}
 use Rattle.clap.specs.Faults.{fault_of}
+use Rattle.clap.specs.Kinds.{Kinds}
 use Rattle.clap.specs.declared.builder.value_parser.ValueParser.TheVariants as value_parser
 use Rattle.interop.specs.declared.words.Words.{Words}
 use Rattle.interop.specs.declared.words.Words.TheVariants.{Body}
@@ -37,19 +38,22 @@ abbrev pub number_within : ℕ → ℕ → Text → Option ℕ
 number_within low high text =
     if is_unsigned_in low high text then Some (digits_value 10 (without_leading_plus text)) else None
 
--- a command with the values of its options
-abbrev pub command_of : Text → List Row → Option Words
-command_of name rows =
-    if bytes_eq name (codes "body")
-    then option_map Body (option_and_then (number_within 1 65536) (one_of (codes "cut") rows))
+-- the command of a name and of the values of its options
+abbrev pub command_of : Text × List Row → Option Words
+command_of p =
+    if bytes_eq p.0 (codes "body")
+    then option_map Body (option_and_then (number_within 1 65536) (one_of (codes "cut") p.1))
     else None
 
--- what some words mean where `clap` refuses none of them
+-- nothing, where `clap` refuses the words for any of these kinds of error
+abbrev pub unless_refused : Kinds → Option Words → Option Words
+unless_refused [] command = command
+unless_refused (kind ∷ kinds) command = None
+
+-- the command that some words mean to `clap`
 unfoldable pub command_meant : List Text → Option Words
-command_meant words =
-    if is_empty (fault_of command_line words)
-    then option_and_then (λ p. command_of p.0 p.1) (subcommand_of command_line words)
-    else None
+command_meant words = unless_refused (fault_of command_line words)
+    (option_and_then command_of (subcommand_of command_line words))
 
 -- what words mean, if anything: none at all are `body --cut 3`
 abbrev pub meaning_of : List Text → Option Words
