@@ -1,0 +1,6 @@
+pub mod Faults
+pub mod Messages
+pub mod Reading
+pub mod Examples
+pub mod Splits
+pub mod Writes

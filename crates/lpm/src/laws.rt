@@ -1,0 +1,29 @@
+//! Laws of the definitions, for whoever builds on them: functions that do nothing, and whose contracts are the laws.
+
+ghost use Rattle.std.specs.Prelude.{◌≡◌, ℕ, List, ◌++◌, Some, None, MatchOption};
+ghost use Rattle.lpm.specs.declared.fault.LpmFault.{LpmFault};
+ghost use Rattle.lpm.specs.Messages.{Spells, IsFaultyAfter, AreBytes};
+ghost use Rattle.lpm.specs.Reading.{messages_of, rest_of, fault_of};
+
+/// Of every list of bytes exactly one holds: it spells messages and an unfinished rest, or it is faulty behind
+/// messages; and that with one list of messages, `messages_of`.
+pub fn one_reading()
+    ensures some { (bytes : List ℕ) → AreBytes bytes → MatchOption (fault_of bytes)
+        (Spells bytes (messages_of bytes) (rest_of bytes))
+        (IsFaultyAfter bytes (messages_of bytes)) }
+    ensures spelled { (bytes : List ℕ) (messages : List (List ℕ)) (rest : List ℕ) → Spells bytes messages rest
+        → (messages_of bytes ≡ messages) × (rest_of bytes ≡ rest) × (fault_of bytes ≡ None) }
+    ensures faulty { (bytes : List ℕ) (messages : List (List ℕ)) (fault : LpmFault)
+        → IsFaultyAfter bytes messages fault
+        → (messages_of bytes ≡ messages) × (fault_of bytes ≡ Some fault) }
+    ensures never_both { (bytes : List ℕ) (messages others : List (List ℕ)) (rest : List ℕ) (fault : LpmFault)
+        → Spells bytes messages rest → IsFaultyAfter bytes others fault → ⊥ }
+{}
+
+/// The messages of a longer list begin with those of a shorter one, and a fault stays.
+pub fn longer_reading()
+    ensures messages { (bytes more : List ℕ) → AreBytes (bytes ++ more)
+        → (later : List (List ℕ)) × (messages_of (bytes ++ more) ≡ messages_of bytes ++ later) }
+    ensures fault { (bytes more : List ℕ) (messages : List (List ℕ)) (fault : LpmFault)
+        → IsFaultyAfter bytes messages fault → IsFaultyAfter (bytes ++ more) messages fault }
+{}

@@ -1,0 +1,17 @@
+//! Length-prefixed messages, as gRPC sends them in the DATA of a call.
+//!
+//! A message is one flag byte (0, as it isn't compressed), its length in four bytes, big-endian, and
+//! that many bytes (gRPC over HTTP/2, PROTOCOL-HTTP2.md, "Length-Prefixed-Message").
+#![tactic(auto)]
+
+pub mod fault;
+pub mod laws;
+pub mod splitter;
+pub mod write;
+
+pub use fault::LpmFault;
+pub use splitter::Split;
+pub use write::write_message;
+
+/// The longest message that is read or written, in bytes.
+pub const MAX_MESSAGE_LEN: usize = 4_194_304;
