@@ -1,3 +1,6 @@
 pub mod Device
+pub mod Hex
+pub mod HexExamples
+pub mod Report
 pub mod Words
 pub mod WordsExamples
