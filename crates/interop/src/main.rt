@@ -12,6 +12,7 @@
 #![tactic(auto)]
 
 mod device;
+mod report;
 mod text;
 mod words;
 
