@@ -3,7 +3,7 @@
 //! A device tells no more of a fault than that there was one, and remembers it by a mark that
 //! nothing clears. So whoever answers "the input failed" can be held to it: the mark of that
 //! reader is set. `Marked` makes a device of any std reader or writer.
-ghost use Rattle.std.specs.Prelude.{◌≡◌, ◌+◌, ◌<◌, ◌≤◌, ◌++◌, [], ◌∷◌, ℕ, Bool, true, false, List, Option, Some, None, take, drop, length, IfOk, OnOk, OnErr, IsErrOf, vec_len, ⊤};
+ghost use Rattle.std.specs.Prelude.{◌≡◌, ◌+◌, ◌<◌, ◌≤◌, ◌++◌, [], ◌∷◌, ℕ, Bool, true, false, List, Option, Some, None, take, drop, length, IfOk, OnOk, OnErr, IsErr, IsErrOf, vec_len, ⊤};
 ghost use Rattle.std.specs.Io.{ReadsAtMost, WritesAtMost};
 ghost use Rattle.std.specs.Io.KnownBytes.{Appends, Consumes, IsAtEnd, Keeps, ReadConsumes, WriteAppends};
 ghost use Rattle.interop.specs.Device.{AppendsFront, ConsumesSome};
@@ -122,21 +122,51 @@ pub struct Marked<T> {
 }
 
 impl<T> Marked<T> {
+    ghost use Rattle.interop.specs.Marked.{device_of, has_failed};
+
     /// The device, with no mark of failure.
     pub fn new(device: T) -> Marked<T>
-        ensures { result ≡ record { device = «device»; failed = false } }
+        ensures device { device_of result ≡ «device» }
+        ensures unmarked { has_failed result ≡ false }
     {
         Marked {
             device,
             failed: false,
         }
     }
+
+    /// Whether a read or a write failed.
+    pub fn has_failed(&self) -> bool
+        ensures { result ≡ has_failed self.now }
+    {
+        self.failed
+    }
+
+    // Sets the mark.
+    fn fail(&mut self) -> Result<usize, DeviceFault>
+        ensures fault { IsErr result }
+        ensures marked { has_failed self.new ≡ true }
+        ensures device { device_of self.new ≡ device_of self.old }
+    {
+        self.failed = true;
+        Err(DeviceFault)
+    }
+
+    /// The reader or writer.
+    pub fn into_inner(self) -> T
+        ensures { result ≡ device_of self }
+    {
+        let Marked { device, failed: _ } = self;
+        device
+    }
 }
 
 impl<T: Read> ConnRead for Marked<T> {
-    ghost remaining = { λ marked. T.remaining marked.device };
+    ghost use Rattle.interop.specs.Marked.{device_of, has_failed};
 
-    ghost failed = { λ marked. marked.failed };
+    ghost remaining = { λ marked. T.remaining (device_of marked) };
+
+    ghost failed = { has_failed };
 
     fn read(&mut self, buf: &mut [u8]) -> Result<usize, DeviceFault> {
         'tries: for _ in 0..u64::MAX {
@@ -149,15 +179,16 @@ impl<T: Read> ConnRead for Marked<T> {
                 }
             }
         }
-        self.failed = true;
-        Err(DeviceFault)
+        self.fail()
     }
 }
 
 impl<T: Write> ConnWrite for Marked<T> {
-    ghost contents = { λ marked. T.contents marked.device };
+    ghost use Rattle.interop.specs.Marked.{device_of, has_failed};
 
-    ghost failed = { λ marked. marked.failed };
+    ghost contents = { λ marked. T.contents (device_of marked) };
+
+    ghost failed = { has_failed };
 
     fn write(&mut self, buf: &[u8]) -> Result<usize, DeviceFault> {
         'tries: for _ in 0..u64::MAX {
@@ -175,7 +206,6 @@ impl<T: Write> ConnWrite for Marked<T> {
                 }
             }
         }
-        self.failed = true;
-        Err(DeviceFault)
+        self.fail()
     }
 }
