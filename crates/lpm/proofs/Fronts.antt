@@ -78,7 +78,7 @@ front_of-faulty (flag ∷ bytes) OutOfMemory h = absurd h
 
 -- ---- and back
 
-AreBytes-take : (n : ℕ) (bytes : List ℕ) → AreBytes bytes → AreBytes (take n bytes)
+pub AreBytes-take : (n : ℕ) (bytes : List ℕ) → AreBytes bytes → AreBytes (take n bytes)
 AreBytes-take n bytes h i =
     elim (cases_lt i n) [
       | inl lt ↦ rw (get_or-take n bytes i 0 lt) (h i)
@@ -86,12 +86,12 @@ AreBytes-take n bytes h i =
     ]
 
 -- a header and as many bytes as it announces are a frame
-pub is_framed : (bytes : List ℕ) → AreBytes bytes → 4 + announced bytes ≤ length bytes → 0 ∷ bytes ≡ frame (take (announced bytes) (drop 4 bytes)) ++ drop (announced bytes) (drop 4 bytes)
+pub is_framed : (bytes : List ℕ) → AreBytes (take 4 bytes) → 4 + announced bytes ≤ length bytes → 0 ∷ bytes ≡ frame (take (announced bytes) (drop 4 bytes)) ++ drop (announced bytes) (drop 4 bytes)
 unfolding announced
 is_framed bytes fits long =
     let n = from_be_bytes w32 (take 4 bytes) in
     let len : length (take n (drop 4 bytes)) ≡ n = omega (arith, length-take n (drop 4 bytes), length-drop 4 bytes) in
-    let header : to_be_bytes w32 n ≡ take 4 bytes = be_bytes_4 (take 4 bytes) n (omega (arith, length-take 4 bytes)) (AreBytes-take 4 bytes fits) refl in
+    let header : to_be_bytes w32 n ≡ take 4 bytes = be_bytes_4 (take 4 bytes) n (omega (arith, length-take 4 bytes)) fits refl in
     let parts : to_be_bytes w32 (length (take n (drop 4 bytes))) ++ (take n (drop 4 bytes) ++ drop n (drop 4 bytes)) ≡ bytes =
     ap (λ (k : ℕ). to_be_bytes w32 k ++ (take n (drop 4 bytes) ++ drop n (drop 4 bytes))) len
     ∙ ap (λ (h : List ℕ). h ++ (take n (drop 4 bytes) ++ drop n (drop 4 bytes))) header
@@ -108,7 +108,7 @@ front_is_length flag bytes zero_flag fits = elim (cases_lt (length bytes) 4) [
     | inr lawful ↦ rw (le-ltb MAX_MESSAGE_LEN (announced bytes) lawful) (elim (cases_lt (length (drop 4 bytes)) (announced bytes)) [
       | inl few ↦ rw (lt-ltb (length (drop 4 bytes)) (announced bytes) few) (zero_flag, λ _. (lawful, omega (arith, length-drop 4 bytes, few, le)))
       | inr all ↦ rw (le-ltb (length (drop 4 bytes)) (announced bytes) all)
-          (omega (arith, length-take (announced bytes) (drop 4 bytes), lawful), rw zero_flag (is_framed bytes fits (omega (arith, length-drop 4 bytes, all, le))))
+          (omega (arith, length-take (announced bytes) (drop 4 bytes), lawful), rw zero_flag (is_framed bytes (AreBytes-take 4 bytes fits) (omega (arith, length-drop 4 bytes, all, le))))
     ])
   ])
 ]

@@ -1,2 +1,4 @@
 pub mod Fronts
 pub mod Readings
+pub mod Extents
+pub mod Tails

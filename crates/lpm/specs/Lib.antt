@@ -4,3 +4,5 @@ pub mod Reading
 pub mod Examples
 pub mod Splits
 pub mod Writes
+pub mod Fronts
+pub mod Tails

@@ -1,7 +1,7 @@
 -- How a list of messages is spelled in the DATA bytes of a call: gRPC over HTTP/2, "Length-Prefixed-Message".
 -- A message is one flag byte, four bytes of length, and that many bytes. These are relations on whole lists of
 -- bytes: nothing here knows of pieces, nor of how far a reader has come.
-use Rattle.std.specs.Prelude.{◌≡◌, ℕ, ◌+◌, ◌<◌, ◌≤◌, List, [], ◌∷◌, ◌++◌, length, take, slice_index, All}
+use Rattle.std.specs.Prelude.{◌≡◌, ℕ, ◌+◌, ◌<◌, ◌≤◌, List, [], ◌∷◌, ◌++◌, length, take, slice_index, All, ◌⊎◌}
 use Rattle.std.specs.List.{flat_map}
 use Rattle.std.specs.Int.{w32, to_be_bytes, from_be_bytes}
 use Rattle.lpm.specs.declared.TheConstants.{MAX_MESSAGE_LEN}
@@ -62,3 +62,7 @@ pub record IsCut (bytes : List ℕ) : Type 0 where
   pub rest : List ℕ
   pub spells : Spells bytes messages rest
   pub some : 0 < length rest
+
+-- bytes that end with a message, or can't go on as messages
+abbrev pub IsNotCut : List ℕ → Type 0
+IsNotCut bytes = ((messages : List (List ℕ)) × Spells bytes messages []) ⊎ ((messages : List (List ℕ)) × (fault : LpmFault) × IsFaultyAfter bytes messages fault)

@@ -5,12 +5,14 @@
 #![tactic(auto)]
 
 pub mod fault;
+mod front;
 pub mod laws;
 pub mod splitter;
+mod tail;
 pub mod write;
 
 pub use fault::LpmFault;
-pub use splitter::Split;
+pub use splitter::{Split, Splitter};
 pub use write::write_message;
 
 /// The longest message that is read or written, in bytes.

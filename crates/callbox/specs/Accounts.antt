@@ -1,0 +1,62 @@
+-- Which accounts of a call are lawful.
+use Rattle.std.specs.Prelude.{◌≡◌, ◌≢◌, ℕ, List, [], ◌∷◌, ◌++◌, Option, Some, None}
+use Rattle.lpm.specs.declared.fault.LpmFault.{LpmFault}
+use Rattle.lpm.specs.declared.fault.LpmFault.TheVariants.{Compressed, BadFlag, TooLong, CutAtEnd, OutOfMemory}
+use Rattle.lpm.specs.Messages.{frame, frames, IsMessage, Spells, IsFaultyAfter}
+use Rattle.lpm.specs.Reading.{messages_of}
+use Rattle.callbox.specs.declared.account.Account.{Account}
+use Rattle.callbox.specs.declared.account.OutItem.{OutItem}
+use Rattle.callbox.specs.declared.account.OutItem.TheVariants.{Head, Message, Trailers}
+use Rattle.callbox.specs.declared.account.Shut.{Shut}
+use Rattle.callbox.specs.declared.account.Shut.TheVariants as shut
+use Rattle.callbox.specs.declared.account.Told.{Told}
+use Rattle.callbox.specs.declared.account.Told.TheVariants as told
+
+-- the first list begins the second
+abbrev pub Begins : {A : Type 0} → List A → List A → Type 0
+Begins {A} front all = (rest : List A) × (all ≡ front ++ rest)
+
+-- these bytes are one message with its prefix
+abbrev pub IsFrame : List ℕ → Type 0
+IsFrame bytes = (message : List ℕ) × IsMessage message × (bytes ≡ frame message)
+
+-- messages, and trailers at most at the end
+abbrev pub IsBody : List OutItem → Type 0
+IsBody [] = Unit {0}
+IsBody (Head fields ∷ items) = ⊥
+IsBody (Message bytes ∷ items) = IsFrame bytes × IsBody items
+IsBody (Trailers fields ∷ items) = items ≡ []
+
+-- What a handler may give: nothing, trailers alone, or a head, messages, and trailers at most at the end
+-- (gRPC over HTTP/2, "Responses").
+abbrev pub IsResponse : List OutItem → Type 0
+IsResponse [] = Unit {0}
+IsResponse (Head fields ∷ items) = IsBody items
+IsResponse (Message bytes ∷ items) = ⊥
+IsResponse (Trailers fields ∷ items) = items ≡ []
+
+-- A fault may be told only where it stands behind the messages that were taken: one of the bytes themselves, or that
+-- they ended inside a message. Want of memory is never told.
+abbrev pub MayTellFault : LpmFault → List ℕ → Option Shut → List (List ℕ) → Type 0
+MayTellFault Compressed fed closed taken = IsFaultyAfter fed taken Compressed
+MayTellFault BadFlag fed closed taken = IsFaultyAfter fed taken BadFlag
+MayTellFault TooLong fed closed taken = IsFaultyAfter fed taken TooLong
+MayTellFault CutAtEnd fed closed taken = (closed ≡ Some shut.End) × ((rest : List ℕ) × Spells fed taken rest × (rest ≢ []))
+MayTellFault OutOfMemory fed closed taken = ⊥
+
+-- The end may be told only where the half was ended and all its bytes were taken; a reset only where the half was reset
+-- and each message that came whole before it was taken.
+abbrev pub MayTell : Option Told → List ℕ → Option Shut → List (List ℕ) → Type 0
+MayTell None fed closed taken = Unit {0}
+MayTell (Some told.End) fed closed taken = (closed ≡ Some shut.End) × (fed ≡ frames taken)
+MayTell (Some (told.Reset code)) fed closed taken = (closed ≡ Some (shut.Reset code)) × ((rest : List ℕ) × Spells fed taken rest)
+MayTell (Some (told.Fault fault)) fed closed taken = MayTellFault fault fed closed taken
+
+pub record IsLawful (account : Account) : Type 0 where
+  -- each message once and in order, and none that wasn't fed
+  pub taken : Begins account.taken (messages_of account.fed)
+  pub told : MayTell account.told account.fed account.shut account.taken
+  -- each item once and in order, and none that wasn't given
+  pub sent : Begins account.sent account.given
+  -- a head first, trailers last
+  pub given : IsResponse account.given

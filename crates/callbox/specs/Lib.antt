@@ -1,0 +1,3 @@
+pub mod Accounts
+pub mod Runs
+pub mod Examples

@@ -1,0 +1,69 @@
+//! What happens to a call, and what is kept of it.
+
+use crate::Sequence;
+use bytes::Bytes;
+use hpack_codec::{Field, Octets};
+use lpm::LpmFault;
+
+/// How the client's half of a call was shut.
+#[derive(Clone, Copy, Debug, PartialEq, Eq)]
+pub enum Shut {
+    /// By its end: the client has sent all that it will.
+    End,
+    /// By a reset with this error code (RFC 9113, section 7).
+    Reset(u32),
+}
+
+/// What a call's handler was told behind the messages.
+#[derive(Clone, Copy, Debug, PartialEq, Eq)]
+pub enum Told {
+    /// There are no more messages.
+    End,
+    /// The call was reset, with this error code.
+    Reset(u32),
+    /// What was fed can't go on as messages, or ended inside one.
+    Fault(LpmFault),
+}
+
+/// What a call's handler answers with, an item at a time.
+#[derive(Debug, Drop)]
+pub enum OutItem {
+    /// Response headers.
+    Head(Sequence<Field>),
+    /// One message with its prefix.
+    Message(Bytes),
+    /// The trailers, or the one block of an answer that has no headers of its own.
+    Trailers(Sequence<Field>),
+}
+
+/// What may happen to a call.
+#[derive(Debug, Drop)]
+pub enum CallEvent {
+    /// A piece of the client's DATA came.
+    Feed(Bytes),
+    /// The client's half was shut.
+    Shut(Shut),
+    /// The handler took what there was to take.
+    Take,
+    /// The handler gave an item.
+    Give(OutItem),
+    /// An item left.
+    Send,
+}
+
+/// All that is kept of a call.
+#[derive(Debug, Drop)]
+pub struct Account {
+    /// The bytes that were fed, joined.
+    pub fed: Octets,
+    /// How the client's half was shut, if it was.
+    pub shut: Option<Shut>,
+    /// The messages that were taken.
+    pub taken: Sequence<Bytes>,
+    /// What was told behind them, if anything was.
+    pub told: Option<Told>,
+    /// The items that were given.
+    pub given: Sequence<OutItem>,
+    /// Those of them that left.
+    pub sent: Sequence<OutItem>,
+}

@@ -1,0 +1,1 @@
+//! The serial core of a call.
