@@ -2,7 +2,7 @@
 use Rattle.std.specs.Prelude.{◌≡◌, ◌≢◌, ℕ, List, [], ◌∷◌, ◌++◌, Option, Some, None}
 use Rattle.lpm.specs.declared.fault.LpmFault.{LpmFault}
 use Rattle.lpm.specs.declared.fault.LpmFault.TheVariants.{Compressed, BadFlag, TooLong, CutAtEnd, OutOfMemory}
-use Rattle.lpm.specs.Messages.{frame, frames, IsMessage, Spells, IsFaultyAfter}
+use Rattle.lpm.specs.Messages.{frames, IsFrame, Spells, IsFaultyAfter}
 use Rattle.lpm.specs.Reading.{messages_of}
 use Rattle.callbox.specs.declared.account.Account.{Account}
 use Rattle.callbox.specs.declared.account.OutItem.{OutItem}
@@ -15,10 +15,6 @@ use Rattle.callbox.specs.declared.account.Told.TheVariants as told
 -- the first list begins the second
 abbrev pub Begins : {A : Type 0} → List A → List A → Type 0
 Begins {A} front all = (rest : List A) × (all ≡ front ++ rest)
-
--- these bytes are one message with its prefix
-abbrev pub IsFrame : List ℕ → Type 0
-IsFrame bytes = (message : List ℕ) × IsMessage message × (bytes ≡ frame message)
 
 -- messages, and trailers at most at the end
 abbrev pub IsBody : List OutItem → Type 0

@@ -2,7 +2,7 @@
 use Rattle.std.specs.Prelude.{◌≡◌, ℕ, ◌-◌, Bool, true, false, List, [], ◌∷◌, ◌++◌, length, Option, Some, None, slice_get, fold, if◌then◌else◌, is_none}
 use Rattle.lpm.specs.declared.fault.LpmFault.{LpmFault}
 use Rattle.lpm.specs.declared.fault.LpmFault.TheVariants.{CutAtEnd}
-use Rattle.lpm.specs.Reading.{Front, Whole, Unfinished, Faulty, front_of, messages_of, rest_of, fault_of}
+use Rattle.lpm.specs.Reading.{is_frame, messages_of, rest_of, fault_of}
 use Rattle.callbox.specs.declared.account.Account.{Account}
 use Rattle.callbox.specs.declared.account.CallEvent.{CallEvent}
 use Rattle.callbox.specs.declared.account.CallEvent.TheVariants as event
@@ -33,16 +33,6 @@ after_next a None = record a { told = telling (fault_of a.fed) (rest_of a.fed) a
 abbrev pub after_take : Account → Option Told → Account
 after_take a (Some told) = a
 after_take a None = after_next a (slice_get (messages_of a.fed) (length a.taken))
-
--- whether these bytes are one message with its prefix
-abbrev pub is_alone : Front → Bool
-is_alone (Whole message []) = true
-is_alone (Whole message (byte ∷ rest)) = false
-is_alone Unfinished = false
-is_alone (Faulty fault) = false
-
-abbrev pub is_frame : List ℕ → Bool
-is_frame bytes = is_alone (front_of bytes)
 
 -- whether an item may be given behind the last one
 abbrev pub may_follow : Option OutItem → OutItem → Bool

@@ -1,9 +1,12 @@
 //! What happens to a call, and what is kept of it.
 
+ghost use Rattle.std.specs.Prelude.{◌≡◌, IfOk};
+
 use crate::Sequence;
 use bytes::Bytes;
 use hpack_codec::{Field, Octets};
 use lpm::LpmFault;
+use std::alloc::AllocError;
 
 /// How the client's half of a call was shut.
 #[derive(Clone, Copy, Debug, PartialEq, Eq)]
@@ -34,6 +37,19 @@ pub enum OutItem {
     Message(Bytes),
     /// The trailers, or the one block of an answer that has no headers of its own.
     Trailers(Sequence<Field>),
+}
+
+impl OutItem {
+    /// The same item. The bytes of a message are shared, those of fields are copied.
+    pub fn copy(&self) -> Result<OutItem, AllocError>
+        ensures { IfOk result (λ copy. copy ≡ self.now) }
+    {
+        match self {
+            OutItem::Head(fields) => Ok(OutItem::Head(fields.copy()?)),
+            OutItem::Message(bytes) => Ok(OutItem::Message(bytes.clone()?)),
+            OutItem::Trailers(fields) => Ok(OutItem::Trailers(fields.copy()?)),
+        }
+    }
 }
 
 /// What may happen to a call.

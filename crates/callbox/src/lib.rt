@@ -5,12 +5,13 @@
 //! which accounts are lawful, and `specs/Runs.antt` which account a list of events makes. `replay` is the
 //! serial core: it makes that account, event by event.
 //!
-//! Read `account` first, then `replay`.
+//! Read `account` first, then `serial`.
 #![tactic(auto)]
 
 pub mod account;
-pub mod replay;
 pub mod sequence;
+pub mod serial;
 
 pub use account::{Account, CallEvent, OutItem, Shut, Told};
 pub use sequence::Sequence;
+pub use serial::replay;

@@ -1,7 +1,9 @@
 //! Lists whose contracts see the items.
 
-ghost use Rattle.std.specs.Prelude.{◌≡◌, ◌==◌, length};
+ghost use Rattle.std.specs.Prelude.{◌≡◌, ◌==◌, length, IfOk};
 
+use hpack_codec::Field;
+use std::alloc::AllocError;
 use std::marker::Model;
 
 /// Items in order. A contract sees the list of them.
@@ -46,6 +48,17 @@ impl<T> Sequence<T> {
     {
         let Sequence { items } = self;
         items
+    }
+}
+
+impl Sequence<Field> {
+    /// The same fields, in memory of their own.
+    pub fn copy(&self) -> Result<Sequence<Field>, AllocError>
+        ensures { IfOk result (λ copy. copy ≡ self.now) }
+    {
+        Ok(Sequence {
+            items: self.items.clone()?,
+        })
     }
 }
 

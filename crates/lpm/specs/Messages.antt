@@ -20,6 +20,10 @@ frames messages = flat_map frame messages
 abbrev pub IsMessage : List ℕ → Type 0
 IsMessage message = length message ≤ MAX_MESSAGE_LEN
 
+-- these bytes are one message with its prefix, and nothing else
+abbrev pub IsFrame : List ℕ → Type 0
+IsFrame bytes = (message : List ℕ) × IsMessage message × (bytes ≡ frame message)
+
 -- the length that the four bytes behind a flag announce
 unfoldable pub announced : List ℕ → ℕ
 announced bytes = from_be_bytes w32 (take 4 bytes)

@@ -1,6 +1,6 @@
 -- The one list of messages that bytes spell, computed. What it has to be is said by `Spells` and `IsFaultyAfter`; that
 -- one of them holds of it, and of no other list, is the law of `one_reading`.
-use Rattle.std.specs.Prelude.{ℕ, zero, suc, ◌+◌, ◌==◌, nat_lt, if◌then◌else◌, List, [], ◌∷◌, length, take, drop, Option, Some, None}
+use Rattle.std.specs.Prelude.{ℕ, zero, suc, ◌+◌, Bool, true, false, ◌==◌, nat_lt, if◌then◌else◌, List, [], ◌∷◌, length, take, drop, Option, Some, None}
 use Rattle.lpm.specs.declared.TheConstants.{MAX_MESSAGE_LEN}
 use Rattle.lpm.specs.declared.fault.LpmFault.{LpmFault}
 use Rattle.lpm.specs.declared.fault.LpmFault.TheVariants.{Compressed, BadFlag, TooLong}
@@ -30,6 +30,17 @@ front_of (flag ∷ bytes) =
     if flag == 0
     then front_of_length bytes
     else (if flag == 1 then Faulty Compressed else Faulty BadFlag)
+
+-- whether a message stands there and nothing behind it
+abbrev pub is_alone : Front → Bool
+is_alone (Whole message []) = true
+is_alone (Whole message (byte ∷ rest)) = false
+is_alone Unfinished = false
+is_alone (Faulty fault) = false
+
+-- whether bytes are one message with its prefix
+abbrev pub is_frame : List ℕ → Bool
+is_frame bytes = is_alone (front_of bytes)
 
 -- messages, what is left behind them, and the fault that stands there
 pub record Reading : Type 0 where

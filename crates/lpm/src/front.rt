@@ -1,13 +1,25 @@
 //! The message at the front of some bytes.
 
-ghost use Rattle.std.specs.Prelude.{◌≡◌};
-ghost use Rattle.lpm.specs.Messages.{AreBytes};
+ghost use Rattle.std.specs.Prelude.{◌≡◌, ◌↔◌, IsTrue};
+ghost use Rattle.lpm.specs.Messages.{AreBytes, IsFrame};
+ghost use Rattle.lpm.specs.Reading.{is_frame};
 ghost use Rattle.lpm.specs.Fronts.{extent_of, IsExtent};
 
 use crate::{LpmFault, MAX_MESSAGE_LEN};
 
 /// The bytes before a message: its flag, and four of its length.
 pub(crate) const PREFIX_LEN: usize = 5;
+
+/// Whether these bytes are one message with its prefix, and nothing else. It takes constant time.
+pub fn is_frame(bytes: &[u8]) -> bool
+    ensures frame { IsTrue result ↔ IsFrame bytes.now }
+    ensures computed { result ≡ is_frame bytes.now }
+{
+    match frame_len(bytes) {
+        Ok(len) => len == bytes.len(),
+        Err(_fault) => false,
+    }
+}
 
 /// How many bytes the message at the front has, its prefix included, as far as these bytes say: until
 /// its length is there, those of the prefix alone.

@@ -1,8 +1,8 @@
 //! Laws of the definitions, for whoever builds on them: functions that do nothing, and whose contracts are the laws.
 
-ghost use Rattle.std.specs.Prelude.{◌≡◌, ℕ, List, ◌++◌, Some, None, MatchOption};
+ghost use Rattle.std.specs.Prelude.{◌≡◌, ℕ, List, ◌++◌, Some, None, MatchOption, All};
 ghost use Rattle.lpm.specs.declared.fault.LpmFault.{LpmFault};
-ghost use Rattle.lpm.specs.Messages.{Spells, IsFaultyAfter, AreBytes};
+ghost use Rattle.lpm.specs.Messages.{frames, IsMessage, Spells, IsFaultyAfter, AreBytes};
 ghost use Rattle.lpm.specs.Reading.{messages_of, rest_of, fault_of};
 
 /// Of every list of bytes exactly one holds: it spells messages and an unfinished rest, or it is faulty behind
@@ -24,6 +24,10 @@ pub fn one_reading()
 pub fn longer_reading()
     ensures messages { (bytes more : List ℕ) → AreBytes (bytes ++ more)
         → (later : List (List ℕ)) × (messages_of (bytes ++ more) ≡ messages_of bytes ++ later) }
+    ensures behind { (messages : List (List ℕ)) (rest : List ℕ) → All IsMessage messages
+        → (messages_of (frames messages ++ rest) ≡ messages ++ messages_of rest)
+        × (rest_of (frames messages ++ rest) ≡ rest_of rest)
+        × (fault_of (frames messages ++ rest) ≡ fault_of rest) }
     ensures fault { (bytes more : List ℕ) (messages : List (List ℕ)) (fault : LpmFault)
         → IsFaultyAfter bytes messages fault → IsFaultyAfter (bytes ++ more) messages fault }
 {}

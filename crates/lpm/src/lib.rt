@@ -12,6 +12,7 @@ mod tail;
 pub mod write;
 
 pub use fault::LpmFault;
+pub use front::is_frame;
 pub use splitter::{Split, Splitter};
 pub use write::write_message;
 

@@ -1,0 +1,25 @@
+-- What is kept while events are replayed.
+use Rattle.std.specs.Prelude.{◌≡◌, List, ◌++◌, All}
+use Rattle.lpm.specs.Messages.{frames, IsMessage, IsFrame}
+use Rattle.callbox.specs.declared.account.Account.{Account}
+use Rattle.callbox.specs.declared.account.OutItem.{OutItem}
+use Rattle.callbox.specs.declared.account.OutItem.TheVariants.{Head, Message, Trailers}
+use Rattle.callbox.specs.declared.serial.SerialCall.{SerialCall}
+use Rattle.callbox.specs.Accounts.{Begins, IsResponse, MayTell}
+
+abbrev pub account_of : SerialCall → Account
+account_of r = record { fed = r.fed.items; shut = r.shut; taken = r.taken.items; told = r.told; given = r.given.items; sent = r.sent.items }
+
+pub record IsConsistent (r : SerialCall) : Type 0 where
+  -- the splitter has what was fed, but for the messages that were taken
+  pub whole : r.fed.items ≡ frames r.taken.items ++ r.splitter
+  pub each : All IsMessage r.taken.items
+  pub told : MayTell r.told r.fed.items r.shut r.taken.items
+  pub sent : Begins r.sent.items r.given.items
+  pub given : IsResponse r.given.items
+
+-- if it is a message, it is one with its prefix
+abbrev pub IsFramed : OutItem → Type 0
+IsFramed (Head fields) = Unit {0}
+IsFramed (Message bytes) = IsFrame bytes
+IsFramed (Trailers fields) = Unit {0}

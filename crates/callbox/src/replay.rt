@@ -1,1 +1,0 @@
-//! The serial core of a call.
