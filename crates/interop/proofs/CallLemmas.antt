@@ -1,16 +1,16 @@
 -- The account of a call that comes in pieces, ends, and is taken as far as there is something to take.
-use Rattle.std.proofs.Common.{◌≡◌, ◌≢◌, ◌∙◌, ℕ, zero, suc, ◌+◌, ◌*◌, ◌/◌, ◌<◌, ◌≤◌, List, [], ◌∷◌, ◌++◌, length, take, drop, map, min, replicate, Option, Some, None, refl, sym, ap, subst, append_assoc, arith, inl, inr, ◌⊎◌, add-one}
+use Rattle.std.proofs.Common.{◌≡◌, ◌≢◌, ◌∙◌, ℕ, zero, suc, ◌+◌, ◌*◌, ◌/◌, ◌<◌, ◌≤◌, List, [], ◌∷◌, ◌++◌, length, take, drop, map, min, replicate, Option, Some, None, refl, sym, ap, subst, append_assoc, arith, inl, inr, Bool, true, false, cond, ◌==◌, nat_lt}
 use Rattle.std.specs.List.{fold, slice_get}
 use Rattle.std.specs.Option.{option_or}
 use Rattle.std.proofs.Math.Nat.{eq-or-lt_of_le, min_comm}
-use Rattle.std.proofs.lemmas.List.{append-nil, drop_min, map_push, take-append-drop, take_all, take_min, take_more, length-append, length-take-le}
+use Rattle.std.proofs.lemmas.List.{append-nil, drop_min, map_push, take-append-drop, take_all, take_min, take_more, length-drop, length-take-le}
+use Rattle.std.proofs.lemmas.Bool.{ltb-false}
 use Rattle.std.proofs.lemmas.List.Sums.{fold-append}
 use Rattle.std.proofs.lemmas.Option.{slice_get-get_or, slice_get_past}
-use Rattle.lpm.specs.Messages.{AreBytes, frame, frames}
-use Rattle.lpm.specs.Reading.{fault_of, messages_of, rest_of}
+use Rattle.lpm.specs.Messages.{announced}
+use Rattle.lpm.specs.declared.TheConstants.{MAX_MESSAGE_LEN}
+use Rattle.lpm.specs.Reading.{Faulty, Front, Reading, Unfinished, Whole, ended, fault_of, front_of, front_of_length, front_of_message, messages_of, reading_behind, reading_of, reading_within, rest_of}
 use Rattle.lpm.specs.declared.fault.LpmFault.{LpmFault}
-use Rattle.lpm.proofs.Fronts.{length-frame}
-use Rattle.lpm.proofs.Readings.{reading_of_is}
 use Rattle.callbox.specs.Runs.{after, run, telling}
 use Rattle.callbox.specs.declared.account.Account.{Account}
 use Rattle.callbox.specs.declared.account.CallEvent.{CallEvent}
@@ -90,22 +90,58 @@ take_each bytes (suc n) k within enough =
 
 -- ---- as many takes as there can be messages
 
-length-frames : (messages : List (List ℕ)) → 5 * length messages ≤ length (frames messages)
-length-frames [] = omega arith
-length-frames (message ∷ messages) = let more = length-frames messages in omega (arith, length-append (frame message) (frames messages), length-frame message)
+-- what is left behind a message is shorter by five bytes or more
+abbrev IsShorter : ℕ → Front → Type 0
+IsShorter len (Whole message rest) = 5 + length rest ≤ len
+IsShorter len Unfinished = Unit {0}
+IsShorter len (Faulty fault) = Unit {0}
 
-enough_takes : (bytes : List ℕ) → AreBytes bytes → length (messages_of bytes) < length bytes / 5 + 1
-enough_takes bytes fits =
-    let reading = reading_of_is bytes fits in
-    let five = length-frames (messages_of bytes) in
-    omega (arith, ap (λ (bs : List ℕ). length bs) reading.whole, length-append (frames (messages_of bytes)) (rest_of bytes))
+either : (P : Front → Type 0) (b : Bool) (x y : Front) → (b ≡ true → P x) → (b ≡ false → P y) → P (cond b x y)
+either P true x y f g = f refl
+either P false x y f g = g refl
 
-pub run_whole_call : (cut : ℕ) (bytes : List ℕ) (events : List CallEvent) → AreBytes bytes → IsWholeCall cut bytes events → run events ≡ account_of bytes
-run_whole_call cut bytes events fits call =
+front_of_message-shorter : (len : ℕ) (bytes : List ℕ) → IsShorter (5 + length bytes) (front_of_message len bytes)
+unfolding front_of_message
+front_of_message-shorter len bytes =
+    either (IsShorter (5 + length bytes)) (nat_lt MAX_MESSAGE_LEN len) _ _ (λ _. tt) (λ _.
+        either (IsShorter (5 + length bytes)) (nat_lt (length bytes) len) _ _ (λ _. tt) (λ _. omega (arith, length-drop len bytes)))
+
+front_of_length-shorter : (bytes : List ℕ) → IsShorter (1 + length bytes) (front_of_length bytes)
+unfolding front_of_length
+front_of_length-shorter bytes =
+    either (IsShorter (1 + length bytes)) (nat_lt (length bytes) 4) _ _ (λ _. tt) (λ long.
+        let enough : 5 + length (drop 4 bytes) ≡ 1 + length bytes = omega (arith, length-drop 4 bytes, ltb-false (length bytes) 4 long) in
+        subst (λ (n : ℕ). IsShorter n (front_of_message (announced bytes) (drop 4 bytes))) enough (front_of_message-shorter (announced bytes) (drop 4 bytes)))
+
+front_of-shorter : (bytes : List ℕ) → IsShorter (length bytes) (front_of bytes)
+unfolding front_of
+front_of-shorter [] = tt
+front_of-shorter (flag ∷ bytes) =
+    either (IsShorter (suc (length bytes))) (flag == 0) _ _
+    (λ _. let P : ℕ → Type 0 = λ n. IsShorter n (front_of_length bytes) in subst P (omega arith) (front_of_length-shorter bytes))
+    (λ _. either (IsShorter (suc (length bytes))) (flag == 1) _ _ (λ _. tt) (λ _. tt))
+
+reading_behind-messages : (front : Front) (bytes : List ℕ) (read : List ℕ → Reading) → IsShorter (length bytes) front → ((rest : List ℕ) → 5 * length (read rest).messages ≤ length rest)
+    → 5 * length (reading_behind front bytes read).messages ≤ length bytes
+reading_behind-messages (Whole message rest) bytes read shorter behind = omega (arith, behind rest)
+reading_behind-messages Unfinished bytes read shorter behind = omega arith
+reading_behind-messages (Faulty fault) bytes read shorter behind = omega arith
+
+reading_within-messages : (n : ℕ) (bytes : List ℕ) → 5 * length (reading_within n bytes).messages ≤ length bytes
+unfolding reading_within
+reading_within-messages zero bytes = reading_behind-messages (front_of bytes) bytes (λ rest. ended rest None) (front_of-shorter bytes) (λ rest. omega arith)
+reading_within-messages (suc n) bytes = reading_behind-messages (front_of bytes) bytes (reading_within n) (front_of-shorter bytes) (reading_within-messages n)
+
+enough_takes : (bytes : List ℕ) → length (messages_of bytes) < length bytes / 5 + 1
+unfolding reading_of
+enough_takes bytes = omega (arith, reading_within-messages (length bytes) bytes)
+
+pub run_whole_call : (cut : ℕ) (bytes : List ℕ) (events : List CallEvent) → IsWholeCall cut bytes events → run events ≡ account_of bytes
+run_whole_call cut bytes events call =
     let feeds = call.0 in
     let fed : fold after (fed_alone []) feeds ≡ fed_alone bytes = ap (fold after (fed_alone [])) call.1.2 ∙ run_feeds cut call.1.0 bytes [] call.1.1 in
     ap (fold after (fed_alone [])) call.2
     ∙ (fold-append after (fed_alone []) feeds (ending_of (length bytes))
     ∙ (ap (λ (a : Account). fold after a (ending_of (length bytes))) fed
     ∙ (ap (λ (a : Account). fold after a (replicate (length bytes / 5 + 1) event.Take)) (shut_first bytes)
-    ∙ take_each bytes (length bytes / 5 + 1) 0 (omega arith) (omega (arith, enough_takes bytes fits)))))
+    ∙ take_each bytes (length bytes / 5 + 1) 0 (omega arith) (omega (arith, enough_takes bytes)))))

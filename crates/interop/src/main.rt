@@ -8,10 +8,14 @@
 //! Read in this order:
 //!
 //! - `words`: what the words of the command line mean, by `clap`.
+//! - `body`: the command, over any reader and writer; `specs/Body.antt` says what it prints.
 //! - `device`: readers and writers with a mark of failure.
 //! - `text`: hexadecimal text into bytes.
+//! - `call`: the events of a call whose bytes come in pieces.
 //! - `report`: the lines that tell messages, the end and faults.
 #![tactic(auto)]
+
+ghost use Rattle.std.specs.Prelude.{◌<◌};
 
 mod body;
 mod call;
@@ -22,6 +26,8 @@ mod tests;
 mod text;
 mod words;
 
+use body::{RunFault, run_body};
+use device::Marked;
 use std::env;
 use std::io;
 use std::io::ErrorKind;
@@ -59,6 +65,19 @@ fn self_description(words: &[String]) -> Option<&'static str> {
     }
 }
 
+fn print_body(rt: &HostRuntime, cut: usize) -> u8
+    requires { 0 < cut }
+{
+    let mut input = Marked::new(rt.stdin());
+    let mut output = Marked::new(rt.stdout());
+    match run_body(rt.alloc(), &mut input, cut, &mut output) {
+        Ok(()) => 0,
+        Err(RunFault::NotHex) => complain(rt, "input is not hexadecimal"),
+        Err(RunFault::ReadFailed | RunFault::WriteFailed | RunFault::OutOfMemory) => FAILED,
+    }
+}
+
+// Does what the words after the program's name say, and answers the exit status.
 fn obey(rt: &HostRuntime, words: &[String]) -> u8 {
     if let Some(text) = self_description(words) {
         return match println!(rt; "{text}") {
@@ -67,7 +86,7 @@ fn obey(rt: &HostRuntime, words: &[String]) -> u8 {
         };
     }
     match words::read_words(rt.alloc(), words) {
-        Ok(Words::Body(cut)) => 0,
+        Ok(Words::Body(cut)) => print_body(rt, cut),
         Err(WordsFault::BadWords) => complain(rt, "bad arguments"),
         Err(WordsFault::OutOfMemory) => FAILED,
     }

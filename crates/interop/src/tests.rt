@@ -1,4 +1,7 @@
 //! What no clause says: that the calls succeed where memory is left, and worked values.
+ghost use Rattle.std.specs.Prelude.{◌<◌};
+
+use super::body::*;
 use super::device::*;
 use super::report::*;
 use super::text::*;
@@ -179,5 +182,63 @@ fn hexadecimal_text(rt: HostRuntime) -> Result<(), Fail> {
         let found = found.as_ref().map(|bytes| bytes.as_slice());
         assert_eq!(rt; found, wanted.as_ref().map(|bytes| *bytes), "at {text:?}");
     }
+    Ok(())
+}
+
+// What a run prints in pieces of `cut`, where it succeeds.
+fn printed(alloc: Global, text: &str, cut: usize) -> Result<Vec<u8>, RunFault>
+    requires { 0 < cut }
+{
+    let mut input = Marked::new(text.as_bytes());
+    let mut output = Marked::new(Vec::new(alloc));
+    run_body(alloc, &mut input, cut, &mut output)?;
+    Ok(output.into_inner())
+}
+
+#[test]
+fn bodies_in_pieces(rt: HostRuntime) -> Result<(), Fail> {
+    let alloc = rt.alloc();
+    let two = "00 00000000 00 00000002 0801";
+    let cases = [
+        (two, "message 0 0\nmessage 1 2 0801\nend\n"),
+        ("", "end\n"),
+        ("00 00000003 41", "fault 4\n"),
+        ("00", "fault 4\n"),
+        ("01 00000000", "fault 1\n"),
+        ("02", "fault 2\n"),
+        ("00 00400001", "fault 3\n"),
+        ("00 00000000 00 00000002 0801 01", "message 0 0\nmessage 1 2 0801\nfault 1\n"),
+        ("00 00000001 fF\r\n", "message 0 1 ff\nend\n"),
+    ];
+    for (text, wanted) in cases {
+        for cut in [1usize, 2, 3, 5, 100, 65_536] {
+            let found = printed(alloc, text, cut).expect(&rt, "a report");
+            assert_eq!(rt; found.as_slice(), wanted.as_bytes(), "{text:?} in pieces of {cut}");
+        }
+    }
+    Ok(())
+}
+
+#[test]
+fn bodies_that_fail(rt: HostRuntime) -> Result<(), Fail> {
+    let alloc = rt.alloc();
+    let text = "00 00000000";
+    for bad in ["000", "0x", "00 00000000 :"] {
+        assert_eq!(rt; printed(alloc, bad, 3).err(), Some(RunFault::NotHex), "at {bad:?}");
+    }
+
+    let mut input = Marked::new(Trickle::new(alloc, text.as_bytes(), 4)?);
+    let mut output = Marked::new(Narrow::new(alloc, 99));
+    let run = run_body(alloc, &mut input, 3, &mut output);
+    assert_eq!(rt; run, Err(RunFault::ReadFailed));
+    assert!(rt; input.has_failed() && !output.has_failed());
+    assert!(rt; output.into_inner().bytes.is_empty());
+
+    let mut input = Marked::new(Trickle::new(alloc, text.as_bytes(), 99)?);
+    let mut output = Marked::new(Narrow::new(alloc, 7));
+    let run = run_body(alloc, &mut input, 3, &mut output);
+    assert_eq!(rt; run, Err(RunFault::WriteFailed));
+    assert!(rt; !input.has_failed() && output.has_failed());
+    assert_eq!(rt; output.into_inner().bytes.as_slice(), b"message".as_slice());
     Ok(())
 }
