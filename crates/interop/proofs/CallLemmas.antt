@@ -104,14 +104,14 @@ front_of_message-shorter : (len : ℕ) (bytes : List ℕ) → IsShorter (5 + len
 unfolding front_of_message
 front_of_message-shorter len bytes =
     either (IsShorter (5 + length bytes)) (nat_lt MAX_MESSAGE_LEN len) _ _ (λ _. tt) (λ _.
-        either (IsShorter (5 + length bytes)) (nat_lt (length bytes) len) _ _ (λ _. tt) (λ _. omega (arith, length-drop len bytes)))
+    either (IsShorter (5 + length bytes)) (nat_lt (length bytes) len) _ _ (λ _. tt) (λ _. omega (arith, length-drop len bytes)))
 
 front_of_length-shorter : (bytes : List ℕ) → IsShorter (1 + length bytes) (front_of_length bytes)
 unfolding front_of_length
 front_of_length-shorter bytes =
     either (IsShorter (1 + length bytes)) (nat_lt (length bytes) 4) _ _ (λ _. tt) (λ long.
-        let enough : 5 + length (drop 4 bytes) ≡ 1 + length bytes = omega (arith, length-drop 4 bytes, ltb-false (length bytes) 4 long) in
-        subst (λ (n : ℕ). IsShorter n (front_of_message (announced bytes) (drop 4 bytes))) enough (front_of_message-shorter (announced bytes) (drop 4 bytes)))
+    let enough : 5 + length (drop 4 bytes) ≡ 1 + length bytes = omega (arith, length-drop 4 bytes, ltb-false (length bytes) 4 long) in
+    subst (λ (n : ℕ). IsShorter n (front_of_message (announced bytes) (drop 4 bytes))) enough (front_of_message-shorter (announced bytes) (drop 4 bytes)))
 
 front_of-shorter : (bytes : List ℕ) → IsShorter (length bytes) (front_of bytes)
 unfolding front_of

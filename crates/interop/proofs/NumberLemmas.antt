@@ -36,13 +36,13 @@ within-out low high text n read out =
     let Q : ℕ → Type 0 = λ k. k ≤ high in
     refused (is_unsigned_in low high text) (digits_value 10 (without_leading_plus text))
     (λ passed. let taken = accepts-Accepts false (value_parser.Unsigned low high) text passed in
-        out (subst P value taken.2) (subst Q value taken.3))
+    out (subst P value taken.2) (subst Q value taken.3))
 
 unread : (low high : ℕ) (text : List ℕ) (e : ParseIntError) → Reads text (Err e) → number_within low high text ≡ None
 unread low high text e read =
     refused (is_unsigned_in low high text) (digits_value 10 (without_leading_plus text))
     (λ passed. let taken = accepts-Accepts false (value_parser.Unsigned low high) text passed in
-        read.0 (taken.0, taken.1))
+    read.0 (taken.0, taken.1))
 
 -- what `get_one` read of an option is its number: none where it read none or one that is out of the range
 pub option_unread : (low high : ℕ) (o : Option (List ℕ)) → ((text : List ℕ) → o ≡ Some text → ReadsOne Reads text None) → None ≡ option_and_then (number_within low high) o

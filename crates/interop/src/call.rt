@@ -14,7 +14,7 @@ fn feeds(alloc: Global, mut bytes: Bytes, cut: usize) -> Result<Vec<CallEvent>, 
     requires { 0 < cut }
     ensures { IfOk result (λ events. Feeds cut bytes events.items) }
 {
-    let mut events = Vec::new(alloc);
+    let mut events = Vec::with_capacity(alloc, bytes.len() / cut + 1)?;
     'pieces: while !bytes.is_empty() {
         let len = bytes.len().min(cut);
         events.push(CallEvent::Feed(bytes.split_to(len)?))?;
@@ -40,6 +40,7 @@ pub fn whole_call(alloc: Global, bytes: Vec<u8>, cut: usize) -> Result<Vec<CallE
 {
     let takes = bytes.len() / 5 + 1;
     let mut events = feeds(alloc, Bytes::from_vec(bytes)?, cut)?;
+    events.reserve_exact(takes + 1)?;
     events.push(CallEvent::Shut(Shut::End))?;
     push_takes(&mut events, takes)?;
     Ok(events)

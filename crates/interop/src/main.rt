@@ -28,14 +28,14 @@ mod words;
 
 use body::{RunFault, run_body};
 use device::Marked;
-use std::env;
-use std::io;
 use std::io::ErrorKind;
 use std::process::ExitCode;
 use std::rt::Env;
+use std::{env, io};
 use words::{Words, WordsFault};
 
 const BAD_WORDS: u8 = 2;
+
 const FAILED: u8 = 3;
 
 const VERSION: &str = "interop 0.1.0";

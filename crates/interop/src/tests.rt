@@ -147,7 +147,10 @@ fn devices_in_full(rt: HostRuntime) -> Result<(), Fail> {
     let mut output = Marked::new(Narrow::new(alloc, 99));
     write_all(&mut output, b"some bytes").expect(&rt, "no fault");
     assert!(rt; !output.has_failed());
-    assert_eq!(rt; output.into_inner().bytes.as_slice(), b"some bytes".as_slice());
+    assert_eq!(rt;
+        output.into_inner().bytes.as_slice(),
+        b"some bytes".as_slice()
+    );
     Ok(())
 }
 
@@ -207,13 +210,20 @@ fn bodies_in_pieces(rt: HostRuntime) -> Result<(), Fail> {
         ("01 00000000", "fault 1\n"),
         ("02", "fault 2\n"),
         ("00 00400001", "fault 3\n"),
-        ("00 00000000 00 00000002 0801 01", "message 0 0\nmessage 1 2 0801\nfault 1\n"),
+        (
+            "00 00000000 00 00000002 0801 01",
+            "message 0 0\nmessage 1 2 0801\nfault 1\n",
+        ),
         ("00 00000001 fF\r\n", "message 0 1 ff\nend\n"),
     ];
     for (text, wanted) in cases {
         for cut in [1usize, 2, 3, 5, 100, 65_536] {
             let found = printed(alloc, text, cut).expect(&rt, "a report");
-            assert_eq!(rt; found.as_slice(), wanted.as_bytes(), "{text:?} in pieces of {cut}");
+            assert_eq!(rt;
+                found.as_slice(),
+                wanted.as_bytes(),
+                "{text:?} in pieces of {cut}"
+            );
         }
     }
     Ok(())
@@ -224,7 +234,11 @@ fn bodies_that_fail(rt: HostRuntime) -> Result<(), Fail> {
     let alloc = rt.alloc();
     let text = "00 00000000";
     for bad in ["000", "0x", "00 00000000 :"] {
-        assert_eq!(rt; printed(alloc, bad, 3).err(), Some(RunFault::NotHex), "at {bad:?}");
+        assert_eq!(rt;
+            printed(alloc, bad, 3).err(),
+            Some(RunFault::NotHex),
+            "at {bad:?}"
+        );
     }
 
     let mut input = Marked::new(Trickle::new(alloc, text.as_bytes(), 4)?);

@@ -29,4 +29,4 @@ returns c =
     let fourth = ap app_of_fields c.disable_version_flag.ensures ∙ ap without_version third in
     let program_is = ap app_of_fields c.subcommand_required-program.ensures ∙ ap with_command fourth in
     IfOk-weaker c.subcommand.result _ _ (λ command added.
-        added.shape (search rules) ∙ ap₂ with_subcommand program_is (ap (λ (a : App). a.top) body_is)) c.subcommand.ensures
+    added.shape (search rules) ∙ ap₂ with_subcommand program_is (ap (λ (a : App). a.top) body_is)) c.subcommand.ensures
