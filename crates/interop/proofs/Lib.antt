@@ -1,0 +1,4 @@
+pub mod CallLemmas
+pub mod DeviceLemmas
+pub mod NumberLemmas
+pub mod WordsLemmas

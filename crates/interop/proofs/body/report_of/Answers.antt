@@ -1,0 +1,20 @@
+use Rattle.std.proofs.Common.{◌≡◌, ◌∙◌, ap, List}
+use Rattle.std.proofs.lemmas.Result.{IfOk-weaker}
+use Rattle.callbox.specs.Runs.{run}
+use Rattle.callbox.specs.declared.account.Account.{Account}
+use Rattle.callbox.specs.declared.account.CallEvent.{CallEvent}
+use Rattle.interop.specs.Body.{fault_at_end}
+use Rattle.interop.specs.Call.{account_of}
+use Rattle.interop.specs.Report.{report}
+use Rattle.interop.proofs.CallLemmas.{run_whole_call}
+use Rattle.interop.proofs.body.report_of.Goals as goal
+
+pub returns : goal.returns
+returns c =
+    let bytes = c.args.bytes.items in
+    let made : c.in_ok-account.account ≡ account_of bytes =
+    c.in_ok-account.ensures.run
+    ∙ (ap (λ (events : List CallEvent). run events) c.as_slice.ensures.value ∙ run_whole_call c.args.cut bytes c.in_ok-events.events.items c.in_ok-events.ensures) in
+    let taken = c.as_slice-2.ensures ∙ ap (λ (account : Account). account.taken) made in
+    let told = c.fault_told.ensures (fault_at_end bytes) (ap (λ (account : Account). account.told) made) in
+    rw (taken, told) at c.report.ensures

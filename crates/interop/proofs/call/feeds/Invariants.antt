@@ -1,0 +1,11 @@
+use Rattle.std.proofs.Common.{◌≡◌, ◌++◌, List, ℕ, length, map}
+use Rattle.callbox.specs.declared.account.CallEvent.TheVariants as event
+use Rattle.interop.specs.Call.{ArePieces}
+use Rattle.interop.proofs.call.feeds.Given as goal
+
+abbrev pub invariant-pieces : goal.invariant-pieces
+invariant-pieces l = (front : List (List ℕ)) × (l.events.items ≡ map event.Feed front)
+    × ((rest : List (List ℕ)) → ArePieces l.cut l.bytes rest → ArePieces l.cut l.fn.bytes (front ++ rest))
+
+abbrev pub decreases-pieces : goal.decreases-pieces
+decreases-pieces l = length l.bytes

@@ -1,0 +1,47 @@
+//! A call that comes in pieces, ends, and is taken as far as there is something to take.
+ghost use Rattle.std.specs.Prelude.{◌≡◌, ◌++◌, ◌<◌, length, replicate, Some, IfOk, OnOk};
+ghost use Rattle.callbox.specs.declared.account.CallEvent.TheVariants as event;
+ghost use Rattle.interop.specs.Body.{fault_at_end};
+ghost use Rattle.interop.specs.Call.{Feeds, IsWholeCall, told_of};
+
+use bytes::Bytes;
+use callbox::{CallEvent, Shut, Told};
+use lpm::LpmFault;
+use std::alloc::{AllocError, Global};
+
+// The events of bytes that come in pieces of `cut`. The pieces share the bytes.
+fn feeds(alloc: Global, mut bytes: Bytes, cut: usize) -> Result<Vec<CallEvent>, AllocError>
+    requires { 0 < cut }
+    ensures { IfOk result (λ events. Feeds cut bytes events.items) }
+{
+    let mut events = Vec::with_capacity(alloc, bytes.len() / cut + 1)?;
+    'pieces: while !bytes.is_empty() {
+        let len = bytes.len().min(cut);
+        events.push(CallEvent::Feed(bytes.split_to(len)?))?;
+    }
+    Ok(events)
+}
+
+// As many takes.
+fn push_takes(events: &mut Vec<CallEvent>, count: usize) -> Result<(), AllocError>
+    ensures { OnOk result (events.new.items ≡ events.old.items ++ replicate count event.Take) }
+{
+    for _i in 0..count {
+        events.push(CallEvent::Take)?;
+    }
+    Ok(())
+}
+
+/// The events of a call whose bytes come in pieces of `cut`: the pieces, the end, and as many takes
+/// as there can be messages, and one more.
+pub fn whole_call(alloc: Global, bytes: Vec<u8>, cut: usize) -> Result<Vec<CallEvent>, AllocError>
+    requires { 0 < cut }
+    ensures { IfOk result (λ events. IsWholeCall cut bytes.items events.items) }
+{
+    let takes = bytes.len() / 5 + 1;
+    let mut events = feeds(alloc, Bytes::from_vec(bytes)?, cut)?;
+    events.reserve_exact(takes + 1)?;
+    events.push(CallEvent::Shut(Shut::End))?;
+    push_takes(&mut events, takes)?;
+    Ok(events)
+}

@@ -1,0 +1,113 @@
+//! The program `interop`: what a gRPC client sent, read and printed.
+//!
+//! `interop body --cut N` reads the joined DATA bytes of one call as hexadecimal text, takes them
+//! in pieces of N bytes, and prints the messages that they spell (gRPC over HTTP/2,
+//! "Length-Prefixed-Message"), then the end or the fault. It reads all of its input before it
+//! prints anything, and its text is a function of that input, in whatever pieces.
+//!
+//! Read in this order:
+//!
+//! - `words`: what the words of the command line mean, by `clap`.
+//! - `body`: the command, over any reader and writer; `specs/Body.antt` says what it prints.
+//! - `device`: readers and writers with a mark of failure.
+//! - `text`: hexadecimal text into bytes.
+//! - `call`: the events of a call whose bytes come in pieces.
+//! - `report`: the lines that tell messages, the end and faults.
+#![tactic(auto)]
+
+ghost use Rattle.std.specs.Prelude.{◌<◌};
+
+mod body;
+mod call;
+mod device;
+mod report;
+#[cfg(test)]
+mod tests;
+mod text;
+mod words;
+
+use body::{RunFault, run_body};
+use device::Marked;
+use std::io::ErrorKind;
+use std::process::ExitCode;
+use std::rt::Env;
+use std::{env, io};
+use words::{Words, WordsFault};
+
+const BAD_WORDS: u8 = 2;
+
+const FAILED: u8 = 3;
+
+const VERSION: &str = "interop 0.1.0";
+
+const HELP: &str = "\
+The gRPC interop test server's program.
+
+Usage: interop [body --cut N]
+
+  body --cut N   read the joined DATA bytes of one call as hexadecimal text, in pieces
+                 of N bytes (1 to 65536), and print its messages; this with N = 3 is
+                 what no words at all mean
+  -h, --help     print this text
+  --version      print the version
+
+Exit status: 0 done, 2 bad arguments or input, 3 input, output or memory failed.";
+
+// What is said to a lone word about the program itself.
+fn self_description(words: &[String]) -> Option<&'static str> {
+    match words {
+        [word] => match word.as_str() {
+            "-h" | "--help" => Some(HELP),
+            "--version" => Some(VERSION),
+            _ => None,
+        },
+        _ => None,
+    }
+}
+
+fn print_body(rt: &HostRuntime, cut: usize) -> u8
+    requires { 0 < cut }
+{
+    let mut input = Marked::new(rt.stdin());
+    let mut output = Marked::new(rt.stdout());
+    match run_body(rt.alloc(), &mut input, cut, &mut output) {
+        Ok(()) => 0,
+        Err(RunFault::NotHex) => complain(rt, "input is not hexadecimal"),
+        Err(RunFault::ReadFailed | RunFault::WriteFailed | RunFault::OutOfMemory) => FAILED,
+    }
+}
+
+// Does what the words after the program's name say, and answers the exit status.
+fn obey(rt: &HostRuntime, words: &[String]) -> u8 {
+    if let Some(text) = self_description(words) {
+        return match println!(rt; "{text}") {
+            Ok(()) => 0,
+            Err(_) => FAILED,
+        };
+    }
+    match words::read_words(rt.alloc(), words) {
+        Ok(Words::Body(cut)) => print_body(rt, cut),
+        Err(WordsFault::BadWords) => complain(rt, "bad arguments"),
+        Err(WordsFault::OutOfMemory) => FAILED,
+    }
+}
+
+// Says on standard error what was wrong with the words or the input.
+fn complain(rt: &impl Eprint, what: &str) -> u8 {
+    let _ = eprintln!(rt; "interop: {what}");
+    BAD_WORDS
+}
+
+// The words after the program's name.
+fn arguments<R: Env + AllocGlobal>(rt: &R) -> io::Result<Vec<String>> {
+    let words = env::args(rt)?;
+    Ok(words.skip(1).collect(rt.alloc())?)
+}
+
+fn main(rt: HostRuntime) -> ExitCode {
+    ExitCode::from(match arguments(&rt) {
+        Ok(words) => obey(&rt, words.as_slice()),
+        Err(error) if error.kind() == ErrorKind::InvalidData => complain(&rt, "bad arguments"),
+        Err(_) => FAILED,
+    })
+}
