@@ -1,9 +1,9 @@
 -- The account of a call that comes in pieces, ends, and is taken as far as there is something to take.
-use Rattle.std.proofs.Common.{◌≡◌, ◌≢◌, ◌∙◌, ℕ, zero, suc, ◌+◌, ◌*◌, ◌/◌, ◌<◌, ◌≤◌, List, [], ◌∷◌, ◌++◌, length, take, drop, map, min, replicate, Option, Some, None, refl, sym, ap, subst, append_assoc, arith, inl, inr, Bool, true, false, cond, ◌==◌, nat_lt}
-use Rattle.std.specs.List.{fold, slice_get}
+use Rattle.std.proofs.Common.{◌≡◌, ◌∙◌, ℕ, zero, suc, ◌+◌, ◌*◌, ◌/◌, ◌<◌, ◌≤◌, List, [], ◌∷◌, ◌++◌, length, take, drop, map, min, replicate, Option, Some, None, refl, sym, ap, subst, append_assoc, arith, inl, inr, Bool, true, false, cond, ◌==◌, nat_lt}
+use Rattle.std.specs.List.{fold}
 use Rattle.std.specs.Option.{option_or}
 use Rattle.std.proofs.Math.Nat.{eq-or-lt_of_le, min_comm}
-use Rattle.std.proofs.lemmas.List.{append-nil, drop_min, map_push, take-append-drop, take_all, take_min, take_more, length-drop, length-take-le}
+use Rattle.std.proofs.lemmas.List.{append-nil, drop_min, take-append-drop, take_all, take_min, take_more, length-drop, length-take-le}
 use Rattle.std.proofs.lemmas.Bool.{ltb-false}
 use Rattle.std.proofs.lemmas.List.Sums.{fold-append}
 use Rattle.std.proofs.lemmas.Option.{slice_get-get_or, slice_get_past}
@@ -16,9 +16,8 @@ use Rattle.callbox.specs.declared.account.Account.{Account}
 use Rattle.callbox.specs.declared.account.CallEvent.{CallEvent}
 use Rattle.callbox.specs.declared.account.CallEvent.TheVariants as event
 use Rattle.callbox.specs.declared.account.Shut.TheVariants as shut
-use Rattle.callbox.specs.declared.account.Told.{Told}
-use Rattle.interop.specs.Body.{fault_at_end, fault_of_rest}
-use Rattle.interop.specs.Call.{ArePieces, Feeds, IsWholeCall, account_of, ending_of, told_of}
+use Rattle.interop.specs.Body.{fault_of_rest}
+use Rattle.interop.specs.Call.{ArePieces, IsWholeCall, account_of, ending_of, told_of}
 
 -- ---- pieces
 

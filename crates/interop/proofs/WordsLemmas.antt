@@ -1,5 +1,5 @@
 -- What `clap` says of the command line of this program.
-use Rattle.std.proofs.Common.{◌≡◌, ◌∙◌, ℕ, Bool, true, List, Option, Some, None, refl, sym, ap, option_and_then, option_map, [], ◌∷◌, Result, IfOk, IsErrOf, inl, inr, subst, ◌⊎◌}
+use Rattle.std.proofs.Common.{◌≡◌, ◌∙◌, true, List, Option, Some, None, refl, sym, ap, option_and_then, option_map, [], ◌∷◌, Result, IfOk, IsErrOf, inl, inr, subst, ◌⊎◌}
 use Rattle.std.specs.Option.{ok_or}
 use Rattle.clap.specs.Faults.{fault_of, is_simple_and_free}
 use Rattle.clap.specs.Kinds.{IsAmong, Kinds}

@@ -1,5 +1,5 @@
 -- What reads and writes in a row do to the bytes that a device tells.
-use Rattle.std.specs.Prelude.{◌≡◌, ℕ, Bool, true, List, ◌++◌, Option}
+use Rattle.std.specs.Prelude.{◌≡◌, ℕ, List, ◌++◌, Option}
 use Rattle.std.specs.Io.KnownBytes.{Appends, Consumes}
 
 -- some bytes were taken from the front of what remained

@@ -1,5 +1,5 @@
 -- Hexadecimal texts and what they spell.
-use Rattle.std.specs.Prelude.{◌≡◌, [], ◌∷◌, codes, refl}
+use Rattle.std.specs.Prelude.{[], ◌∷◌, codes, refl}
 use Rattle.hex.proofs.OnLiterals.{hex_on_literals}
 use Rattle.interop.specs.Hex.{IsNotHex, SpellsBytes}
 

@@ -1,4 +1,5 @@
 pub mod Body
+pub mod BodyExamples
 pub mod Call
 pub mod Device
 pub mod Hex

@@ -1,11 +1,9 @@
 use Rattle.std.proofs.Common.{◌≡◌, ◌∙◌, ap, List}
-use Rattle.std.proofs.lemmas.Result.{IfOk-weaker}
 use Rattle.callbox.specs.Runs.{run}
 use Rattle.callbox.specs.declared.account.Account.{Account}
 use Rattle.callbox.specs.declared.account.CallEvent.{CallEvent}
 use Rattle.interop.specs.Body.{fault_at_end}
 use Rattle.interop.specs.Call.{account_of}
-use Rattle.interop.specs.Report.{report}
 use Rattle.interop.proofs.CallLemmas.{run_whole_call}
 use Rattle.interop.proofs.body.report_of.Goals as goal
 

@@ -1,4 +1,3 @@
-use Rattle.std.proofs.Common.{rules, subst, sym}
 use Rattle.std.proofs.lemmas.Result.{err_from_is_err_and}
 use Rattle.interop.proofs.body.run_body.Goals as goal
 
