@@ -1,0 +1,47 @@
+//! Tags: a field's number and the wire type of its content, as one number.
+
+ghost use Rattle.std.specs.Prelude.{◌≡◌, ◌+◌, ◌*◌, ◌<◌, ◌^◌};
+ghost use Rattle.pbwire.specs.Reading.{Gives, type_at, tag_at};
+
+use crate::fault::WireFault;
+
+/// How the content of a field is spelled.
+#[derive(Clone, Copy, Debug, PartialEq, Eq)]
+pub(crate) enum WireType {
+    Varint,
+    EightBytes,
+    Bytes,
+    FourBytes,
+}
+
+impl WireType {
+    /// The wire type of a tag's low three bits.
+    fn read(number: u32) -> Result<WireType, WireFault>
+        ensures { Gives (λ kind. kind) result (type_at number) }
+    {
+        match number {
+            0 => Ok(WireType::Varint),
+            1 => Ok(WireType::EightBytes),
+            2 => Ok(WireType::Bytes),
+            3 | 4 => Err(WireFault::Group),
+            5 => Ok(WireType::FourBytes),
+            _ => Err(WireFault::BadTag),
+        }
+    }
+}
+
+/// The field number and the wire type of a tag. A bad tag is told before a group.
+#[tactic(auto, unfolding(crate::specs::Reading::tag_at))]
+pub(crate) fn read_tag(tag: u64) -> Result<(u32, WireType), WireFault>
+    ensures { Gives (λ head. (head.0, head.1)) result (tag_at tag) }
+{
+    if tag >= 1 << 32 {
+        return Err(WireFault::BadTag);
+    }
+    let tag = tag as u32;
+    let number = tag / 8;
+    if number == 0 {
+        return Err(WireFault::BadTag);
+    }
+    Ok((number, WireType::read(tag % 8)?))
+}
