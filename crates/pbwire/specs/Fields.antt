@@ -1,5 +1,5 @@
 -- The fields of a byte list (Protocol Buffers encoding guide, "Message Structure").
-use Rattle.std.specs.Prelude.{◌≡◌, ◌≢◌, ℕ, ◌+◌, ◌*◌, ◌/◌, ◌%◌, ◌^◌, ◌<◌, ◌≤◌, ◌⊎◌, List, [], ◌∷◌, ◌++◌, length, map, Option, Some, None}
+use Rattle.std.specs.Prelude.{◌≡◌, ◌≢◌, ℕ, ◌+◌, ◌*◌, ◌/◌, ◌%◌, ◌^◌, ◌<◌, ◌≤◌, ◌⊎◌, List, [], ◌∷◌, ◌++◌, length, map, Option, Some, None, Result, Ok, Err}
 use Rattle.std.specs.Int.{w32, w64, from_le_bytes}
 use Rattle.pbwire.specs.declared.fault.WireFault.{WireFault}
 use Rattle.pbwire.specs.declared.fault.WireFault.TheVariants.{Truncated, BadTag, Group}
@@ -97,3 +97,9 @@ StartsWithFields input (field ∷ fields) rest = (more : List ℕ) × StartsWith
 abbrev pub IsReading : List ℕ → List Field → Option WireFault → Type 0
 IsReading input fields None = StartsWithFields input fields []
 IsReading input fields (Some fault) = (rest : List ℕ) × StartsWithFields input fields rest × FaultAt rest fault
+
+-- what a reader answered is this field
+abbrev pub IsField : Option (Result FieldItem WireFault) → Field → Type 0
+IsField (Some (Ok item)) field = field_of item ≡ field
+IsField (Some (Err fault)) field = ⊥
+IsField None field = ⊥
