@@ -7,7 +7,7 @@ use Rattle.pbwire.specs.declared.fault.WireFault.{WireFault}
 use Rattle.pbwire.specs.declared.fault.WireFault.TheVariants.{Truncated, VarintTooLong, BadTag, Group, OutOfMemory}
 use Rattle.pbwire.specs.declared.tag.WireType.{WireType}
 use Rattle.pbwire.specs.declared.tag.WireType.TheVariants as type
-use Rattle.pbwire.specs.Varint.{IsVarint, StartsWithVarint, VarintFault}
+use Rattle.pbwire.specs.Varint.{IsTerminated, IsVarint, StartsWithVarint, VarintFault}
 use Rattle.pbwire.specs.Fields.{Content, varint, eight_bytes, bytes, four_bytes, Field, wire_type, tag_of, SpellsContent, StartsWithContent, StartsWithField, IsBadTag, IsTag, FaultAt, no_tag, bad_tag, start_group, end_group, no_varint, cut_eight_bytes, no_length, cut_bytes, cut_four_bytes}
 use Rattle.pbwire.specs.Reading.{◌>>=◌, varint_at, type_at, tag_at, content_at, field_at}
 use Rattle.pbwire.proofs.Varints.{VarintRead, varint_read, reads_varint, reads_fault}
@@ -334,3 +334,26 @@ pub field_or_fault : (input : List ℕ) (field : Field) (rest : List ℕ) (fault
 field_or_fault input field rest fault there wrong =
     let e : answer field rest ≡ refusal fault = sym (reads_field input field rest there) ∙ reads_field_fault input fault wrong in
     cc
+
+-- ---- by what the function answered
+
+pub field_from : (input : List ℕ) (field : Field) (rest : List ℕ) → input ≢ [] → field_at input ≡ Ok (field, rest) → StartsWithField input field rest
+field_from input field rest some e = subst (FieldRead input) e (field_read input some)
+
+pub fault_from : (input : List ℕ) (fault : WireFault) → input ≢ [] → field_at input ≡ Err fault → FaultAt input fault
+fault_from input fault some e = subst (FieldRead input) e (field_read input some)
+
+-- ---- a field takes at least a byte
+
+varint_some : (spelling : List ℕ) → IsTerminated spelling → 0 < length spelling
+varint_some [] ended = absurd ended
+varint_some (x ∷ xs) ended = omega arith
+
+pub field_shortens : (input : List ℕ) (field : Field) (rest : List ℕ) → StartsWithField input field rest → length rest < length input
+field_shortens input field rest there =
+    let some = varint_some there.tag.spelling there.tag.spelled.terminated in
+    omega (arith, ap length there.tag.parts, ap length there.content.parts, length-append there.tag.spelling there.after_tag, length-append there.content.spelling rest)
+
+pub some_from : (input : List ℕ) → false ≡ eqb (length input) 0 → input ≢ []
+some_from [] h e = cc
+some_from (x ∷ xs) h e = cc
