@@ -9,20 +9,8 @@ use Rattle.pbwire.specs.declared.tag.WireType.{WireType}
 use Rattle.pbwire.specs.declared.tag.WireType.TheVariants as type
 use Rattle.pbwire.specs.Varint.{IsTerminated, IsVarint, StartsWithVarint, VarintFault}
 use Rattle.pbwire.specs.Fields.{Content, varint, eight_bytes, bytes, four_bytes, Field, wire_type, tag_of, SpellsContent, StartsWithContent, StartsWithField, IsBadTag, IsTag, FaultAt, no_tag, bad_tag, start_group, end_group, no_varint, cut_eight_bytes, no_length, cut_bytes, cut_four_bytes}
-use Rattle.pbwire.specs.Reading.{◌>>=◌, varint_at, type_at, tag_at, content_at, field_at}
+use Rattle.pbwire.specs.Reading.{◌>>=◌, type_number, kind_of, varint_at, type_at, tag_at, content_at, field_at}
 use Rattle.pbwire.proofs.Varints.{VarintRead, varint_read, reads_varint, reads_fault}
-
-abbrev type_number : WireType → ℕ
-type_number type.Varint = 0
-type_number type.EightBytes = 1
-type_number type.Bytes = 2
-type_number type.FourBytes = 5
-
-abbrev kind_of : Content → WireType
-kind_of (varint n) = type.Varint
-kind_of (eight_bytes n) = type.EightBytes
-kind_of (bytes b) = type.Bytes
-kind_of (four_bytes n) = type.FourBytes
 
 -- ---- tags
 

@@ -37,7 +37,7 @@ sum_of_groups-push front last =
 
 -- ---- the function finds what is there
 
-IsTerminated-cons : (byte : ℕ) (bytes : List ℕ) → HasTopBit byte → IsTerminated bytes → IsTerminated (byte ∷ bytes)
+pub IsTerminated-cons : (byte : ℕ) (bytes : List ℕ) → HasTopBit byte → IsTerminated bytes → IsTerminated (byte ∷ bytes)
 IsTerminated-cons byte [] top ended = absurd ended
 IsTerminated-cons byte (x ∷ xs) top ended = (top, ended)
 

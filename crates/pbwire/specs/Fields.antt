@@ -19,6 +19,9 @@ pub record Field : Type 0 where
   pub number : ℕ
   pub content : Content
 
+abbrev pub field_with : ℕ → Content → Field
+field_with number content = record { number = number; content = content }
+
 -- a value without where it lies in memory
 abbrev pub content_of : FieldValue → Content
 content_of (Varint n) = varint n
@@ -28,7 +31,7 @@ content_of (FourBytes n) = four_bytes n
 
 -- a field without where it lies in memory
 abbrev pub field_of : FieldItem → Field
-field_of item = record { number = item.number; content = content_of item.value }
+field_of item = field_with item.number (content_of item.value)
 
 abbrev pub wire_type : Content → ℕ
 wire_type (varint n) = 0

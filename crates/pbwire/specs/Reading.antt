@@ -32,6 +32,19 @@ varint_at input = do
   parts ← varint_bytes 10 input
   Ok (sum_of_groups parts.0 % 2 ^ 64, parts.1)
 
+-- the number of a wire type
+abbrev pub type_number : WireType → ℕ
+type_number type.Varint = 0
+type_number type.EightBytes = 1
+type_number type.Bytes = 2
+type_number type.FourBytes = 5
+
+abbrev pub kind_of : Content → WireType
+kind_of (varint n) = type.Varint
+kind_of (eight_bytes n) = type.EightBytes
+kind_of (bytes b) = type.Bytes
+kind_of (four_bytes n) = type.FourBytes
+
 abbrev pub type_at : ℕ → Result WireType WireFault
 type_at number =
     if number == 0 then Ok type.Varint

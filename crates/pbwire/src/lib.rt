@@ -6,8 +6,10 @@ mod field;
 mod reading;
 mod tag;
 mod varint;
+mod writing;
 
 pub use fault::WireFault;
 pub use field::{FieldItem, FieldValue};
 pub use reading::Fields;
 pub use varint::read_varint;
+pub use writing::{write_field, write_varint};
