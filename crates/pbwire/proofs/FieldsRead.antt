@@ -345,3 +345,24 @@ field_shortens input field rest there =
 pub some_from : (input : List ℕ) → false ≡ eqb (length input) 0 → input ≢ []
 some_from [] h e = cc
 some_from (x ∷ xs) h e = cc
+
+-- ---- nothing stands at the end
+
+no_varint_at_end : (number : ℕ) (rest : List ℕ) → StartsWithVarint [] number rest → ⊥
+no_varint_at_end number rest there =
+    let some = varint_some there.spelling there.spelled.terminated in
+    absurd (omega (arith, ap length there.parts, length-append there.spelling rest))
+
+pub no_field_at_end : (field : Field) (rest : List ℕ) → StartsWithField [] field rest → ⊥
+no_field_at_end field rest there = no_varint_at_end (tag_of field) there.after_tag there.tag
+
+pub no_fault_at_end : (fault : WireFault) → FaultAt [] fault → ⊥
+no_fault_at_end fault (no_tag f some wrong) = some refl
+no_fault_at_end fault (bad_tag tag rest there bad) = no_varint_at_end tag rest there
+no_fault_at_end fault (start_group tag rest there is) = no_varint_at_end tag rest there
+no_fault_at_end fault (end_group tag rest there is) = no_varint_at_end tag rest there
+no_fault_at_end fault (no_varint f tag rest there is wrong) = no_varint_at_end tag rest there
+no_fault_at_end fault (cut_eight_bytes tag rest there is short) = no_varint_at_end tag rest there
+no_fault_at_end fault (no_length f tag rest there is wrong) = no_varint_at_end tag rest there
+no_fault_at_end fault (cut_bytes tag rest len left there is len_there short) = no_varint_at_end tag rest there
+no_fault_at_end fault (cut_four_bytes tag rest there is short) = no_varint_at_end tag rest there

@@ -1,3 +1,4 @@
 pub mod Varints
 pub mod FieldsRead
 pub mod VarintsWritten
+pub mod WholeReadings

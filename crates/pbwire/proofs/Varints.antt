@@ -1,5 +1,5 @@
 -- Reading a varint as a function reads the varint that is there, or tells why there is none, and there is one reading.
-use Rattle.std.proofs.Common.{◌≡◌, ◌≢◌, ℕ, zero, suc, ◌+◌, ◌*◌, ◌%◌, ◌^◌, ◌<◌, ◌≤◌, Bool, true, false, cond, ltb, List, [], ◌∷◌, ◌++◌, length, take, drop, Result, Ok, Err, refl, sym, ap, subst, ◌∙◌, append_assoc, arith, inl, inr, add-one, zero-add, get_or, bit_and, min}
+use Rattle.std.proofs.Common.{◌≡◌, ◌≢◌, ℕ, zero, suc, ◌+◌, ◌*◌, ◌%◌, ◌^◌, ◌<◌, ◌≤◌, ◌⊎◌, Bool, true, false, cond, ltb, List, [], ◌∷◌, ◌++◌, length, take, drop, Result, Ok, Err, refl, sym, ap, subst, ◌∙◌, append_assoc, arith, inl, inr, add-one, zero-add, get_or, bit_and, min}
 use Rattle.std.specs.List.{AllByRecursion, enumerate_from, sum_by}
 use Rattle.std.proofs.lemmas.Bool.{lt-ltb, le-ltb, cases_lt}
 use Rattle.std.proofs.lemmas.List.{take_at, drop_at, take-append-drop, length-append, length-take, length-drop, take_more, take-take, take_all}
@@ -210,3 +210,21 @@ is_overlong bytes m i m_is done high long =
     let ten : m ≡ 10 = omega arith in
     let seen : take i (take m bytes) ≡ take 10 bytes = take_all i (take m bytes) done ∙ ap (λ (k : ℕ). take k bytes) ten in
     (long, subst (AllByRecursion HasTopBit) seen high)
+
+-- ---- as laws
+
+pub same_varint : (input : List ℕ) (m n : ℕ) (rest more : List ℕ) → StartsWithVarint input m rest → StartsWithVarint input n more → (m ≡ n) × (rest ≡ more)
+same_varint input m n rest more there also =
+    same_answer m n rest more (sym (reads_varint input m rest there) ∙ reads_varint input n more also)
+
+pub not_both : (input : List ℕ) (number : ℕ) (rest : List ℕ) (fault : WireFault) → StartsWithVarint input number rest → VarintFault input fault → ⊥
+not_both input number rest fault there wrong =
+    let e : answer number rest ≡ Err fault = sym (reads_varint input number rest there) ∙ reads_fault input fault wrong in
+    cc
+
+either_of : (input : List ℕ) (r : Result (ℕ × List ℕ) WireFault) → VarintRead input r → ((number : ℕ) × (rest : List ℕ) × StartsWithVarint input number rest) ⊎ ((fault : WireFault) × VarintFault input fault)
+either_of input (Ok found) read = inl (found.0, found.1, read)
+either_of input (Err fault) read = inr (fault, read)
+
+pub either : (input : List ℕ) → ((number : ℕ) × (rest : List ℕ) × StartsWithVarint input number rest) ⊎ ((fault : WireFault) × VarintFault input fault)
+either input = either_of input (varint_at input) (varint_read input)

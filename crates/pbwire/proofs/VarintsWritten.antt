@@ -1,12 +1,12 @@
 -- The spelling that the writers give a number is a varint of that number.
-use Rattle.std.proofs.Common.{◌≡◌, ℕ, zero, suc, ◌+◌, ◌*◌, ◌/◌, ◌%◌, ◌^◌, ◌<◌, ◌≤◌, Bool, true, false, cond, ltb, List, [], ◌∷◌, ◌++◌, length, add-one, mod-eq_of_lt, append_assoc, take, Result, Ok, Err, refl, sym, ap, subst, ◌∙◌, arith, inl, inr}
+use Rattle.std.proofs.Common.{◌≡◌, ℕ, zero, suc, ◌+◌, ◌*◌, ◌/◌, ◌%◌, ◌^◌, ◌<◌, ◌≤◌, ◌⊎◌, Bool, true, false, cond, ltb, List, [], ◌∷◌, ◌++◌, length, add-one, mod-eq_of_lt, append_assoc, take, Result, Ok, Err, refl, sym, ap, subst, ◌∙◌, arith, inl, inr}
 use Rattle.std.specs.List.{enumerate_from, sum_by}
 use Rattle.std.proofs.lemmas.Bool.{lt-ltb, le-ltb, cases_lt}
 use Rattle.std.specs.Prelude.{OnErr}
 use Rattle.std.proofs.lemmas.List.{length-append, take-append-le}
 use Rattle.std.proofs.lemmas.List.Sums.{sum_by-cons}
 use Rattle.std.proofs.lemmas.Nat.{div_below}
-use Rattle.std.proofs.Math.Nat.{pow-succ', pow-suc}
+use Rattle.std.proofs.Math.Nat.{pow-succ', pow-suc, pow-le-pow_right}
 use Rattle.pbwire.specs.Varint.{IsTerminated, sum_of_groups, IsVarint}
 use Rattle.pbwire.specs.Spelling.{varint_within, varint_spelling}
 use Rattle.pbwire.proofs.Varints.{IsTerminated-cons}
@@ -121,3 +121,40 @@ some_left old out n rest fits so_far =
 pub on_err : {T E P : Type 0} (r : Result T E) → P → OnErr r P
 on_err (Ok x) p = tt
 on_err (Err e) p = p
+
+-- ---- no spelling is shorter
+
+sum_below : (bytes : List ℕ) → sum_of_groups bytes < 128 ^ length bytes
+sum_below [] = omega arith
+sum_below (x ∷ xs) =
+    let behind : sum_of_groups xs < 128 ^ length xs = sum_below xs in
+    let power : 128 ^ suc (length xs) ≡ 128 * 128 ^ length xs = pow-succ' 128 (length xs) in
+    let here : sum_of_groups (x ∷ xs) ≡ x % 128 + 128 * sum_of_groups xs = sum_of_groups-cons x xs in
+    omega arith
+
+short_within : (k j n : ℕ) → n < 128 ^ suc j → length (varint_within k n) ≤ suc j
+short_within zero j n lt = omega arith
+short_within (suc k) zero n lt = rw (lt-ltb n 128 lt) (omega arith)
+short_within (suc k) (suc j) n lt =
+    elim (cases_lt n 128) [
+      | inl low ↦ rw (lt-ltb n 128 low) (omega arith)
+      | inr high ↦
+        let behind : length (varint_within k (n / 128)) ≤ suc j = short_within k j (n / 128) (below_power j n lt) in
+        rw (le-ltb n 128 high) (omega arith)
+    ]
+
+shortest_of : (n : ℕ) (bytes : List ℕ) → n < 2 ^ 64 → IsVarint bytes n → (length bytes < 10) ⊎ (10 ≤ length bytes) → length (varint_spelling n) ≤ length bytes
+unfolding varint_spelling
+shortest_of n [] fits there size = absurd there.terminated
+shortest_of n (x ∷ xs) fits there (inl few) =
+    let power : 128 ^ suc (length xs) ≤ 128 ^ 9 = pow-le-pow_right {n = 128} (omega arith) {i = suc (length xs)} {j = 9} (omega arith) in
+    let below : sum_of_groups (x ∷ xs) < 128 ^ suc (length xs) = sum_below (x ∷ xs) in
+    let whole : sum_of_groups (x ∷ xs) < 2 ^ 64 = omega arith in
+    let value : n ≡ sum_of_groups (x ∷ xs) = there.value ∙ mod-eq_of_lt whole in
+    short_within 9 (length xs) n (subst (λ (k : ℕ). k < 128 ^ suc (length xs)) (sym value) below)
+shortest_of n (x ∷ xs) fits there (inr many) =
+    let short : length (varint_within 9 n) ≤ 10 = (is_varint n fits).short in
+    omega arith
+
+pub shortest : (n : ℕ) (bytes : List ℕ) → n < 2 ^ 64 → IsVarint bytes n → length (varint_spelling n) ≤ length bytes
+shortest n bytes fits there = shortest_of n bytes fits there (cases_lt (length bytes) 10)
