@@ -139,8 +139,8 @@ short_within (suc k) (suc j) n lt =
     elim (cases_lt n 128) [
       | inl low ↦ rw (lt-ltb n 128 low) (omega arith)
       | inr high ↦
-        let behind : length (varint_within k (n / 128)) ≤ suc j = short_within k j (n / 128) (below_power j n lt) in
-        rw (le-ltb n 128 high) (omega arith)
+          let behind : length (varint_within k (n / 128)) ≤ suc j = short_within k j (n / 128) (below_power j n lt) in
+          rw (le-ltb n 128 high) (omega arith)
     ]
 
 shortest_of : (n : ℕ) (bytes : List ℕ) → n < 2 ^ 64 → IsVarint bytes n → (length bytes < 10) ⊎ (10 ≤ length bytes) → length (varint_spelling n) ≤ length bytes

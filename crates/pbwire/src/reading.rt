@@ -8,7 +8,7 @@ ghost use Rattle.pbwire.specs.Reading.{Gives, content_at, field_at};
 
 use crate::fault::WireFault;
 use crate::field::{FieldItem, FieldValue};
-use crate::tag::{read_tag, WireType};
+use crate::tag::{WireType, read_tag};
 use crate::varint::split_varint;
 use std::marker::Model;
 

@@ -10,7 +10,7 @@ use std::alloc::{AllocError, Global};
 
 /// The fields of a message: all of them, or those before its first fault.
 #[derive(Debug, Drop)]
-pub struct Reading<'a> {
+pub struct AllFields<'a> {
     /// In the order of the message. What they hold is borrowed from it.
     pub fields: Vec<FieldItem<'a>>,
     /// What stands behind these fields, unless it is the end.
@@ -18,7 +18,7 @@ pub struct Reading<'a> {
 }
 
 /// Walks the fields of a message to their end, or to the first fault, and collects them.
-pub fn read_fields(alloc: Global, bytes: &[u8]) -> Result<Reading<'_>, AllocError>
+pub fn read_fields(alloc: Global, bytes: &[u8]) -> Result<AllFields<'_>, AllocError>
     ensures { IfOk result (λ reading.
         IsReading bytes.now (map field_of reading.fields.items) reading.fault) }
 {
@@ -28,14 +28,14 @@ pub fn read_fields(alloc: Global, bytes: &[u8]) -> Result<Reading<'_>, AllocErro
         match answer {
             Ok(item) => fields.push(item)?,
             Err(fault) => {
-                return Ok(Reading {
+                return Ok(AllFields {
                     fields,
                     fault: Some(fault),
                 });
             }
         }
     }
-    Ok(Reading {
+    Ok(AllFields {
         fields,
         fault: None,
     })
