@@ -1,9 +1,9 @@
 -- Worked examples of the definitions: those of the encoding guide, and edges.
-use Rattle.std.proofs.Common.{◌≡◌, ◌-◌, ◌^◌, List, [], ◌∷◌, ◌++◌, Option, Some, None, Ok, Err, refl, inl, inr, arith}
+use Rattle.std.proofs.Common.{◌≡◌, ◌-◌, ◌^◌, [], ◌∷◌, None, refl, inl, inr, arith}
 use Rattle.std.specs.Prelude.{codes}
-use Rattle.pbwire.specs.declared.fault.WireFault.TheVariants.{Truncated, BadTag, Group}
+use Rattle.pbwire.specs.declared.fault.WireFault.TheVariants.{BadTag}
 use Rattle.pbwire.specs.Varint.{IsVarint, StartsWithVarint}
-use Rattle.pbwire.specs.Fields.{varint, bytes, field_with, FaultAt, bad_tag, start_group, cut_bytes, IsReading}
+use Rattle.pbwire.specs.Fields.{varint, bytes, field_with, FaultAt, bad_tag, IsReading}
 use Rattle.pbwire.specs.Spelling.{varint_spelling, spelling_of}
 use Rattle.pbwire.specs.Reading.{varint_at, tag_at, content_at, field_at}
 use Rattle.pbwire.proofs.FieldsRead.{field_from}

@@ -1,8 +1,8 @@
 -- Reading a varint as a function reads the varint that is there, or tells why there is none, and there is one reading.
-use Rattle.std.proofs.Common.{◌≡◌, ◌≢◌, ℕ, zero, suc, ◌+◌, ◌*◌, ◌%◌, ◌^◌, ◌<◌, ◌≤◌, ◌⊎◌, Bool, true, false, cond, ltb, List, [], ◌∷◌, ◌++◌, length, take, drop, Result, Ok, Err, refl, sym, ap, subst, ◌∙◌, append_assoc, arith, inl, inr, add-one, zero-add, get_or, bit_and, min}
+use Rattle.std.proofs.Common.{◌≡◌, ℕ, zero, suc, ◌+◌, ◌*◌, ◌%◌, ◌^◌, ◌<◌, ◌≤◌, ◌⊎◌, List, [], ◌∷◌, ◌++◌, length, take, drop, Result, Ok, Err, refl, sym, ap, subst, ◌∙◌, arith, inl, inr, zero-add, get_or, bit_and, min}
 use Rattle.std.specs.List.{AllByRecursion, enumerate_from, sum_by}
 use Rattle.std.proofs.lemmas.Bool.{lt-ltb, le-ltb, cases_lt}
-use Rattle.std.proofs.lemmas.List.{take_at, drop_at, take-append-drop, length-append, length-take, length-drop, take_more, take-take, take_all}
+use Rattle.std.proofs.lemmas.List.{take-append-drop, length-take, length-drop, take_more, take-take, take_all}
 use Rattle.std.proofs.lemmas.Nat.{pow-add, and_mask}
 use Rattle.std.proofs.Math.Nat.{pow-succ', add-mod}
 use Rattle.std.proofs.lemmas.List.Sums.{sum_by-append}

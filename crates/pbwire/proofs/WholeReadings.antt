@@ -1,14 +1,10 @@
 -- A byte list has one reading, and what is written is read.
-use Rattle.std.proofs.Common.{◌≡◌, ◌≢◌, ℕ, zero, suc, ◌+◌, ◌*◌, ◌^◌, ◌<◌, ◌≤◌, ◌⊎◌, List, [], ◌∷◌, ◌++◌, length, Option, Some, None, Result, Ok, Err, map, refl, sym, ap, subst, ◌∙◌, append_assoc, arith, inl, inr}
-use Rattle.std.specs.List.{flat_map, AllByRecursion}
-use Rattle.std.specs.Int.{w32, w64, to_le_bytes, from_le_bytes}
-use Rattle.std.proofs.lemmas.List.{length-append, append-nil}
+use Rattle.std.proofs.Common.{◌≡◌, ℕ, zero, suc, ◌^◌, ◌<◌, ◌≤◌, List, [], ◌∷◌, ◌++◌, length, Option, Some, None, Result, Ok, Err, refl, sym, ap, subst, ◌∙◌, append_assoc, arith}
+use Rattle.std.specs.List.{AllByRecursion}
 use Rattle.std.proofs.lemmas.List.Concat.{flat_map-cons}
 use Rattle.std.proofs.lemmas.Nat.{from_le_bytes-to_le_bytes_4, from_le_bytes-to_le_bytes_8}
 use Rattle.pbwire.specs.declared.fault.WireFault.{WireFault}
-use Rattle.pbwire.specs.declared.fault.WireFault.TheVariants.{Truncated, VarintTooLong, BadTag, Group, OutOfMemory}
-use Rattle.pbwire.specs.Varint.{IsTerminated, IsVarint, StartsWithVarint, VarintFault}
-use Rattle.pbwire.specs.Fields.{Content, varint, eight_bytes, bytes, four_bytes, Field, wire_type, tag_of, SpellsContent, StartsWithContent, StartsWithField, FaultAt, StartsWithFields, IsReading}
+use Rattle.pbwire.specs.Fields.{Content, varint, eight_bytes, bytes, four_bytes, Field, wire_type, tag_of, SpellsContent, StartsWithField, FaultAt, StartsWithFields, IsReading}
 use Rattle.pbwire.specs.Reading.{field_at}
 use Rattle.pbwire.specs.Spelling.{varint_spelling, content_spelling, spelling_of, spelling_of_all, FitsContent, FitsField}
 use Rattle.pbwire.proofs.FieldsRead.{FieldRead, field_read, one_field, one_fault, field_or_fault, field_shortens, no_field_at_end, no_fault_at_end}

@@ -1,5 +1,5 @@
 -- The fields of a byte list (Protocol Buffers encoding guide, "Message Structure").
-use Rattle.std.specs.Prelude.{◌≡◌, ◌≢◌, ℕ, ◌+◌, ◌*◌, ◌/◌, ◌%◌, ◌^◌, ◌<◌, ◌≤◌, ◌⊎◌, List, [], ◌∷◌, ◌++◌, length, map, Option, Some, None, Result, Ok, Err}
+use Rattle.std.specs.Prelude.{◌≡◌, ◌≢◌, ℕ, ◌+◌, ◌*◌, ◌/◌, ◌%◌, ◌^◌, ◌<◌, ◌≤◌, ◌⊎◌, List, [], ◌∷◌, ◌++◌, length, Option, Some, None, Result, Ok, Err}
 use Rattle.std.specs.Int.{w32, w64, from_le_bytes}
 use Rattle.pbwire.specs.declared.fault.WireFault.{WireFault}
 use Rattle.pbwire.specs.declared.fault.WireFault.TheVariants.{Truncated, BadTag, Group}

@@ -1,8 +1,6 @@
-use Rattle.std.proofs.Common.{◌≡◌, ℕ, ◌+◌, ◌≤◌, ◌<◌, List, length, take, Result, Ok, Err, ap, arith, rules}
+use Rattle.std.proofs.Common.{◌+◌, take, Err, ap, arith}
 use Rattle.std.proofs.lemmas.List.{length-take}
-use Rattle.pbwire.specs.declared.fault.WireFault.{WireFault}
 use Rattle.pbwire.specs.declared.fault.WireFault.TheVariants.{Truncated, VarintTooLong}
-use Rattle.pbwire.specs.Varint.{IsVarint, VarintFault}
 use Rattle.pbwire.proofs.Varints.{more_groups, goes_on, ends, is_unfinished, is_overlong, one_varint, no_fault, same_fault}
 use Rattle.pbwire.proofs.varint.read_varint.Goals as goal
 

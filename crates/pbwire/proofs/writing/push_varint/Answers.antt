@@ -1,4 +1,4 @@
-use Rattle.std.proofs.Common.{◌≡◌, ◌+◌, ◌%◌, ◌^◌, ◌<◌, ◌≤◌, [], ◌∷◌, ◌++◌, length, take, vec_len, vec_capacity, arith}
+use Rattle.std.proofs.Common.{◌+◌, ◌%◌, ◌^◌, ◌<◌, ◌≤◌, [], ◌∷◌, length, vec_len, vec_capacity, arith}
 use Rattle.pbwire.specs.Spelling.{varint_spelling}
 use Rattle.pbwire.proofs.VarintsWritten.{pushed, pushed_last, kept, some_left, on_err}
 use Rattle.pbwire.proofs.writing.push_varint.Goals as goal

@@ -1,4 +1,4 @@
-use Rattle.std.proofs.Common.{◌≡◌, List, ℕ, length, Some, Ok, Err, ap, subst}
+use Rattle.std.proofs.Common.{List, ℕ, Some, Err, ap, subst}
 use Rattle.pbwire.specs.declared.fault.WireFault.{WireFault}
 use Rattle.pbwire.specs.Fields.{field_of, StartsWithField, FaultAt}
 use Rattle.pbwire.proofs.FieldsRead.{field_from, fault_from, some_from, one_field, one_fault, field_or_fault, field_shortens}
