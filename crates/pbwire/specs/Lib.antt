@@ -1,0 +1,5 @@
+pub mod Code
+pub mod Varint
+pub mod Fields
+pub mod Spelling
+pub mod Reading
