@@ -64,3 +64,10 @@ fault_of_read read_fault.OutOfMemory = OutOfMemory
 abbrev pub fault_of_text : HexFault → RunFault
 fault_of_text hex_fault.NotHex = NotHex
 fault_of_text hex_fault.OutOfMemory = OutOfMemory
+
+-- the numbers by which the faults are known outside
+abbrev pub code_of : RunFault → ℕ
+code_of NotHex = 1
+code_of ReadFailed = 2
+code_of WriteFailed = 3
+code_of OutOfMemory = 4

@@ -10,6 +10,8 @@ use Rattle.clap.specs.Kinds.{Kinds}
 use Rattle.clap.specs.declared.builder.value_parser.ValueParser.TheVariants as value_parser
 use Rattle.interop.specs.declared.words.Words.{Words}
 use Rattle.interop.specs.declared.words.Words.TheVariants.{Body}
+use Rattle.interop.specs.declared.words.WordsFault.{WordsFault}
+use Rattle.interop.specs.declared.words.WordsFault.TheVariants.{BadWords, OutOfMemory}
 
 -- `--cut N`, with N from 1 to 65,536
 abbrev pub cut_option : Rule
@@ -63,3 +65,8 @@ meaning_of (word ∷ words) = command_meant (word ∷ words)
 -- the numbers are in their ranges
 abbrev pub IsInRange : Words → Type 0
 IsInRange (Body cut) = (1 ≤ cut) × (cut ≤ 65536)
+
+-- the numbers by which the faults are known outside
+abbrev pub code_of : WordsFault → ℕ
+code_of BadWords = 1
+code_of OutOfMemory = 2

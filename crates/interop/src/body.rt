@@ -1,16 +1,13 @@
 //! `interop body`: the messages of one call, from hexadecimal text to printed lines.
-ghost use Rattle.std.specs.Prelude.{◌≡◌, ◌≢◌, ◌<◌, Option, Some, IfOk, IfErr, OnOk, OnErr};
+ghost use Rattle.std.specs.Prelude.{◌≡◌, ◌<◌, IfOk, IfErr, OnOk, OnErr};
 ghost use Rattle.interop.specs.declared.body.RunFault.TheVariants.{OutOfMemory, WriteFailed};
-ghost use Rattle.interop.specs.Call.{told_of};
-ghost use Rattle.lpm.specs.declared.fault.LpmFault.{LpmFault};
 ghost use Rattle.interop.specs.Body.{Leaves, Marks, Reports, fault_of_read, fault_of_text, report_of};
 
-use crate::call::whole_call;
+use crate::call::{fault_told, whole_call};
 use crate::device::{ConnRead, ConnWrite, DeviceFault, ReadFault, read_all, write_all};
 use crate::report::report;
 use crate::text::{HexFault, bytes_of};
-use callbox::{Account, Told, replay};
-use lpm::LpmFault;
+use callbox::replay;
 use std::alloc::{AllocError, Global};
 
 /// Why a run gave up.
@@ -24,6 +21,22 @@ pub enum RunFault {
     WriteFailed,
     /// No memory was to be had.
     OutOfMemory,
+}
+
+impl RunFault {
+    ghost use Rattle.interop.specs.Body.{code_of};
+
+    /// The fault's number.
+    pub fn code(self) -> u32
+        ensures { result ≡ code_of self }
+    {
+        match self {
+            RunFault::NotHex => 1,
+            RunFault::ReadFailed => 2,
+            RunFault::WriteFailed => 3,
+            RunFault::OutOfMemory => 4,
+        }
+    }
 }
 
 impl From<ReadFault> for RunFault {
@@ -61,16 +74,6 @@ impl From<AllocError> for RunFault {
 
     fn from(_error: AllocError) -> RunFault {
         RunFault::OutOfMemory
-    }
-}
-
-// What is wrong at the end of a call.
-fn fault_told(account: &Account) -> Option<LpmFault>
-    ensures { (fault : Option LpmFault) → account.now.told ≡ Some (told_of fault) → result ≡ fault }
-{
-    match account.told {
-        Some(Told::Fault(fault)) => Some(fault),
-        _ => None,
     }
 }
 

@@ -1,11 +1,11 @@
 //! A call that comes in pieces, ends, and is taken as far as there is something to take.
-ghost use Rattle.std.specs.Prelude.{◌≡◌, ◌++◌, ◌<◌, length, replicate, Some, IfOk, OnOk};
+ghost use Rattle.std.specs.Prelude.{◌≡◌, ◌++◌, ◌<◌, length, replicate, Option, Some, IfOk, OnOk};
 ghost use Rattle.callbox.specs.declared.account.CallEvent.TheVariants as event;
-ghost use Rattle.interop.specs.Body.{fault_at_end};
+ghost use Rattle.lpm.specs.declared.fault.LpmFault.{LpmFault};
 ghost use Rattle.interop.specs.Call.{Feeds, IsWholeCall, told_of};
 
 use bytes::Bytes;
-use callbox::{CallEvent, Shut, Told};
+use callbox::{Account, CallEvent, Shut, Told};
 use lpm::LpmFault;
 use std::alloc::{AllocError, Global};
 
@@ -44,4 +44,14 @@ pub fn whole_call(alloc: Global, bytes: Vec<u8>, cut: usize) -> Result<Vec<CallE
     events.push(CallEvent::Shut(Shut::End))?;
     push_takes(&mut events, takes)?;
     Ok(events)
+}
+
+/// What was wrong with the bytes of a call that was told of its end, if anything was.
+pub fn fault_told(account: &Account) -> Option<LpmFault>
+    ensures { (fault : Option LpmFault) → account.now.told ≡ Some (told_of fault) → result ≡ fault }
+{
+    match account.told {
+        Some(Told::Fault(fault)) => Some(fault),
+        _ => None,
+    }
 }

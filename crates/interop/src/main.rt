@@ -65,11 +65,12 @@ fn self_description(words: &[String]) -> Option<&'static str> {
     }
 }
 
-fn print_body(rt: &HostRuntime, cut: usize) -> u8
+// Reports on standard output on the call in standard input, and answers the exit status.
+fn print_body<R: Input + Print + Eprint + AllocGlobal>(rt: &R, cut: usize) -> u8
     requires { 0 < cut }
 {
-    let mut input = Marked::new(rt.stdin());
-    let mut output = Marked::new(rt.stdout());
+    let mut input = Marked::new(rt.reader());
+    let mut output = Marked::new(io::writer(rt));
     match run_body(rt.alloc(), &mut input, cut, &mut output) {
         Ok(()) => 0,
         Err(RunFault::NotHex) => complain(rt, "input is not hexadecimal"),
@@ -78,7 +79,7 @@ fn print_body(rt: &HostRuntime, cut: usize) -> u8
 }
 
 // Does what the words after the program's name say, and answers the exit status.
-fn obey(rt: &HostRuntime, words: &[String]) -> u8 {
+fn obey<R: Input + Print + Eprint + AllocGlobal>(rt: &R, words: &[String]) -> u8 {
     if let Some(text) = self_description(words) {
         return match println!(rt; "{text}") {
             Ok(()) => 0,

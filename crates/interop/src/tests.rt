@@ -256,3 +256,16 @@ fn bodies_that_fail(rt: HostRuntime) -> Result<(), Fail> {
     assert_eq!(rt; output.into_inner().bytes.as_slice(), b"message".as_slice());
     Ok(())
 }
+
+#[test]
+fn numbers_of_faults(rt: HostRuntime) {
+    let words = [WordsFault::BadWords, WordsFault::OutOfMemory];
+    assert_eq!(rt; words.map(WordsFault::code), [1, 2]);
+    let runs = [
+        RunFault::NotHex,
+        RunFault::ReadFailed,
+        RunFault::WriteFailed,
+        RunFault::OutOfMemory,
+    ];
+    assert_eq!(rt; runs.map(RunFault::code), [1, 2, 3, 4]);
+}

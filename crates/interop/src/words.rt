@@ -26,6 +26,20 @@ pub enum WordsFault {
     OutOfMemory,
 }
 
+impl WordsFault {
+    ghost use Rattle.interop.specs.Words.{code_of};
+
+    /// The fault's number.
+    pub fn code(self) -> u32
+        ensures { result ≡ code_of self }
+    {
+        match self {
+            WordsFault::BadWords => 1,
+            WordsFault::OutOfMemory => 2,
+        }
+    }
+}
+
 impl From<AllocError> for WordsFault {
     ghost from_gives = { λ _ fault. fault ≡ OutOfMemory };
 
