@@ -1,3 +1,6 @@
 pub mod Lawful
 pub mod End
 pub mod PutFault
+pub mod RingEnds
+pub mod Ring
+pub mod RingLane
