@@ -4,3 +4,6 @@ pub mod PutFault
 pub mod RingEnds
 pub mod Ring
 pub mod RingLane
+pub mod Holds
+pub mod Known
+pub mod RowLane

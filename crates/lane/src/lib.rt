@@ -1,12 +1,16 @@
 //! Queues from one writer to one reader.
 #![tactic(auto)]
 
+mod cells;
 mod fault;
+mod known;
 mod lane;
 mod ring;
 mod ring_lane;
+mod row_lane;
 
 pub use fault::PutFault;
 pub use lane::{End, Lane, Settled};
 pub use ring::{Ring, RingIn, RingOut};
 pub use ring_lane::{RingLane, RingLaneIn, RingLaneOut, RingLaneShut};
+pub use row_lane::{RowLane, RowLaneIn, RowLaneOut, RowLaneShut};

@@ -1,0 +1,99 @@
+// Steps on a row of cells, each of which is set once.
+ghost use Rattle.std.specs.Prelude.{◌≡◌, ◌<◌, ◌≤◌, [], ◌∷◌, true, length, vec_len, slice_index, take, IfOk, IfErr, IfSome, Some};
+ghost use mathlib.Core.List.{IsPrefix};
+ghost use Rattle.once_cell.specs.Once.{cell_name};
+ghost use Rattle.lane.specs.Holds.{known_item, holds_item};
+ghost use Rattle.lane.specs.Known.{names_of, cell_of, item_of, cells_of, items_of};
+
+use crate::known::Known;
+use once_cell::race::OnceBox;
+use std::alloc::{AllocError, Global};
+
+/// The items are behind an `Option`, so that a box for the last item can be made before there is one.
+pub(crate) type Cells<T> = Vec<OnceBox<Option<T>>>;
+
+/// So many cells that aren't set.
+pub(crate) fn unset_cells<T: Drop>(alloc: Global, count: usize) -> Result<Cells<T>, AllocError>
+    ensures { IfOk result (λ cells. vec_len cells ≡ count) }
+{
+    let mut cells = Vec::with_capacity(alloc, count)?;
+    for _ in 0..count {
+        cells.push(OnceBox::new(alloc))?;
+    }
+    Ok(cells)
+}
+
+fn cell_at<T>(cells: &Cells<T>, at: usize) -> &OnceBox<Option<T>>
+    requires { at < vec_len cells.now }
+    ensures { cell_name result.now ≡ slice_index (names_of cells.now.items) at }
+{
+    &cells[at]
+}
+
+/// Sets a cell to an item, or hands the box back.
+pub(crate) fn set_at<T: Drop>(
+    cells: &Cells<T>,
+    at: usize,
+    item: Box<Option<T>>,
+) -> Result<Known<T>, Box<Option<T>>>
+    requires at { at < vec_len cells.now }
+    requires holds { holds_item (Some item.value) ≡ true }
+    ensures cell { IfOk result (λ known. cell_of known ≡ slice_index (names_of cells.now.items) at) }
+    ensures item { IfOk result (λ known. item_of known ≡ known_item (Some item.value)) }
+    ensures handed_back { IfErr result (λ back. back.value ≡ item.value) }
+{
+    let cell = cell_at(cells, at);
+    let mut note = cell.note();
+    cell.set_as(item, &mut note)?;
+    Ok(Known { note })
+}
+
+/// Looks whether a cell holds an item.
+pub(crate) fn look_at<T: Drop>(cells: &Cells<T>, at: usize) -> Option<Known<T>>
+    requires { at < vec_len cells.now }
+    ensures { IfSome result (λ known. cell_of known ≡ slice_index (names_of cells.now.items) at) }
+{
+    let cell = cell_at(cells, at);
+    let mut note = cell.note();
+    match cell.get_as(&mut note) {
+        Some(Some(_)) => Some(Known { note }),
+        _ => None,
+    }
+}
+
+/// The item of a cell that holds one.
+pub(crate) fn item_at<T: Drop>(cells: &Cells<T>, at: usize, known: Known<T>) -> &T
+    requires at { at < vec_len cells.now }
+    requires cell { cell_of known ≡ slice_index (names_of cells.now.items) at }
+    ensures { item_of known ≡ result.now ∷ [] }
+{
+    let cell = cell_at(cells, at);
+    let Known { mut note } = known;
+    match cell.get_as(&mut note) {
+        Some(Some(item)) => item,
+        _ => unreachable!(),
+    }
+}
+
+/// Two ends know the same items of the same cells.
+pub(crate) fn agree<T: Drop>(mut one: Vec<Known<T>>, mut other: Vec<Known<T>>)
+    requires { cells_of other.items ≡ cells_of one.items }
+    ensures { items_of other.items ≡ items_of one.items }
+{
+    while let (Some(mine), Some(theirs)) = (one.pop(), other.pop()) {
+        let Known { mut note } = mine;
+        let Known { note: their_note } = theirs;
+        note.compare(their_note);
+    }
+}
+
+/// What is known of the first cells of a row begins what is known of more of them.
+#[tactic(auto, using(crate::proofs::KnownItems::length_items_of, crate::proofs::KnownItems::prefix_of_known))]
+pub(crate) fn agree_in_front<T: Drop>(mut all: Vec<Known<T>>, front: Vec<Known<T>>)
+    requires fewer { vec_len front ≤ vec_len all }
+    requires cells { cells_of front.items ≡ take (vec_len front) (cells_of all.items) }
+    ensures { IsPrefix (items_of front.items) (items_of all.items) }
+{
+    all.truncate(front.len());
+    agree(all, front);
+}
