@@ -18,3 +18,6 @@ pub use ring::{Ring, RingIn, RingOut};
 pub use ring_lane::{RingLane, RingLaneIn, RingLaneOut, RingLaneShut};
 pub use row_lane::{RowLane, RowLaneIn, RowLaneOut, RowLaneShut};
 pub use threads::{poll_copy, put_waiting, relay};
+
+#[cfg(test)]
+mod tests;
