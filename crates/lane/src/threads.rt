@@ -1,7 +1,7 @@
 // Items that one thread puts and another takes.
-ghost use Rattle.std.specs.Prelude.{◌≡◌, ◌+◌, ◌<◌, ◌≤◌, [], ◌∷◌, ◌++◌, length, take, vec_len, vec_capacity, IfOk, IfSome, OnOk, OnErr, MatchOption};
+ghost use Rattle.std.specs.Prelude.{◌≡◌, false, List, ◌+◌, ◌<◌, ◌≤◌, [], ◌∷◌, ◌++◌, length, take, vec_len, vec_capacity, IfOk, IfSome, OnOk, OnErr, MatchOption};
 ghost use mathlib.Core.List.{IsPrefix};
-ghost use Rattle.lane.specs.Lawful.{count_of};
+ghost use Rattle.lane.specs.Lawful.{IsLawful, count_of};
 
 use crate::fault::PutFault;
 use crate::lane::{End, Lane, Settled};
@@ -108,6 +108,7 @@ pub fn relay<T: Copy + Send + Sync + Drop, L: Lane<Item = T> + Send, R: Threads 
     items: &[T],
 ) -> Result<(Vec<T>, Settled), AllocError>
     ensures begins { IfOk result (λ r. IsPrefix r.0.items items.now) }
+    ensures lawful { IfOk result (λ r. (put : List T) × IsPrefix put items.now × IsLawful room false put r.0.items × (r.1.put ≡ count_of put)) }
     ensures got { IfOk result (λ r. r.1.got ≡ count_of r.0.items) }
 {
     let (tx, rx) = L::open(alloc, room)?;
