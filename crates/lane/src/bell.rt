@@ -3,7 +3,8 @@ use std::sync::Wait;
 use std::sync::atomic::{AtomicBool, AtomicU64, Ordering};
 use std::time::Duration;
 
-/// A bell that one thread rings after a change, and at which another waits for one. It carries no data.
+/// A bell that one thread rings after a change, and at which another waits for one. It carries no
+/// data.
 ///
 /// To miss no ring, take the `mark` first, then look for the change, and then wait past that mark.
 #[derive(Drop)]

@@ -9,7 +9,7 @@ use crate::known::Known;
 use once_cell::race::OnceBox;
 use std::alloc::{AllocError, Global};
 
-/// The items are behind an `Option`, so that a box for the last item can be made before there is one.
+/// An item is behind an `Option`, so that the box of the last item can be made before the item.
 pub(crate) type Cells<T> = Vec<OnceBox<Option<T>>>;
 
 /// So many cells that aren't set.

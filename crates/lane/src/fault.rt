@@ -8,8 +8,8 @@ use std::fmt::Debug;
 /// Why an item was not put. Each fault hands the item back.
 #[derive(Debug, Drop)]
 pub enum PutFault<T> {
-    /// The reader has to take items first. `waiting` is how many of the items that were put this end had not seen
-    /// taken, in this call.
+    /// The reader has to take items first. `waiting` is how many of the items that were put this
+    /// end had not seen taken, in this call.
     Full { item: T, waiting: u64 },
     /// Memory for the item was refused.
     OutOfMemory(T),

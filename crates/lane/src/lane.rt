@@ -28,8 +28,8 @@ pub struct Settled {
 
 /// A queue from one writer to one reader.
 ///
-/// Its two ends may go to threads of their own. What each does is known to that end alone, until `settle` brings the
-/// ends together. No call waits for the other end.
+/// Its two ends may go to threads of their own. What each does is known to that end alone, until
+/// `settle` brings the ends together. No call waits for the other end.
 pub trait Lane {
     type Item: Send + Sync + Drop;
 
@@ -81,7 +81,8 @@ pub trait Lane {
     fn open(alloc: Global, room: usize) -> Result<(Self::In, Self::Out), AllocError>
         ensures name { IfOk result (λ r. in_name r.0 ≡ out_name r.1) }
         ensures room { IfOk result (λ r. room_of (in_name r.0) ≡ room) }
-        ensures empty { IfOk result (λ r. (put_in r.0 ≡ []) × (seen_taken r.0 ≡ 0) × (got r.1 ≡ [])) };
+        ensures empty { IfOk result (λ r. (put_in r.0 ≡ []) × (got r.1 ≡ [])) }
+        ensures seen { IfOk result (λ r. seen_taken r.0 ≡ 0) };
 
     /// Puts the item behind all others, or hands it back.
     fn put(tx: &mut Self::In, item: Self::Item) -> Result<(), PutFault<Self::Item>>
@@ -90,12 +91,16 @@ pub trait Lane {
         ensures ok { OnOk result (put_in tx.new ≡ put_in tx.old ++ item ∷ []) }
         ensures unchanged { OnErr result (put_in tx.new ≡ put_in tx.old) }
         ensures handed_back { IfErr result (λ e. item_of e ≡ item) }
-        ensures fault { IfErr result (MayRefuse only_fills (room_of (in_name tx.old)) (length (put_in tx.old)) (seen_taken tx.new)) };
+        ensures fault { IfErr result
+            (MayRefuse only_fills (room_of (in_name tx.old))
+            (length (put_in tx.old)) (seen_taken tx.new)) };
 
     /// Puts the item behind all others, where `placed` then says so. It takes no memory.
     fn last(tx: Self::In, item: Self::Item) -> Self::Shut
         ensures name { shut_name result ≡ in_name tx }
-        ensures put { MatchBool (was_placed result) (put_shut result ≡ put_in tx ++ item ∷ []) (put_shut result ≡ put_in tx) };
+        ensures put { MatchBool (was_placed result)
+            (put_shut result ≡ put_in tx ++ item ∷ [])
+            (put_shut result ≡ put_in tx) };
 
     /// Whether `last` put its item.
     fn placed(shut: &Self::Shut) -> bool
@@ -103,12 +108,19 @@ pub trait Lane {
 
     /// The next item of what was put, or nothing. It takes no memory.
     fn poll(rx: &mut Self::Out) -> Option<&Self::Item>
-        ensures* after { sem 𝓛 (follows_so Self.Out.row Self.Out.row rx.entry.ghost_name none (λ _ _. ⊤) (λ n. (out_name n ≡ out_name rx.old) × MatchOption result ((got n ≡ got rx.old) × (ahead rx.old ≡ []) × (ahead n ≡ [])) (λ r. (got n ≡ got rx.old ++ r.now ∷ []) × (0 < length (ahead rx.old) → ahead rx.old ≡ r.now ∷ ahead n)))) };
+        // Once the item is looked at, the end is some `n` for which this holds.
+        ensures* after { sem 𝓛
+            (follows_so Self.Out.row Self.Out.row rx.entry.ghost_name none (λ _ _. ⊤)
+            (λ n. (out_name n ≡ out_name rx.old) × MatchOption result
+            ((got n ≡ got rx.old) × (ahead rx.old ≡ []) × (ahead n ≡ []))
+            (λ r. (got n ≡ got rx.old ++ r.now ∷ [])
+            × (0 < length (ahead rx.old) → ahead rx.old ≡ r.now ∷ ahead n)))) };
 
     /// Brings the two ends of one `open` together.
     fn settle(end: End<Self::In, Self::Shut>, rx: Self::Out) -> Settled
         requires { of_end in_name shut_name end ≡ out_name rx }
         ensures put { result.put ≡ count_of (of_end put_in put_shut end) }
         ensures got { result.got ≡ count_of (got rx) }
-        ensures lawful { IsLawful (room_of (out_name rx)) (has_last was_placed end) (of_end put_in put_shut end) (got rx) };
+        ensures lawful { IsLawful (room_of (out_name rx)) (has_last was_placed end)
+            (of_end put_in put_shut end) (got rx) };
 }

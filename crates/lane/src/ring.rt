@@ -33,13 +33,15 @@ impl Ring {
     pub fn open<T: Drop>(alloc: Global, slots: usize) -> Result<(RingIn<T>, RingOut<T>), AllocError>
         ensures name { IfOk result (λ r. in_name r.0 ≡ out_name r.1) }
         ensures slots { IfOk result (λ r. slots_of (in_name r.0) ≡ slots) }
-        ensures empty { IfOk result (λ r. (put_in r.0 ≡ []) × (seen_taken r.0 ≡ 0) × (taken r.1 ≡ [])) }
+        ensures empty { IfOk result (λ r. (put_in r.0 ≡ []) × (taken r.1 ≡ [])) }
+        ensures seen { IfOk result (λ r. seen_taken r.0 ≡ 0) }
     {
         let (producer, consumer) = RingBuffer::new(alloc, slots)?;
         Ok((RingIn { producer }, RingOut { consumer }))
     }
 
-    /// What was taken, and then as many items as it answers, which `take` gives from now on, are what was put.
+    /// What was taken, and then as many items as it answers, which `take` gives from now on, are
+    /// what was put.
     pub fn meet<T>(tx: &mut RingIn<T>, rx: &mut RingOut<T>) -> u64
         requires { in_name tx.old ≡ out_name rx.old }
         ensures writer { (in_name tx.new ≡ in_name tx.old) × (put_in tx.new ≡ put_in tx.old) }
@@ -67,7 +69,9 @@ impl<T> RingIn<T> {
         ensures ok { OnOk result (put_in self.new ≡ put_in self.old ++ item ∷ []) }
         ensures unchanged { OnErr result (put_in self.new ≡ put_in self.old) }
         ensures handed_back { IfErr result (λ e. item_of e ≡ item) }
-        ensures fault { IfErr result (MayRefuse true (slots_of (in_name self.old)) (length (put_in self.old)) (seen_taken self.new)) }
+        ensures fault { IfErr result
+            (MayRefuse true (slots_of (in_name self.old))
+            (length (put_in self.old)) (seen_taken self.new)) }
     {
         if self.producer.is_full() {
             let waiting = self.producer.capacity() as u64;
@@ -85,8 +89,12 @@ impl<T> RingOut<T> {
     /// The next item of what was put, or nothing. It takes no memory.
     pub fn take(&mut self) -> Option<T>
         ensures name { out_name self.new ≡ out_name self.old }
-        ensures taken { MatchOption result (taken self.new ≡ taken self.old) (λ x. taken self.new ≡ taken self.old ++ x ∷ []) }
-        ensures none { MatchOption result ((ahead self.old ≡ []) × (ahead self.new ≡ [])) (λ x. 0 < length (ahead self.old) → ahead self.old ≡ x ∷ ahead self.new) }
+        ensures taken { MatchOption result
+            (taken self.new ≡ taken self.old)
+            (λ x. taken self.new ≡ taken self.old ++ x ∷ []) }
+        ensures ahead { MatchOption result
+            ((ahead self.old ≡ []) × (ahead self.new ≡ []))
+            (λ x. 0 < length (ahead self.old) → ahead self.old ≡ x ∷ ahead self.new) }
     {
         if self.consumer.cached_slots() == 0 && self.consumer.slots() == 0 {
             return None;

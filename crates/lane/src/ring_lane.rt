@@ -42,7 +42,8 @@ pub struct RingLaneOut<T> {
     ghost counted: { count ≡ count_of (received consumer) },
 }
 
-/// A lane over a ring of `room + 1` slots, which is full until the reader takes an item. `put` takes no memory.
+/// A lane over a ring of `room + 1` slots, which is full until the reader takes an item. `put` takes
+/// no memory.
 pub struct RingLane<T> {
     marker: PhantomData<T>,
 }
@@ -145,7 +146,8 @@ impl<T: Send + Sync + Drop> Lane for RingLane<T> {
         requires { of_end in_name shut_name end ≡ out_name rx }
         ensures put { result.put ≡ count_of (of_end put_in put_shut end) }
         ensures got { result.got ≡ count_of (got rx) }
-        ensures lawful { IsLawful (room_of (out_name rx)) (has_last (λ _. true) end) (of_end put_in put_shut end) (got rx) }
+        ensures lawful { IsLawful (room_of (out_name rx)) (has_last (λ _. true) end)
+            (of_end put_in put_shut end) (got rx) }
     {
         let (mut producer, put) = match end {
             End::Open(tx) => {
@@ -176,7 +178,8 @@ impl<T> RingLane<T> {
     ghost use Rattle.std.specs.Prelude.{◌++◌};
     ghost use Rattle.lane.specs.RingLane.{in_name, out_name, put_in, seen_taken, got, ahead};
 
-    /// What was got, and then as many items as it answers, which `poll` gives from now on, are what was put.
+    /// What was got, and then as many items as it answers, which `poll` gives from now on, are
+    /// what was put.
     pub fn meet(tx: &mut RingLaneIn<T>, rx: &mut RingLaneOut<T>) -> u64
         requires { in_name tx.old ≡ out_name rx.old }
         ensures writer { (in_name tx.new ≡ in_name tx.old) × (put_in tx.new ≡ put_in tx.old) }

@@ -59,10 +59,12 @@ pub struct RowLaneOut<T> {
     ghost behind: { vec_len got ≤ marked },
 }
 
-/// A lane over `room + 1` cells, each of which is set once, so it is full for good once `room` items were put.
+/// A lane over `room + 1` cells, each of which is set once, so it is full for good once `room` items
+/// were put.
 ///
-/// The ends keep a note of each cell that they set or saw set, and notes of one cell agree. A ring of marks beside
-/// the cells, one pushed after a cell is set and popped before it is looked at, shows that no more is got than was put.
+/// The ends keep a note of each cell that they set or saw set, and notes of one cell agree. A ring of
+/// marks beside the cells, one pushed after a cell is set and popped before it is looked at, shows
+/// that no more is got than was put.
 pub struct RowLane<T> {
     marker: PhantomData<T>,
 }
@@ -210,7 +212,8 @@ impl<T: Send + Sync + Drop> Lane for RowLane<T> {
         requires { of_end in_name shut_name end ≡ out_name rx }
         ensures put { result.put ≡ count_of (of_end put_in put_shut end) }
         ensures got { result.got ≡ count_of (got rx) }
-        ensures lawful { IsLawful (room_of (out_name rx)) (has_last was_placed end) (of_end put_in put_shut end) (got rx) }
+        ensures lawful { IsLawful (room_of (out_name rx)) (has_last was_placed end)
+            (of_end put_in put_shut end) (got rx) }
     {
         let RowLaneOut {
             cells: _,

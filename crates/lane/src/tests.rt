@@ -10,7 +10,7 @@ use std::thread;
 use std::thread::Threads;
 use std::time::{Duration, Instant};
 
-// Room for two: a third item comes back, the last one is placed, and all that was put is got in order.
+// Room for two: a third item comes back, the last one is placed, and all is got in order.
 fn fill_and_empty<L: Lane<Item = u64>>(rt: &impl Abort, alloc: Global) -> Result<(), Fail> {
     let (mut tx, mut rx) = L::open(alloc, 2)?;
     assert!(rt; poll_copy::<u64, L>(&mut rx) == None);

@@ -14,8 +14,12 @@ use std::thread::Threads;
 /// A copy of the next item, or nothing.
 pub fn poll_copy<T: Copy + Send + Sync + Drop, L: Lane<Item = T>>(rx: &mut L::Out) -> Option<T>
     ensures name { L.out_name rx.new ≡ L.out_name rx.old }
-    ensures got { MatchOption result (L.got rx.new ≡ L.got rx.old) (λ x. L.got rx.new ≡ L.got rx.old ++ x ∷ []) }
-    ensures ahead { MatchOption result (L.ahead rx.old ≡ []) (λ x. 0 < length (L.ahead rx.old) → L.ahead rx.old ≡ x ∷ L.ahead rx.new) }
+    ensures got { MatchOption result
+        (L.got rx.new ≡ L.got rx.old)
+        (λ x. L.got rx.new ≡ L.got rx.old ++ x ∷ []) }
+    ensures ahead { MatchOption result
+        ((L.ahead rx.old ≡ []) × (L.ahead rx.new ≡ []))
+        (λ x. 0 < length (L.ahead rx.old) → L.ahead rx.old ≡ x ∷ L.ahead rx.new) }
 {
     L::poll(rx).copied()
 }
@@ -98,7 +102,8 @@ fn take_all<T: Copy + Send + Sync + Drop, L: Lane<Item = T>, R: Wait>(
     (rx, taken)
 }
 
-/// Sends the items through a queue of this room from one thread to another. What the other took begins the items.
+/// Sends the items through a queue of this room from one thread to another, and answers what the
+/// other took.
 ///
 /// It waits for good where the queue stays full, as a `RowLane` with room for fewer items.
 pub fn relay<T: Copy + Send + Sync + Drop, L: Lane<Item = T> + Send, R: Threads + Wait + Sync>(
@@ -108,7 +113,8 @@ pub fn relay<T: Copy + Send + Sync + Drop, L: Lane<Item = T> + Send, R: Threads 
     items: &[T],
 ) -> Result<(Vec<T>, Settled), AllocError>
     ensures begins { IfOk result (λ r. IsPrefix r.0.items items.now) }
-    ensures lawful { IfOk result (λ r. (put : List T) × IsPrefix put items.now × IsLawful room false put r.0.items × (r.1.put ≡ count_of put)) }
+    ensures lawful { IfOk result (λ r. (put : List T) ×
+        IsPrefix put items.now × IsLawful room false put r.0.items × (r.1.put ≡ count_of put)) }
     ensures got { IfOk result (λ r. r.1.got ≡ count_of r.0.items) }
 {
     let (tx, rx) = L::open(alloc, room)?;
