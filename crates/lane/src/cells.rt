@@ -1,11 +1,13 @@
 // Steps on a row of cells, each of which is set once.
-ghost use Rattle.std.specs.Prelude.{◌≡◌, ◌<◌, ◌≤◌, [], ◌∷◌, true, length, vec_len, slice_index, take, IfOk, IfErr, IfSome, Some};
+ghost use Rattle.std.specs.Prelude.{◌≡◌, ◌+◌, ◌<◌, ◌≤◌, [], ◌∷◌, true, length, vec_len, slice_index, take, IfOk, IfErr, IfSome, Some};
 ghost use mathlib.Core.List.{IsPrefix};
 ghost use Rattle.once_cell.specs.Once.{cell_name};
 ghost use Rattle.lane.specs.Holds.{known_item, holds_item};
+ghost use Rattle.lane.specs.Lawful.{count_of};
 ghost use Rattle.lane.specs.Known.{names_of, cell_of, item_of, cells_of, items_of};
 
 use crate::known::Known;
+use crate::lane::Settled;
 use once_cell::race::OnceBox;
 use std::alloc::{AllocError, Global};
 
@@ -87,13 +89,22 @@ pub(crate) fn agree<T: Drop>(mut one: Vec<Known<T>>, mut other: Vec<Known<T>>)
     }
 }
 
-/// What is known of the first cells of a row begins what is known of more of them.
+/// Compares what two ends know of one row of cells.
 #[tactic(auto, using(crate::proofs::KnownItems::length_items_of, crate::proofs::KnownItems::prefix_of_known))]
-pub(crate) fn agree_in_front<T: Drop>(mut all: Vec<Known<T>>, front: Vec<Known<T>>)
-    requires fewer { vec_len front ≤ vec_len all }
-    requires cells { cells_of front.items ≡ take (vec_len front) (cells_of all.items) }
-    ensures { IsPrefix (items_of front.items) (items_of all.items) }
+pub(crate) fn compare<T: Drop>(mut put: Vec<Known<T>>, got: Vec<Known<T>>) -> Settled
+    requires fewer { vec_len got ≤ vec_len put }
+    requires cells { cells_of got.items ≡ take (vec_len got) (cells_of put.items) }
+    ensures put { result.put ≡ count_of (items_of put.items) }
+    ensures got { result.got ≡ count_of (items_of got.items) }
+    ensures left { length (items_of put.items) ≡ length (items_of got.items) + result.left }
+    ensures begins { IsPrefix (items_of got.items) (items_of put.items) }
 {
-    all.truncate(front.len());
-    agree(all, front);
+    let settled = Settled {
+        put: put.len() as u64,
+        got: got.len() as u64,
+        left: (put.len() - got.len()) as u64,
+    };
+    put.truncate(got.len());
+    agree(put, got);
+    settled
 }

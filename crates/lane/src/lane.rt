@@ -1,5 +1,5 @@
 // What a queue from one writer to one reader is.
-ghost use Rattle.std.specs.Prelude.{◌≡◌, ℕ, ◌≤◌, ◌<◌, List, [], ◌∷◌, ◌++◌, Bool, length, ⊤, IfOk, OnOk, IfErr, OnErr, MatchOption, MatchBool};
+ghost use Rattle.std.specs.Prelude.{◌≡◌, ℕ, ◌+◌, ◌≤◌, ◌<◌, List, [], ◌∷◌, ◌++◌, Bool, length, ⊤, IfOk, OnOk, IfErr, OnErr, MatchOption, MatchBool};
 ghost use Rattle.std.specs.Borrow.{sem};
 ghost use denote.Follow.{follows_so};
 ghost use mathlib.Core.Option.{none};
@@ -19,11 +19,16 @@ pub enum End<I, S> {
     Shut(S),
 }
 
-/// How many items were put, and how many were got. A number over the greatest `u64` counts as that.
+/// What the two ends of a queue did.
 #[derive(Clone, Copy, Debug, PartialEq, Eq)]
 pub struct Settled {
+    /// How many items were put. A number over the greatest `u64` counts as that.
     pub put: u64,
+    /// How many items were got, counted in the same way.
     pub got: u64,
+    /// How many of the items that were put were not got. It is exact, since they are at most as many
+    /// as the queue has room for, and a last one.
+    pub left: u64,
 }
 
 /// A queue from one writer to one reader.
@@ -121,6 +126,7 @@ pub trait Lane {
         requires { of_end in_name shut_name end ≡ out_name rx }
         ensures put { result.put ≡ count_of (of_end put_in put_shut end) }
         ensures got { result.got ≡ count_of (got rx) }
+        ensures left { length (of_end put_in put_shut end) ≡ length (got rx) + result.left }
         ensures lawful { IsLawful (room_of (out_name rx)) (has_last was_placed end)
             (of_end put_in put_shut end) (got rx) };
 }

@@ -146,6 +146,7 @@ impl<T: Send + Sync + Drop> Lane for RingLane<T> {
         requires { of_end in_name shut_name end ≡ out_name rx }
         ensures put { result.put ≡ count_of (of_end put_in put_shut end) }
         ensures got { result.got ≡ count_of (got rx) }
+        ensures left { length (of_end put_in put_shut end) ≡ length (got rx) + result.left }
         ensures lawful { IsLawful (room_of (out_name rx)) (has_last (λ _. true) end)
             (of_end put_in put_shut end) (got rx) }
     {
@@ -169,8 +170,12 @@ impl<T: Send + Sync + Drop> Lane for RingLane<T> {
             polled: _,
         } = rx;
         producer.slots_beside(&mut consumer);
-        consumer.slots_beside(&mut producer);
-        Settled { put, got: count }
+        let left = consumer.slots_beside(&mut producer) as u64;
+        Settled {
+            put,
+            got: count,
+            left,
+        }
     }
 }
 

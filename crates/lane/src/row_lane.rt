@@ -5,7 +5,7 @@ ghost use Rattle.rtrb.specs.Ring.{sent, known_free, producer_capacity, received}
 ghost use Rattle.lane.specs.Known.{names_of, cells_of};
 ghost use Rattle.lane.specs.Lawful.{last_count};
 
-use crate::cells::{Cells, agree_in_front, item_at, look_at, set_at, unset_cells};
+use crate::cells::{Cells, compare, item_at, look_at, set_at, unset_cells};
 use crate::fault::PutFault;
 use crate::known::Known;
 use crate::lane::{End, Lane, Settled};
@@ -212,6 +212,7 @@ impl<T: Send + Sync + Drop> Lane for RowLane<T> {
         requires { of_end in_name shut_name end ≡ out_name rx }
         ensures put { result.put ≡ count_of (of_end put_in put_shut end) }
         ensures got { result.got ≡ count_of (got rx) }
+        ensures left { length (of_end put_in put_shut end) ≡ length (got rx) + result.left }
         ensures lawful { IsLawful (room_of (out_name rx)) (has_last was_placed end)
             (of_end put_in put_shut end) (got rx) }
     {
@@ -244,11 +245,6 @@ impl<T: Send + Sync + Drop> Lane for RowLane<T> {
             }
         };
         their_marks.slots_beside(&mut marks);
-        let settled = Settled {
-            put: put.len() as u64,
-            got: got.len() as u64,
-        };
-        agree_in_front(put, got);
-        settled
+        compare(put, got)
     }
 }

@@ -32,7 +32,14 @@ fn fill_and_empty<L: Lane<Item = u64>>(rt: &impl Abort, alloc: Global) -> Result
     assert!(rt; L::poll(&mut rx).copied() == Some(11));
     assert!(rt; L::poll(&mut rx).copied() == Some(13));
     assert!(rt; L::poll(&mut rx).is_none());
-    assert_eq!(rt; L::settle(End::Shut(shut), rx), Settled { put: 3, got: 3 });
+    assert_eq!(rt;
+        L::settle(End::Shut(shut), rx),
+        Settled {
+            put: 3,
+            got: 3,
+            left: 0
+        }
+    );
     Ok(())
 }
 
@@ -49,7 +56,11 @@ fn find_each<L: Lane<Item = u64>>(rt: &impl Abort, alloc: Global, room: u32) -> 
     let all = room as u64 + 1;
     assert_eq!(rt;
         L::settle(End::Shut(shut), rx),
-        Settled { put: all, got: all }
+        Settled {
+            put: all,
+            got: all,
+            left: 0
+        }
     );
     Ok(())
 }
@@ -74,7 +85,8 @@ fn fill<L: Lane<Item = u64>>(rt: &impl Abort, alloc: Global, room: u32) -> Resul
         L::settle(End::Shut(shut), rx),
         Settled {
             put: room as u64 + 1,
-            got: 0
+            got: 0,
+            left: room as u64 + 1
         }
     );
     Ok(())
@@ -95,7 +107,8 @@ fn send_across<L: Lane<Item = u64> + Send, R: Abort + Threads + Wait + Sync>(
         settled,
         Settled {
             put: 65_536,
-            got: 65_536
+            got: 65_536,
+            left: 0
         }
     );
     Ok(())
@@ -138,7 +151,8 @@ fn a_ring_has_room_again_once_items_are_got(rt: HostRuntime) -> Result<(), Fail>
         RingLane::settle(End::Open(tx), rx),
         Settled {
             put: 3_000,
-            got: 3_000
+            got: 3_000,
+            left: 0
         }
     );
     Ok(())
@@ -169,7 +183,8 @@ fn a_row_is_full_for_good(rt: HostRuntime) -> Result<(), Fail> {
         RowLane::settle(End::Shut(shut), rx),
         Settled {
             put: 65_537,
-            got: 3
+            got: 3,
+            left: 65_534
         }
     );
     Ok(())
@@ -184,7 +199,14 @@ fn hold<L: Lane<Item = Vec<u8>>, R: Abort + Wait>(rt: &R, alloc: Global) -> Resu
     }
     assert!(rt; L::poll(&mut rx).map(|item| item.len()) == Some(1));
     assert!(rt; L::poll(&mut rx).map(|item| item.len()) == Some(2));
-    assert_eq!(rt; L::settle(End::Open(tx), rx), Settled { put: 3, got: 2 });
+    assert_eq!(rt;
+        L::settle(End::Open(tx), rx),
+        Settled {
+            put: 3,
+            got: 2,
+            left: 1
+        }
+    );
     Ok(())
 }
 
