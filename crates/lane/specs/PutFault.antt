@@ -20,3 +20,9 @@ module _ {T : Type 0} where
   MayRefuse only_fills room put seen_taken (Full item waiting) = (waiting + seen_taken ≡ put) × (room ≤ waiting)
   MayRefuse only_fills room put seen_taken (OutOfMemory item) = only_fills ≡ false
   MayRefuse only_fills room put seen_taken (NotTaken item) = only_fills ≡ false
+
+  -- the one refusal of a ring: as many items as it has slots were put and not seen taken
+  abbrev pub IsFull : ℕ → ℕ → ℕ → PutFault T → Type 0
+  IsFull slots put seen_taken (Full item waiting) = (waiting ≡ slots) × (put ≡ seen_taken + slots)
+  IsFull slots put seen_taken (OutOfMemory item) = ⊥
+  IsFull slots put seen_taken (NotTaken item) = ⊥

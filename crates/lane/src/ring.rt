@@ -56,10 +56,9 @@ impl Ring {
 }
 
 impl<T> RingIn<T> {
-    ghost use Rattle.std.specs.Prelude.{false, true, ◌∷◌, ◌++◌, []};
-    ghost use Rattle.std.specs.Prelude.{OnOk, OnErr, IfErr};
+    ghost use Rattle.std.specs.Prelude.{[], ◌∷◌, ◌++◌, OnOk, OnErr, IfErr};
     ghost use Rattle.lane.specs.RingEnds.{slots_of};
-    ghost use Rattle.lane.specs.PutFault.{item_of, MayRefuse};
+    ghost use Rattle.lane.specs.PutFault.{item_of, IsFull};
     ghost use Rattle.lane.specs.Ring.{in_name, put_in, seen_taken};
 
     /// Puts the item behind all others, or hands it back. It takes no memory.
@@ -69,9 +68,8 @@ impl<T> RingIn<T> {
         ensures ok { OnOk result (put_in self.new ≡ put_in self.old ++ item ∷ []) }
         ensures unchanged { OnErr result (put_in self.new ≡ put_in self.old) }
         ensures handed_back { IfErr result (λ e. item_of e ≡ item) }
-        ensures fault { IfErr result
-            (MayRefuse true (slots_of (in_name self.old))
-            (length (put_in self.old)) (seen_taken self.new)) }
+        ensures full { IfErr result
+            (IsFull (slots_of (in_name self.old)) (length (put_in self.old)) (seen_taken self.new)) }
     {
         if self.producer.is_full() {
             let waiting = self.producer.capacity() as u64;
