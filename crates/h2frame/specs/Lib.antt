@@ -1,0 +1,7 @@
+pub mod Kind
+pub mod Flags
+pub mod Faults
+pub mod Spelling
+pub mod FrameList
+pub mod Reading
+pub mod Examples

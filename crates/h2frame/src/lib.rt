@@ -1,0 +1,15 @@
+//! HTTP/2 frames: reading and writing.
+#![tactic(auto)]
+
+mod fault;
+mod flags;
+mod frame;
+mod kind;
+mod span;
+mod stream;
+
+pub use fault::FrameFault;
+pub use flags::Flags;
+pub use frame::{Frame, FrameHead};
+pub use kind::{FrameKind, UnknownKind};
+pub use stream::StreamId;
