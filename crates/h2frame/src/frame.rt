@@ -1,7 +1,14 @@
-//! A frame.
+//! A frame, and what its head tells by itself.
 
-use crate::{Flags, FrameKind, StreamId};
+ghost use Rattle.std.specs.Prelude.{◌≡◌, ◌≤◌, IfNone};
+ghost use Rattle.h2frame.specs.Flags.{is_padded, has_priority};
+ghost use Rattle.h2frame.specs.Faults.{may_be_on, may_have_length, overhead, head_fault};
+
+use crate::{Flags, FrameFault, FrameKind, StreamId};
 use bytes::Bytes;
+
+/// The longest payload that is read or written: SETTINGS_MAX_FRAME_SIZE as RFC 9113, section 6.5.2, has it at first.
+pub const MAX_PAYLOAD: u32 = 16_384;
 
 /// The head of a frame (RFC 9113, section 4.1).
 #[derive(Clone, Copy, Debug, PartialEq, Eq)]
@@ -19,4 +26,88 @@ pub struct Frame {
     pub head: FrameHead,
     /// The payload without padding, and without the priority of HEADERS.
     pub content: Bytes,
+}
+
+impl FrameHead {
+    /// Whether the payload begins with the length of its padding, which DATA and HEADERS alone may have.
+    pub fn is_padded(&self) -> bool
+        ensures { result ≡ is_padded self.now }
+    {
+        match self.kind {
+            FrameKind::Data | FrameKind::Headers => self.flags.contains(Flags::PADDED),
+            _ => false,
+        }
+    }
+
+    /// Whether five bytes of priority stand before the content, which HEADERS alone may have.
+    pub fn has_priority(&self) -> bool
+        ensures { result ≡ has_priority self.now }
+    {
+        match self.kind {
+            FrameKind::Headers => self.flags.contains(Flags::PRIORITY),
+            _ => false,
+        }
+    }
+
+    /// The bytes of the payload before its content.
+    pub(crate) fn overhead(&self) -> u32
+        ensures value { result ≡ overhead self.now }
+        ensures few { result ≤ 6 }
+    {
+        u32::from(self.is_padded()) + if self.has_priority() { 5 } else { 0 }
+    }
+
+    fn may_be_on_its_stream(&self) -> bool
+        ensures { result ≡ may_be_on self.now.kind self.now.stream }
+    {
+        match self.kind {
+            FrameKind::Data
+            | FrameKind::Headers
+            | FrameKind::Priority
+            | FrameKind::RstStream
+            | FrameKind::Continuation => !self.stream.is_connection(),
+            FrameKind::Settings | FrameKind::Ping | FrameKind::GoAway => {
+                self.stream.is_connection()
+            }
+            FrameKind::PushPromise | FrameKind::WindowUpdate | FrameKind::Unknown(_) => true,
+        }
+    }
+
+    fn may_have_its_length(&self) -> bool
+        ensures { result ≡ may_have_length self.now.kind self.now }
+    {
+        match self.kind {
+            FrameKind::Data | FrameKind::Headers => self.overhead() <= self.length,
+            FrameKind::Priority => self.length == 5,
+            FrameKind::RstStream | FrameKind::WindowUpdate => self.length == 4,
+            FrameKind::Settings => {
+                if self.flags.contains(Flags::ACK) {
+                    self.length == 0
+                } else {
+                    self.length % 6 == 0
+                }
+            }
+            FrameKind::Ping => self.length == 8,
+            FrameKind::GoAway => self.length >= 8,
+            FrameKind::PushPromise | FrameKind::Continuation | FrameKind::Unknown(_) => true,
+        }
+    }
+
+    /// The first fault that the head shows by itself.
+    pub fn fault(&self) -> Option<FrameFault>
+        ensures fault { result ≡ head_fault self.now }
+        ensures short { IfNone result (self.now.length ≤ 16384) }
+        ensures room { IfNone result (overhead self.now ≤ self.now.length) }
+    {
+        if self.length > MAX_PAYLOAD {
+            return Some(FrameFault::TooLong);
+        }
+        if !self.may_be_on_its_stream() {
+            return Some(FrameFault::WrongStream);
+        }
+        if !self.may_have_its_length() {
+            return Some(FrameFault::BadLength);
+        }
+        None
+    }
 }

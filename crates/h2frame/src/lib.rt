@@ -10,6 +10,6 @@ mod stream;
 
 pub use fault::FrameFault;
 pub use flags::Flags;
-pub use frame::{Frame, FrameHead};
+pub use frame::{Frame, FrameHead, MAX_PAYLOAD};
 pub use kind::{FrameKind, UnknownKind};
 pub use stream::StreamId;

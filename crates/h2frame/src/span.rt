@@ -1,6 +1,13 @@
 //! Where a frame's content lies in the bytes that it is read from.
 
-use crate::FrameHead;
+ghost use Rattle.std.specs.Prelude.{◌≡◌, ◌+◌, ◌≤◌, length, IfOk, IfSome};
+ghost use Rattle.h2frame.specs.Faults.{overhead};
+ghost use Rattle.h2frame.specs.Reading.{head_at, content_at, frame_at, span_at};
+
+use crate::{Flags, FrameFault, FrameHead, FrameKind, StreamId};
+
+/// The bytes of a frame's head.
+pub(crate) const HEAD_LEN: usize = 9;
 
 /// A frame at the front of bytes, which is whole and has no fault up to its content.
 #[derive(Clone, Copy, Debug)]
@@ -10,4 +17,72 @@ pub(crate) struct Span {
     pub(crate) start: usize,
     /// The bytes of its content.
     pub(crate) len: usize,
+}
+
+/// The frame at the front: nothing while it isn't whole, or the first fault of RFC 9113, section 4.2 and 6. A fault
+/// of the head stands before the payload is there, one of the padding when it is.
+#[tactic(auto, unfolding(crate::specs::Reading::span_at))]
+pub(crate) fn span_at(bytes: &[u8]) -> Option<Result<Span, FrameFault>>
+    ensures span { result ≡ span_at bytes.now }
+    ensures within { IfSome result (λ r. IfOk r (λ span. span.start + span.len ≤ 9 + span.head.length)) }
+    ensures whole { IfSome result (λ r. IfOk r (λ span. 9 + span.head.length ≤ length bytes.now)) }
+{
+    if bytes.len() < HEAD_LEN {
+        return None;
+    }
+    frame_at(head_at(bytes), bytes)
+}
+
+#[tactic(auto, unfolding(crate::specs::Reading::head_at))]
+fn head_at(bytes: &[u8]) -> FrameHead
+    requires { 9 ≤ length bytes.now }
+    ensures { result ≡ head_at bytes.now }
+{
+    let stream = u32::from_be_bytes([bytes[5], bytes[6], bytes[7], bytes[8]]);
+    FrameHead {
+        kind: FrameKind::from_code(bytes[3]),
+        flags: Flags::from_bits(bytes[4]),
+        stream: StreamId::from_bits(stream),
+        length: u32::from_be_bytes([0, bytes[0], bytes[1], bytes[2]]),
+    }
+}
+
+#[tactic(auto, unfolding(crate::specs::Reading::frame_at))]
+fn frame_at(head: FrameHead, bytes: &[u8]) -> Option<Result<Span, FrameFault>>
+    ensures frame { result ≡ frame_at head bytes.now }
+    ensures within { IfSome result (λ r. IfOk r (λ span. span.start + span.len ≤ 9 + span.head.length)) }
+    ensures whole { IfSome result (λ r. IfOk r (λ span. 9 + span.head.length ≤ length bytes.now)) }
+{
+    if let Some(fault) = head.fault() {
+        return Some(Err(fault));
+    }
+    if bytes.len() < HEAD_LEN + head.length as usize {
+        return None;
+    }
+    Some(content_at(head, bytes))
+}
+
+#[tactic(auto, unfolding(crate::specs::Reading::content_at))]
+fn content_at(head: FrameHead, bytes: &[u8]) -> Result<Span, FrameFault>
+    requires room { overhead head ≤ head.length }
+    requires whole { 9 + head.length ≤ length bytes.now }
+    ensures content { result ≡ content_at head bytes.now }
+    ensures head { IfOk result (λ span. span.head ≡ head) }
+    ensures within { IfOk result (λ span. span.start + span.len ≤ 9 + head.length) }
+{
+    let overhead = head.overhead() as usize;
+    let padding = if head.is_padded() {
+        usize::from(bytes[HEAD_LEN])
+    } else {
+        0
+    };
+    let length = head.length as usize;
+    if length < overhead + padding {
+        return Err(FrameFault::BadPadding);
+    }
+    Ok(Span {
+        head,
+        start: HEAD_LEN + overhead,
+        len: length - (overhead + padding),
+    })
 }
