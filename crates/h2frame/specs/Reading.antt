@@ -1,5 +1,5 @@
 -- What stands at the front of bytes, read from left to right: the private steps of the reader.
-use Rattle.std.specs.Prelude.{◌≡◌, ℕ, ◌+◌, ◌-◌, ◌^◌, ◌%◌, nat_lt, if◌then◌else◌, List, [], ◌∷◌, length, take, drop, slice_index, Option, Some, None, Result, Ok, Err}
+use Rattle.std.specs.Prelude.{◌≡◌, ℕ, ◌++◌, ◌+◌, ◌-◌, ◌^◌, ◌%◌, nat_lt, if◌then◌else◌, List, [], ◌∷◌, length, take, drop, slice_index, Option, Some, None, Result, Ok, Err}
 use Rattle.std.specs.Int.{w32, from_be_bytes}
 use Rattle.h2frame.specs.declared.fault.FrameFault.{FrameFault}
 use Rattle.h2frame.specs.declared.fault.FrameFault.TheVariants.{BadPadding}
@@ -9,6 +9,8 @@ use Rattle.h2frame.specs.declared.span.Span.{Span}
 use Rattle.h2frame.specs.Flags.{is_padded}
 use Rattle.h2frame.specs.Faults.{overhead, head_fault}
 use Rattle.h2frame.specs.Kind.{kind_of}
+use Rattle.h2frame.specs.Spelling.{Skipped, Fits, spelling}
+use Rattle.h2frame.specs.FrameList.{IsUnfinished, IsFaulty}
 
 -- the head that nine bytes spell
 unfoldable pub head_at : List ℕ → FrameHead
@@ -44,3 +46,13 @@ span_at bytes = if nat_lt (length bytes) 9 then None else frame_at (head_at byte
 -- the frame that lies in the bytes
 abbrev pub frame_in : Span → List ℕ → Frame
 frame_in span bytes = record { head = span.head; content = take span.len (drop span.start bytes) }
+
+-- the bytes begin with a spelling of the frame that lies in them
+abbrev pub IsSpelledAt : Span → List ℕ → Type 0
+IsSpelledAt span bytes = (skipped : Skipped) × Fits (frame_in span bytes) skipped × (head_fault span.head ≡ None) × (bytes ≡ spelling (frame_in span bytes) skipped ++ drop (9 + span.head.length) bytes)
+
+-- what the answer says of the bytes
+abbrev pub IsFront : List ℕ → Option (Result Span FrameFault) → Type 0
+IsFront bytes None = IsUnfinished bytes
+IsFront bytes (Some (Err fault)) = IsFaulty fault bytes
+IsFront bytes (Some (Ok span)) = IsSpelledAt span bytes

@@ -1,0 +1,87 @@
+-- A payload is its padding's length, its priority, its content and its padding.
+use Rattle.std.proofs.Common.{◌≡◌, ℕ, zero, suc, ◌+◌, ◌-◌, ◌<◌, ◌≤◌, Bool, true, false, cond, ltb, List, [], ◌∷◌, ◌++◌, length, get_or, take, drop, refl, sym, ap, subst, ◌∙◌, append_assoc, arith}
+use Rattle.std.proofs.Math.Numerals.{one-add}
+use Rattle.std.proofs.lemmas.List.{append-nil, take-append-drop, take-append-le, take-take, take_at, drop-drop, drop-take, drop_at, length-append, length-take, length-drop, get_or-take, nil_from_length}
+use Rattle.h2frame.specs.declared.frame.FrameHead.{FrameHead}
+use Rattle.h2frame.specs.declared.kind.FrameKind.{FrameKind}
+use Rattle.h2frame.specs.declared.kind.FrameKind.TheVariants.{Data, Headers, Priority, RstStream, Settings, PushPromise, Ping, GoAway, WindowUpdate, Continuation, Unknown}
+use Rattle.std.specs.Prelude.{Option, Some, None}
+use Rattle.std.proofs.lemmas.Bool.{leb-true}
+use Rattle.h2frame.specs.declared.fault.FrameFault.{FrameFault}
+use Rattle.h2frame.specs.declared.fault.FrameFault.TheVariants.{TooLong, BadLength, BadPadding, WrongStream, ZeroIncrement, OutOfMemory}
+use Rattle.h2frame.specs.Faults.{max_payload, overhead, head_fault, may_be_on, may_have_length}
+
+-- ---- what a head without a fault has room for
+
+sized_since : (long placed sized : Bool) → cond long (Some TooLong) (cond placed (cond sized None (Some BadLength)) (Some WrongStream)) ≡ None → sized ≡ true
+sized_since true placed sized e = absurd cc
+sized_since false true true e = refl
+sized_since false true false e = absurd cc
+sized_since false false sized e = absurd cc
+
+abbrev with_length : FrameKind → ℕ → ℕ → ℕ → FrameHead
+with_length kind flags stream n = record { kind = kind; flags = flags; stream = stream; length = n }
+
+room_by_kind : (kind : FrameKind) (flags stream n : ℕ) → may_have_length kind (with_length kind flags stream n) ≡ true → overhead (with_length kind flags stream n) ≤ n
+room_by_kind Data flags stream n e = leb-true _ _ e
+room_by_kind Headers flags stream n e = leb-true _ _ e
+room_by_kind Priority flags stream n e = omega arith
+room_by_kind RstStream flags stream n e = omega arith
+room_by_kind Settings flags stream n e = omega arith
+room_by_kind PushPromise flags stream n e = omega arith
+room_by_kind Ping flags stream n e = omega arith
+room_by_kind GoAway flags stream n e = omega arith
+room_by_kind WindowUpdate flags stream n e = omega arith
+room_by_kind Continuation flags stream n e = omega arith
+room_by_kind (Unknown code) flags stream n e = omega arith
+
+pub room : (head : FrameHead) → head_fault head ≡ None → overhead head ≤ head.length
+room head e = room_by_kind head.kind head.flags head.stream head.length (sized_since (ltb max_payload head.length) (may_be_on head.kind head.stream) (may_have_length head.kind head) e)
+
+-- ---- a payload in its parts
+
+-- three parts of a list: the first k, the next m, and what is left
+three_parts : (xs : List ℕ) (k m : ℕ) → xs ≡ take k xs ++ (take m (drop k xs) ++ drop (k + m) xs)
+three_parts xs k m =
+    let inner : drop k xs ≡ take m (drop k xs) ++ drop (k + m) xs = sym (take-append-drop m (drop k xs)) ∙ ap (λ (ys : List ℕ). take m (drop k xs) ++ ys) (drop-drop m k xs) in
+    sym (take-append-drop k xs) ∙ ap (λ (ys : List ℕ). take k xs ++ ys) inner
+
+-- what a payload with these flags is made of
+pub record Parts (is_padded has_priority : Bool) (payload content : List ℕ) : Type 0 where
+  pub priority : List ℕ
+  pub padding : List ℕ
+  pub text : payload ≡ cond is_padded (length padding ∷ []) [] ++ (priority ++ (content ++ padding))
+  pub priority_length : length priority ≡ cond has_priority 5 0
+  pub no_padding : is_padded ≡ false → padding ≡ []
+
+-- n bytes of padding, o before the content, and m of it
+pub parts : (p q : Bool) (payload : List ℕ) (n o m : ℕ) → n ≡ cond p (get_or payload 0 0) 0 → o ≡ cond p 1 0 + cond q 5 0 → o + m + n ≡ length payload
+    → Parts p q payload (take m (drop o payload))
+parts true q [] n o m pad front whole = absurd (omega arith)
+parts true q (x ∷ xs) n o m pad front whole =
+    let k : ℕ = cond q 5 0 in
+    let size : length (drop (k + m) xs) ≡ x = omega (arith, length-drop (k + m) xs, pad) in
+    let same : drop o (x ∷ xs) ≡ drop k xs = ap (λ (i : ℕ). drop i (x ∷ xs)) (front ∙ one-add k) in
+    subst (λ (ys : List ℕ). Parts true q (x ∷ xs) (take m ys)) (sym same) (record {
+      priority = take k xs;
+      padding = drop (k + m) xs;
+      text = ap (λ (y : ℕ). y ∷ xs) (sym size) ∙ ap (λ (ys : List ℕ). length (drop (k + m) xs) ∷ ys) (three_parts xs k m);
+      priority_length = omega (arith, length-take k xs);
+      no_padding = λ e. absurd cc;
+    })
+parts false q xs n o m pad front whole =
+    let k : ℕ = cond q 5 0 in
+    let same : o ≡ k = omega (arith, front) in
+    subst (λ (i : ℕ). Parts false q xs (take m (drop i xs))) (sym same) (record {
+      priority = take k xs;
+      padding = drop (k + m) xs;
+      text = three_parts xs k m;
+      priority_length = omega (arith, length-take k xs);
+      no_padding = λ e. nil_from_length (drop (k + m) xs) (omega (arith, length-drop (k + m) xs, pad));
+    })
+
+-- the first part of a list from o on lies in its first l
+pub within : (xs : List ℕ) (o m l : ℕ) → o + m ≤ l → take m (drop o (take l xs)) ≡ take m (drop o xs)
+within xs o m l le =
+    let split : l ≡ o + (l - o) = omega arith in
+    ap (λ (i : ℕ). take m (drop o (take i xs))) split ∙ ap (λ (ys : List ℕ). take m ys) (drop-take o (l - o) xs) ∙ take-take m (l - o) (drop o xs) (omega arith)
