@@ -18,7 +18,7 @@ use Rattle.h2frame.proofs.Payloads.{room, Parts, parts, within}
 
 -- ---- a fault of the head
 
-head_faults : (long placed sized : Bool) (P : FrameFault → Type 0) (fault : FrameFault) → cond long (Some TooLong) (cond placed (cond sized None (Some BadLength)) (Some WrongStream)) ≡ Some fault
+pub head_faults : (long placed sized : Bool) (P : FrameFault → Type 0) (fault : FrameFault) → cond long (Some TooLong) (cond placed (cond sized None (Some BadLength)) (Some WrongStream)) ≡ Some fault
     → (fault ≡ TooLong → P TooLong) → (fault ≡ BadLength → P BadLength) → (fault ≡ WrongStream → P WrongStream) → P fault
 head_faults true placed sized P fault e t l w = let same : fault ≡ TooLong = cc in subst P (sym same) (t same)
 head_faults false true true P fault e t l w = absurd cc

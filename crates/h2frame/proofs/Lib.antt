@@ -1,3 +1,5 @@
 pub mod Heads
 pub mod Payloads
 pub mod Fronts
+pub mod OneReading
+pub mod Lists

@@ -85,3 +85,35 @@ pub within : (xs : List ℕ) (o m l : ℕ) → o + m ≤ l → take m (drop o (t
 within xs o m l le =
     let split : l ≡ o + (l - o) = omega arith in
     ap (λ (i : ℕ). take m (drop o (take i xs))) split ∙ ap (λ (ys : List ℕ). take m ys) (drop-take o (l - o) xs) ∙ take-take m (l - o) (drop o xs) (omega arith)
+
+-- ---- a payload's parts are read from it
+
+-- the padding's length, the content, and the length of the whole are those of the parts
+pub record ReadsParts (p q : Bool) (content padding payload rest : List ℕ) : Type 0 where
+  pub pad : cond p (get_or (payload ++ rest) 0 0) 0 ≡ length padding
+  pub middle : take (length content) (drop (cond p 1 0 + cond q 5 0) (payload ++ rest)) ≡ content
+  pub whole : length payload ≡ (cond p 1 0 + cond q 5 0) + length content + length padding
+
+middle_at : (k : ℕ) (priority content padding rest : List ℕ) → length priority ≡ k → take (length content) (drop k ((priority ++ (content ++ padding)) ++ rest)) ≡ content
+middle_at k priority content padding rest size =
+    let regrouped : (priority ++ (content ++ padding)) ++ rest ≡ priority ++ (content ++ (padding ++ rest)) =
+      append_assoc priority (content ++ padding) rest ∙ ap (λ (ys : List ℕ). priority ++ ys) (append_assoc content padding rest) in
+    ap (λ (ys : List ℕ). take (length content) (drop k ys)) regrouped
+      ∙ ap (λ (ys : List ℕ). take (length content) ys) (drop_at priority (content ++ (padding ++ rest)) k size)
+      ∙ take_at content (padding ++ rest) (length content) refl
+
+length_of_parts : (priority content padding : List ℕ) → length (priority ++ (content ++ padding)) ≡ length priority + length content + length padding
+length_of_parts priority content padding = omega (arith, length-append priority (content ++ padding), length-append content padding)
+
+pub reads_parts : (p q : Bool) (priority content padding rest : List ℕ) → length priority ≡ cond q 5 0 → (p ≡ false → padding ≡ [])
+    → ReadsParts p q content padding (cond p (length padding ∷ []) [] ++ (priority ++ (content ++ padding))) rest
+reads_parts true q priority content padding rest size none = record {
+  pad = refl;
+  middle = ap (λ (i : ℕ). take (length content) (drop i (length padding ∷ ((priority ++ (content ++ padding)) ++ rest)))) (one-add (cond q 5 0)) ∙ middle_at (cond q 5 0) priority content padding rest size;
+  whole = omega (arith, length_of_parts priority content padding, size);
+}
+reads_parts false q priority content padding rest size none = record {
+  pad = sym (ap length (none refl));
+  middle = middle_at (0 + cond q 5 0) priority content padding rest (omega (arith, size));
+  whole = omega (arith, length_of_parts priority content padding, size);
+}
