@@ -89,9 +89,14 @@ head_front head bytes nine begun None e =
       (λ short. inr (head, drop 9 bytes, begun, e, omega (arith, ltb-true _ _ short, length-drop 9 bytes)))
       (λ whole. content_front head bytes begun e (ltb-false _ _ whole))
 
+-- the same of bytes that have a head
+pub front_long : (bytes : List ℕ) → 9 ≤ length bytes → AreBytes bytes → IsFront bytes (frame_at (head_at bytes) bytes)
+unfolding frame_at
+front_long bytes long fits = head_front (head_at bytes) bytes long (begins bytes long fits) (head_fault (head_at bytes)) refl
+
 pub front : (bytes : List ℕ) → AreBytes bytes → IsFront bytes (span_at bytes)
-unfolding span_at frame_at
+unfolding span_at
 front bytes fits =
     cond_both (ltb (length bytes) 9) None (frame_at (head_at bytes) bytes) (IsFront bytes)
       (λ short. inl (ltb-true _ _ short))
-      (λ long. head_front (head_at bytes) bytes (ltb-false _ _ long) (begins bytes (ltb-false _ _ long) fits) (head_fault (head_at bytes)) refl)
+      (λ long. front_long bytes (ltb-false _ _ long) fits)

@@ -3,3 +3,4 @@ pub mod Payloads
 pub mod Fronts
 pub mod OneReading
 pub mod Lists
+pub mod Steps

@@ -1,5 +1,5 @@
 -- The frames of the bytes that follow a connection's preface (RFC 9113, sections 4.1 and 6).
-use Rattle.std.specs.Prelude.{◌≡◌, ℕ, ◌+◌, ◌<◌, ◌≤◌, ◌⊎◌, true, List, [], ◌∷◌, ◌++◌, length, Option, Some, None}
+use Rattle.std.specs.Prelude.{◌≡◌, ℕ, ◌+◌, ◌<◌, ◌≤◌, ◌⊎◌, true, ◌==◌, if◌then◌else◌, List, [], ◌∷◌, ◌++◌, length, Option, Some, None, Result, Ok, Err}
 use Rattle.h2frame.specs.declared.fault.FrameFault.{FrameFault}
 use Rattle.h2frame.specs.declared.fault.FrameFault.TheVariants.{TooLong, BadLength, BadPadding, WrongStream, ZeroIncrement, OutOfMemory}
 use Rattle.h2frame.specs.declared.frame.Frame.{Frame}
@@ -60,3 +60,28 @@ Ends (Some fault) rest = IsFaulty fault rest
 -- the frame list: the bytes are these entries, and then an unfinished rest or a fault
 abbrev pub FrameList : List ℕ → List Entry → Option FrameFault → Type 0
 FrameList bytes entries end = (rest : List ℕ) × Joined bytes entries rest × Ends end rest
+
+-- ---- a reader's answers
+
+-- the bytes begin with this entry
+abbrev pub StandsAt : Entry → List ℕ → Type 0
+StandsAt entry bytes = (rest : List ℕ) × Joined bytes (entry ∷ []) rest
+
+-- the entry that an answer is, where it is one
+abbrev pub refused : FrameFault → List Entry
+refused (ZeroIncrement stream) = if stream == 0 then [] else NoIncrement stream ∷ []
+refused _ = []
+
+abbrev pub answered : Option (Result Frame FrameFault) → List Entry
+answered None = []
+answered (Some (Ok frame)) = Whole frame ∷ []
+answered (Some (Err fault)) = refused fault
+
+-- why a fault is answered: it stands in the bytes, or a frame does for which there is no memory
+abbrev pub HasCause : FrameFault → List ℕ → Type 0
+HasCause OutOfMemory bytes = (frame : Frame) × StandsAt (Whole frame) bytes
+HasCause (ZeroIncrement stream) bytes = StandsAt (NoIncrement stream) bytes ⊎ IsFaulty (ZeroIncrement stream) bytes
+HasCause TooLong bytes = IsFaulty TooLong bytes
+HasCause BadLength bytes = IsFaulty BadLength bytes
+HasCause BadPadding bytes = IsFaulty BadPadding bytes
+HasCause WrongStream bytes = IsFaulty WrongStream bytes

@@ -10,7 +10,7 @@ use Rattle.h2frame.specs.Flags.{is_padded}
 use Rattle.h2frame.specs.Faults.{overhead, head_fault}
 use Rattle.h2frame.specs.Kind.{kind_of}
 use Rattle.h2frame.specs.Spelling.{Skipped, Fits, spelling}
-use Rattle.h2frame.specs.FrameList.{IsUnfinished, IsFaulty}
+use Rattle.h2frame.specs.FrameList.{Joined, IsUnfinished, IsFaulty, answered, HasCause}
 
 -- the head that nine bytes spell
 unfoldable pub head_at : List ℕ → FrameHead
@@ -56,3 +56,13 @@ abbrev pub IsFront : List ℕ → Option (Result Span FrameFault) → Type 0
 IsFront bytes None = IsUnfinished bytes
 IsFront bytes (Some (Err fault)) = IsFaulty fault bytes
 IsFront bytes (Some (Ok span)) = IsSpelledAt span bytes
+
+-- a step of the reader: what it answers is taken off the front, and is due
+abbrev pub IsDue : Option (Result Frame FrameFault) → List ℕ → Type 0
+IsDue None bytes = IsUnfinished bytes
+IsDue (Some (Ok frame)) bytes = Unit {0}
+IsDue (Some (Err fault)) bytes = HasCause fault bytes
+
+pub record IsStep (answer : Option (Result Frame FrameFault)) (old new : List ℕ) : Type 0 where
+  pub taken : Joined old (answered answer) new
+  pub due : IsDue answer old

@@ -1,8 +1,8 @@
 //! A frame, and what its head tells by itself.
 
-ghost use Rattle.std.specs.Prelude.{◌≡◌, ◌≤◌, IfNone};
+ghost use Rattle.std.specs.Prelude.{◌≡◌, ◌<◌, ◌≤◌, ◌^◌, length, IfNone};
 ghost use Rattle.h2frame.specs.Flags.{is_padded, has_priority};
-ghost use Rattle.h2frame.specs.Faults.{may_be_on, may_have_length, overhead, head_fault};
+ghost use Rattle.h2frame.specs.Faults.{may_be_on, may_have_length, overhead, head_fault, increment_of, lacks_increment};
 
 use crate::{Flags, FrameFault, FrameKind, StreamId};
 use bytes::Bytes;
@@ -98,6 +98,7 @@ impl FrameHead {
         ensures fault { result ≡ head_fault self.now }
         ensures short { IfNone result (self.now.length ≤ 16384) }
         ensures room { IfNone result (overhead self.now ≤ self.now.length) }
+        ensures credit { IfNone result (self.now.kind ≡ FrameKind.WindowUpdate → self.now.length ≡ 4) }
     {
         if self.length > MAX_PAYLOAD {
             return Some(FrameFault::TooLong);
@@ -109,5 +110,25 @@ impl FrameHead {
             return Some(FrameFault::BadLength);
         }
         None
+    }
+}
+
+/// The increment of a WINDOW_UPDATE's content, whose first bit is ignored (RFC 9113, section 6.9).
+pub fn increment(content: &[u8]) -> u32
+    requires { length content.now ≡ 4 }
+    ensures value { result ≡ increment_of content.now }
+    ensures small { result < 2 ^ 31 }
+{
+    u32::from_be_bytes([content[0], content[1], content[2], content[3]]) & 0x7fff_ffff
+}
+
+/// Whether it is a WINDOW_UPDATE of no increment.
+pub(crate) fn lacks_increment(kind: FrameKind, content: &[u8]) -> bool
+    requires { kind ≡ FrameKind.WindowUpdate → length content.now ≡ 4 }
+    ensures { result ≡ lacks_increment kind content.now }
+{
+    match kind {
+        FrameKind::WindowUpdate => increment(content) == 0,
+        _ => false,
     }
 }

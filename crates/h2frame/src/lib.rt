@@ -5,6 +5,7 @@ mod fault;
 mod flags;
 mod frame;
 mod kind;
+mod reader;
 mod span;
 mod stream;
 
@@ -12,4 +13,5 @@ pub use fault::FrameFault;
 pub use flags::Flags;
 pub use frame::{Frame, FrameHead, MAX_PAYLOAD};
 pub use kind::{FrameKind, UnknownKind};
+pub use reader::FrameReader;
 pub use stream::StreamId;

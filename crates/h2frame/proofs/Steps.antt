@@ -1,0 +1,142 @@
+-- What a step of the reader answers is the next entry, and each fault has its cause.
+use Rattle.std.proofs.Common.{◌≡◌, ℕ, zero, suc, ◌+◌, ◌<◌, ◌≤◌, Bool, true, false, cond, eqb, List, [], ◌∷◌, ◌++◌, length, take, drop, refl, sym, ap, subst, ◌∙◌, arith, inl, inr}
+use Rattle.std.specs.Prelude.{Option, Some, None, IsNone, Result, Ok, Err}
+use Rattle.std.specs.Option.{option_or}
+use Rattle.std.proofs.lemmas.Bool.{eqb-true, eqb-false, ne_eqb}
+use Rattle.h2frame.specs.declared.fault.FrameFault.{FrameFault}
+use Rattle.h2frame.specs.declared.fault.FrameFault.TheVariants.{TooLong, BadLength, BadPadding, WrongStream, ZeroIncrement, OutOfMemory}
+use Rattle.h2frame.specs.declared.frame.Frame.{Frame}
+use Rattle.h2frame.specs.declared.span.Span.{Span}
+use Rattle.h2frame.specs.Faults.{head_fault, lacks_increment, frame_fault}
+use Rattle.h2frame.specs.Spelling.{Skipped, Fits, spelling}
+use Rattle.h2frame.specs.FrameList.{Entry, Whole, NoIncrement, IsSpelling, Spells, Joined, IsUnfinished, IsFaulty, StandsAt, refused, answered, HasCause}
+use Rattle.h2frame.specs.Reading.{frame_in, IsSpelledAt, IsDue, IsStep}
+use Rattle.h2frame.proofs.OneReading.{Front, Less, Stops, Takes, front_of, front_of_entry, front_of_faulty, front_of_unfinished}
+
+-- ---- what stands is answered
+
+faulty_refuses : (fault : FrameFault) (bytes : List ℕ) → IsFaulty fault bytes → refused fault ≡ []
+faulty_refuses TooLong bytes h = refl
+faulty_refuses BadLength bytes h = refl
+faulty_refuses BadPadding bytes h = refl
+faulty_refuses WrongStream bytes h = refl
+faulty_refuses OutOfMemory bytes h = refl
+faulty_refuses (ZeroIncrement stream) bytes h = ap (λ (s : ℕ). cond (eqb s 0) [] (NoIncrement s ∷ [])) h.0
+
+faulty_cause : (fault : FrameFault) (bytes : List ℕ) → IsFaulty fault bytes → HasCause fault bytes
+faulty_cause TooLong bytes h = h
+faulty_cause BadLength bytes h = h
+faulty_cause BadPadding bytes h = h
+faulty_cause WrongStream bytes h = h
+faulty_cause OutOfMemory bytes h = absurd h
+faulty_cause (ZeroIncrement stream) bytes h = inr h
+
+pub fault_step : (fault : FrameFault) (bytes : List ℕ) → IsFaulty fault bytes → IsStep (Some (Err fault)) bytes bytes
+fault_step fault bytes h = record {
+  taken = subst (λ (es : List Entry). Joined bytes es bytes) (sym (faulty_refuses fault bytes h)) refl;
+  due = faulty_cause fault bytes h;
+}
+
+fault_of : (frame : Frame) (b : Bool) → head_fault frame.head ≡ None → lacks_increment frame.head.kind frame.content ≡ b → frame_fault frame ≡ cond b (Some (ZeroIncrement frame.head.stream)) None
+fault_of frame b fine lacks =
+    ap (λ (o : Option FrameFault). option_or o (cond (lacks_increment frame.head.kind frame.content) (Some (ZeroIncrement frame.head.stream)) None)) fine
+      ∙ ap (λ (x : Bool). cond x (Some (ZeroIncrement frame.head.stream)) None) lacks
+
+spelling_of : (span : Span) (bytes : List ℕ) (b : Bool) (at : IsSpelledAt span bytes) → lacks_increment span.head.kind (frame_in span bytes).content ≡ b
+    → IsSpelling (spelling (frame_in span bytes) at.0) (frame_in span bytes) (cond b (Some (ZeroIncrement span.head.stream)) None)
+spelling_of span bytes b at lacks = (at.0, at.1, refl, fault_of (frame_in span bytes) b at.2 lacks)
+
+pub frame_step : (span : Span) (bytes : List ℕ) → IsSpelledAt span bytes → lacks_increment span.head.kind (frame_in span bytes).content ≡ false
+    → IsStep (Some (Ok (frame_in span bytes))) bytes (drop (9 + span.head.length) bytes)
+frame_step span bytes at has = record {
+  taken = (spelling (frame_in span bytes) at.0, drop (9 + span.head.length) bytes, at.3, spelling_of span bytes false at has, refl);
+  due = tt;
+}
+
+pub memory_step : (span : Span) (bytes : List ℕ) → IsSpelledAt span bytes → lacks_increment span.head.kind (frame_in span bytes).content ≡ false → IsStep (Some (Err OutOfMemory)) bytes bytes
+memory_step span bytes at has = record {
+  taken = refl;
+  due = (frame_in span bytes, (drop (9 + span.head.length) bytes, (frame_step span bytes at has).taken));
+}
+
+pub connection_step : (span : Span) (bytes : List ℕ) → IsSpelledAt span bytes → lacks_increment span.head.kind (frame_in span bytes).content ≡ true → span.head.stream ≡ 0
+    → IsStep (Some (Err (ZeroIncrement span.head.stream))) bytes bytes
+connection_step span bytes at lacks connection =
+    fault_step (ZeroIncrement span.head.stream) bytes (connection, spelling (frame_in span bytes) at.0, drop (9 + span.head.length) bytes, at.3, frame_in span bytes,
+      subst (λ (s : ℕ). IsSpelling (spelling (frame_in span bytes) at.0) (frame_in span bytes) (Some (ZeroIncrement s))) connection (spelling_of span bytes true at lacks))
+
+pub stream_step : (span : Span) (bytes : List ℕ) → IsSpelledAt span bytes → lacks_increment span.head.kind (frame_in span bytes).content ≡ true → 0 < span.head.stream
+    → IsStep (Some (Err (ZeroIncrement span.head.stream))) bytes (drop (9 + span.head.length) bytes)
+stream_step span bytes at lacks some =
+    let entry : refused (ZeroIncrement span.head.stream) ≡ NoIncrement span.head.stream ∷ [] =
+      ap (λ (b : Bool). cond b [] (NoIncrement span.head.stream ∷ [])) (ne_eqb span.head.stream 0 (λ e. omega (arith, some, e))) in
+    let rest = drop (9 + span.head.length) bytes in
+    let one : Joined bytes (NoIncrement span.head.stream ∷ []) rest =
+      (spelling (frame_in span bytes) at.0, rest, at.3, (some, frame_in span bytes, spelling_of span bytes true at lacks), refl) in
+    record {
+      taken = subst (λ (es : List Entry). Joined bytes es rest) (sym entry) one;
+      due = inl (rest, one);
+    }
+
+-- ---- and nothing else is
+
+front_of_standing : (entry : Entry) (bytes : List ℕ) (h : StandsAt entry bytes) → front_of bytes ≡ Takes entry h.1.1
+front_of_standing entry bytes (rest, (text, more, parts, spells, e)) = ap front_of parts ∙ front_of_entry entry text more spells
+
+pub data Seen : FrameFault → List ℕ → Type 0 where
+  Stopped : {fault : FrameFault} {bytes : List ℕ} → front_of bytes ≡ Stops fault → Seen fault bytes
+  Taken : {fault : FrameFault} {bytes : List ℕ} (entry : Entry) (rest : List ℕ) → front_of bytes ≡ Takes entry rest → Seen fault bytes
+
+seen_cause : (fault : FrameFault) (bytes : List ℕ) → HasCause fault bytes → Seen fault bytes
+seen_cause TooLong bytes h = Stopped (front_of_faulty TooLong bytes h)
+seen_cause BadLength bytes h = Stopped (front_of_faulty BadLength bytes h)
+seen_cause BadPadding bytes h = Stopped (front_of_faulty BadPadding bytes h)
+seen_cause WrongStream bytes h = Stopped (front_of_faulty WrongStream bytes h)
+seen_cause OutOfMemory bytes (frame, stands) = Taken (Whole frame) stands.1.1 (front_of_standing (Whole frame) bytes stands)
+seen_cause (ZeroIncrement stream) bytes (inl stands) = Taken (NoIncrement stream) stands.1.1 (front_of_standing (NoIncrement stream) bytes stands)
+seen_cause (ZeroIncrement stream) bytes (inr h) = Stopped (front_of_faulty (ZeroIncrement stream) bytes h)
+
+abbrev none_yet : Option (Result Frame FrameFault)
+none_yet = None
+
+less_is_none : (answer : Option (Result Frame FrameFault)) (old new : List ℕ) → IsStep answer old new → front_of old ≡ Less → answer ≡ None
+less_is_none None old new step e = refl
+less_is_none (Some (Ok frame)) old new step e = let f = front_of_standing (Whole frame) old (new, step.taken) in absurd cc
+less_is_none (Some (Err fault)) old new step e =
+    elim (seen_cause fault old step.due) [ Stopped f ↦ absurd cc | Taken entry rest f ↦ absurd cc ]
+
+pub none_since : (answer : Option (Result Frame FrameFault)) (old new : List ℕ) → IsStep answer old new → IsUnfinished old → answer ≡ None
+none_since answer old new step h = less_is_none answer old new step (front_of_unfinished old h)
+
+stops_is_fault : (answer : Option (Result Frame FrameFault)) (fault : FrameFault) (old new : List ℕ) → IsStep answer old new → front_of old ≡ Stops fault → answer ≡ Some (Err fault)
+stops_is_fault None fault old new step e = let f = front_of_unfinished old step.due in absurd cc
+stops_is_fault (Some (Ok frame)) fault old new step e = let f = front_of_standing (Whole frame) old (new, step.taken) in absurd cc
+stops_is_fault (Some (Err other)) fault old new step e =
+    elim (seen_cause other old step.due) [ Stopped f ↦ (let same : other ≡ fault = cc in ap (λ (x : FrameFault). Some (Err x)) same) | Taken entry rest f ↦ absurd cc ]
+
+pub fault_since : (answer : Option (Result Frame FrameFault)) (fault : FrameFault) (old new : List ℕ) → IsStep answer old new → IsFaulty fault old → answer ≡ Some (Err fault)
+fault_since answer fault old new step h = stops_is_fault answer fault old new step (front_of_faulty fault old h)
+
+pub kept_since : (answer : Option (Result Frame FrameFault)) (old new : List ℕ) → IsStep answer old new → answered answer ≡ [] → new ≡ old
+kept_since answer old new step e = sym (subst (λ (es : List Entry). Joined old es new) e step.taken)
+
+pub fault_answers_none : (answer : Option (Result Frame FrameFault)) (fault : FrameFault) (bytes : List ℕ) → answer ≡ Some (Err fault) → IsFaulty fault bytes → answered answer ≡ []
+fault_answers_none answer fault bytes e h = ap answered e ∙ faulty_refuses fault bytes h
+
+pub due_none : (answer : Option (Result Frame FrameFault)) (old new : List ℕ) → IsStep answer old new → answer ≡ None → IsUnfinished old
+due_none None old new step e = step.due
+due_none (Some r) old new step e = absurd cc
+
+-- what the code's test of the content says of the frame
+pub tested : (span : Span) (bytes slice content : List ℕ) (result answer : Bool) → slice ≡ bytes → content ≡ (frame_in span slice).content → result ≡ lacks_increment span.head.kind content → result ≡ answer
+    → lacks_increment span.head.kind (frame_in span bytes).content ≡ answer
+tested span bytes slice content result answer same value is b =
+    ap (λ (xs : List ℕ). lacks_increment span.head.kind (take span.len (drop span.start xs))) (sym same) ∙ ap (λ (xs : List ℕ). lacks_increment span.head.kind xs) (sym value) ∙ sym is ∙ b
+
+pub above_zero : (stream : ℕ) → eqb stream 0 ≡ false → 0 < stream
+above_zero zero e = absurd cc
+above_zero (suc n) e = omega arith
+
+pub unfinished_iff : (answer : Option (Result Frame FrameFault)) (old new : List ℕ) → IsStep answer old new → (IsNone answer → IsUnfinished old) × (IsUnfinished old → IsNone answer)
+unfinished_iff None old new step = (λ h. step.due, λ h. refl)
+unfinished_iff (Some r) old new step = (λ h. absurd cc, λ h. (let e = none_since (Some r) old new step h in absurd cc))
