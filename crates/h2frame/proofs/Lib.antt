@@ -4,3 +4,4 @@ pub mod Fronts
 pub mod OneReading
 pub mod Lists
 pub mod Steps
+pub mod Existence

@@ -112,10 +112,3 @@ faulty_list bytes piece es fs fault end (rest, joined, h) (last, joined', h') =
     let more = goes_on bytes piece es fs rest last end joined joined' h' in
     let over = ended (rest ++ piece) more.0 last (Some fault) end (faulty_more fault rest piece h) more.2 h' in
     (same_lists_since es fs more.0 more.1 over.0, sym over.1)
-
--- ---- there is one
-
--- what the reader finds, as the front of a frame list
-pub data Found : List ℕ → Type 0 where
-  Over : {bytes : List ℕ} (end : Option FrameFault) → Ends end bytes → Found bytes
-  Entered : {bytes : List ℕ} (entry : Entry) (text more : List ℕ) → bytes ≡ text ++ more → Spells text entry → length more < length bytes → Found bytes

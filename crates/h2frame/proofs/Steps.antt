@@ -59,11 +59,20 @@ memory_step span bytes at has = record {
   due = (frame_in span bytes, (drop (9 + span.head.length) bytes, (frame_step span bytes at has).taken));
 }
 
+pub connection_fault : (span : Span) (bytes : List ℕ) → IsSpelledAt span bytes → lacks_increment span.head.kind (frame_in span bytes).content ≡ true → span.head.stream ≡ 0
+    → IsFaulty (ZeroIncrement span.head.stream) bytes
+connection_fault span bytes at lacks connection =
+    (connection, spelling (frame_in span bytes) at.0, drop (9 + span.head.length) bytes, at.3, frame_in span bytes,
+      subst (λ (s : ℕ). IsSpelling (spelling (frame_in span bytes) at.0) (frame_in span bytes) (Some (ZeroIncrement s))) connection (spelling_of span bytes true at lacks))
+
 pub connection_step : (span : Span) (bytes : List ℕ) → IsSpelledAt span bytes → lacks_increment span.head.kind (frame_in span bytes).content ≡ true → span.head.stream ≡ 0
     → IsStep (Some (Err (ZeroIncrement span.head.stream))) bytes bytes
-connection_step span bytes at lacks connection =
-    fault_step (ZeroIncrement span.head.stream) bytes (connection, spelling (frame_in span bytes) at.0, drop (9 + span.head.length) bytes, at.3, frame_in span bytes,
-      subst (λ (s : ℕ). IsSpelling (spelling (frame_in span bytes) at.0) (frame_in span bytes) (Some (ZeroIncrement s))) connection (spelling_of span bytes true at lacks))
+connection_step span bytes at lacks connection = fault_step (ZeroIncrement span.head.stream) bytes (connection_fault span bytes at lacks connection)
+
+pub stream_entry : (span : Span) (bytes : List ℕ) → IsSpelledAt span bytes → lacks_increment span.head.kind (frame_in span bytes).content ≡ true → 0 < span.head.stream
+    → Joined bytes (NoIncrement span.head.stream ∷ []) (drop (9 + span.head.length) bytes)
+stream_entry span bytes at lacks some =
+    (spelling (frame_in span bytes) at.0, drop (9 + span.head.length) bytes, at.3, (some, frame_in span bytes, spelling_of span bytes true at lacks), refl)
 
 pub stream_step : (span : Span) (bytes : List ℕ) → IsSpelledAt span bytes → lacks_increment span.head.kind (frame_in span bytes).content ≡ true → 0 < span.head.stream
     → IsStep (Some (Err (ZeroIncrement span.head.stream))) bytes (drop (9 + span.head.length) bytes)
@@ -71,8 +80,7 @@ stream_step span bytes at lacks some =
     let entry : refused (ZeroIncrement span.head.stream) ≡ NoIncrement span.head.stream ∷ [] =
       ap (λ (b : Bool). cond b [] (NoIncrement span.head.stream ∷ [])) (ne_eqb span.head.stream 0 (λ e. omega (arith, some, e))) in
     let rest = drop (9 + span.head.length) bytes in
-    let one : Joined bytes (NoIncrement span.head.stream ∷ []) rest =
-      (spelling (frame_in span bytes) at.0, rest, at.3, (some, frame_in span bytes, spelling_of span bytes true at lacks), refl) in
+    let one = stream_entry span bytes at lacks some in
     record {
       taken = subst (λ (es : List Entry). Joined bytes es rest) (sym entry) one;
       due = inl (rest, one);

@@ -2,7 +2,7 @@
 
 ghost use Rattle.std.specs.Prelude.{◌≡◌, ◌<◌, ◌≤◌, ◌^◌, length, IfNone};
 ghost use Rattle.h2frame.specs.Flags.{is_padded, has_priority};
-ghost use Rattle.h2frame.specs.Faults.{may_be_on, may_have_length, overhead, head_fault, increment_of, lacks_increment};
+ghost use Rattle.h2frame.specs.Faults.{may_be_on, may_have_length, overhead, head_fault, frame_fault, increment_of, lacks_increment};
 
 use crate::{Flags, FrameFault, FrameKind, StreamId};
 use bytes::Bytes;
@@ -108,6 +108,44 @@ impl FrameHead {
         }
         if !self.may_have_its_length() {
             return Some(FrameFault::BadLength);
+        }
+        None
+    }
+}
+
+impl Frame {
+    /// The frame of a content, without padding or priority.
+    pub fn new(kind: FrameKind, flags: Flags, stream: StreamId, content: Bytes) -> Frame
+        requires { length content < 2 ^ 32 }
+        ensures kind { result.head.kind ≡ kind }
+        ensures flags { result.head.flags ≡ flags }
+        ensures stream { result.head.stream ≡ stream }
+        ensures length { result.head.length ≡ length content }
+        ensures content { result.content ≡ content }
+    {
+        let length = content.len() as u32;
+        Frame {
+            head: FrameHead {
+                kind,
+                flags,
+                stream,
+                length,
+            },
+            content,
+        }
+    }
+
+    /// The first fault that a reader of the frame finds, where it isn't padded.
+    pub fn fault(&self) -> Option<FrameFault>
+        requires { self.now.head.length ≡ length self.now.content }
+        ensures fault { result ≡ frame_fault self.now }
+        ensures short { IfNone result (self.now.head.length ≤ 16384) }
+    {
+        if let Some(fault) = self.head.fault() {
+            return Some(fault);
+        }
+        if lacks_increment(self.head.kind, self.content.as_slice()) {
+            return Some(FrameFault::ZeroIncrement(self.head.stream));
         }
         None
     }

@@ -5,13 +5,17 @@ mod fault;
 mod flags;
 mod frame;
 mod kind;
+mod laws;
 mod reader;
 mod span;
 mod stream;
+mod writer;
 
 pub use fault::FrameFault;
 pub use flags::Flags;
-pub use frame::{Frame, FrameHead, MAX_PAYLOAD};
+pub use frame::{Frame, FrameHead, MAX_PAYLOAD, increment};
 pub use kind::{FrameKind, UnknownKind};
+pub use laws::{goes_on, joins, one_reading};
 pub use reader::FrameReader;
 pub use stream::StreamId;
+pub use writer::write_frame;
