@@ -3,7 +3,7 @@ use Rattle.std.specs.Prelude.{ℕ, ◌+◌, ◌^◌, ◌%◌, Bool, true, false,
 use Rattle.std.specs.Option.{option_or}
 use Rattle.std.specs.Int.{w32, from_be_bytes}
 use Rattle.h2frame.specs.declared.fault.FrameFault.{FrameFault}
-use Rattle.h2frame.specs.declared.fault.FrameFault.TheVariants.{TooLong, BadLength, WrongStream, ZeroIncrement}
+use Rattle.h2frame.specs.declared.fault.FrameFault.TheVariants.{TooLong, BadLength, BadPadding, WrongStream, ZeroIncrement, OutOfMemory}
 use Rattle.h2frame.specs.declared.frame.Frame.{Frame}
 use Rattle.h2frame.specs.declared.frame.FrameHead.{FrameHead}
 use Rattle.h2frame.specs.declared.kind.FrameKind.{FrameKind}
@@ -66,3 +66,21 @@ lacks_increment _ content = false
 abbrev pub frame_fault : Frame → Option FrameFault
 frame_fault frame = option_or (head_fault frame.head)
     (if lacks_increment frame.head.kind frame.content then Some (ZeroIncrement frame.head.stream) else None)
+
+-- the error that a fault is to the peer (RFC 9113, sections 4.2 and 6)
+abbrev pub error_of : FrameFault → ℕ
+error_of TooLong = 6
+error_of BadLength = 6
+error_of BadPadding = 1
+error_of WrongStream = 1
+error_of (ZeroIncrement stream) = 1
+error_of OutOfMemory = 2
+
+-- a number for each fault
+abbrev pub fault_code : FrameFault → ℕ
+fault_code TooLong = 1
+fault_code BadLength = 2
+fault_code BadPadding = 3
+fault_code WrongStream = 4
+fault_code (ZeroIncrement stream) = 5
+fault_code OutOfMemory = 6

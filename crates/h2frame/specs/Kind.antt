@@ -19,4 +19,15 @@ code_of (Unknown code) = code
 
 -- the type of a code
 abbrev pub kind_of : ℕ → FrameKind
-kind_of n = if n == 0 then Data else (if n == 1 then Headers else (if n == 2 then Priority else (if n == 3 then RstStream else (if n == 4 then Settings else (if n == 5 then PushPromise else (if n == 6 then Ping else (if n == 7 then GoAway else (if n == 8 then WindowUpdate else (if n == 9 then Continuation else Unknown n)))))))))
+kind_of n =
+    if n == 0 then Data
+    else (if n == 1 then Headers
+    else (if n == 2 then Priority
+    else (if n == 3 then RstStream
+    else (if n == 4 then Settings
+    else (if n == 5 then PushPromise
+    else (if n == 6 then Ping
+    else (if n == 7 then GoAway
+    else (if n == 8 then WindowUpdate
+    else (if n == 9 then Continuation
+    else Unknown n)))))))))

@@ -1,5 +1,6 @@
 pub mod Kind
 pub mod Flags
+pub mod Setting
 pub mod Faults
 pub mod Spelling
 pub mod FrameList

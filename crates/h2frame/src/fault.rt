@@ -2,8 +2,9 @@
 
 ghost use Rattle.std.specs.Prelude.{◌≡◌};
 ghost use Rattle.h2frame.specs.declared.fault.FrameFault.TheVariants.{OutOfMemory};
+ghost use Rattle.h2frame.specs.Faults.{error_of, fault_code};
 
-use crate::StreamId;
+use crate::{ErrorCode, StreamId};
 use std::alloc::{AllocError, AllocFailed};
 use thiserror::Error;
 
@@ -30,7 +31,9 @@ pub enum FrameFault {
 
 impl FrameFault {
     /// A number for each fault, whichever stream it is on.
-    pub fn code(self) -> u32 {
+    pub fn code(self) -> u32
+        ensures { result ≡ fault_code self }
+    {
         match self {
             FrameFault::TooLong => 1,
             FrameFault::BadLength => 2,
@@ -38,6 +41,19 @@ impl FrameFault {
             FrameFault::WrongStream => 4,
             FrameFault::ZeroIncrement(_) => 5,
             FrameFault::OutOfMemory => 6,
+        }
+    }
+
+    /// The error that the peer is told of the connection, or of the stream where `ZeroIncrement` names one.
+    pub fn error_code(self) -> ErrorCode
+        ensures { result ≡ error_of self }
+    {
+        match self {
+            FrameFault::TooLong | FrameFault::BadLength => ErrorCode::FRAME_SIZE_ERROR,
+            FrameFault::BadPadding | FrameFault::WrongStream | FrameFault::ZeroIncrement(_) => {
+                ErrorCode::PROTOCOL_ERROR
+            }
+            FrameFault::OutOfMemory => ErrorCode::INTERNAL_ERROR,
         }
     }
 }
