@@ -39,9 +39,9 @@ found_frame : (span : Span) (bytes : List ℕ) → IsSpelledAt span bytes → Fo
 found_frame span bytes at =
     elim (cases_Bool (lacks_increment span.head.kind (frame_in span bytes).content)) [
       | inl lacks ↦ elim (cases_Bool (eqb span.head.stream 0)) [
-          | inl connection ↦ Over (Some (ZeroIncrement span.head.stream)) (connection_fault span bytes at lacks (eqb-true _ _ connection))
-          | inr other ↦ found_entry (NoIncrement span.head.stream) bytes (drop (9 + span.head.length) bytes) (stream_entry span bytes at lacks (above_zero _ other))
-        ]
+        | inl connection ↦ Over (Some (ZeroIncrement span.head.stream)) (connection_fault span bytes at lacks (eqb-true _ _ connection))
+        | inr other ↦ found_entry (NoIncrement span.head.stream) bytes (drop (9 + span.head.length) bytes) (stream_entry span bytes at lacks (above_zero _ other))
+      ]
       | inr has ↦ found_entry (Whole (frame_in span bytes)) bytes (drop (9 + span.head.length) bytes) (frame_step span bytes at has).taken
     ]
 
@@ -88,15 +88,18 @@ pub written : (frame : Frame) → IsHead frame.head → frame.head.length ≡ le
     → Spells (spelled frame) (Whole frame)
 unfolding nothing
 written frame is whole not_padded no_priority fine =
-    let payload = unpadded_payload (is_padded frame.head) frame.content not_padded in
-    (nothing, record {
+    let payload = unpadded_payload (is_padded frame.head) frame.content not_padded in (
+      nothing,
+      record {
         head = is;
         reserved = omega arith;
         priority = sym (ap (λ (b : Bool). cond b 5 0) no_priority);
         padding = λ e. refl;
         payload = ap length payload ∙ sym whole;
       },
-      ap (λ (ys : List ℕ). head_text 0 frame.head ++ ys) (sym payload), fine)
+      ap (λ (ys : List ℕ). head_text 0 frame.head ++ ys) (sym payload),
+      fine,
+    )
 
 -- frames written one after the other
 pub joined_frames : (frames : List Frame) → AllByRecursion (λ frame. Spells (spelled frame) (Whole frame)) frames → Joined (flat_map spelled frames) (map Whole frames) []

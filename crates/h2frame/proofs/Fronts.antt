@@ -62,32 +62,35 @@ spelled_at head bytes begun fine whole le =
     let payload = take head.length after in
     let size : length payload ≡ head.length = omega (arith, length-take head.length after, length-drop 9 bytes) in
     let p : Parts (is_padded head) (has_priority head) payload (take m (drop o payload)) =
-      parts (is_padded head) (has_priority head) payload n o m (padding_within (is_padded head) bytes head.length (one_since (is_padded head) (has_priority head) head.length (room head fine))) refl (omega (arith, size)) in
+    parts (is_padded head) (has_priority head) payload n o m (padding_within (is_padded head) bytes head.length (one_since (is_padded head) (has_priority head) head.length (room head fine))) refl (omega (arith, size)) in
     let content : take m (drop o payload) ≡ take m (drop (9 + o) bytes) = within after o m head.length (omega arith) ∙ ap (λ (ys : List ℕ). take m ys) (drop-drop o 9 bytes) in
     let q : Parts (is_padded head) (has_priority head) payload (take m (drop (9 + o) bytes)) = subst (λ (c : List ℕ). Parts (is_padded head) (has_priority head) payload c) content p in
     let skipped : Skipped = record { reserved = begun.0; priority = q.priority; padding = q.padding } in
     let rest : drop head.length after ≡ drop (9 + head.length) bytes = drop-drop head.length 9 bytes in
     let text : bytes ≡ (head_text begun.0 head ++ payload) ++ drop (9 + head.length) bytes =
-      begun.3 ∙ ap (λ (ys : List ℕ). head_text begun.0 head ++ ys) (sym (take-append-drop head.length after) ∙ ap (λ (ys : List ℕ). payload ++ ys) rest)
-        ∙ sym (append_assoc (head_text begun.0 head) payload (drop (9 + head.length) bytes)) in
-    (skipped, record { head = begun.2; reserved = begun.1; priority = q.priority_length; padding = q.no_padding; payload = ap length (sym q.text) ∙ size }, fine,
-      text ∙ ap (λ (ys : List ℕ). (head_text begun.0 head ++ ys) ++ drop (9 + head.length) bytes) q.text)
+    begun.3 ∙ ap (λ (ys : List ℕ). head_text begun.0 head ++ ys) (sym (take-append-drop head.length after) ∙ ap (λ (ys : List ℕ). payload ++ ys) rest)
+    ∙ sym (append_assoc (head_text begun.0 head) payload (drop (9 + head.length) bytes)) in (
+      skipped,
+      record { head = begun.2; reserved = begun.1; priority = q.priority_length; padding = q.no_padding; payload = ap length (sym q.text) ∙ size },
+      fine,
+      text ∙ ap (λ (ys : List ℕ). (head_text begun.0 head ++ ys) ++ drop (9 + head.length) bytes) q.text,
+    )
 
 content_front : (head : FrameHead) (bytes : List ℕ) → BeginsWith bytes head (drop 9 bytes) → head_fault head ≡ None → 9 + head.length ≤ length bytes → IsFront bytes (Some (content_at head bytes))
 unfolding content_at
 content_front head bytes begun fine whole =
     cond_both (ltb head.length (overhead head + padding_at head bytes)) (Err BadPadding) (Ok (record { head = head; start = 9 + overhead head; len = head.length - (overhead head + padding_at head bytes) }))
-      (λ (r : Result Span FrameFault). IsFront bytes (Some r))
-      (λ less. overpadded head bytes begun fine whole (ltb-true _ _ less))
-      (λ enough. spelled_at head bytes begun fine whole (ltb-false _ _ enough))
+    (λ (r : Result Span FrameFault). IsFront bytes (Some r))
+    (λ less. overpadded head bytes begun fine whole (ltb-true _ _ less))
+    (λ enough. spelled_at head bytes begun fine whole (ltb-false _ _ enough))
 
 head_front : (head : FrameHead) (bytes : List ℕ) → 9 ≤ length bytes → BeginsWith bytes head (drop 9 bytes) → (fault : Option FrameFault) → head_fault head ≡ fault
     → IsFront bytes (unless_faulty fault (cond (ltb (length bytes) (9 + head.length)) None (Some (content_at head bytes))))
 head_front head bytes nine begun (Some fault) e = faulty_head fault bytes (head, drop 9 bytes, begun, e)
 head_front head bytes nine begun None e =
     cond_both (ltb (length bytes) (9 + head.length)) None (Some (content_at head bytes)) (IsFront bytes)
-      (λ short. inr (head, drop 9 bytes, begun, e, omega (arith, ltb-true _ _ short, length-drop 9 bytes)))
-      (λ whole. content_front head bytes begun e (ltb-false _ _ whole))
+    (λ short. inr (head, drop 9 bytes, begun, e, omega (arith, ltb-true _ _ short, length-drop 9 bytes)))
+    (λ whole. content_front head bytes begun e (ltb-false _ _ whole))
 
 -- the same of bytes that have a head
 pub front_long : (bytes : List ℕ) → 9 ≤ length bytes → AreBytes bytes → IsFront bytes (frame_at (head_at bytes) bytes)
@@ -98,5 +101,5 @@ pub front : (bytes : List ℕ) → AreBytes bytes → IsFront bytes (span_at byt
 unfolding span_at
 front bytes fits =
     cond_both (ltb (length bytes) 9) None (frame_at (head_at bytes) bytes) (IsFront bytes)
-      (λ short. inl (ltb-true _ _ short))
-      (λ long. front_long bytes (ltb-false _ _ long) fits)
+    (λ short. inl (ltb-true _ _ short))
+    (λ long. front_long bytes (ltb-false _ _ long) fits)

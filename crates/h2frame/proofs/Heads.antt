@@ -16,10 +16,18 @@ AreBytes bytes = (i : ℕ) → get_or bytes i 0 < 256
 
 code_above : (code : ℕ) → 10 ≤ code → code_of (kind_of code) ≡ code
 code_above code le =
-    rw (ne_eqb code 0 (λ e. omega (arith, le, e)), ne_eqb code 1 (λ e. omega (arith, le, e)), ne_eqb code 2 (λ e. omega (arith, le, e)),
-      ne_eqb code 3 (λ e. omega (arith, le, e)), ne_eqb code 4 (λ e. omega (arith, le, e)), ne_eqb code 5 (λ e. omega (arith, le, e)),
-      ne_eqb code 6 (λ e. omega (arith, le, e)), ne_eqb code 7 (λ e. omega (arith, le, e)), ne_eqb code 8 (λ e. omega (arith, le, e)),
-      ne_eqb code 9 (λ e. omega (arith, le, e))) refl
+    rw (
+      ne_eqb code 0 (λ e. omega (arith, le, e)),
+      ne_eqb code 1 (λ e. omega (arith, le, e)),
+      ne_eqb code 2 (λ e. omega (arith, le, e)),
+      ne_eqb code 3 (λ e. omega (arith, le, e)),
+      ne_eqb code 4 (λ e. omega (arith, le, e)),
+      ne_eqb code 5 (λ e. omega (arith, le, e)),
+      ne_eqb code 6 (λ e. omega (arith, le, e)),
+      ne_eqb code 7 (λ e. omega (arith, le, e)),
+      ne_eqb code 8 (λ e. omega (arith, le, e)),
+      ne_eqb code 9 (λ e. omega (arith, le, e)),
+    ) refl
 
 -- no code is lost
 pub code_of-kind_of : (code : ℕ) → code_of (kind_of code) ≡ code
@@ -83,11 +91,14 @@ nine_read a b c k f s t u v after fits =
     let size = length_back a b c (fits 0) (fits 1) (fits 2) in
     let stream = stream_back (s ∷ t ∷ u ∷ v ∷ []) refl four in
     let kind = code_of-kind_of k in
-    let small : word < 2 ^ 32 = omega (arith, fits 5, fits 6, fits 7, fits 8) in
-    (word / 2 ^ 31, omega (arith, small), record { kind = ap kind_of kind; stream = omega arith; length = omega (arith, fits 0, fits 1, fits 2) },
+    let small : word < 2 ^ 32 = omega (arith, fits 5, fits 6, fits 7, fits 8) in (
+      word / 2 ^ 31,
+      omega (arith, small),
+      record { kind = ap kind_of kind; stream = omega arith; length = omega (arith, fits 0, fits 1, fits 2) },
       sym (ap (λ (x : List ℕ). joined x (code_of (kind_of k)) f (bytes_high_first 4 (word / 2 ^ 31 * 2 ^ 31 + word % 2 ^ 31)) after) size
-        ∙ ap (λ (x : ℕ). joined (a ∷ b ∷ c ∷ []) x f (bytes_high_first 4 (word / 2 ^ 31 * 2 ^ 31 + word % 2 ^ 31)) after) kind
-        ∙ ap (λ (x : List ℕ). joined (a ∷ b ∷ c ∷ []) k f x after) stream))
+          ∙ ap (λ (x : ℕ). joined (a ∷ b ∷ c ∷ []) x f (bytes_high_first 4 (word / 2 ^ 31 * 2 ^ 31 + word % 2 ^ 31)) after) kind
+          ∙ ap (λ (x : List ℕ). joined (a ∷ b ∷ c ∷ []) k f x after) stream),
+    )
 
 -- nine bytes and more begin with the head that is read
 pub begins : (bytes : List ℕ) → 9 ≤ length bytes → AreBytes bytes → BeginsWith bytes (head_at bytes) (drop 9 bytes)

@@ -84,23 +84,23 @@ frame_read bytes head content padding payload rest begun fine size read =
     let long : ltb (length bytes) (9 + head.length) ≡ false = le-ltb _ _ (omega (arith, length_after bytes head (payload ++ rest) begun, length-append payload rest)) in
     let pad : padding_at head bytes ≡ length padding = ap (λ (ys : List ℕ). cond (is_padded head) (get_or ys 9 0) 0) begun.3 ∙ read.pad in
     let at : content_at head bytes ≡ Ok (record { head = head; start = 9 + overhead head; len = length content }) =
-      content_read head bytes (length padding) (length content) pad (sym read.whole ∙ size) in
+    content_read head bytes (length padding) (length content) pad (sym read.whole ∙ size) in
     let after : drop 9 bytes ≡ payload ++ rest = ap (λ (ys : List ℕ). drop 9 ys) begun.3 in
     let middle : take (length content) (drop (9 + overhead head) bytes) ≡ content =
-      ap (λ (ys : List ℕ). take (length content) ys) (sym (drop-drop (overhead head) 9 bytes) ∙ ap (λ (ys : List ℕ). drop (overhead head) ys) after) ∙ read.middle in
+    ap (λ (ys : List ℕ). take (length content) ys) (sym (drop-drop (overhead head) 9 bytes) ∙ ap (λ (ys : List ℕ). drop (overhead head) ys) after) ∙ read.middle in
     let left : drop (9 + head.length) bytes ≡ rest = sym (drop-drop head.length 9 bytes) ∙ ap (λ (ys : List ℕ). drop head.length ys) after ∙ drop_at payload rest head.length size in
     let span : span_at bytes ≡ Some (Ok (record { head = head; start = 9 + overhead head; len = length content })) =
-      at_head bytes head (payload ++ rest) begun ∙ rw (fine, long, at) refl in
+    at_head bytes head (payload ++ rest) begun ∙ rw (fine, long, at) refl in
     ap (λ (s : Option (Result Span FrameFault)). of_span s bytes) span
-      ∙ ap (λ (ys : List ℕ). judged (record { head = head; content = ys }) (drop (9 + head.length) bytes)) middle
-      ∙ ap (λ (ys : List ℕ). judged (record { head = head; content = content }) ys) left
+    ∙ ap (λ (ys : List ℕ). judged (record { head = head; content = ys }) (drop (9 + head.length) bytes)) middle
+    ∙ ap (λ (ys : List ℕ). judged (record { head = head; content = content }) ys) left
 
 front_of_frame : (frame : Frame) (skipped : Skipped) (rest : List ℕ) → Fits frame skipped → head_fault frame.head ≡ None → front_of (spelling frame skipped ++ rest) ≡ judged frame rest
 front_of_frame frame skipped rest fits fine =
     let payload = payload_text frame.head skipped frame.content in
     frame_read (spelling frame skipped ++ rest) frame.head frame.content skipped.padding payload rest
-      (skipped.reserved, fits.reserved, fits.head, append_assoc (head_text skipped.reserved frame.head) payload rest) fine fits.payload
-      (reads_parts (is_padded frame.head) (has_priority frame.head) skipped.priority frame.content skipped.padding rest fits.priority fits.padding)
+    (skipped.reserved, fits.reserved, fits.head, append_assoc (head_text skipped.reserved frame.head) payload rest) fine fits.payload
+    (reads_parts (is_padded frame.head) (has_priority frame.head) skipped.priority frame.content skipped.padding rest fits.priority fits.padding)
 
 -- ---- entries and faults
 
@@ -117,7 +117,7 @@ fault_parts_some None false x y never e = absurd cc
 no_increment_fault : (head : FrameHead) (stream : ℕ) → head_fault head ≡ Some (ZeroIncrement stream) → ⊥
 no_increment_fault head stream e =
     head_faults (ltb max_payload head.length) (may_be_on head.kind head.stream) (may_have_length head.kind head) (λ (f : FrameFault). f ≡ ZeroIncrement stream → ⊥) (ZeroIncrement stream) e
-      (λ f g. cc) (λ f g. cc) (λ f g. cc) refl
+    (λ f g. cc) (λ f g. cc) (λ f g. cc) refl
 
 same_stream : (s t : ℕ) → ◌≡◌ {A = FrameFault} (ZeroIncrement s) (ZeroIncrement t) → s ≡ t
 same_stream s t e = cc
@@ -127,7 +127,7 @@ front_of_whole : (text more : List ℕ) (frame : Frame) → IsSpelling text fram
 front_of_whole text more frame (skipped, fits, spells, fine) =
     let both = fault_parts_none (head_fault frame.head) (lacks_increment frame.head.kind frame.content) (ZeroIncrement frame.head.stream) fine in
     ap (λ (ys : List ℕ). front_of (ys ++ more)) spells ∙ front_of_frame frame skipped more fits both.0
-      ∙ ap (λ (b : Bool). cond b (cond (eqb frame.head.stream 0) (Stops (ZeroIncrement frame.head.stream)) (Takes (NoIncrement frame.head.stream) more)) (Takes (Whole frame) more)) both.1
+    ∙ ap (λ (b : Bool). cond b (cond (eqb frame.head.stream 0) (Stops (ZeroIncrement frame.head.stream)) (Takes (NoIncrement frame.head.stream) more)) (Takes (Whole frame) more)) both.1
 
 -- a frame that lacks its increment, and more
 front_of_refused : (text more : List ℕ) (frame : Frame) (stream : ℕ) → IsSpelling text frame (Some (ZeroIncrement stream))
@@ -135,8 +135,8 @@ front_of_refused : (text more : List ℕ) (frame : Frame) (stream : ℕ) → IsS
 front_of_refused text more frame stream (skipped, fits, spells, faulty) =
     let parts = fault_parts_some (head_fault frame.head) (lacks_increment frame.head.kind frame.content) (ZeroIncrement frame.head.stream) (ZeroIncrement stream) (no_increment_fault frame.head stream) faulty in
     ap (λ (ys : List ℕ). front_of (ys ++ more)) spells ∙ front_of_frame frame skipped more fits parts.0
-      ∙ ap (λ (b : Bool). cond b (cond (eqb frame.head.stream 0) (Stops (ZeroIncrement frame.head.stream)) (Takes (NoIncrement frame.head.stream) more)) (Takes (Whole frame) more)) parts.1
-      ∙ ap (λ (s : ℕ). cond (eqb s 0) (Stops (ZeroIncrement s)) (Takes (NoIncrement s) more)) (same_stream frame.head.stream stream parts.2)
+    ∙ ap (λ (b : Bool). cond b (cond (eqb frame.head.stream 0) (Stops (ZeroIncrement frame.head.stream)) (Takes (NoIncrement frame.head.stream) more)) (Takes (Whole frame) more)) parts.1
+    ∙ ap (λ (s : ℕ). cond (eqb s 0) (Stops (ZeroIncrement s)) (Takes (NoIncrement s) more)) (same_stream frame.head.stream stream parts.2)
 
 pub front_of_entry : (entry : Entry) (text more : List ℕ) → Spells text entry → front_of (text ++ more) ≡ Takes entry more
 front_of_entry (Whole frame) text more spells = front_of_whole text more frame spells

@@ -97,10 +97,10 @@ pub record ReadsParts (p q : Bool) (content padding payload rest : List ℕ) : T
 middle_at : (k : ℕ) (priority content padding rest : List ℕ) → length priority ≡ k → take (length content) (drop k ((priority ++ (content ++ padding)) ++ rest)) ≡ content
 middle_at k priority content padding rest size =
     let regrouped : (priority ++ (content ++ padding)) ++ rest ≡ priority ++ (content ++ (padding ++ rest)) =
-      append_assoc priority (content ++ padding) rest ∙ ap (λ (ys : List ℕ). priority ++ ys) (append_assoc content padding rest) in
+    append_assoc priority (content ++ padding) rest ∙ ap (λ (ys : List ℕ). priority ++ ys) (append_assoc content padding rest) in
     ap (λ (ys : List ℕ). take (length content) (drop k ys)) regrouped
-      ∙ ap (λ (ys : List ℕ). take (length content) ys) (drop_at priority (content ++ (padding ++ rest)) k size)
-      ∙ take_at content (padding ++ rest) (length content) refl
+    ∙ ap (λ (ys : List ℕ). take (length content) ys) (drop_at priority (content ++ (padding ++ rest)) k size)
+    ∙ take_at content (padding ++ rest) (length content) refl
 
 length_of_parts : (priority content padding : List ℕ) → length (priority ++ (content ++ padding)) ≡ length priority + length content + length padding
 length_of_parts priority content padding = omega (arith, length-append priority (content ++ padding), length-append content padding)

@@ -40,7 +40,7 @@ fault_step fault bytes h = record {
 fault_of : (frame : Frame) (b : Bool) → head_fault frame.head ≡ None → lacks_increment frame.head.kind frame.content ≡ b → frame_fault frame ≡ cond b (Some (ZeroIncrement frame.head.stream)) None
 fault_of frame b fine lacks =
     ap (λ (o : Option FrameFault). option_or o (cond (lacks_increment frame.head.kind frame.content) (Some (ZeroIncrement frame.head.stream)) None)) fine
-      ∙ ap (λ (x : Bool). cond x (Some (ZeroIncrement frame.head.stream)) None) lacks
+    ∙ ap (λ (x : Bool). cond x (Some (ZeroIncrement frame.head.stream)) None) lacks
 
 spelling_of : (span : Span) (bytes : List ℕ) (b : Bool) (at : IsSpelledAt span bytes) → lacks_increment span.head.kind (frame_in span bytes).content ≡ b
     → IsSpelling (spelling (frame_in span bytes) at.0) (frame_in span bytes) (cond b (Some (ZeroIncrement span.head.stream)) None)
@@ -61,9 +61,14 @@ memory_step span bytes at has = record {
 
 pub connection_fault : (span : Span) (bytes : List ℕ) → IsSpelledAt span bytes → lacks_increment span.head.kind (frame_in span bytes).content ≡ true → span.head.stream ≡ 0
     → IsFaulty (ZeroIncrement span.head.stream) bytes
-connection_fault span bytes at lacks connection =
-    (connection, spelling (frame_in span bytes) at.0, drop (9 + span.head.length) bytes, at.3, frame_in span bytes,
-      subst (λ (s : ℕ). IsSpelling (spelling (frame_in span bytes) at.0) (frame_in span bytes) (Some (ZeroIncrement s))) connection (spelling_of span bytes true at lacks))
+connection_fault span bytes at lacks connection = (
+  connection,
+  spelling (frame_in span bytes) at.0,
+  drop (9 + span.head.length) bytes,
+  at.3,
+  frame_in span bytes,
+  subst (λ (s : ℕ). IsSpelling (spelling (frame_in span bytes) at.0) (frame_in span bytes) (Some (ZeroIncrement s))) connection (spelling_of span bytes true at lacks),
+)
 
 pub connection_step : (span : Span) (bytes : List ℕ) → IsSpelledAt span bytes → lacks_increment span.head.kind (frame_in span bytes).content ≡ true → span.head.stream ≡ 0
     → IsStep (Some (Err (ZeroIncrement span.head.stream))) bytes bytes
@@ -78,7 +83,7 @@ pub stream_step : (span : Span) (bytes : List ℕ) → IsSpelledAt span bytes �
     → IsStep (Some (Err (ZeroIncrement span.head.stream))) bytes (drop (9 + span.head.length) bytes)
 stream_step span bytes at lacks some =
     let entry : refused (ZeroIncrement span.head.stream) ≡ NoIncrement span.head.stream ∷ [] =
-      ap (λ (b : Bool). cond b [] (NoIncrement span.head.stream ∷ [])) (ne_eqb span.head.stream 0 (λ e. omega (arith, some, e))) in
+    ap (λ (b : Bool). cond b [] (NoIncrement span.head.stream ∷ [])) (ne_eqb span.head.stream 0 (λ e. omega (arith, some, e))) in
     let rest = drop (9 + span.head.length) bytes in
     let one = stream_entry span bytes at lacks some in
     record {

@@ -51,7 +51,7 @@ abbrev pub head_fault : FrameHead → Option FrameFault
 head_fault head =
     if nat_lt max_payload head.length then Some TooLong
     else (if may_be_on head.kind head.stream then
-      (if may_have_length head.kind head then None else Some BadLength)
+    (if may_have_length head.kind head then None else Some BadLength)
     else Some WrongStream)
 
 -- the increment of a WINDOW_UPDATE's content: 31 bits behind one that is ignored (section 6.9)

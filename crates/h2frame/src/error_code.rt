@@ -23,18 +23,31 @@ impl Model for ErrorCode {
 
 impl ErrorCode {
     pub const NO_ERROR: ErrorCode = ErrorCode { code: 0x0 };
+
     pub const PROTOCOL_ERROR: ErrorCode = ErrorCode { code: 0x1 };
+
     pub const INTERNAL_ERROR: ErrorCode = ErrorCode { code: 0x2 };
+
     pub const FLOW_CONTROL_ERROR: ErrorCode = ErrorCode { code: 0x3 };
+
     pub const SETTINGS_TIMEOUT: ErrorCode = ErrorCode { code: 0x4 };
+
     pub const STREAM_CLOSED: ErrorCode = ErrorCode { code: 0x5 };
+
     pub const FRAME_SIZE_ERROR: ErrorCode = ErrorCode { code: 0x6 };
+
     pub const REFUSED_STREAM: ErrorCode = ErrorCode { code: 0x7 };
+
     pub const CANCEL: ErrorCode = ErrorCode { code: 0x8 };
+
     pub const COMPRESSION_ERROR: ErrorCode = ErrorCode { code: 0x9 };
+
     pub const CONNECT_ERROR: ErrorCode = ErrorCode { code: 0xa };
+
     pub const ENHANCE_YOUR_CALM: ErrorCode = ErrorCode { code: 0xb };
+
     pub const INADEQUATE_SECURITY: ErrorCode = ErrorCode { code: 0xc };
+
     pub const HTTP_1_1_REQUIRED: ErrorCode = ErrorCode { code: 0xd };
 
     /// The error of four bytes of a frame.

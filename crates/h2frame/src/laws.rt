@@ -13,8 +13,7 @@ pub fn one_reading()
         FrameList bytes entries end → FrameList bytes others last → (entries ≡ others) × (end ≡ last) }
     ensures some { (bytes : List ℕ) → All (λ byte. byte < 256) bytes →
         (entries : List Entry) × (end : Option FrameFault) × FrameList bytes entries end }
-{
-}
+{}
 
 /// A longer list of bytes has the entries of the shorter one first, and after a fault no others.
 pub fn goes_on()
@@ -23,8 +22,7 @@ pub fn goes_on()
         (others : List Entry) × (all ≡ entries ++ others) }
     ensures stops { (bytes piece : List ℕ) (entries all : List Entry) (fault : FrameFault) (last : Option FrameFault) →
         FrameList bytes entries (Some fault) → FrameList (bytes ++ piece) all last → (entries ≡ all) × (last ≡ Some fault) }
-{
-}
+{}
 
 /// Entries that follow one another are joined.
 pub fn joins()
@@ -36,5 +34,4 @@ pub fn joins()
     // Frames that were written one after the other are read so.
     ensures written { (frames : List Frame) → AllByRecursion (λ frame. Spells (spelled frame) (Whole frame)) frames →
         Joined (flat_map spelled frames) (map Whole frames) [] }
-{
-}
+{}

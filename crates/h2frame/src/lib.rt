@@ -23,3 +23,6 @@ pub use reader::FrameReader;
 pub use setting::SettingId;
 pub use stream::StreamId;
 pub use writer::write_frame;
+
+#[cfg(test)]
+mod tests;
