@@ -109,17 +109,17 @@ fault_parts_none (Some y) b x e = absurd cc
 fault_parts_none None true x e = absurd cc
 fault_parts_none None false x e = (refl, refl)
 
-fault_parts_some : (o : Option FrameFault) (b : Bool) (x y : FrameFault) → (o ≡ Some y → ⊥) → option_or o (cond b (Some x) None) ≡ Some y → (o ≡ None) × (b ≡ true) × (x ≡ y)
+pub fault_parts_some : (o : Option FrameFault) (b : Bool) (x y : FrameFault) → (o ≡ Some y → ⊥) → option_or o (cond b (Some x) None) ≡ Some y → (o ≡ None) × (b ≡ true) × (x ≡ y)
 fault_parts_some (Some z) b x y never e = absurd (never e)
 fault_parts_some None true x y never e = (refl, refl, cc)
 fault_parts_some None false x y never e = absurd cc
 
-no_increment_fault : (head : FrameHead) (stream : ℕ) → head_fault head ≡ Some (ZeroIncrement stream) → ⊥
+pub no_increment_fault : (head : FrameHead) (stream : ℕ) → head_fault head ≡ Some (ZeroIncrement stream) → ⊥
 no_increment_fault head stream e =
     head_faults (ltb max_payload head.length) (may_be_on head.kind head.stream) (may_have_length head.kind head) (λ (f : FrameFault). f ≡ ZeroIncrement stream → ⊥) (ZeroIncrement stream) e
     (λ f g. cc) (λ f g. cc) (λ f g. cc) refl
 
-same_stream : (s t : ℕ) → ◌≡◌ {A = FrameFault} (ZeroIncrement s) (ZeroIncrement t) → s ≡ t
+pub same_stream : (s t : ℕ) → ◌≡◌ {A = FrameFault} (ZeroIncrement s) (ZeroIncrement t) → s ≡ t
 same_stream s t e = cc
 
 -- a frame without a fault, and more

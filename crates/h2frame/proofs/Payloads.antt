@@ -2,6 +2,7 @@
 use Rattle.std.proofs.Common.{◌≡◌, ℕ, zero, suc, ◌+◌, ◌-◌, ◌<◌, ◌≤◌, Bool, true, false, cond, ltb, List, [], ◌∷◌, ◌++◌, length, get_or, take, drop, refl, sym, ap, subst, ◌∙◌, append_assoc, arith}
 use Rattle.std.proofs.Math.Numerals.{one-add}
 use Rattle.std.proofs.lemmas.List.{append-nil, take-append-drop, take-append-le, take-take, take_at, drop-drop, drop-take, drop_at, length-append, length-take, length-drop, get_or-take, nil_from_length}
+use Rattle.h2frame.specs.declared.flags.Flags.{Flags}
 use Rattle.h2frame.specs.declared.frame.FrameHead.{FrameHead}
 use Rattle.h2frame.specs.declared.kind.FrameKind.{FrameKind}
 use Rattle.h2frame.specs.declared.kind.FrameKind.TheVariants.{Data, Headers, Priority, RstStream, Settings, PushPromise, Ping, GoAway, WindowUpdate, Continuation, Unknown}
@@ -19,10 +20,10 @@ sized_since false true true e = refl
 sized_since false true false e = absurd cc
 sized_since false false sized e = absurd cc
 
-abbrev with_length : FrameKind → ℕ → ℕ → ℕ → FrameHead
+abbrev with_length : FrameKind → Flags → ℕ → ℕ → FrameHead
 with_length kind flags stream n = record { kind = kind; flags = flags; stream = stream; length = n }
 
-room_by_kind : (kind : FrameKind) (flags stream n : ℕ) → may_have_length kind (with_length kind flags stream n) ≡ true → overhead (with_length kind flags stream n) ≤ n
+room_by_kind : (kind : FrameKind) (flags : Flags) (stream n : ℕ) → may_have_length kind (with_length kind flags stream n) ≡ true → overhead (with_length kind flags stream n) ≤ n
 room_by_kind Data flags stream n e = leb-true _ _ e
 room_by_kind Headers flags stream n e = leb-true _ _ e
 room_by_kind Priority flags stream n e = omega arith

@@ -1,17 +1,20 @@
 -- What a step of the reader answers is the next entry, and each fault has its cause.
-use Rattle.std.proofs.Common.{◌≡◌, ℕ, zero, suc, ◌+◌, ◌<◌, ◌≤◌, Bool, true, false, cond, eqb, List, [], ◌∷◌, ◌++◌, length, take, drop, refl, sym, ap, subst, ◌∙◌, arith, inl, inr}
-use Rattle.std.specs.Prelude.{Option, Some, None, IsNone, Result, Ok, Err}
+use Rattle.std.proofs.Common.{◌≡◌, ℕ, zero, suc, ◌+◌, ◌^◌, ◌<◌, ◌≤◌, Bool, true, false, cond, eqb, List, [], ◌∷◌, ◌++◌, length, take, drop, refl, sym, ap, subst, ◌∙◌, arith, inl, inr}
+use Rattle.std.specs.Prelude.{Option, Some, None, IsNone, IfSome, IfOk, Result, Ok, Err}
 use Rattle.std.specs.Option.{option_or}
 use Rattle.std.proofs.lemmas.Bool.{eqb-true, eqb-false, ne_eqb}
 use Rattle.h2frame.specs.declared.fault.FrameFault.{FrameFault}
 use Rattle.h2frame.specs.declared.fault.FrameFault.TheVariants.{TooLong, BadLength, BadPadding, WrongStream, ZeroIncrement, OutOfMemory}
 use Rattle.h2frame.specs.declared.frame.Frame.{Frame}
+use Rattle.h2frame.specs.declared.frame.FrameHead.{FrameHead}
 use Rattle.h2frame.specs.declared.span.Span.{Span}
-use Rattle.h2frame.specs.Faults.{head_fault, lacks_increment, frame_fault}
+use Rattle.h2frame.specs.Flags.{is_padded, has_priority}
+use Rattle.h2frame.specs.Faults.{overhead, head_fault, lacks_increment, frame_fault}
 use Rattle.h2frame.specs.Spelling.{Skipped, Fits, spelling}
-use Rattle.h2frame.specs.FrameList.{Entry, Whole, NoIncrement, IsSpelling, Spells, Joined, IsUnfinished, IsFaulty, StandsAt, refused, answered, HasCause}
+use Rattle.h2frame.specs.FrameList.{Entry, Whole, NoIncrement, IsSpelling, Spells, Joined, IsUnfinished, IsFaulty, StandsAt, refused, answered, HasCause, IsLawful}
 use Rattle.h2frame.specs.Reading.{frame_in, IsSpelledAt, IsDue, IsStep}
-use Rattle.h2frame.proofs.OneReading.{Front, Less, Stops, Takes, front_of, front_of_entry, front_of_faulty, front_of_unfinished}
+use Rattle.h2frame.proofs.OneReading.{Front, Less, Stops, Takes, front_of, front_of_entry, front_of_faulty, front_of_unfinished, fault_parts_some, no_increment_fault, same_stream}
+use Rattle.h2frame.proofs.Payloads.{reads_parts}
 
 -- ---- what stands is answered
 
@@ -153,3 +156,36 @@ above_zero (suc n) e = omega arith
 pub unfinished_iff : (answer : Option (Result Frame FrameFault)) (old new : List ℕ) → IsStep answer old new → (IsNone answer → IsUnfinished old) × (IsUnfinished old → IsNone answer)
 unfinished_iff None old new step = (λ h. step.due, λ h. refl)
 unfinished_iff (Some r) old new step = (λ h. absurd cc, λ h. (let e = none_since (Some r) old new step h in absurd cc))
+
+-- ---- what is read is lawful
+
+no_overhead : (p q : Bool) (content padding total : ℕ) → p ≡ false → q ≡ false → padding ≡ 0 → (cond p 1 0 + cond q 5 0) + content + padding ≡ total → content ≡ total
+no_overhead true q content padding total a b c e = absurd cc
+no_overhead false true content padding total a b c e = absurd cc
+no_overhead false false content padding total a b c e = omega arith
+
+all_content : (p q : Bool) (o : ℕ) (head : FrameHead) (skipped : Skipped) (content : List ℕ) → cond p 1 0 + cond q 5 0 ≡ o → length skipped.priority ≡ cond q 5 0 → (p ≡ false → skipped.padding ≡ [])
+    → length (cond p (length skipped.padding ∷ []) [] ++ (skipped.priority ++ (content ++ skipped.padding))) ≡ head.length
+    → (p ≡ false → q ≡ false → length content ≡ head.length) × (o + length content ≤ head.length)
+all_content p q o head skipped content e size none whole =
+    let read = reads_parts p q skipped.priority content skipped.padding [] size none in
+    ((λ a b. no_overhead p q (length content) (length skipped.padding) head.length a b (ap length (none a)) (omega (arith, whole, read.whole))), omega (arith, whole, read.whole, e))
+
+lawful_since : (text : List ℕ) (frame : Frame) → Spells text (Whole frame) → IsLawful frame
+lawful_since text frame (skipped, fits, spells, fine) =
+    let parts = all_content (is_padded frame.head) (has_priority frame.head) (overhead frame.head) frame.head skipped frame.content refl fits.priority fits.padding fits.payload in
+    record { head = fits.head; fault = fine; whole = parts.0; within = parts.1 }
+
+pub lawful_answer : (answer : Option (Result Frame FrameFault)) (old new : List ℕ) → IsStep answer old new → IfSome answer (λ r. IfOk r IsLawful)
+lawful_answer None old new step = tt
+lawful_answer (Some (Ok frame)) old new step = lawful_since step.taken.0 frame step.taken.3
+lawful_answer (Some (Err fault)) old new step = tt
+
+small_stream : (stream : ℕ) (bytes : List ℕ) → HasCause (ZeroIncrement stream) bytes → stream < 2 ^ 31
+small_stream stream bytes (inr h) = omega (arith, h.0)
+small_stream stream bytes (inl (rest, (text, more, parts, (some, frame, (skipped, fits, spells, faulty)), e))) =
+    let found = fault_parts_some (head_fault frame.head) (lacks_increment frame.head.kind frame.content) (ZeroIncrement frame.head.stream) (ZeroIncrement stream) (no_increment_fault frame.head stream) faulty in
+    omega (arith, fits.head.stream, same_stream frame.head.stream stream found.2)
+
+pub small_answer : (answer : Option (Result Frame FrameFault)) (stream : ℕ) (old new : List ℕ) → IsStep answer old new → answer ≡ Some (Err (ZeroIncrement stream)) → stream < 2 ^ 31
+small_answer answer stream old new step e = small_stream stream old (subst (λ (a : Option (Result Frame FrameFault)). IsDue a old) e step.due)

@@ -2,6 +2,8 @@
 use Rattle.std.specs.Prelude.{ℕ, ◌+◌, ◌^◌, ◌%◌, Bool, true, false, ◌==◌, nat_lt, nat_le, if◌then◌else◌, List, Option, Some, None}
 use Rattle.std.specs.Option.{option_or}
 use Rattle.std.specs.Int.{w32, from_be_bytes}
+use Rattle.h2frame.specs.declared.error_code.ErrorCode.{ErrorCode}
+use Rattle.h2frame.specs.declared.error_code.ErrorCode.TheVariants.{ProtocolError, InternalError, FrameSizeError}
 use Rattle.h2frame.specs.declared.fault.FrameFault.{FrameFault}
 use Rattle.h2frame.specs.declared.fault.FrameFault.TheVariants.{TooLong, BadLength, BadPadding, WrongStream, ZeroIncrement, OutOfMemory}
 use Rattle.h2frame.specs.declared.frame.Frame.{Frame}
@@ -68,13 +70,13 @@ frame_fault frame = option_or (head_fault frame.head)
     (if lacks_increment frame.head.kind frame.content then Some (ZeroIncrement frame.head.stream) else None)
 
 -- the error that a fault is to the peer (RFC 9113, sections 4.2 and 6)
-abbrev pub error_of : FrameFault → ℕ
-error_of TooLong = 6
-error_of BadLength = 6
-error_of BadPadding = 1
-error_of WrongStream = 1
-error_of (ZeroIncrement stream) = 1
-error_of OutOfMemory = 2
+abbrev pub fault_error : FrameFault → ErrorCode
+fault_error TooLong = FrameSizeError
+fault_error BadLength = FrameSizeError
+fault_error BadPadding = ProtocolError
+fault_error WrongStream = ProtocolError
+fault_error (ZeroIncrement stream) = ProtocolError
+fault_error OutOfMemory = InternalError
 
 -- a number for each fault
 abbrev pub fault_code : FrameFault → ℕ

@@ -1,10 +1,10 @@
 -- The frames of the bytes that follow a connection's preface (RFC 9113, sections 4.1 and 6).
-use Rattle.std.specs.Prelude.{◌≡◌, ℕ, ◌+◌, ◌<◌, ◌≤◌, ◌⊎◌, true, ◌==◌, if◌then◌else◌, List, [], ◌∷◌, ◌++◌, length, Option, Some, None, Result, Ok, Err}
+use Rattle.std.specs.Prelude.{◌≡◌, ℕ, ◌+◌, ◌<◌, ◌≤◌, ◌⊎◌, true, false, ◌==◌, if◌then◌else◌, List, [], ◌∷◌, ◌++◌, length, Option, Some, None, Result, Ok, Err}
 use Rattle.h2frame.specs.declared.fault.FrameFault.{FrameFault}
 use Rattle.h2frame.specs.declared.fault.FrameFault.TheVariants.{TooLong, BadLength, BadPadding, WrongStream, ZeroIncrement, OutOfMemory}
 use Rattle.h2frame.specs.declared.frame.Frame.{Frame}
 use Rattle.h2frame.specs.declared.frame.FrameHead.{FrameHead}
-use Rattle.h2frame.specs.Flags.{is_padded}
+use Rattle.h2frame.specs.Flags.{is_padded, has_priority}
 use Rattle.h2frame.specs.Faults.{overhead, head_fault, frame_fault}
 use Rattle.h2frame.specs.Spelling.{Skipped, IsHead, Fits, head_text, spelling}
 
@@ -62,6 +62,14 @@ abbrev pub FrameList : List ℕ → List Entry → Option FrameFault → Type 0
 FrameList bytes entries end = (rest : List ℕ) × Joined bytes entries rest × Ends end rest
 
 -- ---- a reader's answers
+
+-- what each frame that is read has
+pub record IsLawful (frame : Frame) : Type 0 where
+  pub head : IsHead frame.head
+  pub fault : frame_fault frame ≡ None
+  -- all of the payload is content, where nothing is skipped
+  pub whole : is_padded frame.head ≡ false → has_priority frame.head ≡ false → length frame.content ≡ frame.head.length
+  pub within : overhead frame.head + length frame.content ≤ frame.head.length
 
 -- the bytes begin with this entry
 abbrev pub StandsAt : Entry → List ℕ → Type 0

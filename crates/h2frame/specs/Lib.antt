@@ -1,6 +1,7 @@
 pub mod Kind
 pub mod Flags
 pub mod Setting
+pub mod ErrorCode
 pub mod Faults
 pub mod Spelling
 pub mod FrameList

@@ -16,7 +16,7 @@ use Rattle.h2frame.specs.FrameList.{Joined, IsUnfinished, IsFaulty, answered, Ha
 unfoldable pub head_at : List ℕ → FrameHead
 head_at bytes = record {
   kind = kind_of (slice_index bytes 3);
-  flags = slice_index bytes 4;
+  flags = record { bits = slice_index bytes 4 };
   stream = from_be_bytes w32 (slice_index bytes 5 ∷ slice_index bytes 6 ∷ slice_index bytes 7 ∷ slice_index bytes 8 ∷ []) % 2 ^ 31;
   length = from_be_bytes w32 (0 ∷ slice_index bytes 0 ∷ slice_index bytes 1 ∷ slice_index bytes 2 ∷ []);
 }

@@ -16,7 +16,7 @@ pub record Skipped : Type 0 where
 
 -- nine bytes: the payload's length in three, type, flags, and the reserved bit before the stream in four
 abbrev pub head_text : ℕ → FrameHead → List ℕ
-head_text reserved head = bytes_high_first 3 head.length ++ code_of head.kind ∷ head.flags ∷ bytes_high_first 4 (reserved * 2 ^ 31 + head.stream)
+head_text reserved head = bytes_high_first 3 head.length ++ code_of head.kind ∷ head.flags.bits ∷ bytes_high_first 4 (reserved * 2 ^ 31 + head.stream)
 
 -- the content, behind the padding's length and the priority where the flags have them, and before the padding
 abbrev pub payload_text : FrameHead → Skipped → List ℕ → List ℕ

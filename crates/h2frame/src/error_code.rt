@@ -1,66 +1,74 @@
 //! Error codes.
 
 ghost use Rattle.std.specs.Prelude.{◌≡◌};
+ghost use Rattle.h2frame.specs.ErrorCode.{error_of, error_number};
 
-use std::marker::Model;
-
-/// Why a stream or a connection ends, as RST_STREAM and GOAWAY carry it (RFC 9113, section 7). Codes that the standard
-/// doesn't name are kept as they are. A clause sees it as its number.
-#[derive(Clone, Copy, Debug, PartialEq, Eq, Hash)]
-pub struct ErrorCode {
-    code: u32,
-}
-
-impl Model for ErrorCode {
-    ghost use Rattle.std.specs.Prelude.{ℕ};
-
-    ghost Value = { ℕ };
-
-    ghost view = { λ error. error.code };
-
-    ghost inverse = { λ code. record { code = code } };
+/// Why a stream or a connection ends, as RST_STREAM and GOAWAY carry it (RFC 9113, section 7).
+#[derive(Clone, Copy, Debug, PartialEq, Eq)]
+pub enum ErrorCode {
+    NoError,
+    ProtocolError,
+    InternalError,
+    FlowControlError,
+    SettingsTimeout,
+    StreamClosed,
+    FrameSizeError,
+    RefusedStream,
+    Cancel,
+    CompressionError,
+    ConnectError,
+    EnhanceYourCalm,
+    InadequateSecurity,
+    Http11Required,
+    /// One that the standard doesn't define, by its number.
+    Unknown(u32),
 }
 
 impl ErrorCode {
-    pub const NO_ERROR: ErrorCode = ErrorCode { code: 0x0 };
-
-    pub const PROTOCOL_ERROR: ErrorCode = ErrorCode { code: 0x1 };
-
-    pub const INTERNAL_ERROR: ErrorCode = ErrorCode { code: 0x2 };
-
-    pub const FLOW_CONTROL_ERROR: ErrorCode = ErrorCode { code: 0x3 };
-
-    pub const SETTINGS_TIMEOUT: ErrorCode = ErrorCode { code: 0x4 };
-
-    pub const STREAM_CLOSED: ErrorCode = ErrorCode { code: 0x5 };
-
-    pub const FRAME_SIZE_ERROR: ErrorCode = ErrorCode { code: 0x6 };
-
-    pub const REFUSED_STREAM: ErrorCode = ErrorCode { code: 0x7 };
-
-    pub const CANCEL: ErrorCode = ErrorCode { code: 0x8 };
-
-    pub const COMPRESSION_ERROR: ErrorCode = ErrorCode { code: 0x9 };
-
-    pub const CONNECT_ERROR: ErrorCode = ErrorCode { code: 0xa };
-
-    pub const ENHANCE_YOUR_CALM: ErrorCode = ErrorCode { code: 0xb };
-
-    pub const INADEQUATE_SECURITY: ErrorCode = ErrorCode { code: 0xc };
-
-    pub const HTTP_1_1_REQUIRED: ErrorCode = ErrorCode { code: 0xd };
-
-    /// The error of four bytes of a frame.
+    /// The error of a number, which every number has.
     pub fn from_code(code: u32) -> ErrorCode
-        ensures { result ≡ code }
+        ensures value { result ≡ error_of code }
+        ensures back { error_number result ≡ code }
     {
-        ErrorCode { code }
+        match code {
+            0 => ErrorCode::NoError,
+            1 => ErrorCode::ProtocolError,
+            2 => ErrorCode::InternalError,
+            3 => ErrorCode::FlowControlError,
+            4 => ErrorCode::SettingsTimeout,
+            5 => ErrorCode::StreamClosed,
+            6 => ErrorCode::FrameSizeError,
+            7 => ErrorCode::RefusedStream,
+            8 => ErrorCode::Cancel,
+            9 => ErrorCode::CompressionError,
+            10 => ErrorCode::ConnectError,
+            11 => ErrorCode::EnhanceYourCalm,
+            12 => ErrorCode::InadequateSecurity,
+            13 => ErrorCode::Http11Required,
+            _ => ErrorCode::Unknown(code),
+        }
     }
 
     /// The number in the frame.
     pub fn code(self) -> u32
-        ensures { result ≡ self }
+        ensures { result ≡ error_number self }
     {
-        self.code
+        match self {
+            ErrorCode::NoError => 0,
+            ErrorCode::ProtocolError => 1,
+            ErrorCode::InternalError => 2,
+            ErrorCode::FlowControlError => 3,
+            ErrorCode::SettingsTimeout => 4,
+            ErrorCode::StreamClosed => 5,
+            ErrorCode::FrameSizeError => 6,
+            ErrorCode::RefusedStream => 7,
+            ErrorCode::Cancel => 8,
+            ErrorCode::CompressionError => 9,
+            ErrorCode::ConnectError => 10,
+            ErrorCode::EnhanceYourCalm => 11,
+            ErrorCode::InadequateSecurity => 12,
+            ErrorCode::Http11Required => 13,
+            ErrorCode::Unknown(code) => code,
+        }
     }
 }

@@ -2,7 +2,7 @@
 
 ghost use Rattle.std.specs.Prelude.{◌≡◌};
 ghost use Rattle.h2frame.specs.declared.fault.FrameFault.TheVariants.{OutOfMemory};
-ghost use Rattle.h2frame.specs.Faults.{error_of, fault_code};
+ghost use Rattle.h2frame.specs.Faults.{fault_code, fault_error};
 
 use crate::{ErrorCode, StreamId};
 use std::alloc::{AllocError, AllocFailed};
@@ -46,14 +46,14 @@ impl FrameFault {
 
     /// The error that the peer is told of the connection, or of the stream where `ZeroIncrement` names one.
     pub fn error_code(self) -> ErrorCode
-        ensures { result ≡ error_of self }
+        ensures { result ≡ fault_error self }
     {
         match self {
-            FrameFault::TooLong | FrameFault::BadLength => ErrorCode::FRAME_SIZE_ERROR,
+            FrameFault::TooLong | FrameFault::BadLength => ErrorCode::FrameSizeError,
             FrameFault::BadPadding | FrameFault::WrongStream | FrameFault::ZeroIncrement(_) => {
-                ErrorCode::PROTOCOL_ERROR
+                ErrorCode::ProtocolError
             }
-            FrameFault::OutOfMemory => ErrorCode::INTERNAL_ERROR,
+            FrameFault::OutOfMemory => ErrorCode::InternalError,
         }
     }
 }

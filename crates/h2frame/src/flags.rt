@@ -3,23 +3,11 @@
 ghost use Rattle.std.specs.Prelude.{◌≡◌, bit_or};
 ghost use Rattle.h2frame.specs.Flags.{has};
 
-use std::marker::Model;
-
-/// The eight flags of a frame, those without a meaning too (RFC 9113, section 4.1). A clause sees them as one
-/// number of eight bits.
+/// The eight flags of a frame, those without a meaning too (RFC 9113, section 4.1).
 #[derive(Clone, Copy, Debug, PartialEq, Eq)]
 pub struct Flags {
-    bits: u8,
-}
-
-impl Model for Flags {
-    ghost use Rattle.std.specs.Prelude.{ℕ};
-
-    ghost Value = { ℕ };
-
-    ghost view = { λ flags. flags.bits };
-
-    ghost inverse = { λ bits. record { bits = bits } };
+    /// The byte in the frame's head.
+    pub bits: u8,
 }
 
 impl Flags {
@@ -36,30 +24,16 @@ impl Flags {
     /// HEADERS: the payload has five bytes of priority.
     pub const PRIORITY: Flags = Flags { bits: 0x20 };
 
-    /// The flags of a byte, of which none is lost.
-    pub fn from_bits(bits: u8) -> Flags
-        ensures { result ≡ bits }
-    {
-        Flags { bits }
-    }
-
-    /// The byte in the frame's head.
-    pub fn bits(self) -> u8
-        ensures { result ≡ self }
-    {
-        self.bits
-    }
-
     /// Whether all of the other's flags are set.
     pub fn contains(self, other: Flags) -> bool
-        ensures { result ≡ has other self }
+        ensures { result ≡ has other.bits self }
     {
         self.bits & other.bits == other.bits
     }
 
     /// These flags and the other's.
     pub fn with(self, other: Flags) -> Flags
-        ensures { result ≡ bit_or self other }
+        ensures { result.bits ≡ bit_or self.bits other.bits }
     {
         Flags {
             bits: self.bits | other.bits,

@@ -4,11 +4,14 @@ ghost use Rattle.std.specs.Prelude.{◌≡◌, ◌<◌, ◌≤◌, ◌^◌, leng
 ghost use Rattle.h2frame.specs.Flags.{is_padded, has_priority};
 ghost use Rattle.h2frame.specs.Faults.{may_be_on, may_have_length, overhead, head_fault, frame_fault, increment_of, lacks_increment};
 
-use crate::{Flags, FrameFault, FrameKind, StreamId};
+use crate::{Flags, FrameFault, FrameKind};
 use bytes::Bytes;
 
 /// The longest payload that is read or written: SETTINGS_MAX_FRAME_SIZE as RFC 9113, section 6.5.2, has it at first.
 pub const MAX_PAYLOAD: u32 = 16_384;
+
+/// The number of a stream, below 2^31, or 0 for the connection as a whole (RFC 9113, section 5.1.1).
+pub type StreamId = u32;
 
 /// The head of a frame (RFC 9113, section 4.1).
 #[derive(Clone, Copy, Debug, PartialEq, Eq)]
@@ -65,10 +68,8 @@ impl FrameHead {
             | FrameKind::Headers
             | FrameKind::Priority
             | FrameKind::RstStream
-            | FrameKind::Continuation => !self.stream.is_connection(),
-            FrameKind::Settings | FrameKind::Ping | FrameKind::GoAway => {
-                self.stream.is_connection()
-            }
+            | FrameKind::Continuation => self.stream != 0,
+            FrameKind::Settings | FrameKind::Ping | FrameKind::GoAway => { self.stream == 0 }
             FrameKind::PushPromise | FrameKind::WindowUpdate | FrameKind::Unknown(_) => true,
         }
     }

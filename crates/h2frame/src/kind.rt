@@ -1,9 +1,7 @@
 //! The types of frames.
 
-ghost use Rattle.std.specs.Prelude.{◌≡◌, ◌≤◌};
+ghost use Rattle.std.specs.Prelude.{◌≡◌};
 ghost use Rattle.h2frame.specs.Kind.{kind_of, code_of};
-
-use std::marker::Model;
 
 /// The type of a frame (RFC 9113, section 6).
 #[derive(Clone, Copy, Debug, PartialEq, Eq)]
@@ -28,42 +26,15 @@ pub enum FrameKind {
     WindowUpdate,
     /// A further fragment of a header block (section 6.10).
     Continuation,
-    /// A type that the standard does not define (section 5.5).
-    Unknown(UnknownKind),
-}
-
-/// The code of a type that RFC 9113 does not define: 10 to 255. A clause sees it as that number.
-#[derive(Clone, Copy, Debug, PartialEq, Eq)]
-pub struct UnknownKind {
-    code: u8,
-}
-
-impl Model for UnknownKind {
-    ghost use Rattle.std.specs.Prelude.{ℕ, ◌≤◌};
-
-    ghost Value = { ℕ };
-
-    ghost view = { λ kind. kind.code };
-
-    ghost invariant = { λ kind. 10 ≤ kind.code };
-
-    ghost inverse = { λ code. record { code = code } };
-}
-
-impl UnknownKind {
-    /// The code in the frame's head.
-    pub fn code(self) -> u8
-        ensures value { result ≡ self }
-        ensures beyond { 10 ≤ result }
-    {
-        self.code
-    }
+    /// A type that the standard does not define (section 5.5), by its code, which is 10 or more.
+    Unknown(u8),
 }
 
 impl FrameKind {
     /// The type of a code, which every code has.
     pub fn from_code(code: u8) -> FrameKind
-        ensures { result ≡ kind_of code }
+        ensures value { result ≡ kind_of code }
+        ensures back { code_of result ≡ code }
     {
         match code {
             0 => FrameKind::Data,
@@ -76,14 +47,13 @@ impl FrameKind {
             7 => FrameKind::GoAway,
             8 => FrameKind::WindowUpdate,
             9 => FrameKind::Continuation,
-            _ => FrameKind::Unknown(UnknownKind { code }),
+            _ => FrameKind::Unknown(code),
         }
     }
 
     /// The code in the frame's head.
     pub fn code(self) -> u8
-        ensures value { result ≡ code_of self }
-        ensures back { kind_of result ≡ self }
+        ensures { result ≡ code_of self }
     {
         match self {
             FrameKind::Data => 0,
@@ -96,7 +66,7 @@ impl FrameKind {
             FrameKind::GoAway => 7,
             FrameKind::WindowUpdate => 8,
             FrameKind::Continuation => 9,
-            FrameKind::Unknown(kind) => kind.code(),
+            FrameKind::Unknown(code) => code,
         }
     }
 }

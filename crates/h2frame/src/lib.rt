@@ -10,18 +10,16 @@ mod laws;
 mod reader;
 mod setting;
 mod span;
-mod stream;
 mod writer;
 
 pub use error_code::ErrorCode;
 pub use fault::FrameFault;
 pub use flags::Flags;
-pub use frame::{Frame, FrameHead, MAX_PAYLOAD, increment};
-pub use kind::{FrameKind, UnknownKind};
+pub use frame::{Frame, FrameHead, MAX_PAYLOAD, StreamId, increment};
+pub use kind::FrameKind;
 pub use laws::{goes_on, joins, one_reading};
 pub use reader::FrameReader;
 pub use setting::SettingId;
-pub use stream::StreamId;
 pub use writer::write_frame;
 
 #[cfg(test)]

@@ -1,7 +1,7 @@
 //! Reading frames from bytes that come in pieces.
 
-ghost use Rattle.std.specs.Prelude.{◌≡◌, ◌≢◌, ◌+◌, ◌≤◌, ◌↔◌, List, ℕ, [], ◌∷◌, ◌++◌, length, take, drop, Some, Err, IsNone, IfOk, IfErr, IfSome, OnOk, OnErr, IsOkUnless};
-ghost use Rattle.h2frame.specs.FrameList.{Entry, Whole, Joined, IsUnfinished, IsFaulty, answered, HasCause};
+ghost use Rattle.std.specs.Prelude.{◌≡◌, ◌≢◌, ◌+◌, ◌^◌, ◌<◌, ◌≤◌, ◌↔◌, List, ℕ, [], ◌∷◌, ◌++◌, length, take, drop, Some, Err, IsNone, IfOk, IfErr, IfSome, OnOk, OnErr, IsOkUnless};
+ghost use Rattle.h2frame.specs.FrameList.{Entry, Whole, Joined, IsUnfinished, IsFaulty, IsLawful, answered, HasCause};
 ghost use Rattle.h2frame.specs.Reading.{IsSpelledAt, IsStep};
 
 use crate::frame::lacks_increment;
@@ -61,6 +61,9 @@ impl FrameReader {
             Joined bytes entries self.old → Joined bytes (entries ++ answered result) self.new }
         ensures unfinished { IsNone result ↔ IsUnfinished self.old }
 
+        ensures lawful { IfSome result (λ r. IfOk r IsLawful) }
+        ensures stream { (stream : ℕ) → result ≡ Some (Err (FrameFault.ZeroIncrement stream)) → stream < 2 ^ 31 }
+
         // A fault that stands is answered, and goes on to stand.
         ensures repeats { (fault : FrameFault) → IsFaulty fault self.old → (result ≡ Some (Err fault)) × (self.new ≡ self.old) }
         ensures cause { IfSome result (λ r. IfErr r (λ fault. HasCause fault self.old)) }
@@ -89,7 +92,8 @@ fn take_frame(buffer: &mut BytesMut, span: &Span) -> Result<Frame, FrameFault>
     ensures { IsStep (Some result) buffer.old.items buffer.new.items }
 {
     if lacks_increment(span.head.kind, span.content_of(buffer.as_slice())) {
-        if !span.head.stream.is_connection() {
+        let of_stream = span.head.stream != 0;
+        if of_stream {
             buffer.advance(HEAD_LEN + span.head.length as usize);
         }
         return Err(FrameFault::ZeroIncrement(span.head.stream));

@@ -12,14 +12,15 @@ pub enum SettingId {
     InitialWindowSize,
     MaxFrameSize,
     MaxHeaderListSize,
-    /// One that the standard doesn't define, which is ignored.
+    /// One that the standard doesn't define, by its number.
     Unknown(u16),
 }
 
 impl SettingId {
     /// The parameter of a number, which every number has.
     pub fn from_code(code: u16) -> SettingId
-        ensures { result ≡ setting_of code }
+        ensures value { result ≡ setting_of code }
+        ensures back { setting_code result ≡ code }
     {
         match code {
             1 => SettingId::HeaderTableSize,

@@ -4,7 +4,7 @@ ghost use Rattle.std.specs.Prelude.{◌≡◌, ◌+◌, ◌≤◌, length, IfOk,
 ghost use Rattle.h2frame.specs.Faults.{overhead};
 ghost use Rattle.h2frame.specs.Reading.{head_at, content_at, frame_at, span_at, frame_in, IsFront};
 
-use crate::{Flags, FrameFault, FrameHead, FrameKind, StreamId};
+use crate::{Flags, FrameFault, FrameHead, FrameKind};
 
 /// The bytes of a frame's head.
 pub(crate) const HEAD_LEN: usize = 9;
@@ -54,8 +54,8 @@ fn head_at(bytes: &[u8]) -> FrameHead
     let stream = u32::from_be_bytes([bytes[5], bytes[6], bytes[7], bytes[8]]);
     FrameHead {
         kind: FrameKind::from_code(bytes[3]),
-        flags: Flags::from_bits(bytes[4]),
-        stream: StreamId::from_bits(stream),
+        flags: Flags { bits: bytes[4] },
+        stream: stream & 0x7fff_ffff,
         length: u32::from_be_bytes([0, bytes[0], bytes[1], bytes[2]]),
     }
 }

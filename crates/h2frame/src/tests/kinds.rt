@@ -118,8 +118,8 @@ fn each_kind_is_read(rt: HostRuntime) -> Result<(), Fail> {
         let content = content.get(..len).ok_or("the content ends behind the end")?;
         let head = FrameHead {
             kind: FrameKind::from_code(code),
-            flags: Flags::from_bits(flags),
-            stream: StreamId::from_bits(stream),
+            flags: Flags { bits: flags },
+            stream,
             length,
         };
         for step in [1, 2, 3, 9, 10, 1000, 20000] {
@@ -202,12 +202,8 @@ fn what_is_written_is_read(rt: HostRuntime) -> Result<(), Fail> {
         let content = Bytes::copy_from_slice(alloc, payload.as_slice())?;
         assert!(rt; content.len() <= 16384);
         let kind = FrameKind::from_code(code);
-        let frame = Frame::new(
-            kind,
-            Flags::from_bits(flags),
-            StreamId::from_bits(stream),
-            content,
-        );
+        let frame = Frame::new(kind, Flags { bits: flags }, stream, content);
+        assert!(rt; stream < 0x8000_0000);
         assert!(rt; !frame.head.is_padded() && !frame.head.has_priority());
         out.clear();
         write_frame(&frame, &mut out)?;
@@ -228,21 +224,14 @@ fn what_is_written_is_read(rt: HostRuntime) -> Result<(), Fail> {
 #[test]
 fn faulty_frames_are_not_written(rt: HostRuntime) -> Result<(), Fail> {
     let alloc = rt.alloc();
-    let stream = StreamId::new(3);
     let cases: [(u8, u8, u32, u32, FrameFault); 8] = [
         (0, 0x00, 1, 16385, FrameFault::TooLong),
         (0, 0x00, 0, 1, FrameFault::WrongStream),
         (4, 0x00, 1, 6, FrameFault::WrongStream),
         (4, 0x01, 0, 6, FrameFault::BadLength),
         (6, 0x00, 0, 7, FrameFault::BadLength),
-        (8, 0x00, 3, 4, FrameFault::ZeroIncrement(stream)),
-        (
-            8,
-            0x00,
-            0,
-            4,
-            FrameFault::ZeroIncrement(StreamId::CONNECTION),
-        ),
+        (8, 0x00, 3, 4, FrameFault::ZeroIncrement(3)),
+        (8, 0x00, 0, 4, FrameFault::ZeroIncrement(0)),
         (9, 0x00, 0, 0, FrameFault::WrongStream),
     ];
     let mut out = Vec::from_slice(alloc, b"kept")?;
@@ -250,12 +239,8 @@ fn faulty_frames_are_not_written(rt: HostRuntime) -> Result<(), Fail> {
         let zeros = vec![in alloc; 0u8; length as usize]?;
         let content = Bytes::copy_from_slice(alloc, zeros.as_slice())?;
         let kind = FrameKind::from_code(code);
-        let frame = Frame::new(
-            kind,
-            Flags::from_bits(flags),
-            StreamId::from_bits(stream),
-            content,
-        );
+        let frame = Frame::new(kind, Flags { bits: flags }, stream, content);
+        assert!(rt; stream < 0x8000_0000);
         assert!(rt; !frame.head.is_padded() && !frame.head.has_priority());
         assert!(rt; write_frame(&frame, &mut out) == Err(want), "type {code}");
         assert_eq!(rt; out.as_slice(), b"kept".as_slice());
@@ -266,12 +251,12 @@ fn faulty_frames_are_not_written(rt: HostRuntime) -> Result<(), Fail> {
 #[test]
 fn flags(rt: HostRuntime) {
     let flags = Flags::END_STREAM.with(Flags::END_HEADERS);
-    assert_eq!(rt; flags.bits(), 0x05);
+    assert_eq!(rt; flags.bits, 0x05);
     assert!(rt; flags.contains(Flags::END_STREAM));
     assert!(rt; flags.contains(Flags::NONE));
     assert!(rt; !flags.contains(Flags::PADDED));
     assert!(rt; !flags.contains(Flags::PRIORITY.with(Flags::END_STREAM)));
-    assert!(rt; Flags::from_bits(0xff).contains(flags));
+    assert!(rt; Flags { bits: 0xff }.contains(flags));
     assert!(rt; Flags::ACK == Flags::END_STREAM);
 }
 

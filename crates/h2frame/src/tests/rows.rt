@@ -104,14 +104,8 @@ fn entries(rt: HostRuntime) -> Result<(), Fail> {
             "000005050c00000001 0100000002",
             "PushPromise 0c 1 5 0100000002\n",
         ),
-        (
-            "0000030a2800000000 010203",
-            "Unknown(UnknownKind { code: 10 }) 28 0 3 010203\n",
-        ),
-        (
-            "000000ffff00000000",
-            "Unknown(UnknownKind { code: 255 }) ff 0 0 \n",
-        ),
+        ("0000030a2800000000 010203", "Unknown(10) 28 0 3 010203\n"),
+        ("000000ffff00000000", "Unknown(255) ff 0 0 \n"),
         // several, with flags that have no meaning
         (
             "000005020000000001 0000000010 00000806fe00000000 0102030405060708 000001090400000001 82",

@@ -1,20 +1,17 @@
-use Rattle.std.proofs.Common.{Some, Err, sym, ◌∙◌}
+use Rattle.std.proofs.Common.{arith}
 use Rattle.std.proofs.lemmas.Result.{err_from_is_err_and}
-use Rattle.std.proofs.lemmas.Bool.{eqb-true}
-use Rattle.h2frame.proofs.Steps.{frame_step, memory_step, connection_step, stream_step, tested, above_zero}
-use Rattle.h2frame.specs.declared.fault.FrameFault.TheVariants.{ZeroIncrement}
-use Rattle.h2frame.specs.Reading.{IsStep}
+use Rattle.h2frame.proofs.Steps.{frame_step, memory_step, connection_step, stream_step, tested}
 use Rattle.h2frame.proofs.reader.take_frame.Goals as goal
-use Rattle.h2frame.proofs.reader.take_frame.Goals.{then-not-is_connection, else-not-is_connection}
+use Rattle.h2frame.proofs.reader.take_frame.Goals.{then-of_stream, else-of_stream}
 
 pub returns-then-lacks_increment : goal.returns-then-lacks_increment
 returns-then-lacks_increment c =
     let lacks = tested c.args.span.now c.args.buffer.now.items c.as_slice.result.now c.content_of.result.now _ _ c.as_slice.ensures c.content_of.ensures.value c.lacks_increment.ensures c.if-lacks_increment.true in
-    elim c.if-not-is_connection.branch [
-      | then-not-is_connection w ↦ rw (w.buffer-is, w.advance.ensures.items)
-          (stream_step c.args.span.now c.args.buffer.now.items c.requires.spelled lacks (above_zero c.args.span.now.head.stream (sym c.is_connection.ensures ∙ w.if-not-is_connection.true)))
-      | else-not-is_connection w ↦ rw w.buffer-is
-          (connection_step c.args.span.now c.args.buffer.now.items c.requires.spelled lacks (eqb-true c.args.span.now.head.stream 0 (sym c.is_connection.ensures ∙ w.if-not-is_connection.false)))
+    elim c.if-of_stream.branch [
+      | then-of_stream w ↦ rw (w.buffer-is, w.advance.ensures.items)
+          (stream_step c.args.span.now c.args.buffer.now.items c.requires.spelled lacks (omega (arith, w.if-of_stream.true)))
+      | else-of_stream w ↦ rw w.buffer-is
+          (connection_step c.args.span.now c.args.buffer.now.items c.requires.spelled lacks (omega (arith, w.if-of_stream.false)))
     ]
 
 pub returns-in_err-content : goal.returns-in_err-content

@@ -2,7 +2,7 @@ use Rattle.std.proofs.Common.{List, ℕ, subst}
 use Rattle.h2frame.specs.FrameList.{answered}
 use Rattle.h2frame.specs.Reading.{IsStep}
 use Rattle.h2frame.proofs.Lists.{joined_append}
-use Rattle.h2frame.proofs.Steps.{unfinished_iff, fault_since, kept_since, fault_answers_none}
+use Rattle.h2frame.proofs.Steps.{unfinished_iff, fault_since, kept_since, fault_answers_none, lawful_answer, small_answer}
 use Rattle.h2frame.proofs.reader.FrameReader.next.Goals as goal
 use Rattle.h2frame.proofs.reader.FrameReader.next.Goals.{After-step}
 
@@ -20,3 +20,9 @@ pub returns-clause-repeats : goal.returns-clause-repeats
 returns-clause-repeats c = λ fault stands.
     let e = fault_since c.step.result fault c.args.self.now c.step.new.buffer.items (taken c) stands in
     (e, kept_since c.step.result c.args.self.now c.step.new.buffer.items (taken c) (fault_answers_none c.step.result fault c.args.self.now e stands))
+
+pub returns-clause-lawful : goal.returns-clause-lawful
+returns-clause-lawful c = lawful_answer c.step.result c.args.self.now c.step.new.buffer.items (taken c)
+
+pub returns-clause-stream : goal.returns-clause-stream
+returns-clause-stream c = λ stream e. small_answer c.step.result stream c.args.self.now c.step.new.buffer.items (taken c) e
