@@ -1,9 +1,9 @@
 -- Each byte list has a frame list, and what is written is one.
-use Rattle.std.proofs.Common.{◌≡◌, ℕ, zero, suc, ◌+◌, ◌<◌, ◌≤◌, Bool, true, false, cond, eqb, List, [], ◌∷◌, ◌++◌, length, get_or, drop, refl, sym, ap, subst, ◌∙◌, append_assoc, arith, All, inl, inr}
+use Rattle.std.proofs.Common.{◌≡◌, ℕ, zero, suc, ◌+◌, ◌<◌, ◌≤◌, Bool, true, false, cond, eqb, List, [], ◌∷◌, ◌++◌, length, drop, refl, sym, ap, subst, ◌∙◌, arith, All, inl, inr}
 use Rattle.std.specs.Prelude.{Option, Some, None, Result, Ok, Err, map, flat_map}
 use Rattle.std.specs.List.{AllByRecursion}
 use Rattle.std.proofs.lemmas.Bool.{cases_lt, cases_Bool, eqb-true}
-use Rattle.std.proofs.lemmas.List.{append-nil, length-append, get_or_past, get_or-append_right}
+use Rattle.std.proofs.lemmas.List.{append-nil, length-append, get_or_past}
 use Rattle.std.proofs.lemmas.List.Elements.{All-get_or}
 use Rattle.std.proofs.lemmas.List.Concat.{flat_map-cons}
 use Rattle.h2frame.specs.declared.fault.FrameFault.{FrameFault}
@@ -12,9 +12,9 @@ use Rattle.h2frame.specs.declared.frame.Frame.{Frame}
 use Rattle.h2frame.specs.declared.span.Span.{Span}
 use Rattle.h2frame.specs.Flags.{is_padded, has_priority}
 use Rattle.h2frame.specs.Faults.{lacks_increment, frame_fault}
-use Rattle.h2frame.specs.Spelling.{Skipped, IsHead, Fits, head_text, payload_text, spelling, spelled}
-use Rattle.h2frame.specs.FrameList.{Entry, Whole, NoIncrement, Spells, Joined, Ends, FrameList, answered}
-use Rattle.h2frame.specs.Reading.{span_at, frame_in, IsSpelledAt, IsFront, IsStep}
+use Rattle.h2frame.specs.Spelling.{Skipped, IsHead, head_text, spelled}
+use Rattle.h2frame.specs.FrameList.{Entry, Whole, NoIncrement, Spells, Joined, Ends, FrameList}
+use Rattle.h2frame.specs.Reading.{span_at, frame_in, IsSpelledAt, IsFront}
 use Rattle.h2frame.proofs.Heads.{AreBytes}
 use Rattle.h2frame.proofs.Fronts.{front}
 use Rattle.h2frame.proofs.Steps.{frame_step, stream_entry, connection_fault, above_zero}

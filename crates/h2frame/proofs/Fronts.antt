@@ -1,18 +1,17 @@
 -- What is read at the front of bytes stands there.
-use Rattle.std.proofs.Common.{◌≡◌, ℕ, zero, suc, ◌+◌, ◌-◌, ◌<◌, ◌≤◌, Bool, true, false, cond, ltb, List, [], ◌∷◌, ◌++◌, length, get_or, take, drop, refl, sym, ap, subst, ◌∙◌, append_assoc, arith, inl, inr}
+use Rattle.std.proofs.Common.{◌≡◌, ℕ, ◌+◌, ◌-◌, ◌<◌, ◌≤◌, Bool, true, false, cond, ltb, List, ◌∷◌, ◌++◌, length, get_or, take, drop, refl, sym, ap, subst, ◌∙◌, append_assoc, arith, inl, inr}
 use Rattle.std.specs.Prelude.{Option, Some, None, Result, Ok, Err}
 use Rattle.std.proofs.lemmas.Bool.{cond_both, ltb-true, ltb-false}
-use Rattle.std.proofs.lemmas.List.{take-append-drop, drop-drop, length-append, length-take, length-drop, get_or-take, get_or-drop, drop_more}
+use Rattle.std.proofs.lemmas.List.{take-append-drop, drop-drop, length-take, length-drop, get_or-take, get_or-drop, drop_more}
 use Rattle.h2frame.specs.declared.fault.FrameFault.{FrameFault}
-use Rattle.h2frame.specs.declared.fault.FrameFault.TheVariants.{TooLong, BadLength, BadPadding, WrongStream, ZeroIncrement, OutOfMemory}
-use Rattle.h2frame.specs.declared.frame.Frame.{Frame}
+use Rattle.h2frame.specs.declared.fault.FrameFault.TheVariants.{TooLong, BadLength, BadPadding, WrongStream}
 use Rattle.h2frame.specs.declared.frame.FrameHead.{FrameHead}
 use Rattle.h2frame.specs.declared.span.Span.{Span}
 use Rattle.h2frame.specs.Flags.{is_padded, has_priority}
 use Rattle.h2frame.specs.Faults.{max_payload, may_be_on, may_have_length, overhead, head_fault}
-use Rattle.h2frame.specs.Spelling.{Skipped, IsHead, Fits, head_text, payload_text, spelling}
-use Rattle.h2frame.specs.FrameList.{BeginsWith, IsUnfinished, HasFaultyHead, IsOverpadded, IsFaulty}
-use Rattle.h2frame.specs.Reading.{head_at, padding_at, content_at, unless_faulty, frame_at, span_at, frame_in, IsSpelledAt, IsFront}
+use Rattle.h2frame.specs.Spelling.{Skipped, head_text}
+use Rattle.h2frame.specs.FrameList.{BeginsWith, HasFaultyHead, IsOverpadded, IsFaulty}
+use Rattle.h2frame.specs.Reading.{head_at, padding_at, content_at, unless_faulty, frame_at, span_at, IsFront}
 use Rattle.h2frame.proofs.Heads.{AreBytes, begins}
 use Rattle.h2frame.proofs.Payloads.{room, Parts, parts, within}
 

@@ -1,10 +1,9 @@
 -- Nine bytes are a head, and a head is nine bytes.
 use Rattle.std.proofs.Common.{◌≡◌, ℕ, zero, suc, ◌+◌, ◌*◌, ◌/◌, ◌%◌, ◌^◌, ◌<◌, ◌≤◌, List, [], ◌∷◌, ◌++◌, length, get_or, drop, refl, sym, ap, ◌∙◌, arith}
-use Rattle.std.specs.Int.{w32, from_be_bytes, to_be_bytes, bytes_high_first}
+use Rattle.std.specs.Int.{w32, from_be_bytes, bytes_high_first}
 use Rattle.std.proofs.lemmas.Bool.{ne_eqb}
 use Rattle.std.proofs.lemmas.Nat.{shr_split, be_bytes_4, from_be_bytes-to_be_bytes_4, mod_low}
 use Rattle.h2frame.specs.declared.frame.FrameHead.{FrameHead}
-use Rattle.h2frame.specs.declared.kind.FrameKind.{FrameKind}
 use Rattle.h2frame.specs.Kind.{kind_of, code_of}
 use Rattle.h2frame.specs.Spelling.{IsHead, head_text}
 use Rattle.h2frame.specs.FrameList.{BeginsWith}

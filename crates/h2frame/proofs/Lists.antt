@@ -1,20 +1,12 @@
 -- The frame list of bytes: there is one and no other, and a longer one goes on from it.
-use Rattle.std.proofs.Common.{◌≡◌, ℕ, zero, suc, ◌+◌, ◌-◌, ◌<◌, ◌≤◌, Bool, true, false, cond, eqb, List, [], ◌∷◌, ◌++◌, length, get_or, take, drop, refl, sym, ap, subst, ◌∙◌, append_assoc, arith, inl, inr}
-use Rattle.std.specs.Prelude.{Option, Some, None, Result, Ok, Err, map, IfSome, flat_map}
-use Rattle.std.proofs.lemmas.Bool.{cond_both, eqb-true, eqb-false}
-use Rattle.std.proofs.lemmas.List.{append-nil, length-append, length-drop, get_or-drop}
+use Rattle.std.proofs.Common.{◌≡◌, ℕ, List, [], ◌∷◌, ◌++◌, refl, sym, ap, subst, ◌∙◌, append_assoc, arith}
+use Rattle.std.specs.Prelude.{Option, Some, None}
+use Rattle.std.proofs.lemmas.List.{append-nil, length-append}
 use Rattle.h2frame.specs.declared.fault.FrameFault.{FrameFault}
 use Rattle.h2frame.specs.declared.fault.FrameFault.TheVariants.{TooLong, BadLength, BadPadding, WrongStream, ZeroIncrement, OutOfMemory}
-use Rattle.h2frame.specs.declared.frame.Frame.{Frame}
 use Rattle.h2frame.specs.declared.frame.FrameHead.{FrameHead}
-use Rattle.h2frame.specs.declared.span.Span.{Span}
-use Rattle.h2frame.specs.Faults.{lacks_increment, frame_fault, head_fault}
-use Rattle.h2frame.specs.Spelling.{Skipped, Fits, spelling}
-use Rattle.h2frame.specs.FrameList.{Entry, Whole, NoIncrement, IsSpelling, Spells, Joined, BeginsWith, IsUnfinished, HasFaultyHead, IsFaulty, Ends, FrameList}
-use Rattle.h2frame.specs.Reading.{span_at, frame_in, IsSpelledAt, IsFront}
-use Rattle.h2frame.proofs.Heads.{AreBytes}
-use Rattle.h2frame.proofs.Fronts.{front}
-use Rattle.h2frame.proofs.OneReading.{Front, Less, Stops, Takes, judged, of_span, front_of, front_of_entry, front_of_faulty, front_of_unfinished}
+use Rattle.h2frame.specs.FrameList.{Entry, Joined, BeginsWith, HasFaultyHead, IsFaulty, Ends, FrameList}
+use Rattle.h2frame.proofs.OneReading.{Front, Less, Stops, Takes, front_of, front_of_entry, front_of_faulty, front_of_unfinished}
 
 -- ---- joined entries
 

@@ -1,19 +1,19 @@
 -- What stands at the front of bytes is read there, so nothing else stands there.
-use Rattle.std.proofs.Common.{◌≡◌, ℕ, zero, suc, ◌+◌, ◌-◌, ◌<◌, ◌≤◌, Bool, true, false, cond, ltb, eqb, List, [], ◌∷◌, ◌++◌, length, get_or, take, drop, refl, sym, ap, subst, ◌∙◌, append_assoc, arith, inl, inr}
+use Rattle.std.proofs.Common.{◌≡◌, ℕ, ◌+◌, ◌-◌, ◌<◌, Bool, true, false, cond, ltb, eqb, List, ◌∷◌, ◌++◌, length, get_or, take, drop, refl, sym, ap, ◌∙◌, append_assoc, arith, inl, inr}
 use Rattle.std.specs.Prelude.{Option, Some, None, Result, Ok, Err}
 use Rattle.std.specs.Option.{option_or}
-use Rattle.std.proofs.lemmas.Bool.{ltb-true, ltb-false, lt-ltb, le-ltb, eq-eqb, ne_eqb}
-use Rattle.std.proofs.lemmas.List.{take_at, drop_at, drop-drop, length-append}
+use Rattle.std.proofs.lemmas.Bool.{lt-ltb, le-ltb, ne_eqb}
+use Rattle.std.proofs.lemmas.List.{drop_at, drop-drop, length-append}
 use Rattle.h2frame.specs.declared.fault.FrameFault.{FrameFault}
 use Rattle.h2frame.specs.declared.fault.FrameFault.TheVariants.{TooLong, BadLength, BadPadding, WrongStream, ZeroIncrement, OutOfMemory}
 use Rattle.h2frame.specs.declared.frame.Frame.{Frame}
 use Rattle.h2frame.specs.declared.frame.FrameHead.{FrameHead}
 use Rattle.h2frame.specs.declared.span.Span.{Span}
 use Rattle.h2frame.specs.Flags.{is_padded, has_priority}
-use Rattle.h2frame.specs.Faults.{max_payload, may_be_on, may_have_length, overhead, head_fault, lacks_increment, frame_fault}
-use Rattle.h2frame.specs.Spelling.{Skipped, IsHead, Fits, head_text, payload_text, spelling}
-use Rattle.h2frame.specs.FrameList.{Entry, Whole, NoIncrement, IsSpelling, Spells, BeginsWith, IsUnfinished, HasFaultyHead, IsOverpadded, IsFaulty}
-use Rattle.h2frame.specs.Reading.{head_at, padding_at, content_at, unless_faulty, frame_at, span_at, frame_in}
+use Rattle.h2frame.specs.Faults.{max_payload, may_be_on, may_have_length, overhead, head_fault, lacks_increment}
+use Rattle.h2frame.specs.Spelling.{Skipped, Fits, head_text, payload_text, spelling}
+use Rattle.h2frame.specs.FrameList.{Entry, Whole, NoIncrement, IsSpelling, Spells, BeginsWith, IsUnfinished, IsOverpadded, IsFaulty}
+use Rattle.h2frame.specs.Reading.{head_at, padding_at, content_at, frame_at, span_at, frame_in}
 use Rattle.h2frame.proofs.Heads.{head_again}
 use Rattle.h2frame.proofs.Payloads.{reads_parts, ReadsParts}
 use Rattle.h2frame.proofs.Fronts.{head_faults}

@@ -2,7 +2,7 @@
 use Rattle.std.proofs.Common.{◌≡◌, ℕ, zero, suc, ◌+◌, ◌^◌, ◌<◌, ◌≤◌, Bool, true, false, cond, eqb, List, [], ◌∷◌, ◌++◌, length, take, drop, refl, sym, ap, subst, ◌∙◌, arith, inl, inr}
 use Rattle.std.specs.Prelude.{Option, Some, None, IsNone, IfSome, IfOk, Result, Ok, Err}
 use Rattle.std.specs.Option.{option_or}
-use Rattle.std.proofs.lemmas.Bool.{eqb-true, eqb-false, ne_eqb}
+use Rattle.std.proofs.lemmas.Bool.{ne_eqb}
 use Rattle.h2frame.specs.declared.fault.FrameFault.{FrameFault}
 use Rattle.h2frame.specs.declared.fault.FrameFault.TheVariants.{TooLong, BadLength, BadPadding, WrongStream, ZeroIncrement, OutOfMemory}
 use Rattle.h2frame.specs.declared.frame.Frame.{Frame}
@@ -10,10 +10,10 @@ use Rattle.h2frame.specs.declared.frame.FrameHead.{FrameHead}
 use Rattle.h2frame.specs.declared.span.Span.{Span}
 use Rattle.h2frame.specs.Flags.{is_padded, has_priority}
 use Rattle.h2frame.specs.Faults.{overhead, head_fault, lacks_increment, frame_fault}
-use Rattle.h2frame.specs.Spelling.{Skipped, Fits, spelling}
+use Rattle.h2frame.specs.Spelling.{Skipped, spelling}
 use Rattle.h2frame.specs.FrameList.{Entry, Whole, NoIncrement, IsSpelling, Spells, Joined, IsUnfinished, IsFaulty, StandsAt, refused, answered, HasCause, IsLawful}
 use Rattle.h2frame.specs.Reading.{frame_in, IsSpelledAt, IsDue, IsStep}
-use Rattle.h2frame.proofs.OneReading.{Front, Less, Stops, Takes, front_of, front_of_entry, front_of_faulty, front_of_unfinished, fault_parts_some, no_increment_fault, same_stream}
+use Rattle.h2frame.proofs.OneReading.{Less, Stops, Takes, front_of, front_of_entry, front_of_faulty, front_of_unfinished, fault_parts_some, no_increment_fault, same_stream}
 use Rattle.h2frame.proofs.Payloads.{reads_parts}
 
 -- ---- what stands is answered

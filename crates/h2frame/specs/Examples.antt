@@ -1,9 +1,9 @@
 -- Worked examples of the definitions, computed.
-use Rattle.std.specs.Prelude.{◌≡◌, ℕ, List, [], ◌∷◌, refl, Some, None}
+use Rattle.std.specs.Prelude.{◌≡◌, [], ◌∷◌, refl, Some, None}
 use Rattle.h2frame.specs.declared.fault.FrameFault.TheVariants.{TooLong, BadLength, WrongStream, ZeroIncrement}
 use Rattle.h2frame.specs.declared.kind.FrameKind.TheVariants.{Data, Headers, Settings, WindowUpdate, Ping}
 use Rattle.h2frame.specs.Faults.{head_fault, frame_fault}
-use Rattle.h2frame.specs.Spelling.{head_text, spelling, spelled}
+use Rattle.h2frame.specs.Spelling.{head_text, spelling}
 
 -- PING with ACK on the connection
 pub ping_head : head_text 0 (record { kind = Ping; flags = record { bits = 1 }; stream = 0; length = 8 }) ≡ 0 ∷ 0 ∷ 8 ∷ 6 ∷ 1 ∷ 0 ∷ 0 ∷ 0 ∷ 0 ∷ []

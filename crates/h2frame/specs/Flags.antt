@@ -1,5 +1,5 @@
 -- The flags of a frame (RFC 9113, section 6).
-use Rattle.std.specs.Prelude.{ℕ, Bool, false, ◌&&◌, ◌==◌, bit_and}
+use Rattle.std.specs.Prelude.{ℕ, Bool, false, ◌==◌, bit_and}
 use Rattle.h2frame.specs.declared.flags.Flags.{Flags}
 use Rattle.h2frame.specs.declared.frame.FrameHead.{FrameHead}
 use Rattle.h2frame.specs.declared.kind.FrameKind.{FrameKind}

@@ -9,7 +9,8 @@ ghost use Rattle.h2frame.specs.Spelling.{spelled};
 
 /// Bytes have one frame list and no other.
 pub fn one_reading()
-    ensures one { (bytes : List ℕ) (entries others : List Entry) (end last : Option FrameFault) →
+    ensures one { (bytes : List ℕ) (entries others : List Entry)
+        (end last : Option FrameFault) →
         FrameList bytes entries end → FrameList bytes others last → (entries ≡ others) × (end ≡ last) }
     ensures some { (bytes : List ℕ) → All (λ byte. byte < 256) bytes →
         (entries : List Entry) × (end : Option FrameFault) × FrameList bytes entries end }
@@ -17,11 +18,14 @@ pub fn one_reading()
 
 /// A longer list of bytes has the entries of the shorter one first, and after a fault no others.
 pub fn goes_on()
-    ensures begins { (bytes piece : List ℕ) (entries all : List Entry) (end last : Option FrameFault) →
+    ensures begins { (bytes piece : List ℕ) (entries all : List Entry)
+        (end last : Option FrameFault) →
         FrameList bytes entries end → FrameList (bytes ++ piece) all last →
         (others : List Entry) × (all ≡ entries ++ others) }
-    ensures stops { (bytes piece : List ℕ) (entries all : List Entry) (fault : FrameFault) (last : Option FrameFault) →
-        FrameList bytes entries (Some fault) → FrameList (bytes ++ piece) all last → (entries ≡ all) × (last ≡ Some fault) }
+    ensures stops { (bytes piece : List ℕ) (entries all : List Entry)
+        (fault : FrameFault) (last : Option FrameFault) →
+        FrameList bytes entries (Some fault) → FrameList (bytes ++ piece) all last →
+        (entries ≡ all) × (last ≡ Some fault) }
 {}
 
 /// Entries that follow one another are joined.
@@ -32,6 +36,7 @@ pub fn joins()
         Joined bytes entries rest → Joined (bytes ++ piece) entries (rest ++ piece) }
 
     // Frames that were written one after the other are read so.
-    ensures written { (frames : List Frame) → AllByRecursion (λ frame. Spells (spelled frame) (Whole frame)) frames →
+    ensures written { (frames : List Frame) →
+        AllByRecursion (λ frame. Spells (spelled frame) (Whole frame)) frames →
         Joined (flat_map spelled frames) (map Whole frames) [] }
 {}

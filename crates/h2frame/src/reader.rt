@@ -45,7 +45,8 @@ impl FrameReader {
             Joined bytes entries self.old → Joined (bytes ++ piece.now) entries self.new) }
 
         // A fault that stands goes on to stand.
-        ensures faulty { OnOk result ((fault : FrameFault) → IsFaulty fault self.old → IsFaulty fault self.new) }
+        ensures faulty { OnOk result ((fault : FrameFault) →
+            IsFaulty fault self.old → IsFaulty fault self.new) }
         ensures err { OnErr result (self.new ≡ self.old) }
         ensures memory { IsOkUnless result FrameFault.OutOfMemory }
     {
@@ -62,10 +63,12 @@ impl FrameReader {
         ensures unfinished { IsNone result ↔ IsUnfinished self.old }
 
         ensures lawful { IfSome result (λ r. IfOk r IsLawful) }
-        ensures stream { (stream : ℕ) → result ≡ Some (Err (FrameFault.ZeroIncrement stream)) → stream < 2 ^ 31 }
+        ensures stream { (stream : ℕ) →
+            result ≡ Some (Err (FrameFault.ZeroIncrement stream)) → stream < 2 ^ 31 }
 
         // A fault that stands is answered, and goes on to stand.
-        ensures repeats { (fault : FrameFault) → IsFaulty fault self.old → (result ≡ Some (Err fault)) × (self.new ≡ self.old) }
+        ensures repeats { (fault : FrameFault) →
+            IsFaulty fault self.old → (result ≡ Some (Err fault)) × (self.new ≡ self.old) }
         ensures cause { IfSome result (λ r. IfErr r (λ fault. HasCause fault self.old)) }
         ensures kept { answered result ≡ [] → self.new ≡ self.old }
     {
@@ -109,7 +112,8 @@ fn take_frame(buffer: &mut BytesMut, span: &Span) -> Result<Frame, FrameFault>
 fn cut(buffer: &mut BytesMut, span: &Span) -> Result<Bytes, AllocError>
     requires within { span.now.start + span.now.len ≤ 9 + span.now.head.length }
     requires whole { 9 + span.now.head.length ≤ length buffer.old.items }
-    ensures content { IfOk result (λ content. content ≡ take span.now.len (drop span.now.start buffer.old.items)) }
+    ensures content { IfOk result
+        (λ content. content ≡ take span.now.len (drop span.now.start buffer.old.items)) }
     ensures rest { OnOk result (buffer.new.items ≡ drop (9 + span.now.head.length) buffer.old.items) }
     ensures err { OnErr result (buffer.new.items ≡ buffer.old.items) }
 {

@@ -36,9 +36,12 @@ impl Span {
 pub(crate) fn span_at(bytes: &[u8]) -> Option<Result<Span, FrameFault>>
     ensures span { result ≡ span_at bytes.now }
     ensures front { IsFront bytes.now result }
-    ensures within { IfSome result (λ r. IfOk r (λ span. span.start + span.len ≤ 9 + span.head.length)) }
-    ensures whole { IfSome result (λ r. IfOk r (λ span. 9 + span.head.length ≤ length bytes.now)) }
-    ensures credit { IfSome result (λ r. IfOk r (λ span. span.head.kind ≡ FrameKind.WindowUpdate → span.len ≡ 4)) }
+    ensures within { IfSome result (λ r. IfOk r
+        (λ span. span.start + span.len ≤ 9 + span.head.length)) }
+    ensures whole { IfSome result (λ r. IfOk r
+        (λ span. 9 + span.head.length ≤ length bytes.now)) }
+    ensures credit { IfSome result (λ r. IfOk r
+        (λ span. span.head.kind ≡ FrameKind.WindowUpdate → span.len ≡ 4)) }
 {
     if bytes.len() < HEAD_LEN {
         return None;
@@ -63,9 +66,12 @@ fn head_at(bytes: &[u8]) -> FrameHead
 #[tactic(auto, unfolding(crate::specs::Reading::frame_at))]
 fn frame_at(head: FrameHead, bytes: &[u8]) -> Option<Result<Span, FrameFault>>
     ensures frame { result ≡ frame_at head bytes.now }
-    ensures within { IfSome result (λ r. IfOk r (λ span. span.start + span.len ≤ 9 + span.head.length)) }
-    ensures whole { IfSome result (λ r. IfOk r (λ span. 9 + span.head.length ≤ length bytes.now)) }
-    ensures credit { IfSome result (λ r. IfOk r (λ span. span.head.kind ≡ FrameKind.WindowUpdate → span.len ≡ 4)) }
+    ensures within { IfSome result (λ r. IfOk r
+        (λ span. span.start + span.len ≤ 9 + span.head.length)) }
+    ensures whole { IfSome result (λ r. IfOk r
+        (λ span. 9 + span.head.length ≤ length bytes.now)) }
+    ensures credit { IfSome result (λ r. IfOk r
+        (λ span. span.head.kind ≡ FrameKind.WindowUpdate → span.len ≡ 4)) }
 {
     if let Some(fault) = head.fault() {
         return Some(Err(fault));
