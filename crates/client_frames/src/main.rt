@@ -5,10 +5,12 @@
 #![tactic(auto)]
 
 use anyhow::{Context, Result, ensure};
-use h2frame::{Frame, FrameKind, FrameReader};
+use h2frame::{Frame, FrameKind};
 use std::alloc::Global;
 use std::fs;
 use std::rt::Files;
+
+mod reading;
 
 /// The bytes of a connection before its frames (RFC 9113, section 3.4).
 const PREFACE_LEN: usize = 24;
@@ -90,25 +92,15 @@ fn print_bytes(text: &mut String, bytes: &[u8]) -> Result<()> {
     Ok(())
 }
 
-/// Adds the frames that are whole by now.
-fn drain(reader: &mut FrameReader, text: &mut String) -> Result<()> {
-    for _ in 0..u64::MAX {
-        match reader.next() {
-            None => return Ok(()),
-            Some(Ok(frame)) => print_frame(text, &frame)?,
-            Some(Err(fault)) => return Err(fault.into()),
-        }
-    }
-    Ok(())
-}
-
-/// The frames of bytes that come in pieces of a size.
-fn frames_of(alloc: Global, bytes: &[u8], size: usize) -> Result<String> {
-    let mut reader = FrameReader::new(alloc);
-    let mut text = String::new(alloc);
+/// The lines of the frames of bytes that come in pieces of a size.
+fn lines_of(alloc: Global, bytes: &[u8], size: usize) -> Result<String> {
+    let mut pieces = Vec::new(alloc);
     for piece in bytes.chunks(size.max(1)) {
-        reader.feed(piece)?;
-        drain(&mut reader, &mut text)?;
+        pieces.push(Vec::from_slice(alloc, piece)?)?;
+    }
+    let mut text = String::new(alloc);
+    for frame in reading::read(alloc, pieces.as_slice())?.as_slice() {
+        print_frame(&mut text, frame)?;
     }
     Ok(text)
 }
@@ -124,9 +116,9 @@ fn connection(rt: &(impl Files + AllocGlobal), name: &str) -> Result<String> {
         .as_slice()
         .get(PREFACE_LEN..)
         .context("the preface is cut")?;
-    let whole = frames_of(alloc, bytes, bytes.len())?;
+    let whole = lines_of(alloc, bytes, bytes.len())?;
     for size in [1, 2, 9, 1000, 16384] {
-        let pieces = frames_of(alloc, bytes, size)?;
+        let pieces = lines_of(alloc, bytes, size)?;
         ensure!(
             pieces.as_str() == whole.as_str(),
             "{name} in pieces of {size}"
