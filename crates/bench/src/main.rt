@@ -1,22 +1,27 @@
 //! Measurements, for the scripts of `bench/`.
 //!
 //! The first word chooses one, and the numbers after it its size: it prints how long it took, in nanoseconds. Without
-//! words each runs once, small, and nothing of time is printed.
+//! words each runs once, small, and prints what it did but no time.
 #![tactic(auto)]
 
+mod h2frame_feed;
 mod lane_bench;
 
-use std::{env, io};
+use anyhow::{Context, Result, bail};
+use std::env;
 
-// The number at this place among the words, or 0.
-fn number(words: &[String], at: usize) -> u32 {
-    words
-        .get(at)
-        .and_then(|word| word.as_str().parse::<u32>().ok())
-        .unwrap_or(0)
+/// The number at this place among the words.
+fn number(words: &[String], at: usize) -> Result<usize> {
+    let word = words.get(at).context("a number is missing")?;
+    Ok(word.as_str().parse::<usize>()?)
 }
 
-fn main(rt: HostRuntime) -> io::Result<()> {
+/// The number at this place among the words, where 32 bits are enough for it.
+fn small_number(words: &[String], at: usize) -> Result<u32> {
+    Ok(u32::try_from(number(words, at)?)?)
+}
+
+fn main(rt: HostRuntime) -> Result<()> {
     let alloc = rt.alloc();
     let mut words = Vec::new(alloc);
     for word in env::args(&rt)?.skip(1) {
@@ -24,10 +29,17 @@ fn main(rt: HostRuntime) -> io::Result<()> {
     }
     let words = words.as_slice();
     match words.first().map(|word| word.as_str()) {
-        None => lane_bench::run_all(&rt, alloc),
-        Some("lane-relay") => lane_bench::relayed(&rt, alloc, number(words, 1), number(words, 2)),
-        Some("lane-ring") => lane_bench::rings(&rt, number(words, 1)),
-        Some("lane-ring-awaited") => lane_bench::rings_awaited(&rt, number(words, 1)),
-        Some(_) => println!(rt; "there is no such measurement"),
+        None => {
+            lane_bench::run_all(&rt, alloc)?;
+            h2frame_feed::small(&rt)?;
+        }
+        Some("h2frame-feed") => h2frame_feed::timed(&rt, number(words, 1)?, number(words, 2)?)?,
+        Some("lane-relay") => {
+            lane_bench::relayed(&rt, alloc, small_number(words, 1)?, small_number(words, 2)?)?;
+        }
+        Some("lane-ring") => lane_bench::rings(&rt, small_number(words, 1)?)?,
+        Some("lane-ring-awaited") => lane_bench::rings_awaited(&rt, small_number(words, 1)?)?,
+        Some(_) => bail!("there is no such measurement"),
     }
+    Ok(())
 }
