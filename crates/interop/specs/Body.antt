@@ -1,4 +1,4 @@
--- What `interop body` prints for what it reads.
+-- What `interop body` prints for what it reads: the messages of one call (gRPC over HTTP/2, "Length-Prefixed-Message").
 use Rattle.std.specs.Prelude.{◌≡◌, ℕ, Bool, true, List, [], ◌∷◌, Option, Some, None}
 use Rattle.std.specs.Option.{option_or}
 use Rattle.std.specs.Io.KnownBytes.{Appends, Consumes, IsAtEnd, Keeps}

@@ -1,4 +1,5 @@
--- A call that comes in pieces, ends, and is taken as far as there is something to take.
+-- A call that comes in pieces, ends, and is taken as far as there is something to take. A message has a prefix of five
+-- bytes (gRPC over HTTP/2, "Length-Prefixed-Message"), so there are no more messages than bytes by five.
 use Rattle.std.specs.Prelude.{◌≡◌, ◌≢◌, ℕ, ◌+◌, ◌/◌, List, [], ◌∷◌, ◌++◌, length, take, drop, map, replicate, Option, Some, None}
 use Rattle.lpm.specs.Reading.{messages_of}
 use Rattle.lpm.specs.declared.fault.LpmFault.{LpmFault}
