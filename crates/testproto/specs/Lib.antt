@@ -1,3 +1,5 @@
 pub mod Code
 pub mod Values
 pub mod Messages
+pub mod Unique
+pub mod Laws

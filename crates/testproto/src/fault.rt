@@ -2,8 +2,10 @@
 
 ghost use Rattle.std.specs.Prelude.{◌≡◌};
 ghost use Rattle.testproto.specs.Code.{code_of};
+ghost use Rattle.testproto.specs.declared.fault.ProtoFault.TheVariants.{OutOfMemory};
 
 use pbwire::WireFault;
+use std::alloc::{AllocError, AllocFailed};
 use thiserror::Error;
 
 /// Why bytes are no message, or a message could not be written.
@@ -30,5 +32,21 @@ impl ProtoFault {
             ProtoFault::NotUtf8 => 2,
             ProtoFault::OutOfMemory => 3,
         }
+    }
+}
+
+impl From<AllocError> for ProtoFault {
+    ghost from_gives = { λ _ fault. fault ≡ OutOfMemory };
+
+    fn from(_error: AllocError) -> ProtoFault {
+        ProtoFault::OutOfMemory
+    }
+}
+
+impl<T: Drop> From<AllocFailed<T>> for ProtoFault {
+    ghost from_gives = { λ _ fault. fault ≡ OutOfMemory };
+
+    fn from(_error: AllocFailed<T>) -> ProtoFault {
+        ProtoFault::OutOfMemory
     }
 }

@@ -3,8 +3,16 @@
 
 mod fault;
 mod lists;
+mod message;
 mod messages;
+mod read;
+mod take;
 
 pub use fault::ProtoFault;
-pub use lists::ByteList;
-pub use messages::{BoolValue, EchoStatus, Empty, Payload, SimpleRequest};
+pub use lists::{ByteList, Text};
+pub use message::Message;
+pub use messages::{
+    BoolValue, EchoStatus, Empty, ParameterList, Payload, ResponseParameters, SimpleRequest,
+    SimpleResponse, StreamingInputCallRequest, StreamingInputCallResponse,
+    StreamingOutputCallRequest, StreamingOutputCallResponse,
+};

@@ -1,6 +1,10 @@
 //! The messages.
 
+ghost use Rattle.std.specs.Prelude.{◌≡◌, ◌++◌, ◌∷◌, [], OnOk, OnErr};
+
 use crate::lists::{ByteList, Text};
+use std::alloc::{AllocError, Global};
+use std::marker::Model;
 
 /// No field.
 #[derive(Debug, Drop)]
@@ -36,4 +40,91 @@ pub struct SimpleRequest {
     pub response_compressed: Option<BoolValue>,
     pub response_status: Option<EchoStatus>,
     pub expect_compressed: Option<BoolValue>,
+}
+
+#[derive(Debug, Drop)]
+pub struct SimpleResponse {
+    pub payload: Option<Payload>,
+    pub username: Text,
+    pub oauth_scope: Text,
+}
+
+#[derive(Debug, Drop)]
+pub struct StreamingInputCallRequest {
+    pub payload: Option<Payload>,
+    pub expect_compressed: Option<BoolValue>,
+}
+
+#[derive(Debug, Drop)]
+pub struct StreamingInputCallResponse {
+    /// The sum of the lengths of the bodies.
+    pub aggregated_payload_size: i32,
+}
+
+/// One response that is asked for.
+#[derive(Debug, Drop)]
+pub struct ResponseParameters {
+    /// The length of its body.
+    pub size: i32,
+    /// Microseconds to wait before it.
+    pub interval_us: i32,
+    pub compressed: Option<BoolValue>,
+}
+
+#[derive(Debug, Drop)]
+pub struct StreamingOutputCallRequest {
+    pub response_type: i32,
+    pub response_parameters: ParameterList,
+    pub payload: Option<Payload>,
+    pub response_status: Option<EchoStatus>,
+}
+
+#[derive(Debug, Drop)]
+pub struct StreamingOutputCallResponse {
+    pub payload: Option<Payload>,
+}
+
+/// Responses that are asked for, in order. In a contract it is their list.
+#[derive(Debug, Drop)]
+pub struct ParameterList {
+    items: Vec<ResponseParameters>,
+}
+
+impl Model for ParameterList {
+    ghost use Rattle.std.specs.Prelude.{List};
+    ghost use Rattle.testproto.specs.declared.messages.ResponseParameters.{ResponseParameters as Parameters};
+
+    ghost Value = { List Parameters };
+
+    ghost view = { λ list. list.items.items };
+}
+
+impl ParameterList {
+    pub fn new(alloc: Global) -> ParameterList
+        ensures { result ≡ [] }
+    {
+        ParameterList {
+            items: Vec::new(alloc),
+        }
+    }
+
+    pub fn from_vec(items: Vec<ResponseParameters>) -> ParameterList
+        ensures { result ≡ items.items }
+    {
+        ParameterList { items }
+    }
+
+    pub fn as_slice(&self) -> &[ResponseParameters]
+        ensures { result.now ≡ self.now }
+    {
+        &self.items
+    }
+
+    pub fn push(&mut self, parameters: ResponseParameters) -> Result<(), AllocError>
+        ensures ok { OnOk result (self.new ≡ self.old ++ parameters ∷ []) }
+        ensures err { OnErr result (self.new ≡ self.old) }
+    {
+        self.items.push(parameters)?;
+        Ok(())
+    }
 }

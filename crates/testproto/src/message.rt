@@ -1,0 +1,75 @@
+//! What every message has, and how it is read.
+
+ghost use Rattle.std.specs.Prelude.{◌≡◌, ◌≢◌, ◌++◌, ◌∷◌, [], List, IfOk, IfErr, OnOk, MatchResult};
+ghost use Rattle.pbwire.specs.Fields.{Field, field_of};
+ghost use Rattle.testproto.specs.declared.fault.ProtoFault.{ProtoFault as Fault};
+ghost use Rattle.testproto.specs.declared.fault.ProtoFault.TheVariants.{OutOfMemory};
+ghost use Rattle.testproto.specs.Values.{IsValueOf, Adds, HasFault};
+ghost use Rattle.testproto.specs.Unique.{IsSingle, AreApart};
+
+use crate::fault::ProtoFault;
+use pbwire::{FieldItem, Fields};
+use std::alloc::Global;
+
+/// A message of the schema.
+pub trait Message: Drop {
+    /// The message is the value of these fields, in the order in which they stand.
+    ghost is_value: { List Field → Self → Type 0 };
+
+    /// The texts and messages in the field are well formed.
+    ghost accepts: { Field → Type 0 };
+
+    /// What is wrong with the texts and messages in the field.
+    ghost refuses: { Field → Fault → Type 0 };
+
+    /// The message of no fields.
+    fn empty(alloc: Global) -> Self
+        ensures { is_value [] result };
+
+    /// Takes one more field. Where that fails, the message is of no more use.
+    fn take(&mut self, alloc: Global, item: &FieldItem<'_>) -> Result<(), ProtoFault>
+        ensures value { OnOk result ((before : List Field) → is_value before self.old
+            → is_value (before ++ field_of item.now ∷ []) self.new) }
+        ensures accepted { OnOk result (accepts (field_of item.now)) }
+        ensures refused { IfErr result (λ fault. fault ≢ OutOfMemory → refuses (field_of item.now) fault) };
+
+    /// Fields have one value.
+    ghost one_value: { IsSingle is_value };
+
+    /// No field is both accepted and refused.
+    ghost apart: { AreApart accepts refuses };
+}
+
+/// Reads the fields of these bytes into a message that has read others before.
+pub(crate) fn merge<M: Message>(
+    message: &mut M,
+    alloc: Global,
+    bytes: &[u8],
+) -> Result<(), ProtoFault>
+    ensures ok { OnOk result (Adds M.accepts M.is_value bytes.now message.old message.new) }
+    ensures err { IfErr result (λ fault. fault ≢ OutOfMemory → HasFault M.accepts M.refuses bytes.now fault) }
+{
+    let mut fields = Fields::new(bytes);
+    while let Some(answer) = fields.next() {
+        match answer {
+            Ok(item) => message.take(alloc, &item)?,
+            Err(fault) => return Err(ProtoFault::Wire(fault)),
+        }
+    }
+    Ok(())
+}
+
+/// The message that the bytes, all of them, are.
+pub fn decode<M: Message>(alloc: Global, bytes: &[u8]) -> Result<M, ProtoFault>
+    // What is answered is the value of the bytes, or a fault that stands in them.
+    ensures ok { IfOk result (λ message. IsValueOf M.accepts M.is_value bytes.now message) }
+    ensures err { IfErr result (λ fault. fault ≢ OutOfMemory → HasFault M.accepts M.refuses bytes.now fault) }
+
+    // Bytes that have a value are read, memory aside.
+    ensures every_value { (value : M) → IsValueOf M.accepts M.is_value bytes.now value
+        → MatchResult result (λ message. message ≡ value) (λ fault. fault ≡ OutOfMemory) }
+{
+    let mut message = M::empty(alloc);
+    merge(&mut message, alloc, bytes)?;
+    Ok(message)
+}
