@@ -105,3 +105,23 @@ int32-stored n z z_is =
     let fits : n % 2 ^ 32 < 2 ^ 32 = omega arith in
     let z_low : z ≡ low_32 n = z_is ∙ ap (λ (m : ℕ). cast_signed w32 m) m_is in
     ap (λ (y : ℤ). cast_signed w32 (cast_unsigned w32 y)) z_low ∙ ap (λ (m : ℕ). cast_signed w32 m) (of_z-to_z w32 (n % 2 ^ 32) fits)
+
+-- ---- one more of a repeated message
+
+pub AreRepeated-push : {M : Type 0} (is_value : List Field → M → Type 0) (contents : List (List ℕ)) (messages : List M) (content : List ℕ) (message : M) (fields : List Field)
+    → AreRepeated is_value contents messages → IsReading content fields None → is_value fields message → AreRepeated is_value (contents ++ content ∷ []) (messages ++ message ∷ [])
+AreRepeated-push {M} is_value [] messages content message fields are reading value =
+    subst (λ (t : List M). AreRepeated is_value (content ∷ []) (t ++ message ∷ [])) (sym are) ((fields, reading, value), refl)
+AreRepeated-push is_value (c ∷ cs) [] content message fields are reading value = absurd are
+AreRepeated-push is_value (c ∷ cs) (m ∷ ms) content message fields are reading value = (are.0, AreRepeated-push is_value cs ms content message fields are.1 reading value)
+
+pub repeated-same : {M : Type 0} (is_value : List Field → M → Type 0) (number : ℕ) (before : List Field) (field : Field) (messages : List M) → content_in number field ≡ []
+    → AreRepeated is_value (contents number before) messages → AreRepeated is_value (contents number (before ++ field ∷ [])) messages
+repeated-same is_value number before field messages none had =
+    subst (λ (t : List (List ℕ)). AreRepeated is_value t messages) (sym (contents-same number before field none)) had
+
+pub repeated-last : {M : Type 0} (is_value : List Field → M → Type 0) (number : ℕ) (before : List Field) (field : Field) (content : List ℕ) (fields : List Field) (messages : List M) (message : M)
+    → content_in number field ≡ content ∷ [] → AreRepeated is_value (contents number before) messages → IsReading content fields None → is_value fields message
+    → AreRepeated is_value (contents number (before ++ field ∷ [])) (messages ++ message ∷ [])
+repeated-last is_value number before field content fields messages message one had reading value =
+    subst (λ (t : List (List ℕ)). AreRepeated is_value t (messages ++ message ∷ [])) (sym (contents-last number before field content one)) (AreRepeated-push is_value (contents number before) messages content message fields had reading value)

@@ -3,3 +3,5 @@ pub mod Values
 pub mod Messages
 pub mod Unique
 pub mod Laws
+pub mod Canonical
+pub mod Sizes

@@ -5,12 +5,13 @@ mod fault;
 mod lists;
 mod message;
 mod messages;
+mod put;
 mod read;
 mod take;
 
 pub use fault::ProtoFault;
 pub use lists::{ByteList, Text};
-pub use message::Message;
+pub use message::{Message, decode, encode};
 pub use messages::{
     BoolValue, EchoStatus, Empty, ParameterList, Payload, ResponseParameters, SimpleRequest,
     SimpleResponse, StreamingInputCallRequest, StreamingInputCallResponse,

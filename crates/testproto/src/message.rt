@@ -1,7 +1,8 @@
 //! What every message has, and how it is read.
 
-ghost use Rattle.std.specs.Prelude.{◌≡◌, ◌≢◌, ◌++◌, ◌∷◌, [], List, IfOk, IfErr, OnOk, MatchResult};
+ghost use Rattle.std.specs.Prelude.{◌≡◌, ◌≢◌, ◌++◌, ◌∷◌, [], List, length, IfOk, IfErr, IfSome, OnOk, MatchResult};
 ghost use Rattle.pbwire.specs.Fields.{Field, field_of};
+ghost use Rattle.pbwire.specs.Spelling.{spelling_of_all};
 ghost use Rattle.testproto.specs.declared.fault.ProtoFault.{ProtoFault as Fault};
 ghost use Rattle.testproto.specs.declared.fault.ProtoFault.TheVariants.{OutOfMemory};
 ghost use Rattle.testproto.specs.Values.{IsValueOf, Adds, HasFault};
@@ -22,6 +23,9 @@ pub trait Message: Drop {
     /// What is wrong with the texts and messages in the field.
     ghost refuses: { Field → Fault → Type 0 };
 
+    /// The fields that are written of the message.
+    ghost fields_of: { Self → List Field };
+
     /// The message of no fields.
     fn empty(alloc: Global) -> Self
         ensures { is_value [] result };
@@ -32,6 +36,15 @@ pub trait Message: Drop {
             → is_value (before ++ field_of item.now ∷ []) self.new) }
         ensures accepted { OnOk result (accepts (field_of item.now)) }
         ensures refused { IfErr result (λ fault. fault ≢ OutOfMemory → refuses (field_of item.now) fault) };
+
+    /// How many bytes are written of the message, or none where no buffer could hold them.
+    fn size(&self) -> Option<usize>
+        ensures { IfSome result (λ size. size ≡ length (spelling_of_all (fields_of self.now))) };
+
+    /// Appends the fields of the message, by ascending number, defaults left out.
+    fn put(&self, out: &mut Vec<u8>) -> Result<(), ProtoFault>
+        ensures ok { OnOk result (out.new.items ≡ out.old.items ++ spelling_of_all (fields_of self.now)) }
+        ensures memory { IfErr result (λ fault. fault ≡ OutOfMemory) };
 
     /// Fields have one value.
     ghost one_value: { IsSingle is_value };
@@ -72,4 +85,19 @@ pub fn decode<M: Message>(alloc: Global, bytes: &[u8]) -> Result<M, ProtoFault>
     let mut message = M::empty(alloc);
     merge(&mut message, alloc, bytes)?;
     Ok(message)
+}
+
+/// The bytes of the message: its fields by ascending number, defaults left out.
+///
+/// It sets aside the room once and fills it, so a large body is copied once.
+pub fn encode<M: Message>(alloc: Global, message: &M) -> Result<Vec<u8>, ProtoFault>
+    ensures ok { IfOk result (λ bytes. bytes.items ≡ spelling_of_all (M.fields_of message.now)) }
+    ensures memory { IfErr result (λ fault. fault ≡ OutOfMemory) }
+{
+    let Some(size) = message.size() else {
+        return Err(ProtoFault::OutOfMemory);
+    };
+    let mut out = Vec::with_capacity(alloc, size)?;
+    message.put(&mut out)?;
+    Ok(out)
 }
