@@ -51,6 +51,29 @@ pub trait Message: Drop {
 
     /// No field is both accepted and refused.
     ghost apart: { AreApart accepts refuses };
+
+    /// The message that the bytes, all of them, are.
+    final fn decode(alloc: Global, bytes: &[u8]) -> Result<Self, ProtoFault>
+        // What is answered is the value of the bytes, or the fault that stands in them.
+        ensures ok { IfOk result (λ message. IsValueOf accepts is_value bytes.now message) }
+        ensures err { IfErr result (λ fault. fault ≢ OutOfMemory → HasFault accepts refuses bytes.now fault) }
+
+        // Bytes that have a value are read, memory aside.
+        ensures every_value { (value : Self) → IsValueOf accepts is_value bytes.now value
+            → MatchResult result (λ message. message ≡ value) (λ fault. fault ≡ OutOfMemory) }
+    {
+        decode_message(alloc, bytes)
+    }
+
+    /// The bytes of the message: its fields by ascending number, defaults left out.
+    ///
+    /// It sets aside the room once and fills it, so a large body is copied once.
+    final fn encode(&self, alloc: Global) -> Result<Vec<u8>, ProtoFault>
+        ensures ok { IfOk result (λ bytes. bytes.items ≡ spelling_of_all (fields_of self.now)) }
+        ensures memory { IfErr result (λ fault. fault ≡ OutOfMemory) }
+    {
+        encode_message(alloc, self)
+    }
 }
 
 /// Reads the fields of these bytes into a message that has read others before.
@@ -73,7 +96,7 @@ pub(crate) fn merge<M: Message>(
 }
 
 /// The message that the bytes, all of them, are.
-pub fn decode<M: Message>(alloc: Global, bytes: &[u8]) -> Result<M, ProtoFault>
+pub(crate) fn decode_message<M: Message>(alloc: Global, bytes: &[u8]) -> Result<M, ProtoFault>
     // What is answered is the value of the bytes, or a fault that stands in them.
     ensures ok { IfOk result (λ message. IsValueOf M.accepts M.is_value bytes.now message) }
     ensures err { IfErr result (λ fault. fault ≢ OutOfMemory → HasFault M.accepts M.refuses bytes.now fault) }
@@ -90,7 +113,7 @@ pub fn decode<M: Message>(alloc: Global, bytes: &[u8]) -> Result<M, ProtoFault>
 /// The bytes of the message: its fields by ascending number, defaults left out.
 ///
 /// It sets aside the room once and fills it, so a large body is copied once.
-pub fn encode<M: Message>(alloc: Global, message: &M) -> Result<Vec<u8>, ProtoFault>
+pub(crate) fn encode_message<M: Message>(alloc: Global, message: &M) -> Result<Vec<u8>, ProtoFault>
     ensures ok { IfOk result (λ bytes. bytes.items ≡ spelling_of_all (M.fields_of message.now)) }
     ensures memory { IfErr result (λ fault. fault ≡ OutOfMemory) }
 {

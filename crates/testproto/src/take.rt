@@ -8,7 +8,7 @@ ghost use Rattle.testproto.specs.Values.{varint_in, content_in, contents, int32,
 
 use crate::fault::ProtoFault;
 use crate::lists::{ByteList, Text};
-use crate::message::{Message, decode, merge};
+use crate::message::{Message, decode_message, merge};
 use pbwire::{FieldItem, FieldValue};
 use std::alloc::Global;
 
@@ -136,7 +136,7 @@ pub(crate) fn read_message<M: Message>(
         RefusesMessage (HasFault M.accepts M.refuses) number (field_of item.now) fault) }
 {
     match content_of(number, item) {
-        Some(content) => Ok(Some(decode(alloc, content)?)),
+        Some(content) => Ok(Some(decode_message(alloc, content)?)),
         None => Ok(None),
     }
 }

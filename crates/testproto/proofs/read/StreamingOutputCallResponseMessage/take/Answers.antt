@@ -1,8 +1,0 @@
-use Rattle.std.proofs.Common.{inl, inr}
-use Rattle.std.proofs.lemmas.Result.{err_from_is_err_and}
-use Rattle.testproto.proofs.read.StreamingOutputCallResponseMessage.take.Goals as goal
-
-pub returns-clause-value : goal.returns-clause-value
-returns-clause-value c before is = record {
-  payload = c.in_ok-take_message.ensures.value before is.payload;
-}
