@@ -1,6 +1,5 @@
 -- Bytes that have a value are refused for want of memory alone.
-use Rattle.std.proofs.Common.{◌≡◌, ◌≢◌, ℕ, List, Result, Ok, Err, refl}
-use Rattle.std.specs.Prelude.{IfErr, MatchResult}
+use Rattle.std.proofs.Common.{◌≡◌, ◌≢◌, ℕ, List, refl}
 use Rattle.pbwire.specs.Fields.{Field}
 use Rattle.testproto.specs.declared.fault.ProtoFault.{ProtoFault}
 use Rattle.testproto.specs.declared.fault.ProtoFault.TheVariants.{Wire, NotUtf8, OutOfMemory}

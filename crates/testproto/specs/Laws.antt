@@ -1,9 +1,6 @@
 -- The laws of each message: fields have one value, and no field is both accepted and refused.
-use Rattle.std.specs.Prelude.{◌≡◌, ◌⊎◌, ℕ, ℤ, Bool, List, Option, refl}
+use Rattle.std.specs.Prelude.{ℕ, ℤ, Bool, List, Option, refl}
 use Rattle.std.proofs.Common.{sym, ap, ◌∙◌, inl, inr}
-use Rattle.pbwire.specs.Fields.{Field}
-use Rattle.testproto.specs.declared.fault.ProtoFault.{ProtoFault}
-use Rattle.testproto.specs.declared.messages.Empty.{Empty}
 use Rattle.testproto.specs.declared.messages.Payload.{Payload}
 use Rattle.testproto.specs.declared.messages.BoolValue.{BoolValue}
 use Rattle.testproto.specs.declared.messages.EchoStatus.{EchoStatus}

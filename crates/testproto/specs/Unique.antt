@@ -1,14 +1,14 @@
 -- Fields have one value, and no field is both accepted and refused: what the laws of each message cite.
-use Rattle.std.specs.Prelude.{◌≡◌, ◌≢◌, ◌⊎◌, ℕ, List, [], ◌∷◌, ◌++◌, Option, Some, None, IsUtf8, refl}
+use Rattle.std.specs.Prelude.{◌≡◌, ◌⊎◌, ℕ, List, [], ◌∷◌, ◌++◌, Option, Some, None, IsUtf8, refl}
 use Rattle.std.proofs.Common.{sym, ap, subst, ◌∙◌, inl, inr}
 use Rattle.std.specs.List.{AllByRecursion}
 use Rattle.pbwire.specs.declared.fault.WireFault.{WireFault}
-use Rattle.pbwire.specs.Fields.{Field, StartsWithField, StartsWithFields, FaultAt, IsReading}
+use Rattle.pbwire.specs.Fields.{Field, StartsWithField, StartsWithFields, FaultAt}
 use Rattle.pbwire.proofs.FieldsRead.{one_field, field_or_fault, no_field_at_end, no_fault_at_end}
 use Rattle.pbwire.proofs.WholeReadings.{one_reading}
 use Rattle.testproto.specs.declared.fault.ProtoFault.{ProtoFault}
-use Rattle.testproto.specs.declared.fault.ProtoFault.TheVariants.{Wire, NotUtf8}
-use Rattle.testproto.specs.Values.{content_in, AreJoined, IsEmbedded, AreRepeated, IsWellFormed, AcceptsText, AcceptsMessage, HasFault, RefusesText, RefusesMessage, IsValueOf}
+use Rattle.testproto.specs.declared.fault.ProtoFault.TheVariants.{Wire}
+use Rattle.testproto.specs.Values.{AreJoined, IsEmbedded, AreRepeated, IsWellFormed, AcceptsText, AcceptsMessage, HasFault, RefusesText, RefusesMessage, IsValueOf}
 
 -- fields have one value
 abbrev pub IsSingle : {M : Type 0} → (List Field → M → Type 0) → Type 0

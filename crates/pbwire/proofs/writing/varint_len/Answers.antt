@@ -1,5 +1,4 @@
-use Rattle.std.proofs.Common.{◌≡◌, ◌+◌, ◌/◌, ◌<◌, ◌^◌, length, arith}
-use Rattle.pbwire.specs.Spelling.{varint_spelling}
+use Rattle.std.proofs.Common.{◌/◌, ◌<◌, ◌^◌, arith}
 use Rattle.pbwire.proofs.VarintsWritten.{one_longer, one_long, len_bounds}
 use Rattle.pbwire.proofs.writing.varint_len.Goals as goal
 

@@ -1,4 +1,4 @@
-use Rattle.std.proofs.Common.{◌≡◌, List, ◌++◌, ◌∷◌, [], sym, ap, subst, ◌∙◌, append_assoc}
+use Rattle.std.proofs.Common.{List, ◌++◌, ◌∷◌, [], subst, append_assoc}
 use Rattle.pbwire.specs.Fields.{Field, field_of}
 use Rattle.testproto.proofs.Joining.{StartsWithFields-push, AllByRecursion-push}
 use Rattle.testproto.proofs.message.merge.Goals as goal

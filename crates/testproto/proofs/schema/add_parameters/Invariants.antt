@@ -1,4 +1,4 @@
-use Rattle.std.proofs.Common.{◌≡◌, ◌+◌, ◌++◌, length, take}
+use Rattle.std.proofs.Common.{◌≡◌, ◌+◌, length, take}
 use Rattle.pbwire.specs.Spelling.{spelling_of_all}
 use Rattle.testproto.specs.Canonical.{repeated_fields, response_parameters_fields}
 use Rattle.testproto.proofs.schema.add_parameters.Given as goal

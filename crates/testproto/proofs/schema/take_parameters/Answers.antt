@@ -1,9 +1,9 @@
-use Rattle.std.proofs.Common.{◌≡◌, ◌++◌, ◌∷◌, [], List, ℕ, sym, subst}
+use Rattle.std.proofs.Common.{◌++◌, ◌∷◌, [], List, sym, subst}
 use Rattle.pbwire.specs.Fields.{field_of}
 use Rattle.testproto.specs.declared.messages.ResponseParameters.{ResponseParameters}
 use Rattle.testproto.specs.Values.{contents, AreRepeated}
 use Rattle.testproto.specs.Messages.{IsResponseParameters}
-use Rattle.testproto.proofs.Joining.{repeated-same, repeated-last}
+use Rattle.testproto.proofs.Joining.{repeated-last}
 use Rattle.testproto.proofs.schema.take_parameters.Goals as goal
 
 pub returns-in_ok-push-clause-value : goal.returns-in_ok-push-clause-value

@@ -1,5 +1,3 @@
-use Rattle.std.proofs.Common.{List, ℕ, Option, subst}
-use Rattle.testproto.specs.Values.{IsEmbedded}
 use Rattle.testproto.proofs.Joining.{absent}
 use Rattle.testproto.proofs.take.or_empty.Goals as goal
 

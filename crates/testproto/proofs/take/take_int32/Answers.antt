@@ -1,4 +1,4 @@
-use Rattle.std.proofs.Common.{◌≡◌, List, ◌++◌, ◌∷◌, [], sym, ap, ◌∙◌}
+use Rattle.std.proofs.Common.{sym, ◌∙◌}
 use Rattle.pbwire.specs.Fields.{field_of}
 use Rattle.testproto.proofs.Joining.{int32-same, int32-last, int32-stored}
 use Rattle.testproto.proofs.take.take_int32.Goals as goal

@@ -1,7 +1,6 @@
-use Rattle.std.proofs.Common.{◌≡◌, List, ℕ, Option, Some, None, sym, subst}
-use Rattle.pbwire.specs.Fields.{Field, field_of}
-use Rattle.testproto.specs.Values.{contents, IsEmbedded}
-use Rattle.testproto.proofs.Joining.{embedded-same, embedded-last}
+use Rattle.pbwire.specs.Fields.{field_of}
+use Rattle.testproto.specs.Values.{contents}
+use Rattle.testproto.proofs.Joining.{embedded-last}
 use Rattle.testproto.proofs.take.take_message.Goals as goal
 
 pub returns-clause-value : goal.returns-clause-value

@@ -1,4 +1,4 @@
-use Rattle.std.proofs.Common.{◌≡◌, List, ◌++◌, ◌∷◌, [], sym, ◌∙◌}
+use Rattle.std.proofs.Common.{sym, ◌∙◌}
 use Rattle.pbwire.specs.Fields.{field_of}
 use Rattle.testproto.proofs.Joining.{byte_string-same, byte_string-last}
 use Rattle.testproto.proofs.take.take_text.Goals as goal

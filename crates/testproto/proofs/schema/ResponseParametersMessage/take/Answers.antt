@@ -1,5 +1,3 @@
-use Rattle.std.proofs.Common.{inl, inr}
-use Rattle.std.proofs.lemmas.Result.{err_from_is_err_and}
 use Rattle.testproto.proofs.schema.ResponseParametersMessage.take.Goals as goal
 
 pub returns-clause-value : goal.returns-clause-value

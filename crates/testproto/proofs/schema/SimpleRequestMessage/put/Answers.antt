@@ -1,6 +1,6 @@
-use Rattle.std.proofs.Common.{◌≡◌, ◌+◌, ◌++◌, List, length, rules}
+use Rattle.std.proofs.Common.{◌≡◌, ◌++◌, rules}
 use Rattle.pbwire.specs.Spelling.{spelling_of_all}
-use Rattle.testproto.specs.Canonical.{int32_fields, bool_fields, bytes_fields, message_fields, repeated_fields, payload_fields, bool_value_fields, echo_status_fields, response_parameters_fields}
+use Rattle.testproto.specs.Canonical.{int32_fields, bool_fields, message_fields, payload_fields, bool_value_fields, echo_status_fields}
 use Rattle.testproto.proofs.Writing.{chain}
 use Rattle.testproto.proofs.schema.SimpleRequestMessage.put.Goals as goal
 
