@@ -158,3 +158,14 @@ shortest_of n (x ∷ xs) fits there (inr many) =
 
 pub shortest : (n : ℕ) (bytes : List ℕ) → n < 2 ^ 64 → IsVarint bytes n → length (varint_spelling n) ≤ length bytes
 shortest n bytes fits there = shortest_of n bytes fits there (cases_lt (length bytes) 10)
+
+-- ---- how many bytes it takes
+
+pub one_longer : (n : ℕ) → 128 ≤ n → n < 2 ^ 64 → length (varint_spelling n) ≡ suc (length (varint_spelling (n / 128)))
+one_longer n high fits = ap length (varint_spelling-more n high fits)
+
+pub one_long : (n : ℕ) → n < 128 → length (varint_spelling n) ≡ 1
+one_long n low = ap length (varint_spelling-last n low)
+
+pub len_bounds : (n : ℕ) → n < 2 ^ 64 → (0 < length (varint_spelling n)) × (length (varint_spelling n) ≤ 10)
+len_bounds n fits = (some_bytes (varint_spelling n) (is_varint n fits).terminated, (is_varint n fits).short)

@@ -26,7 +26,7 @@ pub use field::{FieldItem, FieldValue};
 pub use reading::Fields;
 pub use varint::read_varint;
 pub use whole::{AllFields, read_fields};
-pub use writing::{write_field, write_varint};
+pub use writing::{varint_len, write_field, write_varint};
 
 #[cfg(test)]
 mod tests;

@@ -290,6 +290,7 @@ fn varints_are_written(rt: HostRuntime) -> Result<(), Fail> {
     ];
     for (number, bytes) in rows {
         let mut out = Vec::new(rt.alloc());
+        assert_eq!(rt; varint_len(number), bytes.len());
         write_varint(number, &mut out).ok().ok_or("no memory")?;
         assert_eq!(rt; out.as_slice(), bytes);
     }

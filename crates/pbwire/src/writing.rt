@@ -56,6 +56,20 @@ fn push_field(number: u32, value: &FieldValue<'_>, out: &mut Vec<u8>) -> Result<
     push_content(value, out)
 }
 
+/// How many bytes [`write_varint`] appends: one to ten.
+pub fn varint_len(number: u64) -> usize
+    ensures len { result ≡ length (varint_spelling number) }
+    ensures short { result ≤ 10 }
+{
+    let mut rest = number;
+    let mut len = 1;
+    while rest >= 0x80 {
+        len += 1;
+        rest /= 0x80;
+    }
+    len
+}
+
 /// Appends the shortest spelling of a number, one to ten bytes.
 ///
 /// It fails only for memory, and never where the buffer has room.

@@ -1,0 +1,3 @@
+pub mod Joining
+pub mod Faults
+pub mod Writing

@@ -1,0 +1,33 @@
+//! The test messages of gRPC: `grpc.testing`'s messages.proto and empty.proto, read and written by the
+//! Protocol Buffers encoding guide (<https://protobuf.dev/programming-guides/encoding/>), sections "Last
+//! One Wins", "Optional and Repeated Fields" and "Submessages".
+//!
+//! Promised: [`Message::decode`] answers the value of the bytes exactly where they have one, memory aside,
+//! and otherwise a fault that stands in them, the leftmost, in an embedded message where its occurrence
+//! stands; [`Message::encode`] gives the fields by ascending number with the defaults left out.
+//!
+//! Read [`fault`], [`lists`] and [`messages`] first, the types; then [`message`], what every message has;
+//! [`take`] and [`put`] have one function a kind of field, for reading and for writing; [`schema`] says which
+//! field of each message is which. What is right is defined in `specs/`: `Values` and `Messages` for what
+//! bytes mean, `Canonical` for what is written.
+#![tactic(auto)]
+
+mod fault;
+mod lists;
+mod message;
+mod messages;
+mod put;
+mod schema;
+mod take;
+
+pub use fault::ProtoFault;
+pub use lists::{ByteList, Text};
+pub use message::Message;
+pub use messages::{
+    BoolValue, EchoStatus, Empty, ParameterList, Payload, ResponseParameters, SimpleRequest,
+    SimpleResponse, StreamingInputCallRequest, StreamingInputCallResponse,
+    StreamingOutputCallRequest, StreamingOutputCallResponse,
+};
+
+#[cfg(test)]
+mod tests;

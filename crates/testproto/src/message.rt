@@ -1,0 +1,126 @@
+//! What every message has, and how it is read.
+
+ghost use Rattle.std.specs.Prelude.{◌≡◌, ◌≢◌, ◌++◌, ◌∷◌, [], List, length, IfOk, IfErr, IfSome, OnOk, MatchResult};
+ghost use Rattle.pbwire.specs.Fields.{Field, field_of};
+ghost use Rattle.pbwire.specs.Spelling.{spelling_of_all};
+ghost use Rattle.testproto.specs.declared.fault.ProtoFault.{ProtoFault as Fault};
+ghost use Rattle.testproto.specs.declared.fault.ProtoFault.TheVariants.{OutOfMemory};
+ghost use Rattle.testproto.specs.Values.{IsValueOf, Adds, HasFault};
+ghost use Rattle.testproto.specs.Unique.{IsSingle, AreApart};
+
+use crate::fault::ProtoFault;
+use pbwire::{FieldItem, Fields};
+use std::alloc::Global;
+
+/// A message of the schema.
+pub trait Message: Drop {
+    /// The message is the value of these fields, in the order in which they stand.
+    ghost is_value: { List Field → Self → Type 0 };
+
+    /// The texts and messages in the field are well formed.
+    ghost accepts: { Field → Type 0 };
+
+    /// What is wrong with the texts and messages in the field.
+    ghost refuses: { Field → Fault → Type 0 };
+
+    /// The fields that are written of the message.
+    ghost fields_of: { Self → List Field };
+
+    /// The message of no fields.
+    fn empty(alloc: Global) -> Self
+        ensures { is_value [] result };
+
+    /// Takes one more field. Where that fails, the message is of no more use.
+    fn take(&mut self, alloc: Global, item: &FieldItem<'_>) -> Result<(), ProtoFault>
+        ensures value { OnOk result ((before : List Field) → is_value before self.old
+            → is_value (before ++ field_of item.now ∷ []) self.new) }
+        ensures accepted { OnOk result (accepts (field_of item.now)) }
+        ensures refused { IfErr result (λ fault. fault ≢ OutOfMemory → refuses (field_of item.now) fault) };
+
+    /// How many bytes are written of the message, or none where no buffer could hold them.
+    fn size(&self) -> Option<usize>
+        ensures { IfSome result (λ size. size ≡ length (spelling_of_all (fields_of self.now))) };
+
+    /// Appends the fields of the message, by ascending number, defaults left out.
+    fn put(&self, out: &mut Vec<u8>) -> Result<(), ProtoFault>
+        ensures ok { OnOk result (out.new.items ≡ out.old.items ++ spelling_of_all (fields_of self.now)) }
+        ensures memory { IfErr result (λ fault. fault ≡ OutOfMemory) };
+
+    /// Fields have one value.
+    ghost one_value: { IsSingle is_value };
+
+    /// No field is both accepted and refused.
+    ghost apart: { AreApart accepts refuses };
+
+    /// The message that the bytes, all of them, are.
+    final fn decode(alloc: Global, bytes: &[u8]) -> Result<Self, ProtoFault>
+        // What is answered is the value of the bytes, or the fault that stands in them.
+        ensures ok { IfOk result (λ message. IsValueOf accepts is_value bytes.now message) }
+        ensures err { IfErr result (λ fault. fault ≢ OutOfMemory → HasFault accepts refuses bytes.now fault) }
+
+        // Bytes that have a value are read, memory aside.
+        ensures every_value { (value : Self) → IsValueOf accepts is_value bytes.now value
+            → MatchResult result (λ message. message ≡ value) (λ fault. fault ≡ OutOfMemory) }
+    {
+        decode_message(alloc, bytes)
+    }
+
+    /// The bytes of the message: its fields by ascending number, defaults left out.
+    ///
+    /// It sets aside the room once and fills it, so a large body is copied once.
+    final fn encode(&self, alloc: Global) -> Result<Vec<u8>, ProtoFault>
+        ensures ok { IfOk result (λ bytes. bytes.items ≡ spelling_of_all (fields_of self.now)) }
+        ensures memory { IfErr result (λ fault. fault ≡ OutOfMemory) }
+    {
+        encode_message(alloc, self)
+    }
+}
+
+/// Reads the fields of these bytes into a message that has read others before.
+pub(crate) fn merge<M: Message>(
+    message: &mut M,
+    alloc: Global,
+    bytes: &[u8],
+) -> Result<(), ProtoFault>
+    ensures ok { OnOk result (Adds M.accepts M.is_value bytes.now message.old message.new) }
+    ensures err { IfErr result (λ fault. fault ≢ OutOfMemory → HasFault M.accepts M.refuses bytes.now fault) }
+{
+    let mut fields = Fields::new(bytes);
+    while let Some(answer) = fields.next() {
+        match answer {
+            Ok(item) => message.take(alloc, &item)?,
+            Err(fault) => return Err(ProtoFault::Wire(fault)),
+        }
+    }
+    Ok(())
+}
+
+/// The message that the bytes, all of them, are.
+pub(crate) fn decode_message<M: Message>(alloc: Global, bytes: &[u8]) -> Result<M, ProtoFault>
+    // What is answered is the value of the bytes, or a fault that stands in them.
+    ensures ok { IfOk result (λ message. IsValueOf M.accepts M.is_value bytes.now message) }
+    ensures err { IfErr result (λ fault. fault ≢ OutOfMemory → HasFault M.accepts M.refuses bytes.now fault) }
+
+    // Bytes that have a value are read, memory aside.
+    ensures every_value { (value : M) → IsValueOf M.accepts M.is_value bytes.now value
+        → MatchResult result (λ message. message ≡ value) (λ fault. fault ≡ OutOfMemory) }
+{
+    let mut message = M::empty(alloc);
+    merge(&mut message, alloc, bytes)?;
+    Ok(message)
+}
+
+/// The bytes of the message: its fields by ascending number, defaults left out.
+///
+/// It sets aside the room once and fills it, so a large body is copied once.
+pub(crate) fn encode_message<M: Message>(alloc: Global, message: &M) -> Result<Vec<u8>, ProtoFault>
+    ensures ok { IfOk result (λ bytes. bytes.items ≡ spelling_of_all (M.fields_of message.now)) }
+    ensures memory { IfErr result (λ fault. fault ≡ OutOfMemory) }
+{
+    let Some(size) = message.size() else {
+        return Err(ProtoFault::OutOfMemory);
+    };
+    let mut out = Vec::with_capacity(alloc, size)?;
+    message.put(&mut out)?;
+    Ok(out)
+}
