@@ -4,7 +4,7 @@ use Rattle.std.proofs.lemmas.List.{append-nil, take_all, take-append-drop, drop_
 use Rattle.std.proofs.lemmas.Bool.{eqb-true, eqb-false, ltb-true, ltb-false}
 use Rattle.std.proofs.lemmas.List.Sums.{fails_before_first, passes_at_first}
 use Rattle.std.specs.List.{position, position_or_len}
-use Rattle.std.specs.Prelude.{Result, Ok, Err, IfOk, IfNone, IfSome, MatchOption, ◌==◌, nat_lt, Bool, true, false, cond}
+use Rattle.std.specs.Prelude.{Result, Ok, Err, IfOk, IfNone, IfSome, ◌==◌, nat_lt, Bool, true, false, cond}
 use Rattle.base64.specs.declared.engine.general_purpose.GeneralPurpose.{GeneralPurpose}
 use Rattle.base64.specs.Engines.{standard, standard_no_pad}
 use Rattle.base64.specs.GeneralPurpose.{encode_of, decode_of, IsConsistent}
@@ -184,24 +184,22 @@ refused_last text read rest leads without none values is =
     none here.0 here.2
 
 pub leads_on : (text : List ℕ) (read : List (List ℕ)) (rest part behind value : List ℕ) → Leads text read rest → rest ≡ part ++ 0x2C ∷ behind → IsWithout 0x2C part → ReadsPart part (Some value) → Leads text (read ++ value ∷ []) behind
-leads_on text read rest part behind value leads there without some =
-    (
-      λ values is. subst (IsBinValues text) (sym (append_assoc read (value ∷ []) values)) (leads.0 (value ∷ values) (subst (λ (t : List ℕ). IsBinValues t (value ∷ values)) (sym there) (values_on part behind value values some.0 is))),
-      λ values is.
-          let tail = leads.1 values is in
-          let here = values_at part behind tail.0 without (subst (λ (t : List ℕ). IsBinValues t tail.0) there tail.2) in
-          let same : here.0 ≡ value = some.1 here.0 here.3 in
-          (here.1, tail.1 ∙ ap (λ (t : List (List ℕ)). read ++ t) (here.2 ∙ ap (λ (v : List ℕ). v ∷ here.1) same) ∙ sym (append_assoc read (value ∷ []) here.1), here.4),
-    )
+leads_on text read rest part behind value leads there without some = (
+  λ values is. subst (IsBinValues text) (sym (append_assoc read (value ∷ []) values)) (leads.0 (value ∷ values) (subst (λ (t : List ℕ). IsBinValues t (value ∷ values)) (sym there) (values_on part behind value values some.0 is))),
+  λ values is.
+      let tail = leads.1 values is in
+      let here = values_at part behind tail.0 without (subst (λ (t : List ℕ). IsBinValues t tail.0) there tail.2) in
+      let same : here.0 ≡ value = some.1 here.0 here.3 in
+      (here.1, tail.1 ∙ ap (λ (t : List (List ℕ)). read ++ t) (here.2 ∙ ap (λ (v : List ℕ). v ∷ here.1) same) ∙ sym (append_assoc read (value ∷ []) here.1), here.4),
+)
 
 pub leads_all : (text : List ℕ) (read : List (List ℕ)) (rest value : List ℕ) → Leads text read rest → IsWithout 0x2C rest → ReadsPart rest (Some value) → (values : List (List ℕ)) → (Some (read ++ value ∷ []) ≡ Some values → IsBinValues text values) × (IsBinValues text values → Some (read ++ value ∷ []) ≡ Some values)
-leads_all text read rest value leads without some values =
-    (
-      λ e. let same : read ++ value ∷ [] ≡ values = cc in subst (IsBinValues text) same (leads.0 (value ∷ []) some.0),
-      λ is.
-          let tail = leads.1 values is in
-          let here = values_last rest tail.0 without tail.2 in
-          let same : here.0 ≡ value = some.1 here.0 here.2 in
-          let whole : values ≡ read ++ value ∷ [] = tail.1 ∙ ap (λ (t : List (List ℕ)). read ++ t) (here.1 ∙ ap (λ (v : List ℕ). v ∷ []) same) in
-          ap (λ (v : List (List ℕ)). Some v) (sym whole),
-    )
+leads_all text read rest value leads without some values = (
+  λ e. let same : read ++ value ∷ [] ≡ values = cc in subst (IsBinValues text) same (leads.0 (value ∷ []) some.0),
+  λ is.
+      let tail = leads.1 values is in
+      let here = values_last rest tail.0 without tail.2 in
+      let same : here.0 ≡ value = some.1 here.0 here.2 in
+      let whole : values ≡ read ++ value ∷ [] = tail.1 ∙ ap (λ (t : List (List ℕ)). read ++ t) (here.1 ∙ ap (λ (v : List ℕ). v ∷ []) same) in
+      ap (λ (v : List (List ℕ)). Some v) (sym whole),
+)

@@ -1,10 +1,10 @@
 -- Base64 has neither a comma nor a padding sign among its symbols.
-use Rattle.std.proofs.Common.{◌≡◌, ◌≢◌, ℕ, zero, suc, ◌+◌, ◌*◌, ◌/◌, ◌%◌, ◌<◌, Bool, true, not, ◌&&◌, ◌==◌, List, [], ◌∷◌, ◌++◌, length, slice_index, replicate, refl, sym, ap, subst, ◌∙◌, arith, inl, inr}
-use Rattle.std.proofs.lemmas.Bool.{cases_lt, and_parts, eqb-false, not-true}
+use Rattle.std.proofs.Common.{◌≡◌, ◌≢◌, ℕ, ◌+◌, ◌*◌, ◌/◌, ◌%◌, Bool, true, not, ◌==◌, List, [], ◌∷◌, slice_index, refl, arith, inl, inr}
+use Rattle.std.proofs.lemmas.Bool.{cases_lt, eqb-false, not-true}
 use Rattle.std.proofs.lemmas.List.{get_or_past, append-nil}
 use Rattle.base64.specs.Tables.{all_below}
 use Rattle.base64.proofs.Tables.{all_below_at}
-use Rattle.base64.specs.Rfc4648.{encode_symbols, padding_len}
+use Rattle.base64.specs.Rfc4648.{encode_symbols}
 use Rattle.base64.specs.Engines.{standard, standard_no_pad}
 use Rattle.base64.specs.GeneralPurpose.{encode_of}
 use Rattle.callhead.specs.BinValues.{alphabet, unpadded, padded}

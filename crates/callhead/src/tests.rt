@@ -8,7 +8,11 @@ fn faults_have_their_numbers(rt: HostRuntime) -> Result<(), Fail> {
     let faults = [
         (HeadFault::Malformed, 1, "the request is malformed"),
         (HeadFault::NotPost, 2, "the method is not POST"),
-        (HeadFault::NotGrpc, 3, "the content type is not application/grpc"),
+        (
+            HeadFault::NotGrpc,
+            3,
+            "the content type is not application/grpc",
+        ),
         (HeadFault::BadTimeout, 4, "the timeout is malformed"),
         (HeadFault::OutOfMemory, 5, "out of memory"),
     ];
@@ -37,14 +41,30 @@ fn timeouts_are_read(rt: HostRuntime) -> Result<(), Fail> {
     for (text, nanoseconds) in lawful {
         assert_eq!(rt; read_timeout(text.as_bytes()), Some(nanoseconds));
     }
-    for text in ["123456789S", "1x", "S", "", "1", "+1S", "-1S", "1 S", " 1S", "1S ", "aS", "1.5S", "1h", "1N"] {
+    for text in [
+        "123456789S",
+        "1x",
+        "S",
+        "",
+        "1",
+        "+1S",
+        "-1S",
+        "1 S",
+        " 1S",
+        "1S ",
+        "aS",
+        "1.5S",
+        "1h",
+        "1N",
+    ] {
         assert_eq!(rt; read_timeout(text.as_bytes()), None);
     }
     Ok(())
 }
 
 /// The text of the interop case special_status_message.
-const SPECIAL: &str = "\t\ntest with whitespace\r\nand Unicode BMP \u{263a} and non-BMP \u{1f608}\t\n";
+const SPECIAL: &str =
+    "\t\ntest with whitespace\r\nand Unicode BMP \u{263a} and non-BMP \u{1f608}\t\n";
 
 const SPECIAL_WRITTEN: &str =
     "%09%0Atest with whitespace%0D%0Aand Unicode BMP %E2%98%BA and non-BMP %F0%9F%98%88%09%0A";
@@ -61,7 +81,10 @@ fn status_texts_are_written(rt: HostRuntime) -> Result<(), Fail> {
     ];
     for (text, written) in texts {
         assert_eq!(rt; percent_text(rt.alloc(), text)?.as_str(), written);
-        assert_eq!(rt; read_percent_text(rt.alloc(), written.as_bytes())?.as_str(), text);
+        assert_eq!(rt;
+            read_percent_text(rt.alloc(), written.as_bytes())?.as_str(),
+            text
+        );
     }
     Ok(())
 }
@@ -77,7 +100,10 @@ fn status_texts_are_read(rt: HostRuntime) -> Result<(), Fail> {
         ("a%FFb", "a\u{fffd}b"),
     ];
     for (value, text) in values {
-        assert_eq!(rt; read_percent_text(rt.alloc(), value.as_bytes())?.as_str(), text);
+        assert_eq!(rt;
+            read_percent_text(rt.alloc(), value.as_bytes())?.as_str(),
+            text
+        );
     }
     Ok(())
 }
@@ -97,11 +123,15 @@ fn binary_values_are_written(rt: HostRuntime) -> Result<(), Fail> {
     for (value, text) in texts {
         assert_eq!(rt; bin_value(rt.alloc(), value.as_bytes())?.as_str(), text);
     }
-    assert_eq!(rt; bin_value(rt.alloc(), &[0xab, 0xab, 0xab])?.as_str(), "q6ur");
+    assert_eq!(rt;
+        bin_value(rt.alloc(), &[0xab, 0xab, 0xab])?.as_str(),
+        "q6ur"
+    );
     let all_symbols: [u8; 48] = [
-        0x00, 0x10, 0x83, 0x10, 0x51, 0x87, 0x20, 0x92, 0x8b, 0x30, 0xd3, 0x8f, 0x41, 0x14, 0x93, 0x51, 0x55, 0x97,
-        0x61, 0x96, 0x9b, 0x71, 0xd7, 0x9f, 0x82, 0x18, 0xa3, 0x92, 0x59, 0xa7, 0xa2, 0x9a, 0xab, 0xb2, 0xdb, 0xaf,
-        0xc3, 0x1c, 0xb3, 0xd3, 0x5d, 0xb7, 0xe3, 0x9e, 0xbb, 0xf3, 0xdf, 0xbf,
+        0x00, 0x10, 0x83, 0x10, 0x51, 0x87, 0x20, 0x92, 0x8b, 0x30, 0xd3, 0x8f, 0x41, 0x14, 0x93,
+        0x51, 0x55, 0x97, 0x61, 0x96, 0x9b, 0x71, 0xd7, 0x9f, 0x82, 0x18, 0xa3, 0x92, 0x59, 0xa7,
+        0xa2, 0x9a, 0xab, 0xb2, 0xdb, 0xaf, 0xc3, 0x1c, 0xb3, 0xd3, 0x5d, 0xb7, 0xe3, 0x9e, 0xbb,
+        0xf3, 0xdf, 0xbf,
     ];
     assert_eq!(rt;
         bin_value(rt.alloc(), all_symbols.as_slice())?.as_str(),

@@ -1,4 +1,4 @@
-use Rattle.std.proofs.Common.{◌≡◌, ◌+◌, take, drop, subst, arith}
+use Rattle.std.proofs.Common.{◌+◌, take, drop, subst, arith}
 use Rattle.std.proofs.lemmas.List.{take_rest}
 use Rattle.callhead.specs.Parts.{ReadsPart}
 use Rattle.callhead.proofs.PartLemmas.{refused_at, refused_last, leads_on, leads_all}
@@ -8,8 +8,7 @@ pub returns-in_default-2 : goal.returns-in_default-2
 returns-in_default-2 c = λ values.
     let rest = c.loop-comma.rest.now in
     let part = take c.in-Some.comma rest in
-    let none = subst (ReadsPart part) c.in_default-2.is c.in_ok-value.ensures in
-    (
+    let none = subst (ReadsPart part) c.in_default-2.is c.in_ok-value.ensures in (
       λ e. absurd (cc),
       λ is. absurd (refused_at c.args.text.now c.loop-comma.values.items rest part (drop (c.in-Some.comma + 1) rest) c.loop-comma.invariant c.in-Some.ensures.there c.in-Some.ensures.without none values is),
     )

@@ -1,5 +1,4 @@
-use Rattle.std.proofs.Common.{◌≡◌, ℕ, ◌<◌, slice_index, string_bytes, arith, ◌∙◌, ap}
-use Rattle.callhead.specs.StatusTexts.{text_of}
+use Rattle.std.proofs.Common.{ℕ, ◌<◌, slice_index, arith}
 use Rattle.callhead.proofs.Escapes.{percent_text_is, read_again}
 use Rattle.callhead.proofs.percent.percent_text.Goals as goal
 
