@@ -1,0 +1,4 @@
+pub mod Escapes
+pub mod TimeoutLemmas
+pub mod Symbols
+pub mod PartLemmas
