@@ -1,0 +1,146 @@
+//! Prints the frames of recorded connections, as `data/` has them from the preface on: of a type, flags, stream and
+//! payload's length each, with the block of HEADERS and the payload of what is neither HEADERS nor DATA. Each connection
+//! is read whole and in small pieces, which have to give the same frames. `stdout` has the lists that another
+//! implementation of HTTP/2 made of the same bytes (`data/README.md`).
+#![tactic(auto)]
+
+use anyhow::{Context, Result, ensure};
+use h2frame::{Frame, FrameKind, FrameReader};
+use std::alloc::Global;
+use std::fs;
+use std::rt::Files;
+
+/// The bytes of a connection before its frames (RFC 9113, section 3.4).
+const PREFACE_LEN: usize = 24;
+
+const CONNECTIONS: [&str; 26] = [
+    "c_core-cancel_after_begin",
+    "c_core-cancel_after_first_response",
+    "c_core-client_streaming",
+    "c_core-empty_stream",
+    "c_core-empty_unary",
+    "c_core-half_duplex",
+    "c_core-ping_pong",
+    "c_core-server_streaming",
+    "c_core-special_status_message",
+    "c_core-status_code_and_message",
+    "c_core-timeout_on_sleeping_server",
+    "c_core-unimplemented_method",
+    "c_core-unimplemented_service",
+    "go-cancel_after_begin",
+    "go-cancel_after_first_response",
+    "go-client_streaming",
+    "go-empty_stream",
+    "go-empty_unary",
+    "go-half_duplex",
+    "go-ping_pong",
+    "go-server_streaming",
+    "go-special_status_message",
+    "go-status_code_and_message",
+    "go-timeout_on_sleeping_server",
+    "go-unimplemented_method",
+    "go-unimplemented_service",
+];
+
+fn name_of(kind: FrameKind) -> &'static str {
+    match kind {
+        FrameKind::Data => "DATA",
+        FrameKind::Headers => "HEADERS",
+        FrameKind::Priority => "PRIORITY",
+        FrameKind::RstStream => "RSTSTREAM",
+        FrameKind::Settings => "SETTINGS",
+        FrameKind::PushPromise => "PUSHPROMISE",
+        FrameKind::Ping => "PING",
+        FrameKind::GoAway => "GOAWAY",
+        FrameKind::WindowUpdate => "WINDOWUPDATE",
+        FrameKind::Continuation => "CONTINUATION",
+        FrameKind::Unknown(_) => "UNKNOWN",
+    }
+}
+
+fn print_frame(text: &mut String, frame: &Frame) -> Result<()> {
+    let head = &frame.head;
+    let name = name_of(head.kind);
+    let flags = head.flags.bits;
+    let stream = head.stream;
+    let length = head.length;
+    write!(
+        text,
+        "{name} flags={flags:02x} stream={stream} length={length}"
+    )?;
+    match head.kind {
+        FrameKind::Data => {}
+        FrameKind::Headers => {
+            write!(text, "\n  block ")?;
+            print_bytes(text, frame.content.as_slice())?;
+        }
+        _ => {
+            write!(text, " payload=")?;
+            print_bytes(text, frame.content.as_slice())?;
+        }
+    }
+    text.push('\n')?;
+    Ok(())
+}
+
+fn print_bytes(text: &mut String, bytes: &[u8]) -> Result<()> {
+    for byte in bytes {
+        write!(text, "{byte:02x}")?;
+    }
+    Ok(())
+}
+
+/// Adds the frames that are whole by now.
+fn drain(reader: &mut FrameReader, text: &mut String) -> Result<()> {
+    for _ in 0..u64::MAX {
+        match reader.next() {
+            None => return Ok(()),
+            Some(Ok(frame)) => print_frame(text, &frame)?,
+            Some(Err(fault)) => return Err(fault.into()),
+        }
+    }
+    Ok(())
+}
+
+/// The frames of bytes that come in pieces of a size.
+fn frames_of(alloc: Global, bytes: &[u8], size: usize) -> Result<String> {
+    let mut reader = FrameReader::new(alloc);
+    let mut text = String::new(alloc);
+    for piece in bytes.chunks(size.max(1)) {
+        reader.feed(piece)?;
+        drain(&mut reader, &mut text)?;
+    }
+    Ok(text)
+}
+
+fn connection(rt: &(impl Files + AllocGlobal), name: &str) -> Result<String> {
+    let alloc = rt.alloc();
+    let path = format!(in alloc; "{name}.hex")?;
+    let digits = fs::read_to_string(rt, path.as_str())?;
+    let bytes = hex::decode(alloc, digits.trim())
+        .ok()
+        .context("the file is not hexadecimal")?;
+    let bytes = bytes
+        .as_slice()
+        .get(PREFACE_LEN..)
+        .context("the preface is cut")?;
+    let whole = frames_of(alloc, bytes, bytes.len())?;
+    for size in [1, 2, 9, 1000, 16384] {
+        let pieces = frames_of(alloc, bytes, size)?;
+        ensure!(
+            pieces.as_str() == whole.as_str(),
+            "{name} in pieces of {size}"
+        );
+    }
+    Ok(whole)
+}
+
+fn main(rt: HostRuntime) -> Result<()> {
+    for name in CONNECTIONS {
+        println!(rt; "{name}")?;
+        let text = connection(&rt, name)?;
+        let text = text.as_str();
+        print!(rt; "{text}")?;
+    }
+    Ok(())
+}

@@ -1,0 +1,9 @@
+pub mod Kind
+pub mod Flags
+pub mod Setting
+pub mod ErrorCode
+pub mod Faults
+pub mod Spelling
+pub mod FrameList
+pub mod Reading
+pub mod Examples

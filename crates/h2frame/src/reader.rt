@@ -1,0 +1,129 @@
+//! Reading frames from bytes that come in pieces.
+
+ghost use Rattle.std.specs.Prelude.{◌≡◌, ◌≢◌, ◌+◌, ◌^◌, ◌<◌, ◌≤◌, ◌↔◌, List, ℕ, [], ◌∷◌, ◌++◌, length, take, drop, Some, Err, IsNone, IfOk, IfErr, IfSome, OnOk, OnErr, IsOkUnless};
+ghost use Rattle.h2frame.specs.FrameList.{Entry, Whole, Joined, IsUnfinished, IsFaulty, IsLawful, answered, HasCause};
+ghost use Rattle.h2frame.specs.Reading.{IsSpelledAt, IsStep};
+
+use crate::frame::lacks_increment;
+use crate::span::{HEAD_LEN, Span, span_at};
+use crate::{Frame, FrameFault, FrameKind};
+use bytes::{Bytes, BytesMut};
+use std::alloc::{AllocError, Global};
+use std::marker::Model;
+
+/// The frames of bytes that come in pieces, from the end of the connection's preface on. A clause sees it as the bytes
+/// that were fed and aren't used up.
+#[derive(Drop)]
+pub struct FrameReader {
+    buffer: BytesMut,
+}
+
+impl Model for FrameReader {
+    ghost use Rattle.std.specs.Prelude.{List, ℕ};
+
+    ghost Value = { List ℕ };
+
+    ghost view = { λ reader. reader.buffer.items };
+}
+
+impl FrameReader {
+    /// A reader of no bytes yet.
+    pub fn new(alloc: Global) -> FrameReader
+        ensures { result ≡ [] }
+    {
+        FrameReader {
+            buffer: BytesMut::new(alloc),
+        }
+    }
+
+    /// Takes the next piece of the bytes, which is copied once.
+    pub fn feed(&mut self, piece: &[u8]) -> Result<(), FrameFault>
+        ensures ok { OnOk result (self.new ≡ self.old ++ piece.now) }
+
+        // However the bytes before it were cut, it is as if they had come with them.
+        ensures list { OnOk result ((bytes : List ℕ) (entries : List Entry) →
+            Joined bytes entries self.old → Joined (bytes ++ piece.now) entries self.new) }
+
+        // A fault that stands goes on to stand.
+        ensures faulty { OnOk result ((fault : FrameFault) →
+            IsFaulty fault self.old → IsFaulty fault self.new) }
+        ensures err { OnErr result (self.new ≡ self.old) }
+        ensures memory { IsOkUnless result FrameFault.OutOfMemory }
+    {
+        self.buffer.extend_from_slice(piece)?;
+        Ok(())
+    }
+
+    /// The next frame or fault of the bytes so far, or nothing while none is there. A frame's content shares the
+    /// reader's memory. After `OutOfMemory` it may be called again.
+    pub fn next(&mut self) -> Option<Result<Frame, FrameFault>>
+        // The answer goes on the list of the entries before it, however the bytes were cut.
+        ensures list { (bytes : List ℕ) (entries : List Entry) →
+            Joined bytes entries self.old → Joined bytes (entries ++ answered result) self.new }
+        ensures unfinished { IsNone result ↔ IsUnfinished self.old }
+
+        ensures lawful { IfSome result (λ r. IfOk r IsLawful) }
+        ensures stream { (stream : ℕ) →
+            result ≡ Some (Err (FrameFault.ZeroIncrement stream)) → stream < 2 ^ 31 }
+
+        // A fault that stands is answered, and goes on to stand.
+        ensures repeats { (fault : FrameFault) →
+            IsFaulty fault self.old → (result ≡ Some (Err fault)) × (self.new ≡ self.old) }
+        ensures cause { IfSome result (λ r. IfErr r (λ fault. HasCause fault self.old)) }
+        ensures kept { answered result ≡ [] → self.new ≡ self.old }
+    {
+        step(&mut self.buffer)
+    }
+}
+
+/// Answers what stands at the front, and takes it off where it is an entry.
+fn step(buffer: &mut BytesMut) -> Option<Result<Frame, FrameFault>>
+    ensures { IsStep result buffer.old.items buffer.new.items }
+{
+    let span = match span_at(buffer.as_slice())? {
+        Ok(span) => span,
+        Err(fault) => return Some(Err(fault)),
+    };
+    Some(take_frame(buffer, &span))
+}
+
+fn take_frame(buffer: &mut BytesMut, span: &Span) -> Result<Frame, FrameFault>
+    requires spelled { IsSpelledAt span.now buffer.old.items }
+    requires within { span.now.start + span.now.len ≤ 9 + span.now.head.length }
+    requires whole { 9 + span.now.head.length ≤ length buffer.old.items }
+    requires credit { span.now.head.kind ≡ FrameKind.WindowUpdate → span.now.len ≡ 4 }
+    ensures { IsStep (Some result) buffer.old.items buffer.new.items }
+{
+    if lacks_increment(span.head.kind, span.content_of(buffer.as_slice())) {
+        let of_stream = span.head.stream != 0;
+        if of_stream {
+            buffer.advance(HEAD_LEN + span.head.length as usize);
+        }
+        return Err(FrameFault::ZeroIncrement(span.head.stream));
+    }
+    let content = cut(buffer, span)?;
+    Ok(Frame {
+        head: span.head,
+        content,
+    })
+}
+
+/// Cuts the frame off the front, and keeps its content, which shares the buffer's block.
+fn cut(buffer: &mut BytesMut, span: &Span) -> Result<Bytes, AllocError>
+    requires within { span.now.start + span.now.len ≤ 9 + span.now.head.length }
+    requires whole { 9 + span.now.head.length ≤ length buffer.old.items }
+    ensures content { IfOk result
+        (λ content. content ≡ take span.now.len (drop span.now.start buffer.old.items)) }
+    ensures rest { OnOk result (buffer.new.items ≡ drop (9 + span.now.head.length) buffer.old.items) }
+    ensures err { OnErr result (buffer.new.items ≡ buffer.old.items) }
+{
+    let end = HEAD_LEN + span.head.length as usize;
+    if span.len == 0 {
+        buffer.advance(end);
+        return Ok(Bytes::new());
+    }
+    let mut text = buffer.freeze_to(end)?;
+    text.advance(span.start);
+    text.truncate(span.len);
+    Ok(text)
+}

@@ -1,0 +1,46 @@
+//! Writing frames.
+
+ghost use Rattle.std.specs.Prelude.{◌≡◌, ◌<◌, ◌^◌, ◌++◌, ◌⊎◌, false, length, Some, Err, IfErr, OnOk, OnErr};
+ghost use Rattle.h2frame.specs.Faults.{frame_fault};
+ghost use Rattle.h2frame.specs.Flags.{is_padded, has_priority};
+ghost use Rattle.h2frame.specs.FrameList.{Whole, Spells};
+ghost use Rattle.h2frame.specs.Kind.{kind_of, code_of};
+ghost use Rattle.h2frame.specs.Spelling.{head_text, spelled};
+
+use crate::{Frame, FrameFault, FrameHead};
+
+/// The nine bytes of a head (RFC 9113, section 4.1), whose reserved bit isn't set.
+fn head_text(head: &FrameHead) -> [u8; 9]
+    ensures { result ≡ head_text 0 head.now }
+{
+    let [_, a, b, c] = head.length.to_be_bytes();
+    let [s, t, u, v] = head.stream.to_be_bytes();
+    [a, b, c, head.kind.code(), head.flags.bits, s, t, u, v]
+}
+
+/// Appends the frame, which isn't padded and has no priority. It refuses what a reader would.
+pub fn write_frame(frame: &Frame, out: &mut Vec<u8>) -> Result<(), FrameFault>
+    // An unknown type has no code of a known one.
+    requires kind { kind_of (code_of frame.now.head.kind) ≡ frame.now.head.kind }
+    requires stream { frame.now.head.stream < 2 ^ 31 }
+    requires whole { frame.now.head.length ≡ length frame.now.content }
+    requires not_padded { is_padded frame.now.head ≡ false }
+    requires no_priority { has_priority frame.now.head ≡ false }
+    ensures ok { OnOk result (out.new.items ≡ out.old.items ++ spelled frame.now) }
+
+    // A reader of those bytes has this frame.
+    ensures read_back { OnOk result (Spells (spelled frame.now) (Whole frame.now)) }
+    ensures refused { (fault : FrameFault) → frame_fault frame.now ≡ Some fault → result ≡ Err fault }
+    ensures cause { IfErr result
+        (λ fault. (fault ≡ FrameFault.OutOfMemory) ⊎ (frame_fault frame.now ≡ Some fault)) }
+    ensures err { OnErr result (out.new.items ≡ out.old.items) }
+{
+    if let Some(fault) = frame.fault() {
+        return Err(fault);
+    }
+    let head = head_text(&frame.head);
+    out.reserve(head.len() + frame.content.len())?;
+    out.extend_from_slice(&head)?;
+    out.extend_from_slice(frame.content.as_slice())?;
+    Ok(())
+}
