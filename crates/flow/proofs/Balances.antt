@@ -1,13 +1,13 @@
 -- Balances that all fit a size, and what a new one, another one and one less leave of that.
-use Rattle.std.proofs.Common.{◌≡◌, ℕ, ◌+◌, ◌≤◌, ℤ, pos, ◌+ℤ◌, ◌≤ℤ◌, Bool, true, false, true≢false, sym, ◌∙◌, refl, List, [], ◌∷◌, ◌++◌, arith, rules, ap, subst}
-use Rattle.std.specs.Prelude.{int_le, All, map, nat_eq, negsuc, ◌-ℤ◌, ◌^◌, Option, Some, None, IfSome, min}
-use Rattle.std.specs.List.{list_all, AllPass}
+use Rattle.std.proofs.Common.{◌≡◌, ℕ, ◌≤◌, ℤ, pos, ◌+ℤ◌, ◌≤ℤ◌, true, false, true≢false, sym, ◌∙◌, refl, List, [], ◌∷◌, ◌++◌, arith, ap, subst}
+use Rattle.std.specs.Prelude.{int_le, All, nat_eq, negsuc, ◌-ℤ◌, ◌^◌, Some, IfSome}
+use Rattle.std.specs.List.{list_all}
 use Rattle.std.specs.Map.{values_of, set_value, remove_entry, lookup}
 use Rattle.std.proofs.lemmas.Int.{ints}
 use Rattle.std.proofs.lemmas.List.Elements.{All-weaker, All-push}
 use Rattle.std.proofs.lemmas.List.Sums.{AllPass-from_list_all, list_all-from_AllPass}
 use Rattle.std.proofs.lemmas.Map.Views.{All-values-set_value, All-map-remove_entry, IfSome-lookup_from_All}
-use Rattle.flow.specs.Windows.{IsBalance, Fits, lesser}
+use Rattle.flow.specs.Windows.{IsBalance, lesser}
 
 at_most-sum : (n : ℕ) (most b : ℤ) → most +ℤ pos n ≡ pos 2147483647 → int_le b most ≡ true → (pos n +ℤ b) ≤ℤ pos 2147483647
 at_most-sum n most b e h = grind (arith, ints)
@@ -19,13 +19,13 @@ pub all_fit : (n : ℕ) (most : ℤ) (bs : List ℤ) → list_all (λ b. int_le 
     → most +ℤ pos n ≡ pos 2147483647 → All (λ b. (pos n +ℤ b) ≤ℤ pos 2147483647) bs
 all_fit n most bs h e =
     All-weaker (λ b. int_le b most ≡ true) (λ b. (pos n +ℤ b) ≤ℤ pos 2147483647) (λ b p. at_most-sum n most b e p) bs
-      (AllPass-from_list_all (λ b. int_le b most) bs h)
+    (AllPass-from_list_all (λ b. int_le b most) bs h)
 
 pub some_over : (n : ℕ) (most : ℤ) (bs : List ℤ) → list_all (λ b. int_le b most) bs ≡ false
     → most +ℤ pos n ≡ pos 2147483647 → All (λ b. (pos n +ℤ b) ≤ℤ pos 2147483647) bs → ⊥
 some_over n most bs over e fit =
     true≢false (sym (list_all-from_AllPass (λ b. int_le b most) bs
-      (All-weaker (λ b. (pos n +ℤ b) ≤ℤ pos 2147483647) (λ b. int_le b most ≡ true) (λ b p. sum-at_most n most b e p) bs fit)) ∙ over)
+    (All-weaker (λ b. (pos n +ℤ b) ≤ℤ pos 2147483647) (λ b. int_le b most ≡ true) (λ b p. sum-at_most n most b e p) bs fit)) ∙ over)
 
 pub values-push : (es : List (ℕ × ℤ)) (id : ℕ) (b : ℤ) → values_of (es ++ (id, b) ∷ []) ≡ values_of es ++ b ∷ []
 values-push [] id b = refl
@@ -74,7 +74,7 @@ pub spend_keeps : (es after : List (ℕ × ℤ)) (id connection initial len leas
 spend_keeps es after id connection initial len least balance passed b written is_least within size each at same less =
     let old : IsBalance initial balance = found es id initial balance each at in
     let bound : len ≤ lesser connection (pos initial +ℤ balance) =
-      subst (λ p. len ≤ lesser connection (pos initial +ℤ p)) same (subst (λ n. len ≤ n) is_least within) in
+    subst (λ p. len ≤ lesser connection (pos initial +ℤ p)) same (subst (λ n. len ≤ n) is_least within) in
     let new : IsBalance initial (balance -ℤ pos len) = spent_from connection initial len balance (pos initial +ℤ balance) refl bound size old in
     subst (λ l. All (IsBalance initial) (values_of l)) (sym written)
-      (all-set (IsBalance initial) es id b each (subst (IsBalance initial) (sym less) new))
+    (all-set (IsBalance initial) es id b each (subst (IsBalance initial) (sym less) new))

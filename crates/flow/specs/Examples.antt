@@ -1,5 +1,5 @@
 -- Worked windows, computed.
-use Rattle.std.specs.Prelude.{◌≡◌, refl, [], ◌∷◌, ℤ, pos, negsuc, ◌+ℤ◌, ◌-ℤ◌, Some, None}
+use Rattle.std.specs.Prelude.{◌≡◌, refl, [], ◌∷◌, pos, negsuc, Some, None}
 use Rattle.flow.specs.Windows.{Windows, new_windows, opened, with_balance, closed, window, room}
 
 -- stream 1 has sent 40,000 bytes, and the initial size is 0 by now

@@ -210,4 +210,3 @@ fn least(connection: u32, initial: u32, balance: i64) -> u32
     }
     connection.min(window as u32)
 }
-

@@ -46,14 +46,28 @@ fn refusals(rt: HostRuntime) -> Result<(), Fail> {
     assert_eq!(rt; windows.spend(0, 0), Err(WindowFault::Unknown));
     assert_eq!(rt; windows.open(1), Ok(()));
     assert_eq!(rt; windows.spend(1, 65_536), Err(WindowFault::NoRoom));
-    assert_eq!(rt; windows.credit(1, MOST - 65_534), Err(WindowFault::Overflow));
-    assert_eq!(rt; windows.credit(0, MOST - 65_534), Err(WindowFault::Overflow));
+    assert_eq!(rt;
+        windows.credit(1, MOST - 65_534),
+        Err(WindowFault::Overflow)
+    );
+    assert_eq!(rt;
+        windows.credit(0, MOST - 65_534),
+        Err(WindowFault::Overflow)
+    );
     assert_eq!(rt; windows.credit(1, MOST - 65_535), Ok(()));
     // The connection's window is the lesser one.
     assert_eq!(rt; windows.room(1), 65_535);
     for (fault, code, text) in [
-        (WindowFault::Overflow, 1, "a window would be over 2147483647 bytes"),
-        (WindowFault::NoRoom, 2, "the windows don't let that much through"),
+        (
+            WindowFault::Overflow,
+            1,
+            "a window would be over 2147483647 bytes",
+        ),
+        (
+            WindowFault::NoRoom,
+            2,
+            "the windows don't let that much through",
+        ),
         (WindowFault::Unknown, 3, "the stream isn't open"),
         (WindowFault::OutOfMemory, 4, "out of memory"),
     ] {

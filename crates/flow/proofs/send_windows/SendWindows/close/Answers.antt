@@ -1,4 +1,3 @@
-use Rattle.std.proofs.Common.{rules}
 use Rattle.flow.specs.Windows.{IsBalance}
 use Rattle.flow.proofs.Balances.{all-remove}
 use Rattle.flow.proofs.send_windows.SendWindows.close.Goals as goal

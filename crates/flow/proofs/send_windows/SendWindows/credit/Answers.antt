@@ -1,7 +1,6 @@
 use Rattle.std.proofs.Common.{◌≡◌, Some, arith, rules, nat_eq}
 use Rattle.std.proofs.lemmas.Int.{ints}
 use Rattle.std.specs.Map.{lookup}
-use Rattle.flow.specs.Windows.{IsBalance}
 use Rattle.flow.proofs.Balances.{credit_keeps}
 use mir.Val.{SFits}
 use mir.Syntax.{w64}
@@ -15,6 +14,6 @@ invariant_of-self-2 c =
       connection_fits = c.self.invariant.connection_fits;
       initial_fits = c.self.invariant.initial_fits;
       each = credit_keeps c.self.inside.balances.entries _ c.args.id c.self.inside.initial c.in-Some.balance _ c.write_balance.ensures c.self.invariant.each at
-        (grind (arith, ints))
-        (omega (arith, ints, c.self.invariant.initial_fits));
+          (grind (arith, ints))
+          (omega (arith, ints, c.self.invariant.initial_fits));
     }

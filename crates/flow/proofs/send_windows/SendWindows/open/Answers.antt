@@ -10,7 +10,7 @@ pub invariant_of-self-2 : goal.invariant_of-self-2
 invariant_of-self-2 c =
     let none : lookup (nat_eq c.args.id) c.self.inside.balances.entries ≡ None = search rules in
     let new : c.insert.new.self.entries ≡ c.self.inside.balances.entries ++ (c.args.id, pos 0) ∷ [] =
-      c.in_ok-insert.ensures.entries ∙ insert_entry-new nat_eq c.self.inside.balances c.args.id (pos 0) none in
+    c.in_ok-insert.ensures.entries ∙ insert_entry-new nat_eq c.self.inside.balances c.args.id (pos 0) none in
     record {
       connection_fits = c.self.invariant.connection_fits;
       initial_fits = c.self.invariant.initial_fits;
@@ -21,5 +21,5 @@ pub returns-clause-ok : goal.returns-clause-ok
 returns-clause-ok c =
     let none : lookup (nat_eq c.args.id) c.self.inside.balances.entries ≡ None = search rules in
     let new : c.insert.new.self.entries ≡ c.self.inside.balances.entries ++ (c.args.id, pos 0) ∷ [] =
-      c.in_ok-insert.ensures.entries ∙ insert_entry-new nat_eq c.self.inside.balances c.args.id (pos 0) none in
+    c.in_ok-insert.ensures.entries ∙ insert_entry-new nat_eq c.self.inside.balances c.args.id (pos 0) none in
     rw (new, ← c.self.view_is) refl
