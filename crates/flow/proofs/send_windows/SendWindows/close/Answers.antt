@@ -1,0 +1,10 @@
+use Rattle.flow.specs.Windows.{IsBalance}
+use Rattle.flow.proofs.Balances.{all-remove}
+use Rattle.flow.proofs.send_windows.SendWindows.close.Goals as goal
+
+pub invariant_of-self : goal.invariant_of-self
+invariant_of-self c = record {
+  connection_fits = c.self.invariant.connection_fits;
+  initial_fits = c.self.invariant.initial_fits;
+  each = rw c.shift_remove.ensures.entries (all-remove (IsBalance c.self.inside.initial) c.self.inside.balances.entries c.args.id c.self.invariant.each);
+}

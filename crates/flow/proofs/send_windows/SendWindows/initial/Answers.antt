@@ -1,0 +1,29 @@
+use Rattle.std.proofs.Common.{◌≤◌, pos, ◌+ℤ◌, arith, sym, ◌∙◌, subst}
+use Rattle.std.proofs.lemmas.Int.{ints}
+use Rattle.std.specs.Prelude.{All}
+use Rattle.std.specs.Map.{values_of}
+use Rattle.flow.specs.Windows.{Windows, FitsAt, Fits}
+use Rattle.flow.proofs.Balances.{all_fit, some_over}
+use Rattle.flow.proofs.send_windows.SendWindows.initial.Goals as goal
+
+pub returns-then-not-all_at_most-clause-overflow : goal.returns-then-not-all_at_most-clause-overflow
+returns-then-not-all_at_most-clause-overflow c =
+    let over = some_over c.args.size _ (values_of c.self.inside.balances.entries) (sym c.all_at_most.ensures ∙ c.if-not-all_at_most.true)
+    (omega (arith, ints)) in
+    subst (λ (w : Windows). FitsAt w c.args.size → ⊥) c.self.view_is (λ (fits : (c.args.size ≤ 2147483647) × All (λ b. Fits (pos c.args.size +ℤ b)) (values_of c.self.inside.balances.entries)). over fits.1)
+
+pub invariant_of-self : goal.invariant_of-self
+invariant_of-self c =
+    let fit = all_fit c.args.size _ (values_of c.self.inside.balances.entries) (sym c.all_at_most.ensures ∙ c.if-not-all_at_most.false)
+    (omega (arith, ints)) in
+    record {
+      connection_fits = c.self.invariant.connection_fits;
+      initial_fits = c.if-size-gt-MAX_WINDOW.false;
+      each = λ k d within. (fit k d within, (c.self.invariant.each k d within).1);
+    }
+
+pub returns-clause-fits : goal.returns-clause-fits
+returns-clause-fits c =
+    let fit = all_fit c.args.size _ (values_of c.self.inside.balances.entries) (sym c.all_at_most.ensures ∙ c.if-not-all_at_most.false)
+    (omega (arith, ints)) in
+    rw (← c.self.view_is) (c.if-size-gt-MAX_WINDOW.false, fit)

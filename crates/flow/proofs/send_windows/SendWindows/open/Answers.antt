@@ -1,0 +1,25 @@
+use Rattle.std.proofs.Common.{◌≡◌, None, pos, arith, rules, ◌∙◌, refl, ◌++◌, ◌∷◌, [], nat_eq}
+use Rattle.std.proofs.lemmas.Int.{ints}
+use Rattle.std.specs.Map.{lookup}
+use Rattle.indexmap.proofs.CallerLemmas.{insert_entry-new}
+use Rattle.flow.specs.Windows.{IsBalance}
+use Rattle.flow.proofs.Balances.{all-push}
+use Rattle.flow.proofs.send_windows.SendWindows.open.Goals as goal
+
+pub invariant_of-self-2 : goal.invariant_of-self-2
+invariant_of-self-2 c =
+    let none : lookup (nat_eq c.args.id) c.self.inside.balances.entries ≡ None = search rules in
+    let new : c.insert.new.self.entries ≡ c.self.inside.balances.entries ++ (c.args.id, pos 0) ∷ [] =
+    c.in_ok-insert.ensures.entries ∙ insert_entry-new nat_eq c.self.inside.balances c.args.id (pos 0) none in
+    record {
+      connection_fits = c.self.invariant.connection_fits;
+      initial_fits = c.self.invariant.initial_fits;
+      each = rw new (all-push (IsBalance c.self.inside.initial) c.self.inside.balances.entries c.args.id (pos 0) c.self.invariant.each (omega (arith, ints, c.self.invariant.initial_fits), omega (arith, ints)));
+    }
+
+pub returns-clause-ok : goal.returns-clause-ok
+returns-clause-ok c =
+    let none : lookup (nat_eq c.args.id) c.self.inside.balances.entries ≡ None = search rules in
+    let new : c.insert.new.self.entries ≡ c.self.inside.balances.entries ++ (c.args.id, pos 0) ∷ [] =
+    c.in_ok-insert.ensures.entries ∙ insert_entry-new nat_eq c.self.inside.balances c.args.id (pos 0) none in
+    rw (new, ← c.self.view_is) refl

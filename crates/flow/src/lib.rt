@@ -1,0 +1,20 @@
+//! Flow control of an HTTP/2 connection, and the states of its streams (RFC 9113, sections 5.1, 5.2 and 6.9).
+//!
+//! `SendWindows` has the windows of what is sent: the connection's, and one for each open stream, which credit raises,
+//! sending lowers, and a new initial size moves.
+//!
+//! Nothing here reads or writes frames: the numbers come from frames that `h2frame` has read.
+#![tactic(auto)]
+
+pub mod send_windows;
+
+pub use send_windows::{SendWindows, WindowFault};
+
+/// The largest window that RFC 9113, section 6.9.1, allows: 2^31 - 1 bytes.
+pub const MAX_WINDOW: u32 = 0x7fff_ffff;
+
+/// The size of a new window, in bytes, until SETTINGS change it (RFC 9113, section 6.9.2).
+pub const INITIAL_WINDOW: u32 = 65_535;
+
+#[cfg(test)]
+mod tests;

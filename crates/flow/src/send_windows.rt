@@ -1,0 +1,212 @@
+//! The windows of what is sent (RFC 9113, section 6.9).
+
+ghost use Rattle.std.specs.Prelude.{◌≡◌, ◌+◌, ◌-◌, ◌+ℤ◌, ◌-ℤ◌, ◌<◌, ◌≤◌, pos, None, IfErr, OnErr, OnOk, IsSome, MatchOption, nat_eq, int_le};
+ghost use Rattle.std.specs.List.{list_all};
+ghost use Rattle.std.specs.Map.{lookup, set_value, values_of};
+ghost use Rattle.flow.specs.declared.send_windows.WindowFault.TheVariants.{Overflow, OutOfMemory};
+ghost use Rattle.flow.specs.Windows.{code_of, room, opened, with_balance, closed, balance, Meets, CreditFault, SpendFault, FitsAt, IsBalance, lesser};
+
+use crate::{INITIAL_WINDOW, MAX_WINDOW};
+use h2frame::StreamId;
+use indexmap::IndexMap;
+use std::alloc::{AllocFailed, Global};
+use std::marker::Model;
+use thiserror::Error;
+
+/// Why a window isn't changed.
+#[derive(Clone, Copy, Debug, PartialEq, Eq, Error)]
+pub enum WindowFault {
+    /// A window would be over 2^31 - 1 bytes.
+    #[error("a window would be over 2147483647 bytes")]
+    Overflow,
+    /// More is spent than the windows let through.
+    #[error("the windows don't let that much through")]
+    NoRoom,
+    /// The stream isn't open.
+    #[error("the stream isn't open")]
+    Unknown,
+    /// No memory was to be had.
+    #[error("out of memory")]
+    OutOfMemory,
+}
+
+impl WindowFault {
+    /// The fault's number, by which programs print it.
+    pub fn code(self) -> u32
+        ensures { result ≡ code_of self }
+    {
+        match self {
+            WindowFault::Overflow => 1,
+            WindowFault::NoRoom => 2,
+            WindowFault::Unknown => 3,
+            WindowFault::OutOfMemory => 4,
+        }
+    }
+}
+
+impl<T: Drop> From<AllocFailed<T>> for WindowFault {
+    ghost from_gives = { λ _ fault. fault ≡ OutOfMemory };
+
+    fn from(_e: AllocFailed<T>) -> WindowFault {
+        WindowFault::OutOfMemory
+    }
+}
+
+/// The windows of what is sent: how many bytes of DATA the peer takes on the connection, and on each open stream.
+///
+/// A stream's window is the initial size that holds now, and its balance: what was credited to it less what was
+/// spent on it since it was opened. So a smaller initial size can take it below zero (RFC 9113, section 6.9.2).
+#[derive(Drop)]
+pub struct SendWindows {
+    connection: u32,
+    initial: u32,
+    balances: IndexMap<StreamId, i64>,
+}
+
+impl Model for SendWindows {
+    ghost use Rattle.flow.specs.Windows.{Windows, IsWithin};
+
+    ghost Value = { Windows };
+
+    ghost view = { λ s. record { connection = s.connection; initial = s.initial; balances = s.balances.entries } };
+
+    ghost invariant = { λ s. IsWithin s.connection s.initial s.balances.entries };
+}
+
+impl SendWindows {
+    ghost use Rattle.flow.specs.Windows.{new_windows};
+
+    /// The windows of a new connection, on which no stream is open. It takes no memory yet.
+    pub fn new(alloc: Global) -> SendWindows
+        ensures { result ≡ new_windows }
+    {
+        SendWindows {
+            connection: INITIAL_WINDOW,
+            initial: INITIAL_WINDOW,
+            balances: IndexMap::new(alloc),
+        }
+    }
+
+    /// Opens a stream, whose window has the initial size.
+    pub fn open(&mut self, id: StreamId) -> Result<(), WindowFault>
+        requires stream { 0 < id }
+        requires not_open { balance self.old id ≡ None }
+        ensures ok { OnOk result (self.new ≡ opened self.old id) }
+        ensures unchanged { OnErr result (self.new ≡ self.old) }
+        ensures memory { IfErr result (λ fault. fault ≡ OutOfMemory) }
+    {
+        self.balances.insert(id, 0)?;
+        Ok(())
+    }
+
+    /// Adds the increment of a WINDOW_UPDATE to a stream's window, or to the connection's where the id is 0.
+    pub fn credit(&mut self, id: StreamId, increment: u32) -> Result<(), WindowFault>
+        ensures connection { OnOk result (id ≡ 0 → self.new ≡ record self.old { connection = self.old.connection + increment }) }
+        ensures stream { OnOk result (0 < id → MatchOption (balance self.old id) ⊥ (λ b. self.new ≡ with_balance self.old id (b +ℤ pos increment))) }
+        ensures unchanged { OnErr result (self.new ≡ self.old) }
+        ensures fault { Meets (CreditFault self.old id increment) result }
+    {
+        if id == 0 {
+            if increment > MAX_WINDOW - self.connection {
+                return Err(WindowFault::Overflow);
+            }
+            self.connection += increment;
+            return Ok(());
+        }
+        let Some(balance) = self.balances.get(&id).copied() else {
+            return Err(WindowFault::Unknown);
+        };
+        let raised = balance + i64::from(increment);
+        if raised > i64::from(MAX_WINDOW - self.initial) {
+            return Err(WindowFault::Overflow);
+        }
+        write_balance(&mut self.balances, id, raised);
+        Ok(())
+    }
+
+    /// Takes a new initial size (SETTINGS_INITIAL_WINDOW_SIZE), which moves every stream's window by the difference.
+    /// The connection's window stays. It takes time in the number of open streams.
+    pub fn initial(&mut self, size: u32) -> Result<(), WindowFault>
+        ensures ok { OnOk result (self.new ≡ record self.old { initial = size }) }
+        ensures fits { OnOk result (FitsAt self.old size) }
+        ensures unchanged { OnErr result (self.new ≡ self.old) }
+        ensures overflow { OnErr result (¬ FitsAt self.old size) }
+        ensures fault { IfErr result (λ fault. fault ≡ Overflow) }
+    {
+        if size > MAX_WINDOW {
+            return Err(WindowFault::Overflow);
+        }
+        let most = i64::from(MAX_WINDOW - size);
+        if !all_at_most(&self.balances, most) {
+            return Err(WindowFault::Overflow);
+        }
+        self.initial = size;
+        Ok(())
+    }
+
+    /// Takes bytes of DATA that are sent on a stream out of its window and the connection's.
+    pub fn spend(&mut self, id: StreamId, len: u32) -> Result<(), WindowFault>
+        ensures ok { OnOk result (MatchOption (balance self.old id) ⊥ (λ b. self.new
+            ≡ record (with_balance self.old id (b -ℤ pos len)) { connection = self.old.connection - len })) }
+        ensures unchanged { OnErr result (self.new ≡ self.old) }
+        ensures fault { Meets (SpendFault self.old id len) result }
+    {
+        let Some(balance) = self.balances.get(&id).copied() else {
+            return Err(WindowFault::Unknown);
+        };
+        if len > least(self.connection, self.initial, balance) {
+            return Err(WindowFault::NoRoom);
+        }
+        write_balance(&mut self.balances, id, balance - i64::from(len));
+        self.connection -= len;
+        Ok(())
+    }
+
+    /// How many bytes may be sent on a stream now: the lesser of both windows, and 0 where either isn't positive or
+    /// the stream isn't open.
+    pub fn room(&self, id: StreamId) -> u32
+        ensures { result ≡ room self.now id }
+    {
+        match self.balances.get(&id).copied() {
+            Some(balance) => least(self.connection, self.initial, balance),
+            None => 0,
+        }
+    }
+
+    /// Closes a stream. One that isn't open is none to close, and nothing changes.
+    pub fn close(&mut self, id: StreamId)
+        ensures { self.new ≡ closed self.old id }
+    {
+        self.balances.shift_remove(&id);
+    }
+}
+
+/// Whether no balance is over the most.
+fn all_at_most(balances: &IndexMap<StreamId, i64>, most: i64) -> bool
+    ensures { result ≡ list_all (λ balance. int_le balance most) (values_of balances.now.entries) }
+{
+    balances.values().all(|balance| *balance <= most)
+}
+
+/// Gives a stream that is open another balance.
+fn write_balance(balances: &mut IndexMap<StreamId, i64>, id: StreamId, balance: i64)
+    requires { IsSome (lookup (nat_eq id) balances.old.entries) }
+    ensures { balances.new.entries ≡ set_value (nat_eq id) balances.old.entries balance }
+{
+    if let Some(place) = balances.get_mut(&id) {
+        *place = balance;
+    }
+}
+
+/// What both windows let through.
+fn least(connection: u32, initial: u32, balance: i64) -> u32
+    requires within { IsBalance initial balance }
+    requires size { initial ≤ MAX_WINDOW }
+    ensures { result ≡ lesser connection (pos initial +ℤ balance) }
+{
+    let window = i64::from(initial) + balance;
+    if window <= 0 {
+        return 0;
+    }
+    connection.min(window as u32)
+}
