@@ -1,9 +1,17 @@
 //! Header blocks of HTTP/2: HPACK, RFC 7541.
-//!
-//! A header block carries a list of fields, each a name and a value of bytes. Here are the field and
-//! the byte list that it is made of.
 #![tactic(auto)]
 
+mod decoder;
+mod encoder;
+mod fault;
 mod fields;
+mod huffman;
+mod integer;
+mod static_table;
+mod string_literal;
+mod table;
 
+pub use decoder::Decoder;
+pub use encoder::Encoder;
+pub use fault::HpackFault;
 pub use fields::{Field, Octets};
