@@ -86,7 +86,7 @@ pub high_bits : (m n a b : ℕ) (rest more : List ℕ) → m ≤ n → a < 2 ^ n
 high_bits m n a b rest more le small fits e =
     let n_is : m + (n - m) ≡ n = omega arith in
     let parted : bits m (a / 2 ^ (n - m)) ++ (bits (n - m) a ++ rest) ≡ bits m b ++ more =
-        sym (append_assoc (bits m (a / 2 ^ (n - m))) (bits (n - m) a) rest)
-        ∙ ap (λ front. front ++ rest) (sym (bits-add m (n - m) a)) ∙ ap (λ k. bits k a ++ rest) n_is ∙ e in
+    sym (append_assoc (bits m (a / 2 ^ (n - m))) (bits (n - m) a) rest)
+    ∙ ap (λ front. front ++ rest) (sym (bits-add m (n - m) a)) ∙ ap (λ k. bits k a ++ rest) n_is ∙ e in
     bits_one m (a / 2 ^ (n - m)) b (shr_below a m (n - m) (subst (λ (k : ℕ). a < 2 ^ k) (sym n_is) small)) fits
-      (fronts_one _ _ _ _ (length-bits m _ ∙ sym (length-bits m b)) parted).0
+    (fronts_one _ _ _ _ (length-bits m _ ∙ sym (length-bits m b)) parted).0

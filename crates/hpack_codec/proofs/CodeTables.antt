@@ -11,8 +11,8 @@ use Rattle.hpack_codec.proofs.HuffmanTable.{and_true}
 pub eqb-true : (a b : ℕ) → (a == b) ≡ true → a ≡ b
 eqb-true a b e =
     elim (eqb_tells a b) [
-      inl same ↦ same.1
-    | inr other ↦ let t : false ≡ true = sym other.0 ∙ e in cc
+      | inl same ↦ same.1
+      | inr other ↦ let t : false ≡ true = sym other.0 ∙ e in cc
     ]
 
 each_below_at : (n : ℕ) (p : ℕ → Bool) (i : ℕ) → each_below n p ≡ true → i < n → p i ≡ true
@@ -21,8 +21,8 @@ each_below_at zero p i e h = absurd (omega arith)
 each_below_at (suc n) p i e h =
     let both = and_true (p n) (each_below n p) e in
     elim (cases_lt i n) [
-      inl less ↦ each_below_at n p i both.1 less
-    | inr last ↦ subst (λ (k : ℕ). p k ≡ true) (let same : n ≡ i = omega (arith, h, last) in same) both.0
+      | inl less ↦ each_below_at n p i both.1 less
+      | inr last ↦ subst (λ (k : ℕ). p k ≡ true) (let same : n ≡ i = omega (arith, h, last) in same) both.0
     ]
 
 row_at : (symbols : List ℕ) (rows : List Codes) (i : ℕ) (d : Codes) → are_rows symbols rows ≡ true → i < length rows → is_row symbols (get_or rows i d) ≡ true
@@ -46,7 +46,7 @@ symbol_in symbols rows i number row d e h is low high =
     let room : row.place + (row.above - row.first) ≤ length symbols = leb-true _ _ parts.0 in
     let here = each_below_at (row.above - row.first) (is_in_row symbols row) (number - row.first) parts.1 (omega (arith, low, high)) in
     let two = and_true (code_length (get_or symbols (row.place + (number - row.first)) 0) == row.len)
-        (code_number (get_or symbols (row.place + (number - row.first)) 0) == row.first + (number - row.first)) here in
+    (code_number (get_or symbols (row.place + (number - row.first)) 0) == row.first + (number - row.first)) here in
     record {
       within = omega (arith, room, low, high);
       len = eqb-true _ _ two.0;
@@ -76,7 +76,7 @@ pub misses_more : (register count : ℕ) (rows : List Codes) (i : ℕ) (row d : 
 unfolding MissesAll
 misses_more register count rows i row d h is a m =
     subst (MissesAll register count) (sym (take_more rows i d h ∙ ap (λ (r : Codes). take i rows ++ r ∷ []) (sym is)))
-      (misses_append register count (take i rows) (row ∷ []) a (m, tt))
+    (misses_append register count (take i rows) (row ∷ []) a (m, tt))
 
 -- no row behind a longer one is short
 longer_behind : (register count len : ℕ) (row : Codes) (rows : List Codes) → is_least row rows ≡ true → count < row.len → MissesAll register count rows
@@ -97,11 +97,11 @@ misses_rest register count rows symbols i row d e h is a long =
     let whole = and_true (are_rows symbols rows) (are_ascending rows && each_below 256 (is_covered rows)) e in
     let order = (and_true (are_ascending rows) (each_below 256 (is_covered rows)) whole.1).0 in
     let split : rows ≡ take i rows ++ row ∷ drop (i + 1) rows =
-        sym (take-append-drop i rows) ∙ ap (λ (tail : List Codes). take i rows ++ tail) (drop_more rows i d h ∙ ap (λ (r : Codes). r ∷ drop (i + 1) rows) (sym is)) in
+    sym (take-append-drop i rows) ∙ ap (λ (tail : List Codes). take i rows ++ tail) (drop_more rows i d h ∙ ap (λ (r : Codes). r ∷ drop (i + 1) rows) (sym is)) in
     let least = ascending_behind (take i rows) row (drop (i + 1) rows) (subst (λ (all : List Codes). are_ascending all ≡ true) split order) in
     subst (MissesAll register count) (sym split)
-      (misses_append register count (take i rows) (row ∷ drop (i + 1) rows) a
-        (λ le low high. omega (arith, long, le), longer_behind register count 0 row (drop (i + 1) rows) least long))
+    (misses_append register count (take i rows) (row ∷ drop (i + 1) rows) a
+    (λ le low high. omega (arith, long, le), longer_behind register count 0 row (drop (i + 1) rows) least long))
 
 or_true : (a b : Bool) → (a || b) ≡ true → (a ≡ true) ⊎ (b ≡ true)
 or_true true b e = inl refl
@@ -113,13 +113,13 @@ unfolding MissesAll
 missed register count symbol [] m e le is = let t : false ≡ true = e in cc
 missed register count symbol (row ∷ rows) m e le is =
     elim (or_true ((row.len == code_length symbol) && (nat_le row.first (code_number symbol) && nat_lt (code_number symbol) row.above)) (is_covered rows symbol) e) [
-      inl here ↦
-        (let a = and_true (row.len == code_length symbol) (nat_le row.first (code_number symbol) && nat_lt (code_number symbol) row.above) here in
-         let b = and_true (nat_le row.first (code_number symbol)) (nat_lt (code_number symbol) row.above) a.1 in
-         let len : row.len ≡ code_length symbol = eqb-true row.len (code_length symbol) a.0 in
-         let at_row : register / 2 ^ (count - row.len) ≡ code_number symbol = ap (λ n. register / 2 ^ (count - n)) len ∙ is in
-         m.0 (omega (arith, len, le)) (omega (arith, at_row, leb-true row.first (code_number symbol) b.0)) (omega (arith, at_row, ltb-true (code_number symbol) row.above b.1)))
-    | inr behind ↦ missed register count symbol rows m.1 behind le is
+      | inl here ↦
+          (let a = and_true (row.len == code_length symbol) (nat_le row.first (code_number symbol) && nat_lt (code_number symbol) row.above) here in
+          let b = and_true (nat_le row.first (code_number symbol)) (nat_lt (code_number symbol) row.above) a.1 in
+          let len : row.len ≡ code_length symbol = eqb-true row.len (code_length symbol) a.0 in
+          let at_row : register / 2 ^ (count - row.len) ≡ code_number symbol = ap (λ n. register / 2 ^ (count - n)) len ∙ is in
+          m.0 (omega (arith, len, le)) (omega (arith, at_row, leb-true row.first (code_number symbol) b.0)) (omega (arith, at_row, ltb-true (code_number symbol) row.above b.1)))
+      | inr behind ↦ missed register count symbol rows m.1 behind le is
     ]
 
 pub missed_all : (register count symbol : ℕ) (rows : List Codes) (symbols : List ℕ) → is_code_table rows symbols ≡ true → MissesAll register count rows → symbol < 256

@@ -30,9 +30,14 @@ AreUpdates-push : (table mid : Table) (text last limits : List ℕ) (limit : ℕ
 unfolding AreUpdates
 AreUpdates-push table mid text last [] limit a i h =
     (last, [], ap (λ (front : List ℕ). front ++ last) a.0 ∙ sym (append-nil last), i, h, (refl, ap (λ (here : Table). resize here limit) a.1))
-AreUpdates-push table mid text last (l ∷ limits) limit a i h =
-    (a.0, a.1 ++ last, ap (λ (front : List ℕ). front ++ last) a.2 ∙ append_assoc a.0 a.1 last, a.3, a.4,
-     AreUpdates-push (resize table l) mid a.1 last limits limit a.5 i h)
+AreUpdates-push table mid text last (l ∷ limits) limit a i h = (
+  a.0,
+  a.1 ++ last,
+  ap (λ (front : List ℕ). front ++ last) a.2 ∙ append_assoc a.0 a.1 last,
+  a.3,
+  a.4,
+  AreUpdates-push (resize table l) mid a.1 last limits limit a.5 i h,
+)
 
 pub updating_more : (table now : Table) (bytes rest behind : List ℕ) (limit : ℕ) → IsUpdating table bytes now rest → Begins 32 64 rest
     → TakesInteger 5 rest limit behind → limit ≤ 4096 → IsUpdating table bytes (resize now limit) behind
@@ -52,14 +57,27 @@ updates_taken table now bytes rest u none = record { text = u.text; limits = u.l
 
 pub updates_integer : (fault : HpackFault) (table now : Table) (bytes rest : List ℕ) → IsUpdating table bytes now rest → Begins 32 64 rest → IsIntegerFault fault 5 rest → IsUpdatesFault fault table bytes
 updates_integer fault table now bytes rest u b f = record {
-  text = u.text; rest = rest; limits = u.limits; mid = now; spelling = u.spelling; are_updates = u.are_updates; begins = b; is_fault = inl f
+  text = u.text;
+  rest = rest;
+  limits = u.limits;
+  mid = now;
+  spelling = u.spelling;
+  are_updates = u.are_updates;
+  begins = b;
+  is_fault = inl f;
 }
 
 pub updates_over : (table now : Table) (bytes rest behind : List ℕ) (limit : ℕ) → IsUpdating table bytes now rest → Begins 32 64 rest → TakesInteger 5 rest limit behind → 4096 < limit
     → IsUpdatesFault SizeUpdate table bytes
 updates_over table now bytes rest behind limit u b t h = record {
-  text = u.text; rest = rest; limits = u.limits; mid = now; spelling = u.spelling; are_updates = u.are_updates; begins = b;
-  is_fault = inr (limit, t.0, behind, t.1, subst (λ (flags : ℕ). IsInteger 5 flags t.0 limit) (flags_5 rest b) t.2, refl, h)
+  text = u.text;
+  rest = rest;
+  limits = u.limits;
+  mid = now;
+  spelling = u.spelling;
+  are_updates = u.are_updates;
+  begins = b;
+  is_fault = inr (limit, t.0, behind, t.1, subst (λ (flags : ℕ). IsInteger 5 flags t.0 limit) (flags_5 rest b) t.2, refl, h);
 }
 
 -- fields were taken, and more may follow
@@ -73,7 +91,11 @@ pub record IsTaking (table : Table) (bytes : List ℕ) (fields : List Field) (no
 pub taking_none : (table : Table) (bytes : List ℕ) → (Begins 32 64 bytes → ⊥) → IsTaking table bytes [] table bytes 65536
 unfolding AreFields
 taking_none table bytes none = record {
-  front = []; spelling = refl; are_fields = (refl, refl); lawful = omega (arith, sizes_of-nil); no_update = λ e. none
+  front = [];
+  spelling = refl;
+  are_fields = (refl, refl);
+  lawful = omega (arith, sizes_of-nil);
+  no_update = λ e. none;
 }
 
 pushed : (fields : List Field) (field : Field) → fields ++ field ∷ [] ≡ [] → ⊥
@@ -119,9 +141,14 @@ behind_fields fault table now bytes rest fields room a (inr (inr (inr (inr f))))
 fault_behind : (fault : HpackFault) (table now : Table) (bytes rest : List ℕ) (fields : List Field) (room : ℕ) → IsTaking table bytes fields now rest room
     → IsFieldFault fault now rest → FaultBehind fault table bytes
 fault_behind fault table now bytes rest fields room a f = record {
-  front = a.front; rest = rest; fields = fields; mid = now; spelling = a.spelling; are_fields = a.are_fields;
+  front = a.front;
+  rest = rest;
+  fields = fields;
+  mid = now;
+  spelling = a.spelling;
+  are_fields = a.are_fields;
   lawful = omega (arith, a.lawful);
-  is_fault = behind_fields fault table now bytes rest fields room a f
+  is_fault = behind_fields fault table now bytes rest fields room a f;
 }
 
 -- a fault that stands nowhere
@@ -145,8 +172,8 @@ no_literal : (fault : HpackFault) (prefix_bits flags : ℕ) (table : Table) (byt
 no_literal fault prefix_bits flags table bytes none (inl f) = none.integer prefix_bits bytes f
 no_literal fault prefix_bits flags table bytes none (inr f) =
     elim (f.5) [
-      inl name ↦ no_name fault table f.0 f.2 none name
-    | inr value ↦ none.string value.2 value.5
+      | inl name ↦ no_name fault table f.0 f.2 none name
+      | inr value ↦ none.string value.2 value.5
     ]
 
 no_indexed : (fault : HpackFault) (table : Table) (bytes : List ℕ) → IsNowhere fault → IsIndexedFault fault table bytes → ⊥
@@ -175,26 +202,48 @@ fields_fault TooLarge table now bytes rest fields room a f = absurd (no_field To
 pub block_of : (table mid next : Table) (block front rest : List ℕ) (fields : List Field) → TakesUpdates table block mid rest → AreFields mid front fields next
     → (u : TakesUpdates table block mid rest) → IsBlock table (u.text ++ front) fields next
 block_of table mid next block front rest fields t a u = record {
-  limits = u.limits; updates = u.text; rest = front; mid = mid; spelling = refl; are_updates = u.are_updates; are_fields = a
+  limits = u.limits;
+  updates = u.text;
+  rest = front;
+  mid = mid;
+  spelling = refl;
+  are_updates = u.are_updates;
+  are_fields = a;
 }
 
 pub reads_block : (table mid next : Table) (block rest : List ℕ) (fields : List Field) → TakesUpdates table block mid rest → AreFields mid rest fields next → IsBlock table block fields next
 reads_block table mid next block rest fields t a = record {
-  limits = t.limits; updates = t.text; rest = rest; mid = mid; spelling = t.spelling; are_updates = t.are_updates; are_fields = a
+  limits = t.limits;
+  updates = t.text;
+  rest = rest;
+  mid = mid;
+  spelling = t.spelling;
+  are_updates = t.are_updates;
+  are_fields = a;
 }
 
 updates_alone : (table mid : Table) (text limits : List ℕ) → AreUpdates table text limits mid → IsBlock table text [] mid
 unfolding AreFields
 updates_alone table mid text limits a = record {
-  limits = limits; updates = text; rest = []; mid = mid; spelling = sym (append-nil text); are_updates = a; are_fields = (refl, refl)
+  limits = limits;
+  updates = text;
+  rest = [];
+  mid = mid;
+  spelling = sym (append-nil text);
+  are_updates = a;
+  are_fields = (refl, refl);
 }
 
 updates_stand : (fault : HpackFault) (table : Table) (block : List ℕ) → IsUpdatesFault fault table block → StandsBehind fault table block
 updates_stand fault table block f = record {
-  front = f.text; rest = f.rest; fields = []; mid = f.mid; spelling = f.spelling;
+  front = f.text;
+  rest = f.rest;
+  fields = [];
+  mid = f.mid;
+  spelling = f.spelling;
   is_block = updates_alone table f.mid f.text f.limits f.are_updates;
   lawful = omega (arith, sizes_of-nil);
-  is_fault = inr (inr (inr (inr (inl (f.begins, refl, f.is_fault)))))
+  is_fault = inr (inr (inr (inr (inl (f.begins, refl, f.is_fault)))));
 }
 
 no_update : (fault : HpackFault) (bytes : List ℕ) → IsNowhere fault → IsUpdateFault fault bytes → ⊥
@@ -213,11 +262,14 @@ updates_fault TooLarge table block f = absurd (no_update TooLarge f.rest large_n
 
 fields_stand : (fault : HpackFault) (table mid : Table) (block rest : List ℕ) → TakesUpdates table block mid rest → FaultBehind fault mid rest → StandsBehind fault table block
 fields_stand fault table mid block rest t f = record {
-  front = t.text ++ f.front; rest = f.rest; fields = f.fields; mid = f.mid;
+  front = t.text ++ f.front;
+  rest = f.rest;
+  fields = f.fields;
+  mid = f.mid;
   spelling = t.spelling ∙ ap (λ (tail : List ℕ). t.text ++ tail) f.spelling ∙ sym (append_assoc t.text f.front f.rest);
   is_block = block_of table mid f.mid block f.front rest f.fields t f.are_fields t;
   lawful = f.lawful;
-  is_fault = f.is_fault
+  is_fault = f.is_fault;
 }
 
 pub block_fault : (fault : HpackFault) (table mid : Table) (block rest : List ℕ) → TakesUpdates table block mid rest → IsFieldsFault fault mid rest → Stands fault table block
@@ -229,10 +281,13 @@ block_fault Truncated table mid block rest t f = fields_stand Truncated table mi
 block_fault OutOfMemory table mid block rest t f = tt
 block_fault Dead table mid block rest t f = f
 block_fault TooLarge table mid block rest t f = record {
-  front = t.text ++ f.front; rest = f.rest; fields = f.fields; mid = f.mid;
+  front = t.text ++ f.front;
+  rest = f.rest;
+  fields = f.fields;
+  mid = f.mid;
   spelling = t.spelling ∙ ap (λ (tail : List ℕ). t.text ++ tail) f.spelling ∙ sym (append_assoc t.text f.front f.rest);
   is_block = block_of table mid f.mid block f.front rest f.fields t f.are_fields t;
-  large = f.large
+  large = f.large;
 }
 
 pub first_fault : (fault : HpackFault) (kept : Option Table) (table : Table) (block : List ℕ) → kept ≡ Some table → Stands fault table block → IsFirstFault fault kept block

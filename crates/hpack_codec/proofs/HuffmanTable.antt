@@ -48,15 +48,15 @@ below_at zero p i e h = absurd (omega arith)
 below_at (suc n) p i e h =
     let both = and_true (p n) (below n p) e in
     elim (cases_lt i n) [
-      inl less ↦ below_at n p i both.1 less
-    | inr last ↦ subst (λ (k : ℕ). p k ≡ true) (let same : n ≡ i = omega (arith, h, last) in same) both.0
+      | inl less ↦ below_at n p i both.1 less
+      | inr last ↦ subst (λ (k : ℕ). p k ≡ true) (let same : n ≡ i = omega (arith, h, last) in same) both.0
     ]
 
 not_equal : (a b : ℕ) → not (a == b) ≡ true → a ≡ b → ⊥
 not_equal a b e same =
     elim (eqb_tells a b) [
-      inl equal ↦ let t : not true ≡ true = subst (λ (t : Bool). not t ≡ true) equal.0 e in cc
-    | inr other ↦ other.1 same
+      | inl equal ↦ let t : not true ≡ true = subst (λ (t : Bool). not t ≡ true) equal.0 e in cc
+      | inr other ↦ other.1 same
     ]
 
 -- what the test says of a code
@@ -86,8 +86,8 @@ each_at zero a s e h = absurd (omega arith)
 each_at (suc n) a s e h =
     let both = and_true (are_apart a (code_length n, code_number n)) (each_apart a (numbers_below n)) e in
     elim (cases_lt s n) [
-      inl less ↦ each_at n a s both.1 less
-    | inr last ↦ subst (λ (k : ℕ). are_apart a (code_length k, code_number k) ≡ true) (let same : n ≡ s = omega (arith, h, last) in same) both.0
+      | inl less ↦ each_at n a s both.1 less
+      | inr last ↦ subst (λ (k : ℕ). are_apart a (code_length k, code_number k) ≡ true) (let same : n ≡ s = omega (arith, h, last) in same) both.0
     ]
 
 apart_at : (n s t : ℕ) → all_apart (numbers_below n) ≡ true → s < t → t < n → are_apart (code_length t, code_number t) (code_length s, code_number s) ≡ true
@@ -95,10 +95,10 @@ apart_at zero s t e h k = absurd (omega arith)
 apart_at (suc n) s t e h k =
     let both = and_true (each_apart (code_length n, code_number n) (numbers_below n)) (all_apart (numbers_below n)) e in
     elim (cases_lt t n) [
-      inl less ↦ apart_at n s t both.1 h less
-    | inr last ↦
-        let same : n ≡ t = omega (arith, k, last) in
-        subst (λ (m : ℕ). are_apart (code_length m, code_number m) (code_length s, code_number s) ≡ true) same
+      | inl less ↦ apart_at n s t both.1 h less
+      | inr last ↦
+          let same : n ≡ t = omega (arith, k, last) in
+          subst (λ (m : ℕ). are_apart (code_length m, code_number m) (code_length s, code_number s) ≡ true) same
           (each_at n (code_length n, code_number n) s both.0 (omega (arith, h, same)))
     ]
 
@@ -108,6 +108,7 @@ apart_means l c m d e = (first, second)
   where
     first : l ≤ m → d / 2 ^ (m - l) ≡ c → ⊥
     first le same = grind (arith, nat_tests)
+
     second : m ≤ l → c / 2 ^ (l - m) ≡ d → ⊥
     second le same = grind (arith, nat_tests)
 

@@ -37,20 +37,20 @@ unfolding code
 clash s t x y less octet e =
     let apart = codes_of_two s t less (omega arith) in
     elim (cases_lt (code_length s) (code_length t)) [
-      inl shorter ↦ apart.1 (omega arith)
-        (high_bits (code_length s) (code_length t) (code_number t) (code_number s) y x (omega arith)
+      | inl shorter ↦ apart.1 (omega arith)
+          (high_bits (code_length s) (code_length t) (code_number t) (code_number s) y x (omega arith)
           (code_facts t octet).fits (code_facts s (omega arith)).fits (sym e))
-    | inr longer ↦ apart.0 longer
-        (high_bits (code_length t) (code_length s) (code_number s) (code_number t) x y longer
+      | inr longer ↦ apart.0 longer
+          (high_bits (code_length t) (code_length s) (code_number s) (code_number t) x y longer
           (code_facts s (omega arith)).fits (code_facts t octet).fits e)
     ]
 
 one_symbol : (s t : ℕ) (x y : List ℕ) → s < 256 → t < 256 → code s ++ x ≡ code t ++ y → s ≡ t
 one_symbol s t x y h k e =
     elim (cases_order s t) [
-      inl same ↦ same
-    | inr (inl less) ↦ absurd (clash s t x y less k e)
-    | inr (inr more) ↦ absurd (clash t s y x more h (sym e))
+      | inl same ↦ same
+      | inr (inl less) ↦ absurd (clash s t x y less k e)
+      | inr (inr more) ↦ absurd (clash t s y x more h (sym e))
     ]
 
 -- Codes of octets, and then bits that no code begins: there is one reading.
@@ -62,10 +62,10 @@ same_symbols [] (t ∷ b) x y oa ob nx ny e = absurd (nx t (flat_map code b ++ y
 same_symbols (s ∷ a) [] x y oa ob nx ny e = absurd (ny s (flat_map code a ++ x) oa.0 (sym e ∙ append_assoc (code s) (flat_map code a) x))
 same_symbols (s ∷ a) (t ∷ b) x y oa ob nx ny e =
     let whole : code s ++ (flat_map code a ++ x) ≡ code t ++ (flat_map code b ++ y) =
-        sym (append_assoc (code s) (flat_map code a) x) ∙ e ∙ append_assoc (code t) (flat_map code b) y in
+    sym (append_assoc (code s) (flat_map code a) x) ∙ e ∙ append_assoc (code t) (flat_map code b) y in
     let same : s ≡ t = one_symbol s t _ _ oa.0 ob.0 whole in
     let tails : flat_map code a ++ x ≡ flat_map code b ++ y =
-        (fronts_one (code s) (code t) _ _ (ap (λ n. length (code n)) same) whole).1 in
+    (fronts_one (code s) (code t) _ _ (ap (λ n. length (code n)) same) whole).1 in
     let rest = same_symbols a b x y oa.1 ob.1 nx ny tails in
     (ap (λ n. n ∷ a) same ∙ ap (λ (octets : List ℕ). t ∷ octets) rest.0, rest.1)
 
@@ -85,7 +85,7 @@ padding_begins_none padding p = λ symbol more octet e.
     let n : ℕ = code_length symbol in
     let len : length padding ≡ n + length more = ap length e ∙ length-append (code symbol) more ∙ ap (λ k. k + length more) (length-code symbol) in
     let ones : replicate n 1 ++ replicate (length more) 1 ≡ code symbol ++ more =
-        replicate-append-replicate n (length more) 1 ∙ ap (λ k. replicate k 1) (sym len) ∙ sym p.ones ∙ e in
+    replicate-append-replicate n (length more) 1 ∙ ap (λ k. replicate k 1) (sym len) ∙ sym p.ones ∙ e in
     let front = (fronts_one (replicate n 1) (code symbol) _ _ (length-replicate n 1 ∙ sym (length-code symbol)) ones).0 in
     let facts = code_facts symbol octet in
     facts.not_ones (sym (number_code symbol facts.fits) ∙ ap number_of (sym front) ∙ number_of-ones n)
@@ -94,7 +94,7 @@ padding_begins_none padding p = λ symbol more octet e.
 pub huffman_one : (text a b : List ℕ) → IsHuffman text a → IsHuffman text b → a ≡ b
 huffman_one text a b h k =
     (same_symbols a b h.padding k.padding h.are_octets k.are_octets (padding_begins_none h.padding h.is_padding) (padding_begins_none k.padding k.is_padding)
-      (sym h.spelling ∙ k.spelling)).0
+    (sym h.spelling ∙ k.spelling)).0
 
 -- Octets, and then bits that no code begins and that are no padding: the text is none.
 pub no_text : (text out rest : List ℕ) → AreOctets out → flat_map (bits 8) text ≡ flat_map code out ++ rest → BeginsNoCode rest → (IsPadding rest → ⊥)
@@ -120,10 +120,11 @@ register_padding count register short ones = record {
 
 pub padding_register : (count register : ℕ) → register < 2 ^ count → IsPadding (bits count register) → (count < 8) × (register ≡ 2 ^ count - 1)
 padding_register count register small p =
-    let len = length-bits count register in
-    (subst (λ (n : ℕ). n < 8) len p.short,
-     sym (small_mod register (2 ^ count) small) ∙ sym (number_of-bits count register) ∙ ap number_of p.ones
-       ∙ number_of-ones (length (bits count register)) ∙ ap (λ n. 2 ^ n - 1) len)
+    let len = length-bits count register in (
+      subst (λ (n : ℕ). n < 8) len p.short,
+      sym (small_mod register (2 ^ count) small) ∙ sym (number_of-bits count register) ∙ ap number_of p.ones
+          ∙ number_of-ones (length (bits count register)) ∙ ap (λ n. 2 ^ n - 1) len,
+    )
 
 -- Octets were moved from a register to a list; more may stand in it.
 pub record IsDraining (old new : List ℕ) (count register left_count left : ℕ) : Type 0 where
@@ -162,7 +163,7 @@ drains_more old new n r count register symbol len span d octet le len_is number_
     let k : ℕ = count - len in
     let at_len : register / 2 ^ (count - code_length symbol) ≡ code_number symbol = ap (λ m. register / 2 ^ (count - m)) len_is ∙ number_is in
     let front : bits count register ≡ code symbol ++ bits k register =
-        front_code count register symbol (omega (arith, len_is, le)) at_len ∙ ap (λ m. code symbol ++ bits (count - m) register) len_is in
+    front_code count register symbol (omega (arith, len_is, le)) at_len ∙ ap (λ m. code symbol ++ bits (count - m) register) len_is in
     let low : bits k (register % span) ≡ bits k register = ap (λ m. bits k (register % m)) span_is ∙ bits-mod k register in
     record {
       moved = d.moved ++ symbol ∷ [];
@@ -180,8 +181,8 @@ pub begins_none : (count register : ℕ) → register < 2 ^ count → ((symbol :
     → register / 2 ^ (count - code_length symbol) ≡ code_number symbol → ⊥) → BeginsNoCode (bits count register)
 begins_none count register small none = λ symbol more octet e.
     elim (cases_lt count (code_length symbol)) [
-      inl longer ↦ omega (arith, longer, ap length e, length-bits count register, length-append (code symbol) more, length-code symbol)
-    | inr le ↦ none symbol octet le (code_front count register symbol [] more octet small le (append-nil (bits count register) ∙ e))
+      | inl longer ↦ omega (arith, longer, ap length e, length-bits count register, length-append (code symbol) more, length-code symbol)
+      | inr le ↦ none symbol octet le (code_front count register symbol [] more octet small le (append-nil (bits count register) ∙ e))
     ]
 
 pub drained : (old new : List ℕ) (n r count register : ℕ) → IsDraining old new n r count register → ((symbol : ℕ) → symbol < 256 → code_length symbol ≤ count
@@ -237,15 +238,15 @@ pub no_text_long : (text octets : List ℕ) (i count register : ℕ) → IsReadi
 no_text_long text octets i count register a long =
     let rest : List ℕ = bits count register ++ flat_map (bits 8) (drop i text) in
     no_text text octets rest a.are_octets
-      (ap (flat_map (bits 8)) (sym (take-append-drop i text)) ∙ flat_map-append (bits 8) (take i text) (drop i text)
-        ∙ ap (λ (front : List ℕ). front ++ flat_map (bits 8) (drop i text)) a.spelling
-        ∙ append_assoc (flat_map code octets) (bits count register) (flat_map (bits 8) (drop i text)))
-      (λ symbol more octet e.
-        let facts = code_facts symbol octet in
-        let le : code_length symbol ≤ count = omega (arith, facts.high, long) in
-        a.none symbol (bits (count - code_length symbol) register) octet
-          (front_code count register symbol le (code_front count register symbol (flat_map (bits 8) (drop i text)) more octet a.bound le e)))
-      (λ p. omega (arith, p.short, long, length-bits count register, length-append (bits count register) (flat_map (bits 8) (drop i text))))
+    (ap (flat_map (bits 8)) (sym (take-append-drop i text)) ∙ flat_map-append (bits 8) (take i text) (drop i text)
+    ∙ ap (λ (front : List ℕ). front ++ flat_map (bits 8) (drop i text)) a.spelling
+    ∙ append_assoc (flat_map code octets) (bits count register) (flat_map (bits 8) (drop i text)))
+    (λ symbol more octet e.
+    let facts = code_facts symbol octet in
+    let le : code_length symbol ≤ count = omega (arith, facts.high, long) in
+    a.none symbol (bits (count - code_length symbol) register) octet
+    (front_code count register symbol le (code_front count register symbol (flat_map (bits 8) (drop i text)) more octet a.bound le e)))
+    (λ p. omega (arith, p.short, long, length-bits count register, length-append (bits count register) (flat_map (bits 8) (drop i text))))
 
 -- at the end of the text
 pub whole_text : (text octets : List ℕ) (i count register : ℕ) → length text ≤ i → IsReading (take i text) octets count register → count < 8 → register ≡ 2 ^ count - 1
@@ -261,7 +262,7 @@ pub no_padding : (text octets : List ℕ) (i count register : ℕ) → length te
     → ((count < 8) → register ≡ 2 ^ count - 1 → ⊥) → (others : List ℕ) → IsHuffman text others → ⊥
 no_padding text octets i count register h a other =
     no_text text octets (bits count register) a.are_octets (ap (flat_map (bits 8)) (sym (take_all i text h)) ∙ a.spelling) a.none
-      (λ p. let both = padding_register count register a.bound p in other both.0 both.1)
+    (λ p. let both = padding_register count register a.bound p in other both.0 both.1)
 
 pub register_fits : (count register byte : ℕ) → register < 2 ^ count → byte < 256 → register * 256 + byte < 2 ^ (count + 8)
 register_fits count register byte small octet =

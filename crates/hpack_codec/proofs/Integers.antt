@@ -104,19 +104,20 @@ takes_short bits first number rest is small =
 pub takes_long : (bits first high number : ℕ) (rest behind : List ℕ) → first % 2 ^ bits ≡ 2 ^ bits - 1 → TakesMore rest high behind
     → number ≡ 2 ^ bits - 1 + high → number < 2 ^ 32 → TakesInteger bits (first ∷ rest) number behind
 unfolding flags_of
-takes_long bits first high number rest behind greatest more is below =
-    (first ∷ more.front ++ more.last ∷ [],
-     ap (λ tail. first ∷ tail) (more.spelling ∙ sym (append_assoc more.front (more.last ∷ []) behind)),
-     inr (record {
-       front = more.front;
-       last = more.last;
-       spelling = ap (λ n. n ∷ more.front ++ more.last ∷ []) (short_spelling first bits ∙ ap (λ n. first / 2 ^ bits * 2 ^ bits + n) greatest);
-       unfinished = more.unfinished;
-       finished = more.finished;
-       at_most_six = more.at_most_five;
-       sum = is ∙ ap (λ n. 2 ^ bits - 1 + n) more.sum;
-       below = below;
-     }))
+takes_long bits first high number rest behind greatest more is below = (
+  first ∷ more.front ++ more.last ∷ [],
+  ap (λ tail. first ∷ tail) (more.spelling ∙ sym (append_assoc more.front (more.last ∷ []) behind)),
+  inr (record {
+    front = more.front;
+    last = more.last;
+    spelling = ap (λ n. n ∷ more.front ++ more.last ∷ []) (short_spelling first bits ∙ ap (λ n. first / 2 ^ bits * 2 ^ bits + n) greatest);
+    unfinished = more.unfinished;
+    finished = more.finished;
+    at_most_six = more.at_most_five;
+    sum = is ∙ ap (λ n. 2 ^ bits - 1 + n) more.sum;
+    below = below;
+  }),
+)
 
 pub greatest_prefix : (bits first : ℕ) → 2 ^ bits - 1 ≤ first % 2 ^ bits → first % 2 ^ bits ≡ 2 ^ bits - 1
 greatest_prefix bits first h = omega (arith, mod_below first (2 ^ bits) (pow_pos bits), pow_pos bits)
@@ -176,8 +177,8 @@ takes_short_at bits first bytes b some is small =
     let e : bytes ≡ first ∷ tail_of bytes = rw is (parted bytes some) in
     let s = span_is bits b in
     subst (λ (front : List ℕ). TakesInteger bits front (first % span_of bits) (tail_of bytes)) (sym e)
-      (takes_short bits first (first % span_of bits) (tail_of bytes) (ap (λ n. first % n) s)
-        (subst (λ (n : ℕ). first % span_of bits + 1 < n) s small))
+    (takes_short bits first (first % span_of bits) (tail_of bytes) (ap (λ n. first % n) s)
+    (subst (λ (n : ℕ). first % span_of bits + 1 < n) s small))
 
 pub takes_long_at : (bits first high : ℕ) (bytes behind : List ℕ) → bits < 8 → 1 ≤ length bytes → first ≡ get_or bytes 0 0
     → span_of bits ≤ first % span_of bits + 1 → TakesMore (tail_of bytes) high behind
@@ -188,7 +189,7 @@ takes_long_at bits first high bytes behind b some is large more below =
     let greatest : first % 2 ^ bits ≡ 2 ^ bits - 1 = greatest_prefix bits first (omega (arith, rw s at large)) in
     let number_is : first % span_of bits + high ≡ 2 ^ bits - 1 + high = rw (s, greatest) refl in
     subst (λ (front : List ℕ). TakesInteger bits front (first % span_of bits + high) behind) (sym e)
-      (takes_long bits first high (first % span_of bits + high) (tail_of bytes) behind greatest more number_is below)
+    (takes_long bits first high (first % span_of bits + high) (tail_of bytes) behind greatest more number_is below)
 
 -- a fault behind the greatest prefix
 pub fault_at : (fault : HpackFault) (bits first : ℕ) (bytes : List ℕ) → bits < 8 → 1 ≤ length bytes → first ≡ get_or bytes 0 0

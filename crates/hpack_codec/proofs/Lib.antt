@@ -10,3 +10,4 @@ pub mod Literals
 pub mod Decoding
 pub mod Strings
 pub mod StaticEntries
+pub mod Examples

@@ -21,19 +21,20 @@ name_entry table (suc place) bytes octets name_now value_now some is same = ([],
 pub literal_taken : (table : Table) (prefix_bits index : ℕ) (bytes behind third rest name_octets value_octets : List ℕ)
     → TakesInteger prefix_bits bytes index behind → TakesName table index behind name_octets third → TakesString third value_octets rest
     → TakesLiteral prefix_bits table bytes (entry name_octets value_octets) rest
-literal_taken table prefix_bits index bytes behind third rest name_octets value_octets i n v =
-    (i.0 ++ (n.0 ++ v.0),
-     i.1 ∙ ap (λ (tail : List ℕ). i.0 ++ tail) (n.1 ∙ ap (λ (tail : List ℕ). n.0 ++ tail) v.1 ∙ sym (append_assoc n.0 v.0 rest)) ∙ sym (append_assoc i.0 (n.0 ++ v.0) rest),
-     record {
-       index = index;
-       index_text = i.0;
-       name_text = n.0;
-       value_text = v.0;
-       spelling = refl;
-       is_index = i.2;
-       is_name = n.2;
-       is_value = v.2;
-     })
+literal_taken table prefix_bits index bytes behind third rest name_octets value_octets i n v = (
+  i.0 ++ (n.0 ++ v.0),
+  i.1 ∙ ap (λ (tail : List ℕ). i.0 ++ tail) (n.1 ∙ ap (λ (tail : List ℕ). n.0 ++ tail) v.1 ∙ sym (append_assoc n.0 v.0 rest)) ∙ sym (append_assoc i.0 (n.0 ++ v.0) rest),
+  record {
+    index = index;
+    index_text = i.0;
+    name_text = n.0;
+    value_text = v.0;
+    spelling = refl;
+    is_index = i.2;
+    is_name = n.2;
+    is_value = v.2;
+  },
+)
 
 -- the first byte tells the flags
 pub begins : (least above : ℕ) (bytes : List ℕ) → 1 ≤ length bytes → least ≤ get_or bytes 0 0 → get_or bytes 0 0 < above → Begins least above bytes
@@ -88,22 +89,22 @@ pub field_literal : (table : Table) (bytes rest : List ℕ) (field : Field) → 
     → TakesLiteral 4 table bytes field rest → TakesField table bytes field false rest
 field_literal table bytes rest field some low t =
     elim (cases_lt (get_or bytes 0 0) 16) [
-      inl plain ↦
-        (let l : IsLiteral 4 0 table t.0 field = subst (λ (flags : ℕ). IsLiteral 4 flags table t.0 field) (flags_4_low bytes some plain) t.2 in
-        record {
-          text = t.0;
-          spelling = t.1;
-          represents = (WithoutIndexing, (l, refl));
-          shorter = omega (arith, ap length t.1, length-append t.0 rest, literal_some 4 0 table t.0 field l);
-        })
-    | inr never ↦
-        (let l : IsLiteral 4 16 table t.0 field = subst (λ (flags : ℕ). IsLiteral 4 flags table t.0 field) (flags_4_high bytes some never low) t.2 in
-        record {
-          text = t.0;
-          spelling = t.1;
-          represents = (NeverIndexed, (l, refl));
-          shorter = omega (arith, ap length t.1, length-append t.0 rest, literal_some 4 16 table t.0 field l);
-        })
+      | inl plain ↦
+          (let l : IsLiteral 4 0 table t.0 field = subst (λ (flags : ℕ). IsLiteral 4 flags table t.0 field) (flags_4_low bytes some plain) t.2 in
+          record {
+            text = t.0;
+            spelling = t.1;
+            represents = (WithoutIndexing, (l, refl));
+            shorter = omega (arith, ap length t.1, length-append t.0 rest, literal_some 4 0 table t.0 field l);
+          })
+      | inr never ↦
+          (let l : IsLiteral 4 16 table t.0 field = subst (λ (flags : ℕ). IsLiteral 4 flags table t.0 field) (flags_4_high bytes some never low) t.2 in
+          record {
+            text = t.0;
+            spelling = t.1;
+            represents = (NeverIndexed, (l, refl));
+            shorter = omega (arith, ap length t.1, length-append t.0 rest, literal_some 4 16 table t.0 field l);
+          })
     ]
 
 pub field_indexed : (table : Table) (bytes rest : List ℕ) (field : Field) → TakesIndexed table bytes field rest → TakesField table bytes field false rest
@@ -133,6 +134,6 @@ pub fault_literal : (fault : HpackFault) (table : Table) (bytes : List ℕ) → 
     → OrMemory fault (IsLiteralFault fault 4 (flags_of 4 bytes) table bytes) → OrMemory fault (IsFieldFault fault table bytes)
 fault_literal fault table bytes some low =
     or_memory fault _ _ (λ f. elim (cases_lt (get_or bytes 0 0) 16) [
-      inl plain ↦ inr (inr (inr (inl (begins 0 16 bytes some (omega arith) plain, subst (λ (flags : ℕ). IsLiteralFault fault 4 flags table bytes) (flags_4_low bytes some plain) f))))
-    | inr never ↦ inr (inr (inl (begins 16 32 bytes some never low, subst (λ (flags : ℕ). IsLiteralFault fault 4 flags table bytes) (flags_4_high bytes some never low) f)))
+      | inl plain ↦ inr (inr (inr (inl (begins 0 16 bytes some (omega arith) plain, subst (λ (flags : ℕ). IsLiteralFault fault 4 flags table bytes) (flags_4_low bytes some plain) f))))
+      | inr never ↦ inr (inr (inl (begins 16 32 bytes some never low, subst (λ (flags : ℕ). IsLiteralFault fault 4 flags table bytes) (flags_4_high bytes some never low) f)))
     ])

@@ -28,17 +28,18 @@ flags_7_low bytes some low = flags_from 7 0 bytes some (at_0 (get_or bytes 0 0) 
 
 pub takes_string : (bytes rest front back octets : List ℕ) (len flags : ℕ) → TakesInteger 7 bytes len rest → flags_of 7 bytes ≡ flags → rest ≡ front ++ back → length front ≡ len
     → ((size : List ℕ) → IsInteger 7 flags size (length front)
-        → (IsInteger 7 0 size (length front) × (front ≡ octets)) ⊎ (IsInteger 7 128 size (length front) × IsHuffman front octets))
+    → (IsInteger 7 0 size (length front) × (front ≡ octets)) ⊎ (IsInteger 7 128 size (length front) × IsHuffman front octets))
     → TakesString bytes octets back
-takes_string bytes rest front back octets len flags t f parts l meaning =
-    (t.0 ++ front,
-     t.1 ∙ ap (λ (tail : List ℕ). t.0 ++ tail) parts ∙ sym (append_assoc t.0 front back),
-     record {
-       size = t.0;
-       content = front;
-       spelling = refl;
-       meaning = meaning t.0 (subst (λ (n : ℕ). IsInteger 7 flags t.0 n) (sym l) (subst (λ (n : ℕ). IsInteger 7 n t.0 len) f t.2));
-     })
+takes_string bytes rest front back octets len flags t f parts l meaning = (
+  t.0 ++ front,
+  t.1 ∙ ap (λ (tail : List ℕ). t.0 ++ tail) parts ∙ sym (append_assoc t.0 front back),
+  record {
+    size = t.0;
+    content = front;
+    spelling = refl;
+    meaning = meaning t.0 (subst (λ (n : ℕ). IsInteger 7 flags t.0 n) (sym l) (subst (λ (n : ℕ). IsInteger 7 n t.0 len) f t.2));
+  },
+)
 
 pub takes_plain : (bytes rest front back octets : List ℕ) (len : ℕ) → TakesInteger 7 bytes len rest → flags_of 7 bytes ≡ 0 → rest ≡ front ++ back → length front ≡ len
     → octets ≡ front → TakesString bytes octets back

@@ -26,8 +26,8 @@ unfolding fitting
 fitting_whole room [] h = refl
 fitting_whole room (x ∷ xs) h =
     elim (leb_tells (size_of x) room) [
-      inl fits ↦ rw fits.0 (ap (λ tail. x ∷ tail) (fitting_whole (room - size_of x) xs (omega (arith, h, sizes_of-cons x xs))))
-    | inr large ↦ absurd (omega (arith, h, large.1, sizes_of-cons x xs))
+      | inl fits ↦ rw fits.0 (ap (λ tail. x ∷ tail) (fitting_whole (room - size_of x) xs (omega (arith, h, sizes_of-cons x xs))))
+      | inr large ↦ absurd (omega (arith, h, large.1, sizes_of-cons x xs))
     ]
 
 -- where there is no room for all of them, the last one is out
@@ -35,13 +35,13 @@ pub fitting_front : (room : ℕ) (xs : List Field) (y : Field) → room < sizes_
 unfolding fitting
 fitting_front room [] y h =
     elim (leb_tells (size_of y) room) [
-      inl fits ↦ absurd (omega (arith, h, fits.1, sizes_of-cons y [], sizes_of-nil))
-    | inr large ↦ rw large.0 refl
+      | inl fits ↦ absurd (omega (arith, h, fits.1, sizes_of-cons y [], sizes_of-nil))
+      | inr large ↦ rw large.0 refl
     ]
 fitting_front room (x ∷ xs) y h =
     elim (leb_tells (size_of x) room) [
-      inl fits ↦ rw fits.0 (ap (λ tail. x ∷ tail) (fitting_front (room - size_of x) xs y (let all : room < size_of x + sizes_of (xs ++ y ∷ []) = subst (λ (n : ℕ). room < n) (sizes_of-cons x (xs ++ y ∷ [])) h in omega (arith, all, fits.1))))
-    | inr large ↦ rw large.0 refl
+      | inl fits ↦ rw fits.0 (ap (λ tail. x ∷ tail) (fitting_front (room - size_of x) xs y (let all : room < size_of x + sizes_of (xs ++ y ∷ []) = subst (λ (n : ℕ). room < n) (sizes_of-cons x (xs ++ y ∷ [])) h in omega (arith, all, fits.1))))
+      | inr large ↦ rw large.0 refl
     ]
 
 -- a new entry that has room
@@ -49,16 +49,16 @@ pub inserted : (table : Table) (field : Field) → size_of field ≤ table.limit
 unfolding fitting
 inserted table field h =
     elim (leb_tells (size_of field) table.limit) [
-      inl fits ↦ rw fits.0 refl
-    | inr large ↦ absurd (omega (arith, h, large.1))
+      | inl fits ↦ rw fits.0 refl
+      | inr large ↦ absurd (omega (arith, h, large.1))
     ]
 
 pub not_inserted : (table : Table) (field : Field) → table.limit < size_of field → fitting table.limit (field ∷ table.entries) ≡ []
 unfolding fitting
 not_inserted table field h =
     elim (leb_tells (size_of field) table.limit) [
-      inl fits ↦ absurd (omega (arith, h, fits.1))
-    | inr large ↦ rw large.0 refl
+      | inl fits ↦ absurd (omega (arith, h, fits.1))
+      | inr large ↦ rw large.0 refl
     ]
 
 -- what is left and the last entry have the size of all
@@ -86,8 +86,8 @@ pub insert_small : (entries kept now : List Field) (limit size : ℕ) (field : F
     → now ≡ field ∷ kept → table_of now limit ≡ insert_entry (table_of entries limit) field
 insert_small entries kept now limit size field size_is small kept_is now_is =
     ap (λ (fields : List Field). table_of fields limit)
-      (now_is ∙ ap (λ (fields : List Field). field ∷ fields) (kept_is ∙ ap (λ n. fitting (limit - n) entries) size_is)
-      ∙ sym (inserted (table_of entries limit) field (subst (λ (n : ℕ). n ≤ limit) size_is small)))
+    (now_is ∙ ap (λ (fields : List Field). field ∷ fields) (kept_is ∙ ap (λ n. fitting (limit - n) entries) size_is)
+    ∙ sym (inserted (table_of entries limit) field (subst (λ (n : ℕ). n ≤ limit) size_is small)))
 
 abbrev pub entries_of : Table → List Field
 entries_of table = table.entries

@@ -50,23 +50,23 @@ abbrev pub IsPairFault : HpackFault → Table → ℕ → List ℕ → Type 0
 IsPairFault fault table index bytes =
     IsNameFault fault table index bytes
     ⊎ ((name_text octets rest : List ℕ)
-      × (bytes ≡ name_text ++ rest) × IsName table index name_text octets × IsStringFault fault rest)
+    × (bytes ≡ name_text ++ rest) × IsName table index name_text octets × IsStringFault fault rest)
 
 -- where a literal has to stand: at its index, or behind it
 abbrev pub IsLiteralFault : HpackFault → ℕ → ℕ → Table → List ℕ → Type 0
 IsLiteralFault fault prefix_bits flags table bytes =
     IsIntegerFault fault prefix_bits bytes
     ⊎ ((index : ℕ) × (index_text rest : List ℕ)
-      × (bytes ≡ index_text ++ rest) × IsInteger prefix_bits flags index_text index
-      × IsPairFault fault table index rest)
+    × (bytes ≡ index_text ++ rest) × IsInteger prefix_bits flags index_text index
+    × IsPairFault fault table index rest)
 
 -- where an indexed field has to stand
 abbrev pub IsIndexedFault : HpackFault → Table → List ℕ → Type 0
 IsIndexedFault fault table bytes =
     IsIntegerFault fault 7 bytes
     ⊎ ((index : ℕ) × (index_text rest : List ℕ)
-      × (bytes ≡ index_text ++ rest) × IsInteger 7 128 index_text index
-      × (fault ≡ Index) × (entry_at table index ≡ None))
+    × (bytes ≡ index_text ++ rest) × IsInteger 7 128 index_text index
+    × (fault ≡ Index) × (entry_at table index ≡ None))
 
 -- The first byte is in this range.
 abbrev pub Begins : ℕ → ℕ → List ℕ → Type 0
@@ -78,8 +78,8 @@ abbrev pub IsUpdateFault : HpackFault → List ℕ → Type 0
 IsUpdateFault fault bytes =
     IsIntegerFault fault 5 bytes
     ⊎ ((new_limit : ℕ) × (limit_text rest : List ℕ)
-      × (bytes ≡ limit_text ++ rest) × IsInteger 5 32 limit_text new_limit
-      × (fault ≡ SizeUpdate) × (4096 < new_limit))
+    × (bytes ≡ limit_text ++ rest) × IsInteger 5 32 limit_text new_limit
+    × (fault ≡ SizeUpdate) × (4096 < new_limit))
 
 -- Behind these fields a representation has to stand, and there is none.
 -- A change of size behind a field is a fault by its first byte.

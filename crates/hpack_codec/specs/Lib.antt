@@ -1,3 +1,4 @@
+pub mod FaultCode
 pub mod Integer
 pub mod Huffman
 pub mod StringLiteral

@@ -224,3 +224,8 @@ fn literal_name<'b>(
     };
     Ok((Octets::from(Vec::from_slice(alloc, name)?), bytes))
 }
+
+#[cfg(test)]
+mod clients;
+#[cfg(test)]
+mod tests;

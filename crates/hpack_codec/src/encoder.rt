@@ -89,9 +89,7 @@ impl Encoder {
 fn any_too_long(fields: &[Field]) -> bool
     ensures { IsTrue result ↔ Any IsTooLong fields.now }
 {
-    fields
-        .iter()
-        .any(|field| field.name.len() > MAX_LEN || field.value.len() > MAX_LEN)
+    fields.iter().any(|field| field.name.len() > MAX_LEN || field.value.len() > MAX_LEN)
 }
 
 /// Writes the change of an empty table's limit, where it is one.
@@ -134,3 +132,6 @@ fn push_fields(out: &mut Vec<u8>, fields: &[Field]) -> Result<(), AllocError>
     }
     Ok(())
 }
+
+#[cfg(test)]
+mod tests;

@@ -1,5 +1,6 @@
 //! Why a header block can't be read or written.
 ghost use Rattle.std.specs.Prelude.{◌≡◌};
+ghost use Rattle.hpack_codec.specs.FaultCode.{code_of_fault};
 ghost use Rattle.hpack_codec.specs.declared.fault.HpackFault.TheVariants.{OutOfMemory};
 
 use std::alloc::{AllocError, AllocFailed};
@@ -35,7 +36,9 @@ pub enum HpackFault {
 
 impl HpackFault {
     /// The number of the fault, 1 to 8 in the order of the variants.
-    pub fn code(self) -> u8 {
+    pub fn code(self) -> u8
+        ensures { result ≡ code_of_fault self }
+    {
         match self {
             HpackFault::Integer => 1,
             HpackFault::Index => 2,

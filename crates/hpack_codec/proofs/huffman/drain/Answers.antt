@@ -16,9 +16,9 @@ loop-symbol-smaller c =
 pub loop-symbol-preserved : goal.loop-symbol-preserved
 loop-symbol-preserved c =
     rw c.in_ok-push.ensures.items
-      (drains_more _ _ c.args.count c.args.register c.loop-symbol.count c.loop-symbol.register c.in-Some.symbol c.in-Some.len _ c.loop-symbol.invariant
-        c.in-Some.ensures.octet c.in-Some.ensures.len.0 c.in-Some.ensures.len.1 c.in-Some.ensures.number
-        (one_shl (c.loop-symbol.count - c.in-Some.len) 64 (omega (arith, c.requires.count, c.loop-symbol.invariant.shorter))))
+    (drains_more _ _ c.args.count c.args.register c.loop-symbol.count c.loop-symbol.register c.in-Some.symbol c.in-Some.len _ c.loop-symbol.invariant
+    c.in-Some.ensures.octet c.in-Some.ensures.len.0 c.in-Some.ensures.len.1 c.in-Some.ensures.number
+    (one_shl (c.loop-symbol.count - c.in-Some.len) 64 (omega (arith, c.requires.count, c.loop-symbol.invariant.shorter))))
 
 pub returns : goal.returns
 returns c = drained _ _ c.args.count c.args.register c.loop-symbol.count c.loop-symbol.register c.loop-symbol.invariant c.in_default.ensures.none

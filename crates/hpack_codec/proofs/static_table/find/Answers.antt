@@ -7,8 +7,8 @@ use Rattle.hpack_codec.proofs.static_table.find.Goals.{then-eq+else-eq-2+in-Noth
 pub loop-place-preserved : goal.loop-place-preserved
 loop-place-preserved c =
     elim c.if-eq.branch [
-      then-eq+else-eq-2+in-Nothing w ↦ rw w.found-is (name_found c.loop-place.place _ _ _ c.args.value.now (omega arith) c.static_entry.ensures
+      | then-eq+else-eq-2+in-Nothing w ↦ rw w.found-is (name_found c.loop-place.place _ _ _ c.args.value.now (omega arith) c.static_entry.ensures
           ((bytes_eq-Decides _ _).0 (sym c.eq.ensures ∙ w.if-eq.true)))
-    | then-eq+else-eq-2+in_default w ↦ rw w.found-is c.loop-place.invariant
-    | else-eq w ↦ rw w.found-is c.loop-place.invariant
+      | then-eq+else-eq-2+in_default w ↦ rw w.found-is c.loop-place.invariant
+      | else-eq w ↦ rw w.found-is c.loop-place.invariant
     ]

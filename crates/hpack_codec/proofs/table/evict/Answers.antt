@@ -22,8 +22,12 @@ loop-size-preserved-in-Some c = record {
 
 pub loop-size-smaller : goal.loop-size-smaller
 loop-size-smaller c =
-    absurd (omega (arith, c.loop-size-test.true, c.loop-size.invariant.size,
-      empty_size c.loop-size.recent.items (sym c.loop-size.recent.ok.0 ∙ c.in_default.ensures.cases.0)))
+    absurd (omega (
+      arith,
+      c.loop-size-test.true,
+      c.loop-size.invariant.size,
+      empty_size c.loop-size.recent.items (sym c.loop-size.recent.ok.0 ∙ c.in_default.ensures.cases.0),
+    ))
 
 pub returns-clause-kept : goal.returns-clause-kept
 returns-clause-kept c = sym (fitting_whole c.args.room c.loop-size.recent.items (omega (arith, c.loop-size-test.false, c.loop-size.invariant.size))) ∙ c.loop-size.invariant.kept

@@ -17,7 +17,7 @@ returns-in-Some c =
     entry_at-recent c.args.self.now c.args.index c.if-index-le-LEN.false
     ∙ ap (λ table. slice_get (entries_of table) (c.args.index - 1 - 61)) (sym c.self.view_is)
     ∙ slice_get_read c.self.inside.recent.items c.self.inside.recent.len (c.args.index - 1 - 61) c.in-Some.field.now
-        c.self.inside.recent.ok.0 (c.in-Some.ensures.variant.0 refl) c.in-Some.ensures.lookup
+    c.self.inside.recent.ok.0 (c.in-Some.ensures.variant.0 refl) c.in-Some.ensures.lookup
     ∙ some_entry c.in-Some.field.now _ _ c.as_slice.ensures c.as_slice-in-Some.ensures
 
 pub returns-in-None : goal.returns-in-None

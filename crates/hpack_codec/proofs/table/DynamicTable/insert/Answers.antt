@@ -12,12 +12,13 @@ returns-then-size-limit c =
     ∙ ap (λ table. insert_entry table c.args.field) c.self.view_is
 
 pub invariant_of-self-2 : goal.invariant_of-self-2
-invariant_of-self-2 c =
-    (sym (ap sizes_of c.in_ok-push_front.ensures.items ∙ sizes_of-cons _ _ ∙ omega (arith, c.evict-self-inside.ensures.size, c.requires)),
-     omega (arith, c.evict-self-inside.ensures.room, c.if-size-limit.false))
+invariant_of-self-2 c = (
+  sym (ap sizes_of c.in_ok-push_front.ensures.items ∙ sizes_of-cons _ _ ∙ omega (arith, c.evict-self-inside.ensures.size, c.requires)),
+  omega (arith, c.evict-self-inside.ensures.room, c.if-size-limit.false),
+)
 
 pub returns : goal.returns
 returns c =
     insert_small c.self.inside.recent.items c.evict-self-inside.new.recent.items c.push_front.new.self.items c.self.inside.max_size c.args.size c.args.field
-      c.requires c.if-size-limit.false c.evict-self-inside.ensures.kept c.in_ok-push_front.ensures.items
+    c.requires c.if-size-limit.false c.evict-self-inside.ensures.kept c.in_ok-push_front.ensures.items
     ∙ ap (λ table. insert_entry table c.args.field) c.self.view_is
