@@ -1,6 +1,6 @@
 -- On numbers as lists of bits.
 use Rattle.std.proofs.Common.{◌≡◌, ℕ, zero, suc, ◌+◌, ◌-◌, ◌*◌, ◌/◌, ◌%◌, ◌^◌, ◌<◌, ◌≤◌, List, [], ◌∷◌, ◌++◌, length, refl, sym, subst, ◌∙◌, ap, arith, append_assoc}
-use Rattle.std.proofs.lemmas.Nat.{pow_pos, shr-shr, shr_high, mod_low, mod-pow-add, mod_below, shr_split, mod-mul-add, shr_below}
+use Rattle.std.proofs.lemmas.Nat.{pow_pos, shr-shr, shr_high, mod-pow-add, shr_split, mod-mul-add, shr_below}
 use Rattle.std.proofs.Math.Nat.{add-mul-div_right, pow-suc}
 use Rattle.hpack_codec.specs.Huffman.{bits}
 

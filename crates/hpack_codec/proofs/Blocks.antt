@@ -1,13 +1,13 @@
 -- On blocks: fields and changes of size one behind another.
-use Rattle.std.proofs.Common.{◌≡◌, ◌≢◌, ℕ, zero, suc, ◌+◌, ◌-◌, ◌<◌, ◌≤◌, ◌⊎◌, List, [], ◌∷◌, ◌++◌, length, take, drop, get_or, refl, sym, subst, ◌∙◌, ap, inl, inr, arith, rules, append_assoc, Option, Some, None, slice_get}
+use Rattle.std.proofs.Common.{◌≡◌, ℕ, zero, suc, ◌+◌, ◌-◌, ◌<◌, ◌≤◌, List, [], ◌∷◌, ◌++◌, length, take, get_or, refl, sym, subst, ◌∙◌, ap, arith, append_assoc, Some, slice_get}
 use Rattle.std.proofs.lemmas.List.{append-nil, take_more, take_all}
 use Rattle.hpack_codec.specs.declared.fields.Field.{Field}
 use Rattle.hpack_codec.specs.Integer.{IsInteger}
 use Rattle.hpack_codec.specs.StringLiteral.{IsString}
 use Rattle.hpack_codec.specs.StaticTable.{static_table, entry}
-use Rattle.hpack_codec.specs.declared.static_table.Found.TheVariants.{Whole, Name, Nothing}
-use Rattle.hpack_codec.specs.Table.{Table, entry_at, insert_entry, resize, sizes_of, fitting}
-use Rattle.hpack_codec.specs.Block.{IsName, IsLiteral, Form, Indexed, Incremental, WithoutIndexing, NeverIndexed, IsFormOf, Represents, AreFields, AreUpdates, IsBlock}
+use Rattle.hpack_codec.specs.declared.static_table.Found.TheVariants.{Whole, Name}
+use Rattle.hpack_codec.specs.Table.{Table, fitting}
+use Rattle.hpack_codec.specs.Block.{Indexed, WithoutIndexing, Represents, AreFields, AreUpdates, IsBlock}
 use Rattle.hpack_codec.specs.Reading.{Appends, SpellsField, SpellsFields, SpellsUpdate, IsFound}
 use Rattle.hpack_codec.proofs.Tables.{entry_at-static, table_of}
 

@@ -1,6 +1,6 @@
 -- On the loops of the decoder: what was read so far, and where a fault stands.
-use Rattle.std.proofs.Common.{◌≡◌, ◌≢◌, ℕ, zero, suc, ◌+◌, ◌-◌, ◌^◌, ◌<◌, ◌≤◌, ◌⊎◌, Bool, List, [], ◌∷◌, ◌++◌, length, refl, sym, subst, ◌∙◌, ap, inl, inr, arith, append_assoc, length-append, min, Option, Some, None}
-use Rattle.hpack_codec.specs.Codec.{IsFirstFault, Reads}
+use Rattle.std.proofs.Common.{◌≡◌, ℕ, zero, suc, ◌+◌, ◌-◌, ◌^◌, ◌<◌, ◌≤◌, Bool, List, [], ◌∷◌, ◌++◌, length, refl, sym, subst, ◌∙◌, ap, inl, inr, arith, append_assoc, length-append, min, Option, Some}
+use Rattle.hpack_codec.specs.Codec.{IsFirstFault}
 use Rattle.std.proofs.lemmas.List.{append-nil}
 use Rattle.hpack_codec.specs.declared.fault.HpackFault.{HpackFault}
 use Rattle.hpack_codec.specs.declared.fault.HpackFault.TheVariants.{Integer, Index, Huffman, SizeUpdate, Truncated, OutOfMemory, Dead, TooLarge}
@@ -8,7 +8,7 @@ use Rattle.hpack_codec.specs.declared.fields.Field.{Field}
 use Rattle.hpack_codec.specs.Integer.{IsInteger}
 use Rattle.hpack_codec.specs.Table.{Table, resize, sizes_of, size_of}
 use Rattle.hpack_codec.specs.Block.{AreUpdates, AreFields, Represents, IsBlock}
-use Rattle.hpack_codec.specs.Faults.{IsUpdateFault, IsIntegerFault, IsStringFault, IsNameFault, IsLiteralFault, IsIndexedFault, IsFaultBehind, StandsBehind, IsTooLarge, Stands, Begins}
+use Rattle.hpack_codec.specs.Faults.{IsUpdateFault, IsIntegerFault, IsStringFault, IsNameFault, IsLiteralFault, IsIndexedFault, IsFaultBehind, StandsBehind, Stands, Begins}
 use Rattle.hpack_codec.specs.Reading.{OrMemory, TakesInteger, TakesField, TakesUpdates, IsUpdatesFault, IsFieldFault, IsFieldsFault, FaultBehind, LargeFront, next_table, flags_of}
 use Rattle.hpack_codec.proofs.Tables.{sizes_of-nil, sizes_of-push}
 use Rattle.hpack_codec.proofs.Blocks.{AreFields-push}

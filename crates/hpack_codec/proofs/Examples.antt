@@ -1,5 +1,5 @@
 -- Worked examples of RFC 7541, and the checks of its Huffman code, by computation.
-use Rattle.std.proofs.Common.{◌≡◌, ℕ, ◌-◌, ◌^◌, List, [], ◌∷◌, map, replicate, sum_by, refl, inl, inr, lit<, lit≤}
+use Rattle.std.proofs.Common.{◌≡◌, ◌-◌, ◌^◌, [], ◌∷◌, map, replicate, sum_by, refl, inl, inr, lit<, lit≤}
 use Rattle.hpack_codec.specs.Integer.{base_128, IsUnfinished, IsInteger}
 use Rattle.hpack_codec.specs.Huffman.{code_lengths, code_length, codes_of_length, first_code, code_number, bits, code}
 

@@ -1,8 +1,8 @@
 -- The Huffman code, checked by computation: the sum of its lengths, and that no code begins another.
-use Rattle.std.proofs.Common.{◌≡◌, ℕ, zero, suc, ◌+◌, ◌-◌, ◌*◌, ◌/◌, ◌^◌, ◌<◌, ◌≤◌, List, [], ◌∷◌, length, refl, Bool, true, false, ◌&&◌, ◌||◌, not, nat_lt, nat_le, ◌==◌, sym, subst, inl, inr, arith, ap, ◌∙◌}
+use Rattle.std.proofs.Common.{◌≡◌, ℕ, zero, suc, ◌-◌, ◌/◌, ◌^◌, ◌<◌, ◌≤◌, List, [], ◌∷◌, refl, Bool, true, false, ◌&&◌, ◌||◌, not, nat_lt, nat_le, ◌==◌, subst, inl, inr, arith}
 use Rattle.std.proofs.lemmas.Bool.{cases_lt, ltb-true, leb-true}
 use Rattle.std.proofs.lemmas.Bool.Decides.{eqb_tells, nat_tests}
-use Rattle.hpack_codec.specs.Huffman.{code_lengths, code_length, codes_of_length, first_code, code_number, bits, code}
+use Rattle.hpack_codec.specs.Huffman.{code_length, codes_of_length, first_code, code_number}
 
 -- each number below n passes
 abbrev pub below : ℕ → (ℕ → Bool) → Bool

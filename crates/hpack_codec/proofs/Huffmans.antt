@@ -1,5 +1,5 @@
 -- On Huffman texts: bits are the codes of one list of octets at most.
-use Rattle.std.proofs.Common.{◌≡◌, ℕ, zero, suc, ◌+◌, ◌-◌, ◌*◌, ◌/◌, ◌%◌, ◌^◌, ◌<◌, ◌≤◌, ◌⊎◌, List, [], ◌∷◌, ◌++◌, length, take, drop, get_or, refl, sym, subst, ◌∙◌, ap, inl, inr, arith, append_assoc, length-append, replicate, lit<}
+use Rattle.std.proofs.Common.{◌≡◌, ℕ, zero, suc, ◌+◌, ◌-◌, ◌*◌, ◌/◌, ◌%◌, ◌^◌, ◌<◌, ◌≤◌, List, [], ◌∷◌, ◌++◌, length, take, drop, get_or, refl, sym, subst, ◌∙◌, ap, inl, inr, arith, append_assoc, length-append, replicate, lit<}
 use Rattle.std.specs.List.{flat_map}
 use Rattle.std.proofs.lemmas.Bool.{cases_lt, cases_order}
 use Rattle.std.proofs.lemmas.List.{append-nil, replicate-append-replicate, length-replicate, take_more, take_all, take-append-drop}
@@ -7,9 +7,9 @@ use Rattle.std.proofs.lemmas.Grind.{flat_map-append}
 use Rattle.std.proofs.lemmas.Nat.{pow_pos, shr_high, mod_below, mul-add-lt, pow-add}
 use Rattle.std.proofs.Math.Nat.{pow-suc}
 use Rattle.hpack_codec.specs.Huffman.{bits, code, code_length, code_number, IsPadding, AreOctets, IsHuffman}
-use Rattle.hpack_codec.specs.Reading.{BeginsNoCode, Drains, IsTextFault}
+use Rattle.hpack_codec.specs.Reading.{BeginsNoCode, Drains}
 use Rattle.hpack_codec.proofs.Bits.{length-bits, bits-add, bits_low, bits-mod, bits_byte, number_of, number_of-bits, small_mod, high_bits, fronts_one}
-use Rattle.hpack_codec.proofs.HuffmanTable.{IsCode, code_facts, codes_of_two}
+use Rattle.hpack_codec.proofs.HuffmanTable.{code_facts, codes_of_two}
 
 pub length-code : (symbol : ℕ) → length (code symbol) ≡ code_length symbol
 unfolding code

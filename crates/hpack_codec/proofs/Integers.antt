@@ -1,13 +1,12 @@
 -- On integers: their bytes one by one, and that a number has at most one reading at the front of a list.
-use Rattle.std.proofs.Common.{◌≡◌, ◌≢◌, ℕ, zero, suc, ◌+◌, ◌-◌, ◌*◌, ◌/◌, ◌%◌, ◌^◌, ◌<◌, ◌≤◌, ◌⊎◌, List, [], ◌∷◌, ◌++◌, length, take, drop, get_or, refl, sym, subst, lit≤, ◌∙◌, ap, inl, inr, arith, rules, add-one, length-append, append_assoc}
+use Rattle.std.proofs.Common.{◌≡◌, ℕ, zero, suc, ◌+◌, ◌-◌, ◌*◌, ◌/◌, ◌%◌, ◌^◌, ◌<◌, ◌≤◌, List, [], ◌∷◌, ◌++◌, length, take, drop, get_or, refl, sym, subst, lit≤, ◌∙◌, ap, inl, inr, arith, add-one, append_assoc}
 use Rattle.std.proofs.lemmas.List.{take_more, length-take-le, take-append-drop, drop_more, take_rest, take_all}
-use Rattle.std.proofs.lemmas.Grind.{common_steps}
 use Rattle.std.proofs.Math.Nat.{pow-suc, mul-le-mul_right}
 use Rattle.std.proofs.lemmas.Nat.{pow_pos, mod_below, shr_split, one_shl}
 use Rattle.hpack_codec.specs.declared.fault.HpackFault.TheVariants.{Integer, Index, Huffman, SizeUpdate, Truncated, OutOfMemory, Dead, TooLarge}
 use Rattle.hpack_codec.specs.declared.fault.HpackFault.{HpackFault}
 use Rattle.hpack_codec.specs.Faults.{IsIntegerFault}
-use Rattle.hpack_codec.specs.Integer.{base_128, IsUnfinished, IsInteger, IsShort, IsLong, IsCut, IsEndless, IsOver, BeginsLong}
+use Rattle.hpack_codec.specs.Integer.{base_128, IsUnfinished, IsCut, IsEndless, IsOver}
 use Rattle.hpack_codec.specs.Reading.{TakesMore, IsMoreFault, TakesInteger, flags_of}
 
 pub IsUnfinished-push : (xs : List ℕ) (byte : ℕ) → IsUnfinished xs → 128 ≤ byte → IsUnfinished (xs ++ byte ∷ [])

@@ -1,5 +1,5 @@
 -- On representations of fields: how they are taken from the front.
-use Rattle.std.proofs.Common.{◌≡◌, ◌≢◌, ℕ, zero, suc, ◌+◌, ◌-◌, ◌*◌, ◌/◌, ◌%◌, ◌^◌, ◌<◌, ◌≤◌, ◌⊎◌, Bool, true, false, List, [], ◌∷◌, ◌++◌, length, get_or, refl, sym, subst, ◌∙◌, ap, inl, inr, arith, append_assoc, length-append, Some}
+use Rattle.std.proofs.Common.{◌≡◌, ◌≢◌, ℕ, zero, suc, ◌*◌, ◌/◌, ◌^◌, ◌<◌, ◌≤◌, true, false, List, [], ◌++◌, length, get_or, refl, sym, subst, ◌∙◌, ap, inl, inr, arith, append_assoc, length-append, Some}
 use Rattle.std.proofs.lemmas.Bool.{cases_lt}
 use Rattle.hpack_codec.specs.declared.fault.HpackFault.{HpackFault}
 use Rattle.hpack_codec.specs.declared.fault.HpackFault.TheVariants.{Integer, Index, Huffman, SizeUpdate, Truncated, OutOfMemory, Dead, TooLarge}
@@ -7,9 +7,9 @@ use Rattle.hpack_codec.specs.declared.fields.Field.{Field}
 use Rattle.hpack_codec.specs.Integer.{IsInteger}
 use Rattle.hpack_codec.specs.StaticTable.{entry}
 use Rattle.hpack_codec.specs.Table.{Table, entry_at}
-use Rattle.hpack_codec.specs.Block.{IsName, IsLiteral, Form, Indexed, Incremental, WithoutIndexing, NeverIndexed, Represents}
+use Rattle.hpack_codec.specs.Block.{IsLiteral, Indexed, Incremental, WithoutIndexing, NeverIndexed}
 use Rattle.hpack_codec.specs.Faults.{IsLiteralFault, Begins}
-use Rattle.hpack_codec.specs.Reading.{OrMemory, TakesInteger, TakesString, TakesName, TakesLiteral, TakesIndexed, TakesField, IsFieldFault, flags_of, next_table}
+use Rattle.hpack_codec.specs.Reading.{OrMemory, TakesInteger, TakesString, TakesName, TakesLiteral, TakesIndexed, TakesField, IsFieldFault, flags_of}
 use Rattle.hpack_codec.proofs.Integers.{parted}
 use Rattle.hpack_codec.proofs.Strings.{flags_from}
 

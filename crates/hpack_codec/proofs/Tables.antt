@@ -1,9 +1,9 @@
 -- On the tables: which entries stay where the oldest go, and the static entries.
-use Rattle.std.proofs.Common.{◌≡◌, ◌≢◌, ℕ, zero, suc, ◌+◌, ◌-◌, ◌*◌, ◌<◌, ◌≤◌, Bool, true, false, cond, List, [], ◌∷◌, ◌++◌, length, refl, sym, subst, ◌∙◌, ap, inl, inr, arith, rules, append_assoc, Option, Some, None, nat_le, slice_get}
-use Rattle.std.proofs.lemmas.Bool.Decides.{leb_tells, nat_tests}
+use Rattle.std.proofs.Common.{◌≡◌, ◌≢◌, ℕ, zero, suc, ◌+◌, ◌-◌, ◌<◌, ◌≤◌, List, [], ◌∷◌, ◌++◌, length, refl, sym, subst, ◌∙◌, ap, inl, inr, arith, Option, Some, None, slice_get}
+use Rattle.std.proofs.lemmas.Bool.Decides.{leb_tells}
 use Rattle.hpack_codec.specs.declared.fields.Field.{Field}
 use Rattle.hpack_codec.specs.StaticTable.{static_table, entry}
-use Rattle.hpack_codec.specs.Table.{Table, size_of, sizes_of, fitting, insert_entry, resize, entry_at}
+use Rattle.hpack_codec.specs.Table.{Table, size_of, sizes_of, fitting, insert_entry, entry_at}
 
 pub sizes_of-nil : sizes_of [] ≡ 0
 unfolding sizes_of

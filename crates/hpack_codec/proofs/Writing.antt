@@ -1,12 +1,12 @@
 -- On the writer of integers: what is written so far, and what is left of the number.
-use Rattle.std.proofs.Common.{◌≡◌, ℕ, zero, suc, ◌+◌, ◌-◌, ◌*◌, ◌/◌, ◌%◌, ◌^◌, ◌<◌, ◌≤◌, List, [], ◌∷◌, ◌++◌, length, refl, sym, subst, ◌∙◌, ap, inl, inr, arith, rules, append_assoc, add-one, lit<}
+use Rattle.std.proofs.Common.{◌≡◌, ℕ, suc, ◌+◌, ◌-◌, ◌*◌, ◌/◌, ◌%◌, ◌^◌, ◌<◌, ◌≤◌, List, [], ◌∷◌, ◌++◌, length, refl, sym, subst, ◌∙◌, ap, inl, inr, arith, append_assoc, add-one, lit<}
 use Rattle.std.proofs.lemmas.List.{length_push}
 use Rattle.std.proofs.lemmas.Bool.{cases_lt}
-use Rattle.std.proofs.lemmas.Nat.{mod_below, one_shl}
+use Rattle.std.proofs.lemmas.Nat.{one_shl}
 use Rattle.std.proofs.Math.Nat.{pow-suc, mul-le-mul_left, pow-le-pow_right, div-add-mod}
 use Rattle.hpack_codec.specs.Integer.{base_128, IsUnfinished, IsInteger}
 use Rattle.hpack_codec.specs.Reading.{Appends}
-use Rattle.hpack_codec.proofs.Integers.{base_128-push, IsUnfinished-push, span_of, span_is}
+use Rattle.hpack_codec.proofs.Integers.{base_128-push, IsUnfinished-push}
 
 -- After the first byte stand bytes with the top bit: with these and the rest the value is whole.
 pub record IsWriting (old new : List ℕ) (first value rest : ℕ) : Type 0 where

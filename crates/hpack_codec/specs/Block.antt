@@ -1,5 +1,5 @@
 -- Header blocks (RFC 7541, sections 3.2 and 6).
-use Rattle.std.specs.Prelude.{◌≡◌, ℕ, zero, suc, ◌<◌, ◌≤◌, List, [], ◌∷◌, ◌++◌, Some}
+use Rattle.std.specs.Prelude.{◌≡◌, ℕ, zero, suc, ◌≤◌, List, [], ◌∷◌, ◌++◌, Some}
 use Rattle.hpack_codec.specs.declared.fields.Field.{Field}
 use Rattle.hpack_codec.specs.Integer.{IsInteger}
 use Rattle.hpack_codec.specs.StringLiteral.{IsString}

@@ -6,7 +6,7 @@ use Rattle.hpack_codec.specs.declared.fields.Field.{Field}
 use Rattle.hpack_codec.specs.Integer.{IsInteger, IsCut, IsEndless, IsOver}
 use Rattle.hpack_codec.specs.Huffman.{IsHuffman}
 use Rattle.hpack_codec.specs.Table.{Table, entry_at, sizes_of}
-use Rattle.hpack_codec.specs.Block.{IsName, AreUpdates, AreFields, IsBlock}
+use Rattle.hpack_codec.specs.Block.{IsName, IsBlock}
 
 -- where an integer has to stand
 abbrev pub IsIntegerFault : HpackFault → ℕ → List ℕ → Type 0

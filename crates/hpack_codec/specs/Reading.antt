@@ -1,17 +1,17 @@
 -- What the parts of the decoder and the encoder do: facts that their private functions hand on.
-use Rattle.std.specs.Prelude.{◌≡◌, ◌≢◌, ℕ, zero, suc, ◌+◌, ◌-◌, ◌*◌, ◌/◌, ◌%◌, ◌^◌, ◌<◌, ◌≤◌, ◌⊎◌, Bool, true, false, List, [], ◌∷◌, ◌++◌, length, Some, slice_get}
+use Rattle.std.specs.Prelude.{◌≡◌, ℕ, ◌-◌, ◌*◌, ◌/◌, ◌^◌, ◌<◌, ◌≤◌, ◌⊎◌, Bool, true, false, List, [], ◌∷◌, ◌++◌, length, Some, slice_get}
 use Rattle.std.specs.List.{flat_map}
 use Rattle.hpack_codec.specs.declared.fault.HpackFault.{HpackFault}
-use Rattle.hpack_codec.specs.declared.fault.HpackFault.TheVariants.{Integer, Index, Huffman, SizeUpdate, Truncated, OutOfMemory, Dead, TooLarge}
+use Rattle.hpack_codec.specs.declared.fault.HpackFault.TheVariants.{Integer, Huffman, SizeUpdate, Truncated, OutOfMemory, Dead, TooLarge}
 use Rattle.hpack_codec.specs.declared.fields.Field.{Field}
 use Rattle.hpack_codec.specs.declared.static_table.Found.{Found}
 use Rattle.hpack_codec.specs.declared.static_table.Found.TheVariants.{Whole, Name, Nothing}
 use Rattle.hpack_codec.specs.StaticTable.{static_table, entry}
 use Rattle.hpack_codec.specs.Integer.{base_128, IsUnfinished, IsInteger}
-use Rattle.hpack_codec.specs.Huffman.{bits, code, code_length, IsHuffman, AreOctets}
+use Rattle.hpack_codec.specs.Huffman.{bits, code, IsHuffman, AreOctets}
 use Rattle.hpack_codec.specs.StringLiteral.{IsString}
 use Rattle.hpack_codec.specs.Table.{Table, entry_at, insert_entry, sizes_of}
-use Rattle.hpack_codec.specs.Block.{IsName, IsLiteral, Represents, AreUpdates, AreFields, IsBlock}
+use Rattle.hpack_codec.specs.Block.{IsName, IsLiteral, Represents, AreUpdates, AreFields}
 use Rattle.hpack_codec.specs.Faults.{IsIndexedFault, IsLiteralFault, IsUpdateFault, IsFaultBehind, Begins}
 
 -- new is old with a text of this meaning at its end

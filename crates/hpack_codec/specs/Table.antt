@@ -1,5 +1,5 @@
 -- The tables (RFC 7541, sections 2.3 and 4).
-use Rattle.std.specs.Prelude.{ℕ, zero, suc, ◌+◌, ◌-◌, ◌*◌, List, [], ◌∷◌, ◌++◌, length, Option, None, slice_get, nat_le, if◌then◌else◌}
+use Rattle.std.specs.Prelude.{ℕ, zero, suc, ◌+◌, ◌-◌, List, [], ◌∷◌, ◌++◌, length, Option, None, slice_get, nat_le, if◌then◌else◌}
 use Rattle.hpack_codec.specs.declared.fields.Field.{Field}
 use Rattle.hpack_codec.specs.StaticTable.{static_table}
 

@@ -1,4 +1,4 @@
-use Rattle.std.proofs.Common.{arith, ◌≡◌, ◌+◌, min, ℕ, length, ◌-◌, ◌^◌, refl, ◌∙◌, ap}
+use Rattle.std.proofs.Common.{arith, ◌≡◌, ◌+◌, min, ℕ, length, ◌-◌, ◌^◌, ◌∙◌, ap}
 use Rattle.hpack_codec.specs.Table.{size_of}
 use Rattle.hpack_codec.proofs.decoder.capped_size.Goals as goal
 

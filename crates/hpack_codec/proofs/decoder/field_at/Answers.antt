@@ -1,6 +1,6 @@
-use Rattle.std.proofs.Common.{◌≡◌, ◌∙◌, arith}
+use Rattle.std.proofs.Common.{arith}
 use Rattle.std.proofs.lemmas.Result.{err_from_is_err_and}
-use Rattle.hpack_codec.proofs.Literals.{field_incremental, field_literal, field_indexed, fault_incremental, fault_literal}
+use Rattle.hpack_codec.proofs.Literals.{field_incremental, field_literal, fault_incremental, fault_literal}
 use Rattle.hpack_codec.proofs.Strings.{flags_7_high}
 use Rattle.hpack_codec.proofs.decoder.field_at.Goals as goal
 

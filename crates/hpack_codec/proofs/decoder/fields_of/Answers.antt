@@ -1,4 +1,3 @@
-use Rattle.std.proofs.Common.{arith, ◌≡◌, ◌≤◌}
 use Rattle.std.proofs.lemmas.Result.{err_from_is_err_and}
 use Rattle.hpack_codec.proofs.Decoding.{taking_none, taking_more, too_large, whole_size, fields_fault}
 use Rattle.hpack_codec.proofs.decoder.fields_of.Goals as goal

@@ -1,4 +1,4 @@
-use Rattle.std.proofs.Common.{◌≡◌, ◌∙◌}
+use Rattle.std.proofs.Common.{◌∙◌}
 use Rattle.hpack_codec.proofs.Literals.{name_entry}
 use Rattle.hpack_codec.proofs.decoder.literal_name.Goals as goal
 

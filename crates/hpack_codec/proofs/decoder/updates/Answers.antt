@@ -1,4 +1,3 @@
-use Rattle.std.proofs.Common.{arith}
 use Rattle.hpack_codec.proofs.Decoding.{updating_none, updating_more, updates_over}
 use Rattle.hpack_codec.proofs.decoder.updates.Goals as goal
 

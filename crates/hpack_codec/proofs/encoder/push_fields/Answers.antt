@@ -1,5 +1,4 @@
-use Rattle.std.proofs.Common.{arith, ap, subst, List}
-use Rattle.std.proofs.lemmas.List.{take_all}
+use Rattle.std.proofs.Common.{arith}
 use Rattle.hpack_codec.proofs.Blocks.{fields_none, fields_more, fields_all}
 use Rattle.hpack_codec.proofs.encoder.push_fields.Goals as goal
 

@@ -1,6 +1,6 @@
-use Rattle.std.proofs.Common.{◌≡◌, ◌<◌, ◌≤◌, ◌+◌, ◌-◌, ◌^◌, ◌∙◌, ℕ, List, refl, sym, ap, subst, arith}
+use Rattle.std.proofs.Common.{◌+◌, ◌-◌, ◌∙◌, sym, ap, arith}
 use Rattle.std.proofs.lemmas.Nat.{one_shl}
-use Rattle.hpack_codec.proofs.Huffmans.{IsReading, reads_none, reads_more, register_fits, no_text_long, whole_text, no_padding}
+use Rattle.hpack_codec.proofs.Huffmans.{reads_none, reads_more, register_fits, no_text_long, whole_text, no_padding}
 use Rattle.hpack_codec.proofs.huffman.decode.Goals as goal
 use Rattle.hpack_codec.proofs.huffman.decode.Goals.{else-count-lt8-via-then-count-lt8+else-register-count, else-count-lt8-via-else-count-lt8}
 

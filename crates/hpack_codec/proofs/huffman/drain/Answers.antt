@@ -1,4 +1,4 @@
-use Rattle.std.proofs.Common.{◌≡◌, ◌<◌, ◌≤◌, ◌+◌, ◌-◌, ◌^◌, ℕ, refl, arith}
+use Rattle.std.proofs.Common.{◌≤◌, ◌-◌, arith}
 use Rattle.std.proofs.lemmas.Nat.{one_shl}
 use Rattle.hpack_codec.specs.Huffman.{code_length}
 use Rattle.hpack_codec.proofs.HuffmanTable.{code_facts}

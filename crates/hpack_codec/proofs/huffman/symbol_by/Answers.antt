@@ -1,6 +1,5 @@
-use Rattle.std.proofs.Common.{◌≡◌, ◌<◌, ◌≤◌, ◌+◌, ◌-◌, ◌/◌, ◌^◌, ℕ, refl, sym, ◌∙◌, ap, subst, arith, get_or, length, List}
+use Rattle.std.proofs.Common.{◌-◌, ◌/◌, ◌^◌, ℕ, refl, sym, arith, get_or, List}
 use Rattle.hpack_codec.specs.declared.huffman.Codes.{Codes}
-use Rattle.hpack_codec.specs.Huffman.{code_length, code_number}
 use Rattle.hpack_codec.proofs.CodeTables.{symbol_in, misses_none, misses_more, misses_rest, missed_all, misses_whole}
 use Rattle.hpack_codec.proofs.huffman.symbol_by.Goals as goal
 use Rattle.hpack_codec.proofs.huffman.symbol_by.Goals.{else-number-row-via-then-number-row+else-number-row-2, else-number-row-via-else-number-row}

@@ -1,7 +1,6 @@
-use Rattle.std.proofs.Common.{rules, arith, ◌≡◌, ◌*◌, ◌+◌, ◌%◌, ◌<◌, ◌≤◌, get_or, refl}
-use Rattle.std.proofs.lemmas.Grind.{common_steps}
+use Rattle.std.proofs.Common.{rules, arith}
 use Rattle.hpack_codec.specs.Integer.{base_128, IsUnfinished}
-use Rattle.hpack_codec.proofs.Integers.{takes_more, no_more, five_more, unfinished_more, next_more}
+use Rattle.hpack_codec.proofs.Integers.{takes_more, five_more, unfinished_more, next_more}
 use Rattle.hpack_codec.proofs.integer.continuation.Goals as goal
 
 pub loop-i-init : goal.loop-i-init

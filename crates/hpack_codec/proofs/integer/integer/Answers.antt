@@ -1,5 +1,5 @@
-use Rattle.std.proofs.Common.{rules, arith, ◌≡◌, ◌*◌, ◌+◌, ◌%◌, ◌^◌, ◌<◌, ◌≤◌, get_or, refl, ap}
-use Rattle.hpack_codec.proofs.Integers.{takes_short_at, takes_long_at, over_at, fault_at}
+use Rattle.std.proofs.Common.{arith}
+use Rattle.hpack_codec.proofs.Integers.{takes_short_at, takes_long_at}
 use Rattle.hpack_codec.proofs.integer.integer.Goals as goal
 
 pub returns-then-prefix-span-clause-ok : goal.returns-then-prefix-span-clause-ok

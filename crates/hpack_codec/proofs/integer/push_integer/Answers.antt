@@ -1,4 +1,4 @@
-use Rattle.std.proofs.Common.{rules, arith, ◌≡◌, ◌*◌, ◌+◌, ◌-◌, ◌%◌, ◌^◌, ◌<◌, ◌≤◌, ◌∷◌, [], ◌++◌, refl, ap}
+use Rattle.std.proofs.Common.{arith, ◌*◌, ◌+◌, ◌-◌, ◌%◌, ◌^◌, ap}
 use Rattle.hpack_codec.proofs.Writing.{begins, goes_on, ends, span_is_32}
 use Rattle.hpack_codec.proofs.integer.push_integer.Goals as goal
 

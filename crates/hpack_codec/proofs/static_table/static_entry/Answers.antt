@@ -1,4 +1,3 @@
-use Rattle.std.proofs.Common.{refl}
 use Rattle.hpack_codec.specs.StaticTable.{static_table}
 use Rattle.hpack_codec.proofs.static_table.static_entry.Goals as goal
 

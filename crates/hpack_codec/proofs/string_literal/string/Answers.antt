@@ -1,4 +1,4 @@
-use Rattle.std.proofs.Common.{◌≡◌, ◌<◌, ◌≤◌, ◌∙◌, ℕ, List, refl, sym, ap, arith}
+use Rattle.std.proofs.Common.{arith}
 use Rattle.std.proofs.lemmas.Result.{err_from_is_err_and}
 use Rattle.hpack_codec.proofs.Strings.{flags_7_high, flags_7_low, takes_plain, takes_huffman, text_fault}
 use Rattle.hpack_codec.proofs.string_literal.string.Goals as goal

@@ -1,5 +1,5 @@
-use Rattle.std.proofs.Common.{rules, arith, ◌≡◌, ◌<◌, ◌≤◌, ◌+◌, length, ℕ, refl, sym, ◌∙◌}
-use Rattle.hpack_codec.specs.Table.{size_of, sizes_of, fitting}
+use Rattle.std.proofs.Common.{arith, sym, ◌∙◌}
+use Rattle.hpack_codec.specs.Table.{size_of}
 use Rattle.hpack_codec.proofs.Tables.{popped, popped_kept, empty_size, fitting_whole}
 use Rattle.hpack_codec.proofs.table.evict.Goals as goal
 

@@ -1,4 +1,4 @@
-use Rattle.std.proofs.Common.{◌≡◌, ◌∙◌, sym}
+use Rattle.std.proofs.Common.{◌∙◌, sym}
 use Rattle.std.proofs.lemmas.Result.{err_from_is_err_and}
 use Rattle.hpack_codec.proofs.Decoding.{updates_fault, block_fault, first_fault}
 use Rattle.hpack_codec.proofs.decoder.Decoder.block.Goals as goal

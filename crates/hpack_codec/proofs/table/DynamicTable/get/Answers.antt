@@ -1,8 +1,6 @@
-use Rattle.std.proofs.Common.{rules, arith, ◌≡◌, ◌≢◌, ◌<◌, ◌≤◌, ◌+◌, ◌-◌, length, ℕ, refl, sym, ◌∙◌, ap, slice_get, Some, None}
+use Rattle.std.proofs.Common.{◌-◌, refl, sym, ◌∙◌, ap, slice_get}
 use Rattle.std.proofs.lemmas.Bool.{ltb-false}
 use Rattle.std.proofs.lemmas.Option.{slice_get_read, slice_get_past}
-use Rattle.hpack_codec.specs.StaticTable.{entry}
-use Rattle.hpack_codec.specs.Table.{Table, entry_at}
 use Rattle.hpack_codec.proofs.Tables.{entry_at-zero, entry_at-static, entry_at-recent, entries_of, some_entry}
 use Rattle.hpack_codec.proofs.table.DynamicTable.get.Goals as goal
 

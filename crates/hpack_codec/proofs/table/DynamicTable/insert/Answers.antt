@@ -1,5 +1,5 @@
-use Rattle.std.proofs.Common.{rules, arith, ◌≡◌, ◌<◌, ◌≤◌, ◌+◌, length, ℕ, refl, sym, ◌∙◌, ap}
-use Rattle.hpack_codec.specs.Table.{size_of, sizes_of, insert_entry}
+use Rattle.std.proofs.Common.{arith, sym, ◌∙◌, ap}
+use Rattle.hpack_codec.specs.Table.{sizes_of, insert_entry}
 use Rattle.hpack_codec.proofs.Tables.{sizes_of-nil, sizes_of-cons, insert_large, insert_small}
 use Rattle.hpack_codec.proofs.table.DynamicTable.insert.Goals as goal
 

@@ -1,4 +1,4 @@
-use Rattle.std.proofs.Common.{refl, rules}
+use Rattle.std.proofs.Common.{rules}
 use Rattle.hpack_codec.specs.Table.{sizes_of}
 use Rattle.hpack_codec.proofs.table.DynamicTable.new.Goals as goal
 
