@@ -5,6 +5,7 @@
 #![tactic(auto)]
 
 mod h2frame_feed;
+mod hpack_blocks;
 mod lane_bench;
 
 use anyhow::{Context, Result, bail};
@@ -32,8 +33,11 @@ fn main(rt: HostRuntime) -> Result<()> {
         None => {
             lane_bench::run_all(&rt, alloc)?;
             h2frame_feed::small(&rt)?;
+            hpack_blocks::small(&rt)?;
         }
         Some("h2frame-feed") => h2frame_feed::timed(&rt, number(words, 1)?, number(words, 2)?)?,
+        Some("hpack-huffman") => hpack_blocks::huffman(&rt, number(words, 1)?)?,
+        Some("hpack-evictions") => hpack_blocks::evictions(&rt, number(words, 1)?)?,
         Some("lane-relay") => {
             lane_bench::relayed(&rt, alloc, small_number(words, 1)?, small_number(words, 2)?)?;
         }

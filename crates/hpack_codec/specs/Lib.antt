@@ -1,0 +1,11 @@
+pub mod FaultCode
+pub mod Integer
+pub mod Huffman
+pub mod StringLiteral
+pub mod StaticTable
+pub mod Table
+pub mod Block
+pub mod Faults
+pub mod CodeTable
+pub mod Reading
+pub mod Codec

@@ -1,9 +1,27 @@
 //! Header blocks of HTTP/2: HPACK, RFC 7541.
 //!
-//! A header block carries a list of fields, each a name and a value of bytes. Here are the field and
-//! the byte list that it is made of.
+//! A `Decoder` reads the blocks of a connection in their order, an `Encoder` writes them. A block is the joined
+//! spellings of representations (section 6), each with its effect on the dynamic table (sections 2.3 and 4): that
+//! is `IsBlock` of `specs/Block.antt`, and both meet it. Where a block is none, the decoder answers the first fault
+//! from the left (`specs/Faults.antt`); after any fault a codec is dead.
+//!
+//! Read `fields`, what blocks carry; `integer`, `huffman` and `string_literal`, how they are spelled (section 5,
+//! appendix B); `static_table` and `table`, what is named by index (appendix A); then `decoder` and `encoder`.
+//! Each has its definitions in the file of `specs/` of its name; what the private functions hand on to one another
+//! is in `specs/Reading.antt`.
 #![tactic(auto)]
 
+mod decoder;
+mod encoder;
+mod fault;
 mod fields;
+mod huffman;
+mod integer;
+mod static_table;
+mod string_literal;
+mod table;
 
+pub use decoder::Decoder;
+pub use encoder::Encoder;
+pub use fault::HpackFault;
 pub use fields::{Field, Octets};

@@ -1,0 +1,13 @@
+pub mod Integers
+pub mod HuffmanTable
+pub mod Bits
+pub mod CodeTables
+pub mod Huffmans
+pub mod Writing
+pub mod Tables
+pub mod Blocks
+pub mod Literals
+pub mod Decoding
+pub mod Strings
+pub mod StaticEntries
+pub mod Examples

@@ -1,0 +1,231 @@
+//! Reading a header block (RFC 7541, sections 3.2 and 6).
+ghost use Rattle.std.specs.Prelude.{◌≡◌, ◌<◌, ◌≤◌, ◌⊎◌, [], length, Some, None, IfOk, IfErr, OnOk, OnErr, min, true, false};
+ghost use Rattle.hpack_codec.specs.Table.{empty_table, size_of, sizes_of};
+ghost use Rattle.hpack_codec.specs.Block.{AreFields};
+ghost use Rattle.hpack_codec.specs.Faults.{IsIndexedFault, IsLiteralFault, IsNameFault, Begins};
+ghost use Rattle.hpack_codec.specs.Codec.{Reads, IsFirstFault};
+ghost use Rattle.hpack_codec.specs.Reading.{OrMemory, TakesName, TakesLiteral, TakesIndexed, TakesField, TakesUpdates, IsFieldFault, IsFieldsFault, IsUpdatesFault, next_table, flags_of};
+
+use crate::fault::HpackFault;
+use crate::fields::{Field, Octets};
+use crate::integer::integer;
+use crate::string_literal::string;
+use crate::table::{DynamicTable, MAX_LIMIT, OVERHEAD};
+use std::alloc::{AllocError, Global};
+use std::marker::Model;
+
+/// The sizes that the fields of a block may have together.
+const MAX_SIZES: usize = 65536;
+
+/// Reads the blocks of one connection in their order. A clause sees the dynamic table, and none once it is dead.
+#[derive(Drop)]
+pub struct Decoder {
+    alloc: Global,
+    table: Option<DynamicTable>,
+}
+
+impl Model for Decoder {
+    ghost use Rattle.std.specs.Prelude.{Option};
+    ghost use Rattle.hpack_codec.specs.Table.{Table};
+
+    ghost Value = { Option Table };
+
+    ghost view = { λ decoder. decoder.table };
+}
+
+impl Decoder {
+    pub fn new(alloc: Global) -> Decoder
+        ensures { result ≡ Some empty_table }
+    {
+        Decoder {
+            alloc,
+            table: Some(DynamicTable::new(alloc)),
+        }
+    }
+
+    /// The fields of the next block, whose sizes (name, value and 32) are at most 65,536 together.
+    pub fn block(&mut self, block: &[u8]) -> Result<Vec<Field>, HpackFault>
+        // What is read is in the block, which leads to the table that is kept.
+        ensures ok { IfOk result (λ fields. Reads self.old block.now fields.items self.new) }
+
+        // A fault is the first one from the left.
+        ensures err { IfErr result (λ fault. IsFirstFault fault self.old block.now) }
+
+        // After any fault the decoder is dead.
+        ensures dead { OnErr result (self.new ≡ None) }
+    {
+        let Some(mut table) = self.table.take() else {
+            return Err(HpackFault::Dead);
+        };
+        let rest = updates(&mut table, block)?;
+        let fields = fields_of(self.alloc, &mut table, rest)?;
+        self.table = Some(table);
+        Ok(fields)
+    }
+}
+
+/// Makes the changes of size at the front of a block, and answers what is behind them.
+fn updates<'b>(table: &mut DynamicTable, block: &'b [u8]) -> Result<&'b [u8], HpackFault>
+    ensures ok { IfOk result (λ rest. TakesUpdates table.old block.now table.new rest.now) }
+    ensures err { IfErr result (λ fault. IsUpdatesFault fault table.old block.now) }
+{
+    let mut rest = block;
+    while begins_update(rest) {
+        let (limit, behind) = integer(5, rest)?;
+        if limit > MAX_LIMIT {
+            return Err(HpackFault::SizeUpdate);
+        }
+        table.resize(limit);
+        rest = behind;
+    }
+    Ok(rest)
+}
+
+fn begins_update(bytes: &[u8]) -> bool
+    ensures begins { result ≡ true → Begins 32 64 bytes.now }
+    ensures not { result ≡ false → Begins 32 64 bytes.now → ⊥ }
+{
+    match bytes {
+        [first, ..] => *first >= 32 && *first < 64,
+        [] => false,
+    }
+}
+
+/// The fields of all the bytes.
+fn fields_of(
+    alloc: Global,
+    table: &mut DynamicTable,
+    bytes: &[u8],
+) -> Result<Vec<Field>, HpackFault>
+    requires { Begins 32 64 bytes.now → ⊥ }
+    ensures ok { IfOk result (λ fields. AreFields table.old bytes.now fields.items table.new) }
+    ensures lawful { IfOk result (λ fields. sizes_of fields.items ≤ 65536) }
+    ensures err { IfErr result (λ fault. IsFieldsFault fault table.old bytes.now) }
+{
+    let mut fields = Vec::new(alloc);
+    let mut room = MAX_SIZES;
+    let mut rest = bytes;
+    while !rest.is_empty() {
+        let (field, is_entry, behind) = field_at(alloc, table, rest)?;
+        let size = capped_size(&field);
+        if size > room {
+            return Err(HpackFault::TooLarge);
+        }
+        room -= size;
+        keep(table, &field, is_entry, size)?;
+        fields.push(field)?;
+        rest = behind;
+    }
+    Ok(fields)
+}
+
+/// The size of a field, where that can be counted.
+fn capped_size(field: &Field) -> usize
+    ensures { result ≡ min (size_of field.now) usize.MAX }
+{
+    field
+        .name
+        .len()
+        .saturating_add(field.value.len())
+        .saturating_add(OVERHEAD)
+}
+
+/// Puts a field into the table, if it becomes an entry.
+fn keep(
+    table: &mut DynamicTable,
+    field: &Field,
+    is_entry: bool,
+    size: usize,
+) -> Result<(), AllocError>
+    requires { size ≡ size_of field.now }
+    ensures { OnOk result (table.new ≡ next_table is_entry table.old field.now) }
+{
+    if is_entry {
+        table.insert(field.clone()?, size)?;
+    }
+    Ok(())
+}
+
+/// The field at the front, whether it becomes an entry, and the bytes behind it.
+fn field_at<'b>(
+    alloc: Global,
+    table: &DynamicTable,
+    bytes: &'b [u8],
+) -> Result<(Field, bool, &'b [u8]), HpackFault>
+    requires { 0 < length bytes.now }
+    ensures ok { IfOk result (λ taken. TakesField table.now bytes.now taken.0 taken.1 taken.2.now) }
+    ensures err { IfErr result (λ fault. OrMemory fault (IsFieldFault fault table.now bytes.now)) }
+{
+    let first = bytes[0];
+    if first >= 128 {
+        let (field, rest) = indexed(alloc, table, bytes)?;
+        return Ok((field, false, rest));
+    }
+    if first >= 64 {
+        let (field, rest) = literal(alloc, table, 6, bytes)?;
+        return Ok((field, true, rest));
+    }
+    if first >= 32 {
+        return Err(HpackFault::SizeUpdate);
+    }
+    let (field, rest) = literal(alloc, table, 4, bytes)?;
+    Ok((field, false, rest))
+}
+
+fn indexed<'b>(
+    alloc: Global,
+    table: &DynamicTable,
+    bytes: &'b [u8],
+) -> Result<(Field, &'b [u8]), HpackFault>
+    requires { flags_of 7 bytes.now ≡ 128 }
+    ensures ok { IfOk result (λ taken. TakesIndexed table.now bytes.now taken.0 taken.1.now) }
+    ensures err { IfErr result (λ fault. OrMemory fault (IsIndexedFault fault table.now bytes.now)) }
+{
+    let (index, rest) = integer(7, bytes)?;
+    let Some((name, value)) = table.get(index) else {
+        return Err(HpackFault::Index);
+    };
+    let name = Octets::from(Vec::from_slice(alloc, name)?);
+    let value = Octets::from(Vec::from_slice(alloc, value)?);
+    Ok((Field { name, value }, rest))
+}
+
+fn literal<'b>(
+    alloc: Global,
+    table: &DynamicTable,
+    prefix_bits: u32,
+    bytes: &'b [u8],
+) -> Result<(Field, &'b [u8]), HpackFault>
+    requires { prefix_bits < 8 }
+    ensures ok { IfOk result (λ taken. TakesLiteral prefix_bits table.now bytes.now taken.0 taken.1.now) }
+    ensures err { IfErr result (λ fault. OrMemory fault
+        (IsLiteralFault fault prefix_bits (flags_of prefix_bits bytes.now) table.now bytes.now)) }
+{
+    let (index, rest) = integer(prefix_bits, bytes)?;
+    let (name, rest) = literal_name(alloc, table, index, rest)?;
+    let (value, rest) = string(alloc, rest)?;
+    Ok((Field { name, value }, rest))
+}
+
+fn literal_name<'b>(
+    alloc: Global,
+    table: &DynamicTable,
+    index: u32,
+    bytes: &'b [u8],
+) -> Result<(Octets, &'b [u8]), HpackFault>
+    ensures ok { IfOk result (λ taken. TakesName table.now index bytes.now taken.0 taken.1.now) }
+    ensures err { IfErr result (λ fault. OrMemory fault (IsNameFault fault table.now index bytes.now)) }
+{
+    if index == 0 {
+        return string(alloc, bytes);
+    }
+    let Some((name, _)) = table.get(index) else {
+        return Err(HpackFault::Index);
+    };
+    Ok((Octets::from(Vec::from_slice(alloc, name)?), bytes))
+}
+
+#[cfg(test)]
+mod clients;
+#[cfg(test)]
+mod tests;

@@ -1,0 +1,46 @@
+//! String literals (RFC 7541, section 5.2).
+ghost use Rattle.std.specs.Prelude.{◌≡◌, ◌<◌, ◌^◌, length, IfOk, IfErr, OnOk};
+ghost use Rattle.hpack_codec.specs.Reading.{OrMemory, TakesString, Appends};
+ghost use Rattle.hpack_codec.specs.Faults.{IsStringFault};
+ghost use Rattle.hpack_codec.specs.StringLiteral.{IsString};
+
+use crate::fault::HpackFault;
+use crate::fields::Octets;
+use crate::huffman;
+use crate::integer::{integer, push_integer};
+use std::alloc::{AllocError, Global};
+
+/// The bit of the first byte that says that a text is Huffman's.
+const HUFFMAN: u8 = 128;
+
+/// The string at the front, and the bytes behind it.
+pub fn string(alloc: Global, bytes: &[u8]) -> Result<(Octets, &[u8]), HpackFault>
+    ensures ok { IfOk result (λ taken. TakesString bytes.now taken.0 taken.1.now) }
+    ensures err { IfErr result (λ fault. OrMemory fault (IsStringFault fault bytes.now)) }
+{
+    let [first, ..] = bytes else {
+        return Err(HpackFault::Truncated);
+    };
+    let is_huffman = *first >= HUFFMAN;
+    let (len, rest) = integer(7, bytes)?;
+    let len = len as usize;
+    if rest.len() < len {
+        return Err(HpackFault::Truncated);
+    }
+    let (content, rest) = rest.split_at(len);
+    let octets = if is_huffman {
+        huffman::decode(alloc, content)?
+    } else {
+        Vec::from_slice(alloc, content)?
+    };
+    Ok((Octets::from(octets), rest))
+}
+
+/// Writes octets as they are at the end.
+pub fn push_string(out: &mut Vec<u8>, octets: &[u8]) -> Result<(), AllocError>
+    requires { length octets.now < 2 ^ 32 }
+    ensures { OnOk result (Appends out.old.items out.new.items (λ text. IsString text octets.now)) }
+{
+    push_integer(out, 0, 7, octets.len() as u32)?;
+    out.extend_from_slice(octets)
+}

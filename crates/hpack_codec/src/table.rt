@@ -1,0 +1,114 @@
+//! The table of entries that blocks name by index (RFC 7541, sections 2.3 and 4).
+ghost use Rattle.std.specs.Prelude.{◌≡◌, ◌<◌, ◌≤◌, ◌^◌, ◌+◌, length, Some, None, MatchOption, OnOk};
+ghost use Rattle.hpack_codec.specs.StaticTable.{entry};
+ghost use Rattle.hpack_codec.specs.Table.{size_of, entry_at, insert_entry, resize, empty_table, sizes_of, fitting};
+
+use crate::fields::Field;
+use crate::static_table;
+use std::alloc::{AllocError, Global};
+use std::collections::VecDeque;
+use std::marker::Model;
+
+/// What an entry counts beside its bytes.
+pub const OVERHEAD: usize = 32;
+
+/// The greatest limit, which a table has before the first block.
+pub const MAX_LIMIT: u32 = 4096;
+
+/// The dynamic table. A clause sees its entries, newest first, and its limit.
+#[derive(Drop)]
+pub struct DynamicTable {
+    recent: VecDeque<Field>,
+    size: usize,
+    max_size: u32,
+}
+
+impl Model for DynamicTable {
+    ghost use Rattle.std.specs.Prelude.{◌≡◌, ◌≤◌};
+    ghost use Rattle.hpack_codec.specs.Table.{Table, sizes_of};
+
+    ghost Value = { Table };
+
+    ghost view = { λ t. record { entries = t.recent.items; limit = t.max_size } };
+
+    ghost invariant = { λ t. (t.size ≡ sizes_of t.recent.items) × (t.size ≤ t.max_size) };
+}
+
+impl DynamicTable {
+    pub fn new(alloc: Global) -> DynamicTable
+        ensures { result ≡ empty_table }
+    {
+        DynamicTable {
+            recent: VecDeque::new(alloc),
+            size: 0,
+            max_size: MAX_LIMIT,
+        }
+    }
+
+    /// The size of all entries.
+    #[cfg(test)]
+    pub fn size(&self) -> usize
+        ensures { result ≡ sizes_of self.now.entries }
+    {
+        self.size
+    }
+
+    /// The name and the value at an index of both tables.
+    pub fn get(&self, index: u32) -> Option<(&[u8], &[u8])>
+        ensures { MatchOption result (entry_at self.now index ≡ None)
+            (λ found. entry_at self.now index ≡ Some (entry found.0.now found.1.now)) }
+    {
+        let index = index as usize;
+        if index == 0 {
+            return None;
+        }
+        if index <= static_table::LEN {
+            return Some(static_table::static_entry(index - 1));
+        }
+        match self.recent.get(index - 1 - static_table::LEN) {
+            Some(field) => Some((field.name.as_slice(), field.value.as_slice())),
+            None => None,
+        }
+    }
+
+    /// Puts an entry first. The oldest go where there is no room, all of them for one larger than the table.
+    pub fn insert(&mut self, field: Field, size: usize) -> Result<(), AllocError>
+        requires { size ≡ size_of field }
+        ensures { OnOk result (self.new ≡ insert_entry self.old field) }
+    {
+        let limit = self.max_size as usize;
+        if size > limit {
+            self.recent.clear();
+            self.size = 0;
+            return Ok(());
+        }
+        self.size = evict(&mut self.recent, self.size, limit - size);
+        self.recent.push_front(field)?;
+        self.size += size;
+        Ok(())
+    }
+
+    /// Changes the limit. The oldest entries go where there is no room.
+    pub fn resize(&mut self, limit: u32)
+        ensures { self.new ≡ resize self.old limit }
+    {
+        self.size = evict(&mut self.recent, self.size, limit as usize);
+        self.max_size = limit;
+    }
+}
+
+/// Takes the oldest entries away until the others have room, and answers their size.
+fn evict(recent: &mut VecDeque<Field>, size: usize, room: usize) -> usize
+    requires { size ≡ sizes_of recent.old.items }
+    ensures kept { recent.new.items ≡ fitting room recent.old.items }
+    ensures size { result ≡ sizes_of recent.new.items }
+    ensures room { result ≤ room }
+{
+    let mut size = size;
+    while size > room {
+        if let Some(oldest) = recent.pop_back() {
+            size -= oldest.name.len() + oldest.value.len() + OVERHEAD;
+        }
+    }
+    size
+}
