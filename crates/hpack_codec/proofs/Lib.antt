@@ -8,6 +8,7 @@ pub mod Tables
 pub mod Blocks
 pub mod Literals
 pub mod Decoding
+pub mod Unique
 pub mod Strings
 pub mod StaticEntries
 pub mod Examples

@@ -1,10 +1,11 @@
 -- On string literals: how they are taken from the front, and that there is one way.
 use Rattle.std.proofs.Common.{◌≡◌, ℕ, ◌*◌, ◌/◌, ◌^◌, ◌<◌, ◌≤◌, ◌⊎◌, List, [], ◌∷◌, ◌++◌, length, get_or, refl, sym, subst, ◌∙◌, ap, inl, inr, arith, append_assoc}
+use Rattle.std.proofs.lemmas.Bool.{cases_lt}
 use Rattle.hpack_codec.specs.declared.fault.HpackFault.{HpackFault}
 use Rattle.hpack_codec.specs.declared.fault.HpackFault.TheVariants.{Integer, Index, Huffman, SizeUpdate, Truncated, OutOfMemory, Dead, TooLarge}
 use Rattle.hpack_codec.specs.Integer.{IsInteger}
 use Rattle.hpack_codec.specs.Huffman.{IsHuffman}
-use Rattle.hpack_codec.specs.Faults.{IsStringFault, IsNoHuffman}
+use Rattle.hpack_codec.specs.Faults.{IsStringFault, IsNoHuffman, IsCutString}
 use Rattle.hpack_codec.specs.Reading.{TakesInteger, TakesString, OrMemory, IsTextFault, flags_of}
 
 -- the flags of a first byte in a range
@@ -71,3 +72,16 @@ text_fault SizeUpdate bytes rest front back len t f parts l h = h
 text_fault Truncated bytes rest front back len t f parts l h = absurd h
 text_fault Dead bytes rest front back len t f parts l h = h
 text_fault TooLarge bytes rest front back len t f parts l h = h
+
+pub cut_string : (bytes rest : List ℕ) (len : ℕ) → 1 ≤ length bytes → get_or bytes 0 0 < 256 → TakesInteger 7 bytes len rest → length rest < len → IsCutString bytes
+cut_string bytes rest len some octet t short = record {
+  size = t.0;
+  content = rest;
+  len = len;
+  spelling = t.1;
+  short = short;
+  is_size = elim (cases_lt (get_or bytes 0 0) 128) [
+    | inl low ↦ inl (subst (λ (flags : ℕ). IsInteger 7 flags t.0 len) (flags_7_low bytes some low) t.2)
+    | inr high ↦ inr (subst (λ (flags : ℕ). IsInteger 7 flags t.0 len) (flags_7_high bytes some high octet) t.2)
+  ];
+}

@@ -19,9 +19,8 @@ pub record IsCutString (bytes : List ℕ) : Type 0 where
   pub size : List ℕ
   pub content : List ℕ
   pub len : ℕ
-  pub flags : ℕ
   pub spelling : bytes ≡ size ++ content
-  pub is_size : IsInteger 7 flags size len
+  pub is_size : IsInteger 7 0 size len ⊎ IsInteger 7 128 size len
   pub short : length content < len
 
 -- The bytes of a string that has the flag are no Huffman text.

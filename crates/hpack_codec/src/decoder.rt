@@ -1,6 +1,7 @@
 //! Reading a header block (RFC 7541, sections 3.2 and 6).
-ghost use Rattle.std.specs.Prelude.{◌≡◌, ◌<◌, ◌≤◌, ◌⊎◌, [], length, Some, None, IfOk, IfErr, OnOk, OnErr, min, true, false};
-ghost use Rattle.hpack_codec.specs.Table.{empty_table, size_of, sizes_of};
+ghost use Rattle.std.specs.Prelude.{List, Option, MatchResult, ◌≡◌, ◌<◌, ◌≤◌, ◌⊎◌, [], length, Some, None, IfOk, IfErr, OnOk, OnErr, min, true, false};
+ghost use Rattle.hpack_codec.specs.declared.fields.Field.{Field as FieldOf};
+ghost use Rattle.hpack_codec.specs.Table.{Table, empty_table, size_of, sizes_of};
 ghost use Rattle.hpack_codec.specs.Block.{AreFields};
 ghost use Rattle.hpack_codec.specs.Faults.{IsIndexedFault, IsLiteralFault, IsNameFault, Begins};
 ghost use Rattle.hpack_codec.specs.Codec.{Reads, IsFirstFault};
@@ -51,7 +52,19 @@ impl Decoder {
         // A fault is the first one from the left.
         ensures err { IfErr result (λ fault. IsFirstFault fault self.old block.now) }
 
+        // What is in the block is read, unless memory runs out.
+        ensures only { (fields : List FieldOf) (kept : Option Table) → Reads self.old block.now fields kept
+            → MatchResult result (λ read. (read.items ≡ fields) × (self.new ≡ kept)) (λ fault. fault ≡ HpackFault.OutOfMemory) }
+
         // After any fault the decoder is dead.
+        ensures dead { OnErr result (self.new ≡ None) }
+    {
+        self.read(block)
+    }
+
+    fn read(&mut self, block: &[u8]) -> Result<Vec<Field>, HpackFault>
+        ensures ok { IfOk result (λ fields. Reads self.old block.now fields.items self.new) }
+        ensures err { IfErr result (λ fault. IsFirstFault fault self.old block.now) }
         ensures dead { OnErr result (self.new ≡ None) }
     {
         let Some(mut table) = self.table.take() else {

@@ -1,6 +1,6 @@
-use Rattle.std.proofs.Common.{arith}
+use Rattle.std.proofs.Common.{inr, arith}
 use Rattle.std.proofs.lemmas.Result.{err_from_is_err_and}
-use Rattle.hpack_codec.proofs.Strings.{flags_7_high, flags_7_low, takes_plain, takes_huffman, text_fault}
+use Rattle.hpack_codec.proofs.Strings.{flags_7_high, flags_7_low, takes_plain, takes_huffman, text_fault, cut_string}
 use Rattle.hpack_codec.proofs.string_literal.string.Goals as goal
 use Rattle.hpack_codec.proofs.string_literal.string.Goals.{then-is_huffman+in_ok-octets, else-is_huffman+in_ok-octets-2}
 
@@ -24,3 +24,7 @@ returns-clause-ok c =
           (flags_7_low c.args.bytes.now c.in-len1-up.len_at_least w.if-is_huffman.false)
           c.split_at.ensures.by_index.0 c.split_at.ensures.front_len (rw (c.from.ensures, w.octets-is) w.in_ok-octets-2.ensures.items)
     ]
+
+pub returns-then-rest-len-clause-err : goal.returns-then-rest-len-clause-err
+returns-then-rest-len-clause-err c =
+    inr (cut_string c.args.bytes.now c.in_ok-len.rest.now c.in_ok-len.len c.in-len1-up.len_at_least (omega (arith, c.type_inv.bytes 0)) c.in_ok-len.ensures.ok c.if-rest-len.true)
