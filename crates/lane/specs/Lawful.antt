@@ -1,0 +1,17 @@
+-- What a queue from one writer to one reader may do.
+use Rattle.std.specs.Prelude.{ℕ, ◌+◌, ◌≤◌, min, Bool, true, false, List, length}
+use mathlib.Core.List.{IsPrefix}
+
+-- how many items of the queue's room `last` takes beside it
+abbrev pub last_count : Bool → ℕ
+last_count true = 1
+last_count false = 0
+
+-- What was got, oldest first, begins what was put; and of what was put all but `room` items, and the one that `last` placed, were got
+pub record IsLawful {T : Type 0} (room : ℕ) (has_last : Bool) (put got : List T) : Type 0 where
+  pub begins : IsPrefix got put
+  pub within : length put ≤ length got + room + last_count has_last
+
+-- the number of items, up to the greatest `u64`
+abbrev pub count_of : {T : Type 0} → List T → ℕ
+count_of items = min (length items) 18446744073709551615

@@ -1,0 +1,9 @@
+pub mod Lawful
+pub mod End
+pub mod PutFault
+pub mod RingEnds
+pub mod Ring
+pub mod RingLane
+pub mod Holds
+pub mod Known
+pub mod RowLane

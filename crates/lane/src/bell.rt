@@ -1,0 +1,61 @@
+// Waiting for a change that another thread makes.
+use std::sync::Wait;
+use std::sync::atomic::{AtomicU64, Ordering};
+use std::time::Duration;
+
+/// A bell that threads ring after a change, and at which others wait for one. It carries no data.
+///
+/// To miss no change, take the `mark` first, then look for the change, and then wait past that mark.
+#[derive(Drop)]
+pub struct Bell {
+    // Twice the number of rings, which may wrap, and 1 more where a thread may be asleep.
+    //
+    // Only who rings takes the 1 back, and then wakes all. So a thread that sleeps without it is woken,
+    // and one that was about to sleep finds that the word has changed, and doesn't.
+    word: AtomicU64,
+}
+
+impl Bell {
+    pub const fn new() -> Bell {
+        Bell {
+            word: AtomicU64::new(0),
+        }
+    }
+
+    /// Wakes all who wait. Where nobody waits it is one atomic step, and no system call.
+    pub fn ring(&self) {
+        let before = self.word.fetch_add(2, Ordering::SeqCst);
+        if before & 1 == 1 {
+            let after = before.wrapping_add(2);
+            // Where another thread rang meanwhile, the 1 is left to the next ring.
+            let _ = self
+                .word
+                .compare_exchange(after, after & !1, Ordering::SeqCst, Ordering::SeqCst);
+            self.word.wake_all();
+        }
+    }
+
+    /// What `wait_past` is to wait past.
+    pub fn mark(&self) -> u64 {
+        self.word.load(Ordering::SeqCst) & !1
+    }
+
+    /// Returns after a ring later than the mark, after the limit, or earlier.
+    pub fn wait_past<R: Wait>(&self, rt: &R, mark: u64, limit: Duration) {
+        let asleep = mark | 1;
+        let set = self
+            .word
+            .compare_exchange(mark, asleep, Ordering::SeqCst, Ordering::SeqCst);
+        // Another thread may have set it, or the bell was rung.
+        if set.is_ok() || set == Err(asleep) {
+            let low_half = (asleep & 0xffff_ffff) as u32;
+            self.word.park_timeout(rt, low_half, limit);
+        }
+    }
+}
+
+impl Default for Bell {
+    fn default() -> Bell {
+        Bell::new()
+    }
+}
