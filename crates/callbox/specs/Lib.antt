@@ -2,3 +2,5 @@ pub mod Accounts
 pub mod Runs
 pub mod Examples
 pub mod SerialCalls
+pub mod InSides
+pub mod InAccounts

@@ -5,16 +5,30 @@
 //! which accounts are lawful, and `specs/Runs.antt` which account a list of events makes. `replay` is the
 //! serial core: it makes that account, event by event.
 //!
-//! Read `account` first, then `serial`.
+//! In a server a call has ends, which any threads may hold: a `Feeder` that is fed what comes in, and a `Taker` that takes
+//! the messages of it. Each does its part of the account, over a lane, and `settle_in` brings the two together: in every
+//! schedule what they did is a lawful account, the one that the serial core makes.
+//!
+//! Read `account` first, then `serial`; then `specs/InSides.antt` with `piece`, `feeder`, `taker` and `settle`.
 #![tactic(auto)]
 
 pub mod account;
+pub mod feeder;
+pub mod piece;
 pub mod sequence;
 pub mod serial;
+pub mod settle;
+pub mod taker;
 
 pub use account::{Account, CallEvent, OutItem, Shut, Told};
+pub use feeder::{FedShut, FeedFault, Feeder};
+pub use piece::InPiece;
 pub use sequence::Sequence;
 pub use serial::replay;
+pub use settle::{InAccount, open_in, settle_in};
+pub use taker::{Taken, Taker};
 
+#[cfg(test)]
+mod in_tests;
 #[cfg(test)]
 mod tests;

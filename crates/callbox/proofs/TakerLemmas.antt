@@ -1,0 +1,139 @@
+-- What a taker keeps of what it polled.
+use Rattle.std.proofs.Common.{◌≡◌, ℕ, ◌+◌, ◌<◌, ◌≤◌, min, Bool, true, false, List, [], ◌∷◌, ◌++◌, length, Option, Some, None, refl, sym, ap, subst, ◌∙◌, append_assoc, arith}
+use Rattle.std.specs.Prelude.{All}
+use Rattle.std.proofs.lemmas.List.{append-nil, length-append}
+use Rattle.std.proofs.lemmas.List.Elements.{All-nil, All-cons, All-append}
+use Rattle.lane.specs.Lawful.{count_of}
+use Rattle.lpm.specs.declared.fault.LpmFault.{LpmFault}
+use Rattle.lpm.specs.declared.fault.LpmFault.TheVariants.{Compressed, BadFlag, TooLong, CutAtEnd, OutOfMemory}
+use Rattle.lpm.specs.Messages.{frame, frames, IsMessage, IsUnfinished, IsFaulty}
+use Rattle.lpm.specs.Splits.{Stands}
+use Rattle.lpm.proofs.Readings.{frames-push, IsFaulty-longer}
+use Rattle.callbox.specs.declared.account.Shut.{Shut}
+use Rattle.callbox.specs.declared.account.Told.{Told}
+use Rattle.callbox.specs.declared.account.Told.TheVariants as told
+use Rattle.callbox.specs.declared.piece.InPiece.{InPiece}
+use Rattle.callbox.specs.declared.piece.InPiece.TheVariants as piece
+use Rattle.callbox.specs.declared.taker.Progress.{Progress}
+use Rattle.callbox.specs.Accounts.{MayTell}
+use Rattle.callbox.specs.Runs as runs
+use Rattle.callbox.specs.InSides.{bytes_of, shut_of, Took, TellsFault, length_of}
+use Rattle.callbox.proofs.SerialLemmas.{MayTell-fault, MayTell-more}
+use Rattle.callbox.proofs.InLemmas.{bytes_of-bytes, bytes_of-shut, shut_of-push}
+
+-- nothing told is always lawful
+untold : (t : Option Told) (fed : List ℕ) (closed : Option Shut) (messages : List (List ℕ)) → t ≡ None → MayTell t fed closed messages
+untold t fed closed messages e = subst (λ (s : Option Told). MayTell s fed closed messages) (sym e) tt
+
+pub took_message : (items : List InPiece) (p q : Progress) (messages : List (List ℕ)) (message : List ℕ) → Took items p messages
+    → IsMessage message → p.splitter ≡ frame message ++ q.splitter → q.lost ≡ p.lost → q.shut ≡ p.shut → q.told ≡ None → q.taken ≡ min (p.taken + 1) 18446744073709551615
+    → Took items q (messages ++ message ∷ [])
+took_message items p q messages message t fits front lost closed none count = record {
+  missing = t.missing;
+  whole = t.whole
+  ∙ ap (λ (b : List ℕ). frames messages ++ (b ++ t.missing)) front
+  ∙ ap (λ (b : List ℕ). frames messages ++ b) (append_assoc (frame message) q.splitter t.missing)
+  ∙ sym (frames-push messages message (q.splitter ++ t.missing));
+  each = All-append IsMessage messages (message ∷ []) t.each (All-cons IsMessage message [] fits (All-nil IsMessage));
+  kept = λ e. t.kept (sym lost ∙ e);
+  closed = closed ∙ t.closed;
+  telling = untold q.told (bytes_of items) (shut_of items) (messages ++ message ∷ []) none;
+  count = omega (arith, count, t.count, length-append messages (message ∷ []));
+}
+
+pub took_fault : (items : List InPiece) (p q : Progress) (messages : List (List ℕ)) (fault : LpmFault) → Took items p messages
+    → IsFaulty p.splitter fault → q.splitter ≡ p.splitter → q.lost ≡ p.lost → q.shut ≡ p.shut → q.told ≡ Some (told.Fault fault) → q.taken ≡ p.taken
+    → Took items q messages
+took_fault items p q messages fault t there splitter lost closed said count = record {
+  missing = t.missing;
+  whole = t.whole ∙ ap (λ (b : List ℕ). frames messages ++ (b ++ t.missing)) (sym splitter);
+  each = t.each;
+  kept = λ e. t.kept (sym lost ∙ e);
+  closed = closed ∙ t.closed;
+  telling = subst (λ (s : Option Told). MayTell s (bytes_of items) (shut_of items) messages) (sym said)
+  (MayTell-fault (bytes_of items) messages (p.splitter ++ t.missing) (shut_of items) fault t.whole t.each (IsFaulty-longer p.splitter t.missing fault there));
+  count = count ∙ t.count;
+}
+
+pub took_telling : (items : List InPiece) (p q : Progress) (messages : List (List ℕ)) → Took items p messages
+    → IsUnfinished p.splitter → p.lost ≡ false → q.splitter ≡ p.splitter → q.lost ≡ p.lost → q.shut ≡ p.shut → q.told ≡ runs.telling None p.splitter p.shut → q.taken ≡ p.taken
+    → Took items q messages
+took_telling items p q messages t unfinished kept splitter lost closed said count =
+    let whole : bytes_of items ≡ frames messages ++ p.splitter =
+    t.whole ∙ ap (λ (b : List ℕ). frames messages ++ (p.splitter ++ b)) (t.kept kept) ∙ ap (λ (b : List ℕ). frames messages ++ b) (append-nil p.splitter) in
+    record {
+      missing = t.missing;
+      whole = t.whole ∙ ap (λ (b : List ℕ). frames messages ++ (b ++ t.missing)) (sym splitter);
+      each = t.each;
+      kept = λ e. t.kept kept;
+      closed = closed ∙ t.closed;
+      telling = subst (λ (s : Option Told). MayTell s (bytes_of items) (shut_of items) messages) (sym (said ∙ ap (runs.telling None p.splitter) t.closed))
+      (MayTell-more (bytes_of items) messages p.splitter (shut_of items) whole t.each unfinished);
+      count = count ∙ t.count;
+    }
+
+-- the same, with the same told
+pub took_same : (items : List InPiece) (p q : Progress) (messages : List (List ℕ)) → Took items p messages
+    → q.splitter ≡ p.splitter → q.lost ≡ p.lost → q.shut ≡ p.shut → q.told ≡ p.told → q.taken ≡ p.taken
+    → Took items q messages
+took_same items p q messages t splitter lost closed said count = record {
+  missing = t.missing;
+  whole = t.whole ∙ ap (λ (b : List ℕ). frames messages ++ (b ++ t.missing)) (sym splitter);
+  each = t.each;
+  kept = λ e. t.kept (sym lost ∙ e);
+  closed = closed ∙ t.closed;
+  telling = subst (λ (s : Option Told). MayTell s (bytes_of items) (shut_of items) messages) (sym said) t.telling;
+  count = count ∙ t.count;
+}
+
+-- a piece more, of which some may be missing
+pub took_piece : (items : List InPiece) (item : InPiece) (bytes missing : List ℕ) (p q : Progress) (messages : List (List ℕ)) → Took items p messages
+    → item ≡ piece.Bytes bytes → p.lost ≡ false → p.shut ≡ None → p.told ≡ None
+    → q.splitter ++ missing ≡ p.splitter ++ bytes → (q.lost ≡ false → missing ≡ []) → q.shut ≡ p.shut → q.told ≡ p.told → q.taken ≡ p.taken
+    → Took (items ++ item ∷ []) q messages
+took_piece items item bytes missing p q messages t is kept unshut none splitter lost closed said count =
+    let all : bytes_of (items ++ item ∷ []) ≡ bytes_of items ++ bytes = ap (λ (x : InPiece). bytes_of (items ++ x ∷ [])) is ∙ bytes_of-bytes items bytes in
+    let end : shut_of (items ++ item ∷ []) ≡ None = ap (λ (x : InPiece). shut_of (items ++ x ∷ [])) is ∙ shut_of-push items (piece.Bytes bytes) (sym t.closed ∙ unshut) in
+    let whole : bytes_of items ≡ frames messages ++ p.splitter =
+    t.whole ∙ ap (λ (b : List ℕ). frames messages ++ (p.splitter ++ b)) (t.kept kept) ∙ ap (λ (b : List ℕ). frames messages ++ b) (append-nil p.splitter) in
+    record {
+      missing = missing;
+      whole = all ∙ ap (λ (b : List ℕ). b ++ bytes) whole ∙ append_assoc (frames messages) p.splitter bytes ∙ ap (λ (b : List ℕ). frames messages ++ b) (sym splitter);
+      each = t.each;
+      kept = lost;
+      closed = closed ∙ unshut ∙ sym end;
+      telling = untold q.told (bytes_of (items ++ item ∷ [])) (shut_of (items ++ item ∷ [])) messages (said ∙ none);
+      count = count ∙ t.count;
+    }
+
+pub took_shut : (items : List InPiece) (item : InPiece) (closed : Shut) (p q : Progress) (messages : List (List ℕ)) → Took items p messages
+    → item ≡ piece.Shut closed → p.shut ≡ None → p.told ≡ None
+    → q.splitter ≡ p.splitter → q.lost ≡ p.lost → q.shut ≡ Some closed → q.told ≡ p.told → q.taken ≡ p.taken
+    → Took (items ++ item ∷ []) q messages
+took_shut items item closed p q messages t is unshut none splitter lost now said count =
+    let all : bytes_of (items ++ item ∷ []) ≡ bytes_of items = ap (λ (x : InPiece). bytes_of (items ++ x ∷ [])) is ∙ bytes_of-shut items closed in
+    let end : shut_of (items ++ item ∷ []) ≡ Some closed = ap (λ (x : InPiece). shut_of (items ++ x ∷ [])) is ∙ shut_of-push items (piece.Shut closed) (sym t.closed ∙ unshut) in
+    record {
+      missing = t.missing;
+      whole = all ∙ t.whole ∙ ap (λ (b : List ℕ). frames messages ++ (b ++ t.missing)) (sym splitter);
+      each = t.each;
+      kept = λ e. t.kept (sym lost ∙ e);
+      closed = now ∙ sym end;
+      telling = untold q.told (bytes_of (items ++ item ∷ [])) (shut_of (items ++ item ∷ [])) messages (said ∙ none);
+      count = count ∙ t.count;
+    }
+
+pub tells_fault : (fault : LpmFault) (old : Option Told) → (fault ≡ OutOfMemory → ⊥) → TellsFault fault old (Some (told.Fault fault))
+tells_fault OutOfMemory old other = absurd (other refl)
+tells_fault Compressed old other = refl
+tells_fault BadFlag old other = refl
+tells_fault TooLong old other = refl
+tells_fault CutAtEnd old other = refl
+
+pub length_of-bytes : (item : InPiece) (bytes : List ℕ) → item ≡ piece.Bytes bytes → length_of item ≡ length bytes
+length_of-bytes item bytes is = ap length_of is
+
+pub owed_more : (items : List InPiece) (item : InPiece) (owed now next : ℕ) → now ≡ min (owed + length (bytes_of items)) 4294967295 → next ≡ min (now + length_of item) 4294967295
+    → next ≡ min (owed + length (bytes_of (items ++ item ∷ []))) 4294967295
+owed_more items (piece.Bytes bytes) owed now next before sum = omega (arith, before, sum, ap length (bytes_of-bytes items bytes), length-append (bytes_of items) bytes)
+owed_more items (piece.Shut closed) owed now next before sum = omega (arith, before, sum, ap length (bytes_of-shut items closed))

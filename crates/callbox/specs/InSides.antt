@@ -1,0 +1,118 @@
+-- What went through the in side of a call: pieces, and then at most one shut.
+use Rattle.std.specs.Prelude.{◌≡◌, ◌<◌, ℕ, ◌+◌, ◌-◌, min, Bool, true, false, List, [], ◌∷◌, ◌++◌, length, map, Option, Some, None, All, IsTrue}
+use Rattle.std.specs.List.{concat}
+use Rattle.lane.specs.Lawful.{count_of}
+use Rattle.lpm.specs.declared.fault.LpmFault.{LpmFault}
+use Rattle.lpm.specs.declared.fault.LpmFault.TheVariants.{Compressed, BadFlag, TooLong, CutAtEnd, OutOfMemory}
+use Rattle.lpm.specs.Messages.{frames, IsMessage}
+use Rattle.callbox.specs.declared.account.Account.{Account}
+use Rattle.callbox.specs.declared.account.CallEvent.{CallEvent}
+use Rattle.callbox.specs.declared.account.CallEvent.TheVariants as event
+use Rattle.callbox.specs.declared.account.Shut.{Shut}
+use Rattle.callbox.specs.declared.account.Told.{Told}
+use Rattle.callbox.specs.declared.account.Told.TheVariants as told
+use Rattle.callbox.specs.declared.piece.InPiece.{InPiece}
+use Rattle.callbox.specs.declared.piece.InPiece.TheVariants as piece
+use Rattle.callbox.specs.declared.taker.Polled.{Polled}
+use Rattle.callbox.specs.declared.taker.Polled.TheVariants as polled
+use Rattle.callbox.specs.declared.taker.Taken.{Taken}
+use Rattle.callbox.specs.declared.taker.Taken.TheVariants as taken
+use Rattle.callbox.specs.declared.taker.Progress.{Progress}
+use Rattle.callbox.specs.Accounts.{MayTell}
+
+-- the pieces of bytes, in order
+abbrev pub pieces_of : List InPiece → List (List ℕ)
+pieces_of [] = []
+pieces_of (piece.Bytes bytes ∷ items) = bytes ∷ pieces_of items
+pieces_of (piece.Shut closed ∷ items) = pieces_of items
+
+-- the bytes of all pieces, joined
+abbrev pub bytes_of : List InPiece → List ℕ
+bytes_of items = concat (pieces_of items)
+
+-- how the half was shut by them
+abbrev pub shut_of : List InPiece → Option Shut
+shut_of [] = None
+shut_of (piece.Bytes bytes ∷ items) = shut_of items
+shut_of (piece.Shut closed ∷ items) = Some closed
+
+-- nothing stands behind a shut
+abbrev pub ends_at_shut : List InPiece → Bool
+ends_at_shut [] = true
+ends_at_shut (piece.Bytes bytes ∷ items) = ends_at_shut items
+ends_at_shut (piece.Shut closed ∷ []) = true
+ends_at_shut (piece.Shut closed ∷ item ∷ items) = false
+
+abbrev pub is_piece : InPiece → Bool
+is_piece (piece.Bytes bytes) = true
+is_piece (piece.Shut closed) = false
+
+-- what is made of a polled item; of a lost one its length
+abbrev pub IsPolled : InPiece → Polled → Type 0
+IsPolled item (polled.Bytes bytes) = item ≡ piece.Bytes bytes
+IsPolled item (polled.Shut closed) = item ≡ piece.Shut closed
+IsPolled item (polled.Lost len) = (bytes : List ℕ) × (item ≡ piece.Bytes bytes) × (len ≡ length bytes)
+
+-- how many bytes an item has
+abbrev pub length_of : InPiece → ℕ
+length_of (piece.Bytes bytes) = length bytes
+length_of (piece.Shut closed) = 0
+
+-- Of the items that were polled these messages were taken, and this is what is kept behind them. Where a piece was
+-- lost for want of memory its bytes are missing from what waits.
+pub record Took (items : List InPiece) (progress : Progress) (messages : List (List ℕ)) : Type 0 where
+  pub missing : List ℕ
+  pub whole : bytes_of items ≡ frames messages ++ (progress.splitter ++ missing)
+  pub each : All IsMessage messages
+  pub kept : progress.lost ≡ false → missing ≡ []
+  pub closed : progress.shut ≡ shut_of items
+  pub telling : MayTell progress.told (bytes_of items) (shut_of items) messages
+  pub count : progress.taken ≡ count_of messages
+
+-- the messages that were taken, after an answer
+abbrev pub grown : List (List ℕ) → Taken → List (List ℕ)
+grown messages (taken.Message message) = messages ++ message ∷ []
+grown messages taken.Nothing = messages
+grown messages taken.End = messages
+grown messages (taken.Reset code) = messages
+grown messages (taken.Fault fault) = messages
+
+-- the answer that tells a thing
+abbrev pub telling : Told → Taken
+telling told.End = taken.End
+telling (told.Reset code) = taken.Reset code
+telling (told.Fault fault) = taken.Fault fault
+
+abbrev pub TellsFault : LpmFault → Option Told → Option Told → Type 0
+TellsFault Compressed old new = new ≡ Some (told.Fault Compressed)
+TellsFault BadFlag old new = new ≡ Some (told.Fault BadFlag)
+TellsFault TooLong old new = new ≡ Some (told.Fault TooLong)
+TellsFault CutAtEnd old new = new ≡ Some (told.Fault CutAtEnd)
+TellsFault OutOfMemory old new = new ≡ old
+
+-- what was told before and after an answer
+abbrev pub Tells : Taken → Option Told → Option Told → Type 0
+Tells (taken.Message message) old new = new ≡ old
+Tells taken.Nothing old new = (old ≡ None) × (new ≡ None)
+Tells taken.End old new = new ≡ Some told.End
+Tells (taken.Reset code) old new = new ≡ Some (told.Reset code)
+Tells (taken.Fault fault) old new = TellsFault fault old new
+
+-- the in side of an account
+abbrev pub in_account : List (List ℕ) → Option Shut → List (List ℕ) → Option Told → Account
+in_account pieces closed messages said = record { fed = concat pieces; shut = closed; taken = messages; told = said; given = []; sent = [] }
+
+-- one event for what is there
+abbrev pub once : {A : Type 0} → (A → CallEvent) → Option A → List CallEvent
+once event_of None = []
+once event_of (Some x) = event_of x ∷ []
+
+-- pieces, the shut, a Take for each message that was taken and one for what was told
+abbrev pub in_events : List (List ℕ) → Option Shut → List (List ℕ) → Option Told → List CallEvent
+in_events pieces closed messages said =
+    map event.Feed pieces ++ (once event.Shut closed ++ (map (λ _. event.Take) messages ++ once (λ _. event.Take) said))
+
+-- the shut that was put, or where none was, the one that was wanted
+abbrev pub fits_shut : Option Shut → Shut → Shut
+fits_shut None kind = kind
+fits_shut (Some closed) kind = closed

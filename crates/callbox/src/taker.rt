@@ -1,0 +1,295 @@
+//! The end of a call that takes its messages.
+
+ghost use Rattle.std.specs.Prelude.{◌≡◌, ℕ, ◌+◌, ◌-◌, min, true, false, None, Some, List, [], ◌∷◌, ◌++◌, length, All, IfNone, IfSome, MatchOption, is_some};
+ghost use Rattle.lpm.specs.Messages.{IsUnfinished};
+ghost use Rattle.callbox.specs.Runs.{telling as what_is_told};
+ghost use Rattle.callbox.specs.InSides.{IsPolled, Took, Tells, bytes_of, grown, length_of, shut_of, telling};
+ghost use Rattle.callbox.specs.declared.piece.InPiece.{InPiece};
+ghost use Rattle.callbox.specs.declared.taker.Taken.TheVariants as taken;
+
+use crate::{InPiece, Shut, Told};
+use bytes::Bytes;
+use lane::Lane;
+use lpm::{LpmFault, Split, Splitter};
+use std::alloc::Global;
+
+/// What a `Taker` answers.
+#[derive(Debug, Drop)]
+pub enum Taken {
+    /// The next message.
+    Message(Bytes),
+    /// There is nothing to take or tell yet.
+    Nothing,
+    /// There are no more messages.
+    End,
+    /// The call was reset, with this error code.
+    Reset(u32),
+    /// What was fed can't go on as messages, or ended inside one; or memory was wanting.
+    Fault(LpmFault),
+}
+
+/// What is made of an item that was polled.
+#[derive(Debug, Drop)]
+pub(crate) enum Polled {
+    Bytes(Bytes),
+    Shut(Shut),
+    /// A piece of so many bytes that couldn't be shared for want of memory.
+    Lost(u64),
+}
+
+/// How far a `Taker` has come.
+#[derive(Drop)]
+pub(crate) struct Progress {
+    /// The bytes that were polled, but for those of the messages that were taken.
+    pub(crate) splitter: Splitter,
+    /// Whether a piece was lost for want of memory.
+    pub(crate) lost: bool,
+    pub(crate) shut: Option<Shut>,
+    pub(crate) told: Option<Told>,
+    /// How many messages were taken, up to the greatest `u64`.
+    pub(crate) taken: u64,
+    /// How many bytes were polled since the last credit, up to the greatest `u32`.
+    pub(crate) owed: u32,
+}
+
+impl Progress {
+    pub(crate) fn new(alloc: Global) -> Progress
+        ensures took { Took [] result [] }
+        ensures owed { result.owed ≡ 0 }
+    {
+        Progress {
+            splitter: Splitter::new(alloc),
+            lost: false,
+            shut: None,
+            told: None,
+            taken: 0,
+            owed: 0,
+        }
+    }
+
+    /// The next answer, where what was polled has one.
+    fn answer(&mut self) -> Option<Taken>
+        requires { self.old.told ≡ None }
+        ensures took { (items : List InPiece) (messages : List (List ℕ)) → Took items self.old messages
+            → MatchOption result (Took items self.new messages) (λ a. Took items self.new (grown messages a)) }
+        ensures tells { IfSome result (λ a. Tells a self.old.told self.new.told) }
+        ensures more { IfNone result (IsUnfinished self.new.splitter × (self.new.told ≡ None)
+            × (self.new.shut ≡ None) × (self.new.lost ≡ false)) }
+        ensures some { IfSome result (λ a. a ≡ taken.Nothing → ⊥) }
+        ensures owed { self.new.owed ≡ self.old.owed }
+    {
+        match self.splitter.next() {
+            Split::Message(message) => {
+                self.taken = self.taken.saturating_add(1);
+                Some(Taken::Message(message))
+            }
+            Split::Fault(fault) => match fault {
+                LpmFault::OutOfMemory => Some(Taken::Fault(fault)),
+                _ => {
+                    self.told = Some(Told::Fault(fault));
+                    Some(Taken::Fault(fault))
+                }
+            },
+            Split::More => self.ending(),
+        }
+    }
+
+    /// What is told behind the last whole message, or `None` where more is to be polled.
+    fn ending(&mut self) -> Option<Taken>
+        requires unfinished { IsUnfinished self.old.splitter }
+        requires untold { self.old.told ≡ None }
+        ensures took { (items : List InPiece) (messages : List (List ℕ)) → Took items self.old messages
+            → MatchOption result (Took items self.new messages) (λ a. Took items self.new (grown messages a)) }
+        ensures tells { IfSome result (λ a. Tells a self.old.told self.new.told) }
+        ensures more { IfNone result ((self.new ≡ self.old) × (self.new.shut ≡ None) × (self.new.lost ≡ false)) }
+        ensures some { IfSome result (λ a. a ≡ taken.Nothing → ⊥) }
+        ensures owed { self.new.owed ≡ self.old.owed }
+    {
+        if self.lost {
+            return Some(Taken::Fault(LpmFault::OutOfMemory));
+        }
+        let told = self.to_tell()?;
+        self.told = Some(told);
+        Some(told.answer())
+    }
+
+    /// What there is to be told where no message is left: how the half was shut, if it was.
+    fn to_tell(&self) -> Option<Told>
+        requires { IsUnfinished self.now.splitter }
+        ensures { result ≡ what_is_told None self.now.splitter self.now.shut }
+    {
+        let Some(shut) = self.shut else {
+            return None;
+        };
+        match shut {
+            Shut::Reset(code) => Some(Told::Reset(code)),
+            Shut::End => match self.splitter.end() {
+                Ok(()) => Some(Told::End),
+                Err(fault) => Some(Told::Fault(fault)),
+            },
+        }
+    }
+
+    /// Takes what was polled.
+    pub(crate) fn accept(&mut self, polled: Polled)
+        requires untold { self.old.told ≡ None }
+        requires unshut { self.old.shut ≡ None }
+        requires kept { self.old.lost ≡ false }
+        ensures took { (items : List InPiece) (item : InPiece) (messages : List (List ℕ)) → Took items self.old messages
+            → IsPolled item polled → Took (items ++ item ∷ []) self.new messages }
+        ensures told { self.new.told ≡ None }
+        ensures owed { (item : InPiece) → IsPolled item polled
+            → self.new.owed ≡ min (self.old.owed + length_of item) 4294967295 }
+    {
+        self.owe(polled.len());
+        match polled {
+            Polled::Bytes(bytes) => {
+                if self.splitter.push_shared(bytes).is_err() {
+                    self.lost = true;
+                }
+            }
+            Polled::Lost(_) => self.lost = true,
+            Polled::Shut(shut) => self.shut = Some(shut),
+        }
+    }
+
+    fn owe(&mut self, len: u64)
+        ensures { self.new ≡ record self.old { owed = min (self.old.owed + len) 4294967295 } }
+    {
+        let owed = u64::from(self.owed).saturating_add(len);
+        self.owed = owed.min(4_294_967_295) as u32;
+    }
+}
+
+impl Polled {
+    /// How many bytes it has.
+    fn len(&self) -> u64
+        ensures { (item : InPiece) → IsPolled item self.now → result ≡ length_of item }
+    {
+        match self {
+            Polled::Bytes(bytes) => bytes.len() as u64,
+            Polled::Lost(len) => *len,
+            Polled::Shut(_) => 0,
+        }
+    }
+}
+
+impl Told {
+    /// The answer that tells it.
+    fn answer(self) -> Taken
+        ensures { result ≡ telling self }
+    {
+        match self {
+            Told::End => Taken::End,
+            Told::Reset(code) => Taken::Reset(code),
+            Told::Fault(fault) => Taken::Fault(fault),
+        }
+    }
+}
+
+impl InPiece {
+    /// The same, with the bytes shared.
+    fn share(&self) -> Polled
+        ensures { IsPolled self.now result }
+    {
+        match self {
+            InPiece::Bytes(bytes) => match bytes.clone() {
+                Ok(shared) => Polled::Bytes(shared),
+                Err(_) => Polled::Lost(bytes.len() as u64),
+            },
+            InPiece::Shut(shut) => Polled::Shut(*shut),
+        }
+    }
+}
+
+/// What the next item of the lane is, if there is one.
+fn poll<L: Lane<Item = InPiece>>(rx: &mut L::Out) -> Option<Polled>
+    ensures name { L.out_name rx.new ≡ L.out_name rx.old }
+    ensures got { MatchOption result
+        ((L.got rx.new ≡ L.got rx.old) × (L.ahead rx.new ≡ []))
+        (λ p. (item : InPiece) × (L.got rx.new ≡ L.got rx.old ++ item ∷ []) × IsPolled item p) }
+{
+    match L::poll(rx) {
+        Some(item) => Some(item.share()),
+        None => None,
+    }
+}
+
+/// Takes the messages of what was fed, and is told how the half was shut.
+#[derive(Drop)]
+pub struct Taker<L: Lane<Item = InPiece>> {
+    pub(crate) rx: L::Out,
+    pub(crate) progress: Progress,
+}
+
+impl<L: Lane<Item = InPiece>> Taker<L> {
+    /// An end of this lane.
+    pub(crate) fn new(alloc: Global, rx: L::Out) -> Taker<L>
+        ensures rx { result.rx ≡ rx }
+        ensures took { Took [] result.progress [] }
+        ensures owed { result.progress.owed ≡ 0 }
+    {
+        let progress = Progress::new(alloc);
+        Taker { rx, progress }
+    }
+
+    /// The next message, or what there is to be told.
+    ///
+    /// It polls only while what was polled holds no whole message and no fault. Once the end, a reset or a fault
+    /// of the bytes was told it is told again. After `Fault(OutOfMemory)` it may be called again.
+    pub fn take(&mut self) -> Taken
+        ensures name { L.out_name self.new.rx ≡ L.out_name self.old.rx }
+        // Of all messages that were taken so far.
+        ensures took { (messages : List (List ℕ)) → Took (L.got self.old.rx) self.old.progress messages
+            → Took (L.got self.new.rx) self.new.progress (grown messages result) }
+        ensures tells { Tells result self.old.progress.told self.new.progress.told }
+        ensures repeats { IfSome self.old.progress.told
+            (λ t. (result ≡ telling t) × (self.new.progress ≡ self.old.progress) × (L.got self.new.rx ≡ L.got self.old.rx)) }
+        ensures nothing { result ≡ taken.Nothing → IsUnfinished self.new.progress.splitter
+            × (self.new.progress.shut ≡ None) × (self.new.progress.lost ≡ false) × (L.ahead self.new.rx ≡ []) }
+        ensures owed { (items : List InPiece) × (L.got self.new.rx ≡ L.got self.old.rx ++ items)
+            × (self.new.progress.owed ≡ min (self.old.progress.owed + length (bytes_of items)) 4294967295) }
+    {
+        let _owed = self.progress.owed;
+        if let Some(told) = self.progress.told {
+            return told.answer();
+        }
+        self.look()
+    }
+
+    /// The next message, or what there is to be told for the first time.
+    fn look(&mut self) -> Taken
+        requires { self.old.progress.told ≡ None }
+        ensures name { L.out_name self.new.rx ≡ L.out_name self.old.rx }
+        ensures took { (messages : List (List ℕ)) → Took (L.got self.old.rx) self.old.progress messages
+            → Took (L.got self.new.rx) self.new.progress (grown messages result) }
+        ensures tells { Tells result None self.new.progress.told }
+        ensures nothing { result ≡ taken.Nothing → IsUnfinished self.new.progress.splitter
+            × (self.new.progress.shut ≡ None) × (self.new.progress.lost ≡ false) × (L.ahead self.new.rx ≡ []) }
+        ensures owed { (items : List InPiece) × (L.got self.new.rx ≡ L.got self.old.rx ++ items)
+            × (self.new.progress.owed ≡ min (self.old.progress.owed + length (bytes_of items)) 4294967295) }
+    {
+        let _owed = self.progress.owed;
+        for _ in 0..u64::MAX {
+            if let Some(answer) = self.progress.answer() {
+                return answer;
+            }
+            match poll::<L>(&mut self.rx) {
+                Some(polled) => self.progress.accept(polled),
+                None => return Taken::Nothing,
+            }
+        }
+        Taken::Fault(LpmFault::OutOfMemory)
+    }
+
+    /// How many bytes were polled since the last credit, or the greatest `u32` where they are more.
+    pub fn credit(&mut self) -> u32
+        ensures owed { result ≡ self.old.progress.owed }
+        ensures none { self.new.progress ≡ record self.old.progress { owed = 0 } }
+        ensures rx { self.new.rx ≡ self.old.rx }
+    {
+        let owed = self.progress.owed;
+        self.progress.owed = 0;
+        owed
+    }
+}
