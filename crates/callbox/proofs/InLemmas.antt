@@ -1,13 +1,12 @@
 -- What went through the in side, item by item, and the run of its events.
-use Rattle.std.proofs.Common.{◌≡◌, ℕ, zero, suc, ◌+◌, ◌<◌, ◌≤◌, min, Bool, true, false, List, [], ◌∷◌, ◌++◌, length, Option, Some, None, refl, sym, ap, subst, ◌∙◌, append_assoc, arith, MatchBool}
+use Rattle.std.proofs.Common.{◌≡◌, ℕ, ◌+◌, min, Bool, true, false, List, [], ◌∷◌, ◌++◌, length, Option, Some, None, refl, sym, ap, subst, ◌∙◌, append_assoc, arith, MatchBool}
 use Rattle.std.specs.Prelude.{All, is_none, map, fold}
 use Rattle.std.specs.List.{concat}
 use Rattle.std.proofs.lemmas.List.{append-nil, length-append}
 use Rattle.std.proofs.lemmas.List.Elements.{All-nil, All-cons, All-head, All-tail}
 use Rattle.lane.specs.Lawful.{count_of}
-use Rattle.lpm.specs.declared.fault.LpmFault.{LpmFault}
 use Rattle.lpm.specs.declared.fault.LpmFault.TheVariants.{Compressed, BadFlag, TooLong, CutAtEnd, OutOfMemory}
-use Rattle.lpm.specs.Messages.{frame, frames, IsMessage, IsUnfinished, IsFaulty, Spells}
+use Rattle.lpm.specs.Messages.{frame, frames, IsMessage}
 use Rattle.lpm.specs.Reading.{Reading, messages_of}
 use Rattle.lpm.proofs.Behind.{reading_of-frames}
 use Rattle.lpm.proofs.Readings.{frames-cons}
@@ -15,7 +14,6 @@ use Rattle.std.proofs.lemmas.Grind.{flat_map-append, fold-append}
 use Rattle.callbox.specs.declared.taker.Progress.{Progress}
 use Rattle.callbox.specs.InAccounts.{CountsIn}
 use Rattle.callbox.specs.declared.account.Account.{Account}
-use Rattle.callbox.specs.declared.account.CallEvent.{CallEvent}
 use Rattle.callbox.specs.declared.account.CallEvent.TheVariants as event
 use Rattle.callbox.specs.declared.account.Shut.{Shut}
 use Rattle.callbox.specs.declared.account.Shut.TheVariants as shut
@@ -166,13 +164,13 @@ run_in pieces closed messages said rest each whole may =
     let shut : Account = record fed { shut = closed } in
     let taken : Account = record shut { taken = messages } in
     sym (
-      fold-append after opened (map event.Feed pieces) (once event.Shut closed ++ (takes ++ last))
-      ∙ ap (λ (a : Account). fold after a (once event.Shut closed ++ (takes ++ last))) (run_feeds pieces opened refl)
-      ∙ fold-append after fed (once event.Shut closed) (takes ++ last)
-      ∙ ap (λ (a : Account). fold after a (takes ++ last)) (run_shut closed fed refl)
-      ∙ fold-append after shut takes last
-      ∙ ap (λ (a : Account). fold after a last) (run_takes messages [] rest shut refl refl each whole)
-      ∙ run_told said taken refl each may)
+    fold-append after opened (map event.Feed pieces) (once event.Shut closed ++ (takes ++ last))
+    ∙ ap (λ (a : Account). fold after a (once event.Shut closed ++ (takes ++ last))) (run_feeds pieces opened refl)
+    ∙ fold-append after fed (once event.Shut closed) (takes ++ last)
+    ∙ ap (λ (a : Account). fold after a (takes ++ last)) (run_shut closed fed refl)
+    ∙ fold-append after shut takes last
+    ∙ ap (λ (a : Account). fold after a last) (run_takes messages [] rest shut refl refl each whole)
+    ∙ run_told said taken refl each may)
 
 -- a shut that was put is the one that counts
 abbrev pub fits_end : Option Shut → Option Shut → Type 0

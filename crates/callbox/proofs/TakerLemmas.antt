@@ -1,13 +1,10 @@
 -- What a taker keeps of what it polled.
-use Rattle.std.proofs.Common.{◌≡◌, ℕ, ◌+◌, ◌<◌, ◌≤◌, min, Bool, true, false, List, [], ◌∷◌, ◌++◌, length, Option, Some, None, refl, sym, ap, subst, ◌∙◌, append_assoc, arith}
-use Rattle.std.specs.Prelude.{All}
+use Rattle.std.proofs.Common.{◌≡◌, ℕ, ◌+◌, min, false, List, [], ◌∷◌, ◌++◌, length, Option, Some, None, refl, sym, ap, subst, ◌∙◌, append_assoc, arith}
 use Rattle.std.proofs.lemmas.List.{append-nil, length-append}
 use Rattle.std.proofs.lemmas.List.Elements.{All-nil, All-cons, All-append}
-use Rattle.lane.specs.Lawful.{count_of}
 use Rattle.lpm.specs.declared.fault.LpmFault.{LpmFault}
 use Rattle.lpm.specs.declared.fault.LpmFault.TheVariants.{Compressed, BadFlag, TooLong, CutAtEnd, OutOfMemory}
 use Rattle.lpm.specs.Messages.{frame, frames, IsMessage, IsUnfinished, IsFaulty}
-use Rattle.lpm.specs.Splits.{Stands}
 use Rattle.lpm.proofs.Readings.{frames-push, IsFaulty-longer}
 use Rattle.callbox.specs.declared.account.Shut.{Shut}
 use Rattle.callbox.specs.declared.account.Told.{Told}
@@ -31,9 +28,9 @@ pub took_message : (items : List InPiece) (p q : Progress) (messages : List (Lis
 took_message items p q messages message t fits front lost closed none count = record {
   missing = t.missing;
   whole = t.whole
-  ∙ ap (λ (b : List ℕ). frames messages ++ (b ++ t.missing)) front
-  ∙ ap (λ (b : List ℕ). frames messages ++ b) (append_assoc (frame message) q.splitter t.missing)
-  ∙ sym (frames-push messages message (q.splitter ++ t.missing));
+      ∙ ap (λ (b : List ℕ). frames messages ++ (b ++ t.missing)) front
+      ∙ ap (λ (b : List ℕ). frames messages ++ b) (append_assoc (frame message) q.splitter t.missing)
+      ∙ sym (frames-push messages message (q.splitter ++ t.missing));
   each = All-append IsMessage messages (message ∷ []) t.each (All-cons IsMessage message [] fits (All-nil IsMessage));
   kept = λ e. t.kept (sym lost ∙ e);
   closed = closed ∙ t.closed;
@@ -51,7 +48,7 @@ took_fault items p q messages fault t there splitter lost closed said count = re
   kept = λ e. t.kept (sym lost ∙ e);
   closed = closed ∙ t.closed;
   telling = subst (λ (s : Option Told). MayTell s (bytes_of items) (shut_of items) messages) (sym said)
-  (MayTell-fault (bytes_of items) messages (p.splitter ++ t.missing) (shut_of items) fault t.whole t.each (IsFaulty-longer p.splitter t.missing fault there));
+      (MayTell-fault (bytes_of items) messages (p.splitter ++ t.missing) (shut_of items) fault t.whole t.each (IsFaulty-longer p.splitter t.missing fault there));
   count = count ∙ t.count;
 }
 
@@ -68,7 +65,7 @@ took_telling items p q messages t unfinished kept splitter lost closed said coun
       kept = λ e. t.kept kept;
       closed = closed ∙ t.closed;
       telling = subst (λ (s : Option Told). MayTell s (bytes_of items) (shut_of items) messages) (sym (said ∙ ap (runs.telling None p.splitter) t.closed))
-      (MayTell-more (bytes_of items) messages p.splitter (shut_of items) whole t.each unfinished);
+          (MayTell-more (bytes_of items) messages p.splitter (shut_of items) whole t.each unfinished);
       count = count ∙ t.count;
     }
 

@@ -1,5 +1,5 @@
 -- What went through the in side of a call: pieces, and then at most one shut.
-use Rattle.std.specs.Prelude.{◌≡◌, ◌<◌, ℕ, ◌+◌, ◌-◌, min, Bool, true, false, List, [], ◌∷◌, ◌++◌, length, map, Option, Some, None, All, IsTrue}
+use Rattle.std.specs.Prelude.{◌≡◌, ℕ, Bool, true, false, List, [], ◌∷◌, ◌++◌, length, map, Option, Some, None, All}
 use Rattle.std.specs.List.{concat}
 use Rattle.lane.specs.Lawful.{count_of}
 use Rattle.lpm.specs.declared.fault.LpmFault.{LpmFault}

@@ -27,7 +27,15 @@ fn take_and_credit<L: Lane<Item = InPiece>>(rt: &impl Abort, alloc: Global) -> R
     assert!(rt; feeder.feed(Bytes::from_static(&[0, 1, 0x41])).is_ok());
     assert!(rt; feeder.feed(Bytes::from_static(&[0])).is_ok());
     let refused = feeder.feed(Bytes::from_static(&[7]));
-    assert!(rt; matches!(refused, Err(PutFault::Full { item: _, waiting: 3 })));
+    assert!(rt;
+        matches!(
+            refused,
+            Err(PutFault::Full {
+                item: _,
+                waiting: 3
+            })
+        )
+    );
     assert!(rt; takes(&taker.take(), &[0x41]));
     assert_eq!(rt; taker.credit(), 6);
     assert_eq!(rt; taker.credit(), 0);
@@ -65,7 +73,11 @@ fn take_all<L: Lane<Item = InPiece>, R: Wait>(rt: &R, taker: Taker<L>) -> Taker<
 }
 
 /// Feeds the bytes one by one, and shuts the half.
-fn feed_all<L: Lane<Item = InPiece>>(feeder: Feeder<L>, bytes: &'static [u8], shut: Shut) -> FedShut<L>
+fn feed_all<L: Lane<Item = InPiece>>(
+    feeder: Feeder<L>,
+    bytes: &'static [u8],
+    shut: Shut,
+) -> FedShut<L>
     ensures { L.shut_name result.shut ≡ L.in_name feeder.tx }
 {
     let mut feeder = feeder;
@@ -123,8 +135,14 @@ fn two_threads_settle(rt: HostRuntime) -> Result<(), Fail> {
             taken,
             told: Some(told),
         };
-        assert_eq!(rt; across::<RingLane<InPiece>, _>(&rt, rt.alloc(), bytes, shut)?, wanted);
-        assert_eq!(rt; across::<RowLane<InPiece>, _>(&rt, rt.alloc(), bytes, shut)?, wanted);
+        assert_eq!(rt;
+            across::<RingLane<InPiece>, _>(&rt, rt.alloc(), bytes, shut)?,
+            wanted
+        );
+        assert_eq!(rt;
+            across::<RowLane<InPiece>, _>(&rt, rt.alloc(), bytes, shut)?,
+            wanted
+        );
     }
     Ok(())
 }

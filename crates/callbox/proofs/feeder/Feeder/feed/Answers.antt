@@ -1,4 +1,4 @@
-use Rattle.std.proofs.Common.{ℕ, ◌+◌, min, ◌≡◌, ◌∙◌, ap}
+use Rattle.std.proofs.Common.{ℕ, ◌+◌, min, ◌∙◌, ap}
 use Rattle.callbox.specs.declared.piece.InPiece.TheVariants as piece
 use Rattle.callbox.proofs.InLemmas.{fed_more, shut_of-push}
 use Rattle.callbox.specs.InSides.{shut_of}

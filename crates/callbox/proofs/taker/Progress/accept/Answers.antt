@@ -1,4 +1,4 @@
-use Rattle.std.proofs.Common.{◌≡◌, true, false, List, ℕ, [], ◌++◌, refl, sym, ap, ◌∙◌, rules}
+use Rattle.std.proofs.Common.{◌≡◌, [], ◌++◌, refl, ◌∙◌, rules}
 use Rattle.std.proofs.lemmas.List.{append-nil}
 use Rattle.callbox.proofs.TakerLemmas.{took_piece, took_shut}
 use Rattle.callbox.proofs.taker.Progress.accept.Goals as goal

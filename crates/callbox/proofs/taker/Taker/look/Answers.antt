@@ -1,4 +1,4 @@
-use Rattle.std.proofs.Common.{◌≡◌, ℕ, ◌+◌, ◌++◌, [], ◌∷◌, min, List, sym, ap, subst, ◌∙◌, append_assoc}
+use Rattle.std.proofs.Common.{ℕ, ◌+◌, ◌++◌, [], ◌∷◌, min, List, sym, ap, subst, ◌∙◌, append_assoc}
 use Rattle.callbox.specs.InSides.{Took, length_of}
 use Rattle.callbox.specs.declared.piece.InPiece.{InPiece}
 use Rattle.callbox.proofs.TakerLemmas.{owed_more}
@@ -14,10 +14,12 @@ loop-preserved g c =
       told = c.accept.ensures.told;
       name = c.poll.ensures.name ∙ c.loop.invariant.name;
       took = λ messages t.
-      subst (λ (items : List InPiece). Took items c.accept.new.self messages) (sym polled.1)
-      (c.accept.ensures.took before item messages (c.in_default.ensures.took before messages (c.loop.invariant.took messages t)) polled.2);
-      owed = (so_far.0 ++ item ∷ [],
-      polled.1 ∙ ap (λ (items : List InPiece). items ++ item ∷ []) so_far.1 ∙ append_assoc _ so_far.0 (item ∷ []),
-      owed_more so_far.0 item _ c.loop.self.progress.owed c.accept.new.self.owed so_far.2
-      (c.accept.ensures.owed item polled.2 ∙ ap (λ (n : ℕ). min (n + length_of item) 4294967295) c.answer.ensures.owed));
+          subst (λ (items : List InPiece). Took items c.accept.new.self messages) (sym polled.1)
+          (c.accept.ensures.took before item messages (c.in_default.ensures.took before messages (c.loop.invariant.took messages t)) polled.2);
+      owed = (
+        so_far.0 ++ item ∷ [],
+        polled.1 ∙ ap (λ (items : List InPiece). items ++ item ∷ []) so_far.1 ∙ append_assoc _ so_far.0 (item ∷ []),
+        owed_more so_far.0 item _ c.loop.self.progress.owed c.accept.new.self.owed so_far.2
+            (c.accept.ensures.owed item polled.2 ∙ ap (λ (n : ℕ). min (n + length_of item) 4294967295) c.answer.ensures.owed),
+      );
     }
