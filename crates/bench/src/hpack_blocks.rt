@@ -38,7 +38,9 @@ fn entries(alloc: Global) -> Result<Vec<u8>, AllocError> {
 fn read(decoder: &mut Decoder, block: &[u8]) -> Result<usize, HpackFault> {
     let mut bytes = 0usize;
     for field in &decoder.block(block)? {
-        bytes = bytes.wrapping_add(field.name.len()).wrapping_add(field.value.len());
+        bytes = bytes
+            .wrapping_add(field.name.len())
+            .wrapping_add(field.value.len());
     }
     Ok(bytes)
 }
