@@ -5,3 +5,4 @@ pub mod Unique
 pub mod Laws
 pub mod Canonical
 pub mod Sizes
+pub mod Fits
