@@ -6,3 +6,5 @@ pub mod Laws
 pub mod Canonical
 pub mod Sizes
 pub mod Fits
+pub mod Parts
+pub mod Written

@@ -1,6 +1,6 @@
 //! Byte lists and texts as contracts see them: as the list.
 
-ghost use Rattle.std.specs.Prelude.{◌≡◌, List, ℕ, [], IfOk, OnOk, string_bytes};
+ghost use Rattle.std.specs.Prelude.{◌≡◌, List, ℕ, [], IfOk, OnOk, IsUtf8, string_bytes};
 
 use std::alloc::{AllocError, Global};
 use std::marker::Model;
@@ -81,7 +81,8 @@ impl Text {
     }
 
     pub fn as_str(&self) -> &str
-        ensures { result.now ≡ self.now }
+        ensures text { result.now ≡ self.now }
+        ensures utf8 { IsUtf8 self.now }
     {
         self.text.as_str()
     }
