@@ -1,0 +1,98 @@
+-- What each method answers to a list of messages, where the end was told and where it wasn't (gRPC's interop-test-descriptions.md, "Server").
+use Rattle.std.specs.Prelude.{◌≡◌, ◌≢◌, IsSome, ℕ, ◌+◌, ◌<◌, ◌≤◌, ◌⊎◌, pos, Bool, true, false, if◌then◌else◌, List, [], ◌∷◌, ◌++◌, sum, Option, Some, None, Result, Ok, Err}
+use Rattle.std.specs.List.{flat_map}
+use Rattle.handlers.specs.declared.status.Status.{Status}
+use Rattle.handlers.specs.declared.status.Refusal.TheVariants.{SumOutOfRange, WrongNumber}
+use Rattle.handlers.specs.declared.reply.Reply.{Reply}
+use Rattle.handlers.specs.declared.reply.Reply.TheVariants.{Empty, Zeros, Sum as SumReply}
+use Rattle.handlers.specs.declared.state.MethodState.{MethodState}
+use Rattle.handlers.specs.declared.state.MethodState.TheVariants.{Fresh, Sum, Kept, Ended}
+use Rattle.handlers.specs.Requests.{EmptyVerdict, SimpleVerdict, OutputVerdict}
+use Rattle.handlers.specs.declared.step.Step.{Step}
+use Rattle.handlers.specs.Statuses.{status_of}
+use Rattle.handlers.specs.Steps.{nothing, replying, ending, done}
+
+-- replies that several requests asked for, in their order
+abbrev pub flatten : List (List Reply) → List Reply
+flatten lists = flat_map (λ (replies : List Reply). replies) lists
+
+-- ---- one message
+
+-- after a first message that asks for these replies: they come with the end, unless there are more messages
+abbrev pub after_first : List Reply → List (List ℕ) → Bool → Step
+after_first replies (second ∷ others) ended = ending [] (status_of WrongNumber)
+after_first replies [] ended = if ended then done replies else nothing
+
+abbrev pub single_answer : Result (List Reply) Status → List (List ℕ) → Bool → Step
+single_answer (Err status) others ended = ending [] status
+single_answer (Ok replies) others ended = after_first replies others ended
+
+-- The first message is judged at once; none at the end, or a second one, is the wrong number.
+abbrev pub AnswersSingle : (List ℕ → Result (List Reply) Status → Type 0) → List (List ℕ) → Bool → Step → Type 0
+AnswersSingle judged [] ended answer = answer ≡ (if ended then ending [] (status_of WrongNumber) else nothing)
+AnswersSingle judged (message ∷ others) ended answer = (verdict : Result (List Reply) Status) × judged message verdict × (answer ≡ single_answer verdict others ended)
+
+-- ---- any number of messages
+
+-- none of the messages ends the call, and these are what they ask for
+abbrev pub AreTaken : {A : Type 0} → (List ℕ → Result A Status → Type 0) → List (List ℕ) → List A → Type 0
+AreTaken judged [] [] = Unit {0}
+AreTaken judged [] (amount ∷ amounts) = ⊥
+AreTaken judged (message ∷ messages) [] = ⊥
+AreTaken judged (message ∷ messages) (amount ∷ amounts) = judged message (Ok amount) × AreTaken judged messages amounts
+
+-- Each request is answered, up to the first that ends the call. What follows that one is not judged.
+abbrev pub AnswersFull : (List ℕ → Result (List Reply) Status → Type 0) → List (List ℕ) → Bool → Step → Type 0
+AnswersFull judged messages ended answer =
+    ((asked : List (List Reply)) × AreTaken judged messages asked × (answer ≡ (if ended then done (flatten asked) else replying (flatten asked))))
+    ⊎ ((before : List (List ℕ)) × (last : List ℕ) × (after : List (List ℕ)) × (messages ≡ before ++ last ∷ after)
+    × (asked : List (List Reply)) × AreTaken judged before asked × (status : Status) × judged last (Err status) × (answer ≡ ending (flatten asked) status))
+
+-- the same, all at the end
+abbrev pub AnswersHalf : (List ℕ → Result (List Reply) Status → Type 0) → List (List ℕ) → Bool → Step → Type 0
+AnswersHalf judged messages false answer = answer ≡ nothing
+AnswersHalf judged messages true answer = AnswersFull judged messages true answer
+
+-- ---- a sum
+
+-- the largest int32
+abbrev pub MAX_SUM : ℕ
+MAX_SUM = 2147483647
+
+-- the message ends the call by its own status, or by passing the largest sum
+abbrev pub EndsSum : (List ℕ → Result ℕ Status → Type 0) → ℕ → List ℕ → Status → Type 0
+EndsSum judged before message status =
+    judged message (Err status) ⊎ ((amount : ℕ) × judged message (Ok amount) × (MAX_SUM < before + amount) × (status ≡ status_of SumOutOfRange))
+
+abbrev pub AnswersSum : (List ℕ → Result ℕ Status → Type 0) → List (List ℕ) → Bool → Step → Type 0
+AnswersSum judged messages ended answer =
+    ((amounts : List ℕ) × AreTaken judged messages amounts × (sum amounts ≤ MAX_SUM) × (answer ≡ (if ended then done (SumReply (pos (sum amounts)) ∷ []) else nothing)))
+    ⊎ ((before : List (List ℕ)) × (last : List ℕ) × (after : List (List ℕ)) × (messages ≡ before ++ last ∷ after)
+    × (amounts : List ℕ) × AreTaken judged before amounts × (sum amounts ≤ MAX_SUM) × (status : Status) × EndsSum judged (sum amounts) last status × (answer ≡ ending [] status))
+
+-- ---- what a state stands for: the messages of the call so far, to which this was answered
+
+-- the call has its status
+abbrev pub StandsEnded : (List (List ℕ) → Bool → Step → Type 0) → List (List ℕ) → Step → Type 0
+StandsEnded answers messages given = (messages ≢ []) × answers messages false given × IsSome given.ends
+
+-- EmptyCall needs to know only that there was a message.
+abbrev pub StandsEmpty : MethodState → List (List ℕ) → Step → Type 0
+StandsEmpty Fresh messages given = (messages ≡ []) × (given ≡ nothing)
+StandsEmpty (Kept kept) messages given = (message : List ℕ) × (messages ≡ message ∷ []) × EmptyVerdict message (Ok (Empty ∷ [])) × (given ≡ nothing)
+StandsEmpty (Sum number) messages given = ⊥
+StandsEmpty Ended messages given = StandsEnded (AnswersSingle EmptyVerdict) messages given
+
+-- UnaryCall keeps the length that its message asks for.
+abbrev pub StandsUnary : MethodState → List (List ℕ) → Step → Type 0
+StandsUnary Fresh messages given = (messages ≡ []) × (given ≡ nothing)
+StandsUnary (Sum size) messages given = (message : List ℕ) × (messages ≡ message ∷ []) × SimpleVerdict message (Ok (Zeros size ∷ [])) × (given ≡ nothing)
+StandsUnary (Kept kept) messages given = ⊥
+StandsUnary Ended messages given = StandsEnded (AnswersSingle SimpleVerdict) messages given
+
+-- StreamingOutputCall keeps its message.
+abbrev pub StandsOutput : MethodState → List (List ℕ) → Step → Type 0
+StandsOutput Fresh messages given = (messages ≡ []) × (given ≡ nothing)
+StandsOutput (Kept kept) messages given = (message : List ℕ) × (messages ≡ message ∷ []) × (kept ≡ message ∷ []) × ((replies : List Reply) × OutputVerdict message (Ok replies)) × (given ≡ nothing)
+StandsOutput (Sum number) messages given = ⊥
+StandsOutput Ended messages given = StandsEnded (AnswersSingle OutputVerdict) messages given

@@ -1,0 +1,5 @@
+pub mod Statuses
+pub mod Replies
+pub mod Steps
+pub mod Requests
+pub mod Answers

@@ -1,0 +1,32 @@
+-- The bytes of a reply: the canonical spelling of the response message (messages.proto and empty.proto of grpc.testing).
+use Rattle.std.specs.Prelude.{◌≡◌, ℕ, ℤ, pos, List, [], ◌∷◌, ◌++◌, replicate, Some, None, refl}
+use Rattle.pbwire.specs.Spelling.{spelling_of_all}
+use Rattle.testproto.specs.declared.messages.Payload.{Payload}
+use Rattle.testproto.specs.declared.messages.SimpleResponse.{SimpleResponse}
+use Rattle.testproto.specs.declared.messages.StreamingInputCallResponse.{StreamingInputCallResponse}
+use Rattle.testproto.specs.declared.messages.StreamingOutputCallResponse.{StreamingOutputCallResponse}
+use Rattle.testproto.specs.Canonical.{simple_response_fields, streaming_input_call_response_fields, streaming_output_call_response_fields}
+use Rattle.handlers.specs.declared.reply.Reply.{Reply}
+use Rattle.handlers.specs.declared.reply.Reply.TheVariants.{Empty, Zeros, Sum}
+
+-- zero bytes, of no declared type
+abbrev pub zero_payload : ℕ → Payload
+zero_payload size = record { kind = pos 0; body = replicate size 0 }
+
+abbrev pub output_response : ℕ → StreamingOutputCallResponse
+output_response size = record { payload = Some (zero_payload size) }
+
+abbrev pub input_response : ℤ → StreamingInputCallResponse
+input_response value = record { aggregated_payload_size = value }
+
+abbrev pub reply_bytes : Reply → List ℕ
+reply_bytes Empty = []
+reply_bytes (Zeros size) = spelling_of_all (streaming_output_call_response_fields (output_response size))
+reply_bytes (Sum value) = spelling_of_all (streaming_input_call_response_fields (input_response value))
+
+-- a SimpleResponse with that payload and neither name nor scope is spelled the same
+abbrev pub simple_response : ℕ → SimpleResponse
+simple_response size = record { payload = Some (zero_payload size); username = []; oauth_scope = [] }
+
+pub both_responses : (size : ℕ) → spelling_of_all (simple_response_fields (simple_response size)) ≡ reply_bytes (Zeros size)
+both_responses size = refl

@@ -1,0 +1,28 @@
+-- Replies and a status, and how they are joined.
+use Rattle.std.specs.Prelude.{List, [], ◌++◌, Option, Some, None}
+use Rattle.handlers.specs.declared.status.Status.{Status}
+use Rattle.handlers.specs.declared.reply.Reply.{Reply}
+use Rattle.handlers.specs.declared.step.Step.{Step}
+use Rattle.handlers.specs.Statuses.{ok_status}
+
+abbrev pub nothing : Step
+nothing = record { replies = []; ends = None }
+
+-- replies, and nothing more for now
+abbrev pub replying : List Reply → Step
+replying replies = record { replies = replies; ends = None }
+
+abbrev pub ending : List Reply → Status → Step
+ending replies status = record { replies = replies; ends = Some status }
+
+abbrev pub done : List Reply → Step
+done replies = ending replies ok_status
+
+-- a status once there stays
+abbrev pub first_status : Option Status → Option Status → Option Status
+first_status None later = later
+first_status (Some status) later = Some status
+
+-- what was given, and what a step gives more
+abbrev pub joined : Step → Step → Step
+joined given more = record { replies = given.replies ++ more.replies; ends = first_status given.ends more.ends }
