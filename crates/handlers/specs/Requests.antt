@@ -38,6 +38,11 @@ abbrev pub is_true : Option BoolValue → Bool
 is_true None = false
 is_true (Some flag) = flag.value
 
+abbrev pub is_zero : ℤ → Bool
+is_zero (pos zero) = true
+is_zero (pos (suc n)) = false
+is_zero (negsuc n) = false
+
 -- a status of gRPC is 0 to 16; another number is UNKNOWN, 2
 abbrev pub known_code : ℤ → ℕ
 known_code (pos code) = if nat_le code 16 then code else 2
@@ -46,7 +51,7 @@ known_code (negsuc code) = 2
 -- the status that the request asks the call to end with, if its code isn't 0
 abbrev pub asked_status : Option EchoStatus → Option Status
 asked_status None = None
-asked_status (Some echo) = elim echo.code [ pos code ↦ elim code [ zero ↦ None | suc less ↦ Some (status (known_code (pos (suc less))) echo.message) ] | negsuc less ↦ Some (status (known_code (negsuc less)) echo.message) ]
+asked_status (Some echo) = if is_zero echo.code then None else Some (status (known_code echo.code) echo.message)
 
 -- at most 4,000,000 bytes are answered
 abbrev pub is_size : ℤ → Bool
@@ -56,11 +61,6 @@ is_size (negsuc size) = false
 abbrev pub zeros : ℤ → Reply
 zeros (pos size) = Zeros size
 zeros (negsuc size) = Zeros 0
-
-abbrev pub is_zero : ℤ → Bool
-is_zero (pos zero) = true
-is_zero (pos (suc n)) = false
-is_zero (negsuc n) = false
 
 -- ---- the causes, in their order
 

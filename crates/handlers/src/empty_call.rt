@@ -1,0 +1,64 @@
+//! EmptyCall: one message without fields, answered by one.
+
+ghost use Rattle.std.specs.Prelude.{codes};
+ghost use Rattle.handlers.specs.Requests.{EmptyVerdict};
+ghost use Rattle.handlers.specs.Answers.{AnswersSingle, StandsEmpty};
+
+use crate::fault::MethodFault;
+use crate::judge::judge_empty;
+use crate::method::Method;
+use crate::ends::{end_with, refuse, reply_and_end};
+use crate::reply::Reply;
+use crate::state::{MessageList, MethodState};
+use crate::status::Refusal;
+use crate::step::Step;
+use std::alloc::Global;
+
+/// Answers an empty message to one.
+#[derive(Clone, Copy, Debug)]
+pub struct EmptyCall;
+
+impl Method for EmptyCall {
+    ghost name = { λ _. codes "/grpc.testing.TestService/EmptyCall" };
+
+    ghost answers = { λ _. AnswersSingle EmptyVerdict };
+
+    ghost stands = { λ _. StandsEmpty };
+
+    fn path(&self) -> &str {
+        "/grpc.testing.TestService/EmptyCall"
+    }
+
+    fn first(&self) -> MethodState {
+        MethodState::Fresh
+    }
+
+    fn message(
+        &self,
+        alloc: Global,
+        state: &mut MethodState,
+        message: &[u8],
+    ) -> Result<Step, MethodFault> {
+        match state {
+            MethodState::Fresh => match judge_empty(alloc, message)? {
+                Ok(()) => {
+                    state.set(MethodState::Kept(MessageList::new(alloc)));
+                    Ok(Step::nothing(alloc))
+                }
+                Err(status) => Ok(end_with(alloc, state, status)),
+            },
+            MethodState::Ended => Ok(Step::nothing(alloc)),
+            MethodState::Kept(_) => refuse(alloc, state, Refusal::WrongNumber),
+            MethodState::Sum(_) => refuse(alloc, state, Refusal::WrongNumber),
+        }
+    }
+
+    fn end(&self, alloc: Global, state: &mut MethodState) -> Result<Step, MethodFault> {
+        match state {
+            MethodState::Fresh => refuse(alloc, state, Refusal::WrongNumber),
+            MethodState::Ended => Ok(Step::nothing(alloc)),
+            MethodState::Kept(_) => reply_and_end(alloc, state, Reply::Empty),
+            MethodState::Sum(_) => refuse(alloc, state, Refusal::WrongNumber),
+        }
+    }
+}

@@ -1,0 +1,49 @@
+//! Steps that end a call.
+
+ghost use Rattle.std.specs.Prelude.{◌≡◌, ◌∷◌, [], IfOk, OnOk};
+ghost use Rattle.handlers.specs.declared.state.MethodState.TheVariants.{Ended};
+ghost use Rattle.handlers.specs.Statuses.{status_of};
+ghost use Rattle.handlers.specs.Steps.{ending, done};
+
+use crate::fault::MethodFault;
+use crate::reply::{Replies, Reply};
+use crate::state::MethodState;
+use crate::status::{Refusal, Status};
+use crate::step::Step;
+use std::alloc::Global;
+
+/// Ends the call with this status.
+pub(crate) fn end_with(alloc: Global, state: &mut MethodState, status: Status) -> Step
+    ensures step { result ≡ ending [] status }
+    ensures state { state.new ≡ Ended }
+{
+    state.set(MethodState::Ended);
+    Step::ending(alloc, status)
+}
+
+/// Ends the call with a status of our own.
+pub(crate) fn refuse(
+    alloc: Global,
+    state: &mut MethodState,
+    refusal: Refusal,
+) -> Result<Step, MethodFault>
+    ensures step { IfOk result (λ step. step ≡ ending [] (status_of refusal)) }
+    ensures state { OnOk result (state.new ≡ Ended) }
+{
+    let status = refusal.status(alloc)?;
+    Ok(end_with(alloc, state, status))
+}
+
+/// Gives the one reply of a call that went well, and ends it.
+pub(crate) fn reply_and_end(
+    alloc: Global,
+    state: &mut MethodState,
+    reply: Reply,
+) -> Result<Step, MethodFault>
+    ensures step { IfOk result (λ step. step ≡ done (reply ∷ [])) }
+    ensures state { OnOk result (state.new ≡ Ended) }
+{
+    let replies = Replies::one(alloc, reply)?;
+    state.set(MethodState::Ended);
+    Ok(Step::done(alloc, replies))
+}

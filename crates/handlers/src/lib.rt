@@ -1,0 +1,31 @@
+//! What the interop test server answers to each of the seven methods of `grpc.testing.TestService` (gRPC's
+//! interop-test-descriptions.md), as state machines without threads and streams.
+//!
+//! Promised: the replies and the status that a method's steps give, joined, are what `specs/Answers.antt` says of the
+//! whole list of messages and of whether their end was told ([`Method`]); [`Reply::bytes`] is the canonical spelling
+//! of the response message; [`Methods::find`] answers the least index with a path.
+//!
+//! Read [`status`], [`reply`], [`step`] and [`state`] first, the types; then [`method`], the law; then the methods.
+#![tactic(auto)]
+
+pub mod empty_call;
+mod ends;
+pub mod fault;
+mod judge;
+pub mod method;
+pub mod methods;
+pub mod reply;
+pub mod state;
+pub mod status;
+pub mod step;
+pub mod unary_call;
+
+pub use empty_call::EmptyCall;
+pub use fault::MethodFault;
+pub use method::Method;
+pub use methods::Methods;
+pub use reply::{Replies, Reply};
+pub use state::{MessageList, MethodState};
+pub use status::{Refusal, Status};
+pub use step::Step;
+pub use unary_call::{CacheableUnaryCall, UnaryCall};

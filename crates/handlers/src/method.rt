@@ -1,0 +1,55 @@
+//! What every method has, and the law that it keeps.
+
+ghost use Rattle.std.specs.Prelude.{◌≡◌, ◌++◌, ◌∷◌, [], List, ℕ, Bool, true, false, IfOk, OnOk, IsSome};
+ghost use Rattle.handlers.specs.declared.state.MethodState.{MethodState as State};
+ghost use Rattle.handlers.specs.declared.state.MethodState.TheVariants.{Ended};
+ghost use Rattle.handlers.specs.declared.step.Step.{Step as Given};
+ghost use Rattle.handlers.specs.Steps.{nothing, joined};
+
+use crate::fault::MethodFault;
+use crate::state::MethodState;
+use crate::step::Step;
+use std::alloc::Global;
+
+/// A method of a service, as a state machine over the messages of one call.
+///
+/// The law: `first` stands for no message, to which nothing was answered. After a step that answered Ok the state stands
+/// for the longer list, and what the steps gave, joined, is the method's answer to it. After a `MethodFault` the state
+/// stands for nothing.
+pub trait Method: Send + Sync + Drop {
+    /// The path by which a call names the method.
+    ghost name: { Self → List ℕ };
+
+    /// What the method answers to these messages, where the end was told and where it wasn't.
+    ghost answers: { Self → List (List ℕ) → Bool → Given → Type 0 };
+
+    /// The state of a call after these messages, to which this was answered so far.
+    ghost stands: { Self → State → List (List ℕ) → Given → Type 0 };
+
+    /// The path by which a call names the method.
+    fn path(&self) -> &str
+        ensures { result.now ≡ name self.now };
+
+    /// The state of a call without a message yet.
+    fn first(&self) -> MethodState
+        ensures stands { stands self.now result [] nothing }
+        ensures answers { answers self.now [] false nothing };
+
+    /// Takes the next message.
+    fn message(&self, alloc: Global, state: &mut MethodState, message: &[u8]) -> Result<Step, MethodFault>
+        ensures stands { IfOk result (λ step. (messages : List (List ℕ)) (given : Given) → stands self.now state.old messages given
+            → stands self.now state.new (messages ++ message.now ∷ []) (joined given step)) }
+        ensures answers { IfOk result (λ step. (messages : List (List ℕ)) (given : Given) → stands self.now state.old messages given
+            → answers self.now (messages ++ message.now ∷ []) false (joined given step)) }
+        // A status is given once, and nothing behind it.
+        ensures ends { IfOk result (λ step. IsSome step.ends → state.new ≡ Ended) }
+        ensures ended { IfOk result (λ step. state.old ≡ Ended → (step ≡ nothing) × (state.new ≡ Ended)) };
+
+    /// Is told that no message follows.
+    fn end(&self, alloc: Global, state: &mut MethodState) -> Result<Step, MethodFault>
+        ensures answers { IfOk result (λ step. (messages : List (List ℕ)) (given : Given) → stands self.now state.old messages given
+            → answers self.now messages true (joined given step)) }
+        // The call has its status now.
+        ensures ends { OnOk result (state.new ≡ Ended) }
+        ensures ended { IfOk result (λ step. state.old ≡ Ended → step ≡ nothing) };
+}

@@ -1,0 +1,47 @@
+//! What one step of a method gives.
+
+ghost use Rattle.std.specs.Prelude.{◌≡◌, ◌∷◌, []};
+ghost use Rattle.handlers.specs.Steps.{nothing, ending, done};
+
+use crate::reply::Replies;
+use crate::status::Status;
+use std::alloc::Global;
+
+/// Replies, and the status that ends the call behind them, if one does.
+#[derive(Debug, Drop)]
+pub struct Step {
+    pub replies: Replies,
+    pub ends: Option<Status>,
+}
+
+impl Step {
+    /// No reply and no status.
+    pub fn nothing(alloc: Global) -> Step
+        ensures { result ≡ nothing }
+    {
+        Step {
+            replies: Replies::new(alloc),
+            ends: None,
+        }
+    }
+
+    /// A status without a reply.
+    pub fn ending(alloc: Global, status: Status) -> Step
+        ensures { result ≡ ending [] status }
+    {
+        Step {
+            replies: Replies::new(alloc),
+            ends: Some(status),
+        }
+    }
+
+    /// Replies, and the end of a call that went well.
+    pub fn done(alloc: Global, replies: Replies) -> Step
+        ensures { result ≡ done replies }
+    {
+        Step {
+            replies,
+            ends: Some(Status::ok(alloc)),
+        }
+    }
+}
