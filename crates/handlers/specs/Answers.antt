@@ -41,12 +41,20 @@ AreTaken judged [] (amount ∷ amounts) = ⊥
 AreTaken judged (message ∷ messages) [] = ⊥
 AreTaken judged (message ∷ messages) (amount ∷ amounts) = judged message (Ok amount) × AreTaken judged messages amounts
 
+-- every request was answered
+abbrev pub AllAnswered : (List ℕ → Result (List Reply) Status → Type 0) → List (List ℕ) → Bool → Step → Type 0
+AllAnswered judged messages ended answer =
+    (asked : List (List Reply)) × AreTaken judged messages asked × (answer ≡ (if ended then done (flatten asked) else replying (flatten asked)))
+
+-- the requests before the first that ends the call were answered, and that one gave its status
+abbrev pub EndedByOne : (List ℕ → Result (List Reply) Status → Type 0) → List (List ℕ) → Step → Type 0
+EndedByOne judged messages answer =
+    (before : List (List ℕ)) × (last : List ℕ) × (after : List (List ℕ)) × (messages ≡ before ++ last ∷ after)
+    × (asked : List (List Reply)) × AreTaken judged before asked × (status : Status) × judged last (Err status) × (answer ≡ ending (flatten asked) status)
+
 -- Each request is answered, up to the first that ends the call. What follows that one is not judged.
 abbrev pub AnswersFull : (List ℕ → Result (List Reply) Status → Type 0) → List (List ℕ) → Bool → Step → Type 0
-AnswersFull judged messages ended answer =
-    ((asked : List (List Reply)) × AreTaken judged messages asked × (answer ≡ (if ended then done (flatten asked) else replying (flatten asked))))
-    ⊎ ((before : List (List ℕ)) × (last : List ℕ) × (after : List (List ℕ)) × (messages ≡ before ++ last ∷ after)
-    × (asked : List (List Reply)) × AreTaken judged before asked × (status : Status) × judged last (Err status) × (answer ≡ ending (flatten asked) status))
+AnswersFull judged messages ended answer = AllAnswered judged messages ended answer ⊎ EndedByOne judged messages answer
 
 -- the same, all at the end
 abbrev pub AnswersHalf : (List ℕ → Result (List Reply) Status → Type 0) → List (List ℕ) → Bool → Step → Type 0
@@ -96,3 +104,10 @@ StandsOutput Fresh messages given = (messages ≡ []) × (given ≡ nothing)
 StandsOutput (Kept kept) messages given = (message : List ℕ) × (messages ≡ message ∷ []) × (kept ≡ message ∷ []) × ((replies : List Reply) × OutputVerdict message (Ok replies)) × (given ≡ nothing)
 StandsOutput (Sum number) messages given = ⊥
 StandsOutput Ended messages given = StandsEnded (AnswersSingle OutputVerdict) messages given
+
+-- FullDuplexCall keeps nothing.
+abbrev pub StandsFull : MethodState → List (List ℕ) → Step → Type 0
+StandsFull Fresh messages given = AllAnswered OutputVerdict messages false given
+StandsFull (Sum number) messages given = ⊥
+StandsFull (Kept kept) messages given = ⊥
+StandsFull Ended messages given = EndedByOne OutputVerdict messages given

@@ -1,13 +1,17 @@
 //! How one request is read and judged.
 
-ghost use Rattle.std.specs.Prelude.{◌≡◌, ◌∷◌, [], true, false, IfOk, MatchOption, MatchResult, Ok, Err};
+ghost use Rattle.std.specs.Prelude.{◌≡◌, ◌∷◌, [], map, true, false, IfOk, MatchOption, MatchResult, Ok, Err};
 ghost use Rattle.handlers.specs.declared.reply.Reply.TheVariants.{Empty as EmptyReply, Zeros};
-ghost use Rattle.handlers.specs.Requests.{IsRead, EmptyVerdict, SimpleVerdict, asked_status, is_true, is_size, zeros, known_code, judge_simple};
+ghost use Rattle.handlers.specs.Requests.{IsRead, EmptyVerdict, SimpleVerdict, asked_status, is_true, is_size, zeros, zeros_of, all_sizes, known_code, judge_simple, judge_output, OutputVerdict};
 
 use crate::fault::MethodFault;
+use crate::reply::{Replies, Reply};
 use crate::status::{Refusal, Status};
 use std::alloc::Global;
-use testproto::{BoolValue, EchoStatus, Empty, Message, ProtoFault, SimpleRequest};
+use testproto::{
+    BoolValue, EchoStatus, Empty, Message, ProtoFault, ResponseParameters, SimpleRequest,
+    StreamingOutputCallRequest,
+};
 
 /// The greatest number of a status of gRPC.
 const LAST_CODE: i32 = 16;
@@ -121,4 +125,54 @@ fn size_of(size: i32) -> Option<u32>
     } else {
         None
     }
+}
+
+/// The verdict on a request for several payloads: the replies, or the status that ends the call.
+pub(crate) fn judge_output_call(
+    alloc: Global,
+    bytes: &[u8],
+) -> Result<Result<Replies, Status>, MethodFault>
+    ensures { IfOk result (λ verdict. MatchResult verdict (λ replies. OutputVerdict bytes.now (Ok replies)) (λ status. OutputVerdict bytes.now (Err status))) }
+{
+    match read::<StreamingOutputCallRequest>(alloc, bytes)? {
+        Some(request) => output_verdict(alloc, request),
+        None => Ok(Err(Refusal::MalformedMessage.status(alloc)?)),
+    }
+}
+
+/// What a request for several payloads asks for, the causes in their order.
+fn output_verdict(
+    alloc: Global,
+    request: StreamingOutputCallRequest,
+) -> Result<Result<Replies, Status>, MethodFault>
+    ensures { IfOk result (λ verdict. MatchResult verdict (λ replies. judge_output request ≡ Ok replies) (λ status. judge_output request ≡ Err status)) }
+{
+    if let Some(status) = asked_status(request.response_status) {
+        return Ok(Err(status));
+    }
+    if request.response_type != 0 {
+        return Ok(Err(Refusal::BadResponseType.status(alloc)?));
+    }
+    match replies_to(alloc, request.response_parameters.as_slice())? {
+        Some(replies) => Ok(Ok(replies)),
+        None => Ok(Err(Refusal::BadResponseSize.status(alloc)?)),
+    }
+}
+
+/// A reply for each of the parameters, or none where one asks for a length that isn't answered.
+fn replies_to(
+    alloc: Global,
+    parameters: &[ResponseParameters],
+) -> Result<Option<Replies>, MethodFault>
+    ensures out_of_range { IfOk result (λ found. MatchOption found (all_sizes parameters.now ≡ false) (λ replies. all_sizes parameters.now ≡ true)) }
+    ensures replies { IfOk result (λ found. MatchOption found (all_sizes parameters.now ≡ false) (λ replies. replies ≡ map zeros_of parameters.now)) }
+{
+    let mut replies = Replies::new(alloc);
+    for asked in parameters {
+        match size_of(asked.size) {
+            Some(size) => replies.push(Reply::Zeros(size))?,
+            None => return Ok(None),
+        }
+    }
+    Ok(Some(replies))
 }

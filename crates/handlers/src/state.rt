@@ -51,6 +51,15 @@ impl MessageList {
         }
     }
 
+    /// A copy of one message.
+    pub fn one(alloc: Global, message: &[u8]) -> Result<MessageList, AllocError>
+        ensures { IfOk result (λ messages. messages ≡ message.now ∷ []) }
+    {
+        let mut messages = MessageList::new(alloc);
+        messages.push(alloc, message)?;
+        Ok(messages)
+    }
+
     pub fn as_slice(&self) -> &[ByteList]
         ensures { result.now ≡ self.now }
     {

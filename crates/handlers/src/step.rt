@@ -1,7 +1,7 @@
 //! What one step of a method gives.
 
 ghost use Rattle.std.specs.Prelude.{◌≡◌, ◌∷◌, []};
-ghost use Rattle.handlers.specs.Steps.{nothing, ending, done};
+ghost use Rattle.handlers.specs.Steps.{nothing, replying, ending, done};
 
 use crate::reply::Replies;
 use crate::status::Status;
@@ -21,6 +21,16 @@ impl Step {
     {
         Step {
             replies: Replies::new(alloc),
+            ends: None,
+        }
+    }
+
+    /// Replies, and no status yet.
+    pub fn replying(replies: Replies) -> Step
+        ensures { result ≡ replying replies }
+    {
+        Step {
+            replies,
             ends: None,
         }
     }

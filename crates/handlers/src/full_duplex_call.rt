@@ -1,0 +1,69 @@
+//! FullDuplexCall: each request is answered as it is taken.
+
+ghost use Rattle.std.specs.Prelude.{◌≡◌, ◌++◌, ◌∷◌, [], codes};
+ghost use Rattle.handlers.specs.Requests.{OutputVerdict};
+ghost use Rattle.handlers.specs.Answers.{AnswersFull, StandsFull};
+
+use crate::ends::end_with;
+use crate::fault::MethodFault;
+use crate::judge::judge_output_call;
+use crate::method::Method;
+use crate::reply::Replies;
+use crate::state::MethodState;
+use crate::step::Step;
+use std::alloc::Global;
+
+/// Answers each request with a payload for each of its parameters.
+#[derive(Clone, Copy, Debug)]
+pub struct FullDuplexCall;
+
+impl Method for FullDuplexCall {
+    ghost name = { λ _. codes "/grpc.testing.TestService/FullDuplexCall" };
+
+    ghost answers = { λ _. AnswersFull OutputVerdict };
+
+    ghost stands = { λ _. StandsFull };
+
+    fn path(&self) -> &str {
+        "/grpc.testing.TestService/FullDuplexCall"
+    }
+
+    fn first(&self) -> MethodState {
+        MethodState::Fresh
+    }
+
+    fn message(
+        &self,
+        alloc: Global,
+        state: &mut MethodState,
+        message: &[u8],
+    ) -> Result<Step, MethodFault> {
+        match state {
+            MethodState::Fresh => match judge_output_call(alloc, message)? {
+                Ok(replies) => Ok(Step::replying(replies)),
+                Err(status) => Ok(end_with(alloc, state, status)),
+            },
+            MethodState::Ended => Ok(Step::nothing(alloc)),
+            MethodState::Kept(_) => Ok(Step::nothing(alloc)),
+            MethodState::Sum(_) => Ok(Step::nothing(alloc)),
+        }
+    }
+
+    fn end(&self, alloc: Global, state: &mut MethodState) -> Result<Step, MethodFault> {
+        match state {
+            MethodState::Ended => Ok(Step::nothing(alloc)),
+            MethodState::Fresh => {
+                state.set(MethodState::Ended);
+                Ok(Step::done(alloc, Replies::new(alloc)))
+            }
+            MethodState::Kept(_) => {
+                state.set(MethodState::Ended);
+                Ok(Step::nothing(alloc))
+            }
+            MethodState::Sum(_) => {
+                state.set(MethodState::Ended);
+                Ok(Step::nothing(alloc))
+            }
+        }
+    }
+}

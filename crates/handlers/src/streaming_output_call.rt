@@ -1,0 +1,75 @@
+//! StreamingOutputCall: one request, answered by a payload for each of its parameters.
+
+ghost use Rattle.std.specs.Prelude.{◌≡◌, ◌++◌, ◌∷◌, [], codes};
+ghost use Rattle.handlers.specs.Requests.{OutputVerdict};
+ghost use Rattle.handlers.specs.Answers.{AnswersSingle, StandsOutput};
+
+use crate::ends::{end_with, refuse};
+use crate::fault::MethodFault;
+use crate::judge::judge_output_call;
+use crate::method::Method;
+use crate::state::{MessageList, MethodState};
+use crate::status::Refusal;
+use crate::step::Step;
+use std::alloc::Global;
+
+/// Answers one request with several payloads of zero bytes.
+#[derive(Clone, Copy, Debug)]
+pub struct StreamingOutputCall;
+
+impl Method for StreamingOutputCall {
+    ghost name = { λ _. codes "/grpc.testing.TestService/StreamingOutputCall" };
+
+    ghost answers = { λ _. AnswersSingle OutputVerdict };
+
+    ghost stands = { λ _. StandsOutput };
+
+    fn path(&self) -> &str {
+        "/grpc.testing.TestService/StreamingOutputCall"
+    }
+
+    fn first(&self) -> MethodState {
+        MethodState::Fresh
+    }
+
+    fn message(
+        &self,
+        alloc: Global,
+        state: &mut MethodState,
+        message: &[u8],
+    ) -> Result<Step, MethodFault> {
+        match state {
+            MethodState::Fresh => match judge_output_call(alloc, message)? {
+                Ok(_) => {
+                    let kept = MessageList::one(alloc, message)?;
+                    state.set(MethodState::Kept(kept));
+                    Ok(Step::nothing(alloc))
+                }
+                Err(status) => Ok(end_with(alloc, state, status)),
+            },
+            MethodState::Ended => Ok(Step::nothing(alloc)),
+            MethodState::Kept(_) => refuse(alloc, state, Refusal::WrongNumber),
+            MethodState::Sum(_) => refuse(alloc, state, Refusal::WrongNumber),
+        }
+    }
+
+    fn end(&self, alloc: Global, state: &mut MethodState) -> Result<Step, MethodFault> {
+        match state {
+            MethodState::Fresh => refuse(alloc, state, Refusal::WrongNumber),
+            MethodState::Ended => Ok(Step::nothing(alloc)),
+            MethodState::Kept(kept) => {
+                let Some(message) = kept.as_slice().first() else {
+                    return refuse(alloc, state, Refusal::WrongNumber);
+                };
+                match judge_output_call(alloc, message.as_slice())? {
+                    Ok(replies) => {
+                        state.set(MethodState::Ended);
+                        Ok(Step::done(alloc, replies))
+                    }
+                    Err(status) => Ok(end_with(alloc, state, status)),
+                }
+            }
+            MethodState::Sum(_) => refuse(alloc, state, Refusal::WrongNumber),
+        }
+    }
+}
