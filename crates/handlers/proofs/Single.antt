@@ -1,13 +1,12 @@
 -- What the steps of a method that takes one message add to its answer.
-use Rattle.std.proofs.Common.{◌≡◌, ◌≢◌, ℕ, Bool, true, false, List, [], ◌∷◌, ◌++◌, Option, Some, None, IsSome, Result, Ok, Err, IfOk, OnOk, refl, sym, ap, subst, ◌∙◌}
+use Rattle.std.proofs.Common.{◌≡◌, ◌≢◌, ℕ, true, false, List, [], ◌∷◌, ◌++◌, Option, Some, None, IsSome, Result, Ok, Err, IfOk, OnOk, refl, sym, ap, subst}
 use Rattle.handlers.specs.declared.status.Status.{Status}
 use Rattle.handlers.specs.declared.status.Refusal.TheVariants.{WrongNumber}
 use Rattle.handlers.specs.declared.reply.Reply.{Reply}
 use Rattle.handlers.specs.declared.step.Step.{Step}
-use Rattle.handlers.specs.Statuses.{status_of, ok_status}
-use Rattle.handlers.specs.Steps.{nothing, replying, ending, done, joined, first_status}
+use Rattle.handlers.specs.Statuses.{status_of}
+use Rattle.handlers.specs.Steps.{nothing, ending, done, joined, first_status}
 use Rattle.handlers.specs.Answers.{AnswersSingle, single_answer, StandsEnded}
-
 
 pub along_both : {A B : Type 0} (P : A → B → Type 0) (a other : A) (b more : B) → a ≡ other → b ≡ more → P other more → P a b
 along_both P a other b more first second holds = subst (λ x. P x b) (sym first) (subst (λ y. P other y) (sym second) holds)

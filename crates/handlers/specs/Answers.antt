@@ -1,5 +1,5 @@
 -- What each method answers to a list of messages, where the end was told and where it wasn't (gRPC's interop-test-descriptions.md, "Server").
-use Rattle.std.specs.Prelude.{◌≡◌, ◌≢◌, IsSome, ℕ, ◌+◌, ◌<◌, ◌≤◌, ◌⊎◌, pos, Bool, true, false, if◌then◌else◌, List, [], ◌∷◌, ◌++◌, sum, Option, Some, None, Result, Ok, Err}
+use Rattle.std.specs.Prelude.{◌≡◌, ◌≢◌, IsSome, ℕ, ◌+◌, ◌<◌, ◌≤◌, ◌⊎◌, pos, Bool, true, false, if◌then◌else◌, List, [], ◌∷◌, ◌++◌, sum, Result, Ok, Err}
 use Rattle.std.specs.List.{flat_map}
 use Rattle.handlers.specs.declared.status.Status.{Status}
 use Rattle.handlers.specs.declared.status.Refusal.TheVariants.{SumOutOfRange, WrongNumber}
@@ -7,7 +7,7 @@ use Rattle.handlers.specs.declared.reply.Reply.{Reply}
 use Rattle.handlers.specs.declared.reply.Reply.TheVariants.{Empty, Zeros, Sum as SumReply}
 use Rattle.handlers.specs.declared.state.MethodState.{MethodState}
 use Rattle.handlers.specs.declared.state.MethodState.TheVariants.{Fresh, Sum, Kept, Ended}
-use Rattle.handlers.specs.Requests.{EmptyVerdict, SimpleVerdict, OutputVerdict}
+use Rattle.handlers.specs.Requests.{EmptyVerdict, SimpleVerdict, InputVerdict, OutputVerdict}
 use Rattle.handlers.specs.declared.step.Step.{Step}
 use Rattle.handlers.specs.Statuses.{status_of}
 use Rattle.handlers.specs.Steps.{nothing, replying, ending, done}
@@ -72,11 +72,20 @@ abbrev pub EndsSum : (List ℕ → Result ℕ Status → Type 0) → ℕ → Lis
 EndsSum judged before message status =
     judged message (Err status) ⊎ ((amount : ℕ) × judged message (Ok amount) × (MAX_SUM < before + amount) × (status ≡ status_of SumOutOfRange))
 
+-- the lengths of all bodies are added up
+abbrev pub AllAdded : (List ℕ → Result ℕ Status → Type 0) → List (List ℕ) → ℕ → Type 0
+AllAdded judged messages total = (amounts : List ℕ) × AreTaken judged messages amounts × (total ≡ sum amounts) × (total ≤ MAX_SUM)
+
+-- the first message that ends the call gave its status, or that of the sum
+abbrev pub EndedBySum : (List ℕ → Result ℕ Status → Type 0) → List (List ℕ) → Step → Type 0
+EndedBySum judged messages answer =
+    (before : List (List ℕ)) × (last : List ℕ) × (after : List (List ℕ)) × (messages ≡ before ++ last ∷ after)
+    × (total : ℕ) × AllAdded judged before total × (status : Status) × EndsSum judged total last status × (answer ≡ ending [] status)
+
 abbrev pub AnswersSum : (List ℕ → Result ℕ Status → Type 0) → List (List ℕ) → Bool → Step → Type 0
 AnswersSum judged messages ended answer =
-    ((amounts : List ℕ) × AreTaken judged messages amounts × (sum amounts ≤ MAX_SUM) × (answer ≡ (if ended then done (SumReply (pos (sum amounts)) ∷ []) else nothing)))
-    ⊎ ((before : List (List ℕ)) × (last : List ℕ) × (after : List (List ℕ)) × (messages ≡ before ++ last ∷ after)
-    × (amounts : List ℕ) × AreTaken judged before amounts × (sum amounts ≤ MAX_SUM) × (status : Status) × EndsSum judged (sum amounts) last status × (answer ≡ ending [] status))
+    ((total : ℕ) × AllAdded judged messages total × (answer ≡ (if ended then done (SumReply (pos total) ∷ []) else nothing)))
+    ⊎ EndedBySum judged messages answer
 
 -- ---- what a state stands for: the messages of the call so far, to which this was answered
 
@@ -111,3 +120,17 @@ StandsFull Fresh messages given = AllAnswered OutputVerdict messages false given
 StandsFull (Sum number) messages given = ⊥
 StandsFull (Kept kept) messages given = ⊥
 StandsFull Ended messages given = EndedByOne OutputVerdict messages given
+
+-- StreamingInputCall keeps the sum.
+abbrev pub StandsSum : MethodState → List (List ℕ) → Step → Type 0
+StandsSum Fresh messages given = ⊥
+StandsSum (Sum total) messages given = AllAdded InputVerdict messages total × (given ≡ nothing)
+StandsSum (Kept kept) messages given = ⊥
+StandsSum Ended messages given = EndedBySum InputVerdict messages given
+
+-- HalfDuplexCall keeps the messages.
+abbrev pub StandsHalf : MethodState → List (List ℕ) → Step → Type 0
+StandsHalf Fresh messages given = (messages ≡ []) × (given ≡ nothing)
+StandsHalf (Sum number) messages given = ⊥
+StandsHalf (Kept kept) messages given = (messages ≡ kept) × (given ≡ nothing)
+StandsHalf Ended messages given = ⊥

@@ -1,5 +1,5 @@
 -- The bytes of a reply: the canonical spelling of the response message (messages.proto and empty.proto of grpc.testing).
-use Rattle.std.specs.Prelude.{◌≡◌, ℕ, ℤ, pos, List, [], ◌∷◌, ◌++◌, replicate, Some, None, refl}
+use Rattle.std.specs.Prelude.{◌≡◌, ℕ, ℤ, pos, List, [], replicate, Some, refl}
 use Rattle.pbwire.specs.Spelling.{spelling_of_all}
 use Rattle.testproto.specs.declared.messages.Payload.{Payload}
 use Rattle.testproto.specs.declared.messages.SimpleResponse.{SimpleResponse}

@@ -1,5 +1,5 @@
 -- How one request is judged (gRPC's interop-test-descriptions.md; where it is silent, our own rules).
-use Rattle.std.specs.Prelude.{◌≡◌, ℕ, ℤ, pos, negsuc, zero, suc, ◌<◌, ◌≤◌, Bool, true, false, if◌then◌else◌, List, [], ◌∷◌, map, length, Option, Some, None, Result, Ok, Err, nat_le}
+use Rattle.std.specs.Prelude.{◌≡◌, ℕ, ℤ, pos, negsuc, zero, suc, Bool, true, false, if◌then◌else◌, List, [], ◌∷◌, map, length, Option, Some, None, Result, Ok, Err, nat_le}
 use Rattle.pbwire.specs.Fields.{Field}
 use Rattle.testproto.specs.Values.{IsValueOf}
 use Rattle.testproto.specs.Messages.{AcceptsAll, IsEmpty, AcceptsSimpleRequest, IsSimpleRequest, AcceptsStreamingInputCallRequest, IsStreamingInputCallRequest, AcceptsStreamingOutputCallRequest, IsStreamingOutputCallRequest}

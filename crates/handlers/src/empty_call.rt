@@ -4,10 +4,10 @@ ghost use Rattle.std.specs.Prelude.{codes};
 ghost use Rattle.handlers.specs.Requests.{EmptyVerdict};
 ghost use Rattle.handlers.specs.Answers.{AnswersSingle, StandsEmpty};
 
+use crate::ends::{end_with, refuse, reply_and_end};
 use crate::fault::MethodFault;
 use crate::judge::judge_empty;
 use crate::method::Method;
-use crate::ends::{end_with, refuse, reply_and_end};
 use crate::reply::Reply;
 use crate::state::{MessageList, MethodState};
 use crate::status::Refusal;

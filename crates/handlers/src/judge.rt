@@ -2,15 +2,15 @@
 
 ghost use Rattle.std.specs.Prelude.{◌≡◌, ◌∷◌, [], map, true, false, IfOk, MatchOption, MatchResult, Ok, Err};
 ghost use Rattle.handlers.specs.declared.reply.Reply.TheVariants.{Empty as EmptyReply, Zeros};
-ghost use Rattle.handlers.specs.Requests.{IsRead, EmptyVerdict, SimpleVerdict, asked_status, is_true, is_size, zeros, zeros_of, all_sizes, known_code, judge_simple, judge_output, OutputVerdict};
+ghost use Rattle.handlers.specs.Requests.{IsRead, EmptyVerdict, SimpleVerdict, asked_status, is_true, is_size, zeros, zeros_of, all_sizes, known_code, judge_simple, judge_output, OutputVerdict, judge_input, InputVerdict, body_length};
 
 use crate::fault::MethodFault;
 use crate::reply::{Replies, Reply};
 use crate::status::{Refusal, Status};
 use std::alloc::Global;
 use testproto::{
-    BoolValue, EchoStatus, Empty, Message, ProtoFault, ResponseParameters, SimpleRequest,
-    StreamingOutputCallRequest,
+    BoolValue, EchoStatus, Empty, Message, Payload, ProtoFault, ResponseParameters, SimpleRequest,
+    StreamingInputCallRequest, StreamingOutputCallRequest,
 };
 
 /// The greatest number of a status of gRPC.
@@ -175,4 +175,40 @@ fn replies_to(
         }
     }
     Ok(Some(replies))
+}
+
+/// The verdict on a request whose body counts: its length, or the status that ends the call.
+pub(crate) fn judge_input_call(
+    alloc: Global,
+    bytes: &[u8],
+) -> Result<Result<usize, Status>, MethodFault>
+    ensures { IfOk result (λ verdict. MatchResult verdict (λ length. InputVerdict bytes.now (Ok length)) (λ status. InputVerdict bytes.now (Err status))) }
+{
+    match read::<StreamingInputCallRequest>(alloc, bytes)? {
+        Some(request) => input_verdict(alloc, request),
+        None => Ok(Err(Refusal::MalformedMessage.status(alloc)?)),
+    }
+}
+
+/// What a request whose body counts adds.
+fn input_verdict(
+    alloc: Global,
+    request: StreamingInputCallRequest,
+) -> Result<Result<usize, Status>, MethodFault>
+    ensures { IfOk result (λ verdict. MatchResult verdict (λ length. judge_input request ≡ Ok length) (λ status. judge_input request ≡ Err status)) }
+{
+    if is_true(&request.expect_compressed) {
+        return Ok(Err(Refusal::NotCompressed.status(alloc)?));
+    }
+    Ok(Ok(body_length(&request.payload)))
+}
+
+/// The length of a body, which is 0 where there is no payload.
+fn body_length(payload: &Option<Payload>) -> usize
+    ensures { result ≡ body_length payload.now }
+{
+    match payload {
+        Some(payload) => payload.body.as_slice().len(),
+        None => 0,
+    }
 }

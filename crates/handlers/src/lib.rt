@@ -12,6 +12,7 @@ pub mod empty_call;
 mod ends;
 pub mod fault;
 pub mod full_duplex_call;
+pub mod half_duplex_call;
 mod judge;
 pub mod method;
 pub mod methods;
@@ -19,17 +20,23 @@ pub mod reply;
 pub mod state;
 pub mod status;
 pub mod step;
+pub mod streaming_input_call;
 pub mod streaming_output_call;
 pub mod unary_call;
 
 pub use empty_call::EmptyCall;
 pub use fault::MethodFault;
 pub use full_duplex_call::FullDuplexCall;
+pub use half_duplex_call::HalfDuplexCall;
 pub use method::Method;
 pub use methods::Methods;
 pub use reply::{Replies, Reply};
 pub use state::{MessageList, MethodState};
 pub use status::{Refusal, Status};
 pub use step::Step;
+pub use streaming_input_call::StreamingInputCall;
 pub use streaming_output_call::StreamingOutputCall;
 pub use unary_call::{CacheableUnaryCall, UnaryCall};
+
+#[cfg(test)]
+mod tests;

@@ -36,7 +36,12 @@ pub trait Method: Send + Sync + Drop {
         ensures answers { answers self.now [] false nothing };
 
     /// Takes the next message.
-    fn message(&self, alloc: Global, state: &mut MethodState, message: &[u8]) -> Result<Step, MethodFault>
+    fn message(
+        &self,
+        alloc: Global,
+        state: &mut MethodState,
+        message: &[u8],
+    ) -> Result<Step, MethodFault>
         ensures stands { IfOk result (λ step. (messages : List (List ℕ)) (given : Given) → stands self.now state.old messages given
             → stands self.now state.new (messages ++ message.now ∷ []) (joined given step)) }
         ensures answers { IfOk result (λ step. (messages : List (List ℕ)) (given : Given) → stands self.now state.old messages given

@@ -1,6 +1,6 @@
 //! The methods of a server.
 
-ghost use Rattle.std.specs.Prelude.{◌≡◌, ◌≢◌, length, IfSome, IfNone};
+ghost use Rattle.std.specs.Prelude.{◌≡◌, ◌≢◌, length, IfSome, IfNone, slice_get, option_copied};
 ghost use Rattle.std.specs.List.{HoldsAt, AllWithin};
 
 use crate::method::Method;
@@ -31,5 +31,12 @@ impl Methods {
             }
         }
         None
+    }
+
+    /// The method at this index.
+    pub fn get(&self, index: usize) -> Option<&Box<dyn Method>>
+        ensures { option_copied result ≡ slice_get self.now.items.items index }
+    {
+        self.items.get(index)
     }
 }

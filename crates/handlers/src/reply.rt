@@ -112,4 +112,12 @@ impl Replies {
         self.items.push(reply)?;
         Ok(())
     }
+
+    /// Appends these replies.
+    pub(crate) fn append(&mut self, more: &Replies) -> Result<(), AllocError>
+        ensures { OnOk result (self.new ≡ self.old ++ more.now) }
+    {
+        self.items.extend_from_slice(&more.items)?;
+        Ok(())
+    }
 }

@@ -33,7 +33,9 @@ pub enum Refusal {
 
 /// Statuses as gRPC numbers them.
 const INVALID_ARGUMENT: u32 = 3;
+
 const OUT_OF_RANGE: u32 = 11;
+
 const INTERNAL: u32 = 13;
 
 impl Refusal {

@@ -84,11 +84,7 @@ impl Method for CacheableUnaryCall {
 }
 
 /// Judges the first request, and keeps the length that it asks for; a second one ends the call.
-fn take_request(
-    alloc: Global,
-    state: &mut MethodState,
-    message: &[u8],
-) -> Result<Step, MethodFault>
+fn take_request(alloc: Global, state: &mut MethodState, message: &[u8]) -> Result<Step, MethodFault>
     ensures stands { IfOk result (λ step. (messages : List (List ℕ)) (given : Given) → StandsUnary state.old messages given
         → StandsUnary state.new (messages ++ message.now ∷ []) (joined given step)) }
     ensures answers { IfOk result (λ step. (messages : List (List ℕ)) (given : Given) → StandsUnary state.old messages given
