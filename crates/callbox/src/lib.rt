@@ -13,20 +13,30 @@
 #![tactic(auto)]
 
 pub mod account;
+pub mod call;
 pub mod feeder;
+pub mod giver;
+pub mod outcome;
 pub mod piece;
+pub mod sender;
 pub mod sequence;
 pub mod serial;
 pub mod settle;
 pub mod taker;
+pub mod threads;
 
 pub use account::{Account, CallEvent, OutItem, Shut, Told};
+pub use call::open_call;
 pub use feeder::{FedShut, FeedFault, Feeder};
+pub use giver::{GiveFault, GivenShut, Giver};
+pub use outcome::{OutAccount, open_out, settle_out};
 pub use piece::InPiece;
+pub use sender::Sender;
 pub use sequence::Sequence;
 pub use serial::replay;
 pub use settle::{InAccount, open_in, settle_in};
 pub use taker::{Taken, Taker};
+pub use threads::{Answer, Request, run_call};
 
 #[cfg(test)]
 mod in_tests;
