@@ -1,2 +1,4 @@
+pub mod Halves
+pub mod HalfExamples
 pub mod Windows
 pub mod Examples

@@ -6,9 +6,14 @@
 //! Nothing here reads or writes frames: the numbers come from frames that `h2frame` has read.
 #![tactic(auto)]
 
+pub mod halves;
 pub mod send_windows;
 
+pub use halves::{Half, HalfVerdict};
 pub use send_windows::{SendWindows, WindowFault};
+
+/// How many streams a client may open on a connection; those that it begins after them are dropped.
+pub const MAX_STREAMS: usize = 4_096;
 
 /// The largest window that RFC 9113, section 6.9.1, allows: 2^31 - 1 bytes.
 pub const MAX_WINDOW: u32 = 0x7fff_ffff;
