@@ -1,1 +1,3 @@
 pub mod Balances
+pub mod Entries
+pub mod HalfLemmas
