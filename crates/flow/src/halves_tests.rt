@@ -209,6 +209,7 @@ fn streams_after_the_last_are_dropped(rt: HostRuntime) -> Result<(), Fail> {
     for (sent, stream, verdict) in [
         // The 4,096th, and the first one too many.
         (Sent::Headers, 8_191, OPEN),
+        (Sent::Headers, 8_191, BAD_TRAILERS),
         (Sent::Headers, 8_193, DISCARD),
         (Sent::LastHeaders, 8_193, DISCARD),
         (Sent::Data, 8_193, DISCARD),
