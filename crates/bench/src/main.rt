@@ -4,6 +4,7 @@
 //! words each runs once, small, and prints what it did but no time.
 #![tactic(auto)]
 
+mod flow_halves;
 mod h2frame_feed;
 mod hpack_blocks;
 mod lane_bench;
@@ -34,6 +35,11 @@ fn main(rt: HostRuntime) -> Result<()> {
             lane_bench::run_all(&rt, alloc)?;
             h2frame_feed::small(&rt)?;
             hpack_blocks::small(&rt)?;
+            flow_halves::small(&rt)?;
+        }
+        Some("flow-halves") => {
+            let streams = u16::try_from(number(words, 1)?)?;
+            flow_halves::timed(&rt, streams, small_number(words, 2)?)?;
         }
         Some("h2frame-feed") => h2frame_feed::timed(&rt, number(words, 1)?, number(words, 2)?)?,
         Some("hpack-huffman") => hpack_blocks::huffman(&rt, number(words, 1)?)?,

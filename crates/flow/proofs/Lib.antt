@@ -1,1 +1,4 @@
 pub mod Balances
+pub mod Entries
+pub mod HalfLemmas
+pub mod WindowSteps

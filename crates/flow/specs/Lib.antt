@@ -1,2 +1,6 @@
+pub mod Halves
+pub mod HalfExamples
 pub mod Windows
+pub mod WindowHistory
+pub mod WindowHistoryExamples
 pub mod Examples

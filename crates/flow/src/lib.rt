@@ -3,12 +3,19 @@
 //! `SendWindows` has the windows of what is sent: the connection's, and one for each open stream, which credit raises,
 //! sending lowers, and a new initial size moves.
 //!
+//! `Halves` has the receiving half of each stream: it judges the client's frames by what came before them.
+//!
 //! Nothing here reads or writes frames: the numbers come from frames that `h2frame` has read.
 #![tactic(auto)]
 
+pub mod halves;
 pub mod send_windows;
 
+pub use halves::{Half, HalfVerdict, Halves};
 pub use send_windows::{SendWindows, WindowFault};
+
+/// How many streams a client may open on a connection; those that it begins after them are dropped.
+pub const MAX_STREAMS: usize = 4_096;
 
 /// The largest window that RFC 9113, section 6.9.1, allows: 2^31 - 1 bytes.
 pub const MAX_WINDOW: u32 = 0x7fff_ffff;
@@ -16,5 +23,7 @@ pub const MAX_WINDOW: u32 = 0x7fff_ffff;
 /// The size of a new window, in bytes, until SETTINGS change it (RFC 9113, section 6.9.2).
 pub const INITIAL_WINDOW: u32 = 65_535;
 
+#[cfg(test)]
+mod halves_tests;
 #[cfg(test)]
 mod tests;
