@@ -1,2 +1,4 @@
 pub mod Windows
 pub mod Examples
+pub mod Books
+pub mod BookExamples
