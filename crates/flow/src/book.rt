@@ -1,10 +1,12 @@
 //! The credit book of a connection (RFC 9113, sections 5.2 and 6.9).
 
-ghost use Rattle.std.specs.Prelude.{◌≡◌, true};
+ghost use Rattle.std.specs.Prelude.{◌≡◌, ◌+◌, ◌-◌, ◌<◌, ◌≤◌, ◌^◌, min, true, OnErr, OnOk, IsSome, nat_eq};
 ghost use Rattle.std.specs.Option.{option_map};
+ghost use Rattle.std.specs.Map.{lookup, set_value};
 ghost use Rattle.flow.specs.declared.book.BookFault.TheVariants.{OutOfMemory};
-ghost use Rattle.flow.specs.Books.{code_of, call_at};
+ghost use Rattle.flow.specs.Books.{code_of, call_at, unreturned_of};
 
+use crate::{INITIAL_WINDOW, MAX_LIVE, MAX_RECEIVED};
 use h2frame::StreamId;
 use indexmap::IndexMap;
 use std::alloc::{AllocFailed, Global};
@@ -98,6 +100,70 @@ const NO_BYTES: Counts = Counts {
     announced: 0,
 };
 
+/// A call of which neither end is marked.
+const NEW_CALL: Call = Call {
+    counts: NO_BYTES,
+    marks: Marks {
+        remote: false,
+        local: false,
+    },
+};
+
+impl Counts {
+    ghost use Rattle.flow.specs.Books.{IsCounted, with_received, unreturned, unannounced};
+
+    /// How many more bytes the peer may send.
+    fn window(self) -> u64
+        requires counted { IsCounted self }
+        requires bounded { self.received ≤ MAX_RECEIVED }
+        ensures { result ≡ INITIAL_WINDOW + self.announced - self.received }
+    {
+        u64::from(INITIAL_WINDOW) + self.announced - self.received
+    }
+
+    /// How many more bytes may come on the connection: no more than the peer may send, nor than can be counted.
+    fn room(self) -> u64
+        requires counted { IsCounted self }
+        requires bounded { self.received ≤ MAX_RECEIVED }
+        ensures { result ≡ min (INITIAL_WINDOW + self.announced) MAX_RECEIVED - self.received }
+    {
+        self.window().min(MAX_RECEIVED - self.received)
+    }
+
+    /// What came and wasn't returned yet.
+    fn unreturned(self) -> u64
+        requires { self.returned ≤ self.received }
+        ensures { result ≡ unreturned self }
+    {
+        self.received - self.returned
+    }
+
+    /// What was returned and wasn't announced yet.
+    fn unannounced(self) -> u32
+        requires { IsCounted self }
+        ensures { result ≡ unannounced self }
+    {
+        (self.returned - self.announced) as u32
+    }
+
+    /// The counts when more bytes came, which are returned at once or not.
+    fn with_received(self, more: u64, at_once: bool) -> Counts
+        requires returned { self.returned ≤ self.received }
+        requires fits { self.received + more < 2 ^ 64 }
+        ensures { result ≡ with_received self more at_once }
+    {
+        Counts {
+            received: self.received + more,
+            returned: if at_once {
+                self.returned + more
+            } else {
+                self.returned
+            },
+            announced: self.announced,
+        }
+    }
+}
+
 /// The credit book of a connection: for the connection and each live call, how many bytes of DATA came, how many of
 /// them were returned, and how many of those were announced to the peer.
 ///
@@ -122,7 +188,7 @@ impl Model for Book {
 }
 
 impl Book {
-    ghost use Rattle.flow.specs.Books.{new_book, IsLawful};
+    ghost use Rattle.flow.specs.Books.{new_book, IsLawful, IsOdd, MeetsOrMemory, Meets, AdmitCause, ReceiveCause, GiveBackCause, EndCause, after_admit, after_receive, after_give_back, after_announce, announcement, after_end_remote, after_end_local, after_cut};
 
     /// The book of a new connection, with no calls. It takes no memory yet.
     pub fn new(alloc: Global) -> Book
@@ -165,4 +231,177 @@ impl Book {
         let call = self.calls.get(&id).copied()?;
         Some(call.marks)
     }
+
+    /// Admits a call, of which neither end is marked. Draining is tested before TooMany.
+    pub fn admit(&mut self, id: StreamId) -> Result<(), BookFault>
+        requires odd { IsOdd id }
+        requires above { self.old.last < id }
+        ensures ok { OnOk result (self.new ≡ after_admit self.old id) }
+        ensures unchanged { OnErr result (self.new ≡ self.old) }
+        ensures fault { MeetsOrMemory (AdmitCause self.old) result }
+    {
+        if self.closing {
+            return Err(BookFault::Draining);
+        }
+        if self.calls.len() >= MAX_LIVE {
+            return Err(BookFault::TooMany);
+        }
+        self.calls.insert(id, NEW_CALL)?;
+        self.last = id;
+        Ok(())
+    }
+
+    /// Counts bytes of DATA that came, for a live call and the connection, or for the connection alone where the id is 0.
+    /// Those of a call whose local end is marked are returned in the same step.
+    pub fn receive(&mut self, id: StreamId, n: u32) -> Result<(), BookFault>
+        ensures ok { OnOk result (self.new ≡ after_receive self.old id n) }
+        ensures unchanged { OnErr result (self.new ≡ self.old) }
+        ensures fault { Meets (ReceiveCause self.old id n) result }
+    {
+        let more = u64::from(n);
+        if id == 0 {
+            if more > self.connection.room() {
+                return Err(BookFault::ConnectionWindow);
+            }
+            self.connection = self.connection.with_received(more, false);
+            return Ok(());
+        }
+        let Some(mut call) = self.calls.get(&id).copied() else {
+            return Err(BookFault::Unknown);
+        };
+        if more > call.counts.window() {
+            return Err(BookFault::CallWindow);
+        }
+        if more > self.connection.room() {
+            return Err(BookFault::ConnectionWindow);
+        }
+        let at_once = call.marks.local;
+        call.counts = call.counts.with_received(more, at_once);
+        write_call(&mut self.calls, id, call);
+        self.connection = self.connection.with_received(more, at_once);
+        Ok(())
+    }
+
+    /// Counts bytes that were returned, for a live call and the connection, or for the connection alone where the id is 0:
+    /// then they are of those that are loose.
+    pub fn give_back(&mut self, id: StreamId, n: u32) -> Result<(), BookFault>
+        ensures ok { OnOk result (self.new ≡ after_give_back self.old id n) }
+        ensures unchanged { OnErr result (self.new ≡ self.old) }
+        ensures fault { Meets (GiveBackCause self.old id n) result }
+    {
+        let more = u64::from(n);
+        if id == 0 {
+            if more > self.connection.unreturned() - unreturned(&self.calls) {
+                return Err(BookFault::Overgiven);
+            }
+            self.connection.returned += more;
+            return Ok(());
+        }
+        let Some(mut call) = self.calls.get(&id).copied() else {
+            return Err(BookFault::Unknown);
+        };
+        if more > call.counts.unreturned() {
+            return Err(BookFault::Overgiven);
+        }
+        call.counts.returned += more;
+        write_call(&mut self.calls, id, call);
+        self.connection.returned += more;
+        Ok(())
+    }
+
+    /// Announces all that was returned, and answers how much of it wasn't yet: the increment of a WINDOW_UPDATE that is
+    /// due (RFC 9113, section 6.9). It is 0, and nothing changes, where the call isn't live or either end is marked.
+    pub fn announce(&mut self, id: StreamId) -> u32
+        ensures increment { result ≡ announcement self.old id }
+        ensures announced { self.new ≡ after_announce self.old id }
+    {
+        if id == 0 {
+            let due = self.connection.unannounced();
+            self.connection.announced = self.connection.returned;
+            return due;
+        }
+        let Some(mut call) = self.calls.get(&id).copied() else {
+            return 0;
+        };
+        if call.marks.remote || call.marks.local {
+            return 0;
+        }
+        let due = call.counts.unannounced();
+        call.counts.announced = call.counts.returned;
+        write_call(&mut self.calls, id, call);
+        due
+    }
+
+    /// Marks the remote end of a call: no more DATA comes. With both ends marked it is no longer live.
+    pub fn end_remote(&mut self, id: StreamId) -> Result<(), BookFault>
+        ensures ok { OnOk result (self.new ≡ after_end_remote self.old id) }
+        ensures unchanged { OnErr result (self.new ≡ self.old) }
+        ensures fault { Meets (EndCause self.old id) result }
+    {
+        let Some(mut call) = self.calls.get(&id).copied() else {
+            return Err(BookFault::Unknown);
+        };
+        if call.marks.local {
+            return self.cut(id);
+        }
+        call.marks.remote = true;
+        write_call(&mut self.calls, id, call);
+        Ok(())
+    }
+
+    /// Marks the local end of a call: nobody takes its DATA any more, so all that it hasn't returned is returned. With
+    /// both ends marked it is no longer live.
+    pub fn end_local(&mut self, id: StreamId) -> Result<(), BookFault>
+        ensures ok { OnOk result (self.new ≡ after_end_local self.old id) }
+        ensures unchanged { OnErr result (self.new ≡ self.old) }
+        ensures fault { Meets (EndCause self.old id) result }
+    {
+        let Some(mut call) = self.calls.get(&id).copied() else {
+            return Err(BookFault::Unknown);
+        };
+        if call.marks.remote {
+            return self.cut(id);
+        }
+        let rest = call.counts.unreturned();
+        call.counts.returned += rest;
+        call.marks.local = true;
+        write_call(&mut self.calls, id, call);
+        self.connection.returned += rest;
+        Ok(())
+    }
+
+    /// Makes a call no longer live, and returns the rest of its bytes on the connection.
+    pub fn cut(&mut self, id: StreamId) -> Result<(), BookFault>
+        ensures ok { OnOk result (self.new ≡ after_cut self.old id) }
+        ensures unchanged { OnErr result (self.new ≡ self.old) }
+        ensures fault { Meets (EndCause self.old id) result }
+    {
+        let Some(call) = self.calls.get(&id).copied() else {
+            return Err(BookFault::Unknown);
+        };
+        self.connection.returned += call.counts.unreturned();
+        self.calls.shift_remove(&id);
+        Ok(())
+    }
+}
+
+/// Gives a live call other counts and marks.
+fn write_call(calls: &mut IndexMap<StreamId, Call>, id: StreamId, call: Call)
+    requires { IsSome (lookup (nat_eq id) calls.old.entries) }
+    ensures { calls.new.entries ≡ set_value (nat_eq id) calls.old.entries call }
+{
+    if let Some(place) = calls.get_mut(&id) {
+        *place = call;
+    }
+}
+
+/// What the live calls haven't returned.
+fn unreturned(calls: &IndexMap<StreamId, Call>) -> u64
+    requires { unreturned_of calls.now.entries < 2 ^ 64 }
+    ensures { result ≡ unreturned_of calls.now.entries }
+{
+    calls
+        .values()
+        .map(|call| call.counts.received.saturating_sub(call.counts.returned))
+        .sum()
 }
