@@ -10,7 +10,7 @@ use Rattle.std.proofs.lemmas.List.Sums.{sum_by_push}
 use Rattle.std.proofs.lemmas.Map.{keys-set_value, length-set_value}
 use Rattle.std.proofs.lemmas.Map.Entries.{sum_by-set_value, sum_by-remove_entry}
 use Rattle.std.proofs.lemmas.Map.Views.{All-values-set_value, All-map-remove_entry, IfSome-lookup_from_All}
-use Rattle.flow.specs.declared.book.Counts.{Counts}
+use Rattle.flow.specs.declared.book.counts.Counts.{Counts}
 use Rattle.flow.specs.declared.book.Call.{Call}
 use Rattle.flow.specs.Books.{Books, IsLawful, IsLive, IsCounted, IsOdd, call_at, with_call, with_received, with_returned, with_announced, after_admit, after_receive_on, after_give_back_on, after_cut_on, local_closed, new_call, unreturned}
 

@@ -4,11 +4,11 @@ use Rattle.std.specs.Prelude.{◌≡◌, ℕ, ◌+◌, ◌-◌, ◌%◌, ◌<◌
 use Rattle.std.specs.Option.{option_map_or}
 use Rattle.std.specs.Map.{lookup, set_value, remove_entry, keys_of, values_of}
 use Rattle.flow.specs.declared.TheConstants.{INITIAL_WINDOW, MAX_LIVE, MAX_RECEIVED}
-use Rattle.flow.specs.declared.book.Counts.{Counts}
+use Rattle.flow.specs.declared.book.counts.Counts.{Counts}
 use Rattle.flow.specs.declared.book.Marks.{Marks}
 use Rattle.flow.specs.declared.book.Call.{Call}
-use Rattle.flow.specs.declared.book.BookFault.{BookFault}
-use Rattle.flow.specs.declared.book.BookFault.TheVariants.{TooMany, Draining, CallWindow, ConnectionWindow, Overgiven, Unknown, OutOfMemory}
+use Rattle.flow.specs.declared.book.fault.BookFault.{BookFault}
+use Rattle.flow.specs.declared.book.fault.BookFault.TheVariants.{TooMany, Draining, CallWindow, ConnectionWindow, Overgiven, Unknown, OutOfMemory}
 
 -- the numbers of the faults
 abbrev pub code_of : BookFault → ℕ

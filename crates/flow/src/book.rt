@@ -1,68 +1,22 @@
 //! The credit book of a connection (RFC 9113, sections 5.2 and 6.9).
 
-ghost use Rattle.std.specs.Prelude.{◌≡◌, ◌+◌, ◌-◌, ◌<◌, ◌≤◌, ◌^◌, min, true, OnErr, OnOk, IsSome, nat_eq};
+ghost use Rattle.std.specs.Prelude.{◌≡◌, ◌<◌, ◌^◌, true, OnErr, OnOk, IsSome, nat_eq};
 ghost use Rattle.std.specs.Option.{option_map};
 ghost use Rattle.std.specs.Map.{lookup, set_value};
-ghost use Rattle.flow.specs.declared.book.BookFault.TheVariants.{OutOfMemory};
-ghost use Rattle.flow.specs.Books.{code_of, call_at, unreturned_of};
+ghost use Rattle.flow.specs.Books.{call_at, unreturned_of};
 
-use crate::{INITIAL_WINDOW, MAX_LIVE, MAX_RECEIVED};
+use crate::MAX_LIVE;
+use counts::NO_BYTES;
 use h2frame::StreamId;
 use indexmap::IndexMap;
-use std::alloc::{AllocFailed, Global};
+use std::alloc::Global;
 use std::marker::Model;
-use thiserror::Error;
 
-/// Why the book isn't changed.
-#[derive(Clone, Copy, Debug, PartialEq, Eq, Error)]
-pub enum BookFault {
-    /// As many calls are live as may be.
-    #[error("64 calls are live")]
-    TooMany,
-    /// No more calls are admitted.
-    #[error("no more calls are admitted")]
-    Draining,
-    /// More bytes came than the call's window allowed.
-    #[error("more bytes came than the call's window allows")]
-    CallWindow,
-    /// More bytes came than the connection's window allowed, or than can be counted.
-    #[error("more bytes came than the connection's window allows")]
-    ConnectionWindow,
-    /// More bytes are returned than came.
-    #[error("more bytes are returned than came")]
-    Overgiven,
-    /// The call isn't live.
-    #[error("the call isn't live")]
-    Unknown,
-    /// No memory was to be had.
-    #[error("out of memory")]
-    OutOfMemory,
-}
+mod counts;
+mod fault;
 
-impl BookFault {
-    /// The fault's number, by which programs print it.
-    pub fn code(self) -> u32
-        ensures { result ≡ code_of self }
-    {
-        match self {
-            BookFault::TooMany => 1,
-            BookFault::Draining => 2,
-            BookFault::CallWindow => 3,
-            BookFault::ConnectionWindow => 4,
-            BookFault::Overgiven => 5,
-            BookFault::Unknown => 6,
-            BookFault::OutOfMemory => 7,
-        }
-    }
-}
-
-impl<T: Drop> From<AllocFailed<T>> for BookFault {
-    ghost from_gives = { λ _ fault. fault ≡ OutOfMemory };
-
-    fn from(_e: AllocFailed<T>) -> BookFault {
-        BookFault::OutOfMemory
-    }
-}
+pub use counts::Counts;
+pub use fault::BookFault;
 
 /// Which ends of a call are marked as over.
 #[derive(Clone, Copy, Debug, PartialEq, Eq)]
@@ -71,17 +25,6 @@ pub struct Marks {
     pub remote: bool,
     /// Ours: no more DATA is taken.
     pub local: bool,
-}
-
-/// Bytes of DATA on the connection or on one call.
-#[derive(Clone, Copy)]
-pub struct Counts {
-    /// How many came, padding counted (RFC 9113, section 6.9.1).
-    pub received: u64,
-    /// How many of those were taken since, or never will be.
-    pub returned: u64,
-    /// How many of those were told to the peer by WINDOW_UPDATE.
-    pub announced: u64,
 }
 
 /// What the book has of a live call.
@@ -93,13 +36,6 @@ pub struct Call {
     pub marks: Marks,
 }
 
-/// Counts of no bytes.
-const NO_BYTES: Counts = Counts {
-    received: 0,
-    returned: 0,
-    announced: 0,
-};
-
 /// A call of which neither end is marked.
 const NEW_CALL: Call = Call {
     counts: NO_BYTES,
@@ -108,61 +44,6 @@ const NEW_CALL: Call = Call {
         local: false,
     },
 };
-
-impl Counts {
-    ghost use Rattle.flow.specs.Books.{IsCounted, with_received, unreturned, unannounced};
-
-    /// How many more bytes the peer may send.
-    fn window(self) -> u64
-        requires counted { IsCounted self }
-        requires bounded { self.received ≤ MAX_RECEIVED }
-        ensures { result ≡ INITIAL_WINDOW + self.announced - self.received }
-    {
-        u64::from(INITIAL_WINDOW) + self.announced - self.received
-    }
-
-    /// How many more bytes may come on the connection: no more than the peer may send, nor than can be counted.
-    fn room(self) -> u64
-        requires counted { IsCounted self }
-        requires bounded { self.received ≤ MAX_RECEIVED }
-        ensures { result ≡ min (INITIAL_WINDOW + self.announced) MAX_RECEIVED - self.received }
-    {
-        self.window().min(MAX_RECEIVED - self.received)
-    }
-
-    /// What came and wasn't returned yet.
-    fn unreturned(self) -> u64
-        requires { self.returned ≤ self.received }
-        ensures { result ≡ unreturned self }
-    {
-        self.received - self.returned
-    }
-
-    /// What was returned and wasn't announced yet.
-    fn unannounced(self) -> u32
-        requires { IsCounted self }
-        ensures { result ≡ unannounced self }
-    {
-        (self.returned - self.announced) as u32
-    }
-
-    /// The counts when more bytes came, which are returned at once or not.
-    fn with_received(self, more: u64, at_once: bool) -> Counts
-        requires returned { self.returned ≤ self.received }
-        requires fits { self.received + more < 2 ^ 64 }
-        ensures { result ≡ with_received self more at_once }
-    {
-        Counts {
-            received: self.received + more,
-            returned: if at_once {
-                self.returned + more
-            } else {
-                self.returned
-            },
-            announced: self.announced,
-        }
-    }
-}
 
 /// The credit book of a connection: for the connection and each live call, how many bytes of DATA came, how many of
 /// them were returned, and how many of those were announced to the peer.

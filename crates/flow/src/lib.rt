@@ -28,4 +28,6 @@ pub const MAX_LIVE: usize = 64;
 pub const MAX_RECEIVED: u64 = 0x4000_0000_0000_0000;
 
 #[cfg(test)]
+mod book_tests;
+#[cfg(test)]
 mod tests;
