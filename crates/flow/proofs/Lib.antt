@@ -2,3 +2,4 @@ pub mod Balances
 pub mod Entries
 pub mod HalfLemmas
 pub mod WindowSteps
+pub mod BookLemmas

@@ -4,3 +4,5 @@ pub mod Windows
 pub mod WindowHistory
 pub mod WindowHistoryExamples
 pub mod Examples
+pub mod Books
+pub mod BookExamples

@@ -5,12 +5,17 @@
 //!
 //! `Halves` has the receiving half of each stream: it judges the client's frames by what came before them.
 //!
+//! `Book` is the credit book of what is received: how many bytes came, were taken, and were told to the peer, on the
+//! connection and on each live call.
+//!
 //! Nothing here reads or writes frames: the numbers come from frames that `h2frame` has read.
 #![tactic(auto)]
 
+pub mod book;
 pub mod halves;
 pub mod send_windows;
 
+pub use book::{Book, BookFault, Marks};
 pub use halves::{Half, HalfVerdict, Halves};
 pub use send_windows::{SendWindows, WindowFault};
 
@@ -23,6 +28,14 @@ pub const MAX_WINDOW: u32 = 0x7fff_ffff;
 /// The size of a new window, in bytes, until SETTINGS change it (RFC 9113, section 6.9.2).
 pub const INITIAL_WINDOW: u32 = 65_535;
 
+/// How many calls of a connection may be live at once.
+pub const MAX_LIVE: usize = 64;
+
+/// How many bytes of DATA a book counts on a connection.
+pub const MAX_RECEIVED: u64 = 0x4000_0000_0000_0000;
+
+#[cfg(test)]
+mod book_tests;
 #[cfg(test)]
 mod halves_tests;
 #[cfg(test)]
