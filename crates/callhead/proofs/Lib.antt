@@ -2,3 +2,4 @@ pub mod Escapes
 pub mod TimeoutLemmas
 pub mod Symbols
 pub mod PartLemmas
+pub mod HeadLemmas

@@ -1,10 +1,18 @@
 -- Worked examples of the definitions.
-use Rattle.std.specs.Prelude.{◌≡◌, [], ◌∷◌, codes, refl}
+use Rattle.std.specs.Prelude.{◌≡◌, true, Some, List, [], ◌∷◌, ◌++◌, codes, refl}
+use Rattle.std.specs.Fmt.{digits}
 use Rattle.std.proofs.Common.{arith}
 use Rattle.base64.specs.Rfc4648.{encode_symbols}
 use Rattle.callhead.specs.Timeouts.{IsTimeout}
 use Rattle.callhead.specs.StatusTexts.{percent_text}
 use Rattle.callhead.specs.BinValues.{unpadded, padded}
+use Rattle.hpack_codec.specs.declared.fields.Field.{Field}
+use Rattle.callhead.specs.declared.head.CallHead.{CallHead}
+use Rattle.callhead.specs.declared.head.Encoding.TheVariants.{Identity}
+use Rattle.callhead.specs.Fields.{field_of}
+use Rattle.callhead.specs.MalformedHeads.{is_malformed}
+use Rattle.callhead.specs.Heads.{IsHead}
+use Rattle.callhead.specs.StatusFields.{status_fields}
 
 -- five milliseconds
 pub five_milliseconds : IsTimeout (codes "5m") 5000000
@@ -31,3 +39,51 @@ unpadded-two = refl
 pub padded-two : padded (0xAB ∷ 0xAB ∷ []) ≡ codes "q6s="
 unfolding padded unpadded encode_symbols
 padded-two = refl
+
+-- a call of EmptyCall, with a timeout and an echo
+abbrev request : List Field
+request =
+    field_of (codes ":method") (codes "POST")
+    ∷ field_of (codes ":scheme") (codes "http")
+    ∷ field_of (codes ":path") (codes "/grpc.testing.TestService/EmptyCall")
+    ∷ field_of (codes "te") (codes "trailers")
+    ∷ field_of (codes "content-type") (codes "application/grpc+proto")
+    ∷ field_of (codes "grpc-timeout") (codes "5m")
+    ∷ field_of (codes "x-grpc-test-echo-initial") (codes "a b")
+    ∷ []
+
+abbrev head_of_request : CallHead
+head_of_request = record {
+  path = codes "/grpc.testing.TestService/EmptyCall";
+  timeout = Some 5000000;
+  encoding = Identity;
+  echo_initial = codes "a b" ∷ [];
+  echo_trailing = [];
+}
+
+pub request-head : IsHead request head_of_request
+unfolding is_malformed
+request-head = record {
+  well_formed = refl;
+  post = refl;
+  grpc = (codes "+proto", refl);
+  path = refl;
+  timeout = (5000000, five_milliseconds, refl);
+  encoding = refl;
+  initial = refl;
+  trailing = refl;
+}
+
+-- a pseudo-header behind another field, and an upper-case letter
+pub is_malformed-late : is_malformed (request ++ field_of (codes ":authority") (codes "localhost") ∷ []) ≡ true
+unfolding is_malformed
+is_malformed-late = refl
+
+pub is_malformed-upper_case : is_malformed (request ++ field_of (codes "X-a") (codes "1") ∷ []) ≡ true
+unfolding is_malformed
+is_malformed-upper_case = refl
+
+-- the trailers of a call of no method
+pub status_fields-unknown_method : status_fields 12 (codes "unknown method") [] ≡ field_of (codes "grpc-status") (codes "12") ∷ field_of (codes "grpc-message") (codes "unknown method") ∷ []
+unfolding percent_text digits
+status_fields-unknown_method = refl

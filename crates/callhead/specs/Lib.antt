@@ -3,4 +3,9 @@ pub mod Timeouts
 pub mod StatusTexts
 pub mod BinValues
 pub mod Parts
+pub mod Fields
+pub mod MalformedHeads
+pub mod Heads
+pub mod Requests
+pub mod StatusFields
 pub mod Examples

@@ -12,13 +12,22 @@
 
 pub mod bin;
 pub mod fault;
+mod fields;
+pub mod head;
+mod malformed;
+mod names;
 pub mod percent;
+pub mod response;
+pub mod texts;
 pub mod timeout;
 pub mod values;
 
 pub use bin::{bin_value, read_bin_values};
 pub use fault::HeadFault;
+pub use head::{CallHead, Encoding};
 pub use percent::{percent_text, read_percent_text};
+pub use response::{response_fields, status_fields};
+pub use texts::Texts;
 pub use timeout::read_timeout;
 pub use values::Values;
 

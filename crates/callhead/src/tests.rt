@@ -1,7 +1,60 @@
 //! What no clause says: that the calls succeed where memory is left, and worked values.
 use super::*;
+use hpack_codec::{Field, Octets};
 use std::alloc::{AllocError, Global};
 use std::test::Fail;
+
+mod answers;
+mod clients;
+mod heads;
+
+/// The fields of a text that has a line for each: its name, a colon and a blank, its value.
+fn read_lines(alloc: Global, text: &str) -> Result<Vec<Field>, AllocError> {
+    let mut fields = Vec::new(alloc);
+    for line in text.lines() {
+        // A name may begin with a colon, but has none before a blank.
+        if let Some((name, value)) = line.split_once(": ") {
+            fields.push(Field {
+                name: Octets::from(Vec::from_slice(alloc, name.as_bytes())?),
+                value: Octets::from(Vec::from_slice(alloc, value.as_bytes())?),
+            })?;
+        }
+    }
+    Ok(fields)
+}
+
+/// The text that has a line for each field.
+fn lines(alloc: Global, fields: &[Field]) -> Result<Vec<u8>, AllocError> {
+    let mut text = Vec::new(alloc);
+    for field in fields {
+        text.extend_from_slice(field.name.as_slice())?;
+        text.extend_from_slice(b": ")?;
+        text.extend_from_slice(field.value.as_slice())?;
+        text.push(b'\n')?;
+    }
+    Ok(text)
+}
+
+/// The echoes for the head of the response, with `|` behind each.
+fn initial_text(alloc: Global, head: &CallHead) -> Result<String, AllocError> {
+    let mut text = String::new(alloc);
+    for echo in head.echo_initial.as_slice() {
+        write!(text, "{echo}|")?;
+    }
+    Ok(text)
+}
+
+/// The echoes for the trailers in hexadecimal digits, with `|` behind each.
+fn trailing_text(alloc: Global, head: &CallHead) -> Result<String, AllocError> {
+    let mut text = String::new(alloc);
+    for echo in head.echo_trailing.as_slice() {
+        for byte in echo.as_slice() {
+            write!(text, "{byte:02x}")?;
+        }
+        text.push('|')?;
+    }
+    Ok(text)
+}
 
 #[test]
 fn faults_have_their_numbers(rt: HostRuntime) -> Result<(), Fail> {

@@ -1,0 +1,7 @@
+use Rattle.std.proofs.Common.{append_assoc}
+use Rattle.std.proofs.lemmas.List.{append-nil}
+use Rattle.callhead.proofs.response.push_status.Goals as goal
+
+pub returns : goal.returns
+returns c =
+    rw (c.in_ok-push_message.ensures, c.in_ok-push_known.ensures, c.as_bytes.ensures.value, c.in_ok-number.ensures.ok) (simp (append_assoc, append-nil))

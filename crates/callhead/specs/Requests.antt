@@ -1,0 +1,12 @@
+-- Fields in which no fault of a head stands. A word of the crate's own functions.
+use Rattle.std.specs.Prelude.{◌≡◌, ℕ, false, List, Option}
+use Rattle.hpack_codec.specs.declared.fields.Field.{Field}
+use Rattle.callhead.specs.MalformedHeads.{is_malformed}
+use Rattle.callhead.specs.Heads.{IsPost, IsGrpc, HasTimeout}
+
+pub record IsRequest (fields : List Field) (timeout : Option ℕ) : Type 0 where
+  pub well_formed : is_malformed fields ≡ false
+  pub post : IsPost fields
+  pub grpc : IsGrpc fields
+  pub timeout_is : HasTimeout fields timeout
+  pub one_timeout : (other : Option ℕ) → HasTimeout fields other → timeout ≡ other

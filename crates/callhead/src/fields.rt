@@ -1,0 +1,39 @@
+//! Fields by their names.
+
+ghost use Rattle.std.specs.Prelude.{◌≡◌, count_by, option_copied, IfOk};
+ghost use Rattle.callhead.specs.Fields.{field_of, is_named, first_of};
+
+use hpack_codec::{Field, Octets};
+use std::alloc::{AllocError, Global};
+
+/// Whether the field has this name.
+pub fn is_named(field: &Field, name: &[u8]) -> bool
+    ensures { result ≡ is_named name.now field.now }
+{
+    field.name.as_slice() == name
+}
+
+/// The value of the first field with this name.
+pub fn first_value<'a>(fields: &'a [Field], name: &[u8]) -> Option<&'a [u8]>
+    ensures { option_copied result ≡ first_of name.now fields.now }
+{
+    let field = fields.iter().find(|field| is_named(field, name))?;
+    Some(field.value.as_slice())
+}
+
+/// How many fields have this name.
+pub fn count_named(fields: &[Field], name: &[u8]) -> usize
+    ensures { result ≡ count_by (is_named name.now) fields.now }
+{
+    fields.iter().filter(|field| is_named(field, name)).count()
+}
+
+/// A field of this name and value.
+pub fn field(alloc: Global, name: &[u8], value: Vec<u8>) -> Result<Field, AllocError>
+    ensures { IfOk result (λ made. made ≡ field_of name.now value.items) }
+{
+    Ok(Field {
+        name: Octets::from(Vec::from_slice(alloc, name)?),
+        value: Octets::from(value),
+    })
+}

@@ -1,0 +1,124 @@
+//! The fields that answer a call (gRPC over HTTP/2, "Responses").
+
+ghost use Rattle.std.specs.Prelude.{◌≡◌, ◌++◌, [], ◌∷◌, Some, None, MatchOption, IfOk, OnOk, codes};
+ghost use Rattle.callhead.specs.Fields.{field_of};
+ghost use Rattle.callhead.specs.StatusFields.{response_fields, status_fields, message_fields, refusal_of, status_alone};
+
+use crate::bin::bin_value;
+use crate::fault::HeadFault;
+use crate::fields::field;
+use crate::names::{CONTENT_TYPE, ECHO_INITIAL, ECHO_TRAILING, GRPC_TYPE};
+use crate::percent::percent_text;
+use crate::texts::Texts;
+use crate::values::Values;
+use hpack_codec::Field;
+use std::alloc::{AllocError, Global};
+
+/// INTERNAL, as gRPC numbers its statuses.
+const INTERNAL: u32 = 13;
+
+/// The fields that begin the response to a call, with one for each echo.
+pub fn response_fields(alloc: Global, echo_initial: &Texts) -> Result<Vec<Field>, AllocError>
+    ensures { IfOk result (λ fields. fields.items ≡ response_fields echo_initial.now) }
+{
+    let mut fields = opening_fields(alloc)?;
+    for echo in echo_initial.as_slice() {
+        push_known(alloc, &mut fields, ECHO_INITIAL, echo.as_bytes())?;
+    }
+    Ok(fields)
+}
+
+/// The fields that end the response to a call: the status's number, its text unless that is empty, and one for each
+/// echo.
+pub fn status_fields(
+    alloc: Global,
+    code: u32,
+    text: &str,
+    echo_trailing: &Values,
+) -> Result<Vec<Field>, AllocError>
+    ensures { IfOk result (λ fields. fields.items ≡ status_fields code text.now echo_trailing.now) }
+{
+    let mut fields = Vec::new(alloc);
+    push_status(alloc, &mut fields, code, text)?;
+    for echo in echo_trailing.as_slice() {
+        let value = bin_value(alloc, echo.as_slice())?;
+        fields.push(field(alloc, ECHO_TRAILING, value.into_bytes())?)?;
+    }
+    Ok(fields)
+}
+
+impl HeadFault {
+    /// The fields of the block that answers what is no head of a call. A malformed request is answered by none (its
+    /// stream is reset), and want of memory isn't the client's fault.
+    pub fn refusal(self, alloc: Global) -> Result<Option<Vec<Field>>, AllocError>
+        ensures { IfOk result (λ found. MatchOption found (refusal_of self ≡ None) (λ fields. refusal_of self ≡ Some fields.items)) }
+    {
+        match self {
+            HeadFault::Malformed | HeadFault::OutOfMemory => Ok(None),
+            HeadFault::NotPost => Ok(Some(status_alone(alloc, b"405")?)),
+            HeadFault::NotGrpc => Ok(Some(status_alone(alloc, b"415")?)),
+            HeadFault::BadTimeout => {
+                let mut fields = opening_fields(alloc)?;
+                push_status(alloc, &mut fields, INTERNAL, "bad timeout")?;
+                Ok(Some(fields))
+            }
+        }
+    }
+}
+
+/// A response of HTTP alone.
+fn status_alone(alloc: Global, status: &[u8]) -> Result<Vec<Field>, AllocError>
+    ensures { IfOk result (λ fields. fields.items ≡ status_alone status.now) }
+{
+    let mut fields = Vec::new(alloc);
+    push_known(alloc, &mut fields, b":status", status)?;
+    Ok(fields)
+}
+
+/// The fields that each response of gRPC begins with.
+fn opening_fields(alloc: Global) -> Result<Vec<Field>, AllocError>
+    ensures { IfOk result (λ fields. fields.items ≡ response_fields []) }
+{
+    let mut fields = status_alone(alloc, b"200")?;
+    push_known(alloc, &mut fields, CONTENT_TYPE, GRPC_TYPE)?;
+    Ok(fields)
+}
+
+/// Appends the status's number and its text.
+fn push_status(
+    alloc: Global,
+    fields: &mut Vec<Field>,
+    code: u32,
+    text: &str,
+) -> Result<(), AllocError>
+    ensures { OnOk result (fields.new.items ≡ fields.old.items ++ status_fields code text.now []) }
+{
+    let number = code.to_string(alloc)?;
+    push_known(alloc, fields, b"grpc-status", number.as_bytes())?;
+    push_message(alloc, fields, text)?;
+    Ok(())
+}
+
+/// Appends the status's text, unless that is empty.
+fn push_message(alloc: Global, fields: &mut Vec<Field>, text: &str) -> Result<(), AllocError>
+    ensures { OnOk result (fields.new.items ≡ fields.old.items ++ message_fields text.now) }
+{
+    if !text.is_empty() {
+        let value = percent_text(alloc, text)?;
+        fields.push(field(alloc, b"grpc-message", value.into_bytes())?)?;
+    }
+    Ok(())
+}
+
+/// Appends a field with a copy of this value.
+fn push_known(
+    alloc: Global,
+    fields: &mut Vec<Field>,
+    name: &[u8],
+    value: &[u8],
+) -> Result<(), AllocError>
+    ensures { OnOk result (fields.new.items ≡ fields.old.items ++ field_of name.now value.now ∷ []) }
+{
+    fields.push(field(alloc, name, Vec::from_slice(alloc, value)?)?)?;
+    Ok(())
+}
