@@ -1,8 +1,9 @@
 -- The fields that are written of each message: by ascending number, defaults left out.
-use Rattle.std.specs.Prelude.{ℕ, zero, suc, ℤ, pos, negsuc, Bool, true, false, List, [], ◌∷◌, ◌++◌, map, Option, Some, None}
+use Rattle.std.specs.Prelude.{ℕ, zero, suc, ◌^◌, ◌<◌, ℤ, pos, negsuc, Bool, true, false, List, [], ◌∷◌, ◌++◌, map, length, Option, Some, None}
 use Rattle.std.specs.Int.{w64, cast_unsigned}
 use Rattle.pbwire.specs.Fields.{Field, field_with, varint, bytes}
 use Rattle.pbwire.specs.Spelling.{spelling_of_all}
+use Rattle.testproto.specs.Values.{IsValueOf}
 use Rattle.testproto.specs.declared.messages.Empty.{Empty}
 use Rattle.testproto.specs.declared.messages.Payload.{Payload}
 use Rattle.testproto.specs.declared.messages.BoolValue.{BoolValue}
@@ -85,3 +86,10 @@ streaming_output_call_request_fields m =
 
 abbrev pub streaming_output_call_response_fields : StreamingOutputCallResponse → List Field
 streaming_output_call_response_fields m = message_fields payload_fields 1 m.payload
+
+-- ---- the law of the canonical spelling
+
+-- What is written of a message that can be, where it fits into memory, has that message as its value.
+abbrev pub IsReadBack : {M : Type 0} → (M → Type 0) → (M → List Field) → (Field → Type 0) → (List Field → M → Type 0) → Type 0
+IsReadBack {M} fits fields_of accepts is_value =
+    (message : M) → fits message → length (spelling_of_all (fields_of message)) < 2 ^ 64 → IsValueOf accepts is_value (spelling_of_all (fields_of message)) message

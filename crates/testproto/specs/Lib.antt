@@ -5,3 +5,6 @@ pub mod Unique
 pub mod Laws
 pub mod Canonical
 pub mod Sizes
+pub mod Fits
+pub mod Parts
+pub mod Written

@@ -1,6 +1,6 @@
 //! Byte lists and texts as contracts see them: as the list.
 
-ghost use Rattle.std.specs.Prelude.{◌≡◌, List, ℕ, [], IfOk, OnOk, string_bytes};
+ghost use Rattle.std.specs.Prelude.{◌≡◌, List, ℕ, [], IfOk, OnOk, IsUtf8, string_bytes};
 
 use std::alloc::{AllocError, Global};
 use std::marker::Model;
@@ -35,7 +35,8 @@ impl ByteList {
     pub fn into_vec(self) -> Vec<u8>
         ensures { result.items ≡ self }
     {
-        self.bytes
+        let ByteList { bytes } = self;
+        bytes
     }
 
     pub fn as_slice(&self) -> &[u8]
@@ -81,7 +82,8 @@ impl Text {
     }
 
     pub fn as_str(&self) -> &str
-        ensures { result.now ≡ self.now }
+        ensures text { result.now ≡ self.now }
+        ensures utf8 { IsUtf8 self.now }
     {
         self.text.as_str()
     }

@@ -7,6 +7,7 @@ ghost use Rattle.testproto.specs.declared.fault.ProtoFault.{ProtoFault as Fault}
 ghost use Rattle.testproto.specs.declared.fault.ProtoFault.TheVariants.{OutOfMemory};
 ghost use Rattle.testproto.specs.Values.{IsValueOf, Adds, HasFault};
 ghost use Rattle.testproto.specs.Unique.{IsSingle, AreApart};
+ghost use Rattle.testproto.specs.Canonical.{IsReadBack};
 
 use crate::fault::ProtoFault;
 use pbwire::{FieldItem, Fields};
@@ -26,6 +27,9 @@ pub trait Message: Drop {
     /// The fields that are written of the message.
     ghost fields_of: { Self → List Field };
 
+    /// What every value of the type is: its numbers have 32 bits, its strings are UTF-8.
+    ghost fits: { Self → Type 0 };
+
     /// The message of no fields.
     fn empty(alloc: Global) -> Self
         ensures { is_value [] result };
@@ -39,7 +43,8 @@ pub trait Message: Drop {
 
     /// How many bytes are written of the message, or none where no buffer could hold them.
     fn size(&self) -> Option<usize>
-        ensures { IfSome result (λ size. size ≡ length (spelling_of_all (fields_of self.now))) };
+        ensures len { IfSome result (λ size. size ≡ length (spelling_of_all (fields_of self.now))) }
+        ensures fits { IfSome result (λ size. fits self.now) };
 
     /// Appends the fields of the message, by ascending number, defaults left out.
     fn put(&self, out: &mut Vec<u8>) -> Result<(), ProtoFault>
@@ -51,6 +56,9 @@ pub trait Message: Drop {
 
     /// No field is both accepted and refused.
     ghost apart: { AreApart accepts refuses };
+
+    /// The value of what is written of a message is that message.
+    ghost read_back: { IsReadBack fits fields_of accepts is_value };
 
     /// The message that the bytes, all of them, are.
     final fn decode(alloc: Global, bytes: &[u8]) -> Result<Self, ProtoFault>
@@ -70,6 +78,8 @@ pub trait Message: Drop {
     /// It sets aside the room once and fills it, so a large body is copied once.
     final fn encode(&self, alloc: Global) -> Result<Vec<u8>, ProtoFault>
         ensures ok { IfOk result (λ bytes. bytes.items ≡ spelling_of_all (fields_of self.now)) }
+        // So they are read as this message again.
+        ensures read_back { IfOk result (λ bytes. IsValueOf accepts is_value bytes.items self.now) }
         ensures memory { IfErr result (λ fault. fault ≡ OutOfMemory) }
     {
         encode_message(alloc, self)
@@ -115,6 +125,8 @@ pub(crate) fn decode_message<M: Message>(alloc: Global, bytes: &[u8]) -> Result<
 /// It sets aside the room once and fills it, so a large body is copied once.
 pub(crate) fn encode_message<M: Message>(alloc: Global, message: &M) -> Result<Vec<u8>, ProtoFault>
     ensures ok { IfOk result (λ bytes. bytes.items ≡ spelling_of_all (M.fields_of message.now)) }
+    // So they are read as this message again.
+    ensures read_back { IfOk result (λ bytes. IsValueOf M.accepts M.is_value bytes.items message.now) }
     ensures memory { IfErr result (λ fault. fault ≡ OutOfMemory) }
 {
     let Some(size) = message.size() else {

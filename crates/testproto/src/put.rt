@@ -56,14 +56,16 @@ pub(crate) fn add_bytes(total: usize, number: u32, bytes: &[u8]) -> Option<usize
 }
 
 pub(crate) fn add_one<M: Message>(total: usize, number: u32, message: &M) -> Option<usize>
-    ensures { IfSome result (λ size. size ≡ total + length (spelling_of (message_field M.fields_of number message.now))) }
+    ensures len { IfSome result (λ size. size ≡ total + length (spelling_of (message_field M.fields_of number message.now))) }
+    ensures fits { IfSome result (λ size. M.fits message.now) }
 {
     let size = message.size()?;
     add_delimited(total, number, size)
 }
 
 pub(crate) fn add_message<M: Message>(total: usize, number: u32, held: &Option<M>) -> Option<usize>
-    ensures { IfSome result (λ size. size ≡ total + length (spelling_of_all (message_fields M.fields_of number held.now))) }
+    ensures len { IfSome result (λ size. size ≡ total + length (spelling_of_all (message_fields M.fields_of number held.now))) }
+    ensures fits { IfSome result (λ size. IfSome held.now M.fits) }
 {
     match held {
         Some(message) => add_one(total, number, message),

@@ -8,6 +8,9 @@ ghost use Rattle.testproto.specs.Values.{contents, AreRepeated, AcceptsMessage, 
 ghost use Rattle.testproto.specs.Messages.{AcceptsAll, RefusesNone, IsEmpty, IsPayload, IsBoolValue, IsEchoStatus, IsSimpleRequest, IsSimpleResponse, IsStreamingInputCallRequest, IsStreamingInputCallResponse, IsResponseParameters, IsStreamingOutputCallRequest, IsStreamingOutputCallResponse, AcceptsEchoStatus, RefusesEchoStatus, AcceptsSimpleRequest, RefusesSimpleRequest, AcceptsSimpleResponse, RefusesSimpleResponse, AcceptsStreamingInputCallRequest, RefusesStreamingInputCallRequest, AcceptsResponseParameters, RefusesResponseParameters, AcceptsStreamingOutputCallRequest, RefusesStreamingOutputCallRequest, AcceptsStreamingOutputCallResponse, RefusesStreamingOutputCallResponse};
 ghost use Rattle.testproto.specs.Canonical.{empty_fields, payload_fields, bool_value_fields, echo_status_fields, simple_request_fields, simple_response_fields, streaming_input_call_request_fields, streaming_input_call_response_fields, response_parameters_fields, streaming_output_call_request_fields, streaming_output_call_response_fields, repeated_fields};
 ghost use Rattle.testproto.specs.Laws.{apart_none, one_empty, one_payload, one_bool_value, one_echo_status, one_simple_request, one_simple_response, one_streaming_input_call_request, one_streaming_input_call_response, one_response_parameters, one_streaming_output_call_request, one_streaming_output_call_response, apart_echo_status, apart_simple_request, apart_simple_response, apart_streaming_input_call_request, apart_response_parameters, apart_streaming_output_call_request, apart_streaming_output_call_response};
+ghost use Rattle.testproto.specs.Fits.{FitsAlways, FitsPayload, FitsEchoStatus, FitsSimpleRequest, FitsSimpleResponse, FitsStreamingInputCallRequest, FitsStreamingInputCallResponse, FitsResponseParameters, FitsStreamingOutputCallRequest, FitsStreamingOutputCallResponse};
+ghost use Rattle.testproto.specs.Written.{read_empty, read_payload, read_bool_value, read_echo_status, read_simple_request, read_simple_response, read_streaming_input_call_request, read_streaming_input_call_response, read_response_parameters, read_streaming_output_call_request, read_streaming_output_call_response};
+ghost use Rattle.std.specs.List.{AllByRecursion};
 
 use crate::fault::ProtoFault;
 use crate::lists::{ByteList, Text};
@@ -28,6 +31,8 @@ use std::alloc::Global;
 impl Message for Empty {
     ghost is_value = { IsEmpty };
 
+    ghost fits = { FitsAlways };
+
     ghost fields_of = { empty_fields };
 
     ghost accepts = { AcceptsAll };
@@ -37,6 +42,8 @@ impl Message for Empty {
     ghost one_value = { one_empty };
 
     ghost apart = { apart_none };
+
+    ghost read_back = { read_empty };
 
     #[tactic(auto, unfolding(crate::specs::Values::int32, crate::specs::Values::boolean, crate::specs::Values::byte_string))]
     fn empty(_alloc: Global) -> Empty {
@@ -59,6 +66,8 @@ impl Message for Empty {
 impl Message for Payload {
     ghost is_value = { IsPayload };
 
+    ghost fits = { FitsPayload };
+
     ghost fields_of = { payload_fields };
 
     ghost accepts = { AcceptsAll };
@@ -68,6 +77,8 @@ impl Message for Payload {
     ghost one_value = { one_payload };
 
     ghost apart = { apart_none };
+
+    ghost read_back = { read_payload };
 
     #[tactic(auto, unfolding(crate::specs::Values::int32, crate::specs::Values::boolean, crate::specs::Values::byte_string))]
     fn empty(alloc: Global) -> Payload {
@@ -99,6 +110,8 @@ impl Message for Payload {
 impl Message for BoolValue {
     ghost is_value = { IsBoolValue };
 
+    ghost fits = { FitsAlways };
+
     ghost fields_of = { bool_value_fields };
 
     ghost accepts = { AcceptsAll };
@@ -108,6 +121,8 @@ impl Message for BoolValue {
     ghost one_value = { one_bool_value };
 
     ghost apart = { apart_none };
+
+    ghost read_back = { read_bool_value };
 
     #[tactic(auto, unfolding(crate::specs::Values::int32, crate::specs::Values::boolean, crate::specs::Values::byte_string))]
     fn empty(_alloc: Global) -> BoolValue {
@@ -133,6 +148,8 @@ impl Message for BoolValue {
 impl Message for EchoStatus {
     ghost is_value = { IsEchoStatus };
 
+    ghost fits = { FitsEchoStatus };
+
     ghost fields_of = { echo_status_fields };
 
     ghost accepts = { AcceptsEchoStatus };
@@ -142,6 +159,8 @@ impl Message for EchoStatus {
     ghost one_value = { one_echo_status };
 
     ghost apart = { apart_echo_status };
+
+    ghost read_back = { read_echo_status };
 
     #[tactic(auto, unfolding(crate::specs::Values::int32, crate::specs::Values::boolean, crate::specs::Values::byte_string))]
     fn empty(alloc: Global) -> EchoStatus {
@@ -173,6 +192,8 @@ impl Message for EchoStatus {
 impl Message for SimpleRequest {
     ghost is_value = { IsSimpleRequest };
 
+    ghost fits = { FitsSimpleRequest };
+
     ghost fields_of = { simple_request_fields };
 
     ghost accepts = { AcceptsSimpleRequest };
@@ -182,6 +203,8 @@ impl Message for SimpleRequest {
     ghost one_value = { one_simple_request };
 
     ghost apart = { apart_simple_request };
+
+    ghost read_back = { read_simple_request };
 
     #[tactic(auto, unfolding(crate::specs::Values::int32, crate::specs::Values::boolean, crate::specs::Values::byte_string))]
     fn empty(_alloc: Global) -> SimpleRequest {
@@ -237,6 +260,8 @@ impl Message for SimpleRequest {
 impl Message for SimpleResponse {
     ghost is_value = { IsSimpleResponse };
 
+    ghost fits = { FitsSimpleResponse };
+
     ghost fields_of = { simple_response_fields };
 
     ghost accepts = { AcceptsSimpleResponse };
@@ -246,6 +271,8 @@ impl Message for SimpleResponse {
     ghost one_value = { one_simple_response };
 
     ghost apart = { apart_simple_response };
+
+    ghost read_back = { read_simple_response };
 
     #[tactic(auto, unfolding(crate::specs::Values::int32, crate::specs::Values::boolean, crate::specs::Values::byte_string))]
     fn empty(alloc: Global) -> SimpleResponse {
@@ -281,6 +308,8 @@ impl Message for SimpleResponse {
 impl Message for StreamingInputCallRequest {
     ghost is_value = { IsStreamingInputCallRequest };
 
+    ghost fits = { FitsStreamingInputCallRequest };
+
     ghost fields_of = { streaming_input_call_request_fields };
 
     ghost accepts = { AcceptsStreamingInputCallRequest };
@@ -290,6 +319,8 @@ impl Message for StreamingInputCallRequest {
     ghost one_value = { one_streaming_input_call_request };
 
     ghost apart = { apart_streaming_input_call_request };
+
+    ghost read_back = { read_streaming_input_call_request };
 
     #[tactic(auto, unfolding(crate::specs::Values::int32, crate::specs::Values::boolean, crate::specs::Values::byte_string))]
     fn empty(_alloc: Global) -> StreamingInputCallRequest {
@@ -321,6 +352,8 @@ impl Message for StreamingInputCallRequest {
 impl Message for StreamingInputCallResponse {
     ghost is_value = { IsStreamingInputCallResponse };
 
+    ghost fits = { FitsStreamingInputCallResponse };
+
     ghost fields_of = { streaming_input_call_response_fields };
 
     ghost accepts = { AcceptsAll };
@@ -330,6 +363,8 @@ impl Message for StreamingInputCallResponse {
     ghost one_value = { one_streaming_input_call_response };
 
     ghost apart = { apart_none };
+
+    ghost read_back = { read_streaming_input_call_response };
 
     #[tactic(auto, unfolding(crate::specs::Values::int32, crate::specs::Values::boolean, crate::specs::Values::byte_string))]
     fn empty(_alloc: Global) -> StreamingInputCallResponse {
@@ -357,6 +392,8 @@ impl Message for StreamingInputCallResponse {
 impl Message for ResponseParameters {
     ghost is_value = { IsResponseParameters };
 
+    ghost fits = { FitsResponseParameters };
+
     ghost fields_of = { response_parameters_fields };
 
     ghost accepts = { AcceptsResponseParameters };
@@ -366,6 +403,8 @@ impl Message for ResponseParameters {
     ghost one_value = { one_response_parameters };
 
     ghost apart = { apart_response_parameters };
+
+    ghost read_back = { read_response_parameters };
 
     #[tactic(auto, unfolding(crate::specs::Values::int32, crate::specs::Values::boolean, crate::specs::Values::byte_string))]
     fn empty(_alloc: Global) -> ResponseParameters {
@@ -401,6 +440,8 @@ impl Message for ResponseParameters {
 impl Message for StreamingOutputCallRequest {
     ghost is_value = { IsStreamingOutputCallRequest };
 
+    ghost fits = { FitsStreamingOutputCallRequest };
+
     ghost fields_of = { streaming_output_call_request_fields };
 
     ghost accepts = { AcceptsStreamingOutputCallRequest };
@@ -410,6 +451,8 @@ impl Message for StreamingOutputCallRequest {
     ghost one_value = { one_streaming_output_call_request };
 
     ghost apart = { apart_streaming_output_call_request };
+
+    ghost read_back = { read_streaming_output_call_request };
 
     #[tactic(auto, unfolding(crate::specs::Values::int32, crate::specs::Values::boolean, crate::specs::Values::byte_string))]
     fn empty(alloc: Global) -> StreamingOutputCallRequest {
@@ -449,6 +492,8 @@ impl Message for StreamingOutputCallRequest {
 impl Message for StreamingOutputCallResponse {
     ghost is_value = { IsStreamingOutputCallResponse };
 
+    ghost fits = { FitsStreamingOutputCallResponse };
+
     ghost fields_of = { streaming_output_call_response_fields };
 
     ghost accepts = { AcceptsStreamingOutputCallResponse };
@@ -458,6 +503,8 @@ impl Message for StreamingOutputCallResponse {
     ghost one_value = { one_streaming_output_call_response };
 
     ghost apart = { apart_streaming_output_call_response };
+
+    ghost read_back = { read_streaming_output_call_response };
 
     #[tactic(auto, unfolding(crate::specs::Values::int32, crate::specs::Values::boolean, crate::specs::Values::byte_string))]
     fn empty(_alloc: Global) -> StreamingOutputCallResponse {
@@ -501,7 +548,8 @@ fn take_parameters(
 
 /// Adds the length of the fields of the responses that are asked for.
 fn add_parameters(total: usize, number: u32, held: &ParameterList) -> Option<usize>
-    ensures { IfSome result (λ size. size ≡ total + length (spelling_of_all (repeated_fields response_parameters_fields number held.now))) }
+    ensures len { IfSome result (λ size. size ≡ total + length (spelling_of_all (repeated_fields response_parameters_fields number held.now))) }
+    ensures fits { IfSome result (λ size. AllByRecursion FitsResponseParameters held.now) }
 {
     let mut size = total;
     for parameters in held.as_slice() {

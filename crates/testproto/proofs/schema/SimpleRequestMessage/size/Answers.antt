@@ -4,8 +4,8 @@ use Rattle.testproto.specs.Canonical.{int32_fields, bool_fields, message_fields,
 use Rattle.testproto.proofs.Writing.{chain_len, from_zero}
 use Rattle.testproto.proofs.schema.SimpleRequestMessage.size.Goals as goal
 
-pub returns : goal.returns
-returns c =
+pub returns-clause-len : goal.returns-clause-len
+returns-clause-len c =
     let m = c.args.self.now in
     let response_type : c.in_ok-size.size ≡ 0 + length (spelling_of_all (int32_fields 1 m.response_type)) = search rules in
     let response_size : c.in_ok-size-2.size ≡ c.in_ok-size.size + length (spelling_of_all (int32_fields 2 m.response_size)) = search rules in
@@ -15,4 +15,4 @@ returns c =
     (chain_len 0 c.in_ok-size-4.size c.in_ok-size-5.size (int32_fields 1 m.response_type ++ int32_fields 2 m.response_size ++ message_fields payload_fields 3 m.payload ++ bool_fields 4 m.fill_username) (bool_fields 5 m.fill_oauth_scope)
     (chain_len 0 c.in_ok-size-3.size c.in_ok-size-4.size (int32_fields 1 m.response_type ++ int32_fields 2 m.response_size ++ message_fields payload_fields 3 m.payload) (bool_fields 4 m.fill_username)
     (chain_len 0 c.in_ok-size-2.size c.in_ok-size-3.size (int32_fields 1 m.response_type ++ int32_fields 2 m.response_size) (message_fields payload_fields 3 m.payload)
-    (chain_len 0 c.in_ok-size.size c.in_ok-size-2.size (int32_fields 1 m.response_type) (int32_fields 2 m.response_size) response_type response_size) c.in_ok-size-3.ensures) c.in_ok-size-4.ensures) c.in_ok-size-5.ensures) c.in_ok-size-6.ensures) c.in_ok-size-7.ensures) c.in_ok-size-8.ensures)
+    (chain_len 0 c.in_ok-size.size c.in_ok-size-2.size (int32_fields 1 m.response_type) (int32_fields 2 m.response_size) response_type response_size) c.in_ok-size-3.ensures.len) c.in_ok-size-4.ensures) c.in_ok-size-5.ensures) c.in_ok-size-6.ensures.len) c.in_ok-size-7.ensures.len) c.in_ok-size-8.ensures.len)
