@@ -5,11 +5,13 @@
 //! which accounts are lawful, and `specs/Runs.antt` which account a list of events makes. `replay` is the
 //! serial core: it makes that account, event by event.
 //!
-//! In a server a call has ends, which any threads may hold: a `Feeder` that is fed what comes in, and a `Taker` that takes
-//! the messages of it. Each does its part of the account, over a lane, and `settle_in` brings the two together: in every
-//! schedule what they did is a lawful account, the one that the serial core makes.
+//! In a server a call has four ends, which any threads may hold: a `Feeder` that is fed what comes in, a `Taker` that takes
+//! the messages of it, a `Giver` that gives what they are answered with, and a `Sender` that sends it. Each does its part of
+//! the account, over a lane; `settle_in` and `settle_out` bring two of them together. In every schedule what they did is a
+//! lawful account, the one that the serial core makes.
 //!
-//! Read `account` first, then `serial`; then `specs/InSides.antt` with `piece`, `feeder`, `taker` and `settle`.
+//! Read `account` first, then `serial`; then `specs/InSides.antt` with `piece`, `feeder`, `taker` and `settle`;
+//! `specs/OutSides.antt` with `giver`, `sender` and `outcome`; and `call` and `threads` last.
 #![tactic(auto)]
 
 pub mod account;
@@ -40,5 +42,7 @@ pub use threads::{Answer, Request, run_call};
 
 #[cfg(test)]
 mod in_tests;
+#[cfg(test)]
+mod out_tests;
 #[cfg(test)]
 mod tests;
