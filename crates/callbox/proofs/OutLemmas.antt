@@ -1,5 +1,5 @@
 -- What went through the out side, item by item, and the run of its events.
-use Rattle.std.proofs.Common.{◌≡◌, ◌≢◌, ℕ, ◌+◌, Bool, true, false, List, [], ◌∷◌, ◌++◌, length, take, drop, Option, Some, None, Result, Ok, Err, refl, sym, ap, subst, ◌∙◌, append_assoc, arith, inl, inr, eqb, MatchBool}
+use Rattle.std.proofs.Common.{◌≡◌, ◌≢◌, ℕ, ◌+◌, Bool, true, false, List, [], ◌∷◌, ◌++◌, length, take, drop, Option, Some, Result, Ok, Err, refl, sym, ap, subst, ◌∙◌, append_assoc, arith, inl, inr, eqb, MatchBool}
 use Rattle.std.specs.Prelude.{map, fold, slice_get, OnOk, OnErr}
 use Rattle.std.proofs.lemmas.Bool.{cases_eq, eq-eqb, ne_eqb}
 use Rattle.std.proofs.lemmas.List.{append-nil, length-append, map-append, take-append-drop}
@@ -9,7 +9,7 @@ use Rattle.hpack_codec.specs.declared.fields.Field.{Field}
 use Rattle.lane.specs.Lawful.{count_of}
 use Rattle.lane.proofs.Prefixes.{IsPrefix-take}
 use Rattle.lpm.specs.Messages.{frame, IsMessage, IsFrame}
-use Rattle.lpm.specs.Reading.{is_frame, messages_of}
+use Rattle.lpm.specs.Reading.{messages_of}
 use Rattle.lpm.proofs.Alone.{is_frame-IsFrame}
 use Rattle.callbox.specs.declared.account.Account.{Account}
 use Rattle.callbox.specs.declared.account.CallEvent.TheVariants as event

@@ -7,7 +7,7 @@ use Rattle.hpack_codec.specs.declared.fields.Field.{Field}
 use Rattle.lane.specs.declared.fault.PutFault.{PutFault}
 use Rattle.lane.specs.declared.fault.PutFault.TheVariants.{Full, OutOfMemory, NotTaken}
 use Rattle.lpm.specs.Messages.{frame, IsMessage, IsFrame}
-use Rattle.lpm.specs.Reading.{Front, front_of}
+use Rattle.lpm.specs.Reading.{front_of}
 use Rattle.lpm.proofs.Fronts.{front_of-frame}
 use Rattle.callbox.specs.declared.account.Account.{Account}
 use Rattle.callbox.specs.declared.account.CallEvent.{CallEvent}

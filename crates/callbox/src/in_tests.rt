@@ -67,7 +67,7 @@ fn take_patiently<L: Lane<Item = InPiece>>(taker: &mut Taker<L>) -> Taken
     }
 }
 
-// `checks/callbox-memory` refuses an allocation of a take: what was polled is there at the next one.
+// Where an allocation of a take is refused (`rt try --test --fail-alloc`), what was polled is there at the next one.
 #[test]
 fn what_was_polled_is_kept(rt: HostRuntime) -> Result<(), Fail> {
     let alloc = rt.alloc();
