@@ -1,5 +1,5 @@
 -- What is left of the law of the book by another connection, another call, one more and one less.
-use Rattle.std.proofs.Common.{◌≡◌, ℕ, ◌+◌, ◌-◌, min, ◌<◌, ◌≤◌, ◌++◌, List, [], ◌∷◌, length, length-append, cond, Bool, true, false, true≢false, Some, None, sym, ◌∙◌, subst, refl, arith, nat_eq, get_or}
+use Rattle.std.proofs.Common.{◌≡◌, ℕ, ◌+◌, ◌-◌, min, ◌<◌, ◌≤◌, ◌++◌, List, [], ◌∷◌, length, length-append, cond, Bool, true, false, true≢false, Some, None, sym, ◌∙◌, subst, refl, arith, nat_eq}
 use Rattle.std.specs.Prelude.{All, AllPairs, IfSome, sum_by, suc}
 use Rattle.std.specs.Map.{lookup, set_value, remove_entry, keys_of, values_of}
 use Rattle.std.proofs.lemmas.Bool.Decides.{nat_tests}

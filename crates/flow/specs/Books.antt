@@ -1,11 +1,10 @@
 -- The credit book of a connection: flow control of what is received (RFC 9113, sections 5.2 and 6.9), on the connection
 -- and on each call that is live.
-use Rattle.std.specs.Prelude.{◌≡◌, ℕ, ◌+◌, ◌-◌, ◌%◌, ◌<◌, ◌≤◌, min, Bool, true, false, ◌&&◌, ◌||◌, IsTrue, if◌then◌else◌, List, [], ◌∷◌, ◌++◌, length, All, AllPairs, sum_by, Option, Some, None, MatchOption, Result, Ok, Err, nat_eq, ◌⊎◌}
+use Rattle.std.specs.Prelude.{◌≡◌, ℕ, ◌+◌, ◌-◌, ◌%◌, ◌<◌, ◌≤◌, min, Bool, true, false, ◌&&◌, ◌||◌, IsTrue, if◌then◌else◌, List, [], ◌∷◌, ◌++◌, length, All, AllPairs, sum_by, Option, None, MatchOption, Result, Ok, Err, nat_eq, ◌⊎◌}
 use Rattle.std.specs.Option.{option_map_or}
 use Rattle.std.specs.Map.{lookup, set_value, remove_entry, keys_of, values_of}
 use Rattle.flow.specs.declared.TheConstants.{INITIAL_WINDOW, MAX_LIVE, MAX_RECEIVED}
 use Rattle.flow.specs.declared.book.counts.Counts.{Counts}
-use Rattle.flow.specs.declared.book.Marks.{Marks}
 use Rattle.flow.specs.declared.book.Call.{Call}
 use Rattle.flow.specs.declared.book.fault.BookFault.{BookFault}
 use Rattle.flow.specs.declared.book.fault.BookFault.TheVariants.{TooMany, Draining, CallWindow, ConnectionWindow, Overgiven, Unknown, OutOfMemory}

@@ -1,4 +1,4 @@
-use Rattle.std.proofs.Common.{◌≡◌, Some, rules, arith, nat_eq}
+use Rattle.std.proofs.Common.{◌≡◌, Some, rules, nat_eq}
 use Rattle.std.specs.Map.{lookup}
 use Rattle.flow.proofs.BookLemmas.{end_remote-lawful}
 use Rattle.flow.proofs.book.Book.end_remote.Goals as goal
