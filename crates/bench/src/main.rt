@@ -4,9 +4,11 @@
 //! words each runs once, small, and prints what it did but no time.
 #![tactic(auto)]
 
+mod flow_halves;
 mod h2frame_feed;
 mod hpack_blocks;
 mod lane_bench;
+mod protobuf_messages;
 
 use anyhow::{Context, Result, bail};
 use std::env;
@@ -34,6 +36,12 @@ fn main(rt: HostRuntime) -> Result<()> {
             lane_bench::run_all(&rt, alloc)?;
             h2frame_feed::small(&rt)?;
             hpack_blocks::small(&rt)?;
+            flow_halves::small(&rt)?;
+            protobuf_messages::small(&rt)?;
+        }
+        Some("flow-halves") => {
+            let streams = u16::try_from(number(words, 1)?)?;
+            flow_halves::timed(&rt, streams, small_number(words, 2)?)?;
         }
         Some("h2frame-feed") => h2frame_feed::timed(&rt, number(words, 1)?, number(words, 2)?)?,
         Some("hpack-huffman") => hpack_blocks::huffman(&rt, number(words, 1)?)?,
@@ -43,6 +51,8 @@ fn main(rt: HostRuntime) -> Result<()> {
         }
         Some("lane-ring") => lane_bench::rings(&rt, small_number(words, 1)?)?,
         Some("lane-ring-awaited") => lane_bench::rings_awaited(&rt, small_number(words, 1)?)?,
+        Some("testproto-body") => protobuf_messages::one_body(&rt, number(words, 1)?)?,
+        Some("testproto-many") => protobuf_messages::many(&rt, number(words, 1)?)?,
         Some(_) => bail!("there is no such measurement"),
     }
     Ok(())

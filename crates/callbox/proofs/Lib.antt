@@ -1,3 +1,4 @@
 pub mod SerialLemmas
 pub mod InLemmas
 pub mod TakerLemmas
+pub mod OutLemmas

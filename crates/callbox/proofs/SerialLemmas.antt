@@ -162,7 +162,7 @@ some_left (byte ∷ rest) cut = (byte, rest, refl)
 
 -- ---- giving and sending
 
-abbrev last : OutItem → List OutItem → OutItem
+abbrev pub last : OutItem → List OutItem → OutItem
 last item [] = item
 last item (next ∷ items) = last next items
 
@@ -170,7 +170,7 @@ last_of-cons : (item : OutItem) (items : List OutItem) → slice_get (item ∷ i
 last_of-cons item [] = refl
 last_of-cons item (next ∷ items) = last_of-cons next items
 
-last_of-last : (item : OutItem) (items : List OutItem) → last_of (item ∷ items) ≡ Some (last item items)
+pub last_of-last : (item : OutItem) (items : List OutItem) → last_of (item ∷ items) ≡ Some (last item items)
 last_of-last item items = ap (slice_get (item ∷ items)) (omega arith) ∙ last_of-cons item items
 
 -- behind trailers nothing may follow

@@ -1,7 +1,7 @@
 -- What went through the in side of a call: pieces, and then at most one shut.
 use Rattle.std.specs.Prelude.{◌≡◌, ℕ, Bool, true, false, List, [], ◌∷◌, ◌++◌, length, map, Option, Some, None, All}
 use Rattle.std.specs.List.{concat}
-use Rattle.lane.specs.Lawful.{count_of}
+use Rattle.lane.specs.Lawful.{count_of, last_of}
 use Rattle.lpm.specs.declared.fault.LpmFault.{LpmFault}
 use Rattle.lpm.specs.declared.fault.LpmFault.TheVariants.{Compressed, BadFlag, TooLong, CutAtEnd, OutOfMemory}
 use Rattle.lpm.specs.Messages.{frames, IsMessage}
@@ -47,24 +47,29 @@ abbrev pub is_piece : InPiece → Bool
 is_piece (piece.Bytes bytes) = true
 is_piece (piece.Shut closed) = false
 
--- what is made of a polled item; of a lost one its length
+-- what is made of a polled item; of a piece that can't be shared its length
 abbrev pub IsPolled : InPiece → Polled → Type 0
 IsPolled item (polled.Bytes bytes) = item ≡ piece.Bytes bytes
 IsPolled item (polled.Shut closed) = item ≡ piece.Shut closed
-IsPolled item (polled.Lost len) = (bytes : List ℕ) × (item ≡ piece.Bytes bytes) × (len ≡ length bytes)
+IsPolled item (polled.Unshared len) = (bytes : List ℕ) × (item ≡ piece.Bytes bytes) × (len ≡ length bytes)
 
 -- how many bytes an item has
 abbrev pub length_of : InPiece → ℕ
 length_of (piece.Bytes bytes) = length bytes
 length_of (piece.Shut closed) = 0
 
--- Of the items that were polled these messages were taken, and this is what is kept behind them. Where a piece was
--- lost for want of memory its bytes are missing from what waits.
+-- the bytes that are missing: those of the last item, where it is an unread piece, or none
+abbrev pub IsMissing : Bool → List InPiece → List ℕ → Type 0
+IsMissing true items missing = last_of items ≡ Some (piece.Bytes missing)
+IsMissing false items missing = missing ≡ []
+
+-- Of the items that were polled these messages were taken, and this is what is kept behind them. Where the last piece
+-- is unread, for want of memory, its bytes are missing from what is kept.
 pub record Took (items : List InPiece) (progress : Progress) (messages : List (List ℕ)) : Type 0 where
   pub missing : List ℕ
   pub whole : bytes_of items ≡ frames messages ++ (progress.splitter ++ missing)
   pub each : All IsMessage messages
-  pub kept : progress.lost ≡ false → missing ≡ []
+  pub unread : IsMissing progress.unread items missing
   pub closed : progress.shut ≡ shut_of items
   pub telling : MayTell progress.told (bytes_of items) (shut_of items) messages
   pub count : progress.taken ≡ count_of messages

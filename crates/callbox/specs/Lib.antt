@@ -4,3 +4,5 @@ pub mod Examples
 pub mod SerialCalls
 pub mod InSides
 pub mod InAccounts
+pub mod OutSides
+pub mod OutAccounts

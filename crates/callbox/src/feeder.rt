@@ -91,7 +91,8 @@ impl<L: Lane<Item = InPiece>> Feeder<L> {
         self.shut(Shut::Reset(code))
     }
 
-    fn shut(self, kind: Shut) -> FedShut<L>
+    /// Shuts the half in this way.
+    pub(crate) fn shut(self, kind: Shut) -> FedShut<L>
         ensures name { L.shut_name result.shut ≡ L.in_name self.tx }
         ensures kind { result.kind ≡ kind }
         ensures put { MatchBool (L.was_placed result.shut)

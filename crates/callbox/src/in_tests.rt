@@ -57,6 +57,33 @@ fn take_and_credit<L: Lane<Item = InPiece>>(rt: &impl Abort, alloc: Global) -> R
     Ok(())
 }
 
+/// Takes, and takes once more where memory was wanting.
+fn take_patiently<L: Lane<Item = InPiece>>(taker: &mut Taker<L>) -> Taken
+    ensures { L.out_name taker.new.rx ≡ L.out_name taker.old.rx }
+{
+    match taker.take() {
+        Taken::Fault(LpmFault::OutOfMemory) => taker.take(),
+        taken => taken,
+    }
+}
+
+// Where an allocation of a take is refused (`rt try --test --fail-alloc`), what was polled is there at the next one.
+#[test]
+fn what_was_polled_is_kept(rt: HostRuntime) -> Result<(), Fail> {
+    let alloc = rt.alloc();
+    let (mut feeder, mut taker) = open_in::<RingLane<InPiece>>(alloc, 3)?;
+    for piece in [[0, 0, 0], [0, 2, 0x41], [0x42, 0, 0]] {
+        let piece = Bytes::from_vec(Vec::from_slice(alloc, piece.as_slice())?)?;
+        assert!(rt; feeder.feed(piece).is_ok());
+    }
+    assert!(rt; takes(&take_patiently(&mut taker), &[0x41, 0x42]));
+    assert_eq!(rt; taker.credit(), 9);
+    let shut = feeder.end();
+    assert!(rt; shut.placed());
+    assert!(rt; matches!(take_patiently(&mut taker), Taken::Fault(LpmFault::CutAtEnd)));
+    Ok(())
+}
+
 /// Takes until something is told.
 fn take_all<L: Lane<Item = InPiece>, R: Wait>(rt: &R, taker: Taker<L>) -> Taker<L>
     ensures { L.out_name result.rx ≡ L.out_name taker.rx }

@@ -5,30 +5,44 @@
 //! which accounts are lawful, and `specs/Runs.antt` which account a list of events makes. `replay` is the
 //! serial core: it makes that account, event by event.
 //!
-//! In a server a call has ends, which any threads may hold: a `Feeder` that is fed what comes in, and a `Taker` that takes
-//! the messages of it. Each does its part of the account, over a lane, and `settle_in` brings the two together: in every
-//! schedule what they did is a lawful account, the one that the serial core makes.
+//! In a server a call has four ends, which any threads may hold: a `Feeder` that is fed what comes in, a `Taker` that takes
+//! the messages of it, a `Giver` that gives what they are answered with, and a `Sender` that sends it. Each does its part of
+//! the account, over a lane; `settle_in` and `settle_out` bring two of them together. In every schedule what they did is a
+//! lawful account, the one that the serial core makes.
 //!
-//! Read `account` first, then `serial`; then `specs/InSides.antt` with `piece`, `feeder`, `taker` and `settle`.
+//! Read `account` first, then `serial`; then `specs/InSides.antt` with `piece`, `feeder`, `taker` and `settle`;
+//! `specs/OutSides.antt` with `giver`, `sender` and `outcome`; and `call` and `threads` last.
 #![tactic(auto)]
 
 pub mod account;
+pub mod call;
 pub mod feeder;
+pub mod giver;
+pub mod outcome;
 pub mod piece;
+pub mod sender;
 pub mod sequence;
 pub mod serial;
 pub mod settle;
 pub mod taker;
+pub mod threads;
 
 pub use account::{Account, CallEvent, OutItem, Shut, Told};
+pub use call::open_call;
 pub use feeder::{FedShut, FeedFault, Feeder};
+pub use giver::{GiveFault, GivenShut, Giver};
+pub use outcome::{OutAccount, open_out, settle_out};
 pub use piece::InPiece;
+pub use sender::Sender;
 pub use sequence::Sequence;
 pub use serial::replay;
 pub use settle::{InAccount, open_in, settle_in};
 pub use taker::{Taken, Taker};
+pub use threads::{Answer, Request, run_call};
 
 #[cfg(test)]
 mod in_tests;
+#[cfg(test)]
+mod out_tests;
 #[cfg(test)]
 mod tests;

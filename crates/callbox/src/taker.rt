@@ -3,6 +3,7 @@
 ghost use Rattle.std.specs.Prelude.{◌≡◌, ℕ, ◌+◌, ◌-◌, min, true, false, None, Some, List, [], ◌∷◌, ◌++◌, length, All, IfNone, IfSome, MatchOption, is_some};
 ghost use Rattle.lpm.specs.Messages.{IsUnfinished};
 ghost use Rattle.callbox.specs.Runs.{telling as what_is_told};
+ghost use Rattle.lane.specs.Lawful.{last_of};
 ghost use Rattle.callbox.specs.InSides.{IsPolled, Took, Tells, bytes_of, grown, length_of, shut_of, telling};
 ghost use Rattle.callbox.specs.declared.piece.InPiece.{InPiece};
 ghost use Rattle.callbox.specs.declared.taker.Taken.TheVariants as taken;
@@ -33,17 +34,17 @@ pub enum Taken {
 pub(crate) enum Polled {
     Bytes(Bytes),
     Shut(Shut),
-    /// A piece of so many bytes that couldn't be shared for want of memory.
-    Lost(u64),
+    /// A piece of so many bytes that can't be shared, for want of memory.
+    Unshared(u64),
 }
 
 /// How far a `Taker` has come.
 #[derive(Drop)]
 pub(crate) struct Progress {
-    /// The bytes that were polled, but for those of the messages that were taken.
+    /// The bytes that were polled, but for those of the messages that were taken and of an unread piece.
     pub(crate) splitter: Splitter,
-    /// Whether a piece was lost for want of memory.
-    pub(crate) lost: bool,
+    /// Whether the piece that was polled last is unread, for want of memory.
+    pub(crate) unread: bool,
     pub(crate) shut: Option<Shut>,
     pub(crate) told: Option<Told>,
     /// How many messages were taken, up to the greatest `u64`.
@@ -59,7 +60,7 @@ impl Progress {
     {
         Progress {
             splitter: Splitter::new(alloc),
-            lost: false,
+            unread: false,
             shut: None,
             told: None,
             taken: 0,
@@ -74,7 +75,7 @@ impl Progress {
             → MatchOption result (Took items self.new messages) (λ a. Took items self.new (grown messages a)) }
         ensures tells { IfSome result (λ a. Tells a self.old.told self.new.told) }
         ensures more { IfNone result (IsUnfinished self.new.splitter × (self.new.told ≡ None)
-            × (self.new.shut ≡ None) × (self.new.lost ≡ false)) }
+            × (self.new.shut ≡ None) × (self.new.unread ≡ false)) }
         ensures some { IfSome result (λ a. a ≡ taken.Nothing → ⊥) }
         ensures owed { self.new.owed ≡ self.old.owed }
     {
@@ -101,11 +102,11 @@ impl Progress {
         ensures took { (items : List InPiece) (messages : List (List ℕ)) → Took items self.old messages
             → MatchOption result (Took items self.new messages) (λ a. Took items self.new (grown messages a)) }
         ensures tells { IfSome result (λ a. Tells a self.old.told self.new.told) }
-        ensures more { IfNone result ((self.new ≡ self.old) × (self.new.shut ≡ None) × (self.new.lost ≡ false)) }
+        ensures more { IfNone result ((self.new ≡ self.old) × (self.new.shut ≡ None) × (self.new.unread ≡ false)) }
         ensures some { IfSome result (λ a. a ≡ taken.Nothing → ⊥) }
         ensures owed { self.new.owed ≡ self.old.owed }
     {
-        if self.lost {
+        if self.unread {
             return Some(Taken::Fault(LpmFault::OutOfMemory));
         }
         let told = self.to_tell()?;
@@ -130,11 +131,11 @@ impl Progress {
         }
     }
 
-    /// Takes what was polled.
+    /// Takes in what was polled.
     pub(crate) fn accept(&mut self, polled: Polled)
         requires untold { self.old.told ≡ None }
         requires unshut { self.old.shut ≡ None }
-        requires kept { self.old.lost ≡ false }
+        requires read { self.old.unread ≡ false }
         ensures took { (items : List InPiece) (item : InPiece) (messages : List (List ℕ)) → Took items self.old messages
             → IsPolled item polled → Took (items ++ item ∷ []) self.new messages }
         ensures told { self.new.told ≡ None }
@@ -145,11 +146,27 @@ impl Progress {
         match polled {
             Polled::Bytes(bytes) => {
                 if self.splitter.push_shared(bytes).is_err() {
-                    self.lost = true;
+                    self.unread = true;
                 }
             }
-            Polled::Lost(_) => self.lost = true,
+            Polled::Unshared(_) => self.unread = true,
             Polled::Shut(shut) => self.shut = Some(shut),
+        }
+    }
+
+    /// Takes in the unread piece.
+    pub(crate) fn accept_again(&mut self, polled: Polled)
+        requires untold { self.old.told ≡ None }
+        requires unread { self.old.unread ≡ true }
+        ensures took { (items : List InPiece) (item : InPiece) (messages : List (List ℕ)) → Took items self.old messages
+            → last_of items ≡ Some item → IsPolled item polled → Took items self.new messages }
+        ensures told { self.new.told ≡ None }
+        ensures owed { self.new.owed ≡ self.old.owed }
+    {
+        if let Polled::Bytes(bytes) = polled {
+            if self.splitter.push_shared(bytes).is_ok() {
+                self.unread = false;
+            }
         }
     }
 
@@ -168,7 +185,7 @@ impl Polled {
     {
         match self {
             Polled::Bytes(bytes) => bytes.len() as u64,
-            Polled::Lost(len) => *len,
+            Polled::Unshared(len) => *len,
             Polled::Shut(_) => 0,
         }
     }
@@ -195,7 +212,7 @@ impl InPiece {
         match self {
             InPiece::Bytes(bytes) => match bytes.clone() {
                 Ok(shared) => Polled::Bytes(shared),
-                Err(_) => Polled::Lost(bytes.len() as u64),
+                Err(_) => Polled::Unshared(bytes.len() as u64),
             },
             InPiece::Shut(shut) => Polled::Shut(*shut),
         }
@@ -206,10 +223,23 @@ impl InPiece {
 fn poll<L: Lane<Item = InPiece>>(rx: &mut L::Out) -> Option<Polled>
     ensures name { L.out_name rx.new ≡ L.out_name rx.old }
     ensures got { MatchOption result
-        ((L.got rx.new ≡ L.got rx.old) × (L.ahead rx.new ≡ []))
-        (λ p. (item : InPiece) × (L.got rx.new ≡ L.got rx.old ++ item ∷ []) × IsPolled item p) }
+        ((L.got rx.new ≡ L.got rx.old) × (L.held rx.new ≡ L.held rx.old) × (L.ahead rx.new ≡ []))
+        (λ p. (item : InPiece) × (L.got rx.new ≡ L.got rx.old ++ item ∷ []) × (L.held rx.new ≡ Some item) × IsPolled item p) }
 {
     match L::poll(rx) {
+        Some(item) => Some(item.share()),
+        None => None,
+    }
+}
+
+/// What the item of the last poll is, once more.
+fn poll_again<L: Lane<Item = InPiece>>(rx: &mut L::Out) -> Option<Polled>
+    ensures name { L.out_name rx.new ≡ L.out_name rx.old }
+    ensures got { L.got rx.new ≡ L.got rx.old }
+    ensures held { L.held rx.new ≡ L.held rx.old }
+    ensures item { IfSome result (λ p. (item : InPiece) × (L.held rx.old ≡ Some item) × IsPolled item p) }
+{
+    match L::again(rx) {
         Some(item) => Some(item.share()),
         None => None,
     }
@@ -220,11 +250,13 @@ fn poll<L: Lane<Item = InPiece>>(rx: &mut L::Out) -> Option<Polled>
 pub struct Taker<L: Lane<Item = InPiece>> {
     pub(crate) rx: L::Out,
     pub(crate) progress: Progress,
+    ghost held: { L.held rx ≡ last_of (L.got rx) },
 }
 
 impl<L: Lane<Item = InPiece>> Taker<L> {
     /// An end of this lane.
     pub(crate) fn new(alloc: Global, rx: L::Out) -> Taker<L>
+        requires { (L.got rx ≡ []) × (L.held rx ≡ None) }
         ensures rx { result.rx ≡ rx }
         ensures took { Took [] result.progress [] }
         ensures owed { result.progress.owed ≡ 0 }
@@ -236,7 +268,7 @@ impl<L: Lane<Item = InPiece>> Taker<L> {
     /// The next message, or what there is to be told.
     ///
     /// It polls only while what was polled holds no whole message and no fault. Once the end, a reset or a fault
-    /// of the bytes was told it is told again. After `Fault(OutOfMemory)` it may be called again.
+    /// of the bytes was told it is told again. After `Fault(OutOfMemory)` nothing is lost, and it may be called again.
     pub fn take(&mut self) -> Taken
         ensures name { L.out_name self.new.rx ≡ L.out_name self.old.rx }
         // Of all messages that were taken so far.
@@ -246,7 +278,7 @@ impl<L: Lane<Item = InPiece>> Taker<L> {
         ensures repeats { IfSome self.old.progress.told
             (λ t. (result ≡ telling t) × (self.new.progress ≡ self.old.progress) × (L.got self.new.rx ≡ L.got self.old.rx)) }
         ensures nothing { result ≡ taken.Nothing → IsUnfinished self.new.progress.splitter
-            × (self.new.progress.shut ≡ None) × (self.new.progress.lost ≡ false) × (L.ahead self.new.rx ≡ []) }
+            × (self.new.progress.shut ≡ None) × (self.new.progress.unread ≡ false) × (L.ahead self.new.rx ≡ []) }
         ensures owed { (items : List InPiece) × (L.got self.new.rx ≡ L.got self.old.rx ++ items)
             × (self.new.progress.owed ≡ min (self.old.progress.owed + length (bytes_of items)) 4294967295) }
     {
@@ -254,7 +286,26 @@ impl<L: Lane<Item = InPiece>> Taker<L> {
         if let Some(told) = self.progress.told {
             return told.answer();
         }
+        if self.progress.unread {
+            self.read_again();
+        }
         self.look()
+    }
+
+    /// Reads the piece that was polled last, if memory is there by now.
+    fn read_again(&mut self)
+        requires told { self.old.progress.told ≡ None }
+        requires unread { self.old.progress.unread ≡ true }
+        ensures name { L.out_name self.new.rx ≡ L.out_name self.old.rx }
+        ensures got { L.got self.new.rx ≡ L.got self.old.rx }
+        ensures took { (messages : List (List ℕ)) → Took (L.got self.old.rx) self.old.progress messages
+            → Took (L.got self.new.rx) self.new.progress messages }
+        ensures told { self.new.progress.told ≡ None }
+        ensures owed { self.new.progress.owed ≡ self.old.progress.owed }
+    {
+        if let Some(polled) = poll_again::<L>(&mut self.rx) {
+            self.progress.accept_again(polled);
+        }
     }
 
     /// The next message, or what there is to be told for the first time.
@@ -265,7 +316,7 @@ impl<L: Lane<Item = InPiece>> Taker<L> {
             → Took (L.got self.new.rx) self.new.progress (grown messages result) }
         ensures tells { Tells result None self.new.progress.told }
         ensures nothing { result ≡ taken.Nothing → IsUnfinished self.new.progress.splitter
-            × (self.new.progress.shut ≡ None) × (self.new.progress.lost ≡ false) × (L.ahead self.new.rx ≡ []) }
+            × (self.new.progress.shut ≡ None) × (self.new.progress.unread ≡ false) × (L.ahead self.new.rx ≡ []) }
         ensures owed { (items : List InPiece) × (L.got self.new.rx ≡ L.got self.old.rx ++ items)
             × (self.new.progress.owed ≡ min (self.old.progress.owed + length (bytes_of items)) 4294967295) }
     {

@@ -10,12 +10,16 @@ fn feed(bytes: &'static [u8]) -> CallEvent {
     CallEvent::Feed(Bytes::from_static(bytes))
 }
 
-fn message(bytes: &'static [u8]) -> OutItem {
+pub(crate) fn message(bytes: &'static [u8]) -> OutItem {
     OutItem::Message(Bytes::from_static(bytes))
 }
 
 /// One field, whose name and value are given.
-fn fields(alloc: Global, name: &[u8], value: &[u8]) -> Result<Sequence<Field>, AllocError> {
+pub(crate) fn fields(
+    alloc: Global,
+    name: &[u8],
+    value: &[u8],
+) -> Result<Sequence<Field>, AllocError> {
     let field = Field {
         name: Octets::from(name.to_vec(alloc)?),
         value: Octets::from(value.to_vec(alloc)?),
@@ -26,7 +30,7 @@ fn fields(alloc: Global, name: &[u8], value: &[u8]) -> Result<Sequence<Field>, A
 }
 
 /// What an item is, and its bytes or the bytes of its first field.
-fn told_item(item: &OutItem) -> (u8, &[u8]) {
+pub(crate) fn told_item(item: &OutItem) -> (u8, &[u8]) {
     match item {
         OutItem::Head(fields) => (b'h', first_value(fields)),
         OutItem::Message(bytes) => (b'm', bytes.as_slice()),

@@ -11,7 +11,7 @@ use Rattle.std.proofs.lemmas.Str.{IsUtf8-from_ascii, utf8_lossy-IsUtf8}
 use Rattle.std.specs.Str.Lossy.{utf8_lossy}
 use Rattle.hpack_codec.specs.declared.fields.Field.{Field}
 use Rattle.callhead.specs.Fields.{is_named, first_of, values_of}
-use Rattle.callhead.specs.MalformedHeads.{is_malformed, is_malformed_field, has_late_one, is_repeated, is_missing, pseudo_headers, required_headers}
+use Rattle.callhead.specs.MalformedHeads.{is_malformed, is_malformed_field, has_late_pseudo_header, is_repeated, is_missing, pseudo_headers, required_headers}
 use Rattle.callhead.specs.Timeouts.{IsTimeout}
 use Rattle.callhead.specs.BinValues.{IsBinValues}
 use Rattle.callhead.specs.Heads.{is_printable, initial_echoes, AreEchoesOf, AreEchoes, AreTrailingEchoes}
@@ -21,7 +21,7 @@ use Rattle.callhead.specs.Heads.{is_printable, initial_echoes, AreEchoesOf, AreE
 pub has_path : (fields : List Field) → is_malformed fields ≡ false → None ≡ first_of (codes ":path") fields → ⊥
 unfolding is_malformed
 has_path fields well none =
-    let others = list_any is_malformed_field fields || has_late_one fields || list_any (is_repeated fields) pseudo_headers in
+    let others = list_any is_malformed_field fields || has_late_pseudo_header fields || list_any (is_repeated fields) pseudo_headers in
     let lacks = list_any (is_missing fields) required_headers in
     let method = is_missing fields (codes ":method") in
     let scheme = is_missing fields (codes ":scheme") in

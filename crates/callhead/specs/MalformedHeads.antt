@@ -66,8 +66,8 @@ abbrev pub is_empty_path : Field → Bool
 is_empty_path field = is_named (codes ":path") field && (length field.value == 0)
 
 -- a pseudo-header stands behind the longest front of pseudo-headers
-abbrev pub has_late_one : List Field → Bool
-has_late_one fields = list_any is_pseudo_header (drop (prefix_len is_pseudo_header fields) fields)
+abbrev pub has_late_pseudo_header : List Field → Bool
+has_late_pseudo_header fields = list_any is_pseudo_header (drop (prefix_len is_pseudo_header fields) fields)
 
 abbrev pub is_repeated : List Field → List ℕ → Bool
 is_repeated fields name = nat_lt 1 (count_by (is_named name) fields)
@@ -83,4 +83,4 @@ is_malformed_field field =
 
 unfoldable pub is_malformed : List Field → Bool
 is_malformed fields =
-    list_any is_malformed_field fields || has_late_one fields || list_any (is_repeated fields) pseudo_headers || list_any (is_missing fields) required_headers
+    list_any is_malformed_field fields || has_late_pseudo_header fields || list_any (is_repeated fields) pseudo_headers || list_any (is_missing fields) required_headers

@@ -1,13 +1,17 @@
-//! Timeouts, binary metadata and status texts, as gRPC writes them in the fields of HTTP/2.
+//! Heads of calls, the fields that answer them, and the texts in both, as gRPC writes them in the fields of HTTP/2
+//! (gRPC over HTTP/2, PROTOCOL-HTTP2.md; RFC 9113, sections 8.2 and 8.3; RFC 4648, section 4).
+//!
+//! `CallHead::read` answers the head of a call where the fields are one (`specs/Heads.antt`), else the first of the
+//! faults that stand in them; which fields are malformed says `specs/MalformedHeads.antt`. `response_fields`,
+//! `status_fields` and `HeadFault::refusal` make the fields that answer a call (`specs/StatusFields.antt`).
 //!
 //! A call carries its timeout in `grpc-timeout`, the text of its status in `grpc-message`, and bytes in fields whose
-//! name ends in `-bin` (gRPC over HTTP/2, PROTOCOL-HTTP2.md; RFC 4648, section 4). `specs/Timeouts.antt` says which
-//! text is which timeout, `specs/StatusTexts.antt` which bytes a text is written as, and `specs/BinValues.antt` which
-//! values a `-bin` field carries. `read_timeout` answers a timeout exactly where the text is one; what `percent_text`
-//! and `bin_value` write is read again as it was; `read_bin_values` answers the one list of values that there is.
-//! `HeadFault` has the reasons for which a head is refused.
+//! name ends in `-bin`. `read_timeout` answers a timeout exactly where the text is one (`specs/Timeouts.antt`); what
+//! `percent_text` and `bin_value` write is read again as it was (`specs/StatusTexts.antt`, `specs/BinValues.antt`);
+//! `read_bin_values` answers the one list of values that there is.
 //!
-//! Read `fault`, `timeout`, `percent`, then `values` and `bin`.
+//! Read `fault`, `timeout`, `percent`, `values`, `texts` and `bin`; then `fields`, `malformed` and `head`; then
+//! `response`.
 #![tactic(auto)]
 
 pub mod bin;

@@ -1,7 +1,7 @@
 //! Which fields are no request (RFC 9113, sections 8.2 and 8.3).
 
 ghost use Rattle.std.specs.Prelude.{◌≡◌, ◌==◌, drop, option_copied};
-ghost use Rattle.callhead.specs.MalformedHeads.{is_forbidden_in_names, has_bad_name, is_blank, is_forbidden_in_values, has_bad_value, is_connection_specific, is_other_te, is_pseudo_header, is_unknown, is_empty_path, has_late_one, is_repeated, is_missing, is_malformed_field, is_malformed, pseudo_headers, required_headers};
+ghost use Rattle.callhead.specs.MalformedHeads.{is_forbidden_in_names, has_bad_name, is_blank, is_forbidden_in_values, has_bad_value, is_connection_specific, is_other_te, is_pseudo_header, is_unknown, is_empty_path, has_late_pseudo_header, is_repeated, is_missing, is_malformed_field, is_malformed, pseudo_headers, required_headers};
 ghost use Rattle.std.specs.List.{list_any};
 
 use crate::fields::{count_named, first_value, is_named};
@@ -23,7 +23,10 @@ const TRAILERS: &[u8] = b"trailers";
 pub fn is_malformed(fields: &[Field]) -> bool
     ensures { result ≡ is_malformed fields.now }
 {
-    has_malformed_field(fields) || has_late_one(fields) || repeats_one(fields) || lacks_one(fields)
+    has_malformed_field(fields)
+        || has_late_pseudo_header(fields)
+        || repeats_pseudo_header(fields)
+        || lacks_pseudo_header(fields)
 }
 
 fn has_malformed_field(fields: &[Field]) -> bool
@@ -140,8 +143,8 @@ fn is_empty_path(field: &Field) -> bool
 }
 
 /// Whether a pseudo-header stands behind another field.
-fn has_late_one(fields: &[Field]) -> bool
-    ensures { result ≡ has_late_one fields.now }
+fn has_late_pseudo_header(fields: &[Field]) -> bool
+    ensures { result ≡ has_late_pseudo_header fields.now }
 {
     fields
         .iter()
@@ -150,7 +153,7 @@ fn has_late_one(fields: &[Field]) -> bool
 }
 
 /// Whether a pseudo-header stands twice.
-fn repeats_one(fields: &[Field]) -> bool
+fn repeats_pseudo_header(fields: &[Field]) -> bool
     ensures { result ≡ list_any (is_repeated fields.now) pseudo_headers }
 {
     is_repeated(fields, METHOD)
@@ -166,7 +169,7 @@ fn is_repeated(fields: &[Field], name: &[u8]) -> bool
 }
 
 /// Whether there is a pseudo-header too few.
-fn lacks_one(fields: &[Field]) -> bool
+fn lacks_pseudo_header(fields: &[Field]) -> bool
     ensures { result ≡ list_any (is_missing fields.now) required_headers }
 {
     is_missing(fields, METHOD) || is_missing(fields, SCHEME) || is_missing(fields, PATH)

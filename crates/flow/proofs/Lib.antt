@@ -1,1 +1,5 @@
 pub mod Balances
+pub mod Entries
+pub mod HalfLemmas
+pub mod WindowSteps
+pub mod BookLemmas

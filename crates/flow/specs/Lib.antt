@@ -1,2 +1,8 @@
+pub mod Halves
+pub mod HalfExamples
 pub mod Windows
+pub mod WindowHistory
+pub mod WindowHistoryExamples
 pub mod Examples
+pub mod Books
+pub mod BookExamples

@@ -3,12 +3,24 @@
 //! `SendWindows` has the windows of what is sent: the connection's, and one for each open stream, which credit raises,
 //! sending lowers, and a new initial size moves.
 //!
+//! `Halves` has the receiving half of each stream: it judges the client's frames by what came before them.
+//!
+//! `Book` is the credit book of what is received: how many bytes came, were taken, and were told to the peer, on the
+//! connection and on each live call.
+//!
 //! Nothing here reads or writes frames: the numbers come from frames that `h2frame` has read.
 #![tactic(auto)]
 
+pub mod book;
+pub mod halves;
 pub mod send_windows;
 
+pub use book::{Book, BookFault, Marks};
+pub use halves::{Half, HalfVerdict, Halves};
 pub use send_windows::{SendWindows, WindowFault};
+
+/// How many streams a client may open on a connection; those that it begins after them are dropped.
+pub const MAX_STREAMS: usize = 4_096;
 
 /// The largest window that RFC 9113, section 6.9.1, allows: 2^31 - 1 bytes.
 pub const MAX_WINDOW: u32 = 0x7fff_ffff;
@@ -16,5 +28,15 @@ pub const MAX_WINDOW: u32 = 0x7fff_ffff;
 /// The size of a new window, in bytes, until SETTINGS change it (RFC 9113, section 6.9.2).
 pub const INITIAL_WINDOW: u32 = 65_535;
 
+/// How many calls of a connection may be live at once.
+pub const MAX_LIVE: usize = 64;
+
+/// How many bytes of DATA a book counts on a connection.
+pub const MAX_RECEIVED: u64 = 0x4000_0000_0000_0000;
+
+#[cfg(test)]
+mod book_tests;
+#[cfg(test)]
+mod halves_tests;
 #[cfg(test)]
 mod tests;

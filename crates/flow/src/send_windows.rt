@@ -1,10 +1,11 @@
 //! The windows of what is sent (RFC 9113, section 6.9).
 
-ghost use Rattle.std.specs.Prelude.{◌≡◌, ◌+◌, ◌-◌, ◌+ℤ◌, ◌-ℤ◌, ◌<◌, ◌≤◌, pos, None, IfErr, OnErr, OnOk, IsSome, MatchOption, nat_eq, int_le};
+ghost use Rattle.std.specs.Prelude.{◌≡◌, ◌+◌, ◌-◌, ◌+ℤ◌, ◌-ℤ◌, ◌<◌, ◌≤◌, pos, List, [], ◌∷◌, None, IfErr, OnErr, OnOk, IsSome, MatchOption, nat_eq, int_le};
 ghost use Rattle.std.specs.List.{list_all};
 ghost use Rattle.std.specs.Map.{lookup, set_value, values_of};
 ghost use Rattle.flow.specs.declared.send_windows.WindowFault.TheVariants.{Overflow, OutOfMemory};
 ghost use Rattle.flow.specs.Windows.{code_of, room, opened, with_balance, closed, balance, Meets, CreditFault, SpendFault, FitsAt, IsBalance, lesser};
+ghost use Rattle.flow.specs.WindowHistory.{Step, Opening, Credit, Spending, Resizing, Closing, Follows, room_after};
 
 use crate::{INITIAL_WINDOW, MAX_WINDOW};
 use h2frame::StreamId;
@@ -78,7 +79,8 @@ impl SendWindows {
 
     /// The windows of a new connection, on which no stream is open. It takes no memory yet.
     pub fn new(alloc: Global) -> SendWindows
-        ensures { result ≡ new_windows }
+        ensures value { result ≡ new_windows }
+        ensures follows { Follows [] result }
     {
         SendWindows {
             connection: INITIAL_WINDOW,
@@ -92,6 +94,7 @@ impl SendWindows {
         requires stream { 0 < id }
         requires not_open { balance self.old id ≡ None }
         ensures ok { OnOk result (self.new ≡ opened self.old id) }
+        ensures follows { OnOk result ((history : List Step) → Follows history self.old → Follows (Opening id ∷ history) self.new) }
         ensures unchanged { OnErr result (self.new ≡ self.old) }
         ensures memory { IfErr result (λ fault. fault ≡ OutOfMemory) }
     {
@@ -105,6 +108,7 @@ impl SendWindows {
         ensures stream { OnOk result (0 < id → MatchOption (balance self.old id) ⊥ (λ b. self.new ≡ with_balance self.old id (b +ℤ pos increment))) }
         ensures unchanged { OnErr result (self.new ≡ self.old) }
         ensures fault { Meets (CreditFault self.old id increment) result }
+        ensures follows { OnOk result ((history : List Step) → Follows history self.old → Follows (Credit id increment ∷ history) self.new) }
     {
         if id == 0 {
             if increment > MAX_WINDOW - self.connection {
@@ -128,6 +132,7 @@ impl SendWindows {
     /// The connection's window stays. It takes time in the number of open streams.
     pub fn initial(&mut self, size: u32) -> Result<(), WindowFault>
         ensures ok { OnOk result (self.new ≡ record self.old { initial = size }) }
+        ensures follows { OnOk result ((history : List Step) → Follows history self.old → Follows (Resizing size ∷ history) self.new) }
         ensures fits { OnOk result (FitsAt self.old size) }
         ensures unchanged { OnErr result (self.new ≡ self.old) }
         ensures overflow { OnErr result (¬ FitsAt self.old size) }
@@ -150,6 +155,7 @@ impl SendWindows {
             ≡ record (with_balance self.old id (b -ℤ pos len)) { connection = self.old.connection - len })) }
         ensures unchanged { OnErr result (self.new ≡ self.old) }
         ensures fault { Meets (SpendFault self.old id len) result }
+        ensures follows { OnOk result ((history : List Step) → Follows history self.old → Follows (Spending id len ∷ history) self.new) }
     {
         let Some(balance) = self.balances.get(&id).copied() else {
             return Err(WindowFault::Unknown);
@@ -165,7 +171,8 @@ impl SendWindows {
     /// How many bytes may be sent on a stream now: the lesser of both windows, and 0 where either isn't positive or
     /// the stream isn't open.
     pub fn room(&self, id: StreamId) -> u32
-        ensures { result ≡ room self.now id }
+        ensures value { result ≡ room self.now id }
+        ensures follows { 0 < id → (history : List Step) → Follows history self.now → result ≡ room_after history id }
     {
         match self.balances.get(&id).copied() {
             Some(balance) => least(self.connection, self.initial, balance),
@@ -175,7 +182,8 @@ impl SendWindows {
 
     /// Closes a stream. One that isn't open is none to close, and nothing changes.
     pub fn close(&mut self, id: StreamId)
-        ensures { self.new ≡ closed self.old id }
+        ensures value { self.new ≡ closed self.old id }
+        ensures follows { (history : List Step) → Follows history self.old → Follows (Closing id ∷ history) self.new }
     {
         self.balances.shift_remove(&id);
     }

@@ -5,6 +5,7 @@ use Rattle.std.proofs.lemmas.Grind.{flat_map-append}
 use mathlib.Core.List.{IsPrefix}
 use Rattle.lane.specs.Holds.{known_item, holds_item}
 use Rattle.lane.specs.Known.{item_of, items_of}
+use Rattle.lane.specs.Lawful.{last_of}
 use Rattle.lane.specs.declared.known.Known.{Known}
 
 length_known_item : {T : Type 0} → (k : Option (Option T)) → holds_item k ≡ true → length (known_item k) ≡ 1
@@ -25,3 +26,28 @@ prefix_of_known {T} front all n same = (
   ap (λ (items : List T). items ++ items_of (drop n all)) same
       ∙ (sym (flat_map-append item_of (take n all) (drop n all)) ∙ ap (λ (known : List (Known T)). items_of known) (take-append-drop n all)),
 )
+
+pub last_of_push : {T : Type 0} → (items : List T) (item : T) → last_of (items ++ item ∷ []) ≡ Some item
+last_of_push [] item = refl
+last_of_push (first ∷ []) item = refl
+last_of_push (first ∷ next ∷ items) item = last_of_push (next ∷ items) item
+
+items_of_push : {T : Type 0} → (front all : List (Known T)) (last : Known T) (item : T) → all ≡ front ++ last ∷ [] → item_of last ≡ item ∷ [] → items_of all ≡ items_of front ++ item ∷ []
+items_of_push {T} front all last item is has =
+    ap (λ (known : List (Known T)). items_of known) is
+    ∙ flat_map-append item_of front (last ∷ [])
+    ∙ ap (λ (items : List T). items_of front ++ (items ++ [])) has
+
+-- an item more
+pub one_more : {T : Type 0} → (front all : List (Known T)) (last same : Known T) (item : T) → all ≡ front ++ last ∷ [] → item_of same ≡ item_of last → item_of same ≡ item ∷ []
+    → (items_of all ≡ items_of front ++ item ∷ []) × (last_of (items_of all) ≡ Some item)
+one_more {T} front all last same item is known has =
+    let more = items_of_push front all last item is (sym known ∙ has) in
+    (more, ap (λ (items : List T). last_of items) more ∙ last_of_push (items_of front) item)
+
+-- the last item once more
+pub last_again : {T : Type 0} → (front all put : List (Known T)) (last kept same : Known T) (item : T) → all ≡ front ++ last ∷ [] → put ≡ front ++ kept ∷ [] → item_of kept ≡ item_of last → item_of same ≡ item_of last → item_of same ≡ item ∷ []
+    → (items_of put ≡ items_of all) × (last_of (items_of all) ≡ Some item)
+last_again {T} front all put last kept same item is after kept_same known has =
+    let more = one_more front all last same item is known has in
+    (items_of_push front put kept item after (kept_same ∙ sym known ∙ has) ∙ sym more.0, more.1)

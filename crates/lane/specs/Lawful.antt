@@ -1,5 +1,5 @@
 -- What a queue from one writer to one reader may do.
-use Rattle.std.specs.Prelude.{ℕ, ◌+◌, ◌≤◌, min, Bool, true, false, List, length}
+use Rattle.std.specs.Prelude.{ℕ, ◌+◌, ◌≤◌, min, Bool, true, false, List, [], ◌∷◌, Option, None, Some, length}
 use mathlib.Core.List.{IsPrefix}
 
 -- how many items of the queue's room `last` takes beside it
@@ -15,3 +15,9 @@ pub record IsLawful {T : Type 0} (room : ℕ) (has_last : Bool) (put got : List 
 -- the number of items, up to the greatest `u64`
 abbrev pub count_of : {T : Type 0} → List T → ℕ
 count_of items = min (length items) 18446744073709551615
+
+-- the item that came last
+abbrev pub last_of : {T : Type 0} → List T → Option T
+last_of [] = None
+last_of (item ∷ []) = Some item
+last_of (item ∷ next ∷ items) = last_of (next ∷ items)

@@ -1,5 +1,5 @@
 // What a queue from one writer to one reader is.
-ghost use Rattle.std.specs.Prelude.{◌≡◌, ℕ, ◌+◌, ◌≤◌, ◌<◌, List, [], ◌∷◌, ◌++◌, Bool, length, ⊤, IfOk, OnOk, IfErr, OnErr, MatchOption, MatchBool};
+ghost use Rattle.std.specs.Prelude.{◌≡◌, ℕ, ◌+◌, ◌≤◌, ◌<◌, List, [], ◌∷◌, ◌++◌, Bool, length, ⊤, Option, None, Some, IfOk, OnOk, IfErr, OnErr, MatchOption, MatchBool};
 ghost use Rattle.std.specs.Borrow.{sem};
 ghost use denote.Follow.{follows_so};
 ghost use mathlib.Core.Option.{none};
@@ -79,6 +79,9 @@ pub trait Lane {
     /// What the next polls give for sure.
     ghost ahead: { Self.Out → List Self.Item };
 
+    /// The item that was polled last.
+    ghost held: { Self.Out → Option Self.Item };
+
     /// Whether `put` refuses an item only where the queue is full.
     ghost only_fills: { Bool };
 
@@ -87,7 +90,8 @@ pub trait Lane {
         ensures name { IfOk result (λ r. in_name r.0 ≡ out_name r.1) }
         ensures room { IfOk result (λ r. room_of (in_name r.0) ≡ room) }
         ensures empty { IfOk result (λ r. (put_in r.0 ≡ []) × (got r.1 ≡ [])) }
-        ensures seen { IfOk result (λ r. seen_taken r.0 ≡ 0) };
+        ensures seen { IfOk result (λ r. seen_taken r.0 ≡ 0) }
+        ensures held { IfOk result (λ r. held r.1 ≡ None) };
 
     /// Puts the item behind all others, or hands it back.
     fn put(tx: &mut Self::In, item: Self::Item) -> Result<(), PutFault<Self::Item>>
@@ -117,9 +121,16 @@ pub trait Lane {
         ensures* after { sem 𝓛
             (follows_so Self.Out.row Self.Out.row rx.entry.ghost_name none (λ _ _. ⊤)
             (λ n. (out_name n ≡ out_name rx.old) × MatchOption result
-            ((got n ≡ got rx.old) × (ahead rx.old ≡ []) × (ahead n ≡ []))
-            (λ r. (got n ≡ got rx.old ++ r.now ∷ [])
+            ((got n ≡ got rx.old) × (held n ≡ held rx.old) × (ahead rx.old ≡ []) × (ahead n ≡ []))
+            (λ r. (got n ≡ got rx.old ++ r.now ∷ []) × (held n ≡ Some r.now)
             × (0 < length (ahead rx.old) → ahead rx.old ≡ r.now ∷ ahead n)))) };
+
+    /// The item that was polled last, once more, for a caller who could not make use of it. It takes no memory.
+    fn again(rx: &mut Self::Out) -> Option<&Self::Item>
+        ensures* after { sem 𝓛
+            (follows_so Self.Out.row Self.Out.row rx.entry.ghost_name none (λ _ _. ⊤)
+            (λ n. (out_name n ≡ out_name rx.old) × (got n ≡ got rx.old) × (held n ≡ held rx.old) × (ahead n ≡ ahead rx.old)
+            × MatchOption result (held rx.old ≡ None) (λ r. held rx.old ≡ Some r.now))) };
 
     /// Brings the two ends of one `open` together.
     fn settle(end: End<Self::In, Self::Shut>, rx: Self::Out) -> Settled

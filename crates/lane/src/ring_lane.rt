@@ -87,6 +87,8 @@ impl<T: Send + Sync + Drop> Lane for RingLane<T> {
 
     ghost ahead = { ahead };
 
+    ghost held = { λ rx. rx.polled };
+
     ghost only_fills = { true };
 
     fn open(alloc: Global, room: usize) -> Result<(RingLaneIn<T>, RingLaneOut<T>), AllocError> {
@@ -139,6 +141,10 @@ impl<T: Send + Sync + Drop> Lane for RingLane<T> {
         let item = rx.consumer.pop_known();
         rx.count = rx.count.saturating_add(1);
         rx.polled = Some(item);
+        rx.polled.as_ref()
+    }
+
+    fn again(rx: &mut RingLaneOut<T>) -> Option<&T> {
         rx.polled.as_ref()
     }
 

@@ -74,7 +74,7 @@ impl<T: Send + Sync + Drop> Lane for RowLane<T> {
     ghost use Rattle.std.specs.Prelude.{[], false};
     ghost use Rattle.lane.specs.End.{of_end, has_last};
     ghost use Rattle.lane.specs.Lawful.{IsLawful, count_of};
-    ghost use Rattle.lane.specs.RowLane.{RowName, RowName_set, room_of, in_name, shut_name, out_name, put_in, put_shut, was_placed, got};
+    ghost use Rattle.lane.specs.RowLane.{RowName, RowName_set, room_of, in_name, shut_name, out_name, put_in, put_shut, was_placed, got, held};
 
     type Item = T;
 
@@ -107,6 +107,8 @@ impl<T: Send + Sync + Drop> Lane for RowLane<T> {
     ghost got = { got };
 
     ghost ahead = { λ _. [] };
+
+    ghost held = { held };
 
     ghost only_fills = { false };
 
@@ -206,6 +208,14 @@ impl<T: Send + Sync + Drop> Lane for RowLane<T> {
         let again = known.again();
         rx.got.push_reserved(known);
         Some(item_at(&rx.cells, at, again))
+    }
+
+    fn again(rx: &mut RowLaneOut<T>) -> Option<&T> {
+        let mut last = rx.got.pop()?;
+        let same = last.again();
+        let index = rx.got.len();
+        rx.got.push_reserved(last);
+        Some(item_at(&rx.cells, index, same))
     }
 
     fn settle(end: End<RowLaneIn<T>, RowLaneShut<T>>, rx: RowLaneOut<T>) -> Settled

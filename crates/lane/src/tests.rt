@@ -65,6 +65,31 @@ fn find_each<L: Lane<Item = u64>>(rt: &impl Abort, alloc: Global, room: u32) -> 
     Ok(())
 }
 
+// The item of the last poll is lent again, also where a later poll found nothing.
+fn look_again<L: Lane<Item = u64>>(rt: &impl Abort, alloc: Global) -> Result<(), Fail> {
+    let (mut tx, mut rx) = L::open(alloc, 2)?;
+    assert!(rt; L::again(&mut rx).is_none());
+    assert!(rt; L::put(&mut tx, 10).is_ok());
+    assert!(rt; L::again(&mut rx).is_none());
+    assert!(rt; L::put(&mut tx, 11).is_ok());
+    assert!(rt; L::poll(&mut rx).copied() == Some(10));
+    assert!(rt; L::again(&mut rx).copied() == Some(10));
+    assert!(rt; L::again(&mut rx).copied() == Some(10));
+    assert!(rt; L::poll(&mut rx).copied() == Some(11));
+    assert!(rt; L::again(&mut rx).copied() == Some(11));
+    assert!(rt; L::poll(&mut rx).is_none());
+    assert!(rt; L::again(&mut rx).copied() == Some(11));
+    assert_eq!(rt;
+        L::settle(End::Open(tx), rx),
+        Settled {
+            put: 2,
+            got: 2,
+            left: 0
+        }
+    );
+    Ok(())
+}
+
 // With no reader just as many items go in as there is room for, and then the last one.
 fn fill<L: Lane<Item = u64>>(rt: &impl Abort, alloc: Global, room: u32) -> Result<(), Fail> {
     let (mut tx, rx) = L::open(alloc, room as usize)?;
@@ -118,6 +143,8 @@ fn send_across<L: Lane<Item = u64> + Send, R: Abort + Threads + Wait + Sync>(
 fn both_lanes_keep_the_rows(rt: HostRuntime) -> Result<(), Fail> {
     fill_and_empty::<RingLane<u64>>(&rt, rt.alloc())?;
     fill_and_empty::<RowLane<u64>>(&rt, rt.alloc())?;
+    look_again::<RingLane<u64>>(&rt, rt.alloc())?;
+    look_again::<RowLane<u64>>(&rt, rt.alloc())?;
     for room in [0u32, 1, 2, 3, 255, 256] {
         fill::<RingLane<u64>>(&rt, rt.alloc(), room)?;
         fill::<RowLane<u64>>(&rt, rt.alloc(), room)?;

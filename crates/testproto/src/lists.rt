@@ -35,7 +35,8 @@ impl ByteList {
     pub fn into_vec(self) -> Vec<u8>
         ensures { result.items ≡ self }
     {
-        self.bytes
+        let ByteList { bytes } = self;
+        bytes
     }
 
     pub fn as_slice(&self) -> &[u8]

@@ -1,3 +1,8 @@
+//! Rows of the reference protobuf library and of the encoding guide; faults; how often memory is taken.
+
+ghost use Rattle.std.specs.Prelude.{◌≡◌, MatchResult};
+ghost use Rattle.testproto.specs.declared.fault.ProtoFault.TheVariants.{OutOfMemory};
+
 use super::*;
 use pbwire::WireFault;
 use std::alloc::{AllocError, Global};
@@ -11,9 +16,26 @@ fn fault_of<M: Message>(rt: &HostRuntime, bytes: &[u8]) -> Option<ProtoFault> {
     }
 }
 
+/// The same bytes as each of the messages.
+fn faults_of_all(rt: &HostRuntime, bytes: &[u8]) -> [Option<ProtoFault>; 11] {
+    [
+        fault_of::<Empty>(rt, bytes),
+        fault_of::<Payload>(rt, bytes),
+        fault_of::<BoolValue>(rt, bytes),
+        fault_of::<EchoStatus>(rt, bytes),
+        fault_of::<SimpleRequest>(rt, bytes),
+        fault_of::<SimpleResponse>(rt, bytes),
+        fault_of::<StreamingInputCallRequest>(rt, bytes),
+        fault_of::<StreamingInputCallResponse>(rt, bytes),
+        fault_of::<ResponseParameters>(rt, bytes),
+        fault_of::<StreamingOutputCallRequest>(rt, bytes),
+        fault_of::<StreamingOutputCallResponse>(rt, bytes),
+    ]
+}
+
 #[test]
-fn faults_are_told(rt: HostRuntime) {
-    let wire: [(&[u8], WireFault); 7] = [
+fn bytes_that_are_no_fields_are_no_message(rt: HostRuntime) {
+    let rows: [(&[u8], WireFault); 6] = [
         (b"\x08", WireFault::Truncated),
         (
             b"\x08\xff\xff\xff\xff\xff\xff\xff\xff\xff\xff\x01",
@@ -23,24 +45,34 @@ fn faults_are_told(rt: HostRuntime) {
         (b"\x0e\x00", WireFault::BadTag),
         (b"\x80\x80\x80\x80\x10", WireFault::BadTag),
         (b"\x0b", WireFault::Group),
-        // The joined contents would be well formed; the first by itself is not.
-        (
-            b"\x1a\x01\x12\x1a\x0b\x0a\x09\x00\x00\x00\x00\x00\x00\x00\x00\x00",
-            WireFault::Truncated,
-        ),
     ];
-    for (bytes, fault) in wire {
+    for (bytes, fault) in rows {
         assert!(rt;
-            fault_of::<SimpleRequest>(&rt, bytes) == Some(ProtoFault::Wire(fault)),
+            faults_of_all(&rt, bytes) == [Some(ProtoFault::Wire(fault)); 11],
             "at {bytes:?}"
         );
     }
+}
+
+#[test]
+fn faults_are_told(rt: HostRuntime) {
+    // The joined contents would be well formed; the first by itself is not.
+    assert!(rt;
+        fault_of::<SimpleRequest>(
+            &rt,
+            b"\x1a\x01\x12\x1a\x0b\x0a\x09\x00\x00\x00\x00\x00\x00\x00\x00\x00"
+        ) == Some(ProtoFault::Wire(WireFault::Truncated))
+    );
     assert!(rt;
         fault_of::<SimpleRequest>(&rt, b"\x3a\x03\x12\x01\xff") == Some(ProtoFault::NotUtf8)
     );
     // Not the last occurrence, and inside one that a good one follows.
     assert!(rt;
         fault_of::<EchoStatus>(&rt, b"\x12\x01\xff\x12\x01\x41") == Some(ProtoFault::NotUtf8)
+    );
+    assert!(rt;
+        fault_of::<SimpleRequest>(&rt, b"\x3a\x03\x12\x01\xff\x3a\x03\x12\x01\x41")
+            == Some(ProtoFault::NotUtf8)
     );
     // The leftmost of two.
     assert!(rt; fault_of::<EchoStatus>(&rt, b"\x12\x01\xff\x0b") == Some(ProtoFault::NotUtf8));
@@ -222,6 +254,49 @@ fn every_field_is_read(rt: HostRuntime) -> Result<(), Fail> {
         assert_eq!(rt; parameters.size, size);
         assert_eq!(rt; parameters.interval_us, interval_us);
     }
+    Ok(())
+}
+
+/// Reading what was written of a message gives the message, which is proved of every message.
+fn again<M: Message>(alloc: Global, message: &M) -> Result<M, ProtoFault>
+    ensures { MatchResult result (λ read. read ≡ message.now) (λ fault. fault ≡ OutOfMemory) }
+{
+    let bytes = message.encode(alloc)?;
+    M::decode(alloc, &bytes)
+}
+
+#[test]
+fn a_written_message_is_read_again(rt: HostRuntime) -> Result<(), Fail> {
+    let written = EchoStatus {
+        code: -2147483648,
+        message: Text::from_string("x\u{263a}".to_string(rt.alloc())?),
+    };
+    let read = again(rt.alloc(), &written).ok().ok_or("a status")?;
+    assert_eq!(rt; read.code, -2147483648);
+    assert_eq!(rt; read.message.as_str(), "x\u{263a}");
+    Ok(())
+}
+
+/// A request whose payload has a body of 4,000,000 zeros, spelled by hand. This takes memory once.
+fn large_request(alloc: Global) -> Result<Vec<u8>, AllocError> {
+    let mut bytes = Vec::with_capacity(alloc, 4_000_010)?;
+    bytes.extend_from_slice(b"\x1a\x85\x92\xf4\x01\x12\x80\x92\xf4\x01")?;
+    bytes.resize(4_000_010, 0)?;
+    Ok(bytes)
+}
+
+/// Memory is taken three times: for the bytes, for the body and for what is written of it. The script
+/// `checks/testproto-allocations` refuses the third, and then the fourth, which never comes.
+#[test]
+fn a_large_body_is_copied_once(rt: HostRuntime) -> Result<(), Fail> {
+    let bytes = large_request(rt.alloc())?;
+    let request = SimpleRequest::decode(rt.alloc(), &bytes)
+        .ok()
+        .ok_or("a request")?;
+    let payload = request.payload.as_ref().ok_or("a payload")?;
+    assert_eq!(rt; payload.body.as_slice().len(), 4_000_000);
+    let written = request.encode(rt.alloc()).ok().ok_or("no memory")?;
+    assert!(rt; written.as_slice() == bytes.as_slice());
     Ok(())
 }
 

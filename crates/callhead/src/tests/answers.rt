@@ -38,38 +38,42 @@ fn responses_begin(rt: HostRuntime) -> Result<(), Fail> {
     Ok(())
 }
 
+/// A status's number, text and echoes, and the lines of its fields.
+type Ended = (u32, &'static str, &'static [&'static [u8]], &'static str);
+
+static ENDED: [Ended; 5] = [
+    (0, "", &[], "grpc-status: 0\n"),
+    (
+        12,
+        "unknown method",
+        &[],
+        "grpc-status: 12\ngrpc-message: unknown method\n",
+    ),
+    (
+        2,
+        SPECIAL,
+        &[b"\xab\xab\xab"],
+        "grpc-status: 2\ngrpc-message: %09%0Atest with whitespace%0D%0Aand Unicode BMP %E2%98%BA and non-BMP %F0%9F%98%88%09%0A\nx-grpc-test-echo-trailing-bin: q6ur\n",
+    ),
+    (
+        4_294_967_295,
+        " ",
+        &[b"\xab\xab", b"", b"\x01"],
+        "grpc-status: 4294967295\ngrpc-message:  \nx-grpc-test-echo-trailing-bin: q6s\nx-grpc-test-echo-trailing-bin: \nx-grpc-test-echo-trailing-bin: AQ\n",
+    ),
+    (
+        0,
+        "",
+        &[b"\x01"],
+        "grpc-status: 0\nx-grpc-test-echo-trailing-bin: AQ\n",
+    ),
+];
+
 #[test]
 fn responses_end(rt: HostRuntime) -> Result<(), Fail> {
     let alloc = rt.alloc();
-    let rows: [(u32, &str, &[&'static [u8]], &str); 5] = [
-        (0, "", &[], "grpc-status: 0\n"),
-        (
-            12,
-            "unknown method",
-            &[],
-            "grpc-status: 12\ngrpc-message: unknown method\n",
-        ),
-        (
-            2,
-            SPECIAL,
-            &[b"\xab\xab\xab"],
-            "grpc-status: 2\ngrpc-message: %09%0Atest with whitespace%0D%0Aand Unicode BMP %E2%98%BA and non-BMP %F0%9F%98%88%09%0A\nx-grpc-test-echo-trailing-bin: q6ur\n",
-        ),
-        (
-            4_294_967_295,
-            " ",
-            &[b"\xab\xab", b"", b"\x01"],
-            "grpc-status: 4294967295\ngrpc-message:  \nx-grpc-test-echo-trailing-bin: q6s\nx-grpc-test-echo-trailing-bin: \nx-grpc-test-echo-trailing-bin: AQ\n",
-        ),
-        (
-            0,
-            "",
-            &[b"\x01"],
-            "grpc-status: 0\nx-grpc-test-echo-trailing-bin: AQ\n",
-        ),
-    ];
-    for (code, text, echoes, want) in rows {
-        let fields = status_fields(alloc, code, text, &values(alloc, echoes)?)?;
+    for (code, text, echoes, want) in &ENDED {
+        let fields = status_fields(alloc, *code, *text, &values(alloc, *echoes)?)?;
         assert_eq!(rt; lines(alloc, &fields)?.as_slice(), want.as_bytes());
     }
     Ok(())

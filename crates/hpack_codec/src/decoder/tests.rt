@@ -322,6 +322,25 @@ fn an_entry_that_went_has_no_index(rt: HostRuntime) -> Result<(), Fail> {
         decoder.block(&hex(alloc, "20be")?).err(),
         Some(HpackFault::Index)
     );
+    // Three blocks, of which the last gives the table no size: what it held has no index, and the decoder is dead.
+    let mut decoder = Decoder::new(alloc);
+    for (block, fields) in [
+        ("828684418cf1e3c2e5f23a6ba0ab90f4ff", 4),
+        ("828684be5886a8eb10649cbf", 5),
+        ("2082", 1),
+    ] {
+        assert_eq!(rt; decoder.block(&hex(alloc, block)?)?.len(), fields);
+    }
+    assert_eq!(rt;
+        decoder.block(&hex(alloc, "be")?).err(),
+        Some(HpackFault::Index)
+    );
+    for _ in 0..3 {
+        assert_eq!(rt;
+            decoder.block(&hex(alloc, "82")?).err(),
+            Some(HpackFault::Dead)
+        );
+    }
     Ok(())
 }
 

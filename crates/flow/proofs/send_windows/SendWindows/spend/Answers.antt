@@ -1,7 +1,9 @@
-use Rattle.std.proofs.Common.{◌≡◌, Some, arith, rules, nat_eq}
+use Rattle.std.proofs.Common.{◌≡◌, ◌≤◌, Some, arith, rules, nat_eq}
 use Rattle.std.proofs.lemmas.Int.{ints}
 use Rattle.std.specs.Map.{lookup}
 use Rattle.flow.proofs.Balances.{spend_keeps}
+use Rattle.flow.proofs.WindowSteps.{Follows-spending, lesser-within}
+use Rattle.flow.specs.Windows.{Windows}
 use mir.Val.{SFits}
 use mir.Syntax.{w64}
 use Rattle.flow.proofs.send_windows.SendWindows.spend.Goals as goal
@@ -17,3 +19,12 @@ invariant_of-self c =
           (omega (arith, ints))
           (grind (arith, ints));
     }
+
+pub returns-clause-follows : goal.returns-clause-follows
+returns-clause-follows c =
+    let at : lookup (nat_eq c.args.id) c.self.inside.balances.entries ≡ Some c.in-Some.balance = search rules in
+    let fits : SFits w64 c.in-Some.balance = search rules in
+    let within : c.args.len ≤ c.self.inside.connection = lesser-within c.self.inside.connection c.args.len c.least.result _ c.least.ensures c.if-len-least.false in
+    let old : Windows = record { connection = c.self.inside.connection; initial = c.self.inside.initial; balances = c.self.inside.balances.entries } in
+    rw (← c.self.view_is) (λ history follows. Follows-spending history old follows c.args.id c.args.len c.in-Some.balance _ c.write_balance.new.balances.entries within at
+    c.write_balance.ensures (grind (arith, ints)))

@@ -1,0 +1,90 @@
+//! Judging frames by the receiving halves of their streams, where few are open and where many are.
+
+ghost use Rattle.std.specs.Prelude.{◌<◌};
+ghost use Rattle.flow.specs.Halves.{IsJudged};
+
+use anyhow::Result;
+use flow::{HalfVerdict, Halves};
+use h2frame::{Flags, FrameHead, FrameKind, StreamId};
+use std::alloc::{AllocError, Global};
+use std::rt::Clock;
+use std::time::Instant;
+
+/// How many heads were judged, and how many of them were lawful on their stream.
+#[derive(Clone, Copy)]
+struct Count {
+    heads: u64,
+    accepted: u64,
+}
+
+fn data(stream: StreamId) -> FrameHead
+    requires { 0 < stream }
+    ensures { IsJudged result }
+{
+    FrameHead {
+        kind: FrameKind::Data,
+        flags: Flags::NONE,
+        stream,
+        length: 100,
+    }
+}
+
+fn headers(stream: StreamId) -> FrameHead
+    requires { 0 < stream }
+    ensures { IsJudged result }
+{
+    FrameHead {
+        kind: FrameKind::Headers,
+        flags: Flags::END_HEADERS,
+        stream,
+        length: 100,
+    }
+}
+
+/// A connection on which this many streams are open.
+fn opened(alloc: Global, streams: u16) -> Result<Halves, AllocError> {
+    let mut halves = Halves::new(alloc);
+    for index in 0..streams {
+        halves.on(&headers(2 * u32::from(index) + 1))?;
+    }
+    Ok(halves)
+}
+
+/// Judges DATA on each of the streams in turn, so often.
+fn judge(halves: &mut Halves, streams: u16, rounds: u32) -> Result<Count, AllocError> {
+    let mut count = Count {
+        heads: 0,
+        accepted: 0,
+    };
+    for _ in 0..rounds {
+        for index in 0..streams {
+            let verdict = halves.on(&data(2 * u32::from(index) + 1))?;
+            count.heads = count.heads.wrapping_add(1);
+            if verdict == HalfVerdict::Accept {
+                count.accepted = count.accepted.wrapping_add(1);
+            }
+        }
+    }
+    Ok(count)
+}
+
+/// Prints the heads that were judged, those that were lawful and the nanoseconds.
+pub fn timed(rt: &(impl Clock + AllocGlobal + Print), streams: u16, rounds: u32) -> Result<()> {
+    let mut halves = opened(rt.alloc(), streams)?;
+    let start = Instant::now(rt)?;
+    let count = judge(&mut halves, streams, rounds)?;
+    let nanos = start.elapsed(rt)?.as_nanos();
+    let heads = count.heads;
+    let accepted = count.accepted;
+    println!(rt; "{heads} {accepted} {nanos}")?;
+    Ok(())
+}
+
+pub fn small(rt: &(impl AllocGlobal + Print)) -> Result<()> {
+    let mut halves = opened(rt.alloc(), 16)?;
+    let count = judge(&mut halves, 16, 10)?;
+    let heads = count.heads;
+    let accepted = count.accepted;
+    println!(rt; "flow-halves: {heads} heads, {accepted} accepted")?;
+    Ok(())
+}

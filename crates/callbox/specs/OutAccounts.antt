@@ -1,0 +1,16 @@
+-- What the two ends of the out side say of a call when they are brought together.
+use Rattle.std.specs.Prelude.{◌≡◌, List}
+use Rattle.lane.specs.Lawful.{count_of}
+use Rattle.callbox.specs.declared.account.OutItem.{OutItem}
+use Rattle.callbox.specs.declared.outcome.OutAccount.{OutAccount}
+use Rattle.callbox.specs.Accounts.{IsLawful}
+use Rattle.callbox.specs.Runs.{run}
+use Rattle.callbox.specs.OutSides.{has_trailers, out_account, out_events}
+
+pub record CountsOut (put got : List OutItem) (r : OutAccount) : Type 0 where
+  pub lawful : IsLawful (out_account put got)
+  pub run : out_account put got ≡ run (out_events put got)
+  pub given : r.given ≡ count_of put
+  pub sent : r.sent ≡ count_of got
+  pub trailers_given : r.trailers_given ≡ has_trailers put
+  pub trailers_sent : r.trailers_sent ≡ has_trailers got

@@ -1,0 +1,118 @@
+-- What went through the out side of a call: the items of a response.
+use Rattle.std.specs.Prelude.{◌≡◌, ℕ, ◌+◌, ◌≤◌, Bool, true, false, List, [], ◌∷◌, ◌++◌, map, None, refl}
+use Rattle.std.specs.Coded.{le_prop, coded_list, coded_ℕ, Coded-set, ×_prop, Unit-prop}
+use Rattle.std.proofs.Common.{sym, ap, subst, ◌∙◌}
+use Rattle.std.proofs.Math.Path.{path_j, path_j'}
+use Rattle.hpack_codec.specs.declared.fields.Field.{Field}
+use Rattle.lane.specs.declared.fault.PutFault.{PutFault}
+use Rattle.lane.specs.declared.fault.PutFault.TheVariants.{Full, OutOfMemory, NotTaken}
+use Rattle.lpm.specs.Messages.{frame, IsMessage, IsFrame}
+use Rattle.lpm.specs.Reading.{front_of}
+use Rattle.lpm.proofs.Fronts.{front_of-frame}
+use Rattle.callbox.specs.declared.account.Account.{Account}
+use Rattle.callbox.specs.declared.account.CallEvent.{CallEvent}
+use Rattle.callbox.specs.declared.account.CallEvent.TheVariants as event
+use Rattle.callbox.specs.declared.account.OutItem.{OutItem}
+use Rattle.callbox.specs.declared.account.OutItem.TheVariants.{Head, Message, Trailers}
+use Rattle.callbox.specs.Accounts.{IsBody, IsResponse}
+
+-- whether a head stands first
+abbrev pub has_head : List OutItem → Bool
+has_head [] = false
+has_head (Head fields ∷ items) = true
+has_head (Message bytes ∷ items) = false
+has_head (Trailers fields ∷ items) = false
+
+-- whether trailers stand among the items
+abbrev pub has_trailers : List OutItem → Bool
+has_trailers [] = false
+has_trailers (Head fields ∷ items) = has_trailers items
+has_trailers (Message bytes ∷ items) = has_trailers items
+has_trailers (Trailers fields ∷ items) = true
+
+abbrev pub is_head : OutItem → Bool
+is_head (Head fields) = true
+is_head (Message bytes) = false
+is_head (Trailers fields) = false
+
+-- Why a message is handed back: as the lane refuses an item, or for want of memory for the message with its prefix.
+abbrev pub MayRefuseMessage : Bool → ℕ → ℕ → ℕ → PutFault (List ℕ) → Type 0
+MayRefuseMessage only_fills room put seen_taken (Full message waiting) = (waiting + seen_taken ≡ put) × (room ≤ waiting)
+MayRefuseMessage only_fills room put seen_taken (OutOfMemory message) = Unit {0}
+MayRefuseMessage only_fills room put seen_taken (NotTaken message) = only_fills ≡ false
+
+-- messages with their prefixes
+abbrev pub message_items : List (List ℕ) → List OutItem
+message_items messages = map (λ message. Message (frame message)) messages
+
+-- a head, messages with their prefixes, and trailers
+abbrev pub answer_items : List Field → List (List ℕ) → List Field → List OutItem
+answer_items head messages trailers = Head head ∷ (message_items messages ++ Trailers trailers ∷ [])
+
+-- the out side of an account
+abbrev pub out_account : List OutItem → List OutItem → Account
+out_account given sent = record { fed = []; shut = None; taken = []; told = None; given = given; sent = sent }
+
+-- the items that were given, and a Send for each that left
+abbrev pub out_events : List OutItem → List OutItem → List CallEvent
+out_events given sent = map event.Give given ++ map (λ _. event.Send) sent
+
+-- ---- a response is one in at most one way, so a struct may say of its items that they are one
+
+same_message : (bytes message other : List ℕ) → IsMessage message → IsMessage other → bytes ≡ frame message → bytes ≡ frame other → message ≡ other
+same_message bytes message other fits other_fits is other_is =
+    let one = front_of-frame message [] fits in
+    let two = front_of-frame other [] other_fits in
+    let same = ap (λ (b : List ℕ). front_of (b ++ [])) (sym is ∙ other_is) in
+    cc
+
+-- the whole of what makes bytes a frame
+abbrev as_frame : (bytes message : List ℕ) → IsMessage message → bytes ≡ frame message → IsFrame bytes
+as_frame bytes message fits is = (message, fits, is)
+
+pub IsFrame-prop : (bytes : List ℕ) → IsProp (IsFrame bytes)
+IsFrame-prop bytes (message, fits, is) (other, other_fits, other_is) =
+    path_j (λ (y : List ℕ) (q : message ≡ y). (y_fits : IsMessage y) (y_is : bytes ≡ frame y) → as_frame bytes message fits is ≡ as_frame bytes y y_fits y_is)
+    (λ y_fits y_is.
+    ap (λ (f : IsMessage message). as_frame bytes message f is) (le_prop fits y_fits)
+    ∙ ap (λ (e : bytes ≡ frame message). as_frame bytes message y_fits e) (Coded-set (coded_list coded_ℕ) bytes (frame message) is y_is))
+    (same_message bytes message other fits other_fits is other_is) other_fits other_is
+
+-- that a list is empty is so in one way
+IsNone : List OutItem → Type 0
+IsNone [] = Unit {0}
+IsNone (item ∷ items) = ⊥
+
+IsNone-prop : (items : List OutItem) → IsProp (IsNone items)
+unfolding IsNone
+IsNone-prop [] = Unit-prop
+IsNone-prop (item ∷ items) = λ p q. absurd p
+
+from_none : (items : List OutItem) → IsNone items → items ≡ []
+unfolding IsNone
+from_none [] none = refl
+from_none (item ∷ items) none = absurd none
+
+to_none : (items : List OutItem) → items ≡ [] → IsNone items
+unfolding IsNone
+to_none items e = subst IsNone (sym e) tt
+
+there_and_back : (items : List OutItem) (e : items ≡ []) → from_none items (to_none items e) ≡ e
+unfolding from_none
+there_and_back items e = path_j' (λ (xs : List OutItem) (p : xs ≡ []). from_none xs (to_none xs p) ≡ p) refl e
+
+IsEmpty-prop : (items : List OutItem) → IsProp (items ≡ [])
+IsEmpty-prop items p q =
+    sym (there_and_back items p) ∙ ap (from_none items) (IsNone-prop items (to_none items p) (to_none items q)) ∙ there_and_back items q
+
+IsBody-prop : (items : List OutItem) → IsProp (IsBody items)
+IsBody-prop [] = Unit-prop
+IsBody-prop (Head fields ∷ items) = λ p q. absurd p
+IsBody-prop (Message bytes ∷ items) = ×_prop (IsFrame-prop bytes) (IsBody-prop items)
+IsBody-prop (Trailers fields ∷ items) = IsEmpty-prop items
+
+pub IsResponse-prop : (items : List OutItem) → IsProp (IsResponse items)
+IsResponse-prop [] = Unit-prop
+IsResponse-prop (Head fields ∷ items) = IsBody-prop items
+IsResponse-prop (Message bytes ∷ items) = λ p q. absurd p
+IsResponse-prop (Trailers fields ∷ items) = IsEmpty-prop items

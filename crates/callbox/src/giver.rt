@@ -1,0 +1,159 @@
+//! The end of a call that gives what goes out.
+
+ghost use Rattle.std.specs.Prelude.{◌≡◌, ◌≤◌, true, false, [], ◌∷◌, ◌++◌, length, IfErr, IfOk, OnErr, OnOk, MatchBool};
+ghost use Rattle.lane.specs.PutFault.{item_of, MayRefuse};
+ghost use Rattle.lpm.specs.Messages.{frame};
+ghost use Rattle.callbox.specs.Accounts.{IsResponse};
+ghost use Rattle.callbox.specs.OutSides.{has_head, has_trailers, is_head, IsResponse-prop, MayRefuseMessage};
+ghost use Rattle.callbox.specs.declared.account.OutItem.TheVariants as out_item;
+
+use crate::{OutItem, Sequence};
+use bytes::Bytes;
+use hpack_codec::Field;
+use lane::{Lane, PutFault};
+use lpm::write_message;
+use std::alloc::{AllocError, Global};
+
+/// Why something was not given: 1 Full, 3 OutOfMemory or 4 NotTaken. What was passed comes back.
+pub type GiveFault<T> = PutFault<T>;
+
+/// Gives the items of a call's response, as far as the trailers.
+#[derive(Drop)]
+pub struct Giver<L: Lane<Item = OutItem>> {
+    pub(crate) tx: L::In,
+    /// Whether the head was given.
+    pub(crate) begun: bool,
+    pub(crate) alloc: Global,
+    ghost begins: { begun ≡ has_head (L.put_in tx) },
+    ghost response: { IsResponse (L.put_in tx) } by { IsResponse-prop (L.put_in tx) },
+    ghost unshut: { has_trailers (L.put_in tx) ≡ false },
+}
+
+/// What is left of a `Giver` once the trailers were given.
+#[derive(Drop)]
+pub struct GivenShut<L: Lane<Item = OutItem>> {
+    pub(crate) shut: L::Shut,
+    ghost response: { IsResponse (L.put_shut shut) } by { IsResponse-prop (L.put_shut shut) },
+    ghost closed: { has_trailers (L.put_shut shut) ≡ L.was_placed shut },
+}
+
+impl<L: Lane<Item = OutItem>> Giver<L> {
+    /// An end of this lane.
+    pub(crate) fn new(alloc: Global, tx: L::In) -> Giver<L>
+        requires { L.put_in tx ≡ [] }
+        ensures { result.tx ≡ tx }
+    {
+        Giver {
+            tx,
+            begun: false,
+            alloc,
+        }
+    }
+
+    /// Whether the head was given.
+    pub fn has_head(&self) -> bool
+        ensures head { result ≡ has_head (L.put_in self.now.tx) }
+        ensures none { result ≡ false → L.put_in self.now.tx ≡ [] }
+    {
+        self.begun
+    }
+
+    /// Gives the head of the response, or hands the fields back and changes nothing.
+    pub fn head(&mut self, fields: Sequence<Field>) -> Result<(), GiveFault<Sequence<Field>>>
+        requires first { L.put_in self.old.tx ≡ [] }
+        ensures name { L.in_name self.new.tx ≡ L.in_name self.old.tx }
+        ensures ok { OnOk result (L.put_in self.new.tx ≡ L.put_in self.old.tx ++ out_item.Head fields ∷ []) }
+        ensures unchanged { OnErr result (L.put_in self.new.tx ≡ L.put_in self.old.tx) }
+        ensures handed_back { IfErr result (λ e. item_of e ≡ fields) }
+        ensures fault { IfErr result
+            (MayRefuse L.only_fills (L.room_of (L.in_name self.old.tx))
+            (length (L.put_in self.old.tx)) (L.seen_taken self.new.tx)) }
+    {
+        match L::put(&mut self.tx, OutItem::Head(fields)) {
+            Ok(()) => {
+                self.begun = true;
+                Ok(())
+            }
+            Err(PutFault::Full { item, waiting }) => Err(PutFault::Full {
+                item: item.into_head(),
+                waiting,
+            }),
+            Err(PutFault::OutOfMemory(item)) => Err(PutFault::OutOfMemory(item.into_head())),
+            Err(PutFault::NotTaken(item)) => Err(PutFault::NotTaken(item.into_head())),
+        }
+    }
+
+    /// Gives a message with its prefix, or hands the message back and changes nothing.
+    ///
+    /// The bytes of the message are copied once, behind the prefix.
+    pub fn give(&mut self, message: Bytes) -> Result<(), GiveFault<Bytes>>
+        requires head { has_head (L.put_in self.old.tx) ≡ true }
+        requires len { length message ≤ 4194304 }
+        ensures name { L.in_name self.new.tx ≡ L.in_name self.old.tx }
+        ensures ok { OnOk result (L.put_in self.new.tx ≡ L.put_in self.old.tx ++ out_item.Message (frame message) ∷ []) }
+        ensures unchanged { OnErr result (L.put_in self.new.tx ≡ L.put_in self.old.tx) }
+        ensures handed_back { IfErr result (λ e. item_of e ≡ message) }
+        ensures fault { IfErr result
+            (MayRefuseMessage L.only_fills (L.room_of (L.in_name self.old.tx))
+            (length (L.put_in self.old.tx)) (L.seen_taken self.new.tx)) }
+    {
+        let Ok(framed) = framed(self.alloc, message.as_slice()) else {
+            return Err(PutFault::OutOfMemory(message));
+        };
+        match L::put(&mut self.tx, OutItem::Message(framed)) {
+            Ok(()) => Ok(()),
+            Err(PutFault::Full { item: _, waiting }) => Err(PutFault::Full {
+                item: message,
+                waiting,
+            }),
+            Err(PutFault::OutOfMemory(_)) => Err(PutFault::OutOfMemory(message)),
+            Err(PutFault::NotTaken(_)) => Err(PutFault::NotTaken(message)),
+        }
+    }
+
+    /// Gives the trailers, where `placed` then says so. It takes no memory.
+    pub fn trailers(self, fields: Sequence<Field>) -> GivenShut<L>
+        ensures name { L.shut_name result.shut ≡ L.in_name self.tx }
+        ensures put { MatchBool (L.was_placed result.shut)
+            (L.put_shut result.shut ≡ L.put_in self.tx ++ out_item.Trailers fields ∷ [])
+            (L.put_shut result.shut ≡ L.put_in self.tx) }
+    {
+        let Giver { tx, .. } = self;
+        let shut = L::last(tx, OutItem::Trailers(fields));
+        GivenShut { shut }
+    }
+}
+
+impl<L: Lane<Item = OutItem>> GivenShut<L> {
+    /// Whether the trailers were put behind the other items.
+    pub fn placed(&self) -> bool
+        ensures { result ≡ L.was_placed self.now.shut }
+    {
+        L::placed(&self.shut)
+    }
+}
+
+impl OutItem {
+    /// The fields of a head.
+    fn into_head(self) -> Sequence<Field>
+        requires { is_head self ≡ true }
+        ensures { self ≡ out_item.Head result }
+    {
+        match self {
+            OutItem::Head(fields) => fields,
+            OutItem::Message(_) | OutItem::Trailers(_) => unreachable!(),
+        }
+    }
+}
+
+/// The message with its prefix.
+fn framed(alloc: Global, message: &[u8]) -> Result<Bytes, AllocError>
+    requires { length message.now ≤ 4194304 }
+    ensures { IfOk result (λ bytes. bytes ≡ frame message.now) }
+{
+    let mut bytes = Vec::new(alloc);
+    match write_message(message, &mut bytes) {
+        Ok(()) => Ok(Bytes::from_vec(bytes)?),
+        Err(_fault) => Err(AllocError),
+    }
+}

@@ -1,0 +1,288 @@
+//! The credit book of a connection (RFC 9113, sections 5.2 and 6.9).
+
+ghost use Rattle.std.specs.Prelude.{◌≡◌, ◌<◌, ◌^◌, true, OnErr, OnOk, IsSome, nat_eq};
+ghost use Rattle.std.specs.Option.{option_map};
+ghost use Rattle.std.specs.Map.{lookup, set_value};
+ghost use Rattle.flow.specs.Books.{call_at, unreturned_of};
+
+use crate::MAX_LIVE;
+use counts::NO_BYTES;
+use h2frame::StreamId;
+use indexmap::IndexMap;
+use std::alloc::Global;
+use std::marker::Model;
+
+mod counts;
+mod fault;
+
+pub use counts::Counts;
+pub use fault::BookFault;
+
+/// Which ends of a call are marked as over.
+#[derive(Clone, Copy, Debug, PartialEq, Eq)]
+pub struct Marks {
+    /// The peer's: no more DATA comes.
+    pub remote: bool,
+    /// Ours: no more DATA is taken.
+    pub local: bool,
+}
+
+/// What the book has of a live call.
+#[derive(Clone, Copy)]
+pub struct Call {
+    /// The call's own bytes.
+    pub counts: Counts,
+    /// Which of its ends are over.
+    pub marks: Marks,
+}
+
+/// A call of which neither end is marked.
+const NEW_CALL: Call = Call {
+    counts: NO_BYTES,
+    marks: Marks {
+        remote: false,
+        local: false,
+    },
+};
+
+/// The credit book of a connection: for the connection and each live call, how many bytes of DATA came, how many of
+/// them were returned, and how many of those were announced to the peer.
+///
+/// The peer may send 65,535 bytes more than was announced (RFC 9113, section 6.9.2). The bytes of a call count on the
+/// connection too; what counts on the connection alone, under id 0, is loose until it is returned.
+#[derive(Drop)]
+pub struct Book {
+    connection: Counts,
+    calls: IndexMap<StreamId, Call>,
+    last: StreamId,
+    closing: bool,
+}
+
+impl Model for Book {
+    ghost use Rattle.flow.specs.Books.{Books, IsLawful};
+
+    ghost Value = { Books };
+
+    ghost view = { λ b. record { connection = b.connection; calls = b.calls.entries; last = b.last; closing = b.closing } };
+
+    ghost invariant = { λ b. IsLawful (record { connection = b.connection; calls = b.calls.entries; last = b.last; closing = b.closing }) };
+}
+
+impl Book {
+    ghost use Rattle.flow.specs.Books.{new_book, IsLawful, IsOdd, MeetsOrMemory, Meets, AdmitCause, ReceiveCause, GiveBackCause, EndCause, after_admit, after_receive, after_give_back, after_announce, announcement, after_end_remote, after_end_local, after_cut};
+
+    /// The book of a new connection, with no calls. It takes no memory yet.
+    pub fn new(alloc: Global) -> Book
+        ensures { result ≡ new_book }
+    {
+        Book {
+            connection: NO_BYTES,
+            calls: IndexMap::new(alloc),
+            last: 0,
+            closing: false,
+        }
+    }
+
+    /// The greatest id that was admitted, 0 for none. Each book keeps the law of the credit book.
+    pub fn last(&self) -> StreamId
+        ensures last { result ≡ self.now.last }
+        ensures law { IsLawful self.now }
+    {
+        self.last
+    }
+
+    /// Lets no more calls be admitted, for good.
+    pub fn close(&mut self)
+        ensures { self.new ≡ record self.old { closing = true } }
+    {
+        self.closing = true;
+    }
+
+    /// Whether no more calls are admitted.
+    pub fn closing(&self) -> bool
+        ensures { result ≡ self.now.closing }
+    {
+        self.closing
+    }
+
+    /// Which ends of a call are marked, if it is live.
+    pub fn marks(&self, id: StreamId) -> Option<Marks>
+        ensures { result ≡ option_map (λ call. call.marks) (call_at self.now id) }
+    {
+        let call = self.calls.get(&id).copied()?;
+        Some(call.marks)
+    }
+
+    /// Admits a call, of which neither end is marked. Draining is tested before TooMany.
+    pub fn admit(&mut self, id: StreamId) -> Result<(), BookFault>
+        requires odd { IsOdd id }
+        requires above { self.old.last < id }
+        ensures ok { OnOk result (self.new ≡ after_admit self.old id) }
+        ensures unchanged { OnErr result (self.new ≡ self.old) }
+        ensures fault { MeetsOrMemory (AdmitCause self.old) result }
+    {
+        if self.closing {
+            return Err(BookFault::Draining);
+        }
+        if self.calls.len() >= MAX_LIVE {
+            return Err(BookFault::TooMany);
+        }
+        self.calls.insert(id, NEW_CALL)?;
+        self.last = id;
+        Ok(())
+    }
+
+    /// Counts bytes of DATA that came, for a live call and the connection, or for the connection alone where the id is 0.
+    /// Those of a call whose local end is marked are returned in the same step.
+    pub fn receive(&mut self, id: StreamId, n: u32) -> Result<(), BookFault>
+        ensures ok { OnOk result (self.new ≡ after_receive self.old id n) }
+        ensures unchanged { OnErr result (self.new ≡ self.old) }
+        ensures fault { Meets (ReceiveCause self.old id n) result }
+    {
+        let more = u64::from(n);
+        if id == 0 {
+            if more > self.connection.room() {
+                return Err(BookFault::ConnectionWindow);
+            }
+            self.connection = self.connection.with_received(more, false);
+            return Ok(());
+        }
+        let Some(mut call) = self.calls.get(&id).copied() else {
+            return Err(BookFault::Unknown);
+        };
+        if more > call.counts.window() {
+            return Err(BookFault::CallWindow);
+        }
+        if more > self.connection.room() {
+            return Err(BookFault::ConnectionWindow);
+        }
+        let at_once = call.marks.local;
+        call.counts = call.counts.with_received(more, at_once);
+        write_call(&mut self.calls, id, call);
+        self.connection = self.connection.with_received(more, at_once);
+        Ok(())
+    }
+
+    /// Counts bytes that were returned, for a live call and the connection, or for the connection alone where the id is 0:
+    /// then they are of those that are loose.
+    pub fn give_back(&mut self, id: StreamId, n: u32) -> Result<(), BookFault>
+        ensures ok { OnOk result (self.new ≡ after_give_back self.old id n) }
+        ensures unchanged { OnErr result (self.new ≡ self.old) }
+        ensures fault { Meets (GiveBackCause self.old id n) result }
+    {
+        let more = u64::from(n);
+        if id == 0 {
+            if more > self.connection.unreturned() - unreturned(&self.calls) {
+                return Err(BookFault::Overgiven);
+            }
+            self.connection.returned += more;
+            return Ok(());
+        }
+        let Some(mut call) = self.calls.get(&id).copied() else {
+            return Err(BookFault::Unknown);
+        };
+        if more > call.counts.unreturned() {
+            return Err(BookFault::Overgiven);
+        }
+        call.counts.returned += more;
+        write_call(&mut self.calls, id, call);
+        self.connection.returned += more;
+        Ok(())
+    }
+
+    /// Announces all that was returned, and answers how much of it wasn't yet: the increment of a WINDOW_UPDATE that is
+    /// due (RFC 9113, section 6.9). It is 0, and nothing changes, where the call isn't live or either end is marked.
+    pub fn announce(&mut self, id: StreamId) -> u32
+        ensures increment { result ≡ announcement self.old id }
+        ensures announced { self.new ≡ after_announce self.old id }
+    {
+        if id == 0 {
+            let due = self.connection.unannounced();
+            self.connection.announced = self.connection.returned;
+            return due;
+        }
+        let Some(mut call) = self.calls.get(&id).copied() else {
+            return 0;
+        };
+        if call.marks.remote || call.marks.local {
+            return 0;
+        }
+        let due = call.counts.unannounced();
+        call.counts.announced = call.counts.returned;
+        write_call(&mut self.calls, id, call);
+        due
+    }
+
+    /// Marks the remote end of a call: no more DATA comes. With both ends marked it is no longer live.
+    pub fn end_remote(&mut self, id: StreamId) -> Result<(), BookFault>
+        ensures ok { OnOk result (self.new ≡ after_end_remote self.old id) }
+        ensures unchanged { OnErr result (self.new ≡ self.old) }
+        ensures fault { Meets (EndCause self.old id) result }
+    {
+        let Some(mut call) = self.calls.get(&id).copied() else {
+            return Err(BookFault::Unknown);
+        };
+        if call.marks.local {
+            return self.cut(id);
+        }
+        call.marks.remote = true;
+        write_call(&mut self.calls, id, call);
+        Ok(())
+    }
+
+    /// Marks the local end of a call: nobody takes its DATA any more, so all that it hasn't returned is returned. With
+    /// both ends marked it is no longer live.
+    pub fn end_local(&mut self, id: StreamId) -> Result<(), BookFault>
+        ensures ok { OnOk result (self.new ≡ after_end_local self.old id) }
+        ensures unchanged { OnErr result (self.new ≡ self.old) }
+        ensures fault { Meets (EndCause self.old id) result }
+    {
+        let Some(mut call) = self.calls.get(&id).copied() else {
+            return Err(BookFault::Unknown);
+        };
+        if call.marks.remote {
+            return self.cut(id);
+        }
+        let rest = call.counts.unreturned();
+        call.counts.returned += rest;
+        call.marks.local = true;
+        write_call(&mut self.calls, id, call);
+        self.connection.returned += rest;
+        Ok(())
+    }
+
+    /// Makes a call no longer live, and returns the rest of its bytes on the connection.
+    pub fn cut(&mut self, id: StreamId) -> Result<(), BookFault>
+        ensures ok { OnOk result (self.new ≡ after_cut self.old id) }
+        ensures unchanged { OnErr result (self.new ≡ self.old) }
+        ensures fault { Meets (EndCause self.old id) result }
+    {
+        let Some(call) = self.calls.get(&id).copied() else {
+            return Err(BookFault::Unknown);
+        };
+        self.connection.returned += call.counts.unreturned();
+        self.calls.shift_remove(&id);
+        Ok(())
+    }
+}
+
+/// Gives a live call other counts and marks.
+fn write_call(calls: &mut IndexMap<StreamId, Call>, id: StreamId, call: Call)
+    requires { IsSome (lookup (nat_eq id) calls.old.entries) }
+    ensures { calls.new.entries ≡ set_value (nat_eq id) calls.old.entries call }
+{
+    if let Some(place) = calls.get_mut(&id) {
+        *place = call;
+    }
+}
+
+/// What the live calls haven't returned.
+fn unreturned(calls: &IndexMap<StreamId, Call>) -> u64
+    requires { unreturned_of calls.now.entries < 2 ^ 64 }
+    ensures { result ≡ unreturned_of calls.now.entries }
+{
+    calls
+        .values()
+        .map(|call| call.counts.received.saturating_sub(call.counts.returned))
+        .sum()
+}

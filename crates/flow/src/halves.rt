@@ -1,0 +1,172 @@
+//! The receiving halves of streams (RFC 9113, section 5.1).
+
+ghost use Rattle.std.specs.Prelude.{◌≡◌, ◌<◌, true, false, ◌&&◌, nat_eq, nat_lt, List, [], ◌∷◌, None, Some, IfOk, OnErr, IsSome, IsTrue, MatchOption};
+ghost use Rattle.std.specs.Map.{lookup, set_value};
+ghost use Rattle.flow.specs.Halves.{Event, Received, Cut, IsJudged, Stands, begins, begun, ends, half_after, half_of, is_connection_error, is_error, is_headers, is_odd, half_of_new, on_begun, verdict};
+
+use crate::MAX_STREAMS;
+use h2frame::{ErrorCode, Flags, FrameHead, FrameKind, StreamId};
+use indexmap::IndexMap;
+use std::alloc::{AllocError, Global};
+use std::marker::Model;
+
+/// What the receiving half of a begun stream has come to.
+#[derive(Clone, Copy, Debug, PartialEq, Eq)]
+pub enum Half {
+    /// More frames may come.
+    Opened,
+    /// The client sent its last one.
+    Ended,
+    /// Either side reset the stream.
+    Reset,
+}
+
+/// What is to become of a frame.
+#[derive(Clone, Copy, Debug, PartialEq, Eq)]
+pub enum HalfVerdict {
+    /// It opens its stream.
+    Open,
+    /// It is lawful on its stream.
+    Accept,
+    /// It came on a stream that is no more, and is dropped.
+    Discard,
+    /// Its stream is to be reset with this code.
+    StreamError(ErrorCode),
+    /// The connection is to be ended with this code.
+    ConnectionError(ErrorCode),
+}
+
+/// The receiving half of each stream, judged by the client's frames and the server's resets alone.
+#[derive(Drop)]
+pub struct Halves {
+    greatest: StreamId,
+    halves: IndexMap<StreamId, Half>,
+}
+
+impl Model for Halves {
+    ghost use Rattle.flow.specs.Halves.{Streams};
+
+    ghost Value = { Streams };
+
+    ghost view = { λ s. record { greatest = s.greatest; halves = s.halves.entries } };
+}
+
+impl Halves {
+    /// A new connection, on which every stream is idle. It takes no memory yet.
+    pub fn new(alloc: Global) -> Halves
+        ensures { Stands [] result }
+    {
+        Halves {
+            greatest: 0,
+            halves: IndexMap::new(alloc),
+        }
+    }
+
+    /// Judges a frame by what came before it. Only the HEADERS that begin a stream take memory.
+    pub fn on(&mut self, head: &FrameHead) -> Result<HalfVerdict, AllocError>
+        requires { IsJudged head.now }
+        ensures verdict { IfOk result (λ answer. (history : List Event) → Stands history self.old → answer ≡ verdict history head.now) }
+        ensures follows { IfOk result (λ _. (history : List Event) → Stands history self.old → Stands (Received head.now ∷ history) self.new) }
+        ensures error { IfOk result (λ answer. is_error answer ≡ true → self.new ≡ self.old) }
+        ensures begun { IfOk result (λ answer. is_connection_error answer ≡ false → IsSome (half_of self.new head.now.stream)) }
+        ensures unchanged { OnErr result (self.new ≡ self.old) }
+        ensures memory { OnErr result ((history : List Event) → Stands history self.old → IsTrue (begins (Received head.now) (begun history))) }
+    {
+        if let Some(verdict) = judge_begun(&mut self.halves, head) {
+            return Ok(verdict);
+        }
+        if !begins_stream(head, self.greatest) {
+            return Ok(HalfVerdict::ConnectionError(ErrorCode::ProtocolError));
+        }
+        let begun = self.halves.len();
+        self.halves.insert(head.stream, new_half(begun, head))?;
+        self.greatest = head.stream;
+        Ok(if begun < MAX_STREAMS {
+            HalfVerdict::Open
+        } else {
+            HalfVerdict::Discard
+        })
+    }
+
+    /// Marks a begun stream as reset by the server.
+    pub fn cut(&mut self, id: StreamId)
+        requires { IsSome (half_of self.old id) }
+        ensures follows { (history : List Event) → Stands history self.old → Stands (Cut id ∷ history) self.new }
+    {
+        if let Some(half) = self.halves.get_mut(&id) {
+            *half = Half::Reset;
+        }
+    }
+}
+
+/// Judges a frame on a begun stream, and moves its half on. On another stream there is no verdict.
+fn judge_begun(halves: &mut IndexMap<StreamId, Half>, head: &FrameHead) -> Option<HalfVerdict>
+    ensures begun { MatchOption (lookup (nat_eq head.now.stream) halves.old.entries) (result ≡ None) (λ half. result ≡ Some (on_begun half head.now)) }
+    ensures half { MatchOption (lookup (nat_eq head.now.stream) halves.old.entries) (halves.new.entries ≡ halves.old.entries) (λ half. halves.new.entries
+        ≡ set_value (nat_eq head.now.stream) halves.old.entries (half_after half (Received head.now))) }
+{
+    let half = halves.get_mut(&head.stream)?;
+    let verdict = half.verdict(head);
+    *half = half.after(head);
+    Some(verdict)
+}
+
+impl Half {
+    /// The verdict of a frame on a stream whose half has come to this.
+    fn verdict(self, head: &FrameHead) -> HalfVerdict
+        ensures { result ≡ on_begun self head.now }
+    {
+        match (self, head.kind) {
+            (Half::Reset, _) => HalfVerdict::Discard,
+            (Half::Ended, FrameKind::Data | FrameKind::Headers) => {
+                HalfVerdict::StreamError(ErrorCode::StreamClosed)
+            }
+            (Half::Opened, FrameKind::Headers) if !is_last(head) => {
+                HalfVerdict::StreamError(ErrorCode::ProtocolError)
+            }
+            _ => HalfVerdict::Accept,
+        }
+    }
+
+    /// What the half comes to by a frame.
+    fn after(self, head: &FrameHead) -> Half
+        ensures { result ≡ half_after self (Received head.now) }
+    {
+        match self {
+            Half::Reset => Half::Reset,
+            _ if head.kind == FrameKind::RstStream => Half::Reset,
+            Half::Opened if is_last(head) => Half::Ended,
+            half => half,
+        }
+    }
+}
+
+/// Whether the frame is the client's last on its stream.
+fn is_last(head: &FrameHead) -> bool
+    ensures { result ≡ ends (Received head.now) }
+{
+    match head.kind {
+        FrameKind::Data | FrameKind::Headers => head.flags.contains(Flags::END_STREAM),
+        _ => false,
+    }
+}
+
+/// Whether the frame begins a stream, where this is the greatest number of those that were begun.
+fn begins_stream(head: &FrameHead, greatest: StreamId) -> bool
+    ensures { result ≡ is_headers head.now.kind && (is_odd head.now.stream && nat_lt greatest head.now.stream) }
+{
+    head.kind == FrameKind::Headers && head.stream % 2 == 1 && head.stream > greatest
+}
+
+/// What the half of a stream comes to by the HEADERS that begin it, after so many others.
+fn new_half(begun: usize, head: &FrameHead) -> Half
+    ensures { result ≡ half_of_new begun (Received head.now) }
+{
+    if begun >= MAX_STREAMS {
+        Half::Reset
+    } else if is_last(head) {
+        Half::Ended
+    } else {
+        Half::Opened
+    }
+}
