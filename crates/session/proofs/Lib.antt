@@ -1,0 +1,4 @@
+pub mod SettingSteps
+pub mod PrefaceSteps
+pub mod LawfulFrames
+pub mod FrameGifts
