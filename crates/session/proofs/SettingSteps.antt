@@ -21,7 +21,7 @@ pub record ReadTo (content : List ℕ) (settings : List PeerSetting) (rest : Lis
 pub read_none : (content : List ℕ) → length content % 6 ≡ 0 → ReadTo content [] content
 read_none content whole = record { front = []; text = refl; each = tt; lawful = tt; told = refl; whole = whole }
 
-all_push : {X : Type 0} (P : X → Type 0) (xs : List X) (x : X) → AllByRecursion P xs → P x → AllByRecursion P (xs ++ x ∷ [])
+pub all_push : {X : Type 0} (P : X → Type 0) (xs : List X) (x : X) → AllByRecursion P xs → P x → AllByRecursion P (xs ++ x ∷ [])
 all_push P [] x all is = (is, tt)
 all_push P (y ∷ ys) x all is = (all.0, all_push P ys x all.1 is)
 

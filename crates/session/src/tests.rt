@@ -1,9 +1,12 @@
 //! The preface cut everywhere, rows of SETTINGS, and what frames come to by RFC 9113, sections 5.1 and 6.
 
+use crate::block::block_events;
 use crate::judge::{frame_events, judge, judge_credit};
 use crate::*;
+use bytes::Bytes;
 use flow::Halves;
-use h2frame::{ErrorCode, FrameFault, FrameKind, FrameReader, SettingId};
+use h2frame::{ErrorCode, Flags, Frame, FrameFault, FrameKind, FrameReader, SettingId};
+use hpack_codec::Decoder;
 use std::alloc::{AllocError, Global};
 use std::process::Abort;
 use std::test::Fail;
@@ -130,12 +133,13 @@ fn describe(out: &mut String, event: &InEvent) -> Result<(), AllocError> {
     Ok(())
 }
 
-/// The events of frames, of which HEADERS are only judged.
+/// The events of frames. HEADERS without a block are only judged.
 fn events_of(rt: &impl Abort, alloc: Global, text: &str) -> Result<String, Fail> {
     let bytes = bytes_of(alloc, text)?;
     let mut reader = FrameReader::new(alloc);
     reader.feed(bytes.as_slice())?;
     let mut halves = Halves::new(alloc);
+    let mut decoder = Decoder::new(alloc);
     let mut events = Vec::new(alloc);
     for _ in 0..bytes.len() {
         match reader.next() {
@@ -145,7 +149,19 @@ fn events_of(rt: &impl Abort, alloc: Global, text: &str) -> Result<String, Fail>
                 if head.kind != FrameKind::Headers {
                     frame_events(alloc, &mut halves, frame, &mut events)?;
                 } else if head.stream != 0 {
-                    judge(&mut halves, &head)?;
+                    let verdict = judge(&mut halves, &head)?;
+                    let block = frame.content.as_slice();
+                    if !block.is_empty() {
+                        block_events(
+                            alloc,
+                            &mut halves,
+                            &mut decoder,
+                            &head,
+                            verdict,
+                            block,
+                            &mut events,
+                        )?;
+                    }
                 }
             }
             Some(Err(FrameFault::ZeroIncrement(id))) if id != 0 => {
@@ -263,5 +279,153 @@ fn frames_after_a_reset(rt: HostRuntime) -> Result<(), Fail> {
         let out = events_of(&rt, rt.alloc(), text.as_str())?;
         assert_eq!(rt; out.as_str(), wanted, "{text}");
     }
+    Ok(())
+}
+
+#[test]
+fn blocks_rows(rt: HostRuntime) -> Result<(), Fail> {
+    // A POST of EmptyCall, with `te` and `content-type`.
+    const CALL: &str =
+        "83860423 2f677270632e74657374696e672e54657374536572766963652f456d70747943616c6c
+        0002746508747261696c657273 0f10106170706c69636174696f6e2f67727063";
+    const OPENS: &str = "000047010400000001";
+    const ENDS: &str = "000047010500000001";
+    // The flags and stream of its HEADERS, the frames behind them, and the events of all.
+    let rows = [
+        (OPENS, "", " Open(1)"),
+        (ENDS, "", " Open(1) End(1)"),
+        (
+            OPENS,
+            "000005000100000001 0000000000 000001000000000001 00",
+            " Open(1) Data(1, 5, 5) End(1) Loose(1) StreamError(1, StreamClosed)",
+        ),
+        (
+            OPENS,
+            "000001010400000001 82",
+            " Open(1) StreamError(1, ProtocolError)",
+        ),
+        (OPENS, "000001010500000001 82", " Open(1) End(1)"),
+        (
+            ENDS,
+            "000001010500000001 82",
+            " Open(1) End(1) StreamError(1, StreamClosed)",
+        ),
+        // A faulty block ends the connection, whatever its stream.
+        (
+            OPENS,
+            "000001010400000003 80",
+            " Open(1) Fatal(CompressionError)",
+        ),
+        (
+            ENDS,
+            "000001010400000001 80",
+            " Open(1) End(1) Fatal(CompressionError)",
+        ),
+        // Behind a reset the block's new entry is there all the same.
+        (
+            OPENS,
+            "000004030000000001 00000008 000005010500000001 4001610162 000001010400000003 be",
+            " Open(1) Reset(1, Cancel) BadHead(3, Malformed)",
+        ),
+        // Heads that are none.
+        (
+            OPENS,
+            "000001010500000003 82 000001000000000003 00",
+            " Open(1) BadHead(3, Malformed) Loose(1)",
+        ),
+        (
+            OPENS,
+            "000003010500000003 828684",
+            " Open(1) BadHead(3, NotPost) End(3)",
+        ),
+        (
+            OPENS,
+            "000003010400000003 838684",
+            " Open(1) BadHead(3, NotGrpc)",
+        ),
+    ];
+    for (headers, behind, wanted) in rows {
+        let text = format!(in rt.alloc(); "{headers} {CALL} {behind}")?;
+        let out = events_of(&rt, rt.alloc(), text.as_str())?;
+        assert_eq!(rt; out.as_str(), wanted, "{text}");
+    }
+    Ok(())
+}
+
+/// What becomes of a block of frames with these payloads, the last of which has END_HEADERS.
+fn collected(alloc: Global, lengths: &[usize]) -> Result<Result<usize, FragmentFault>, Fail> {
+    let mut block = None;
+    for (index, len) in lengths.iter().enumerate() {
+        let kind = if index == 0 {
+            FrameKind::Headers
+        } else {
+            FrameKind::Continuation
+        };
+        let flags = if index + 1 == lengths.len() {
+            Flags::END_HEADERS
+        } else {
+            Flags::NONE
+        };
+        let zeros = [0u8; 16_384];
+        let len = (*len).min(16_384);
+        let content = Bytes::copy_from_slice(alloc, &zeros[..len])?;
+        let frame = Frame::new(kind, flags, 1, content);
+        match &mut block {
+            None => {
+                if let FrameKind::Headers = kind {
+                    block = Some(HeaderBlock::begin(alloc, &frame)?);
+                }
+            }
+            Some(pending) => {
+                if pending.is_whole() {
+                    return Err(Fail::from("whole too early"));
+                }
+                if let Err(fault) = pending.add(&frame) {
+                    return Ok(Err(fault));
+                }
+            }
+        }
+    }
+    match block {
+        Some(pending) if pending.is_whole() => Ok(Ok(pending.as_slice().len())),
+        _ => Err(Fail::from("not whole")),
+    }
+}
+
+#[test]
+fn blocks_over_frames(rt: HostRuntime) -> Result<(), Fail> {
+    let alloc = rt.alloc();
+    assert_eq!(rt; collected(alloc, &[5])?, Ok(5));
+    assert_eq!(rt; collected(alloc, &[0, 0, 7, 1])?, Ok(8));
+    assert_eq!(rt;
+        collected(alloc, &[16_384, 16_384, 16_384, 16_384, 0])?,
+        Ok(65_536)
+    );
+    assert_eq!(rt;
+        collected(alloc, &[16_384, 16_384, 16_384, 16_384, 1])?,
+        Err(FragmentFault::TooLong)
+    );
+    let begun = Frame::new(FrameKind::Headers, Flags::NONE, 1, Bytes::new());
+    let others = [
+        (FrameKind::Continuation, 3),
+        (FrameKind::Headers, 1),
+        (FrameKind::Ping, 0),
+        (FrameKind::Unknown(99), 1),
+    ];
+    for (kind, stream) in others {
+        let mut block = HeaderBlock::begin(alloc, &begun)?;
+        assert!(rt; !block.is_whole());
+        let other = Frame::new(kind, Flags::NONE, stream, Bytes::new());
+        assert_eq!(rt; block.add(&other), Err(FragmentFault::Interrupted));
+        assert_eq!(rt; block.head().stream, 1);
+    }
+    assert_eq!(rt;
+        FragmentFault::Interrupted.error_code(),
+        ErrorCode::ProtocolError
+    );
+    assert_eq!(rt;
+        FragmentFault::TooLong.error_code(),
+        ErrorCode::EnhanceYourCalm
+    );
     Ok(())
 }
