@@ -1,13 +1,12 @@
 -- One more frame of a header block.
-use Rattle.std.proofs.Common.{◌≡◌, ◌≤◌, ℕ, Bool, true, false, List, [], ◌∷◌, ◌++◌, length, refl, sym, ap, subst, ◌∙◌, arith}
-use Rattle.std.specs.Prelude.{flat_map}
+use Rattle.std.proofs.Common.{◌≡◌, ◌≤◌, ℕ, Bool, false, List, [], ◌∷◌, ◌++◌, length, refl, sym, ap, subst, ◌∙◌, arith}
 use Rattle.std.specs.List.{AllByRecursion}
 use Rattle.std.proofs.lemmas.List.{append-nil, flat_map_more}
 use Rattle.h2frame.specs.declared.frame.Frame.{Frame}
 use Rattle.h2frame.specs.declared.frame.FrameHead.{FrameHead}
 use Rattle.h2frame.specs.declared.kind.FrameKind.TheVariants.{Headers}
 use Rattle.h2frame.specs.Flags.{has, end_headers}
-use Rattle.session.specs.Fragments.{Pending, IsContinuation, AreMarked, fragments, Collects}
+use Rattle.session.specs.Fragments.{Pending, IsContinuation, AreMarked, Collects}
 use Rattle.session.proofs.SettingSteps.{all_push}
 
 pub collects_first : (frame : Frame) → frame.head.kind ≡ Headers → length frame.content ≤ 16384

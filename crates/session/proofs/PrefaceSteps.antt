@@ -1,5 +1,5 @@
 -- Fronts of a text and of bytes that were compared.
-use Rattle.std.proofs.Common.{◌≡◌, ℕ, ◌≤◌, ◌<◌, ◌⊎◌, List, [], ◌++◌, length, take, drop, refl, sym, ap, ◌∙◌, arith, inl, inr, length-drop, min}
+use Rattle.std.proofs.Common.{◌≡◌, ℕ, ◌≤◌, ◌⊎◌, List, [], length, take, drop, sym, ap, ◌∙◌, arith, inl, inr, length-drop, min}
 use Rattle.std.proofs.lemmas.Bool.{cases_lt}
 use Rattle.std.proofs.lemmas.List.{take-append-le, take-append-drop, nil_from_length}
 use Rattle.session.specs.Prefaces.{Departs, Brings}

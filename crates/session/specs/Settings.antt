@@ -1,11 +1,11 @@
 -- The content of a SETTINGS frame (RFC 9113, sections 6.5.1 and 6.5.2).
-use Rattle.std.specs.Prelude.{◌≡◌, ℕ, ◌^◌, ◌<◌, Bool, true, false, ◌||◌, nat_lt, if◌then◌else◌, List, [], ◌∷◌, ◌++◌, flat_map, filter_map, Option, Some, None}
+use Rattle.std.specs.Prelude.{◌≡◌, ℕ, ◌^◌, ◌<◌, ◌||◌, nat_lt, if◌then◌else◌, List, ◌++◌, flat_map, filter_map, Option, Some, None}
 use Rattle.std.specs.List.{AllByRecursion}
 use Rattle.std.specs.Int.{w16, w32, to_be_bytes}
 use Rattle.h2frame.specs.declared.error_code.ErrorCode.{ErrorCode}
 use Rattle.h2frame.specs.declared.error_code.ErrorCode.TheVariants.{ProtocolError, FlowControlError}
 use Rattle.h2frame.specs.declared.setting.SettingId.{SettingId}
-use Rattle.h2frame.specs.declared.setting.SettingId.TheVariants.{HeaderTableSize, EnablePush, MaxConcurrentStreams, InitialWindowSize, MaxFrameSize, MaxHeaderListSize, Unknown}
+use Rattle.h2frame.specs.declared.setting.SettingId.TheVariants.{HeaderTableSize, EnablePush, InitialWindowSize, MaxFrameSize}
 use Rattle.h2frame.specs.Setting.{setting_of, setting_code}
 use Rattle.session.specs.declared.settings.Parameter.{Parameter}
 use Rattle.session.specs.declared.settings.PeerSetting.{PeerSetting}

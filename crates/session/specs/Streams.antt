@@ -1,8 +1,7 @@
 -- What the frames of a stream come to (RFC 9113, sections 5.1, 6.1, 6.4 and 6.9), given the frames before them and the
 -- streams that the server reset: a stream is reset at once where one of its frames is an error of the stream.
-use Rattle.std.specs.Prelude.{◌≡◌, ℕ, ◌==◌, if◌then◌else◌, List, [], ◌∷◌, ◌++◌}
+use Rattle.std.specs.Prelude.{ℕ, ◌==◌, if◌then◌else◌, List, [], ◌∷◌, ◌++◌}
 use Rattle.std.specs.Int.{w32, from_be_bytes}
-use Rattle.h2frame.specs.declared.error_code.ErrorCode.{ErrorCode}
 use Rattle.h2frame.specs.declared.error_code.ErrorCode.TheVariants.{ProtocolError}
 use Rattle.h2frame.specs.declared.frame.Frame.{Frame}
 use Rattle.h2frame.specs.declared.frame.FrameHead.{FrameHead}
@@ -11,7 +10,7 @@ use Rattle.h2frame.specs.ErrorCode.{error_of}
 use Rattle.h2frame.specs.Faults.{increment_of}
 use Rattle.h2frame.specs.Flags.{has, end_stream}
 use Rattle.flow.specs.declared.halves.HalfVerdict.{HalfVerdict}
-use Rattle.flow.specs.declared.halves.HalfVerdict.TheVariants.{Open, Accept, Discard, StreamError, ConnectionError}
+use Rattle.flow.specs.declared.halves.HalfVerdict.TheVariants.{Accept, StreamError, ConnectionError}
 use Rattle.flow.specs.Halves.{Event, Received, Cut, verdict}
 use Rattle.session.specs.declared.event.Control.TheVariants.{Window}
 use Rattle.session.specs.declared.event.InEvent.{InEvent}
