@@ -1,0 +1,6 @@
+pub mod SettingSteps
+pub mod PrefaceSteps
+pub mod LawfulFrames
+pub mod FrameGifts
+pub mod BlockGifts
+pub mod FragmentSteps

@@ -1,0 +1,53 @@
+-- What a whole header block comes to (RFC 9113, sections 4.3, 8.1 and 8.1.1), given the verdict of its HEADERS.
+use Rattle.std.specs.Prelude.{◌≡◌, ◌≢◌, ◌⊎◌, ℕ, List, [], ◌∷◌, Option}
+use Rattle.h2frame.specs.declared.error_code.ErrorCode.{ErrorCode}
+use Rattle.h2frame.specs.declared.error_code.ErrorCode.TheVariants.{CompressionError, EnhanceYourCalm}
+use Rattle.h2frame.specs.declared.frame.FrameHead.{FrameHead}
+use Rattle.hpack_codec.specs.declared.fault.HpackFault.{HpackFault}
+use Rattle.hpack_codec.specs.declared.fault.HpackFault.TheVariants.{TooLarge, OutOfMemory}
+use Rattle.hpack_codec.specs.declared.fields.Field.{Field}
+use Rattle.hpack_codec.specs.Table.{Table}
+use Rattle.hpack_codec.specs.Codec.{Reads, IsFirstFault}
+use Rattle.callhead.specs.declared.head.CallHead.{CallHead}
+use Rattle.callhead.specs.declared.fault.HeadFault.{HeadFault}
+use Rattle.callhead.specs.declared.fault.HeadFault.TheVariants.{Malformed}
+use Rattle.callhead.specs.Heads.{IsHead, IsFirstFault as IsFirstHeadFault}
+use Rattle.flow.specs.declared.halves.HalfVerdict.{HalfVerdict}
+use Rattle.flow.specs.declared.halves.HalfVerdict.TheVariants.{Open, Accept}
+use Rattle.flow.specs.Halves.{Event, Cut}
+use Rattle.session.specs.declared.event.InEvent.{InEvent}
+use Rattle.session.specs.declared.event.InEvent.TheVariants as events
+use Rattle.session.specs.Streams.{refusal, end_of}
+use Rattle.session.specs.Frames.{fatal}
+
+-- a malformed head resets its stream at once, and nothing ends it; any other head may be the last of its stream
+abbrev pub bad_head_events : HeadFault → FrameHead → List InEvent
+bad_head_events Malformed head = events.BadHead head.stream Malformed ∷ []
+bad_head_events fault head = events.BadHead head.stream fault ∷ end_of head
+
+abbrev pub after_bad_head : HeadFault → ℕ → List Event → List Event
+after_bad_head Malformed id history = Cut id ∷ history
+after_bad_head _ id history = history
+
+-- the fields are the head of a call, or the first fault of them stands
+abbrev pub HeadGives : FrameHead → List Field → List Event → List InEvent → List Event → Type 0
+HeadGives head fields history given next =
+    ((call : CallHead) × IsHead fields call × (given ≡ events.Open head.stream call ∷ end_of head) × (next ≡ history))
+    ⊎ ((fault : HeadFault) × IsFirstHeadFault fields fault × (given ≡ bad_head_events fault head) × (next ≡ after_bad_head fault head.stream history))
+
+-- trailers are not looked at, and neither is a block that is refused
+abbrev pub FieldsGive : HalfVerdict → FrameHead → List Field → List Event → List InEvent → List Event → Type 0
+FieldsGive Open head fields history given next = HeadGives head fields history given next
+FieldsGive Accept head fields history given next = (given ≡ end_of head) × (next ≡ history)
+FieldsGive judged head fields history given next = (given ≡ refusal judged head.stream) × (next ≡ history)
+
+-- the error that a block without fields is to the peer
+abbrev pub block_error : HpackFault → ErrorCode
+block_error TooLarge = EnhanceYourCalm
+block_error _ = CompressionError
+
+-- From what the decoder kept the block is read, whatever its stream; its first fault ends the connection.
+abbrev pub BlockGives : Option Table → FrameHead → HalfVerdict → List ℕ → List Event → List InEvent → List Event → Option Table → Type 0
+BlockGives kept head judged block history given next kept_next =
+    ((fields : List Field) × Reads kept block fields kept_next × FieldsGive judged head fields history given next)
+    ⊎ ((fault : HpackFault) × IsFirstFault fault kept block × (fault ≢ OutOfMemory) × (given ≡ fatal (block_error fault)) × (next ≡ history))

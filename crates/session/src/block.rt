@@ -1,0 +1,113 @@
+//! What a whole header block comes to (RFC 9113, sections 4.3 and 8.1).
+
+ghost use Rattle.std.specs.Prelude.{◌≡◌, ◌∷◌, ◌++◌, List, OnOk, IsSome};
+ghost use Rattle.flow.specs.declared.halves.HalfVerdict.TheVariants.{Open};
+ghost use Rattle.flow.specs.Halves.{Event, Stands, half_of};
+ghost use Rattle.session.specs.declared.event.InEvent.{InEvent};
+ghost use Rattle.session.specs.Streams.{end_of};
+ghost use Rattle.session.specs.Blocks.{HeadGives, BlockGives, bad_head_events, after_bad_head, block_error};
+
+use crate::event::InEvent;
+use crate::judge::refuse;
+use callhead::{CallHead, HeadFault};
+use flow::{HalfVerdict, Halves};
+use h2frame::{ErrorCode, Flags, FrameHead};
+use hpack_codec::{Decoder, Field, HpackFault};
+use std::alloc::{AllocError, Global};
+
+/// The events of a whole header block, behind those before it. Its HEADERS, with this head, had this verdict.
+pub fn block_events(
+    alloc: Global,
+    halves: &mut Halves,
+    decoder: &mut Decoder,
+    head: &FrameHead,
+    verdict: HalfVerdict,
+    block: &[u8],
+    events: &mut Vec<InEvent>,
+) -> Result<(), AllocError>
+    requires { verdict ≡ Open → IsSome (half_of halves.old head.now.stream) }
+    ensures ok { OnOk result ((history : List Event) → Stands history halves.old
+        → (given : List InEvent) × (next : List Event) × BlockGives decoder.old head.now verdict block.now history given next decoder.new
+        × (events.new.items ≡ events.old.items ++ given) × Stands next halves.new) }
+{
+    let fields = match decoder.block(block) {
+        Ok(fields) => fields,
+        Err(HpackFault::OutOfMemory) => return Err(AllocError),
+        Err(fault) => {
+            events.push(InEvent::Fatal(block_error(fault)))?;
+            return Ok(());
+        }
+    };
+    match verdict {
+        HalfVerdict::Open => head_events(alloc, halves, head, fields.as_slice(), events),
+        HalfVerdict::Accept => end_event(head, events),
+        _ => refuse(verdict, head.stream, events),
+    }
+}
+
+/// The error of the connection where a block has no fields.
+fn block_error(fault: HpackFault) -> ErrorCode
+    ensures { result ≡ block_error fault }
+{
+    match fault {
+        HpackFault::TooLarge => ErrorCode::EnhanceYourCalm,
+        _ => ErrorCode::CompressionError,
+    }
+}
+
+/// The events of the fields that open a stream. A malformed head resets it.
+fn head_events(
+    alloc: Global,
+    halves: &mut Halves,
+    head: &FrameHead,
+    fields: &[Field],
+    events: &mut Vec<InEvent>,
+) -> Result<(), AllocError>
+    requires { IsSome (half_of halves.old head.now.stream) }
+    ensures { OnOk result ((history : List Event) → Stands history halves.old
+        → (given : List InEvent) × (next : List Event) × HeadGives head.now fields.now history given next
+        × (events.new.items ≡ events.old.items ++ given) × Stands next halves.new) }
+{
+    match CallHead::read(alloc, fields) {
+        Ok(call) => begin(InEvent::Open(head.stream, call), head, events),
+        Err(HeadFault::OutOfMemory) => Err(AllocError),
+        Err(fault) => bad_head_events(halves, head, fault, events),
+    }
+}
+
+/// The events of fields that are no head of a call. Those that are malformed reset their stream.
+fn bad_head_events(
+    halves: &mut Halves,
+    head: &FrameHead,
+    fault: HeadFault,
+    events: &mut Vec<InEvent>,
+) -> Result<(), AllocError>
+    requires { IsSome (half_of halves.old head.now.stream) }
+    ensures events { OnOk result (events.new.items ≡ events.old.items ++ bad_head_events fault head.now) }
+    ensures follows { OnOk result ((history : List Event) → Stands history halves.old
+        → Stands (after_bad_head fault head.now.stream history) halves.new) }
+{
+    if let HeadFault::Malformed = fault {
+        halves.cut(head.stream);
+        events.push(InEvent::BadHead(head.stream, fault))?;
+        return Ok(());
+    }
+    begin(InEvent::BadHead(head.stream, fault), head, events)
+}
+
+/// The first event of a stream, and its end where the HEADERS have it.
+fn begin(event: InEvent, head: &FrameHead, events: &mut Vec<InEvent>) -> Result<(), AllocError>
+    ensures { OnOk result (events.new.items ≡ events.old.items ++ event ∷ end_of head.now) }
+{
+    events.push(event)?;
+    end_event(head, events)
+}
+
+fn end_event(head: &FrameHead, events: &mut Vec<InEvent>) -> Result<(), AllocError>
+    ensures { OnOk result (events.new.items ≡ events.old.items ++ end_of head.now) }
+{
+    if head.flags.contains(Flags::END_STREAM) {
+        events.push(InEvent::End(head.stream))?;
+    }
+    Ok(())
+}

@@ -1,0 +1,151 @@
+//! The content of a SETTINGS frame (RFC 9113, section 6.5).
+
+ghost use Rattle.std.specs.Prelude.{◌≡◌, ◌%◌, length, IfOk, IfErr};
+ghost use Rattle.session.specs.declared.settings.SettingsFault.TheVariants.{OutOfMemory};
+ghost use Rattle.session.specs.Settings.{IsParameter, parameter_text, parameter_fault, parameter_told, IsSettingsFault, Tells};
+
+use h2frame::{ErrorCode, SettingId};
+use std::alloc::{AllocError, AllocFailed, Global};
+use std::marker::Model;
+use thiserror::Error;
+
+/// The bytes of a parameter in a frame.
+const PARAMETER_LEN: usize = 6;
+
+/// The greatest window that RFC 9113, section 6.5.2, allows a peer to set.
+const MAX_WINDOW: u32 = 0x7fff_ffff;
+
+/// The least and the greatest payload that RFC 9113, section 6.5.2, allows a peer to set.
+const LEAST_PAYLOAD: u32 = 16_384;
+
+const MOST_PAYLOAD: u32 = 16_777_215;
+
+/// A parameter and the value that the peer gives it.
+#[derive(Clone, Copy, Debug, PartialEq, Eq)]
+pub struct Parameter {
+    pub id: SettingId,
+    pub value: u32,
+}
+
+/// What the peer's SETTINGS tell a server that writes header blocks and DATA.
+#[derive(Clone, Copy, Debug, PartialEq, Eq)]
+pub enum PeerSetting {
+    /// The largest dynamic table that its decoder keeps.
+    TableSize(u32),
+    /// The window of each stream, at first.
+    WindowSize(u32),
+}
+
+/// What SETTINGS tell, in their order. A clause sees the list of them.
+#[derive(Debug, Drop)]
+pub struct PeerSettings {
+    items: Vec<PeerSetting>,
+}
+
+impl Model for PeerSettings {
+    ghost use Rattle.std.specs.Prelude.{List};
+    ghost use Rattle.session.specs.declared.settings.PeerSetting.{PeerSetting};
+
+    ghost Value = { List PeerSetting };
+
+    ghost view = { λ settings. settings.items.items };
+}
+
+impl PeerSettings {
+    pub fn as_slice(&self) -> &[PeerSetting]
+        ensures { result.now ≡ self.now }
+    {
+        self.items.as_slice()
+    }
+}
+
+/// Why the content of a SETTINGS frame is not taken.
+#[derive(Clone, Copy, Debug, PartialEq, Eq, Error)]
+pub enum SettingsFault {
+    /// A parameter has a value that it may not have: the connection ends with this error.
+    #[error("a setting has a value that it may not have")]
+    Refused(ErrorCode),
+    #[error("out of memory")]
+    OutOfMemory,
+}
+
+impl From<AllocError> for SettingsFault {
+    ghost from_gives = { λ _ fault. fault ≡ OutOfMemory };
+
+    fn from(_e: AllocError) -> SettingsFault {
+        SettingsFault::OutOfMemory
+    }
+}
+
+impl<T: Drop> From<AllocFailed<T>> for SettingsFault {
+    ghost from_gives = { λ _ fault. fault ≡ OutOfMemory };
+
+    fn from(_e: AllocFailed<T>) -> SettingsFault {
+        SettingsFault::OutOfMemory
+    }
+}
+
+impl Parameter {
+    /// The parameter that six bytes spell.
+    fn read(text: &[u8]) -> Parameter
+        requires { length text.now ≡ 6 }
+        ensures is { IsParameter result }
+        ensures text { text.now ≡ parameter_text result }
+    {
+        let code = u16::from_be_bytes([text[0], text[1]]);
+        Parameter {
+            id: SettingId::from_code(code),
+            value: u32::from_be_bytes([text[2], text[3], text[4], text[5]]),
+        }
+    }
+
+    /// What is wrong with its value, as the error that ends the connection.
+    pub fn fault(&self) -> Option<ErrorCode>
+        ensures { result ≡ parameter_fault self.now }
+    {
+        let (least, most, error) = match self.id {
+            SettingId::EnablePush => (0, 1, ErrorCode::ProtocolError),
+            SettingId::InitialWindowSize => (0, MAX_WINDOW, ErrorCode::FlowControlError),
+            SettingId::MaxFrameSize => (LEAST_PAYLOAD, MOST_PAYLOAD, ErrorCode::ProtocolError),
+            _ => return None,
+        };
+        if self.value < least || self.value > most {
+            Some(error)
+        } else {
+            None
+        }
+    }
+
+    /// What it tells the server, if it isn't for others.
+    pub fn told(&self) -> Option<PeerSetting>
+        ensures { result ≡ parameter_told self.now }
+    {
+        match self.id {
+            SettingId::HeaderTableSize => Some(PeerSetting::TableSize(self.value)),
+            SettingId::InitialWindowSize => Some(PeerSetting::WindowSize(self.value)),
+            _ => None,
+        }
+    }
+}
+
+/// What the parameters of a SETTINGS frame tell, in their order. One that is faulty refuses them all.
+pub fn read_settings(alloc: Global, content: &[u8]) -> Result<PeerSettings, SettingsFault>
+    requires { length content.now % 6 ≡ 0 }
+    ensures ok { IfOk result (λ settings. Tells content.now settings) }
+    ensures err { IfErr result (λ fault. IsSettingsFault content.now fault) }
+{
+    let mut settings = Vec::new(alloc);
+    let mut rest = content;
+    while rest.len() >= PARAMETER_LEN {
+        let (text, behind) = rest.split_at(PARAMETER_LEN);
+        let parameter = Parameter::read(text);
+        if let Some(error) = parameter.fault() {
+            return Err(SettingsFault::Refused(error));
+        }
+        if let Some(setting) = parameter.told() {
+            settings.push(setting)?;
+        }
+        rest = behind;
+    }
+    Ok(PeerSettings { items: settings })
+}
