@@ -1,23 +1,16 @@
 use super::*;
 use std::alloc::Global;
+use std::process::Abort;
 use std::test::Fail;
 
-/// The seven methods of the service.
-fn service(alloc: Global) -> Result<Methods, Fail> {
-    let mut methods: Vec<Box<dyn Method>> = Vec::new(alloc);
-    methods.push(Box::new(alloc, EmptyCall)?)?;
-    methods.push(Box::new(alloc, UnaryCall)?)?;
-    methods.push(Box::new(alloc, CacheableUnaryCall)?)?;
-    methods.push(Box::new(alloc, StreamingOutputCall)?)?;
-    methods.push(Box::new(alloc, StreamingInputCall)?)?;
-    methods.push(Box::new(alloc, FullDuplexCall)?)?;
-    methods.push(Box::new(alloc, HalfDuplexCall)?)?;
-    Ok(Methods::new(methods))
-}
-
 /// The bytes of the replies, each behind its length in one byte, then `-` or the status: its code and its text.
-fn fold(alloc: Global, path: &str, messages: &[&[u8]], ended: bool) -> Result<String, Fail> {
-    let methods = service(alloc)?;
+fn fold(
+    alloc: Global,
+    methods: &Methods,
+    path: &str,
+    messages: &[&[u8]],
+    ended: bool,
+) -> Result<String, Fail> {
     let index = methods.find(path.as_bytes()).ok_or("a method")?;
     let method = methods.get(index).ok_or("a method")?;
     let mut state = method.first();
@@ -55,184 +48,221 @@ fn tell(alloc: Global, step: &Step, text: &mut String, status: &mut String) -> R
 
 const SERVICE: &str = "/grpc.testing.TestService/";
 
-#[test]
-fn folds(rt: HostRuntime) -> Result<(), Fail> {
-    let alloc = rt.alloc();
-    let malformed = "13 malformed message";
-    let number = "13 wrong number of messages";
-    let unary_reply: &[u8] = b"\x10\x02";
-    let output_reply: &[u8] = b"\x12\x02\x08\x01";
-    let asked: &[u8] = b"\x12\x02\x08\x01\x3a\x05\x08\x02\x12\x01x";
-    let rows: [(&str, &[&[u8]], bool, &str); 55] = [
-        // One message of zero bytes.
-        ("UnaryCall", &[b""], true, "0a00; 0 "),
-        // A request whose field is overwritten, and whose size is -1.
-        (
-            "UnaryCall",
-            &[
-                b"\x1a\x03\x12\x01\xaa\xa0\x06\x01\x1a\x03\x12\x01\xbb\x10\xff\xff\xff\xff\xff\xff\xff\xff\xff\x01",
-            ],
-            true,
-            "3 bad response size",
-        ),
-        // A reply, and then a request that ends the call.
-        (
-            "FullDuplexCall",
-            &[output_reply, asked],
-            false,
-            "0a03120100; 2 x",
-        ),
-        (
-            "FullDuplexCall",
-            &[output_reply, asked, output_reply],
-            true,
-            "0a03120100; 2 x",
-        ),
-        // None, one and two messages, with the end and without.
-        ("EmptyCall", &[], false, "-"),
-        ("EmptyCall", &[], true, number),
-        ("EmptyCall", &[b""], false, "-"),
-        ("EmptyCall", &[b""], true, "; 0 "),
-        ("EmptyCall", &[b"", b""], false, number),
-        ("EmptyCall", &[b"", b""], true, number),
-        ("UnaryCall", &[], false, "-"),
-        ("UnaryCall", &[], true, number),
-        ("UnaryCall", &[unary_reply], false, "-"),
-        ("UnaryCall", &[unary_reply], true, "0a0412020000; 0 "),
-        ("UnaryCall", &[unary_reply, unary_reply], false, number),
-        ("UnaryCall", &[unary_reply, unary_reply], true, number),
-        ("CacheableUnaryCall", &[], false, "-"),
-        ("CacheableUnaryCall", &[], true, number),
-        ("CacheableUnaryCall", &[unary_reply], false, "-"),
-        (
-            "CacheableUnaryCall",
-            &[unary_reply],
-            true,
-            "0a0412020000; 0 ",
-        ),
-        (
-            "CacheableUnaryCall",
-            &[unary_reply, unary_reply],
-            false,
-            number,
-        ),
-        (
-            "CacheableUnaryCall",
-            &[unary_reply, unary_reply],
-            true,
-            number,
-        ),
-        ("StreamingOutputCall", &[], false, "-"),
-        ("StreamingOutputCall", &[], true, number),
-        ("StreamingOutputCall", &[output_reply], false, "-"),
-        (
-            "StreamingOutputCall",
-            &[output_reply],
-            true,
-            "0a03120100; 0 ",
-        ),
-        (
-            "StreamingOutputCall",
-            &[output_reply, output_reply],
-            false,
-            number,
-        ),
-        (
-            "StreamingOutputCall",
-            &[output_reply, output_reply],
-            true,
-            number,
-        ),
-        ("StreamingInputCall", &[], false, "-"),
-        ("StreamingInputCall", &[], true, "; 0 "),
-        ("StreamingInputCall", &[b"\x0a\x03\x12\x01\x00"], false, "-"),
-        (
-            "StreamingInputCall",
-            &[b"\x0a\x03\x12\x01\x00"],
-            true,
-            "0801; 0 ",
-        ),
-        (
-            "StreamingInputCall",
-            &[b"\x0a\x03\x12\x01\x00", b"\x0a\x05\x12\x03\x01\x02\x03"],
-            false,
-            "-",
-        ),
-        (
-            "StreamingInputCall",
-            &[b"\x0a\x03\x12\x01\x00", b"\x0a\x05\x12\x03\x01\x02\x03"],
-            true,
-            "0804; 0 ",
-        ),
-        ("FullDuplexCall", &[], false, "-"),
-        ("FullDuplexCall", &[], true, "0 "),
-        ("FullDuplexCall", &[output_reply], false, "0a03120100; -"),
-        ("FullDuplexCall", &[output_reply], true, "0a03120100; 0 "),
-        (
-            "FullDuplexCall",
-            &[output_reply, output_reply],
-            false,
-            "0a03120100; 0a03120100; -",
-        ),
-        (
-            "FullDuplexCall",
-            &[output_reply, output_reply],
-            true,
-            "0a03120100; 0a03120100; 0 ",
-        ),
-        ("HalfDuplexCall", &[], false, "-"),
-        ("HalfDuplexCall", &[], true, "0 "),
-        ("HalfDuplexCall", &[output_reply], false, "-"),
-        ("HalfDuplexCall", &[output_reply], true, "0a03120100; 0 "),
-        ("HalfDuplexCall", &[output_reply, asked], false, "-"),
-        (
-            "HalfDuplexCall",
-            &[output_reply, asked],
-            true,
-            "0a03120100; 2 x",
-        ),
-        // Each status that a method gives.
-        ("EmptyCall", &[b"\x08"], false, malformed),
-        ("UnaryCall", &[b"\x08", b""], true, malformed),
-        ("StreamingInputCall", &[b"\x08"], false, malformed),
-        (
-            "StreamingInputCall",
-            &[b"\x12\x02\x08\x01"],
-            false,
-            "3 message is not compressed",
-        ),
-        (
-            "UnaryCall",
-            &[b"\x42\x02\x08\x01\x3a\x02\x08\x05"],
-            false,
-            "3 message is not compressed",
-        ),
-        ("UnaryCall", &[b"\x08\x01\x3a\x02\x08\x11"], false, "2 "),
-        (
-            "StreamingOutputCall",
-            &[b"\x08\x01\x12\x05\x08\x81\x92\xf4\x01"],
-            false,
-            "3 bad response type",
-        ),
-        (
-            "StreamingOutputCall",
-            &[b"\x12\x05\x08\x81\x92\xf4\x01"],
-            false,
-            "3 bad response size",
-        ),
-        (
-            "UnaryCall",
-            &[b"\x10\x81\x92\xf4\x01"],
-            false,
-            "3 bad response size",
-        ),
-    ];
+/// A request of two zero bytes, and one that is answered by one zero byte.
+const UNARY_REPLY: &[u8] = b"\x10\x02";
+
+const OUTPUT_REPLY: &[u8] = b"\x12\x02\x08\x01";
+
+/// A request that asks for status 2 with the text `x`.
+const ASKED: &[u8] = b"\x12\x02\x08\x01\x3a\x05\x08\x02\x12\x01x";
+
+const MALFORMED: &str = "13 malformed message";
+
+const WRONG_NUMBER: &str = "13 wrong number of messages";
+
+/// A method, the messages that it is handed, whether the end is told, and what it answers.
+type Row = (&'static str, &'static [&'static [u8]], bool, &'static str);
+
+static ROWS: [Row; 55] = [
+    // One message of zero bytes.
+    ("UnaryCall", &[b""], true, "0a00; 0 "),
+    // A request whose field is overwritten, and whose size is -1.
+    (
+        "UnaryCall",
+        &[
+            b"\x1a\x03\x12\x01\xaa\xa0\x06\x01\x1a\x03\x12\x01\xbb\x10\xff\xff\xff\xff\xff\xff\xff\xff\xff\x01",
+        ],
+        true,
+        "3 bad response size",
+    ),
+    // A reply, and then a request that ends the call.
+    (
+        "FullDuplexCall",
+        &[OUTPUT_REPLY, ASKED],
+        false,
+        "0a03120100; 2 x",
+    ),
+    (
+        "FullDuplexCall",
+        &[OUTPUT_REPLY, ASKED, OUTPUT_REPLY],
+        true,
+        "0a03120100; 2 x",
+    ),
+    // None, one and two messages, with the end and without.
+    ("EmptyCall", &[], false, "-"),
+    ("EmptyCall", &[], true, WRONG_NUMBER),
+    ("EmptyCall", &[b""], false, "-"),
+    ("EmptyCall", &[b""], true, "; 0 "),
+    ("EmptyCall", &[b"", b""], false, WRONG_NUMBER),
+    ("EmptyCall", &[b"", b""], true, WRONG_NUMBER),
+    ("UnaryCall", &[], false, "-"),
+    ("UnaryCall", &[], true, WRONG_NUMBER),
+    ("UnaryCall", &[UNARY_REPLY], false, "-"),
+    ("UnaryCall", &[UNARY_REPLY], true, "0a0412020000; 0 "),
+    (
+        "UnaryCall",
+        &[UNARY_REPLY, UNARY_REPLY],
+        false,
+        WRONG_NUMBER,
+    ),
+    ("UnaryCall", &[UNARY_REPLY, UNARY_REPLY], true, WRONG_NUMBER),
+    ("CacheableUnaryCall", &[], false, "-"),
+    ("CacheableUnaryCall", &[], true, WRONG_NUMBER),
+    ("CacheableUnaryCall", &[UNARY_REPLY], false, "-"),
+    (
+        "CacheableUnaryCall",
+        &[UNARY_REPLY],
+        true,
+        "0a0412020000; 0 ",
+    ),
+    (
+        "CacheableUnaryCall",
+        &[UNARY_REPLY, UNARY_REPLY],
+        false,
+        WRONG_NUMBER,
+    ),
+    (
+        "CacheableUnaryCall",
+        &[UNARY_REPLY, UNARY_REPLY],
+        true,
+        WRONG_NUMBER,
+    ),
+    ("StreamingOutputCall", &[], false, "-"),
+    ("StreamingOutputCall", &[], true, WRONG_NUMBER),
+    ("StreamingOutputCall", &[OUTPUT_REPLY], false, "-"),
+    (
+        "StreamingOutputCall",
+        &[OUTPUT_REPLY],
+        true,
+        "0a03120100; 0 ",
+    ),
+    (
+        "StreamingOutputCall",
+        &[OUTPUT_REPLY, OUTPUT_REPLY],
+        false,
+        WRONG_NUMBER,
+    ),
+    (
+        "StreamingOutputCall",
+        &[OUTPUT_REPLY, OUTPUT_REPLY],
+        true,
+        WRONG_NUMBER,
+    ),
+    ("StreamingInputCall", &[], false, "-"),
+    ("StreamingInputCall", &[], true, "; 0 "),
+    ("StreamingInputCall", &[b"\x0a\x03\x12\x01\x00"], false, "-"),
+    (
+        "StreamingInputCall",
+        &[b"\x0a\x03\x12\x01\x00"],
+        true,
+        "0801; 0 ",
+    ),
+    (
+        "StreamingInputCall",
+        &[b"\x0a\x03\x12\x01\x00", b"\x0a\x05\x12\x03\x01\x02\x03"],
+        false,
+        "-",
+    ),
+    (
+        "StreamingInputCall",
+        &[b"\x0a\x03\x12\x01\x00", b"\x0a\x05\x12\x03\x01\x02\x03"],
+        true,
+        "0804; 0 ",
+    ),
+    ("FullDuplexCall", &[], false, "-"),
+    ("FullDuplexCall", &[], true, "0 "),
+    ("FullDuplexCall", &[OUTPUT_REPLY], false, "0a03120100; -"),
+    ("FullDuplexCall", &[OUTPUT_REPLY], true, "0a03120100; 0 "),
+    (
+        "FullDuplexCall",
+        &[OUTPUT_REPLY, OUTPUT_REPLY],
+        false,
+        "0a03120100; 0a03120100; -",
+    ),
+    (
+        "FullDuplexCall",
+        &[OUTPUT_REPLY, OUTPUT_REPLY],
+        true,
+        "0a03120100; 0a03120100; 0 ",
+    ),
+    ("HalfDuplexCall", &[], false, "-"),
+    ("HalfDuplexCall", &[], true, "0 "),
+    ("HalfDuplexCall", &[OUTPUT_REPLY], false, "-"),
+    ("HalfDuplexCall", &[OUTPUT_REPLY], true, "0a03120100; 0 "),
+    ("HalfDuplexCall", &[OUTPUT_REPLY, ASKED], false, "-"),
+    (
+        "HalfDuplexCall",
+        &[OUTPUT_REPLY, ASKED],
+        true,
+        "0a03120100; 2 x",
+    ),
+    // Each status that a method gives.
+    ("EmptyCall", &[b"\x08"], false, MALFORMED),
+    ("UnaryCall", &[b"\x08", b""], true, MALFORMED),
+    ("StreamingInputCall", &[b"\x08"], false, MALFORMED),
+    (
+        "StreamingInputCall",
+        &[b"\x12\x02\x08\x01"],
+        false,
+        "3 message is not compressed",
+    ),
+    (
+        "UnaryCall",
+        &[b"\x42\x02\x08\x01\x3a\x02\x08\x05"],
+        false,
+        "3 message is not compressed",
+    ),
+    ("UnaryCall", &[b"\x08\x01\x3a\x02\x08\x11"], false, "2 "),
+    (
+        "StreamingOutputCall",
+        &[b"\x08\x01\x12\x05\x08\x81\x92\xf4\x01"],
+        false,
+        "3 bad response type",
+    ),
+    (
+        "StreamingOutputCall",
+        &[b"\x12\x05\x08\x81\x92\xf4\x01"],
+        false,
+        "3 bad response size",
+    ),
+    (
+        "UnaryCall",
+        &[b"\x10\x81\x92\xf4\x01"],
+        false,
+        "3 bad response size",
+    ),
+];
+
+fn check_rows(rt: &impl Abort, alloc: Global, methods: &Methods, rows: &[Row]) -> Result<(), Fail> {
     for (name, messages, ended, wanted) in rows {
         let path = format!(in alloc; "{SERVICE}{name}")?;
-        let answer = fold(alloc, path.as_str(), messages, ended)?;
-        assert_eq!(rt; answer.as_str(), wanted, "{name} {messages:?} {ended}");
+        let answer = fold(alloc, methods, path.as_str(), *messages, *ended)?;
+        assert_eq!(rt; answer.as_str(), *wanted, "{name} {messages:?} {ended}");
     }
     Ok(())
+}
+
+fn check_paths(rt: &impl Abort, methods: &Methods) {
+    assert!(rt; methods.find(b"/grpc.testing.TestService/StreamingInputCall") == Some(4));
+    assert!(rt; methods.find(b"/grpc.testing.TestService/UnimplementedCall") == None);
+    assert!(rt; methods.find(b"/grpc.testing.TestService/EmptyCal") == None);
+    assert!(rt; methods.find(b"") == None);
+}
+
+#[test]
+fn seven_methods(rt: HostRuntime) -> Result<(), Fail> {
+    let alloc = rt.alloc();
+    let mut methods: Vec<Box<dyn Method>> = Vec::new(alloc);
+    methods.push(Box::new(alloc, EmptyCall)?)?;
+    methods.push(Box::new(alloc, UnaryCall)?)?;
+    methods.push(Box::new(alloc, CacheableUnaryCall)?)?;
+    methods.push(Box::new(alloc, StreamingOutputCall)?)?;
+    methods.push(Box::new(alloc, StreamingInputCall)?)?;
+    methods.push(Box::new(alloc, FullDuplexCall)?)?;
+    methods.push(Box::new(alloc, HalfDuplexCall)?)?;
+    let methods = Methods::new(methods);
+    check_paths(&rt, &methods);
+    check_rows(&rt, alloc, &methods, &ROWS)
 }
 
 #[test]
@@ -255,15 +285,5 @@ fn sums(rt: HostRuntime) -> Result<(), Fail> {
     assert_eq!(rt; status.code, 11);
     assert_eq!(rt; status.text.as_str(), "sum out of range");
     assert_eq!(rt; MethodFault::OutOfMemory.code(), 1);
-    Ok(())
-}
-
-#[test]
-fn paths(rt: HostRuntime) -> Result<(), Fail> {
-    let methods = service(rt.alloc())?;
-    assert!(rt; methods.find(b"/grpc.testing.TestService/StreamingInputCall") == Some(4));
-    assert!(rt; methods.find(b"/grpc.testing.TestService/UnimplementedCall") == None);
-    assert!(rt; methods.find(b"/grpc.testing.TestService/EmptyCal") == None);
-    assert!(rt; methods.find(b"") == None);
     Ok(())
 }
