@@ -1,7 +1,7 @@
 -- Look-ups in a list of entries by number, after a further entry and after another value.
-use Rattle.std.proofs.Common.{◌≡◌, ℕ, Bool, true, false, refl, sym, ap, subst, ◌∙◌, List, [], ◌∷◌, ◌++◌, Some, None, nat_eq, cond}
+use Rattle.std.proofs.Common.{◌≡◌, ℕ, Bool, true, false, refl, sym, ap, subst, ◌∙◌, List, [], ◌∷◌, ◌++◌, Some, None, nat_eq, cond, is_some, Option, ◌<◌, zero, suc, true≢false, arith}
 use Rattle.std.specs.Map.{lookup, set_value}
-use Rattle.std.proofs.lemmas.Bool.{eqb-true, eq-eqb}
+use Rattle.std.proofs.lemmas.Bool.{eqb-true, eq-eqb, ne_eqb}
 
 pub same_number : (k : ℕ) → nat_eq k k ≡ true
 same_number k = eq-eqb k k refl
@@ -37,3 +37,18 @@ lookup-set {X} k v w (e ∷ es) found = by (lookup-set k v w es) (nat_eq k e.0) 
         → lookup (nat_eq k) (cond b ((e.0, w) ∷ es) (e ∷ set_value (nat_eq k) es w)) ≡ Some w
     by rest true p f = ap (λ b. cond b (Some w) (lookup (nat_eq k) es)) p
     by rest false p f = ap (λ b. cond b (Some e.1) (lookup (nat_eq k) (set_value (nat_eq k) es w))) p ∙ rest f
+
+-- ---- no entry of 0
+
+pub apart-push : {X : Type 0} (id : ℕ) (w : X) (es : List (ℕ × X)) → 0 < id → is_some (lookup (nat_eq 0) es) ≡ false → is_some (lookup (nat_eq 0) (es ++ (id, w) ∷ [])) ≡ false
+apart-push {X} id w es positive apart = ap is_some (lookup-push 0 id w es (ne_eqb 0 id (λ e. omega (arith, e, positive)))) ∙ apart
+
+pub apart-set : {X : Type 0} (id : ℕ) (v w : X) (es new : List (ℕ × X)) → lookup (nat_eq id) es ≡ Some v → new ≡ set_value (nat_eq id) es w
+    → is_some (lookup (nat_eq 0) es) ≡ false → is_some (lookup (nat_eq 0) new) ≡ false
+apart-set {X} zero v w es new found is apart = absurd (true≢false (sym (ap is_some found) ∙ apart))
+apart-set {X} (suc id) v w es new found is apart =
+    ap (λ (l : List (ℕ × X)). is_some (lookup (nat_eq 0) l)) is ∙ ap is_some (lookup-set_other 0 (suc id) w es (ne_eqb 0 (suc id) (λ e. omega (arith, e)))) ∙ apart
+
+pub apart-taken : {X : Type 0} (b : Bool) (old new : Option X) → new ≡ cond b None old → is_some old ≡ false → is_some new ≡ false
+apart-taken {X} true old new e apart = ap is_some e
+apart-taken {X} false old new e apart = ap is_some e ∙ apart

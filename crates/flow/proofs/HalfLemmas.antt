@@ -90,10 +90,10 @@ kept-unbegun : (skipped : Bool) → kept (if skipped then Skipped else Idle) ≡
 kept-unbegun true = refl
 kept-unbegun false = refl
 
-kept-None : (id : ℕ) (h : List Event) → kept (state_of id h None) ≡ None
+pub kept-None : (id : ℕ) (h : List Event) → kept (state_of id h None) ≡ None
 kept-None id h = kept-unbegun (is_odd id && not (is_above (begun h) id))
 
-kept-other : (id : ℕ) (e : Event) (h : List Event) → nat_eq id (stream_of e) ≡ false → kept (state id (e ∷ h)) ≡ kept (state id h)
+pub kept-other : (id : ℕ) (e : Event) (h : List Event) → nat_eq id (stream_of e) ≡ false → kept (state id (e ∷ h)) ≡ kept (state id h)
 kept-other id e h other = by (course id h) (nat_eq id (stream_of e)) other
   where
     by : (c : Option Course) (b : Bool) → b ≡ false → kept (state_of id (e ∷ h) (further e h (b && begins e (begun h)) c)) ≡ kept (state_of id h c)
@@ -101,11 +101,11 @@ kept-other id e h other = by (course id h) (nat_eq id (stream_of e)) other
     by None false p = kept-None id (e ∷ h) ∙ sym (kept-None id h)
     by (Some c) b p = ap Some (half-other id e c other)
 
-kept-begun : (e : Event) (h : List Event) (c : Course) → course (stream_of e) h ≡ Some c → kept (state (stream_of e) (e ∷ h)) ≡ Some (half_after (half (stream_of e) c) e)
+pub kept-begun : (e : Event) (h : List Event) (c : Course) → course (stream_of e) h ≡ Some c → kept (state (stream_of e) (e ∷ h)) ≡ Some (half_after (half (stream_of e) c) e)
 kept-begun e h c is =
     ap (λ o. kept (state_of (stream_of e) (e ∷ h) (further e h (nat_eq (stream_of e) (stream_of e) && begins e (begun h)) o))) is ∙ ap Some (half-here e c)
 
-kept-new : (e : Event) (h : List Event) → course (stream_of e) h ≡ None → begins e (begun h) ≡ true
+pub kept-new : (e : Event) (h : List Event) → course (stream_of e) h ≡ None → begins e (begun h) ≡ true
     → kept (state (stream_of e) (e ∷ h)) ≡ Some (half_of_new (length (begun h)) e)
 kept-new e h is b =
     ap (λ o. kept (state_of (stream_of e) (e ∷ h) (further e h (nat_eq (stream_of e) (stream_of e) && begins e (begun h)) o))) is
@@ -113,7 +113,7 @@ kept-new e h is b =
     ∙ ap (λ beginning. kept (state_of (stream_of e) (e ∷ h) (further e h beginning None))) b
     ∙ ap Some (half-new e h b)
 
-kept-unused : (e : Event) (h : List Event) → course (stream_of e) h ≡ None → begins e (begun h) ≡ false → kept (state (stream_of e) (e ∷ h)) ≡ None
+pub kept-unused : (e : Event) (h : List Event) → course (stream_of e) h ≡ None → begins e (begun h) ≡ false → kept (state (stream_of e) (e ∷ h)) ≡ None
 kept-unused e h is b =
     ap (λ o. kept (state_of (stream_of e) (e ∷ h) (further e h (nat_eq (stream_of e) (stream_of e) && begins e (begun h)) o))) is
     ∙ ap (λ beginning. kept (state_of (stream_of e) (e ∷ h) (further e h beginning None))) (and-false (nat_eq (stream_of e) (stream_of e)) (begins e (begun h)) b)

@@ -1,15 +1,18 @@
 -- Windows that follow from a history, and one more step.
-use Rattle.std.proofs.Common.{◌≡◌, ℕ, ◌+◌, ◌-◌, ◌<◌, ◌≤◌, ℤ, pos, negsuc, ◌+ℤ◌, Bool, true, false, refl, sym, ap, subst, ◌∙◌, List, ◌∷◌, Option, Some, None, arith, nat_eq}
-use Rattle.std.specs.Prelude.{◌-ℤ◌, if◌then◌else◌, sum_by}
+use Rattle.std.proofs.Common.{◌≡◌, ℕ, ◌+◌, ◌-◌, ◌<◌, ◌≤◌, ℤ, pos, negsuc, ◌+ℤ◌, Bool, true, false, refl, sym, ap, subst, ◌∙◌, List, ◌∷◌, Option, Some, None, arith, nat_eq, is_some, zero, suc}
+use Rattle.std.specs.Prelude.{◌-ℤ◌, if◌then◌else◌, sum_by, IfSome}
+use Rattle.std.specs.List.{IsDistinct}
 use Rattle.std.specs.Option.{option_map}
-use Rattle.std.specs.Map.{lookup, set_value}
+use Rattle.std.specs.Map.{lookup, set_value, keys_of}
 use Rattle.std.proofs.lemmas.Bool.{eqb-true, ne_eqb}
 use Rattle.std.proofs.lemmas.Int.{ints}
 use Rattle.std.proofs.lemmas.List.Sums.{sum_by-cons}
+use Rattle.std.proofs.lemmas.Cmp.{nat_eq_equiv}
+use Rattle.std.proofs.lemmas.Map.Views.{IfSome-lookup_from_All, All-values_from_lookup}
 use Rattle.flow.proofs.Entries.{same_number, lookup-set, lookup-set_other}
 use Rattle.flow.specs.declared.TheConstants.{INITIAL_WINDOW}
-use Rattle.flow.specs.Windows.{Windows, balance, lesser}
-use Rattle.flow.specs.WindowHistory.{Step, Credit, Spending, credit_to, spending_on, spending, since_opening, balance_of, Follows}
+use Rattle.flow.specs.Windows.{Windows, balance, lesser, Fits, FitsAt}
+use Rattle.flow.specs.WindowHistory.{Step, Credit, Spending, credit_to, spending_on, spending, since_opening, balance_of, Follows, CanResize}
 
 -- ---- sums of one more step
 
@@ -97,3 +100,34 @@ module _ (h : List Step) (w : Windows) (follows : Follows h w) where
         ∙ ap (λ m. pos (sum_by (credit_to id) steps) -ℤ pos m) (sym (sum-more (spending_on id) (Spending id n) steps n (ap (λ t. if t then n else 0) (same_number id)))))
         other there;
   }
+
+-- ---- another initial size
+
+fits-found : (n id : ℕ) (since : Option (List Step)) (o : Option ℤ) → o ≡ option_map (balance_of id) since
+    → IfSome o (λ b. Fits (pos n +ℤ b)) → IfSome since (λ steps. Fits (pos n +ℤ balance_of id steps))
+fits-found n id None o e h = tt
+fits-found n id (Some steps) o e h = subst (λ (p : Option ℤ). IfSome p (λ b. Fits (pos n +ℤ b))) e h
+
+fits-kept : (n id : ℕ) (since : Option (List Step)) (o : Option ℤ) → o ≡ option_map (balance_of id) since
+    → IfSome since (λ steps. Fits (pos n +ℤ balance_of id steps)) → IfSome o (λ b. Fits (pos n +ℤ b))
+fits-kept n id None o e h = subst (λ (p : Option ℤ). IfSome p (λ b. Fits (pos n +ℤ b))) (sym e) tt
+fits-kept n id (Some steps) o e h = subst (λ (p : Option ℤ). IfSome p (λ b. Fits (pos n +ℤ b))) (sym e) h
+
+none_there : (P : ℤ → Type 0) (o : Option ℤ) → is_some o ≡ false → IfSome o P
+none_there P None e = tt
+none_there P (Some b) e = cc
+
+pub CanResize-fits : (h : List Step) (w : Windows) (n : ℕ) → Follows h w → FitsAt w n → CanResize h n
+CanResize-fits h w n follows fits = (
+  fits.0,
+  λ id positive. fits-found n id (since_opening id h) (balance w id) (follows.balances id positive)
+      (IfSome-lookup_from_All (λ b. Fits (pos n +ℤ b)) (nat_eq id) w.balances fits.1),
+)
+
+pub fits-CanResize : (h : List Step) (w : Windows) (n : ℕ) → Follows h w → IsDistinct nat_eq (keys_of w.balances) → is_some (balance w 0) ≡ false → CanResize h n → FitsAt w n
+fits-CanResize h w n follows unique apart can = (can.0, All-values_from_lookup nat_eq_equiv (λ b. Fits (pos n +ℤ b)) w.balances unique at)
+  where
+    at : (id : ℕ) → IfSome (lookup (nat_eq id) w.balances) (λ b. Fits (pos n +ℤ b))
+    at zero = none_there (λ b. Fits (pos n +ℤ b)) (balance w 0) apart
+    at (suc id) = let positive : 0 < suc id = omega arith in
+        fits-kept n (suc id) (since_opening (suc id) h) (balance w (suc id)) (follows.balances (suc id) positive) (can.1 (suc id) positive)

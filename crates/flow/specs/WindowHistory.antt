@@ -1,8 +1,8 @@
 -- The windows of what is sent as numbers that follow from all that happened on the connection (RFC 9113, section 6.9).
-use Rattle.std.specs.Prelude.{◌≡◌, ℕ, ◌<◌, min, ℤ, pos, negsuc, ◌+ℤ◌, ◌-ℤ◌, if◌then◌else◌, nat_eq, List, [], ◌∷◌, Option, Some, None, sum_by}
+use Rattle.std.specs.Prelude.{◌≡◌, ℕ, ◌<◌, ◌≤◌, min, ℤ, pos, negsuc, ◌+ℤ◌, ◌-ℤ◌, if◌then◌else◌, nat_eq, List, [], ◌∷◌, Option, Some, None, sum_by, IfSome}
 use Rattle.std.specs.Option.{option_map, option_map_or}
-use Rattle.flow.specs.declared.TheConstants.{INITIAL_WINDOW}
-use Rattle.flow.specs.Windows.{Windows, balance}
+use Rattle.flow.specs.declared.TheConstants.{INITIAL_WINDOW, MAX_WINDOW}
+use Rattle.flow.specs.Windows.{Windows, balance, Fits}
 
 -- what changes a window: a stream is opened; the peer credits bytes to a stream, or to the connection as stream 0; bytes are
 -- spent on a stream; the peer sets another initial size; a stream is closed. A history has the latest step first.
@@ -65,6 +65,10 @@ bytes_of (negsuc n) = 0
 -- how many bytes may be sent on a stream: what both windows have
 abbrev pub room_after : List Step → ℕ → ℕ
 room_after history id = option_map_or (λ size. min (bytes_of (connection_window history)) (bytes_of size)) (stream_window id history) 0
+
+-- with the initial size n no window is over 2^31 - 1
+abbrev pub CanResize : List Step → ℕ → Type 0
+CanResize history n = (n ≤ MAX_WINDOW) × ((id : ℕ) → 0 < id → IfSome (since_opening id history) (λ steps. Fits (pos n +ℤ balance_of id steps)))
 
 -- the windows are those that follow from a history
 pub record Follows (history : List Step) (w : Windows) : Type 0 where

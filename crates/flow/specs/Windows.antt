@@ -1,5 +1,5 @@
 -- The windows of what is sent (RFC 9113, section 6.9): that of the connection, and one for each open stream.
-use Rattle.std.specs.Prelude.{◌≡◌, ℕ, ◌+◌, ◌<◌, ◌≤◌, ◌^◌, min, ℤ, pos, negsuc, ◌+ℤ◌, ◌≤ℤ◌, ◌<ℤ◌, List, [], ◌∷◌, ◌++◌, All, Option, Some, None, MatchOption, Result, Ok, Err, nat_eq, ◌⊎◌}
+use Rattle.std.specs.Prelude.{◌≡◌, ℕ, ◌+◌, ◌<◌, ◌≤◌, ◌^◌, min, ℤ, pos, negsuc, ◌+ℤ◌, ◌≤ℤ◌, ◌<ℤ◌, List, [], ◌∷◌, ◌++◌, All, Option, Some, None, MatchOption, Result, Ok, Err, nat_eq, ◌⊎◌, is_some, false}
 use Rattle.std.specs.Option.{option_map}
 use Rattle.std.specs.Map.{lookup, set_value, remove_entry, values_of}
 use Rattle.flow.specs.declared.TheConstants.{MAX_WINDOW, INITIAL_WINDOW}
@@ -89,8 +89,9 @@ Meets Stands (Err fault) = Stands fault
 abbrev pub IsBalance : ℕ → ℤ → Type 0
 IsBalance initial b = Fits (pos initial +ℤ b) × (negsuc (2 ^ 31) ≤ℤ b)
 
--- what is true of the windows at any time
+-- what is true of the windows at any time; the connection isn't among the streams
 pub record IsWithin (connection initial : ℕ) (balances : List (ℕ × ℤ)) : Type 0 where
   pub connection_fits : connection ≤ MAX_WINDOW
   pub initial_fits : initial ≤ MAX_WINDOW
   pub each : All (IsBalance initial) (values_of balances)
+  pub apart : is_some (lookup (nat_eq 0) balances) ≡ false

@@ -1,11 +1,12 @@
 //! The windows of what is sent (RFC 9113, section 6.9).
 
-ghost use Rattle.std.specs.Prelude.{◌≡◌, ◌+◌, ◌-◌, ◌+ℤ◌, ◌-ℤ◌, ◌<◌, ◌≤◌, pos, List, [], ◌∷◌, None, IfErr, OnErr, OnOk, IsSome, MatchOption, nat_eq, int_le};
+ghost use Rattle.std.specs.Prelude.{◌≡◌, ◌+◌, ◌-◌, ◌+ℤ◌, ◌-ℤ◌, ◌<◌, ◌≤◌, pos, List, [], ◌∷◌, None, IfErr, OnErr, OnOk, IsSome, is_some, MatchOption, nat_eq, int_le};
 ghost use Rattle.std.specs.List.{list_all};
 ghost use Rattle.std.specs.Map.{lookup, set_value, values_of};
+ghost use Rattle.indexmap.specs.IndexMap.{IsUnique};
 ghost use Rattle.flow.specs.declared.send_windows.WindowFault.TheVariants.{Overflow, OutOfMemory};
 ghost use Rattle.flow.specs.Windows.{code_of, room, opened, with_balance, closed, balance, Meets, CreditFault, SpendFault, FitsAt, IsBalance, lesser};
-ghost use Rattle.flow.specs.WindowHistory.{Step, Opening, Credit, Spending, Resizing, Closing, Follows, room_after};
+ghost use Rattle.flow.specs.WindowHistory.{Step, Opening, Credit, Spending, Resizing, Closing, Follows, CanResize, room_after};
 
 use crate::{INITIAL_WINDOW, MAX_WINDOW};
 use h2frame::StreamId;
@@ -134,8 +135,10 @@ impl SendWindows {
         ensures ok { OnOk result (self.new ≡ record self.old { initial = size }) }
         ensures follows { OnOk result ((history : List Step) → Follows history self.old → Follows (Resizing size ∷ history) self.new) }
         ensures fits { OnOk result (FitsAt self.old size) }
+        ensures can { OnOk result ((history : List Step) → Follows history self.old → CanResize history size) }
         ensures unchanged { OnErr result (self.new ≡ self.old) }
         ensures overflow { OnErr result (¬ FitsAt self.old size) }
+        ensures cannot { OnErr result ((history : List Step) → Follows history self.old → ¬ CanResize history size) }
         ensures fault { IfErr result (λ fault. fault ≡ Overflow) }
     {
         if size > MAX_WINDOW {
@@ -180,6 +183,13 @@ impl SendWindows {
         }
     }
 
+    /// Whether the stream is open.
+    pub fn has(&self, id: StreamId) -> bool
+        ensures { result ≡ is_some (balance self.now id) }
+    {
+        self.balances.contains_key(&id)
+    }
+
     /// Closes a stream. One that isn't open is none to close, and nothing changes.
     pub fn close(&mut self, id: StreamId)
         ensures value { self.new ≡ closed self.old id }
@@ -191,8 +201,11 @@ impl SendWindows {
 
 /// Whether no balance is over the most.
 fn all_at_most(balances: &IndexMap<StreamId, i64>, most: i64) -> bool
-    ensures { result ≡ list_all (λ balance. int_le balance most) (values_of balances.now.entries) }
+    ensures value { result ≡ list_all (λ balance. int_le balance most) (values_of balances.now.entries) }
+    ensures unique { IsUnique nat_eq balances.now }
 {
+    // That no key stands twice is said by `len`.
+    let _count = balances.len();
     balances.values().all(|balance| *balance <= most)
 }
 

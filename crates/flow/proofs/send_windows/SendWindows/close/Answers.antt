@@ -1,3 +1,6 @@
+use Rattle.std.proofs.Common.{nat_eq}
+use Rattle.std.specs.Map.{lookup}
+use Rattle.flow.proofs.Entries.{apart-taken}
 use Rattle.flow.specs.Windows.{IsBalance}
 use Rattle.flow.proofs.Balances.{all-remove}
 use Rattle.flow.proofs.send_windows.SendWindows.close.Goals as goal
@@ -7,4 +10,5 @@ invariant_of-self c = record {
   connection_fits = c.self.invariant.connection_fits;
   initial_fits = c.self.invariant.initial_fits;
   each = rw c.shift_remove.ensures.entries (all-remove (IsBalance c.self.inside.initial) c.self.inside.balances.entries c.args.id c.self.invariant.each);
+  apart = apart-taken (nat_eq c.args.id 0) (lookup (nat_eq 0) c.self.inside.balances.entries) _ (c.shift_remove.ensures.updates.0 0) c.self.invariant.apart;
 }

@@ -1,6 +1,7 @@
 use Rattle.std.proofs.Common.{◌≡◌, ◌<◌, Some, arith, rules, nat_eq}
 use Rattle.std.proofs.lemmas.Int.{ints}
 use Rattle.std.specs.Map.{lookup}
+use Rattle.flow.proofs.Entries.{apart-set}
 use Rattle.flow.proofs.Balances.{credit_keeps}
 use Rattle.flow.proofs.WindowSteps.{Follows-credit}
 use Rattle.flow.specs.Windows.{Windows}
@@ -18,6 +19,7 @@ invariant_of-self-2 c =
       each = credit_keeps c.self.inside.balances.entries _ c.args.id c.self.inside.initial c.in-Some.balance _ c.write_balance.ensures c.self.invariant.each at
           (grind (arith, ints))
           (omega (arith, ints, c.self.invariant.initial_fits));
+      apart = apart-set c.args.id c.in-Some.balance _ c.self.inside.balances.entries _ at c.write_balance.ensures c.self.invariant.apart;
     }
 
 pub returns-clause-follows : goal.returns-clause-follows

@@ -3,6 +3,7 @@ use Rattle.std.proofs.lemmas.Int.{ints}
 use Rattle.std.specs.Map.{lookup}
 use Rattle.indexmap.proofs.CallerLemmas.{insert_entry-new}
 use Rattle.flow.specs.Windows.{IsBalance}
+use Rattle.flow.proofs.Entries.{apart-push}
 use Rattle.flow.proofs.Balances.{all-push}
 use Rattle.flow.proofs.send_windows.SendWindows.open.Goals as goal
 
@@ -15,6 +16,7 @@ invariant_of-self-2 c =
       connection_fits = c.self.invariant.connection_fits;
       initial_fits = c.self.invariant.initial_fits;
       each = rw new (all-push (IsBalance c.self.inside.initial) c.self.inside.balances.entries c.args.id (pos 0) c.self.invariant.each (omega (arith, ints, c.self.invariant.initial_fits), omega (arith, ints)));
+      apart = rw new (apart-push c.args.id (pos 0) c.self.inside.balances.entries c.requires.stream c.self.invariant.apart);
     }
 
 pub returns-clause-ok : goal.returns-clause-ok

@@ -1,6 +1,7 @@
 use Rattle.std.proofs.Common.{◌≡◌, ◌≤◌, Some, arith, rules, nat_eq}
 use Rattle.std.proofs.lemmas.Int.{ints}
 use Rattle.std.specs.Map.{lookup}
+use Rattle.flow.proofs.Entries.{apart-set}
 use Rattle.flow.proofs.Balances.{spend_keeps}
 use Rattle.flow.proofs.WindowSteps.{Follows-spending, lesser-within}
 use Rattle.flow.specs.Windows.{Windows}
@@ -18,6 +19,7 @@ invariant_of-self c =
       each = spend_keeps c.self.inside.balances.entries _ c.args.id c.self.inside.connection c.self.inside.initial c.args.len c.least.result c.in-Some.balance _ _ c.write_balance.ensures c.least.ensures c.if-len-least.false c.self.invariant.initial_fits c.self.invariant.each at
           (omega (arith, ints))
           (grind (arith, ints));
+      apart = apart-set c.args.id c.in-Some.balance _ c.self.inside.balances.entries _ at c.write_balance.ensures c.self.invariant.apart;
     }
 
 pub returns-clause-follows : goal.returns-clause-follows
