@@ -1,2 +1,5 @@
 pub mod Single
 pub mod Streams
+pub mod OneAnswer
+pub mod OneSum
+pub mod Statuses

@@ -87,6 +87,16 @@ AnswersSum judged messages ended answer =
     ((total : ℕ) × AllAdded judged messages total × (answer ≡ (if ended then done (SumReply (pos total) ∷ []) else nothing)))
     ⊎ EndedBySum judged messages answer
 
+-- ---- the law of a method
+
+-- Whether or not the end was told, a list of messages has no two answers.
+abbrev pub HasOneAnswer : (List (List ℕ) → Bool → Step → Type 0) → Type 0
+HasOneAnswer answers = (messages : List (List ℕ)) (ended : Bool) (answer other : Step) → answers messages ended answer → answers messages ended other → answer ≡ other
+
+-- Where the end was told, an answer has a status.
+abbrev pub HasStatusAtEnd : (List (List ℕ) → Bool → Step → Type 0) → Type 0
+HasStatusAtEnd answers = (messages : List (List ℕ)) (answer : Step) → answers messages true answer → IsSome answer.ends
+
 -- ---- what a state stands for: the messages of the call so far, to which this was answered
 
 -- the call has its status

@@ -3,3 +3,4 @@ pub mod Replies
 pub mod Steps
 pub mod Requests
 pub mod Answers
+pub mod Examples

@@ -2,10 +2,12 @@
 //! interop-test-descriptions.md), as state machines without threads and streams.
 //!
 //! Promised: the replies and the status that a method's steps give, joined, are what `specs/Answers.antt` says of the
-//! whole list of messages and of whether their end was told ([`Method`]); [`Reply::bytes`] is the canonical spelling
-//! of the response message; [`Methods::find`] answers the least index with a path.
+//! whole list of messages and of whether their end was told ([`Method`], and [`run`] for all steps of a call), and
+//! there is only one answer; [`Reply::bytes`] is the canonical spelling of the response message; [`Methods::find`]
+//! answers the least index with a path.
 //!
-//! Read [`status`], [`reply`], [`step`] and [`state`] first, the types; then [`method`], the law; then the methods.
+//! Read [`status`], [`reply`], [`step`] and [`state`] first, the types; then [`method`], the law, and [`serial`], a whole
+//! call by it; then the methods.
 #![tactic(auto)]
 
 pub mod empty_call;
@@ -17,6 +19,7 @@ mod judge;
 pub mod method;
 pub mod methods;
 pub mod reply;
+pub mod serial;
 pub mod state;
 pub mod status;
 pub mod step;
@@ -31,6 +34,7 @@ pub use half_duplex_call::HalfDuplexCall;
 pub use method::Method;
 pub use methods::Methods;
 pub use reply::{Replies, Reply};
+pub use serial::run;
 pub use state::{MessageList, MethodState};
 pub use status::{Refusal, Status};
 pub use step::Step;
@@ -38,5 +42,7 @@ pub use streaming_input_call::StreamingInputCall;
 pub use streaming_output_call::StreamingOutputCall;
 pub use unary_call::{CacheableUnaryCall, UnaryCall};
 
+#[cfg(test)]
+mod sum_tests;
 #[cfg(test)]
 mod tests;

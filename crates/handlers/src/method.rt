@@ -5,6 +5,7 @@ ghost use Rattle.handlers.specs.declared.state.MethodState.{MethodState as State
 ghost use Rattle.handlers.specs.declared.state.MethodState.TheVariants.{Ended};
 ghost use Rattle.handlers.specs.declared.step.Step.{Step as Given};
 ghost use Rattle.handlers.specs.Steps.{nothing, joined};
+ghost use Rattle.handlers.specs.Answers.{HasOneAnswer, HasStatusAtEnd};
 
 use crate::fault::MethodFault;
 use crate::state::MethodState;
@@ -33,7 +34,11 @@ pub trait Method: Send + Sync + Drop {
     /// The state of a call without a message yet.
     fn first(&self) -> MethodState
         ensures stands { stands self.now result [] nothing }
-        ensures answers { answers self.now [] false nothing };
+        ensures answers { answers self.now [] false nothing }
+        // No list of messages has two answers.
+        ensures one_answer { HasOneAnswer (answers self.now) }
+        // A call whose end was told has a status.
+        ensures status { HasStatusAtEnd (answers self.now) };
 
     /// Takes the next message.
     fn message(

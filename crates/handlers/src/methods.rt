@@ -21,9 +21,9 @@ impl Methods {
 
     /// The least index of a method with that path, and none only where no method has it.
     pub fn find(&self, path: &[u8]) -> Option<usize>
-        ensures found { IfSome result (λ index. HoldsAt (λ method. (⟦<dyn Method as Method>⟧ method.vtable).name method.value ≡ path.now) self.now.items.items index) }
-        ensures least { IfSome result (λ index. AllWithin (λ method. (⟦<dyn Method as Method>⟧ method.vtable).name method.value ≢ path.now) self.now.items.items 0 index) }
-        ensures none { IfNone result (AllWithin (λ method. (⟦<dyn Method as Method>⟧ method.vtable).name method.value ≢ path.now) self.now.items.items 0 (length self.now.items.items)) }
+        ensures found { IfSome result (λ index. HoldsAt (λ method. name method ≡ path.now) self.now.items.items index) }
+        ensures least { IfSome result (λ index. AllWithin (λ method. name method ≢ path.now) self.now.items.items 0 index) }
+        ensures none { IfNone result (AllWithin (λ method. name method ≢ path.now) self.now.items.items 0 (length self.now.items.items)) }
     {
         for (index, method) in self.items.iter().enumerate() {
             if method.path().as_bytes() == path {

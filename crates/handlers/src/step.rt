@@ -1,11 +1,11 @@
 //! What one step of a method gives.
 
-ghost use Rattle.std.specs.Prelude.{◌≡◌, ◌∷◌, []};
-ghost use Rattle.handlers.specs.Steps.{nothing, replying, ending, done};
+ghost use Rattle.std.specs.Prelude.{◌≡◌, ◌∷◌, [], OnOk};
+ghost use Rattle.handlers.specs.Steps.{nothing, replying, ending, done, joined};
 
 use crate::reply::Replies;
 use crate::status::Status;
-use std::alloc::Global;
+use std::alloc::{AllocError, Global};
 
 /// Replies, and the status that ends the call behind them, if one does.
 #[derive(Debug, Drop)]
@@ -53,5 +53,16 @@ impl Step {
             replies,
             ends: Some(Status::ok(alloc)),
         }
+    }
+
+    /// Adds what a later step gave. A status once there stays.
+    pub(crate) fn join(&mut self, more: Step) -> Result<(), AllocError>
+        ensures { OnOk result (self.new ≡ joined self.old more) }
+    {
+        self.replies.append(&more.replies)?;
+        if self.ends.is_none() {
+            self.ends = more.ends;
+        }
+        Ok(())
     }
 }

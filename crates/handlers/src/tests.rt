@@ -3,8 +3,8 @@ use std::alloc::Global;
 use std::process::Abort;
 use std::test::Fail;
 
-/// The bytes of the replies, each behind its length in one byte, then `-` or the status: its code and its text.
-fn fold(
+/// The bytes of the replies, each with a `;` behind, then `-` or the status: its code and its text.
+fn answer_text(
     alloc: Global,
     methods: &Methods,
     path: &str,
@@ -13,26 +13,9 @@ fn fold(
 ) -> Result<String, Fail> {
     let index = methods.find(path.as_bytes()).ok_or("a method")?;
     let method = methods.get(index).ok_or("a method")?;
-    let mut state = method.first();
+    let answer = run(alloc, &**method, messages, ended).ok().ok_or("memory")?;
     let mut text = String::new(alloc);
-    let mut status = String::from_str(alloc, "-")?;
-    for message in messages {
-        let step = method
-            .message(alloc, &mut state, message)
-            .ok()
-            .ok_or("memory")?;
-        tell(alloc, &step, &mut text, &mut status)?;
-    }
-    if ended {
-        let step = method.end(alloc, &mut state).ok().ok_or("memory")?;
-        tell(alloc, &step, &mut text, &mut status)?;
-    }
-    text.push_str(status.as_str())?;
-    Ok(text)
-}
-
-fn tell(alloc: Global, step: &Step, text: &mut String, status: &mut String) -> Result<(), Fail> {
-    for reply in step.replies.as_slice() {
+    for reply in answer.replies.as_slice() {
         let bytes = reply.bytes(alloc).ok().ok_or("memory")?;
         for byte in &bytes {
             let digits = format!(in alloc; "{byte:02x}")?;
@@ -40,10 +23,12 @@ fn tell(alloc: Global, step: &Step, text: &mut String, status: &mut String) -> R
         }
         text.push_str("; ")?;
     }
-    if let Some(ends) = &step.ends {
-        *status = format!(in alloc; "{} {}", ends.code, ends.text.as_str())?;
-    }
-    Ok(())
+    let status = match &answer.ends {
+        Some(ends) => format!(in alloc; "{} {}", ends.code, ends.text.as_str())?,
+        None => String::from_str(alloc, "-")?,
+    };
+    text.push_str(status.as_str())?;
+    Ok(text)
 }
 
 const SERVICE: &str = "/grpc.testing.TestService/";
@@ -63,7 +48,7 @@ const WRONG_NUMBER: &str = "13 wrong number of messages";
 /// A method, the messages that it is handed, whether the end is told, and what it answers.
 type Row = (&'static str, &'static [&'static [u8]], bool, &'static str);
 
-static ROWS: [Row; 55] = [
+static ROWS: [Row; 75] = [
     // One message of zero bytes.
     ("UnaryCall", &[b""], true, "0a00; 0 "),
     // A request whose field is overwritten, and whose size is -1.
@@ -231,12 +216,91 @@ static ROWS: [Row; 55] = [
         false,
         "3 bad response size",
     ),
+    ("UnaryCall", &[b"\x08\x01"], false, "3 bad response type"),
+    ("CacheableUnaryCall", &[b"\x08"], false, MALFORMED),
+    (
+        "CacheableUnaryCall",
+        &[b"\x42\x02\x08\x01"],
+        false,
+        "3 message is not compressed",
+    ),
+    (
+        "CacheableUnaryCall",
+        &[b"\x3a\x05\x08\x02\x12\x01x"],
+        true,
+        "2 x",
+    ),
+    (
+        "CacheableUnaryCall",
+        &[b"\x08\x01"],
+        false,
+        "3 bad response type",
+    ),
+    (
+        "CacheableUnaryCall",
+        &[b"\x10\x81\x92\xf4\x01"],
+        false,
+        "3 bad response size",
+    ),
+    ("StreamingOutputCall", &[b"\x08"], false, MALFORMED),
+    ("StreamingOutputCall", &[ASKED], false, "2 x"),
+    ("FullDuplexCall", &[b"\x08", OUTPUT_REPLY], true, MALFORMED),
+    (
+        "FullDuplexCall",
+        &[OUTPUT_REPLY, b"\x08\x01"],
+        false,
+        "0a03120100; 3 bad response type",
+    ),
+    (
+        "FullDuplexCall",
+        &[
+            OUTPUT_REPLY,
+            b"\x12\x02\x08\x01\x12\x05\x08\x81\x92\xf4\x01",
+        ],
+        false,
+        "0a03120100; 3 bad response size",
+    ),
+    ("HalfDuplexCall", &[b"\x08"], false, "-"),
+    ("HalfDuplexCall", &[b"\x08"], true, MALFORMED),
+    (
+        "HalfDuplexCall",
+        &[OUTPUT_REPLY, b"\x08\x01"],
+        true,
+        "0a03120100; 3 bad response type",
+    ),
+    (
+        "HalfDuplexCall",
+        &[b"\x12\x05\x08\x81\x92\xf4\x01", OUTPUT_REPLY],
+        true,
+        "3 bad response size",
+    ),
+    (
+        "HalfDuplexCall",
+        &[OUTPUT_REPLY, OUTPUT_REPLY],
+        true,
+        "0a03120100; 0a03120100; 0 ",
+    ),
+    // The greatest code that is gRPC's, codes that aren't, and an asked status 0, which ends nothing.
+    ("UnaryCall", &[b"\x3a\x02\x08\x10"], true, "16 "),
+    ("UnaryCall", &[b"\x3a\x02\x08\x11"], true, "2 "),
+    (
+        "FullDuplexCall",
+        &[b"\x3a\x0b\x08\xff\xff\xff\xff\xff\xff\xff\xff\xff\x01"],
+        false,
+        "2 ",
+    ),
+    (
+        "UnaryCall",
+        &[b"\x3a\x05\x08\x00\x12\x01x"],
+        true,
+        "0a00; 0 ",
+    ),
 ];
 
 fn check_rows(rt: &impl Abort, alloc: Global, methods: &Methods, rows: &[Row]) -> Result<(), Fail> {
     for (name, messages, ended, wanted) in rows {
         let path = format!(in alloc; "{SERVICE}{name}")?;
-        let answer = fold(alloc, methods, path.as_str(), *messages, *ended)?;
+        let answer = answer_text(alloc, methods, path.as_str(), *messages, *ended)?;
         assert_eq!(rt; answer.as_str(), *wanted, "{name} {messages:?} {ended}");
     }
     Ok(())
@@ -263,27 +327,4 @@ fn seven_methods(rt: HostRuntime) -> Result<(), Fail> {
     let methods = Methods::new(methods);
     check_paths(&rt, &methods);
     check_rows(&rt, alloc, &methods, &ROWS)
-}
-
-#[test]
-fn sums(rt: HostRuntime) -> Result<(), Fail> {
-    // The sum of 27,182, 8, 1,828 and 45,904.
-    let reply = Reply::Sum(74_922).bytes(rt.alloc()).ok().ok_or("memory")?;
-    assert_eq!(rt; reply.as_slice(), b"\x08\xaa\xc9\x04".as_slice());
-    let large = Reply::Zeros(314_159)
-        .bytes(rt.alloc())
-        .ok()
-        .ok_or("memory")?;
-    assert_eq!(rt; large.len(), 314_167);
-    // A sum that is already as large as it may be.
-    let mut state = MethodState::Sum(2_147_483_647);
-    let step = StreamingInputCall
-        .message(rt.alloc(), &mut state, b"\x0a\x03\x12\x01\x00")
-        .ok()
-        .ok_or("memory")?;
-    let status = step.ends.as_ref().ok_or("a status")?;
-    assert_eq!(rt; status.code, 11);
-    assert_eq!(rt; status.text.as_str(), "sum out of range");
-    assert_eq!(rt; MethodFault::OutOfMemory.code(), 1);
-    Ok(())
 }

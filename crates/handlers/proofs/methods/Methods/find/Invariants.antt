@@ -4,4 +4,4 @@ use Rattle.handlers.proofs.methods.Methods.find.Given as goal
 
 -- no method before this one has the path
 abbrev pub invariant-loop-index : goal.invariant-loop-index
-invariant-loop-index g l = AllWithin (λ method. (g.dyn-1.0.entry method.vtable).1.name method.value ≢ l.path) l.self.items.items 0 l.index
+invariant-loop-index g l = AllWithin (λ method. (goal.Method-dyn g (method.vtable, method.value)).name method.value ≢ l.path) l.self.items.items 0 l.index

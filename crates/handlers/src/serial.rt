@@ -1,0 +1,36 @@
+//! A whole call of a method, its steps one after another.
+
+ghost use Rattle.std.specs.Prelude.{◌≡◌, map, IfOk, IsSome, IsTrue};
+ghost use Rattle.handlers.specs.declared.step.Step.{Step as Given};
+
+use crate::fault::MethodFault;
+use crate::method::Method;
+use crate::step::Step;
+use std::alloc::Global;
+
+/// What the method answers to a call of these messages, and of its end where that is told.
+///
+/// All steps are taken, those behind a status too; they give nothing. Where memory runs out, in a step or for the list
+/// of replies, nothing is answered.
+pub fn run(
+    alloc: Global,
+    method: &dyn Method,
+    messages: &[&[u8]],
+    ended: bool,
+) -> Result<Step, MethodFault>
+    ensures answer { IfOk result (λ answer. answers method.now (map (λ message. message.now) messages.now) ended answer) }
+    ensures only { IfOk result (λ answer. (other : Given) → answers method.now (map (λ message. message.now) messages.now) ended other → other ≡ answer) }
+    ensures status { IfOk result (λ answer. IsTrue ended → IsSome answer.ends) }
+{
+    let mut state = method.first();
+    let mut given = Step::nothing(alloc);
+    for message in messages {
+        let step = method.message(alloc, &mut state, message)?;
+        given.join(step)?;
+    }
+    if ended {
+        let step = method.end(alloc, &mut state)?;
+        given.join(step)?;
+    }
+    Ok(given)
+}
