@@ -4,4 +4,8 @@ pub mod Streams
 pub mod Frames
 pub mod Blocks
 pub mod Fragments
+pub mod Events
+pub mod Reached
+pub mod StreamData
 pub mod Examples
+pub mod EventExamples

@@ -84,6 +84,7 @@ impl HeaderBlock {
         requires { self.old.whole ≡ false }
         ensures ok { OnOk result ((frames : List FrameOf) → Collects frames self.old → Collects (frames ++ frame.now ∷ []) self.new) }
         ensures err { IfErr result (λ fault. Stands fault self.old frame.now) }
+        ensures head { self.new.head ≡ self.old.head }
         ensures unchanged { OnErr result (self.new ≡ self.old) }
     {
         if !goes_on(frame, self.head.stream) {

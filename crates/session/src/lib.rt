@@ -2,18 +2,26 @@
 //!
 //! Parts of a connection's reading, each with a contract of its own: `preface` is the text with which a client begins,
 //! `settings` the content of a SETTINGS frame, `judge` what a frame comes to, given those before it, `fragments` a header
-//! block over its frames, and `block` what a whole one comes to. `event` names what there is to come to.
+//! block over its frames, `block` what a whole one comes to, and `context` what frames come to one after another.
+//! `event` names what there is to come to. On these stands `in_core`: the reading core, which is fed a connection's bytes
+//! in any pieces and answers their events; `serial` reads a whole connection by it. `laws` has what follows of the
+//! definitions.
 #![tactic(auto)]
 
 pub mod block;
+mod context;
 mod event;
 mod fragments;
+mod in_core;
 pub mod judge;
+pub mod laws;
 mod preface;
+pub mod serial;
 mod settings;
 
 pub use event::{Control, InEvent};
 pub use fragments::{FragmentFault, HeaderBlock, MAX_BLOCK};
+pub use in_core::InCore;
 pub use preface::{BadPreface, Preface};
 pub use settings::{Parameter, PeerSetting, PeerSettings, SettingsFault, read_settings};
 

@@ -11,6 +11,17 @@ use std::alloc::{AllocError, Global};
 use std::process::Abort;
 use std::test::Fail;
 
+mod clients;
+mod errors;
+mod feeding;
+mod greeting;
+mod header_blocks;
+mod in_core;
+mod long_inputs;
+mod malformed;
+mod malformed_heads;
+mod states;
+
 const PREFACE: &[u8] = b"PRI * HTTP/2.0\r\n\r\nSM\r\n\r\n";
 
 /// The bytes of pairs of hexadecimal digits, with anything else between them.

@@ -1,0 +1,132 @@
+-- The data that a run of groups tells of a stream, and those of its frames.
+use Rattle.std.proofs.Common.{◌≡◌, ◌≤◌, ℕ, inl, inr, Bool, true, false, ◌||◌, List, [], ◌∷◌, ◌++◌, length, refl, sym, ap, subst, ◌∙◌, arith}
+use Rattle.std.specs.Prelude.{Some, None, if◌then◌else◌, flat_map}
+use Rattle.std.specs.List.{list_any, AllByRecursion}
+use Rattle.std.proofs.lemmas.List.{append-nil, length-append}
+use Rattle.std.proofs.lemmas.List.Folds.{list_any-append}
+use Rattle.std.proofs.lemmas.List.Concat.{flat_map-cons}
+use Rattle.h2frame.specs.FrameList.{Entry, Whole, NoIncrement, Spells, Joined}
+use Rattle.h2frame.specs.Flags.{is_padded}
+use Rattle.h2frame.specs.Spelling.{payload_text}
+use Rattle.flow.specs.declared.halves.Half.TheVariants.{Opened}
+use Rattle.flow.proofs.HalfLemmas.{kept-None}
+use Rattle.session.specs.declared.event.InEvent.{InEvent}
+use Rattle.session.specs.Events.{Situation, start, Group, entries_of, Runs, Passes}
+use Rattle.session.specs.StreamData.{data_behind, data_of, pieces, is_opening, Ending, first_end, ending_behind, ending_of, ending_told}
+use Rattle.session.proofs.HalfSteps.{half_at, IsClosed}
+use Rattle.session.proofs.StreamPieces.{IsSilent, pieces_append, silent_join, silent_same}
+use Rattle.session.proofs.StreamGroups.{group_closed}
+use Rattle.session.proofs.OpenStreams.{IsCounted, closed_silent, group_open}
+use Rattle.session.proofs.NewStreams.{group_unbegun}
+use Rattle.session.proofs.StreamEnds.{told_append}
+use Rattle.session.proofs.OpenEnds.{group_open_end}
+use Rattle.session.proofs.NewEnds.{Still, Begins, Ends, Untold, group_new_end}
+
+abbrev pub front_of : List Group → List Entry
+front_of [] = []
+front_of (group ∷ groups) = entries_of group ++ front_of groups
+
+front_is : (groups : List Group) → front_of groups ≡ flat_map entries_of groups
+front_is [] = refl
+front_is (group ∷ groups) = ap (λ (es : List Entry). entries_of group ++ es) (front_is groups) ∙ sym (flat_map-cons entries_of group groups)
+
+all_front : (xs ys : List Entry) → AllByRecursion IsCounted (xs ++ ys) → AllByRecursion IsCounted xs
+all_front [] ys all = tt
+all_front (x ∷ xs) ys all = (all.0, all_front xs ys all.1)
+
+all_back : (xs ys : List Entry) → AllByRecursion IsCounted (xs ++ ys) → AllByRecursion IsCounted ys
+all_back [] ys all = all
+all_back (x ∷ xs) ys all = all_back xs ys all.1
+
+closed_runs : (id : ℕ) (old new : Situation) (groups : List Group) (given : List InEvent) → Runs old groups given new → IsClosed (half_at old.history id) → IsSilent id given
+closed_runs id old new [] given (e, same) closed = silent_same id given [] e (refl, refl)
+closed_runs id old new (group ∷ groups) given (first, others, next, gives, calm, runs, e) closed =
+    silent_same id given (first ++ others) e
+    (silent_join id first others (closed_silent id old next group first gives closed) (closed_runs id next new groups others runs (group_closed id old next group first gives closed)))
+
+open_runs : (id : ℕ) (old new : Situation) (groups : List Group) (given : List InEvent) → Runs old groups given new → AllByRecursion IsCounted (front_of groups) → half_at old.history id ≡ Some Opened → pieces id given ≡ data_behind id (front_of groups)
+open_runs id old new [] given (e, same) counts at = ap (pieces id) e
+open_runs id old new (group ∷ groups) given (first, others, next, gives, calm, runs, e) counts at =
+    ap (pieces id) e ∙ pieces_append id first others
+    ∙ elim (group_open id old next group first gives (all_front (entries_of group) (front_of groups) counts) at) [
+      | inl (half, due) ↦ ap (λ (b : List ℕ). pieces id first ++ b) (open_runs id next new groups others runs (all_back (entries_of group) (front_of groups) counts) half) ∙ sym (due (front_of groups))
+      | inr (closed, due) ↦ ap (λ (b : List ℕ). pieces id first ++ b) (closed_runs id next new groups others runs closed).0 ∙ append-nil (pieces id first) ∙ sym (due (front_of groups))
+    ]
+
+later : (id : ℕ) (first others given : List InEvent) → given ≡ first ++ others → list_any (is_opening id) given ≡ true → list_any (is_opening id) first ≡ false → list_any (is_opening id) others ≡ true
+later id first others given e opens none =
+    ap (λ (b : Bool). b || list_any (is_opening id) others) (sym none) ∙ sym (list_any-append (is_opening id) first others) ∙ ap (list_any (is_opening id)) (sym e) ∙ opens
+
+never : (b : Bool) → b ≡ true → b ≡ false → ⊥
+never true e f = absurd cc
+never false e f = absurd cc
+
+unbegun_runs : (id : ℕ) (old new : Situation) (groups : List Group) (given : List InEvent) → Runs old groups given new → AllByRecursion IsCounted (front_of groups) → half_at old.history id ≡ None → list_any (is_opening id) given ≡ true
+    → pieces id given ≡ data_of id (front_of groups)
+unbegun_runs id old new [] given (e, same) counts none opens = absurd (never (list_any (is_opening id) given) opens (ap (list_any (is_opening id)) e))
+unbegun_runs id old new (group ∷ groups) given (first, others, next, gives, calm, runs, e) counts none opens =
+    ap (pieces id) e ∙ pieces_append id first others
+    ∙ elim (group_unbegun id old next group first gives calm none) [
+      | inl (still, silent, due) ↦
+          ap (λ (b : List ℕ). b ++ pieces id others) silent.0
+          ∙ unbegun_runs id next new groups others runs (all_back (entries_of group) (front_of groups) counts) still (later id first others given e opens silent.1)
+          ∙ sym (due (front_of groups))
+      | inr (inl (half, nothing, due)) ↦
+          ap (λ (b : List ℕ). b ++ pieces id others) nothing ∙ open_runs id next new groups others runs (all_back (entries_of group) (front_of groups) counts) half ∙ sym (due (front_of groups))
+      | inr (inr (closed, nothing, inl untold)) ↦ absurd (never (list_any (is_opening id) others) (later id first others given e opens untold) (closed_runs id next new groups others runs closed).1)
+      | inr (inr (closed, nothing, inr due)) ↦
+          ap (λ (b : List ℕ). b ++ pieces id others) nothing ∙ (closed_runs id next new groups others runs closed).0 ∙ sym (due (front_of groups))
+    ]
+
+-- ---- what is read counts its content
+
+entry_counted : (entry : Entry) (text : List ℕ) → Spells text entry → IsCounted entry
+entry_counted (Whole frame) text (skipped, fits, spells, fine) =
+    within (payload_text frame.head skipped frame.content) frame.content skipped.priority skipped.padding (if is_padded frame.head then length skipped.padding ∷ [] else []) frame.head.length refl fits.payload
+  where
+    within : (payload content priority padding pad : List ℕ) (n : ℕ) → payload ≡ pad ++ (priority ++ (content ++ padding)) → length payload ≡ n → length content ≤ n
+    within payload content priority padding pad n e f =
+        omega (arith, ap length e, f, length-append pad (priority ++ (content ++ padding)), length-append priority (content ++ padding), length-append content padding)
+entry_counted (NoIncrement stream) text spells = tt
+
+all_counted : (text : List ℕ) (entries : List Entry) (rest : List ℕ) → Joined text entries rest → AllByRecursion IsCounted entries
+all_counted text [] rest e = tt
+all_counted text (entry ∷ entries) rest (front, more, parts, spells, tail) = (entry_counted entry front spells, all_counted more entries rest tail)
+
+pub data_told : (text : List ℕ) (entries behind : List Entry) (rest : List ℕ) (given : List InEvent) (now : Situation) (id : ℕ) → Joined text entries rest → Passes entries behind given now → list_any (is_opening id) given ≡ true
+    → (front : List Entry) × (entries ≡ front ++ behind) × (pieces id given ≡ data_of id front)
+data_told text entries behind rest given now id joined passes opens =
+    let is : front_of passes.groups ≡ flat_map entries_of passes.groups = front_is passes.groups in
+    let parts : entries ≡ front_of passes.groups ++ behind = passes.parts ∙ ap (λ (es : List Entry). es ++ behind) (sym is) in
+    let counts : AllByRecursion IsCounted (front_of passes.groups) = all_front (front_of passes.groups) behind (subst (λ (es : List Entry). AllByRecursion IsCounted es) parts (all_counted text entries rest joined)) in
+    (front_of passes.groups, parts, unbegun_runs id start now passes.groups given passes.runs counts (kept-None id []) opens)
+
+-- ---- the end of a stream
+
+open_ends : (id : ℕ) (old new : Situation) (groups : List Group) (given : List InEvent) → Runs old groups given new → half_at old.history id ≡ Some Opened → ending_told id given ≡ ending_behind id (front_of groups)
+open_ends id old new [] given (e, same) at = ap (ending_told id) e
+open_ends id old new (group ∷ groups) given (first, others, next, gives, calm, runs, e) at =
+    ap (ending_told id) e ∙ told_append id first others
+    ∙ elim (group_open_end id old next group first gives calm at) [
+      | inl (quiet, half, due) ↦ ap (λ (b : Ending). first_end b (ending_told id others)) quiet ∙ open_ends id next new groups others runs half ∙ sym (due (front_of groups))
+      | inr (end, last, told, due) ↦ ap (λ (b : Ending). first_end b (ending_told id others)) told ∙ last (ending_told id others) ∙ sym (due (front_of groups))
+    ]
+
+new_ends : (id : ℕ) (old new : Situation) (groups : List Group) (given : List InEvent) → Runs old groups given new → half_at old.history id ≡ None → list_any (is_opening id) given ≡ true → ending_told id given ≡ ending_of id (front_of groups)
+new_ends id old new [] given (e, same) none opens = absurd (never (list_any (is_opening id) given) opens (ap (list_any (is_opening id)) e))
+new_ends id old new (group ∷ groups) given (first, others, next, gives, calm, runs, e) none opens =
+    ap (ending_told id) e ∙ told_append id first others
+    ∙ elim (group_new_end id old next group first gives calm none) [
+      | Still still quiet untold due ↦
+          ap (λ (b : Ending). first_end b (ending_told id others)) quiet ∙ new_ends id next new groups others runs still (later id first others given e opens untold) ∙ sym (due (front_of groups))
+      | Begins half quiet due ↦ ap (λ (b : Ending). first_end b (ending_told id others)) quiet ∙ open_ends id next new groups others runs half ∙ sym (due (front_of groups))
+      | Ends told due ↦ ap (λ (b : Ending). first_end b (ending_told id others)) told ∙ sym (due (front_of groups))
+      | Untold closed untold ↦ absurd (never (list_any (is_opening id) others) (later id first others given e opens untold) (closed_runs id next new groups others runs closed).1)
+    ]
+
+pub end_told_of : (entries behind : List Entry) (given : List InEvent) (now : Situation) (id : ℕ) → Passes entries behind given now → list_any (is_opening id) given ≡ true
+    → (front : List Entry) × (entries ≡ front ++ behind) × (ending_told id given ≡ ending_of id front)
+end_told_of entries behind given now id passes opens =
+    let is : front_of passes.groups ≡ flat_map entries_of passes.groups = front_is passes.groups in
+    let parts : entries ≡ front_of passes.groups ++ behind = passes.parts ∙ ap (λ (es : List Entry). es ++ behind) (sym is) in
+    (front_of passes.groups, parts, new_ends id start now passes.groups given passes.runs (kept-None id []) opens)

@@ -1,0 +1,150 @@
+-- The events of a connection's bytes (RFC 9113, sections 3.4, 4.3, 5.4 and 6), on the whole list of its frames: behind
+-- the preface it is cut into groups, each of which has its events, and these end with the first that is fatal.
+use Rattle.std.specs.Prelude.{◌≡◌, ◌⊎◌, ℕ, Bool, true, false, List, [], ◌∷◌, ◌++◌, map, flat_map, Option, Some}
+use Rattle.std.specs.List.{list_any}
+use Rattle.h2frame.specs.declared.error_code.ErrorCode.{ErrorCode}
+use Rattle.h2frame.specs.declared.error_code.ErrorCode.TheVariants.{ProtocolError}
+use Rattle.h2frame.specs.declared.fault.FrameFault.{FrameFault}
+use Rattle.h2frame.specs.declared.frame.Frame.{Frame}
+use Rattle.h2frame.specs.declared.kind.FrameKind.TheVariants.{Headers, Settings}
+use Rattle.h2frame.specs.Faults.{fault_error}
+use Rattle.h2frame.specs.FrameList.{Entry, Whole, NoIncrement, Joined, IsUnfinished, IsFaulty}
+use Rattle.hpack_codec.specs.Table.{Table, empty_table}
+use Rattle.flow.specs.declared.halves.HalfVerdict.TheVariants.{ConnectionError}
+use Rattle.flow.specs.Halves.{Event, verdict, is_connection_error}
+use Rattle.session.specs.declared.event.InEvent.{InEvent}
+use Rattle.session.specs.declared.event.InEvent.TheVariants.{Fatal}
+use Rattle.session.specs.declared.fragments.FragmentFault.{FragmentFault}
+use Rattle.session.specs.declared.fragments.FragmentFault.TheVariants.{Interrupted, TooLong, OutOfMemory}
+use Rattle.session.specs.Prefaces.{preface, Departs}
+use Rattle.session.specs.Streams.{after_frame, refusal, credit_head, credit_verdict}
+use Rattle.session.specs.Frames.{fatal, Gives}
+use Rattle.session.specs.Fragments.{Pending, Collects, Stands, fragment_error}
+use Rattle.session.specs.Blocks.{BlockGives}
+
+-- what frames are judged by: those before them and the resets, and the table of header fields
+pub record Situation : Type 0 where
+  pub history : List Event
+  pub kept : Option Table
+
+-- before the first frame
+abbrev pub start : Situation
+start = record { history = []; kept = Some empty_table }
+
+-- frames that have their events together: one that is no part of a header block, a WINDOW_UPDATE without an increment
+-- on a stream, or all those of a header block
+pub data Group : Type 0 where
+  Single : Frame → Group
+  Credit : ℕ → Group
+  Block : List Frame → Pending → Group
+
+abbrev pub entries_of : Group → List Entry
+entries_of (Single frame) = Whole frame ∷ []
+entries_of (Credit id) = NoIncrement id ∷ []
+entries_of (Block frames block) = map Whole frames
+
+-- the frames of a header block, whole or not, whose HEADERS are no error of the connection
+pub record IsBegun (history : List Event) (frames : List Frame) (block : Pending) : Type 0 where
+  pub collects : Collects frames block
+  pub lawful : is_connection_error (verdict history block.head) ≡ false
+
+-- The group has these events, and leads from one situation to the next.
+abbrev pub GroupGives : Situation → Group → List InEvent → Situation → Type 0
+GroupGives old (Single frame) given new = Gives old.history frame given new.history × (new.kept ≡ old.kept)
+GroupGives old (Credit id) given new =
+    (given ≡ refusal (credit_verdict old.history id) id)
+    × (new.history ≡ after_frame (credit_verdict old.history id) (credit_head id) old.history)
+    × (new.kept ≡ old.kept)
+GroupGives old (Block frames block) given new =
+    let judged = verdict old.history block.head in
+    IsBegun old.history frames block
+    × (block.whole ≡ true)
+    × BlockGives old.kept block.head judged block.block (after_frame judged block.head old.history) given new.history new.kept
+
+abbrev pub is_fatal : InEvent → Bool
+is_fatal (Fatal error) = true
+is_fatal _ = false
+
+-- the connection goes on behind these events
+abbrev pub IsCalm : List InEvent → Type 0
+IsCalm given = list_any is_fatal given ≡ false
+
+-- groups one after another, none of which is fatal
+abbrev pub Runs : Situation → List Group → List InEvent → Situation → Type 0
+Runs old [] given new = (given ≡ []) × (new ≡ old)
+Runs old (group ∷ groups) given new =
+    (first : List InEvent) × (others : List InEvent) × (next : Situation)
+    × GroupGives old group first next × IsCalm first × Runs next groups others new × (given ≡ first ++ others)
+
+-- the first frame is SETTINGS
+abbrev pub IsSettings : Entry → Type 0
+IsSettings (Whole frame) = frame.head.kind ≡ Settings
+IsSettings (NoIncrement id) = ⊥
+
+abbrev pub Opens : List Entry → Type 0
+Opens [] = Unit {0}
+Opens (entry ∷ entries) = IsSettings entry
+
+-- The entries are whole groups with these events, and then others, which are no whole group.
+pub record Passes (entries behind : List Entry) (given : List InEvent) (now : Situation) : Type 0 where
+  pub groups : List Group
+  pub parts : entries ≡ flat_map entries_of groups ++ behind
+  pub opens : Opens entries
+  pub runs : Runs start groups given now
+
+-- What stands behind the groups: no whole one yet; a fault of the bytes; HEADERS that are an error of the connection;
+-- an entry that doesn't go on with the header block of these frames; or a group that is fatal.
+pub data Close : Type 0 where
+  Unfinished : Close
+  Faulty : FrameFault → Close
+  Refused : Frame → ErrorCode → Close
+  Broken : List Frame → Pending → Entry → FragmentFault → Close
+  Ended : Group → Situation → ErrorCode → Close
+
+-- nothing, or a header block that isn't whole
+abbrev pub IsPartial : List Event → List Entry → Type 0
+IsPartial history behind =
+    (behind ≡ [])
+    ⊎ ((frames : List Frame) × (block : Pending) × IsBegun history frames block × (block.whole ≡ false) × (behind ≡ map Whole frames))
+
+-- why an entry doesn't go on with a header block
+abbrev pub Breaks : Entry → Pending → FragmentFault → Type 0
+Breaks entry block OutOfMemory = ⊥
+Breaks (Whole frame) block fault = Stands fault block frame
+Breaks (NoIncrement id) block Interrupted = Unit {0}
+Breaks (NoIncrement id) block TooLong = ⊥
+
+-- it stands behind the groups, in the entries and the rest of the bytes, and has these events
+abbrev pub Closes : Close → Situation → List Entry → List ℕ → List InEvent → Type 0
+Closes Unfinished now behind rest last = IsPartial now.history behind × IsUnfinished rest × (last ≡ [])
+Closes (Faulty fault) now behind rest last = IsPartial now.history behind × IsFaulty fault rest × (last ≡ fatal (fault_error fault))
+Closes (Refused frame error) now behind rest last =
+    (behind ≡ Whole frame ∷ []) × (frame.head.kind ≡ Headers) × (verdict now.history frame.head ≡ ConnectionError error) × (last ≡ fatal error)
+Closes (Broken frames block entry fault) now behind rest last =
+    IsBegun now.history frames block × (block.whole ≡ false) × (behind ≡ map Whole frames ++ entry ∷ []) × Breaks entry block fault × (last ≡ fatal (fragment_error fault))
+Closes (Ended group next error) now behind rest last =
+    (behind ≡ entries_of group) × GroupGives now group (fatal error) next × (last ≡ fatal error)
+
+-- The entries of the bytes behind the preface, as far as they count, and the rest of the bytes come to these events.
+pub record Follows (entries : List Entry) (rest : List ℕ) (close : Close) (given : List InEvent) : Type 0 where
+  pub behind : List Entry
+  pub before : List InEvent
+  pub last : List InEvent
+  pub now : Situation
+  pub passes : Passes entries behind before now
+  pub closes : Closes close now behind rest last
+  pub all : given ≡ before ++ last
+
+-- the first frame is another than SETTINGS
+abbrev pub IsUnsettled : List Entry → Type 0
+IsUnsettled entries = (entry : Entry) × (entries ≡ entry ∷ []) × (IsSettings entry → ⊥)
+
+-- The events of the bytes: none as long as the preface is unfinished; the end of the connection where they depart from
+-- the preface, or where the first frame is no SETTINGS; or those of the groups behind it.
+pub data Events : List ℕ → List InEvent → Type 0 where
+  Greeted : {bytes : List ℕ} {given : List InEvent} (due : List ℕ) → preface ≡ bytes ++ due → given ≡ [] → Events bytes given
+  Departed : {bytes : List ℕ} {given : List InEvent} → Departs preface bytes → given ≡ fatal ProtocolError → Events bytes given
+  Unsettled : {bytes : List ℕ} {given : List InEvent} (text : List ℕ) (entries : List Entry) (rest : List ℕ)
+      → bytes ≡ preface ++ text → Joined text entries rest → IsUnsettled entries → given ≡ fatal ProtocolError → Events bytes given
+  Read : {bytes : List ℕ} {given : List InEvent} (text : List ℕ) (entries : List Entry) (rest : List ℕ) (close : Close)
+      → bytes ≡ preface ++ text → Joined text entries rest → Follows entries rest close given → Events bytes given

@@ -1,0 +1,151 @@
+//! The reading core of a connection: its bytes go in, in any pieces, and their events come out.
+
+ghost use Rattle.std.specs.Prelude.{◌≡◌, List, ℕ, [], ◌++◌, IfOk, IsOk, OnErr};
+ghost use Rattle.session.specs.declared.event.InEvent.{InEvent as InEventOf};
+ghost use Rattle.session.specs.declared.in_core.Stage.TheVariants.{Dead, Greeting, Reading};
+ghost use Rattle.session.specs.Reached.{Reached, IsSound, IsSoundStage, ReadsTo, ReadsOn, AtStage};
+
+use crate::context::{Context, Position};
+use crate::event::InEvent;
+use crate::preface::Preface;
+use h2frame::{ErrorCode, FrameReader};
+use std::alloc::{AllocError, Global};
+use std::marker::Model;
+use std::mem;
+
+/// What the bytes so far have come to.
+#[derive(Drop)]
+pub enum Stage {
+    /// The preface isn't whole yet.
+    Greeting(Preface),
+    /// Frames are read.
+    Reading(Position),
+    /// The connection has ended, or memory was wanting. Nothing more is read.
+    Dead,
+}
+
+/// Reads a connection.
+#[derive(Drop)]
+pub struct InCore {
+    stage: Stage,
+    reader: FrameReader,
+    context: Context,
+}
+
+impl Model for InCore {
+    ghost use Rattle.session.specs.Reached.{Core, IsSoundStage};
+
+    ghost Value = { Core };
+
+    ghost view = { λ c. record { stage = c.stage; waiting = c.reader; streams = c.context.halves; kept = c.context.decoder } };
+
+    ghost invariant = { λ c. IsSoundStage c.stage c.context.halves };
+}
+
+impl InCore {
+    /// No bytes came yet. It takes no memory.
+    pub fn new(alloc: Global) -> InCore
+        ensures { Reached [] [] result }
+    {
+        InCore {
+            stage: Stage::Greeting(Preface::new()),
+            reader: FrameReader::new(alloc),
+            context: Context::new(alloc),
+        }
+    }
+
+    /// The events of the next piece of the connection's bytes. After `Fatal` and after an `Err` there are none.
+    pub fn feed(&mut self, piece: &[u8]) -> Result<Vec<InEvent>, AllocError>
+        // However the bytes before it were cut, they and the piece have the events before and these.
+        ensures events { IfOk result (λ given. (bytes : List ℕ) (before : List InEventOf) →
+            Reached bytes before self.old → Reached (bytes ++ piece.now) (before ++ given.items) self.new) }
+        ensures dead { self.old.stage ≡ Dead → IsOk result × IfOk result (λ given. (given.items ≡ []) × (self.new.stage ≡ Dead)) }
+        ensures err { OnErr result (self.new.stage ≡ Dead) }
+    {
+        let mut events = Vec::new(self.context.alloc);
+        let stage = mem::replace(&mut self.stage, Stage::Dead);
+        self.stage = advance(
+            stage,
+            &mut self.reader,
+            &mut self.context,
+            piece,
+            &mut events,
+        )?;
+        Ok(events)
+    }
+}
+
+/// What a stage comes to by a piece.
+fn advance(
+    stage: Stage,
+    reader: &mut FrameReader,
+    context: &mut Context,
+    piece: &[u8],
+    events: &mut Vec<InEvent>,
+) -> Result<Stage, AllocError>
+    requires { IsSoundStage stage context.old.halves }
+    ensures sound { IfOk result (λ next. IsSoundStage next context.new.halves) }
+    ensures follows { IfOk result (λ next. (bytes : List ℕ) (before : List InEventOf) →
+        AtStage bytes (before ++ events.old.items) stage reader.old context.old.halves context.old.decoder →
+        AtStage (bytes ++ piece.now) (before ++ events.new.items) next reader.new context.new.halves context.new.decoder) }
+    ensures dead { stage ≡ Dead → IsOk result × IfOk result (λ next. (next ≡ Dead) × (events.new.items ≡ events.old.items)) }
+{
+    match stage {
+        Stage::Greeting(preface) => greet(preface, reader, context, piece, events),
+        Stage::Reading(position) => read(position, reader, context, piece, events),
+        Stage::Dead => Ok(Stage::Dead),
+    }
+}
+
+/// Takes what is due of the preface, and reads what is behind it.
+fn greet(
+    preface: Preface,
+    reader: &mut FrameReader,
+    context: &mut Context,
+    piece: &[u8],
+    events: &mut Vec<InEvent>,
+) -> Result<Stage, AllocError>
+    ensures sound { IfOk result (λ next. IsSoundStage next context.new.halves) }
+    ensures follows { IfOk result (λ next. (bytes : List ℕ) (before : List InEventOf) →
+        AtStage bytes (before ++ events.old.items) (Greeting preface) reader.old context.old.halves context.old.decoder →
+        AtStage (bytes ++ piece.now) (before ++ events.new.items) next reader.new context.new.halves context.new.decoder) }
+{
+    let mut preface = preface;
+    let Ok(rest) = preface.take(piece) else {
+        events.push(InEvent::Fatal(ErrorCode::ProtocolError))?;
+        return Ok(Stage::Dead);
+    };
+    if !preface.is_whole() {
+        return Ok(Stage::Greeting(preface));
+    }
+    read(Position::First, reader, context, rest, events)
+}
+
+/// Reads the frames that are whole by a piece.
+fn read(
+    position: Position,
+    reader: &mut FrameReader,
+    context: &mut Context,
+    piece: &[u8],
+    events: &mut Vec<InEvent>,
+) -> Result<Stage, AllocError>
+    requires { IsSound position context.old.halves }
+    ensures sound { IfOk result (λ next. IsSoundStage next context.new.halves) }
+    ensures follows { IfOk result (λ next. (text : List ℕ) (before : List InEventOf) →
+        ReadsTo text (before ++ events.old.items) position reader.old context.old.halves context.old.decoder →
+        ReadsOn (text ++ piece.now) (before ++ events.new.items) next reader.new context.new.halves context.new.decoder) }
+{
+    let Ok(()) = reader.feed(piece) else {
+        return Err(AllocError);
+    };
+    let mut at = position;
+    loop {
+        let Some(answer) = reader.next() else {
+            return Ok(Stage::Reading(at));
+        };
+        let Some(next) = context.entry(at, answer, events)? else {
+            return Ok(Stage::Dead);
+        };
+        at = next;
+    }
+}

@@ -1,0 +1,54 @@
+//! Laws of a connection's events, for the proofs of callers. None of them does anything.
+
+ghost use Rattle.std.specs.Prelude.{◌≡◌, ℕ, List, ◌++◌, true};
+ghost use Rattle.std.specs.List.{list_any};
+ghost use Rattle.session.specs.declared.event.InEvent.{InEvent as InEventOf};
+ghost use Rattle.h2frame.specs.FrameList.{Entry, Joined};
+ghost use Rattle.session.specs.Events.{Events, Group, GroupGives, IsCalm, Passes, Situation, is_fatal};
+ghost use Rattle.session.specs.StreamData.{data_of, ending_of, ending_told, is_opening, pieces};
+ghost use Rattle.session.specs.Reached.{Core, Reached};
+
+/// What a core has answered are the events of the bytes that it was fed.
+pub fn answers()
+    ensures { (bytes : List ℕ) (given : List InEventOf) (core : Core) → Reached bytes given core → Events bytes given }
+{}
+
+/// Behind a fatal event there are no others, whatever bytes follow.
+pub fn ends()
+    ensures { (bytes more : List ℕ) (given : List InEventOf) →
+        Events bytes given → list_any is_fatal given ≡ true → Events (bytes ++ more) given }
+{}
+
+/// The pieces of data that are told of a stream whose head isn't malformed are, joined, its data by the frame list, as
+/// far as header blocks are whole.
+pub fn stream_data()
+    ensures { (text : List ℕ) (entries behind : List Entry) (rest : List ℕ) (given : List InEventOf) (now : Situation) (id : ℕ) →
+        Joined text entries rest → Passes entries behind given now → list_any (is_opening id) given ≡ true →
+        (front : List Entry) × (entries ≡ front ++ behind) × (pieces id given ≡ data_of id front) }
+{}
+
+/// The first end that is told of such a stream is the one by the frame list, as far as header blocks are whole.
+pub fn stream_end()
+    ensures { (entries behind : List Entry) (given : List InEventOf) (now : Situation) (id : ℕ) →
+        Passes entries behind given now → list_any (is_opening id) given ≡ true →
+        (front : List Entry) × (entries ≡ front ++ behind) × (ending_told id given ≡ ending_of id front) }
+{}
+
+/// A group of frames has one outcome: its events, and, where the connection goes on behind them, what the next frames
+/// are judged by.
+pub fn one_outcome()
+    ensures { (old new last : Situation) (group : Group) (given other : List InEventOf) →
+        GroupGives old group given new → GroupGives old group other last →
+        (given ≡ other) × (IsCalm given → new ≡ last) }
+{}
+
+/// The events of a longer input begin with those of a shorter one: no byte that is to come changes what was told.
+pub fn goes_on()
+    ensures { (bytes more : List ℕ) (given longer : List InEventOf) →
+        Events bytes given → Events (bytes ++ more) longer → (rest : List InEventOf) × (longer ≡ given ++ rest) }
+{}
+
+/// A byte list has one list of events and no other.
+pub fn one_list()
+    ensures { (bytes : List ℕ) (one other : List InEventOf) → Events bytes one → Events bytes other → one ≡ other }
+{}
