@@ -1,7 +1,7 @@
-//! Prints the frames of recorded connections, as `data/` has them from the preface on: of a type, flags, stream and
-//! payload's length each, with the block of HEADERS and the payload of what is neither HEADERS nor DATA. Each connection
-//! is read whole and in small pieces, which have to give the same frames. `stdout` has the lists that another
-//! implementation of HTTP/2 made of the same bytes (`data/README.md`).
+//! Prints the frames and the events of recorded connections, as `data/` has them from the preface on: of a frame its type,
+//! flags, stream and payload's length, with the block of HEADERS and the payload of what is neither HEADERS nor DATA; of
+//! the events a line each (`events`). Each connection is read whole and in small pieces, which have to give the same.
+//! `stdout` has the lists that another implementation of HTTP/2 made of the same bytes (`data/README.md`).
 #![tactic(auto)]
 
 use anyhow::{Context, Result, ensure};
@@ -10,6 +10,7 @@ use std::alloc::Global;
 use std::fs;
 use std::rt::Files;
 
+mod events;
 mod reading;
 
 /// The bytes of a connection before its frames (RFC 9113, section 3.4).
@@ -105,34 +106,35 @@ fn lines_of(alloc: Global, bytes: &[u8], size: usize) -> Result<String> {
     Ok(text)
 }
 
-fn connection(rt: &(impl Files + AllocGlobal), name: &str) -> Result<String> {
+fn connection(rt: &(impl Files + AllocGlobal), name: &str) -> Result<(String, String)> {
     let alloc = rt.alloc();
     let path = format!(in alloc; "{name}.hex")?;
     let digits = fs::read_to_string(rt, path.as_str())?;
     let bytes = hex::decode(alloc, digits.trim())
         .ok()
         .context("the file is not hexadecimal")?;
-    let bytes = bytes
-        .as_slice()
-        .get(PREFACE_LEN..)
-        .context("the preface is cut")?;
-    let whole = lines_of(alloc, bytes, bytes.len())?;
+    let bytes = bytes.as_slice();
+    let text = bytes.get(PREFACE_LEN..).context("the preface is cut")?;
+    let frames = lines_of(alloc, text, text.len())?;
+    let events = events::lines_of(alloc, bytes, bytes.len())?;
     for size in [1, 2, 9, 1000, 16384] {
-        let pieces = lines_of(alloc, bytes, size)?;
         ensure!(
-            pieces.as_str() == whole.as_str(),
-            "{name} in pieces of {size}"
+            lines_of(alloc, text, size)?.as_str() == frames.as_str(),
+            "frames of {name} in pieces of {size}"
+        );
+        ensure!(
+            events::lines_of(alloc, bytes, size)?.as_str() == events.as_str(),
+            "events of {name} in pieces of {size}"
         );
     }
-    Ok(whole)
+    Ok((frames, events))
 }
 
 fn main(rt: HostRuntime) -> Result<()> {
     for name in CONNECTIONS {
         println!(rt; "{name}")?;
-        let text = connection(&rt, name)?;
-        let text = text.as_str();
-        print!(rt; "{text}")?;
+        let (frames, events) = connection(&rt, name)?;
+        print!(rt; "{frames}{events}")?;
     }
     Ok(())
 }
