@@ -1,0 +1,382 @@
+-- A frame that ends a stream or resets it.
+use Rattle.std.proofs.Common.{◌≡◌, ℕ, ◌+◌, ◌<◌, ◌≤◌, ◌==◌, inl, inr, refl, sym, ap, subst, ◌∙◌, Bool, true, false, List, [], ◌∷◌, ◌++◌, Option, Some, None, length, arith, nat_eq, true≢false}
+use Rattle.std.specs.Prelude.{IfSome, MatchOption, take, drop, ◌%◌, ◌^◌, ◌||◌, ◌&&◌, is_some, if◌then◌else◌}
+use Rattle.std.specs.List.{list_any}
+use Rattle.std.specs.Map.{lookup}
+use Rattle.std.specs.Int.{bytes_high_first}
+use Rattle.std.proofs.lemmas.Nat.{from_be_bytes-to_be_bytes_4}
+use Rattle.std.proofs.lemmas.Bool.{eqb-true, ne_eqb}
+use Rattle.h2frame.specs.Faults.{increment_of}
+use Rattle.hpack_codec.proofs.Bits.{small_mod}
+use Rattle.std.proofs.lemmas.List.Sums.{sum_by-cons}
+use Rattle.flow.specs.WindowHistory.{Follows, Closing, room_after}
+use Rattle.flow.specs.WindowHistory.{Step as WindowStep}
+use Rattle.flow.specs.Windows.{Windows}
+use Rattle.h2frame.specs.declared.error_code.ErrorCode.{ErrorCode}
+use Rattle.h2frame.specs.declared.frame.Frame.{Frame}
+use Rattle.outwriter.specs.declared.blocks.HeaderBlock.{HeaderBlock}
+use Rattle.outwriter.specs.declared.due.Due.{Due}
+use Rattle.outwriter.specs.declared.due.Due.TheVariants as due_kind
+use Rattle.outwriter.specs.Blocks.{frame_of, rest_of, is_short}
+use Rattle.outwriter.specs.Credits.{Owed, owed_on, pays, Forgets, TakesAll}
+use Rattle.outwriter.specs.Frames.{resets, ends, update_on, reset_frame, data_frame, update_frame, headers_frame, continuation_frame, ends_stream, ends_block}
+use Rattle.outwriter.specs.Histories.{is_over, closing_of, spending_of}
+use Rattle.outwriter.specs.Mirrors.{Mirrors, HasWindows, HasOver, HasDue, HasBlock, HasHead, HasCredit, HasSilence, Sets, spent, closing, Keeps, Ends}
+use Rattle.outwriter.specs.Runs.{Fragments, Continues, MayWrite, fragments, unfinished, updated, granted}
+use Rattle.outwriter.specs.Steps.{Step, Written, frames_of}
+use Rattle.outwriter.proofs.MirrorSteps.{same-block}
+use Rattle.outwriter.proofs.FrameSteps.{not-over, none-over, none-begun, no-updates, credits-none, tells-first, due-told, no-block, over-same, due-same, tells-none, credit-same, windows-same, head-same, plain-written, IsPlain}
+
+-- the windows go on by what a frame closes and spends
+pub windows-more : (run : List Step) (frame : Frame) (w windows : Windows) (more : List WindowStep)
+    → ((history : List WindowStep) → closing_of frame ++ (spending_of frame ++ history) ≡ more ++ history)
+    → ((history : List WindowStep) → Follows history w → Follows (more ++ history) windows) → HasWindows run w → HasWindows (Written frame ∷ run) windows
+windows-more run frame w windows more e follows (h, has, f) = (more ++ h, (h, has, sym (e h)), follows h f)
+
+not-some : (o : Option Bool) → o ≡ None → o ≡ Some true → ⊥
+not-some None e f = cc
+not-some (Some b) e f = cc
+
+was-false : (b : Bool) (o : Option Bool) → o ≡ Some b → (o ≡ Some true → ⊥) → b ≡ false
+was-false true o e isnt = absurd (isnt e)
+was-false false o e isnt = refl
+
+-- the stream is over from this frame on
+pub over-more : (run : List Step) (frame : Frame) (over after : List (ℕ × Bool)) (id : ℕ) (reset : Bool)
+    → ((k : ℕ) → (resets k frame || ends k frame) ≡ (k == id)) → ((k : ℕ) → reset ≡ false → resets k frame ≡ false)
+    → ((k : ℕ) → (k == id) ≡ false → resets k frame ≡ false)
+    → Sets over id reset after → lookup (nat_eq id) over ≡ None → HasOver run over → HasOver (Written frame ∷ run) after
+over-more run frame over after id reset each only other sets none has k = by (k == id) refl
+  where
+    by : (b : Bool) → (k == id) ≡ b → (is_some (lookup (nat_eq k) after) ≡ ((resets k frame || ends k frame) || is_over k run))
+        × ((lookup (nat_eq k) after ≡ Some true → ⊥) → (resets k frame || list_any (resets k) (frames_of run)) ≡ false)
+    by true p =
+        let here : lookup (nat_eq k) after ≡ Some reset = sets k ∙ ap (λ b. if b then Some reset else lookup (nat_eq k) over) p in
+        let P : ℕ → Type 0 = λ n. lookup (nat_eq n) over ≡ None in
+        let none_k : lookup (nat_eq k) over ≡ None = subst P (sym (eqb-true k id p)) none in (
+          ap is_some here ∙ sym (ap (λ b. b || is_over k run) (each k ∙ p)),
+          λ not_reset. ap (λ b. b || list_any (resets k) (frames_of run)) (only k (was-false reset (lookup (nat_eq k) after) here not_reset)) ∙ (has k).1 (not-some (lookup (nat_eq k) over) none_k),
+        )
+    by false p =
+        let same : lookup (nat_eq k) after ≡ lookup (nat_eq k) over = sets k ∙ ap (λ b. if b then Some reset else lookup (nat_eq k) over) p in (
+          ap is_some same ∙ (has k).0 ∙ sym (ap (λ b. b || is_over k run) (each k ∙ p)),
+          λ not_reset. ap (λ b. b || list_any (resets k) (frames_of run)) (other k p) ∙ (has k).1 (λ e. not_reset (same ∙ e)),
+        )
+
+pub still-no-0 : (over after : List (ℕ × Bool)) (id : ℕ) (value : Bool) → 0 < id → Sets over id value after → lookup (nat_eq 0) over ≡ None → lookup (nat_eq 0) after ≡ None
+still-no-0 over after id value there sets none =
+    sets 0 ∙ ap (λ b. if b then Some value else lookup (nat_eq 0) over) (ne_eqb 0 id (λ e. omega (arith, e, there))) ∙ none
+
+if-less : (b : Bool) (n : ℕ) → (if b then 0 else n) ≤ n
+if-less true n = omega arith
+if-less false n = omega arith
+
+-- less is owed
+pub credit-less : (run : List Step) (frame : Frame) (owed less : Owed) → ((k : ℕ) → update_on k frame ≡ 0) → ((k : ℕ) → owed_on less k ≤ owed_on owed k)
+    → HasCredit run owed → HasCredit (Written frame ∷ run) less
+credit-less run frame owed less none fewer h k = omega (arith, h k, none k, fewer k, sum_by-cons (update_on k) frame (frames_of run))
+
+-- what was forgotten is silent
+silent-more : (over after : List (ℕ × Bool)) (id : ℕ) (owed less : Owed) → Sets over id true after → Forgets owed id less → HasSilence over owed → HasSilence after less
+silent-more over after id owed less sets forgets silent k e = by (k == id) refl
+  where
+    by : (b : Bool) → (k == id) ≡ b → pays less k ≡ false
+    by true p = (forgets k).2 ∙ ap (λ b. if b then false else pays owed k) p
+    by false p = (forgets k).2 ∙ ap (λ b. if b then false else pays owed k) p
+        ∙ silent k (sym (sets k ∙ ap (λ b. if b then Some true else lookup (nat_eq k) over) p) ∙ e)
+
+or-none : (b : Bool) → (b || false) ≡ b
+or-none true = refl
+or-none false = refl
+
+pub reset-written : (run : List Step) (begun gone : Bool) (w windows : Windows) (over after : List (ℕ × Bool)) (waiting : List Due) (block : Option HeaderBlock)
+    (owed less : Owed) (id : ℕ) (code : ErrorCode) (made : Frame) → made ≡ reset_frame id code → begun ≡ true → gone ≡ false → block ≡ None
+    → 0 < id → lookup (nat_eq id) over ≡ None → ((history : List WindowStep) → Follows history w → Follows (Closing id ∷ history) windows)
+    → Sets over id true after → Forgets owed id less
+    → Mirrors run begun gone w over (due_kind.Reset id code ∷ waiting) block owed
+    → MayWrite run made × Mirrors (Written made ∷ run) begun gone windows after waiting block less
+reset-written run begun gone w windows over after waiting block owed less id code made is is_begun not_gone no_block there is_open follows sets forgets m =
+    let frame : Frame = reset_frame id code in
+    let nothing : unfinished run ≡ None = subst (HasBlock run) no_block m.goes_on in
+    let still = not-over run id (sym (m.is_over id).0 ∙ none-over (lookup (nat_eq id) over) is_open) in
+    let none = no-updates run (reset_frame id code) refl in
+    subst (λ (f : Frame). MayWrite run f × Mirrors (Written f ∷ run) begun gone windows after waiting block less) (sym is) (
+      record {
+        first = λ e. absurd (none-begun (frames_of run) (m.begins ∙ is_begun) e);
+        windows = λ e. cc;
+        acknowledges = tells-first run (reset_frame id code) (due_kind.Reset id code) waiting refl m.acknowledges;
+        block = subst (λ (o : Option Fragments). Continues o (reset_frame id code)) (sym nothing) (λ e. cc);
+        not_reset = still.0;
+        not_ended = λ e. absurd (true≢false (sym e ∙ still.1));
+        goes_on = m.goes ∙ not_gone;
+        credit = credits-none run (reset_frame id code) owed none m.credits;
+      },
+      record {
+        begins = sym is_begun;
+        goes = m.goes;
+        windows_follow = windows-more run (reset_frame id code) w windows (Closing id ∷ []) (λ h. refl) follows m.windows_follow;
+        is_over = over-more run (reset_frame id code) over after id true (λ k. or-none (k == id)) (λ k e. cc) (λ k e. e) sets is_open m.is_over;
+        acknowledges = due-told run (reset_frame id code) (due_kind.Reset id code) waiting refl m.acknowledges;
+        goes_on = same-block run (Written (reset_frame id code) ∷ run) block (no-block run (reset_frame id code) refl ∙ sym nothing) m.goes_on;
+        not_reset = subst (HasHead (reset_frame id code ∷ frames_of run)) (sym no_block) tt;
+        credits = credit-less run (reset_frame id code) owed less none (λ k. subst (λ n. n ≤ owed_on owed k) (sym (forgets k).1) (if-less (k == id) (owed_on owed k))) m.credits;
+        silent = silent-more over after id owed less sets forgets m.silent;
+        no_stream_0 = still-no-0 over after id true there sets m.no_stream_0;
+      },
+    )
+
+-- ---- header blocks (RFC 9113, section 6.2)
+
+head-ends : (id : ℕ) (ends_it whole : Bool) (fragment : List ℕ) → ends_stream (headers_frame id ends_it whole fragment) ≡ ends_it
+head-ends id true true fragment = refl
+head-ends id true false fragment = refl
+head-ends id false true fragment = refl
+head-ends id false false fragment = refl
+
+head-whole : (id : ℕ) (ends_it whole : Bool) (fragment : List ℕ) → ends_block (headers_frame id ends_it whole fragment) ≡ whole
+head-whole id true true fragment = refl
+head-whole id true false fragment = refl
+head-whole id false true fragment = refl
+head-whole id false false fragment = refl
+
+more-whole : (id : ℕ) (whole : Bool) (fragment : List ℕ) → ends_block (continuation_frame id whole fragment) ≡ whole
+more-whole id true fragment = refl
+more-whole id false fragment = refl
+
+closes : (id : ℕ) (ends_it whole : Bool) (fragment : List ℕ) (history : List WindowStep)
+    → closing_of (headers_frame id ends_it whole fragment) ++ (spending_of (headers_frame id ends_it whole fragment) ++ history) ≡ closing id ends_it ++ history
+closes id true true fragment history = refl
+closes id true false fragment history = refl
+closes id false true fragment history = refl
+closes id false false fragment history = refl
+
+kept-block : (run : List Step) (id : ℕ) (left : Option HeaderBlock) (written : Fragments) → written.stream ≡ id → unfinished run ≡ Some written
+    → MatchOption left ⊥ (λ block. (block.begun ≡ true) × (block.id ≡ id)) → HasBlock run left
+kept-block run id None written on e keeps = absurd keeps
+kept-block run id (Some block) written on e (begun, is_id) =
+    subst (λ (o : Option Fragments). (block.begun ≡ true) × IfSome o (λ f. f.stream ≡ block.id) × (o ≡ None → ⊥)) (sym e)
+    (begun, on ∙ sym is_id, λ none. cc)
+
+pub headed-block : (run : List Step) (id : ℕ) (ends_it whole : Bool) (fragment : List ℕ) (left : Option HeaderBlock) → Keeps id whole left
+    → HasBlock (Written (headers_frame id ends_it whole fragment) ∷ run) left
+headed-block run id ends_it true fragment left keeps =
+    subst (HasBlock (Written (headers_frame id ends_it true fragment) ∷ run)) (sym keeps) (ap (λ b. if b then None else fragments (headers_frame id ends_it true fragment) (unfinished run)) (head-whole id ends_it true fragment))
+headed-block run id ends_it false fragment left keeps =
+    kept-block (Written (headers_frame id ends_it false fragment) ∷ run) id left
+    (record { stream = id; bytes = fragment; ends_it = ends_stream (headers_frame id ends_it false fragment) }) refl
+    (ap (λ b. if b then None else fragments (headers_frame id ends_it false fragment) (unfinished run)) (head-whole id ends_it false fragment)) keeps
+
+headed-over : (run : List Step) (id : ℕ) (ends_it whole : Bool) (fragment : List ℕ) (over after : List (ℕ × Bool)) → Ends over id ends_it after
+    → lookup (nat_eq id) over ≡ None → HasOver run over → HasOver (Written (headers_frame id ends_it whole fragment) ∷ run) after
+headed-over run id true whole fragment over after sets none has =
+    over-more run (headers_frame id true whole fragment) over after id false
+    (λ k. ap (λ b. b && (k == id)) (head-ends id true whole fragment)) (λ k e. refl) (λ k e. refl) sets none has
+headed-over run id false whole fragment over after same none has =
+    subst (HasOver (Written (headers_frame id false whole fragment) ∷ run)) (sym same)
+    (over-same run (headers_frame id false whole fragment) over (head-ends id false whole fragment) refl has)
+
+headed-silent : (id : ℕ) (ends_it : Bool) (over after : List (ℕ × Bool)) (owed : Owed) → Ends over id ends_it after → HasSilence over owed → HasSilence after owed
+headed-silent id false over after owed same silent k e = subst (λ (o : List (ℕ × Bool)). HasSilence o owed) (sym same) silent k e
+headed-silent id true over after owed sets silent k e = by (k == id) refl
+  where
+    by : (b : Bool) → (k == id) ≡ b → pays owed k ≡ false
+    by true p = let wrong : Some false ≡ Some true = sym (sets k ∙ ap (λ b. if b then Some false else lookup (nat_eq k) over) p) ∙ e in cc
+    by false p = silent k (sym (sets k ∙ ap (λ b. if b then Some false else lookup (nat_eq k) over) p) ∙ e)
+
+headed-no-0 : (id : ℕ) (ends_it : Bool) (over after : List (ℕ × Bool)) → 0 < id → Ends over id ends_it after → lookup (nat_eq 0) over ≡ None → lookup (nat_eq 0) after ≡ None
+headed-no-0 id true over after there sets none = still-no-0 over after id false there sets none
+headed-no-0 id false over after there same none = ap (λ (o : List (ℕ × Bool)). lookup (nat_eq 0) o) same ∙ none
+
+headed-head : (run : List Step) (id : ℕ) (ends_it whole : Bool) (fragment : List ℕ) (left : Option HeaderBlock) → Keeps id whole left
+    → list_any (resets id) (frames_of run) ≡ false → HasHead (headers_frame id ends_it whole fragment ∷ frames_of run) left
+headed-head run id ends_it true fragment left keeps still = subst (HasHead (headers_frame id ends_it true fragment ∷ frames_of run)) (sym keeps) tt
+headed-head run id ends_it false fragment None keeps still = absurd keeps
+headed-head run id ends_it false fragment (Some block) keeps still = ap (λ k. list_any (resets k) (frames_of run)) keeps.1 ∙ still
+
+-- what is kept behind a block's frame
+pub keeps-rest : (block : HeaderBlock) → Keeps block.id (is_short block) (rest_of block)
+keeps-rest block = by (is_short block)
+  where
+    by : (b : Bool) → Keeps block.id b (if b then None else Some (record { id = block.id; ends = block.ends; begun = true; rest = drop 16384 block.rest }))
+    by true = refl
+    by false = (refl, refl)
+
+-- HEADERS, for which what is due is as it was, or lost what isn't acknowledged
+pub headers-written : (run : List Step) (begun gone : Bool) (w windows : Windows) (over after : List (ℕ × Bool)) (waiting left : List Due)
+    (block rest : Option HeaderBlock) (owed : Owed) (id : ℕ) (ends_it whole : Bool) (fragment : List ℕ) (made : Frame)
+    → made ≡ headers_frame id ends_it whole fragment → begun ≡ true → gone ≡ false → block ≡ None
+    → 0 < id → lookup (nat_eq id) over ≡ None
+    → ((history : List WindowStep) → Follows history w → Follows (closing id ends_it ++ history) windows)
+    → Ends over id ends_it after → Keeps id whole rest → HasDue run left
+    → Mirrors run begun gone w over waiting block owed
+    → MayWrite run made × Mirrors (Written made ∷ run) begun gone windows after left rest owed
+headers-written run begun gone w windows over after waiting left block rest owed id ends_it whole fragment made is is_begun not_gone no_block there is_open follows sets keeps dues m =
+    let nothing : unfinished run ≡ None = subst (HasBlock run) no_block m.goes_on in
+    let still = not-over run id (sym (m.is_over id).0 ∙ none-over (lookup (nat_eq id) over) is_open) in
+    let none = no-updates run (headers_frame id ends_it whole fragment) refl in
+    subst (λ (f : Frame). MayWrite run f × Mirrors (Written f ∷ run) begun gone windows after left rest owed) (sym is) (
+      record {
+        first = λ e. absurd (none-begun (frames_of run) (m.begins ∙ is_begun) e);
+        windows = λ e. cc;
+        acknowledges = tells-none run (headers_frame id ends_it whole fragment) left refl dues;
+        block = subst (λ (o : Option Fragments). Continues o (headers_frame id ends_it whole fragment)) (sym nothing) (λ e. cc);
+        not_reset = still.0;
+        not_ended = λ e. absurd (true≢false (sym e ∙ still.1));
+        goes_on = m.goes ∙ not_gone;
+        credit = credits-none run (headers_frame id ends_it whole fragment) owed none m.credits;
+      },
+      record {
+        begins = sym is_begun;
+        goes = m.goes;
+        windows_follow = windows-more run (headers_frame id ends_it whole fragment) w windows (closing id ends_it) (closes id ends_it whole fragment) follows m.windows_follow;
+        is_over = headed-over run id ends_it whole fragment over after sets is_open m.is_over;
+        acknowledges = due-same run (headers_frame id ends_it whole fragment) left refl dues;
+        goes_on = headed-block run id ends_it whole fragment rest keeps;
+        not_reset = headed-head run id ends_it whole fragment rest keeps still.0;
+        credits = credit-same run (headers_frame id ends_it whole fragment) owed none m.credits;
+        silent = headed-silent id ends_it over after owed sets m.silent;
+        no_stream_0 = headed-no-0 id ends_it over after there sets m.no_stream_0;
+      },
+    )
+
+-- ---- the rest of a header block (RFC 9113, section 6.10)
+
+goes-on : (o : Option Fragments) (id : ℕ) (whole : Bool) (fragment : List ℕ) → IfSome o (λ written. written.stream ≡ id) → (o ≡ None → ⊥) → Continues o (continuation_frame id whole fragment)
+goes-on None id whole fragment on some = absurd (some refl)
+goes-on (Some written) id whole fragment on some = (refl, sym on)
+
+continued-fragments : (o : Option Fragments) (id : ℕ) (fragment : List ℕ) → IfSome o (λ written. written.stream ≡ id) → (o ≡ None → ⊥)
+    → (written : Fragments) × (written.stream ≡ id) × (fragments (continuation_frame id false fragment) o ≡ Some written)
+continued-fragments None id fragment on some = absurd (some refl)
+continued-fragments (Some written) id fragment on some = (record { stream = written.stream; bytes = written.bytes ++ fragment; ends_it = written.ends_it }, on, refl)
+
+continued-block : (run : List Step) (id : ℕ) (whole : Bool) (fragment : List ℕ) (left : Option HeaderBlock) → Keeps id whole left
+    → IfSome (unfinished run) (λ written. written.stream ≡ id) → (unfinished run ≡ None → ⊥) → HasBlock (Written (continuation_frame id whole fragment) ∷ run) left
+continued-block run id true fragment left keeps on some = subst (HasBlock (Written (continuation_frame id true fragment) ∷ run)) (sym keeps) refl
+continued-block run id false fragment left keeps on some =
+    let all = continued-fragments (unfinished run) id fragment on some in
+    kept-block (Written (continuation_frame id false fragment) ∷ run) id left all.0 all.1 all.2 keeps
+
+continued-head : (run : List Step) (id : ℕ) (whole : Bool) (fragment : List ℕ) (left : Option HeaderBlock) → Keeps id whole left
+    → list_any (resets id) (frames_of run) ≡ false → HasHead (continuation_frame id whole fragment ∷ frames_of run) left
+continued-head run id true fragment left keeps still = subst (HasHead (continuation_frame id true fragment ∷ frames_of run)) (sym keeps) tt
+continued-head run id false fragment None keeps still = absurd keeps
+continued-head run id false fragment (Some block) keeps still = ap (λ k. list_any (resets k) (frames_of run)) keeps.1 ∙ still
+
+pub continuation-written : (run : List Step) (begun gone : Bool) (w : Windows) (over : List (ℕ × Bool)) (waiting : List Due)
+    (block : HeaderBlock) (rest : Option HeaderBlock) (owed : Owed) (made : Frame)
+    → made ≡ frame_of block → rest ≡ rest_of block → begun ≡ true → gone ≡ false
+    → Mirrors run begun gone w over waiting (Some block) owed
+    → MayWrite run made × Mirrors (Written made ∷ run) begun gone w over waiting rest owed
+continuation-written run begun gone w over waiting block rest owed made is is_rest is_begun not_gone m =
+    let frame_is : made ≡ continuation_frame block.id (is_short block) (take 16384 block.rest) =
+    is ∙ ap (λ b. if b then continuation_frame block.id (is_short block) (take 16384 block.rest) else headers_frame block.id block.ends (is_short block) (take 16384 block.rest)) m.goes_on.0 in
+    let keeps : Keeps block.id (is_short block) rest = subst (Keeps block.id (is_short block)) (sym is_rest) (keeps-rest block) in
+    let none = no-updates run (continuation_frame block.id (is_short block) (take 16384 block.rest)) refl in
+    subst (λ (f : Frame). MayWrite run f × Mirrors (Written f ∷ run) begun gone w over waiting rest owed) (sym frame_is) (
+      record {
+        first = λ e. absurd (none-begun (frames_of run) (m.begins ∙ is_begun) e);
+        windows = λ e. cc;
+        acknowledges = tells-none run (continuation_frame block.id (is_short block) (take 16384 block.rest)) waiting refl m.acknowledges;
+        block = goes-on (unfinished run) block.id (is_short block) (take 16384 block.rest) m.goes_on.1 m.goes_on.2;
+        not_reset = m.not_reset;
+        not_ended = λ e. inr refl;
+        goes_on = m.goes ∙ not_gone;
+        credit = credits-none run (continuation_frame block.id (is_short block) (take 16384 block.rest)) owed none m.credits;
+      },
+      record {
+        begins = sym is_begun;
+        goes = m.goes;
+        windows_follow = windows-same run (continuation_frame block.id (is_short block) (take 16384 block.rest)) w refl refl m.windows_follow;
+        is_over = over-same run (continuation_frame block.id (is_short block) (take 16384 block.rest)) over refl refl m.is_over;
+        acknowledges = due-same run (continuation_frame block.id (is_short block) (take 16384 block.rest)) waiting refl m.acknowledges;
+        goes_on = continued-block run block.id (is_short block) (take 16384 block.rest) rest keeps m.goes_on.1 m.goes_on.2;
+        not_reset = continued-head run block.id (is_short block) (take 16384 block.rest) rest keeps m.not_reset;
+        credits = credit-same run (continuation_frame block.id (is_short block) (take 16384 block.rest)) owed none m.credits;
+        silent = m.silent;
+        no_stream_0 = m.no_stream_0;
+      },
+    )
+
+-- ---- DATA (RFC 9113, sections 6.1 and 6.9.1)
+
+pub data-written : (run : List Step) (begun gone : Bool) (w windows : Windows) (over : List (ℕ × Bool)) (waiting : List Due)
+    (block : Option HeaderBlock) (owed : Owed) (id : ℕ) (bytes : List ℕ) (made : Frame)
+    → made ≡ data_frame id bytes → begun ≡ true → gone ≡ false → block ≡ None → lookup (nat_eq id) over ≡ None → length bytes ≤ 16384
+    → ((history : List WindowStep) → Follows history w → length bytes ≤ room_after history id)
+    → ((history : List WindowStep) → Follows history w → Follows (spent id (length bytes) ++ history) windows)
+    → Mirrors run begun gone w over waiting block owed
+    → MayWrite run made × Mirrors (Written made ∷ run) begun gone windows over waiting block owed
+data-written run begun gone w windows over waiting block owed id bytes made is is_begun not_gone no_block is_open short fits follows m =
+    let nothing : unfinished run ≡ None = subst (HasBlock run) no_block m.goes_on in
+    let still = not-over run id (sym (m.is_over id).0 ∙ none-over (lookup (nat_eq id) over) is_open) in
+    let none = no-updates run (data_frame id bytes) refl in
+    subst (λ (f : Frame). MayWrite run f × Mirrors (Written f ∷ run) begun gone windows over waiting block owed) (sym is) (
+      record {
+        first = λ e. absurd (none-begun (frames_of run) (m.begins ∙ is_begun) e);
+        windows = λ e. (short, λ some. (m.windows_follow.0, m.windows_follow.1, fits m.windows_follow.0 m.windows_follow.2));
+        acknowledges = tells-none run (data_frame id bytes) waiting refl m.acknowledges;
+        block = subst (λ (o : Option Fragments). Continues o (data_frame id bytes)) (sym nothing) (λ e. cc);
+        not_reset = still.0;
+        not_ended = λ e. absurd (true≢false (sym e ∙ still.1));
+        goes_on = m.goes ∙ not_gone;
+        credit = credits-none run (data_frame id bytes) owed none m.credits;
+      },
+      record {
+        begins = sym is_begun;
+        goes = m.goes;
+        windows_follow = windows-more run (data_frame id bytes) w windows (spent id (length bytes)) (λ h. refl) follows m.windows_follow;
+        is_over = over-same run (data_frame id bytes) over refl refl m.is_over;
+        acknowledges = due-same run (data_frame id bytes) waiting refl m.acknowledges;
+        goes_on = same-block run (Written (data_frame id bytes) ∷ run) block (no-block run (data_frame id bytes) refl ∙ sym nothing) m.goes_on;
+        not_reset = head-same (data_frame id bytes) (frames_of run) block refl m.not_reset;
+        credits = credit-same run (data_frame id bytes) owed none m.credits;
+        silent = m.silent;
+        no_stream_0 = m.no_stream_0;
+      },
+    )
+
+-- ---- WINDOW_UPDATE (RFC 9113, section 6.9)
+
+update-plain : (id n : ℕ) → IsPlain (update_frame id n)
+update-plain id n = record { no_data = λ e. cc; no_continuation = λ e. cc; no_fragment = λ begun. refl; no_closing = refl; no_spending = refl; no_end = refl; no_reset = refl }
+
+told-amount : (n : ℕ) → n < 2 ^ 31 → increment_of (bytes_high_first 4 n) ≡ n
+told-amount n small = ap (λ k. k % 2 ^ 31) (from_be_bytes-to_be_bytes_4 n (omega (arith, small))) ∙ small_mod n (2 ^ 31) small
+
+update-amount : (id n k : ℕ) → n < 2 ^ 31 → update_on k (update_frame id n) ≡ (if k == id then n else 0)
+update-amount id n k small = ap (λ amount. if k == id then amount else 0) (told-amount n small)
+
+some-paid : (over : Option Bool) (b : Bool) → (over ≡ Some true → b ≡ false) → b ≡ true → over ≡ Some true → ⊥
+some-paid over b silent paid e = true≢false (sym paid ∙ silent e)
+
+at-most : (b : Bool) (n updates owed grants : ℕ) → updates + owed ≤ grants → (b ≡ true → owed ≡ n) → updates + (if b then n else 0) ≤ grants
+at-most true n updates owed grants h is = let e : owed ≡ n = is refl in omega (arith, h, e)
+at-most false n updates owed grants h is = omega (arith, h)
+
+at-most-left : (b : Bool) (n updates owed grants : ℕ) → updates + owed ≤ grants → (b ≡ true → owed ≡ n)
+    → ((if b then n else 0) + updates) + (if b then 0 else owed) ≤ grants
+at-most-left true n updates owed grants h is = let e : owed ≡ n = is refl in omega (arith, h, e)
+at-most-left false n updates owed grants h is = omega (arith, h)
+
+pub update-written : (run : List Step) (begun gone : Bool) (w : Windows) (over : List (ℕ × Bool)) (waiting : List Due)
+    (block : Option HeaderBlock) (owed less : Owed) (taken : ℕ × ℕ) (made : Frame)
+    → made ≡ update_frame taken.0 taken.1 → begun ≡ true → gone ≡ false → block ≡ None → TakesAll owed (Some taken) less
+    → Mirrors run begun gone w over waiting block owed
+    → MayWrite run made × Mirrors (Written made ∷ run) begun gone w over waiting block less
+update-written run begun gone w over waiting block owed less taken made is is_begun not_gone no_block takes m =
+    let small : taken.1 < 2 ^ 31 = omega (arith, takes.1) in
+    let here : (k : ℕ) → (k == taken.0) ≡ true → owed_on owed k ≡ taken.1 =
+    λ k e. let P : ℕ → Type 0 = λ j. owed_on owed j ≡ taken.1 in subst P (sym (eqb-true k taken.0 e)) takes.3 in
+    let amount = λ (k : ℕ). update-amount taken.0 taken.1 k small in
+    subst (λ (f : Frame). MayWrite run f × Mirrors (Written f ∷ run) begun gone w over waiting block less) (sym is)
+    (plain-written run begun gone gone w over waiting waiting block owed less (update_frame taken.0 taken.1) is_begun not_gone no_block (update-plain taken.0 taken.1)
+    (tells-none run (update_frame taken.0 taken.1) waiting refl m.acknowledges) (due-same run (update_frame taken.0 taken.1) waiting refl m.acknowledges)
+    ((m.is_over taken.0).1 (some-paid (lookup (nat_eq taken.0) over) (pays owed taken.0) (m.silent taken.0) takes.2))
+    (λ e. inl refl)
+    (λ k. subst (λ n. updated k run + n ≤ granted k run) (sym (amount k)) (at-most (k == taken.0) taken.1 (updated k run) (owed_on owed k) (granted k run) (m.credits k) (here k)))
+    (λ k. subst (λ n. n + owed_on less k ≤ granted k run) (sym (sum_by-cons (update_on k) (update_frame taken.0 taken.1) (frames_of run) ∙ ap (λ n. n + updated k run) (amount k)))
+    (subst (λ n. ((if k == taken.0 then taken.1 else 0) + updated k run) + n ≤ granted k run) (sym (takes.4 k))
+    (at-most-left (k == taken.0) taken.1 (updated k run) (owed_on owed k) (granted k run) (m.credits k) (here k))))
+    (λ k e. (takes.5 k).1 ∙ m.silent k e)
+    (sym not_gone) m)

@@ -1,0 +1,240 @@
+-- What is kept follows from a run of one more frame, and the frame might be written.
+use Rattle.std.proofs.Common.{◌≡◌, ℕ, ◌+◌, ◌≤◌, ◌==◌, refl, sym, ap, subst, ◌∙◌, Bool, true, false, List, [], ◌∷◌, ◌++◌, Option, Some, None, arith, append-nil, append_assoc, nat_eq, true≢false}
+use Rattle.std.specs.Prelude.{flat_map, ◌||◌, ◌&&◌, is_some, if◌then◌else◌}
+use Rattle.std.specs.List.{list_any}
+use Rattle.std.specs.Map.{lookup}
+use Rattle.std.proofs.lemmas.List.Sums.{sum_by-cons}
+use Rattle.callbox.specs.Accounts.{Begins}
+use Rattle.flow.specs.WindowHistory.{Step as WindowStep}
+use Rattle.flow.specs.Windows.{Windows}
+use Rattle.h2frame.specs.declared.error_code.ErrorCode.{ErrorCode}
+use Rattle.h2frame.specs.declared.frame.Frame.{Frame}
+use Rattle.h2frame.specs.declared.kind.FrameKind.TheVariants as kind
+use Rattle.outwriter.specs.declared.blocks.HeaderBlock.{HeaderBlock}
+use Rattle.outwriter.specs.declared.due.Due.{Due}
+use Rattle.outwriter.specs.Credits.{Owed}
+use Rattle.outwriter.specs.Frames.{is_last, resets, ends, ends_stream, is_reset, update_on, update_kind, ends_block, first_settings, settings_ack, ping_ack, goaway_frame}
+use Rattle.outwriter.specs.Histories.{closing_of, spending_of, is_over}
+use Rattle.outwriter.specs.Mirrors.{Mirrors, HasWindows, HasOver, HasDue, HasBlock, HasHead, HasCredit, HasSilence, has_begun, acknowledgement_of}
+use Rattle.outwriter.specs.Runs.{Acknowledgement, Fragments, unfinished, granted, updated, due, told, told_by, MayWrite, Continues, MayFollowEnd, fragments}
+use Rattle.outwriter.specs.Steps.{Step, Taken, Granted, Written, frames_of}
+use Rattle.outwriter.proofs.MirrorSteps.{same-block}
+
+pub none-begun : (frames : List Frame) → has_begun frames ≡ true → frames ≡ [] → ⊥
+none-begun [] begun e = cc
+none-begun (frame ∷ frames) begun e = cc
+
+-- ---- a frame that changes nothing of one kind
+
+module _ (run : List Step) (frame : Frame) where
+  pub windows-same : (w : Windows) → closing_of frame ≡ [] → spending_of frame ≡ [] → HasWindows run w → HasWindows (Written frame ∷ run) w
+  windows-same w no_closing no_spending (h, has, f) =
+      (h, (h, has, sym (ap (λ (xs : List WindowStep). xs ++ (spending_of frame ++ h)) no_closing ∙ ap (λ (xs : List WindowStep). xs ++ h) no_spending)), f)
+
+  or-false : (b c : Bool) → b ≡ false → (b || c) ≡ c
+  or-false true c e = cc
+  or-false false c e = refl
+
+  and-false : (b c : Bool) → b ≡ false → (b && c) ≡ false
+  and-false true c e = cc
+  and-false false c e = refl
+
+  pub over-same : (over : List (ℕ × Bool)) → ends_stream frame ≡ false → is_reset frame.head.kind ≡ false → HasOver run over → HasOver (Written frame ∷ run) over
+  over-same over no_end no_reset has id =
+      let is_no_reset : resets id frame ≡ false = and-false (is_reset frame.head.kind) (id == frame.head.stream) no_reset in
+      let is_no_end : ends id frame ≡ false = and-false (ends_stream frame) (id == frame.head.stream) no_end in (
+        (has id).0 ∙ sym (ap (λ b. (b || ends id frame) || is_over id run) is_no_reset ∙ ap (λ b. b || is_over id run) is_no_end),
+        λ not_reset. ap (λ b. b || list_any (resets id) (frames_of run)) is_no_reset ∙ (has id).1 not_reset,
+      )
+
+  pub due-same : (waiting : List Due) → told_by frame ≡ [] → HasDue run waiting → HasDue (Written frame ∷ run) waiting
+  due-same waiting none h = h ∙ ap (λ (xs : List Acknowledgement). xs ++ flat_map acknowledgement_of waiting)
+      (sym (ap (λ (xs : List Acknowledgement). told run ++ xs) none ∙ append-nil (told run)))
+
+  -- nothing is acknowledged
+  pub tells-none : (waiting : List Due) → told_by frame ≡ [] → HasDue run waiting → Begins (told run ++ told_by frame) (due run)
+  tells-none waiting none h = (flat_map acknowledgement_of waiting, due-same waiting none h)
+
+  -- the first that is due is acknowledged
+  pub due-told : (one : Due) (waiting : List Due) → told_by frame ≡ acknowledgement_of one → HasDue run (one ∷ waiting) → HasDue (Written frame ∷ run) waiting
+  due-told one waiting is h = h ∙ sym (append_assoc (told run) (acknowledgement_of one) (flat_map acknowledgement_of waiting))
+      ∙ ap (λ (xs : List Acknowledgement). (told run ++ xs) ++ flat_map acknowledgement_of waiting) (sym is)
+
+  pub tells-first : (one : Due) (waiting : List Due) → told_by frame ≡ acknowledgement_of one → HasDue run (one ∷ waiting) → Begins (told run ++ told_by frame) (due run)
+  tells-first one waiting is h = (flat_map acknowledgement_of waiting, due-told one waiting is h)
+
+  pub credit-same : (owed : Owed) → ((id : ℕ) → update_on id frame ≡ 0) → HasCredit run owed → HasCredit (Written frame ∷ run) owed
+  credit-same owed none h id = omega (arith, h id, none id, sum_by-cons (update_on id) frame (frames_of run))
+
+  pub credits-none : (owed : Owed) → ((id : ℕ) → update_on id frame ≡ 0) → HasCredit run owed → (id : ℕ) → updated id run + update_on id frame ≤ granted id run
+  credits-none owed none h id = omega (arith, h id, none id)
+
+  zero-if : (b : Bool) (n : ℕ) → n ≡ 0 → (if b then n else 0) ≡ 0
+  zero-if true n e = e
+  zero-if false n e = refl
+
+  pub no-updates : update_kind frame.head.kind frame.content ≡ 0 → (id : ℕ) → update_on id frame ≡ 0
+  no-updates e id = zero-if (id == frame.head.stream) (update_kind frame.head.kind frame.content) e
+
+  if-none : (b : Bool) → (if b then None else (let n : Option Fragments = None in n)) ≡ None
+  if-none true = refl
+  if-none false = refl
+
+  pub no-block : fragments frame (unfinished run) ≡ None → unfinished (Written frame ∷ run) ≡ None
+  no-block e = ap (λ (o : Option Fragments). if ends_block frame then None else o) e ∙ if-none (ends_block frame)
+
+-- nothing was written on the stream that ends or resets it
+over-part : (x : Frame) (xs : List Frame) (id : ℕ) (r n : Bool) → resets id x ≡ r → ends id x ≡ n
+    → ((resets id x || ends id x) || list_any (λ f. resets id f || ends id f) xs) ≡ false
+    → (list_any (λ f. resets id f || ends id f) xs ≡ false → (list_any (resets id) xs ≡ false) × (list_any (ends id) xs ≡ false))
+    → (list_any (resets id) (x ∷ xs) ≡ false) × (list_any (ends id) (x ∷ xs) ≡ false)
+over-part x xs id true n p q e rest = absurd (true≢false (sym (ap (λ b. (b || ends id x) || list_any (λ f. resets id f || ends id f) xs) p) ∙ e))
+over-part x xs id false true p q e rest =
+    absurd (true≢false (sym (ap (λ b. (b || ends id x) || list_any (λ f. resets id f || ends id f) xs) p ∙ ap (λ b. b || list_any (λ f. resets id f || ends id f) xs) q) ∙ e))
+over-part x xs id false false p q e rest =
+    let behind = rest (sym (ap (λ b. (b || ends id x) || list_any (λ f. resets id f || ends id f) xs) p ∙ ap (λ b. b || list_any (λ f. resets id f || ends id f) xs) q) ∙ e) in
+    (ap (λ b. b || list_any (resets id) xs) p ∙ behind.0, ap (λ b. b || list_any (ends id) xs) q ∙ behind.1)
+
+over-parts : (xs : List Frame) (id : ℕ) → list_any (λ f. resets id f || ends id f) xs ≡ false
+    → (list_any (resets id) xs ≡ false) × (list_any (ends id) xs ≡ false)
+over-parts [] id e = (refl, refl)
+over-parts (x ∷ xs) id e = over-part x xs id (resets id x) (ends id x) refl refl e (over-parts xs id)
+
+pub not-over : (run : List Step) (id : ℕ) → is_over id run ≡ false → (list_any (resets id) (frames_of run) ≡ false) × (list_any (ends id) (frames_of run) ≡ false)
+not-over run id e = over-parts (frames_of run) id e
+
+-- a header block's stream isn't reset by another frame
+pub head-same : (frame : Frame) (frames : List Frame) (block : Option HeaderBlock) → is_reset frame.head.kind ≡ false → HasHead frames block → HasHead (frame ∷ frames) block
+head-same frame frames None e h = tt
+head-same frame frames (Some block) e h = ap (λ b. (b && (block.id == frame.head.stream)) || list_any (resets block.id) frames) e ∙ h
+
+-- ---- the first frame
+
+none-written : (frames : List Frame) → has_begun frames ≡ false → frames ≡ []
+none-written [] e = refl
+none-written (frame ∷ frames) e = cc
+
+none-unfinished : (run : List Step) → frames_of run ≡ [] → unfinished run ≡ None
+none-unfinished [] e = refl
+none-unfinished (Taken order ∷ run) e = none-unfinished run e
+none-unfinished (Granted id n ∷ run) e = none-unfinished run e
+none-unfinished (Written frame ∷ run) e = cc
+
+pub first-written : (run : List Step) (begun gone : Bool) (w : Windows) (over : List (ℕ × Bool)) (waiting : List Due) (block : Option HeaderBlock) (owed : Owed)
+    (frame : Frame) → frame ≡ first_settings → begun ≡ false → gone ≡ false → Mirrors run begun gone w over waiting block owed
+    → MayWrite run frame × Mirrors (Written frame ∷ run) true gone w over waiting block owed
+first-written run begun gone w over waiting block owed frame is not_begun not_gone m =
+    let none : frames_of run ≡ [] = none-written (frames_of run) (m.begins ∙ not_begun) in
+    let no_update = no-updates run first_settings refl in
+    let nothing : unfinished run ≡ None = none-unfinished run none in
+    subst (λ (f : Frame). MayWrite run f × Mirrors (Written f ∷ run) true gone w over waiting block owed) (sym is) (
+      record {
+        first = λ e. refl;
+        windows = λ e. cc;
+        acknowledges = tells-none run first_settings waiting refl m.acknowledges;
+        block = subst (λ (o : Option Fragments). Continues o first_settings) (sym nothing) (λ e. cc);
+        not_reset = ap (list_any (resets 0)) none;
+        not_ended = λ e. absurd (true≢false (sym e ∙ ap (list_any (ends 0)) none));
+        goes_on = m.goes ∙ not_gone;
+        credit = credits-none run first_settings owed no_update m.credits;
+      },
+      record {
+        begins = refl;
+        goes = m.goes;
+        windows_follow = windows-same run first_settings w refl refl m.windows_follow;
+        is_over = over-same run first_settings over refl refl m.is_over;
+        acknowledges = due-same run first_settings waiting refl m.acknowledges;
+        goes_on = same-block run (Written first_settings ∷ run) block (no-block run first_settings refl ∙ sym nothing) m.goes_on;
+        not_reset = head-same first_settings (frames_of run) block refl m.not_reset;
+        credits = credit-same run first_settings owed no_update m.credits;
+        silent = m.silent;
+        no_stream_0 = m.no_stream_0;
+      },
+    )
+
+-- ---- a frame of the connection, or of a stream that it doesn't end, between header blocks
+
+-- what a frame shows that changes no window, ends no stream and is of no header block
+pub record IsPlain (frame : Frame) : Type 0 where
+  pub no_data : frame.head.kind ≡ kind.Data → ⊥
+  pub no_continuation : frame.head.kind ≡ kind.Continuation → ⊥
+  pub no_fragment : (begun : Option Fragments) → fragments frame begun ≡ None
+  pub no_closing : closing_of frame ≡ []
+  pub no_spending : spending_of frame ≡ []
+  pub no_end : ends_stream frame ≡ false
+  pub no_reset : is_reset frame.head.kind ≡ false
+
+pub plain-written : (run : List Step) (begun gone after : Bool) (w : Windows) (over : List (ℕ × Bool)) (waiting left : List Due) (block : Option HeaderBlock)
+    (owed less : Owed) (frame : Frame) → begun ≡ true → gone ≡ false → block ≡ None → IsPlain frame
+    → Begins (told run ++ told_by frame) (due run) → HasDue (Written frame ∷ run) left
+    → list_any (resets frame.head.stream) (frames_of run) ≡ false
+    → (list_any (ends frame.head.stream) (frames_of run) ≡ true → MayFollowEnd frame.head.kind)
+    → ((id : ℕ) → updated id run + update_on id frame ≤ granted id run) → HasCredit (Written frame ∷ run) less → HasSilence over less
+    → is_last frame ≡ after
+    → Mirrors run begun gone w over waiting block owed
+    → MayWrite run frame × Mirrors (Written frame ∷ run) begun after w over left block less
+plain-written run begun gone after w over waiting left block owed less frame is_begun not_gone no_block plain tells dues not_reset not_ended allowed credits silent last m =
+    let nothing : unfinished run ≡ None = subst (HasBlock run) no_block m.goes_on in (
+      record {
+        first = λ e. absurd (none-begun (frames_of run) (m.begins ∙ is_begun) e);
+        windows = λ e. absurd (plain.no_data e);
+        acknowledges = tells;
+        block = subst (λ (o : Option Fragments). Continues o frame) (sym nothing) plain.no_continuation;
+        not_reset = not_reset;
+        not_ended = not_ended;
+        goes_on = m.goes ∙ not_gone;
+        credit = allowed;
+      },
+      record {
+        begins = sym is_begun;
+        goes = ap (λ b. b || list_any is_last (frames_of run)) last ∙ ap (λ b. after || b) (m.goes ∙ not_gone) ∙ or-nothing after;
+        windows_follow = windows-same run frame w plain.no_closing plain.no_spending m.windows_follow;
+        is_over = over-same run frame over plain.no_end plain.no_reset m.is_over;
+        acknowledges = dues;
+        goes_on = same-block run (Written frame ∷ run) block (no-block run frame (plain.no_fragment (unfinished run)) ∙ sym nothing) m.goes_on;
+        not_reset = head-same frame (frames_of run) block plain.no_reset m.not_reset;
+        credits = credits;
+        silent = silent;
+        no_stream_0 = m.no_stream_0;
+      },
+    )
+  where
+    or-nothing : (b : Bool) → (b || false) ≡ b
+    or-nothing true = refl
+    or-nothing false = refl
+
+-- ---- acknowledgements, and GOAWAY
+
+pub ack-plain : IsPlain settings_ack
+ack-plain = record { no_data = λ e. cc; no_continuation = λ e. cc; no_fragment = λ begun. refl; no_closing = refl; no_spending = refl; no_end = refl; no_reset = refl }
+
+pub ping-plain : (bytes : List ℕ) → IsPlain (ping_ack bytes)
+ping-plain bytes = record { no_data = λ e. cc; no_continuation = λ e. cc; no_fragment = λ begun. refl; no_closing = refl; no_spending = refl; no_end = refl; no_reset = refl }
+
+pub goaway-plain : (last : ℕ) (code : ErrorCode) → IsPlain (goaway_frame last code)
+goaway-plain last code = record { no_data = λ e. cc; no_continuation = λ e. cc; no_fragment = λ begun. refl; no_closing = refl; no_spending = refl; no_end = refl; no_reset = refl }
+
+pub none-over : (o : Option Bool) → o ≡ None → is_some o ≡ false
+none-over None e = refl
+none-over (Some b) e = cc
+
+-- nothing ends or resets stream 0
+connection-on : (run : List Step) (over : List (ℕ × Bool)) → HasOver run over → lookup (nat_eq 0) over ≡ None
+    → (list_any (resets 0) (frames_of run) ≡ false) × (list_any (ends 0) (frames_of run) ≡ false)
+connection-on run over has none = not-over run 0 (sym (has 0).0 ∙ none-over (lookup (nat_eq 0) over) none)
+
+-- a frame of the connection that is due
+pub due-written : (run : List Step) (begun gone after : Bool) (w : Windows) (over : List (ℕ × Bool)) (one : Due) (waiting : List Due) (block : Option HeaderBlock)
+    (owed : Owed) (made frame : Frame) → made ≡ frame → begun ≡ true → gone ≡ false → block ≡ None → IsPlain frame → frame.head.stream ≡ 0
+    → update_kind frame.head.kind frame.content ≡ 0 → told_by frame ≡ acknowledgement_of one → is_last frame ≡ after
+    → Mirrors run begun gone w over (one ∷ waiting) block owed
+    → MayWrite run made × Mirrors (Written made ∷ run) begun after w over waiting block owed
+due-written run begun gone after w over one waiting block owed made frame is is_begun not_gone no_block plain on_0 no_update tells last m =
+    let still = connection-on run over m.is_over m.no_stream_0 in
+    let none = no-updates run frame no_update in
+    subst (λ (f : Frame). MayWrite run f × Mirrors (Written f ∷ run) begun after w over waiting block owed) (sym is)
+    (plain-written run begun gone after w over (one ∷ waiting) waiting block owed owed frame is_begun not_gone no_block plain
+    (tells-first run frame one waiting tells m.acknowledges) (due-told run frame one waiting tells m.acknowledges)
+    (ap (λ id. list_any (resets id) (frames_of run)) on_0 ∙ still.0)
+    (λ e. absurd (true≢false (sym e ∙ ap (λ id. list_any (ends id) (frames_of run)) on_0 ∙ still.1)))
+    (credits-none run frame owed none m.credits) (credit-same run frame owed none m.credits) m.silent last m)

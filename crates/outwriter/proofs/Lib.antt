@@ -1,0 +1,9 @@
+pub mod BlockLemmas
+pub mod CreditLemmas
+pub mod EndSteps
+pub mod FrameSteps
+pub mod MirrorSteps
+pub mod Progresses
+pub mod ResizeLemmas
+pub mod WindowRuns
+pub mod Faults

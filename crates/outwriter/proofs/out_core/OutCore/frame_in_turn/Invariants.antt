@@ -1,0 +1,6 @@
+use Rattle.std.proofs.Common.{◌≡◌}
+use Rattle.outwriter.specs.Mirrors.{IsBetween, SameOwn, Stays}
+use Rattle.outwriter.proofs.out_core.OutCore.frame_in_turn.Given as goal
+
+abbrev pub invariant-loop : goal.invariant-loop
+invariant-loop g l = IsBetween l.self.outbound × SameOwn l.fn.self.outbound l.self.outbound × Stays l.fn.self.outbound l.self.outbound × (l.self.closed ≡ l.fn.self.closed)

@@ -1,0 +1,10 @@
+use Rattle.std.proofs.Common.{List, length}
+use Rattle.outwriter.specs.Mirrors.{MirrorsOf, IsBetween}
+use Rattle.outwriter.specs.Steps.{Step}
+use Rattle.outwriter.proofs.outbound.Outbound.due_frame.Given as goal
+
+abbrev pub invariant-loop-due : goal.invariant-loop-due
+invariant-loop-due l = IsBetween l.self × ((run : List Step) → MirrorsOf run l.fn.self → MirrorsOf run l.self)
+
+abbrev pub decreases-loop-due : goal.decreases-loop-due
+decreases-loop-due l = length l.self.due.items

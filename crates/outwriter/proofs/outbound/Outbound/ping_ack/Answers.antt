@@ -1,0 +1,14 @@
+use Rattle.std.proofs.Common.{◌≡◌, refl, sym}
+use Rattle.std.proofs.lemmas.Result.{IfOk-weaker}
+use Rattle.h2frame.specs.declared.frame.Frame.{Frame}
+use Rattle.outwriter.specs.declared.due.Due.TheVariants.{PingAck}
+use Rattle.outwriter.specs.Frames.{ping_ack}
+use Rattle.outwriter.specs.Mirrors.{WritesDue}
+use Rattle.outwriter.proofs.FrameSteps.{due-written, ping-plain}
+use Rattle.outwriter.proofs.outbound.Outbound.ping_ack.Goals as goal
+
+pub returns-clause-written : goal.returns-clause-written
+returns-clause-written c = IfOk-weaker c.make_ping_ack.result (λ (frame : Frame). frame ≡ ping_ack c.args.bytes) (λ (frame : Frame). WritesDue (PingAck c.args.bytes) frame c.args.self.now c.args.self.now)
+    (λ frame is run m. due-written run _ _ _ _ _ (PingAck c.args.bytes) _ _ _ _ (ping_ack c.args.bytes) is c.requires.begun c.requires.going c.requires.no_block
+    (ping-plain c.args.bytes) refl refl refl (sym c.requires.going) m)
+    c.make_ping_ack.ensures

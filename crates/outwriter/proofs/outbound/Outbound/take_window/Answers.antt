@@ -1,0 +1,16 @@
+use Rattle.std.proofs.Common.{refl}
+use Rattle.outwriter.specs.declared.control.Control.TheVariants.{Window}
+use Rattle.outwriter.proofs.MirrorSteps.{taken, same-due}
+use Rattle.outwriter.proofs.WindowRuns.{window-taken, fits-unless-over, over-stands, not-true, not-false}
+use Rattle.outwriter.proofs.outbound.Outbound.take_window.Goals as goal
+
+pub returns : goal.returns
+returns c = record {
+  taken = λ run m. taken (Window c.args.id c.args.increment) run _ _ _ _ _ _ _ _ _ m
+      (window-taken run c.args.id c.args.increment _ _ c.credit-credited.result c.credit-credited.ensures.fault c.credit-credited.ensures.unchanged c.credit-credited.ensures.follows m.windows_follow)
+      (same-due (Window c.args.id c.args.increment) run c.args.self.now.due.items refl m.acknowledges);
+  fits = λ e. fits-unless-over c.args.self.now.windows c.args.id c.args.increment c.credit-credited.result c.credit-credited.ensures.fault
+      (c.is_overflow.ensures.fits (not-true c.is_overflow.result e));
+  over = λ e. over-stands c.args.self.now.windows c.args.id c.args.increment c.credit-credited.result c.credit-credited.ensures.fault
+      (c.is_overflow.ensures.over (not-false c.is_overflow.result e));
+}

@@ -1,0 +1,105 @@
+-- Worked examples of the definitions, computed.
+use Rattle.std.specs.Prelude.{◌≡◌, false, true, refl, List, [], ◌∷◌, ◌++◌, Some, None}
+use Rattle.callbox.specs.declared.account.OutItem.TheVariants.{Head, Message, Trailers}
+use Rattle.flow.specs.WindowHistory.{Spending, Closing}
+use Rattle.h2frame.specs.declared.error_code.ErrorCode.TheVariants.{Cancel, NoError}
+use Rattle.h2frame.specs.Spelling.{spelled as spelling}
+use Rattle.hpack_codec.specs.declared.fields.Field.{Field}
+use Rattle.outwriter.specs.declared.control.Control.TheVariants.{Settings, Ping}
+use Rattle.outwriter.specs.declared.settings.PeerSetting.TheVariants.{TableSize, WindowSize}
+use Rattle.outwriter.specs.Frames.{first_settings, settings_ack, reset_frame, goaway_frame, update_frame, data_frame, headers_frame, continuation_frame, is_last}
+use Rattle.outwriter.specs.Histories.{window_sizes, spending_of, closing_of, is_over}
+use Rattle.outwriter.specs.Parts.{Byte, Fields, End, Reset, spelled, plain_marks, completed, marks_on, on_stream}
+use Rattle.outwriter.specs.Runs.{OfSettings, OfPing, due, told, unfinished, granted, updated}
+use Rattle.outwriter.specs.Steps.{Step, Taken, Granted, Written}
+
+-- SETTINGS of 12 bytes: 3 is 64, and 6 is 16,384
+pub first_bytes : spelling first_settings ≡ 0 ∷ 0 ∷ 12 ∷ 4 ∷ 0 ∷ 0 ∷ 0 ∷ 0 ∷ 0 ∷ 0 ∷ 3 ∷ 0 ∷ 0 ∷ 0 ∷ 64 ∷ 0 ∷ 6 ∷ 0 ∷ 0 ∷ 64 ∷ 0 ∷ []
+first_bytes = refl
+
+pub ack_bytes : spelling settings_ack ≡ 0 ∷ 0 ∷ 0 ∷ 4 ∷ 1 ∷ 0 ∷ 0 ∷ 0 ∷ 0 ∷ []
+ack_bytes = refl
+
+-- a reset of stream 3 with the error 8
+pub reset_bytes : spelling (reset_frame 3 Cancel) ≡ 0 ∷ 0 ∷ 4 ∷ 3 ∷ 0 ∷ 0 ∷ 0 ∷ 0 ∷ 3 ∷ 0 ∷ 0 ∷ 0 ∷ 8 ∷ []
+reset_bytes = refl
+
+-- SETTINGS and a PING are taken, and the first of them is acknowledged
+abbrev pub acknowledging : List Step
+acknowledging =
+    Written settings_ack ∷ Taken (Ping (1 ∷ 2 ∷ 3 ∷ 4 ∷ 5 ∷ 6 ∷ 7 ∷ 8 ∷ [])) ∷ Taken (Settings (TableSize 9 ∷ WindowSize 5 ∷ [])) ∷ Written first_settings ∷ []
+
+pub both_are_due : due acknowledging ≡ OfSettings ∷ OfPing (1 ∷ 2 ∷ 3 ∷ 4 ∷ 5 ∷ 6 ∷ 7 ∷ 8 ∷ []) ∷ []
+both_are_due = refl
+
+pub one_is_told : told acknowledging ≡ OfSettings ∷ []
+one_is_told = refl
+
+pub sizes_of_windows : window_sizes (TableSize 9 ∷ WindowSize 5 ∷ WindowSize 7 ∷ []) ≡ 5 ∷ 7 ∷ []
+sizes_of_windows = refl
+
+-- DATA is spent, and END_STREAM on a header block closes the stream's window
+pub data_is_spent : spending_of (data_frame 1 (7 ∷ 7 ∷ 7 ∷ [])) ≡ Spending 1 3 ∷ []
+data_is_spent = refl
+
+pub trailers_close : closing_of (headers_frame 1 true true (130 ∷ [])) ≡ Closing 1 ∷ []
+trailers_close = refl
+
+pub head_leaves_open : closing_of (headers_frame 1 false true (130 ∷ [])) ≡ []
+head_leaves_open = refl
+
+-- a header block in two fragments is unfinished after the first, and whole with the second
+abbrev pub half_a_block : List Step
+half_a_block = Written (headers_frame 5 true false (1 ∷ 2 ∷ [])) ∷ Written first_settings ∷ []
+
+pub begun : unfinished half_a_block ≡ Some (record { stream = 5; bytes = 1 ∷ 2 ∷ []; ends_it = true })
+begun = refl
+
+pub whole : completed half_a_block (continuation_frame 5 true (3 ∷ [])) ≡ Some (record { stream = 5; bytes = 1 ∷ 2 ∷ 3 ∷ []; ends_it = true })
+whole = refl
+
+pub none_left : unfinished (Written (continuation_frame 5 true (3 ∷ [])) ∷ half_a_block) ≡ None
+none_left = refl
+
+-- its stream is over as soon as END_STREAM is written
+pub over : is_over 5 half_a_block ≡ true
+over = refl
+
+-- of ten bytes that were granted on stream 1, four were written as credit
+abbrev pub crediting : List Step
+crediting = Written (update_frame 1 4) ∷ Granted 1 6 ∷ Granted 0 9 ∷ Granted 1 4 ∷ []
+
+pub ten_granted : granted 1 crediting ≡ 10
+ten_granted = refl
+
+pub four_updated : updated 1 crediting ≡ 4
+four_updated = refl
+
+pub none_on_the_connection : updated 0 crediting ≡ 0
+none_on_the_connection = refl
+
+-- a GOAWAY without an error isn't the last frame
+pub last_with_an_error : is_last (goaway_frame 7 Cancel) ≡ true
+last_with_an_error = refl
+
+pub not_last : is_last (goaway_frame 7 NoError) ≡ false
+not_last = refl
+
+-- a message in two DATA frames tells the same bytes as the item spells
+abbrev pub a_field : Field
+a_field = record { name = 1 ∷ []; value = 2 ∷ [] }
+
+pub items_spell : spelled (Head (a_field ∷ []) ∷ Message (8 ∷ 9 ∷ []) ∷ Trailers [] ∷ []) ≡ Fields (a_field ∷ []) ∷ Byte 8 ∷ Byte 9 ∷ Fields [] ∷ End ∷ []
+items_spell = refl
+
+pub data_tells : plain_marks (data_frame 1 (8 ∷ [])) ++ plain_marks (data_frame 1 (9 ∷ [])) ≡ spelled (Message (8 ∷ 9 ∷ []) ∷ [])
+data_tells = refl
+
+pub reset_tells : plain_marks (reset_frame 1 Cancel) ≡ Reset 8 ∷ []
+reset_tells = refl
+
+pub credit_tells_nothing : plain_marks (update_frame 1 4) ≡ []
+credit_tells_nothing = refl
+
+pub one_stream_of_two : marks_on 3 (on_stream 1 (Byte 8 ∷ []) ++ (on_stream 3 (Byte 9 ∷ End ∷ []) ++ on_stream 1 (End ∷ []))) ≡ Byte 9 ∷ End ∷ []
+one_stream_of_two = refl

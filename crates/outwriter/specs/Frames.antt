@@ -1,0 +1,109 @@
+-- The frames of a server's connection (RFC 9113, section 6), and what is read off a frame.
+use Rattle.std.specs.Prelude.{◌≡◌, drop, take, ◌+◌, ℕ, ◌==◌, ◌&&◌, not, Bool, true, false, List, [], ◌++◌, length, if◌then◌else◌}
+use Rattle.std.specs.Int.{bytes_high_first, from_be_bytes, w32}
+use Rattle.h2frame.specs.declared.error_code.ErrorCode.{ErrorCode}
+use Rattle.h2frame.specs.declared.frame.Frame.{Frame}
+use Rattle.h2frame.specs.declared.kind.FrameKind.{FrameKind}
+use Rattle.h2frame.specs.declared.kind.FrameKind.TheVariants.{Data, Headers, RstStream, Settings, Ping, GoAway, WindowUpdate, Continuation}
+use Rattle.h2frame.specs.ErrorCode.{error_number}
+use Rattle.h2frame.specs.Faults.{increment_of}
+use Rattle.h2frame.specs.Kind.{kind_of, code_of}
+use Rattle.h2frame.specs.Flags.{is_padded, has_priority, has, ack, end_stream, end_headers}
+
+-- a frame without padding or priority
+abbrev pub frame_with : FrameKind → ℕ → ℕ → List ℕ → Frame
+frame_with kind bits stream content =
+    record { head = record { kind = kind; flags = record { bits = bits }; stream = stream; length = length content }; content = content }
+
+-- ---- the frames that a writer makes
+
+abbrev pub parameter : ℕ → ℕ → List ℕ
+parameter id value = bytes_high_first 2 id ++ bytes_high_first 4 value
+
+-- at most 64 streams at once, and at most 16,384 bytes of fields (section 6.5.2)
+abbrev pub first_settings : Frame
+first_settings = frame_with Settings 0 0 (parameter 3 64 ++ parameter 6 16384)
+
+abbrev pub settings_ack : Frame
+settings_ack = frame_with Settings ack 0 []
+
+abbrev pub ping_ack : List ℕ → Frame
+ping_ack bytes = frame_with Ping ack 0 bytes
+
+abbrev pub reset_frame : ℕ → ErrorCode → Frame
+reset_frame id code = frame_with RstStream 0 id (bytes_high_first 4 (error_number code))
+
+abbrev pub goaway_frame : ℕ → ErrorCode → Frame
+goaway_frame last code = frame_with GoAway 0 0 (bytes_high_first 4 last ++ bytes_high_first 4 (error_number code))
+
+abbrev pub update_frame : ℕ → ℕ → Frame
+update_frame id increment = frame_with WindowUpdate 0 id (bytes_high_first 4 increment)
+
+abbrev pub data_frame : ℕ → List ℕ → Frame
+data_frame id bytes = frame_with Data 0 id bytes
+
+-- the flags of a fragment of a header block
+abbrev pub block_bits : Bool → Bool → ℕ
+block_bits ends whole = (if ends then end_stream else 0) + (if whole then end_headers else 0)
+
+-- the first fragment of a header block, and a further one (sections 6.2 and 6.10)
+abbrev pub headers_frame : ℕ → Bool → Bool → List ℕ → Frame
+headers_frame id ends whole fragment = frame_with Headers (block_bits ends whole) id fragment
+
+abbrev pub continuation_frame : ℕ → Bool → List ℕ → Frame
+continuation_frame id whole fragment = frame_with Continuation (block_bits false whole) id fragment
+
+-- ---- what a frame is
+
+abbrev pub is_data : FrameKind → Bool
+is_data Data = true
+is_data _ = false
+
+abbrev pub is_reset : FrameKind → Bool
+is_reset RstStream = true
+is_reset _ = false
+
+-- DATA and HEADERS may have END_STREAM
+abbrev pub may_end : FrameKind → Bool
+may_end Data = true
+may_end Headers = true
+may_end _ = false
+
+abbrev pub ends_stream : Frame → Bool
+ends_stream frame = may_end frame.head.kind && has end_stream frame.head.flags
+
+abbrev pub ends_block : Frame → Bool
+ends_block frame = has end_headers frame.head.flags
+
+-- the frame is on the stream and resets it, or ends it
+abbrev pub resets : ℕ → Frame → Bool
+resets id frame = is_reset frame.head.kind && (id == frame.head.stream)
+
+abbrev pub ends : ℕ → Frame → Bool
+ends id frame = ends_stream frame && (id == frame.head.stream)
+
+-- the error that a GOAWAY tells, behind the last stream (section 6.8)
+abbrev pub goaway_error : List ℕ → ℕ
+goaway_error content = from_be_bytes w32 (take 4 (drop 4 content))
+
+-- a GOAWAY that tells an error
+abbrev pub is_last_kind : FrameKind → List ℕ → Bool
+is_last_kind GoAway content = not (goaway_error content == 0)
+is_last_kind _ content = false
+
+abbrev pub is_last : Frame → Bool
+is_last frame = is_last_kind frame.head.kind frame.content
+
+-- the increment that a WINDOW_UPDATE tells
+abbrev pub update_kind : FrameKind → List ℕ → ℕ
+update_kind WindowUpdate content = increment_of content
+update_kind _ content = 0
+
+-- what a frame tells as credit on a stream, or on the connection as stream 0
+abbrev pub update_on : ℕ → Frame → ℕ
+update_on id frame = if id == frame.head.stream then update_kind frame.head.kind frame.content else 0
+
+-- the frame can be spelled: its type is that of its code, all of its payload is content, and nothing is padded or has a priority
+abbrev pub IsSound : Frame → Type 0
+IsSound frame = (kind_of (code_of frame.head.kind) ≡ frame.head.kind) × (frame.head.length ≡ length frame.content)
+    × (is_padded frame.head ≡ false) × (has_priority frame.head ≡ false)

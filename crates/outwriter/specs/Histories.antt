@@ -1,0 +1,74 @@
+-- The windows of a run (RFC 9113, section 6.9): what each step does to them.
+use Rattle.std.specs.Prelude.{◌&&◌, not, nat_lt, nat_le, is_some, ◌||◌, ◌≡◌, ℕ, ◌<◌, ◌≤◌, ◌⊎◌, pos, ◌+ℤ◌, Bool, All, IfSome, MatchOption, List, [], ◌∷◌, ◌++◌, reverse, map, flat_map, if◌then◌else◌}
+use Rattle.std.specs.List.{list_any}
+use Rattle.flow.specs.declared.TheConstants.{MAX_WINDOW}
+use Rattle.flow.specs.WindowHistory.{Opening, Credit, Spending, Resizing, Closing, connection_window, stream_window, since_opening, balance_of}
+use Rattle.flow.specs.WindowHistory.{Step as WindowStep}
+use Rattle.flow.specs.Windows.{Fits}
+use Rattle.h2frame.specs.declared.frame.Frame.{Frame}
+use Rattle.outwriter.specs.declared.control.Control.TheVariants.{Settings, Ping, Window, Open, Refuse, Reset, Goaway, InputEnded, Close}
+use Rattle.outwriter.specs.declared.settings.PeerSetting.{PeerSetting}
+use Rattle.outwriter.specs.declared.settings.PeerSetting.TheVariants.{TableSize, WindowSize}
+use Rattle.outwriter.specs.Frames.{is_data, ends_stream, is_reset, resets, ends}
+use Rattle.outwriter.specs.Steps.{Step, Order, Taken, Granted, Written, frames_of}
+
+-- the initial sizes of windows that SETTINGS set, in their order
+abbrev pub window_size : PeerSetting → List ℕ
+window_size (WindowSize size) = size ∷ []
+window_size (TableSize size) = []
+
+abbrev pub window_sizes : List PeerSetting → List ℕ
+window_sizes settings = flat_map window_size settings
+
+-- no window is over 2^31 - 1 with n bytes more on a stream, or on the connection as stream 0
+abbrev pub CanCredit : List WindowStep → ℕ → ℕ → Type 0
+CanCredit history id n =
+    ((id ≡ 0) × Fits (connection_window history +ℤ pos n)) ⊎ ((0 < id) × MatchOption (stream_window id history) ⊥ (λ size. Fits (size +ℤ pos n)))
+
+-- no window is over 2^31 - 1 with this initial size
+abbrev pub CanResize : List WindowStep → ℕ → Type 0
+CanResize history n = (n ≤ MAX_WINDOW) × ((id : ℕ) → 0 < id → IfSome (since_opening id history) (λ steps. Fits (pos n +ℤ balance_of id steps)))
+
+-- whether an RST_STREAM or an END_STREAM was written on a stream
+abbrev pub is_over : ℕ → List Step → Bool
+is_over id run = list_any (λ frame. resets id frame || ends id frame) (frames_of run)
+
+-- the number of a stream (section 5.1.1)
+abbrev pub is_stream : ℕ → Bool
+is_stream id = nat_lt 0 id && nat_le id MAX_WINDOW
+
+-- an Open opens the window of its stream, unless that is open or over
+abbrev pub opens : List Step → List WindowStep → ℕ → Bool
+opens run history id = (is_stream id && not (is_over id run)) && not (is_some (since_opening id history))
+
+-- From one history a control that is taken after a run leads to the next. One that would take a window over 2^31 - 1
+-- changes none; nor does credit of a stream that isn't open.
+abbrev pub Takes : List Step → List WindowStep → Order → List WindowStep → Type 0
+Takes run history (Settings settings) next =
+    (All (CanResize history) (window_sizes settings) × (next ≡ reverse (map Resizing (window_sizes settings)) ++ history))
+    ⊎ ((¬ All (CanResize history) (window_sizes settings)) × (next ≡ history))
+Takes run history (Window id n) next =
+    (CanCredit history id n × (next ≡ Credit id n ∷ history)) ⊎ ((¬ CanCredit history id n) × (next ≡ history))
+Takes run history (Open id sender) next = next ≡ (if opens run history id then Opening id ∷ history else history)
+Takes run history (Ping bytes) next = next ≡ history
+Takes run history (Refuse id fields) next = next ≡ history
+Takes run history (Reset id code written) next = next ≡ history
+Takes run history (Goaway last code) next = next ≡ history
+Takes run history InputEnded next = next ≡ history
+Takes run history Close next = next ≡ history
+
+-- the bytes of DATA are spent (sections 6.1 and 6.9.1)
+abbrev pub spending_of : Frame → List WindowStep
+spending_of frame = if is_data frame.head.kind && nat_lt 0 frame.head.length then Spending frame.head.stream frame.head.length ∷ [] else []
+
+-- END_STREAM and RST_STREAM close the stream's window
+abbrev pub closing_of : Frame → List WindowStep
+closing_of frame = if ends_stream frame || is_reset frame.head.kind then Closing frame.head.stream ∷ [] else []
+
+-- the windows of a run have this history
+abbrev pub HasHistory : List Step → List WindowStep → Type 0
+HasHistory [] history = history ≡ []
+HasHistory (Taken order ∷ before) history = (earlier : List WindowStep) × HasHistory before earlier × Takes before earlier order history
+HasHistory (Granted id n ∷ before) history = HasHistory before history
+HasHistory (Written frame ∷ before) history =
+    (earlier : List WindowStep) × HasHistory before earlier × (history ≡ closing_of frame ++ (spending_of frame ++ earlier))

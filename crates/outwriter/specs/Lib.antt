@@ -1,0 +1,11 @@
+pub mod Steps
+pub mod Frames
+pub mod Histories
+pub mod Runs
+pub mod Parts
+pub mod Blocks
+pub mod Credits
+pub mod Polls
+pub mod Resizes
+pub mod Mirrors
+pub mod Examples

@@ -1,0 +1,216 @@
+-- What a writer keeps follows from its run.
+use Rattle.std.specs.Prelude.{◌≡◌, ◌≢◌, ◌⊎◌, ◌&&◌, All, ℕ, ◌+◌, ◌≤◌, ◌==◌, Bool, true, false, List, [], ◌∷◌, ◌++◌, flat_map, Option, None, Some, IfSome, MatchOption, Result, Ok, Err, is_some, nat_eq, nat_lt, if◌then◌else◌}
+use Rattle.std.specs.List.{list_any}
+use Rattle.std.specs.Map.{lookup}
+use Rattle.flow.specs.WindowHistory.{Follows, Closing, Spending}
+use Rattle.flow.specs.WindowHistory.{Step as WindowStep}
+use Rattle.flow.specs.declared.send_windows.WindowFault.TheVariants.{Overflow}
+use Rattle.flow.specs.Windows.{Windows, CreditFault}
+use Rattle.h2frame.specs.declared.frame.Frame.{Frame}
+use Rattle.outwriter.specs.declared.blocks.HeaderBlock.{HeaderBlock}
+use Rattle.outwriter.specs.declared.control.Control.{Control}
+use Rattle.outwriter.specs.declared.control.Control.TheVariants as control
+use Rattle.outwriter.specs.declared.stream.OpenStream.{OpenStream}
+use Rattle.outwriter.specs.declared.control.OutFault.{OutFault}
+use Rattle.outwriter.specs.declared.control.OutFault.TheVariants.{OutOfMemory, PeerWindow}
+use Rattle.outwriter.specs.declared.next.Next.{Next}
+use Rattle.outwriter.specs.declared.next.Next.TheVariants as next
+use Rattle.outwriter.specs.declared.due.Due.{Due}
+use Rattle.outwriter.specs.declared.due.Due.TheVariants as due_kind
+use Rattle.outwriter.specs.declared.outbound.Outbound.{Outbound}
+use Rattle.outwriter.specs.Credits.{Owed, owed_on, pays}
+use Rattle.outwriter.specs.Frames.{is_last, resets}
+use Rattle.outwriter.specs.Histories.{HasHistory, CanResize, window_sizes, is_over}
+use Rattle.outwriter.specs.Runs.{IsLawful, Acknowledgement, OfSettings, OfPing, due, told, unfinished, granted, updated, MayWrite}
+use Rattle.outwriter.specs.Steps.{Step, Taken, Written, frames_of, order_of}
+
+-- the first frame was written
+abbrev pub has_begun : List Frame → Bool
+has_begun [] = false
+has_begun (frame ∷ frames) = true
+
+-- the windows follow from the history of the run's
+abbrev pub HasWindows : List Step → Windows → Type 0
+HasWindows run windows = (history : List WindowStep) × HasHistory run history × Follows history windows
+
+-- the streams that are over, and whether it was by RST_STREAM
+abbrev pub HasOver : List Step → List (ℕ × Bool) → Type 0
+HasOver run over = (id : ℕ) → (is_some (lookup (nat_eq id) over) ≡ is_over id run)
+    × (lookup (nat_eq id) over ≢ Some true → list_any (resets id) (frames_of run) ≡ false)
+
+abbrev pub acknowledgement_of : Due → List Acknowledgement
+acknowledgement_of due_kind.SettingsAck = OfSettings ∷ []
+acknowledgement_of (due_kind.PingAck bytes) = OfPing bytes ∷ []
+acknowledgement_of (due_kind.Refuse id fields) = []
+acknowledgement_of (due_kind.Reset id code) = []
+acknowledgement_of (due_kind.Goaway last code) = []
+
+-- the acknowledgements that are due are those that were written and those that wait, in this order
+abbrev pub HasDue : List Step → List Due → Type 0
+HasDue run waiting = due run ≡ told run ++ flat_map acknowledgement_of waiting
+
+-- the header block that isn't whole is the one of which the rest is kept
+abbrev pub HasBlock : List Step → Option HeaderBlock → Type 0
+HasBlock run None = unfinished run ≡ None
+HasBlock run (Some block) = (block.begun ≡ true) × IfSome (unfinished run) (λ written. written.stream ≡ block.id) × (unfinished run ≢ None)
+
+-- its stream wasn't reset
+abbrev pub HasHead : List Frame → Option HeaderBlock → Type 0
+HasHead frames None = Unit {0}
+HasHead frames (Some block) = list_any (resets block.id) frames ≡ false
+
+-- no more credit was written than was granted, with what is owed
+abbrev pub HasCredit : List Step → Owed → Type 0
+HasCredit run owed = (id : ℕ) → updated id run + owed_on owed id ≤ granted id run
+
+-- nothing is owed on a stream that was reset
+abbrev pub HasSilence : List (ℕ × Bool) → Owed → Type 0
+HasSilence over owed = (id : ℕ) → lookup (nat_eq id) over ≡ Some true → pays owed id ≡ false
+
+-- ---- what a frame changes
+
+-- a map of streams in which one has another value
+abbrev pub Sets : List (ℕ × Bool) → ℕ → Bool → List (ℕ × Bool) → Type 0
+Sets over id value after = (k : ℕ) → lookup (nat_eq k) after ≡ (if k == id then Some value else lookup (nat_eq k) over)
+
+-- what the end of a stream closes
+abbrev pub closing : ℕ → Bool → List WindowStep
+closing id ends_it = if ends_it then Closing id ∷ [] else []
+
+-- bytes that are spent on a stream, where there are any
+abbrev pub spent : ℕ → ℕ → List WindowStep
+spent id n = if nat_lt 0 n then Spending id n ∷ [] else []
+
+-- the rest of a block is kept, where there is one
+abbrev pub Keeps : ℕ → Bool → Option HeaderBlock → Type 0
+Keeps id true left = left ≡ None
+Keeps id false left = MatchOption left ⊥ (λ block. (block.begun ≡ true) × (block.id ≡ id))
+
+-- the streams that are over, where one may be over now
+abbrev pub Ends : List (ℕ × Bool) → ℕ → Bool → List (ℕ × Bool) → Type 0
+Ends over id true after = Sets over id false after
+Ends over id false after = after ≡ over
+
+-- ---- all of it
+
+pub record Mirrors (run : List Step) (begun gone : Bool) (windows : Windows) (over : List (ℕ × Bool)) (waiting : List Due) (block : Option HeaderBlock) (owed : Owed) : Type 0 where
+  pub begins : has_begun (frames_of run) ≡ begun
+  pub goes : list_any is_last (frames_of run) ≡ gone
+  pub windows_follow : HasWindows run windows
+  pub is_over : HasOver run over
+  pub acknowledges : HasDue run waiting
+  pub goes_on : HasBlock run block
+  pub not_reset : HasHead (frames_of run) block
+  pub credits : HasCredit run owed
+  pub silent : HasSilence over owed
+  pub no_stream_0 : lookup (nat_eq 0) over ≡ None
+
+abbrev pub MirrorsOf : List Step → Outbound → Type 0
+MirrorsOf run o = Mirrors run o.begun o.gone o.windows o.over.entries o.due.items o.block o.credit
+
+-- whatever run led to the state before, with this step it leads to the state after
+abbrev pub Leads : Step → Outbound → Outbound → Type 0
+Leads step old new = (run : List Step) → MirrorsOf run old → MirrorsOf (step ∷ run) new
+
+-- and the frame might be written
+abbrev pub Writes : Frame → Outbound → Outbound → Type 0
+Writes frame old new = (run : List Step) → MirrorsOf run old → MayWrite run frame × MirrorsOf (Written frame ∷ run) new
+
+-- SETTINGS were written, no GOAWAY with an error was, and no header block is unfinished
+pub record IsBetween (o : Outbound) : Type 0 where
+  pub begun : o.begun ≡ true
+  pub going : o.gone ≡ false
+  pub no_block : o.block ≡ None
+
+-- the same for a frame that was first among those that are due, and is no longer among them
+abbrev pub MirrorsWith : List Step → Due → Outbound → Type 0
+MirrorsWith run one o = Mirrors run o.begun o.gone o.windows o.over.entries (one ∷ o.due.items) o.block o.credit
+
+abbrev pub WritesDue : Due → Frame → Outbound → Outbound → Type 0
+WritesDue one frame old new = (run : List Step) → MirrorsWith run one old → MayWrite run frame × MirrorsOf (Written frame ∷ run) new
+
+-- or it isn't written any more, and nothing else changes
+abbrev pub WritesOrSkips : Due → Option Frame → Outbound → Outbound → Type 0
+WritesOrSkips one (Some frame) old new = WritesDue one frame old new
+WritesOrSkips one None old new = (acknowledgement_of one ≡ []) × (new ≡ old)
+
+-- a header block begins, whatever was due with what is due now
+abbrev pub Heads : Frame → Outbound → Outbound → Type 0
+Heads frame old new = (run : List Step) (before : List Due) → Mirrors run old.begun old.gone old.windows old.over.entries before old.block old.credit
+    → HasDue run old.due.items → MayWrite run frame × MirrorsOf (Written frame ∷ run) new
+
+-- a frame, if there is one; else nothing changed
+abbrev pub WritesIf : Option Frame → Outbound → Outbound → Type 0
+WritesIf (Some frame) old new = Writes frame old new
+WritesIf None old new = new ≡ old
+
+-- a frame, if there is one; else what is kept follows from the same runs
+abbrev pub Stays : Outbound → Outbound → Type 0
+Stays old new = (run : List Step) → MirrorsOf run old → MirrorsOf run new
+
+abbrev pub Progress : Option Frame → Outbound → Outbound → Type 0
+Progress (Some frame) old new = Writes frame old new
+Progress None old new = Stays old new × IsBetween new
+
+abbrev pub Progresses : Option Frame → Outbound → Outbound → Type 0
+Progresses (Some frame) old new = Writes frame old new
+Progresses None old new = Stays old new
+
+-- ---- what callers see
+
+-- a run leads to this state, and each of its frames was lawful
+abbrev pub Reached : List Step → Outbound → Type 0
+Reached run o = MirrorsOf run o × IsLawful run
+
+-- whatever run led to the state before, with this step it leads to the state after
+abbrev pub GoesOn : Step → Outbound → Outbound → Type 0
+GoesOn step old new = (run : List Step) → Reached run old → Reached (step ∷ run) new
+
+abbrev pub Remains : Outbound → Outbound → Type 0
+Remains old new = (run : List Step) → Reached run old → Reached run new
+
+module _ {S : Type 0} where
+  -- a control that is taken is the next step; where it is handed back, there is none
+  abbrev pub Takes : Result (Unit {0}) (OutFault S) → Control S → Outbound → Outbound → Type 0
+  Takes (Ok done) taken old new = GoesOn (Taken (order_of taken)) old new
+  Takes (Err (PeerWindow id)) taken old new = GoesOn (Taken (order_of taken)) old new
+  Takes (Err (OutOfMemory back)) taken old new = (back ≡ Some taken) × Remains old new
+
+-- a frame is the next step
+abbrev pub Answers : Next → Outbound → Outbound → Type 0
+Answers (next.Frame frame) old new = GoesOn (Written frame) old new
+Answers next.Idle old new = Remains old new
+Answers next.Over old new = Remains old new
+
+-- no header block is unfinished, nothing is due and no credit is owed; or nothing is written any more
+abbrev pub IsSpent : Outbound → Type 0
+IsSpent o = (o.gone ≡ true) ⊎ ((o.block ≡ None) × (o.due.items ≡ []) × ((id : ℕ) → owed_on o.credit id ≡ 0))
+
+-- what is due and what is owed is the same
+abbrev pub SameOwn : Outbound → Outbound → Type 0
+SameOwn old new = (new.due ≡ old.due) × (new.credit ≡ old.credit) × (new.block ≡ old.block)
+
+-- an item is in hand, and the windows let nothing through
+abbrev pub is_held : Option OpenStream → ℕ → Bool
+is_held None room_now = false
+is_held (Some stream) room_now = is_some stream.in_hand && (room_now == 0)
+
+module _ {S : Type 0} where
+  -- why a control is a fault of the peer: with it a window would be over 2^31 - 1 bytes
+  abbrev pub Blames : OutFault S → Control S → Windows → Type 0
+  Blames (OutOfMemory back) taken w = Unit {0}
+  Blames (PeerWindow id) (control.Window stream n) w = (id ≡ stream) × CreditFault w stream n Overflow
+  Blames (PeerWindow id) (control.Settings settings) w =
+      (id ≡ 0) × ((history : List WindowStep) → Follows history w → ¬ All (CanResize history) (window_sizes settings))
+  Blames (PeerWindow id) _ w = ⊥
+
+  -- and why it is none
+  abbrev pub HasRoom : Control S → Windows → Type 0
+  HasRoom (control.Window stream n) w = ¬ CreditFault w stream n Overflow
+  HasRoom (control.Settings settings) w = (history : List WindowStep) → Follows history w → All (CanResize history) (window_sizes settings)
+  HasRoom _ w = Unit {0}
+
+  -- want of memory, and no fault of the peer
+  abbrev pub IsMemory : OutFault S → Type 0
+  IsMemory (OutOfMemory back) = Unit {0}
+  IsMemory (PeerWindow id) = ⊥

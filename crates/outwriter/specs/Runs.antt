@@ -1,0 +1,123 @@
+-- Which runs of a server's writer are lawful (RFC 9113, sections 3.4, 4.3, 5.1, 6.5, 6.7 to 6.10 and 8.1).
+use Rattle.std.specs.Prelude.{◌≡◌, ◌≢◌, ℕ, ◌+◌, ◌<◌, ◌≤◌, ◌⊎◌, ◌==◌, Bool, true, false, List, [], ◌∷◌, ◌++◌, Option, None, Some, sum_by, if◌then◌else◌}
+use Rattle.std.specs.List.{list_any}
+use Rattle.std.specs.Option.{option_map}
+use Rattle.callbox.specs.Accounts.{Begins}
+use Rattle.flow.specs.WindowHistory.{room_after}
+use Rattle.flow.specs.WindowHistory.{Step as WindowStep}
+use Rattle.h2frame.specs.declared.frame.Frame.{Frame}
+use Rattle.h2frame.specs.declared.kind.FrameKind.{FrameKind}
+use Rattle.h2frame.specs.declared.kind.FrameKind.TheVariants as kind
+use Rattle.h2frame.specs.Flags.{has, ack}
+use Rattle.outwriter.specs.declared.control.Control.TheVariants.{Settings, Ping}
+use Rattle.outwriter.specs.Frames.{first_settings, ends_stream, ends_block, is_last, update_on, resets, ends}
+use Rattle.outwriter.specs.Histories.{HasHistory}
+use Rattle.outwriter.specs.Steps.{Step, Order, Taken, Granted, Written, frames_of}
+
+-- ---- acknowledgements (sections 6.5.3 and 6.7)
+
+pub data Acknowledgement : Type 0 where
+  OfSettings : Acknowledgement
+  OfPing : List ℕ → Acknowledgement
+
+abbrev pub due_by : Order → List Acknowledgement
+due_by (Settings settings) = OfSettings ∷ []
+due_by (Ping bytes) = OfPing bytes ∷ []
+due_by _ = []
+
+-- what the controls of a run oblige to, in their order
+abbrev pub due : List Step → List Acknowledgement
+due [] = []
+due (Taken order ∷ before) = due before ++ due_by order
+due (Granted id n ∷ before) = due before
+due (Written frame ∷ before) = due before
+
+abbrev pub told_by_kind : FrameKind → Bool → List ℕ → List Acknowledgement
+told_by_kind kind.Settings true content = OfSettings ∷ []
+told_by_kind kind.Ping true content = OfPing content ∷ []
+told_by_kind _ _ content = []
+
+abbrev pub told_by : Frame → List Acknowledgement
+told_by frame = told_by_kind frame.head.kind (has ack frame.head.flags) frame.content
+
+-- the acknowledgements that were written, in their order
+abbrev pub told : List Step → List Acknowledgement
+told [] = []
+told (Taken order ∷ before) = told before
+told (Granted id n ∷ before) = told before
+told (Written frame ∷ before) = told before ++ told_by frame
+
+-- ---- header blocks (section 4.3)
+
+-- a header block as far as it was written, and whether it ends its stream
+pub record Fragments : Type 0 where
+  pub stream : ℕ
+  pub bytes : List ℕ
+  pub ends_it : Bool
+
+-- the fragments that a frame begins or goes on, where it is one of a header block
+abbrev pub fragments_kind : FrameKind → Frame → Option Fragments → Option Fragments
+fragments_kind kind.Headers frame begun = Some (record { stream = frame.head.stream; bytes = frame.content; ends_it = ends_stream frame })
+fragments_kind kind.Continuation frame begun =
+    option_map (λ block. record { stream = block.stream; bytes = block.bytes ++ frame.content; ends_it = block.ends_it }) begun
+fragments_kind _ frame begun = None
+
+abbrev pub fragments : Frame → Option Fragments → Option Fragments
+fragments frame begun = fragments_kind frame.head.kind frame begun
+
+-- the header block that was begun and isn't whole
+abbrev pub unfinished : List Step → Option Fragments
+unfinished [] = None
+unfinished (Taken order ∷ before) = unfinished before
+unfinished (Granted id n ∷ before) = unfinished before
+unfinished (Written frame ∷ before) = if ends_block frame then None else fragments frame (unfinished before)
+
+-- nothing comes between the frames of a header block, and a CONTINUATION nowhere else
+abbrev pub Continues : Option Fragments → Frame → Type 0
+Continues (Some block) frame = (frame.head.kind ≡ kind.Continuation) × (frame.head.stream ≡ block.stream)
+Continues None frame = frame.head.kind ≢ kind.Continuation
+
+-- ---- credit (section 6.9)
+
+abbrev pub granted_by : ℕ → Step → ℕ
+granted_by id (Granted stream n) = if id == stream then n else 0
+granted_by id _ = 0
+
+-- what was granted on a stream, or on the connection as stream 0
+abbrev pub granted : ℕ → List Step → ℕ
+granted id run = sum_by (granted_by id) run
+
+-- the increments that were written on it
+abbrev pub updated : ℕ → List Step → ℕ
+updated id run = sum_by (update_on id) (frames_of run)
+
+-- ---- the law
+
+-- DATA fits into a frame and, unless it is empty, into the windows that the steps before leave (sections 4.2 and 6.9.1)
+abbrev pub FitsWindows : List Step → Frame → Type 0
+FitsWindows before frame = (frame.head.length ≤ 16384)
+    × (0 < frame.head.length → (history : List WindowStep) × HasHistory before history × (frame.head.length ≤ room_after history frame.head.stream))
+
+-- after END_STREAM a stream has WINDOW_UPDATE, and before it the rest of the header block that has it (section 5.1)
+abbrev pub MayFollowEnd : FrameKind → Type 0
+MayFollowEnd found = (found ≡ kind.WindowUpdate) ⊎ (found ≡ kind.Continuation)
+
+-- a frame may be written after these steps
+pub record MayWrite (before : List Step) (frame : Frame) : Type 0 where
+  -- first come SETTINGS
+  pub first : frames_of before ≡ [] → frame ≡ first_settings
+  pub windows : frame.head.kind ≡ kind.Data → FitsWindows before frame
+  -- acknowledgements come in the order of what they acknowledge, and after it
+  pub acknowledges : Begins (told before ++ told_by frame) (due before)
+  pub block : Continues (unfinished before) frame
+  pub not_reset : list_any (resets frame.head.stream) (frames_of before) ≡ false
+  pub not_ended : list_any (ends frame.head.stream) (frames_of before) ≡ true → MayFollowEnd frame.head.kind
+  pub goes_on : list_any is_last (frames_of before) ≡ false
+  pub credit : (id : ℕ) → updated id before + update_on id frame ≤ granted id before
+
+-- each frame of the run might be written after the steps before it
+abbrev pub IsLawful : List Step → Type 0
+IsLawful [] = Unit {0}
+IsLawful (Taken order ∷ before) = IsLawful before
+IsLawful (Granted id n ∷ before) = IsLawful before
+IsLawful (Written frame ∷ before) = MayWrite before frame × IsLawful before

@@ -1,0 +1,58 @@
+//! A header block, cut into frames (RFC 9113, sections 4.3, 6.2 and 6.10).
+
+ghost use Rattle.std.specs.Prelude.{◌≡◌, IfOk};
+ghost use Rattle.outwriter.specs.Blocks.{frame_of, rest_of};
+ghost use Rattle.outwriter.specs.Frames.{IsSound};
+
+use crate::frames::{make_continuation, make_headers};
+use bytes::Bytes;
+use h2frame::{Frame, MAX_PAYLOAD, StreamId};
+use std::alloc::AllocError;
+
+/// The most bytes of a fragment.
+const MAX_FRAGMENT: usize = MAX_PAYLOAD as usize;
+
+/// A header block of which some is to be written.
+#[derive(Drop)]
+pub(crate) struct HeaderBlock {
+    pub(crate) id: StreamId,
+    /// Whether it ends its stream.
+    pub(crate) ends: bool,
+    /// Whether its HEADERS were written.
+    pub(crate) begun: bool,
+    /// The bytes that weren't.
+    pub(crate) rest: Bytes,
+}
+
+impl HeaderBlock {
+    /// Its next frame, of at most 16,384 bytes, and the block with what is left then, if anything is.
+    pub(crate) fn cut(self) -> Result<(Frame, Option<HeaderBlock>), AllocError>
+        ensures frame { IfOk result (λ r. r.0 ≡ frame_of self) }
+        ensures sound { IfOk result (λ r. IsSound r.0) }
+        ensures rest { IfOk result (λ r. r.1 ≡ rest_of self) }
+    {
+        let HeaderBlock {
+            id,
+            ends,
+            begun,
+            mut rest,
+        } = self;
+        let whole = rest.len() <= MAX_FRAGMENT;
+        let fragment = rest.split_to(MAX_FRAGMENT.min(rest.len()))?;
+        let frame = if begun {
+            make_continuation(id, whole, fragment)
+        } else {
+            make_headers(id, ends, whole, fragment)
+        };
+        if whole {
+            return Ok((frame, None));
+        }
+        let left = HeaderBlock {
+            id,
+            ends,
+            begun: true,
+            rest,
+        };
+        Ok((frame, Some(left)))
+    }
+}

@@ -1,0 +1,71 @@
+//! What the writer's core is told, and why it refuses.
+
+use crate::settings::PeerSettings;
+use callbox::Sequence;
+use h2frame::{ErrorCode, StreamId};
+use hpack_codec::Field;
+use std::fmt;
+
+/// What the core is told, by the peer or by its own side. `S` is the sender of a call.
+#[derive(Drop)]
+pub enum Control<S> {
+    /// The peer's SETTINGS, which are applied and then acknowledged.
+    Settings(PeerSettings),
+    /// A PING of the peer, whose eight bytes are sent back.
+    Ping([u8; 8]),
+    /// The peer credits so many bytes to a stream, or to the connection where it is 0.
+    Window(StreamId, u32),
+    /// A call begins, whose items are written on its stream.
+    Open(StreamId, S),
+    /// A stream is answered by one header block that ends it.
+    Refuse(StreamId, Sequence<Field>),
+    /// A stream ends by an error, which is told to the peer where it is to be written.
+    Reset {
+        id: StreamId,
+        code: ErrorCode,
+        written: bool,
+    },
+    /// The connection ends: `last` is the greatest stream that was looked at. With a code other than 0 it is the last frame.
+    Goaway {
+        last: StreamId,
+        code: ErrorCode,
+    },
+    /// No more comes from the peer, so no more credit either.
+    InputEnded,
+    /// No more controls come: once nothing can be written, it is over.
+    Close,
+}
+
+/// Why the core refuses.
+#[derive(Drop)]
+pub enum OutFault<S> {
+    /// No memory was to be had. The control that was not taken comes back; without one the core is dead.
+    OutOfMemory(Option<Control<S>>),
+    /// A window would be over 2^31 - 1 bytes, the stream's or, at 0, the connection's or that of SETTINGS. No window
+    /// changes; the control counts as taken.
+    PeerWindow(StreamId),
+}
+
+impl<S> OutFault<S> {
+    ghost use Rattle.std.specs.Prelude.{◌≡◌};
+    ghost use Rattle.outwriter.specs.Steps.{fault_code};
+
+    /// The fault's number.
+    pub fn code(&self) -> u32
+        ensures { result ≡ fault_code self.now }
+    {
+        match self {
+            OutFault::OutOfMemory(_) => 1,
+            OutFault::PeerWindow(_) => 2,
+        }
+    }
+}
+
+impl<S> fmt::Debug for OutFault<S> {
+    fn fmt<W: fmt::Write>(&self, f: &mut fmt::Formatter<W>) -> fmt::Result {
+        match self {
+            OutFault::OutOfMemory(_) => f.write_str("OutOfMemory"),
+            OutFault::PeerWindow(id) => write!(f, "PeerWindow({id})"),
+        }
+    }
+}

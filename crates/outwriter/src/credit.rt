@@ -1,0 +1,180 @@
+//! The credit that is owed to the peer (RFC 9113, section 6.9).
+
+ghost use Rattle.std.specs.Prelude.{◌≡◌, ◌<◌, ◌≤◌, ℕ, false, OnOk, OnErr, length, nat_eq};
+ghost use Rattle.std.specs.Map.{lookup};
+ghost use Rattle.outwriter.specs.Credits.{nothing_owed, knows, more, Opens, Grants, Forgets, TakesAll, Adds, AllFit, IsSettledBut, IsSettledFrom, TakesAt, TakesLast};
+
+use flow::MAX_WINDOW;
+use h2frame::StreamId;
+use indexmap::IndexMap;
+use std::alloc::{AllocError, Global};
+use std::marker::Model;
+
+/// How many bytes are to be credited to the peer, on the connection and on each stream of a call.
+#[derive(Drop)]
+pub(crate) struct Credit {
+    connection: u32,
+    /// The streams of all calls. None is owed on one that was reset.
+    streams: IndexMap<StreamId, Option<u32>>,
+    /// Nothing is owed on those from here on.
+    owing: usize,
+}
+
+impl Model for Credit {
+    ghost use Rattle.outwriter.specs.Credits.{Owed, IsWithin};
+
+    ghost Value = { Owed };
+
+    ghost view = { λ c. record { connection = c.connection; streams = c.streams.entries } };
+
+    ghost invariant = { λ c. IsWithin c.connection c.streams.entries c.owing };
+}
+
+impl Credit {
+    /// Nothing is owed. It takes no memory yet.
+    pub(crate) fn new(alloc: Global) -> Credit
+        ensures { result ≡ nothing_owed }
+    {
+        Credit {
+            connection: 0,
+            streams: IndexMap::new(alloc),
+            owing: 0,
+        }
+    }
+
+    /// Whether it is the stream of a call.
+    pub(crate) fn has(&self, id: StreamId) -> bool
+        ensures { result ≡ knows self.now id }
+    {
+        self.streams.contains_key(&id)
+    }
+
+    /// The stream of a call that begins.
+    pub(crate) fn open(&mut self, id: StreamId, is_reset: bool) -> Result<(), AllocError>
+        requires stream { 0 < id }
+        requires not_open { knows self.old id ≡ false }
+        ensures ok { OnOk result (Opens self.old id is_reset self.new) }
+        ensures unchanged { OnErr result (self.new ≡ self.old) }
+    {
+        let first = if is_reset { None } else { Some(0) };
+        match self.streams.insert(id, first) {
+            Ok(_none) => Ok(()),
+            Err(_refused) => Err(AllocError),
+        }
+    }
+
+    /// Owes n bytes more, on a stream or on the connection where it is 0: at most 2^31 - 1 at once, the most that a
+    /// WINDOW_UPDATE tells. Nothing changes for a stream of no call, and for one that was reset.
+    pub(crate) fn grant(&mut self, id: StreamId, n: u32)
+        ensures { Grants self.old id n self.new }
+    {
+        if id == 0 {
+            self.connection = sum(self.connection, n);
+        } else if let Some(place) = add(&mut self.streams, id, n) {
+            self.owing = bring_forward(&mut self.streams, place, self.owing);
+        }
+    }
+
+    /// Owes nothing on a stream, now and later.
+    pub(crate) fn forget(&mut self, id: StreamId)
+        requires { 0 < id }
+        ensures { Forgets self.old id self.new }
+    {
+        if let Some(owed) = self.streams.get_mut(&id) {
+            *owed = None;
+        }
+    }
+
+    /// Takes all that is owed on the connection, or else on one of the streams.
+    pub(crate) fn next(&mut self) -> Option<(StreamId, u32)>
+        ensures { TakesAll self.old result self.new }
+    {
+        if self.connection > 0 {
+            let n = self.connection;
+            self.connection = 0;
+            return Some((0, n));
+        }
+        let (owing, taken) = take_last(&mut self.streams, self.owing);
+        self.owing = owing;
+        taken
+    }
+}
+
+/// Adds to what is owed on a stream, and answers its place.
+fn add(streams: &mut IndexMap<StreamId, Option<u32>>, id: StreamId, n: u32) -> Option<usize>
+    ensures { Adds streams.old.entries id n result streams.new.entries }
+{
+    let (place, owed) = match streams.get_full(&id) {
+        Some((place, _id, Some(owed))) => (place, *owed),
+        _ => return None,
+    };
+    if let Some(value) = streams.get_index_mut(place) {
+        *value = Some(sum(owed, n));
+    }
+    Some(place)
+}
+
+/// Brings the stream at a place among those on which something may be owed, and answers how many these are.
+fn bring_forward(streams: &mut IndexMap<StreamId, Option<u32>>, place: usize, owing: usize) -> usize
+    requires place { place < length streams.old.entries }
+    requires owing { owing ≤ length streams.old.entries }
+    requires settled { IsSettledBut place owing streams.old.entries }
+    ensures owing { result ≤ length streams.new.entries }
+    ensures settled { IsSettledFrom result streams.new.entries }
+    ensures fit { AllFit streams.old.entries → AllFit streams.new.entries }
+    ensures same { (id : ℕ) → lookup (nat_eq id) streams.new.entries ≡ lookup (nat_eq id) streams.old.entries }
+{
+    if place < owing {
+        return owing;
+    }
+    let count = streams.len();
+    prove!(owing < count);
+    streams.swap_indices(place, owing);
+    owing + 1
+}
+
+/// Takes what is owed at the last of the first places at which something is. Nothing is owed from there on.
+fn take_last(
+    streams: &mut IndexMap<StreamId, Option<u32>>,
+    owing: usize,
+) -> (usize, Option<(StreamId, u32)>)
+    requires owing { owing ≤ length streams.old.entries }
+    requires settled { IsSettledFrom owing streams.old.entries }
+    ensures takes { TakesLast streams.old.entries result.0 result.1 streams.new.entries }
+    ensures owing { result.0 ≤ length streams.new.entries }
+    ensures settled { IsSettledFrom result.0 streams.new.entries }
+{
+    let mut left = owing;
+    while left > 0 {
+        left -= 1;
+        let taken = take_at(streams, left);
+        if taken.is_some() {
+            return (left, taken);
+        }
+    }
+    (0, None)
+}
+
+/// Takes what is owed at a place.
+fn take_at(streams: &mut IndexMap<StreamId, Option<u32>>, place: usize) -> Option<(StreamId, u32)>
+    requires { place < length streams.old.entries }
+    ensures { TakesAt streams.old.entries place result streams.new.entries }
+{
+    let (id, owed) = match streams.get_index(place) {
+        Some((id, Some(owed))) => (*id, *owed),
+        _ => return None,
+    };
+    if owed == 0 {
+        return None;
+    }
+    if let Some(value) = streams.get_index_mut(place) {
+        *value = Some(0);
+    }
+    Some((id, owed))
+}
+
+fn sum(owed: u32, n: u32) -> u32
+    ensures { result ≡ more owed n }
+{
+    owed.saturating_add(n).min(MAX_WINDOW)
+}

@@ -1,0 +1,15 @@
+//! What controls oblige to write, in their order.
+
+use callbox::Sequence;
+use h2frame::{ErrorCode, StreamId};
+use hpack_codec::Field;
+
+/// What is to be written before anything of the open calls.
+#[derive(Drop)]
+pub(crate) enum Due {
+    SettingsAck,
+    PingAck([u8; 8]),
+    Refuse(StreamId, Sequence<Field>),
+    Reset(StreamId, ErrorCode),
+    Goaway(StreamId, ErrorCode),
+}

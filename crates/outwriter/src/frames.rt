@@ -1,0 +1,104 @@
+//! The frames that a writer makes (RFC 9113, section 6).
+
+ghost use Rattle.std.specs.Prelude.{◌≡◌, ◌≤◌, ◌<◌, ◌^◌, length, IfOk};
+ghost use Rattle.outwriter.specs.Frames.{first_settings, settings_ack, ping_ack, reset_frame, goaway_frame, update_frame, data_frame, headers_frame, continuation_frame, IsSound, block_bits};
+
+use bytes::Bytes;
+use h2frame::{ErrorCode, Flags, Frame, FrameKind, StreamId};
+use std::alloc::{AllocError, Global};
+
+/// SETTINGS_MAX_CONCURRENT_STREAMS is 64, SETTINGS_MAX_HEADER_LIST_SIZE 16,384 (section 6.5.2).
+static FIRST_SETTINGS: [u8; 12] = [0, 3, 0, 0, 0, 64, 0, 6, 0, 0, 64, 0];
+
+pub(crate) fn make_first_settings() -> Frame
+    ensures { result ≡ first_settings }
+{
+    Frame::new(
+        FrameKind::Settings,
+        Flags::NONE,
+        0,
+        Bytes::from_static(&FIRST_SETTINGS),
+    )
+}
+
+pub(crate) fn make_settings_ack() -> Frame
+    ensures { result ≡ settings_ack }
+{
+    Frame::new(FrameKind::Settings, Flags::ACK, 0, Bytes::new())
+}
+
+pub(crate) fn make_ping_ack(alloc: Global, bytes: [u8; 8]) -> Result<Frame, AllocError>
+    ensures { IfOk result (λ frame. frame ≡ ping_ack bytes) }
+{
+    let content = Bytes::copy_from_slice(alloc, &bytes)?;
+    Ok(Frame::new(FrameKind::Ping, Flags::ACK, 0, content))
+}
+
+pub(crate) fn make_reset(alloc: Global, id: StreamId, code: ErrorCode) -> Result<Frame, AllocError>
+    ensures { IfOk result (λ frame. frame ≡ reset_frame id code) }
+{
+    let content = Bytes::copy_from_slice(alloc, &code.code().to_be_bytes())?;
+    Ok(Frame::new(FrameKind::RstStream, Flags::NONE, id, content))
+}
+
+pub(crate) fn make_goaway(
+    alloc: Global,
+    last: StreamId,
+    code: ErrorCode,
+) -> Result<Frame, AllocError>
+    ensures { IfOk result (λ frame. frame ≡ goaway_frame last code) }
+{
+    let [a, b, c, d] = last.to_be_bytes();
+    let [e, f, g, h] = code.code().to_be_bytes();
+    let content = Bytes::copy_from_slice(alloc, &[a, b, c, d, e, f, g, h])?;
+    Ok(Frame::new(FrameKind::GoAway, Flags::NONE, 0, content))
+}
+
+pub(crate) fn make_update(alloc: Global, id: StreamId, increment: u32) -> Result<Frame, AllocError>
+    ensures { IfOk result (λ frame. frame ≡ update_frame id increment) }
+{
+    let content = Bytes::copy_from_slice(alloc, &increment.to_be_bytes())?;
+    Ok(Frame::new(FrameKind::WindowUpdate, Flags::NONE, id, content))
+}
+
+pub(crate) fn make_data(id: StreamId, bytes: Bytes) -> Frame
+    requires { length bytes ≤ 16384 }
+    ensures { result ≡ data_frame id bytes }
+{
+    Frame::new(FrameKind::Data, Flags::NONE, id, bytes)
+}
+
+/// The first fragment of a header block; whether the block ends its stream, and whether the fragment is the last.
+pub(crate) fn make_headers(id: StreamId, ends: bool, whole: bool, fragment: Bytes) -> Frame
+    requires { length fragment ≤ 16384 }
+    ensures is { result ≡ headers_frame id ends whole fragment }
+    ensures sound { IsSound result }
+{
+    Frame::new(FrameKind::Headers, block_flags(ends, whole), id, fragment)
+}
+
+/// A further fragment.
+pub(crate) fn make_continuation(id: StreamId, whole: bool, fragment: Bytes) -> Frame
+    requires { length fragment ≤ 16384 }
+    ensures is { result ≡ continuation_frame id whole fragment }
+    ensures sound { IsSound result }
+{
+    Frame::new(
+        FrameKind::Continuation,
+        block_flags(false, whole),
+        id,
+        fragment,
+    )
+}
+
+fn block_flags(ends: bool, whole: bool) -> Flags
+    ensures { result.bits ≡ block_bits ends whole }
+{
+    let end_stream = if ends { Flags::END_STREAM } else { Flags::NONE };
+    let end_headers = if whole {
+        Flags::END_HEADERS
+    } else {
+        Flags::NONE
+    };
+    end_stream.with(end_headers)
+}

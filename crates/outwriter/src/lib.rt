@@ -1,0 +1,34 @@
+//! Which frame a connection's writer writes next (RFC 9113, sections 5, 6 and 8.1).
+//!
+//! An `OutCore` takes controls, what the peer tells or what is to be said on the connection, and credit that is to be
+//! returned; it looks at the senders of the open calls, and answers the next frame, one at a time. It reads and writes
+//! nothing, and waits for nothing.
+//!
+//! What it does is a run: a list of steps, each a control taken, credit granted or a frame written (`specs/Steps.antt`).
+//! Which runs are lawful is said in `specs/Runs.antt`: windows, acknowledgements in their order, whole header blocks,
+//! nothing behind a stream's end. `specs/Parts.antt` says what the frames of one stream tell, and what items spell.
+//!
+//! Read `settings` and `control` for what goes in; `frames` and `blocks` for the frames that come out; `stream`, `due`,
+//! `resize` and `credit` for what is kept; `out_core` for what a control does, and `next` for the choice of a frame.
+#![tactic(auto)]
+
+mod blocks;
+mod control;
+mod credit;
+mod due;
+mod frames;
+pub mod next;
+pub mod out_core;
+mod outbound;
+mod resize;
+mod settings;
+mod stream;
+mod writing;
+
+pub use control::{Control, OutFault};
+pub use next::Next;
+pub use out_core::OutCore;
+pub use settings::{PeerSetting, PeerSettings};
+
+#[cfg(test)]
+mod tests;

@@ -1,0 +1,277 @@
+//! Which frame is next.
+
+ghost use Rattle.std.specs.Prelude.{◌≡◌, ◌<◌, true, false, None, Err, IfOk, IfErr, IfSome, IfNone, nat_eq};
+ghost use Rattle.std.specs.Map.{lookup};
+
+use crate::control::OutFault;
+use crate::out_core::OutCore;
+use crate::stream::{Polled, poll};
+use bytes::Bytes;
+use callbox::{OutItem, Sender};
+use h2frame::{Frame, StreamId};
+use lane::Lane;
+use std::alloc::AllocError;
+
+/// What a writer does next.
+#[derive(Debug, Drop)]
+pub enum Next {
+    /// It writes this frame.
+    Frame(Frame),
+    /// Nothing can be written now.
+    Idle,
+    /// Nothing can be written any more.
+    Over,
+}
+
+impl<L: Lane<Item = OutItem>> OutCore<L> {
+    ghost use Rattle.outwriter.specs.declared.control.OutFault.TheVariants as out_fault;
+    ghost use Rattle.outwriter.specs.declared.next.Next.TheVariants as next_kind;
+    ghost use Rattle.h2frame.specs.declared.frame.Frame.{Frame as FrameOf};
+    ghost use Rattle.outwriter.specs.Frames.{IsSound};
+    ghost use Rattle.outwriter.specs.Steps.{Step};
+    ghost use Rattle.outwriter.specs.Mirrors.{Answers, SameOwn, IsSpent, Progress, Progresses, Stays, IsBetween, MirrorsOf};
+
+    /// The next frame. After want of memory the core is dead, and answers that again.
+    pub fn next_frame(&mut self) -> Result<Next, OutFault<Sender<L>>>
+        // A frame that comes next extends a lawful run.
+        ensures next { IfOk result (λ next. Answers next self.old.outbound self.new.outbound) }
+
+        // What a frame's writer asks of it, but for the number of its stream.
+        ensures sound { IfOk result (λ next. (frame : FrameOf) → next ≡ next_kind.Frame frame → IsSound frame) }
+        ensures dead { self.old.is_dead ≡ true → result ≡ Err (out_fault.OutOfMemory None) }
+        ensures dies { IfErr result (λ fault. (fault ≡ out_fault.OutOfMemory None) × (self.new.is_dead ≡ true)) }
+        ensures over { IfOk result (λ next. next ≡ next_kind.Over → self.new.closed ≡ true) }
+
+        // Where none comes, a GOAWAY with an error was written, or no header block is unfinished, nothing is due and no credit is owed.
+        ensures idle { IfOk result (λ next. next ≡ next_kind.Idle → IsSpent self.new.outbound) }
+        ensures over_spent { IfOk result (λ next. next ≡ next_kind.Over → IsSpent self.new.outbound) }
+    {
+        if self.is_dead {
+            return Err(OutFault::OutOfMemory(None));
+        }
+        match self.choose() {
+            Ok(Some(frame)) => Ok(Next::Frame(frame)),
+            Ok(None) if self.closed => Ok(Next::Over),
+            Ok(None) => Ok(Next::Idle),
+            Err(_e) => {
+                self.is_dead = true;
+                Err(OutFault::OutOfMemory(None))
+            }
+        }
+    }
+
+    /// SETTINGS first; the rest of a header block; what is due; credit; and then the streams.
+    fn choose(&mut self) -> Result<Option<Frame>, AllocError>
+        ensures sound { IfOk result (λ o. IfSome o IsSound) }
+        ensures frame { IfOk result (λ o. Progresses o self.old.outbound self.new.outbound) }
+        ensures spent { IfOk result (λ o. IfNone o (IsSpent self.new.outbound)) }
+        ensures closed { self.new.closed ≡ self.old.closed }
+    {
+        if self.outbound.gone {
+            return Ok(None);
+        }
+        if !self.outbound.begun {
+            return Ok(Some(self.outbound.first_frame()));
+        }
+        if let Some(frame) = self.outbound.own_frame()? {
+            return Ok(Some(frame));
+        }
+        self.stream_frame()
+    }
+
+    /// A frame of an open stream: of one out of turn, so that none is overlooked, or else of the first that has one.
+    fn stream_frame(&mut self) -> Result<Option<Frame>, AllocError>
+        requires { IsBetween self.old.outbound }
+        ensures sound { IfOk result (λ o. IfSome o IsSound) }
+        ensures frame { IfOk result (λ o. Progress o self.old.outbound self.new.outbound) }
+        ensures own { IfOk result (λ o. IfNone o (SameOwn self.old.outbound self.new.outbound)) }
+        ensures closed { self.new.closed ≡ self.old.closed }
+    {
+        if let Some(frame) = self.frame_out_of_turn()? {
+            return Ok(Some(frame));
+        }
+        if let Some(frame) = self.frame_in_turn()? {
+            return Ok(Some(frame));
+        }
+        self.frame_of_any()
+    }
+
+    /// A frame of the stream at the cursor, if it isn't in the queue anyway.
+    fn frame_out_of_turn(&mut self) -> Result<Option<Frame>, AllocError>
+        requires { IsBetween self.old.outbound }
+        ensures sound { IfOk result (λ o. IfSome o IsSound) }
+        ensures frame { IfOk result (λ o. Progress o self.old.outbound self.new.outbound) }
+        ensures own { IfOk result (λ o. IfNone o (SameOwn self.old.outbound self.new.outbound)) }
+        ensures closed { self.new.closed ≡ self.old.closed }
+    {
+        let next = if self.cursor < self.open.len() {
+            self.cursor
+        } else {
+            0
+        };
+        self.cursor = next.saturating_add(1);
+        let id = match self.open.get_index(next) {
+            Some((id, stream)) if !stream.in_turn => *id,
+            _ => return Ok(None),
+        };
+        self.frame_of(id)
+    }
+
+    /// A frame of the first stream in the queue that has one. Those that have none leave the queue.
+    fn frame_in_turn(&mut self) -> Result<Option<Frame>, AllocError>
+        requires { IsBetween self.old.outbound }
+        ensures sound { IfOk result (λ o. IfSome o IsSound) }
+        ensures frame { IfOk result (λ o. Progress o self.old.outbound self.new.outbound) }
+        ensures own { IfOk result (λ o. IfNone o (SameOwn self.old.outbound self.new.outbound)) }
+        ensures closed { self.new.closed ≡ self.old.closed }
+    {
+        for _ in 0..self.ready.len() {
+            let Some(id) = self.ready.pop_front() else {
+                return Ok(None);
+            };
+            if let Some(frame) = self.frame_of(id)? {
+                return Ok(Some(frame));
+            }
+            self.leave_turns(id);
+        }
+        Ok(None)
+    }
+
+    /// A frame of the first open stream that has one.
+    fn frame_of_any(&mut self) -> Result<Option<Frame>, AllocError>
+        requires { IsBetween self.old.outbound }
+        ensures sound { IfOk result (λ o. IfSome o IsSound) }
+        ensures frame { IfOk result (λ o. Progress o self.old.outbound self.new.outbound) }
+        ensures own { IfOk result (λ o. IfNone o (SameOwn self.old.outbound self.new.outbound)) }
+        ensures closed { self.new.closed ≡ self.old.closed }
+    {
+        for index in 0..self.open.len() {
+            let id = match self.open.get_index(index) {
+                Some((id, _)) => *id,
+                None => return Ok(None),
+            };
+            if let Some(frame) = self.frame_of(id)? {
+                return Ok(Some(frame));
+            }
+        }
+        Ok(None)
+    }
+
+    /// A frame of this stream, which takes turns from then on.
+    fn frame_of(&mut self, id: StreamId) -> Result<Option<Frame>, AllocError>
+        requires { IsBetween self.old.outbound }
+        ensures sound { IfOk result (λ o. IfSome o IsSound) }
+        ensures frame { IfOk result (λ o. Progress o self.old.outbound self.new.outbound) }
+        ensures own { IfOk result (λ o. IfNone o (SameOwn self.old.outbound self.new.outbound)) }
+        ensures closed { self.new.closed ≡ self.old.closed }
+    {
+        let Some(frame) = self.look(id)? else {
+            return Ok(None);
+        };
+        self.take_turns(id)?;
+        Ok(Some(frame))
+    }
+
+    /// Puts a stream behind all others that take turns, if it is still open.
+    fn take_turns(&mut self, id: StreamId) -> Result<(), AllocError>
+        ensures outbound { self.new.outbound ≡ self.old.outbound }
+        ensures closed { self.new.closed ≡ self.old.closed }
+    {
+        if let Some(stream) = self.open.get_mut(&id) {
+            stream.in_turn = true;
+            self.ready.push_back(id)?;
+        }
+        Ok(())
+    }
+
+    fn leave_turns(&mut self, id: StreamId)
+        ensures outbound { self.new.outbound ≡ self.old.outbound }
+        ensures closed { self.new.closed ≡ self.old.closed }
+    {
+        if let Some(stream) = self.open.get_mut(&id) {
+            stream.in_turn = false;
+        }
+    }
+
+    /// A frame of this stream, if it is open and has one that may be written now.
+    fn look(&mut self, id: StreamId) -> Result<Option<Frame>, AllocError>
+        requires { IsBetween self.old.outbound }
+        ensures sound { IfOk result (λ o. IfSome o IsSound) }
+        ensures frame { IfOk result (λ o. Progress o self.old.outbound self.new.outbound) }
+        ensures own { IfOk result (λ o. IfNone o (SameOwn self.old.outbound self.new.outbound)) }
+        ensures closed { self.new.closed ≡ self.old.closed }
+    {
+        if !self.outbound.may_end(id) {
+            return Ok(None);
+        }
+        match self.take(id)? {
+            Polled::Nothing => Ok(None),
+            Polled::Message(bytes) => self.data(id, bytes),
+            Polled::Block { bytes, ends } => {
+                self.end(id, ends);
+                Ok(Some(self.outbound.headers_frame(id, ends, bytes)?))
+            }
+        }
+    }
+
+    /// What is next on a stream: what is in hand, or what its sender has.
+    fn take(&mut self, id: StreamId) -> Result<Polled, AllocError>
+        ensures outbound { self.new.outbound ≡ record self.old.outbound { encoder = self.new.outbound.encoder } }
+        ensures closed { self.new.closed ≡ self.old.closed }
+    {
+        let Some(stream) = self.open.get_mut(&id) else {
+            return Ok(Polled::Nothing);
+        };
+        if let Some(bytes) = stream.in_hand.take() {
+            return Ok(Polled::Message(bytes));
+        }
+        match self.senders.get_mut(stream.place) {
+            Some((_, sender)) => poll(sender, &mut self.outbound.encoder),
+            None => Ok(Polled::Nothing),
+        }
+    }
+
+    /// The next DATA of a message, as far as the windows let it through. What is left is kept in hand.
+    fn data(&mut self, id: StreamId, bytes: Bytes) -> Result<Option<Frame>, AllocError>
+        requires between { IsBetween self.old.outbound }
+        requires stream { 0 < id }
+        requires open { lookup (nat_eq id) self.old.outbound.over.entries ≡ None }
+        ensures sound { IfOk result (λ o. IfSome o IsSound) }
+        ensures frame { IfOk result (λ o. Progress o self.old.outbound self.new.outbound) }
+        ensures own { IfOk result (λ o. IfNone o (SameOwn self.old.outbound self.new.outbound)) }
+        ensures closed { self.new.closed ≡ self.old.closed }
+    {
+        let len = self.outbound.room(id, bytes.len());
+        if len == 0 && !bytes.is_empty() {
+            self.keep(id, bytes);
+            return Ok(None);
+        }
+        let mut rest = bytes;
+        let piece = rest.split_to(len)?;
+        self.keep(id, rest);
+        Ok(Some(self.outbound.data_frame(id, piece)))
+    }
+
+    /// Closes a stream whose trailers are written.
+    fn end(&mut self, id: StreamId, ends: bool)
+        ensures outbound { self.new.outbound ≡ self.old.outbound }
+        ensures closed { self.new.closed ≡ self.old.closed }
+    {
+        if ends {
+            self.open.swap_remove(&id);
+        }
+    }
+
+    /// Keeps what is left of a message, if anything is.
+    fn keep(&mut self, id: StreamId, bytes: Bytes)
+        ensures outbound { self.new.outbound ≡ self.old.outbound }
+        ensures closed { self.new.closed ≡ self.old.closed }
+    {
+        if bytes.is_empty() {
+            return;
+        }
+        if let Some(stream) = self.open.get_mut(&id) {
+            stream.in_hand = Some(bytes);
+        }
+    }
+}

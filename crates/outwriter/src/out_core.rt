@@ -1,0 +1,232 @@
+//! The core of a connection's writer: what it is told.
+
+ghost use Rattle.std.specs.Prelude.{◌≡◌, ◌<◌, [], false, true, OnOk, OnErr, IfErr, nat_eq, map};
+ghost use Rattle.std.specs.VecDeque.{deque_len, deque_capacity};
+ghost use Rattle.std.specs.Prelude.{vec_len, vec_capacity};
+ghost use Rattle.outwriter.specs.Mirrors.{Reached, GoesOn, Takes, Leads, Stays, Blames, HasRoom, IsMemory, is_held};
+ghost use Rattle.std.specs.Map.{lookup};
+ghost use Rattle.flow.specs.Windows.{room};
+ghost use Rattle.outwriter.specs.Steps.{Taken, Granted};
+ghost use Rattle.outwriter.specs.declared.control.Control.TheVariants as order;
+
+use crate::control::{Control, OutFault};
+use crate::outbound::{Outbound, is_stream};
+use crate::stream::OpenStream;
+use callbox::{OutItem, Sender, Sequence};
+use h2frame::{ErrorCode, StreamId};
+use hpack_codec::Field;
+use indexmap::IndexMap;
+use lane::Lane;
+use std::alloc::{AllocError, Global};
+use std::collections::VecDeque;
+
+/// What a connection's writer keeps between frames.
+#[derive(Drop)]
+pub struct OutCore<L: Lane<Item = OutItem>> {
+    /// After want of memory in `next_frame`.
+    pub(crate) is_dead: bool,
+    /// Whether Close was taken.
+    pub(crate) closed: bool,
+    pub(crate) outbound: Outbound,
+    /// The senders of all calls, in the order of their Opens.
+    pub(crate) senders: Vec<(StreamId, Sender<L>)>,
+    pub(crate) open: IndexMap<StreamId, OpenStream>,
+    /// Streams that were refused or reset, and were no call's by then: whether they were reset.
+    pub(crate) others: IndexMap<StreamId, bool>,
+    /// The open streams that had something when they were looked at last, and take turns.
+    pub(crate) ready: VecDeque<StreamId>,
+    /// Which open stream is looked at next out of turn.
+    pub(crate) cursor: usize,
+}
+
+impl<L: Lane<Item = OutItem>> OutCore<L> {
+    /// The core of a connection on which nothing was written. It takes no memory yet.
+    pub fn new(alloc: Global) -> OutCore<L>
+        ensures reached { Reached [] result.outbound }
+        ensures alive { result.is_dead ≡ false }
+        ensures open { result.closed ≡ false }
+        ensures senders { result.senders.items ≡ [] }
+    {
+        OutCore {
+            is_dead: false,
+            closed: false,
+            outbound: Outbound::new(alloc),
+            senders: Vec::new(alloc),
+            open: IndexMap::new(alloc),
+            others: IndexMap::new(alloc),
+            ready: VecDeque::new(alloc),
+            cursor: 0,
+        }
+    }
+
+    /// Takes a control. Want of memory hands it back and changes nothing; a window that would be over 2^31 - 1 bytes
+    /// is a fault of the peer, of which no window changes, and the control counts as taken.
+    pub fn control(&mut self, control: Control<Sender<L>>) -> Result<(), OutFault<Sender<L>>>
+        // The control is the next step of the run, unless it is handed back.
+        ensures taken { Takes result control self.old.outbound self.new.outbound }
+
+        // A fault of the peer is answered exactly where it stands.
+        ensures fault { IfErr result (λ fault. Blames fault control self.old.outbound.windows) }
+        ensures room { OnOk result (HasRoom control self.old.outbound.windows) }
+        ensures alive { self.new.is_dead ≡ self.old.is_dead }
+    {
+        let Ok(()) = self.outbound.make_room() else {
+            return Err(OutFault::OutOfMemory(Some(control)));
+        };
+        match control {
+            Control::Settings(settings) => {
+                match self.outbound.take_settings(&settings) {
+                    Ok(()) => Ok(()),
+                    Err(_fault) => Err(OutFault::PeerWindow(0)),
+                }
+            }
+            Control::Ping(bytes) => {
+                self.outbound.take_ping(bytes);
+                Ok(())
+            }
+            Control::Window(id, increment) => {
+                if self.outbound.take_window(id, increment) {
+                    Ok(())
+                } else {
+                    Err(OutFault::PeerWindow(id))
+                }
+            }
+            Control::Open(id, sender) => self.begin(id, sender),
+            Control::Refuse(id, fields) => self.refuse(id, fields),
+            Control::Reset { id, code, written } => self.reset(id, code, written),
+            Control::Goaway { last, code } => {
+                self.outbound.take_goaway(last, code);
+                Ok(())
+            }
+            Control::InputEnded => Ok(()),
+            Control::Close => {
+                self.closed = true;
+                Ok(())
+            }
+        }
+    }
+
+    /// Owes n bytes more of credit, which a WINDOW_UPDATE will tell: on a stream, or on the connection where it is 0. At
+    /// most 2^31 - 1 are owed at once. Nothing changes for a stream of no call, and for one that was reset.
+    pub fn grant(&mut self, id: StreamId, n: u32)
+        ensures granted { GoesOn (Granted id n) self.old.outbound self.new.outbound }
+        ensures rest { self.new ≡ record self.old { outbound = self.new.outbound } }
+    {
+        self.outbound.grant(id, n);
+    }
+
+    /// Whether an item of the stream is in hand that a window keeps back.
+    pub fn held(&self, id: StreamId) -> bool
+        ensures { result ≡ is_held (lookup (nat_eq id) self.now.open.entries) (room self.now.outbound.windows id) }
+    {
+        match self.open.get(&id) {
+            Some(stream) => stream.in_hand.is_some() && self.outbound.windows.room(id) == 0,
+            None => false,
+        }
+    }
+
+    /// The senders of all calls, in the order of their Opens.
+    pub fn into_senders(self) -> Vec<(StreamId, Sender<L>)>
+        ensures { result ≡ self.senders }
+    {
+        let OutCore { senders, .. } = self;
+        senders
+    }
+
+    /// Begins a call, if there is memory for it.
+    fn begin(&mut self, id: StreamId, sender: Sender<L>) -> Result<(), OutFault<Sender<L>>>
+        ensures taken { Takes result (order.Open id sender) self.old.outbound self.new.outbound }
+        ensures memory { IfErr result IsMemory }
+        ensures alive { self.new.is_dead ≡ self.old.is_dead }
+    {
+        match self.prepare(id) {
+            Ok(()) => {
+                self.senders.push_reserved((id, sender));
+                Ok(())
+            }
+            Err(_e) => Err(OutFault::OutOfMemory(Some(Control::Open(id, sender)))),
+        }
+    }
+
+    /// All that a call needs but its sender. A stream that was refused, reset or opened before isn't opened.
+    fn prepare(&mut self, id: StreamId) -> Result<(), AllocError>
+        ensures taken { OnOk result (Leads (Taken (order.Open id tt)) self.old.outbound self.new.outbound) }
+        ensures room { OnOk result (vec_len self.new.senders < vec_capacity self.new.senders) }
+        ensures stays { OnErr result (Stays self.old.outbound self.new.outbound) }
+        ensures alive { self.new.is_dead ≡ self.old.is_dead }
+    {
+        self.senders.reserve(1)?;
+        self.ready.reserve(self.open.len().saturating_add(1))?;
+        self.open.reserve(1)?;
+        let is_new = is_stream(id) && !self.outbound.credit.has(id);
+        let other = self.others.get(&id).copied();
+        self.outbound.take_open(id, is_new, other == Some(true))?;
+        if is_new && other.is_none() {
+            let stream = OpenStream {
+                place: self.senders.len(),
+                in_hand: None,
+                in_turn: false,
+            };
+            let _ = self.open.insert(id, stream);
+        }
+        Ok(())
+    }
+
+    /// Refuses a stream of which nothing was or will be written.
+    fn refuse(&mut self, id: StreamId, fields: Sequence<Field>) -> Result<(), OutFault<Sender<L>>>
+        requires room { deque_len self.old.outbound.due < deque_capacity self.old.outbound.due }
+        ensures taken { Takes result (order.Refuse id fields) self.old.outbound self.new.outbound }
+        ensures memory { IfErr result IsMemory }
+        ensures alive { self.new.is_dead ≡ self.old.is_dead }
+    {
+        if !is_stream(id) || self.outbound.credit.has(id) || self.others.contains_key(&id) {
+            return Ok(());
+        }
+        if self.others.insert(id, false).is_err() {
+            return Err(OutFault::OutOfMemory(Some(Control::Refuse(id, fields))));
+        }
+        self.outbound.take_refuse(id, fields);
+        Ok(())
+    }
+
+    /// Resets a stream. Nothing is written of one that has ended or was reset.
+    fn reset(
+        &mut self,
+        id: StreamId,
+        code: ErrorCode,
+        written: bool,
+    ) -> Result<(), OutFault<Sender<L>>>
+        requires room { deque_len self.old.outbound.due < deque_capacity self.old.outbound.due }
+        ensures taken { Takes result (order.Reset id code written) self.old.outbound self.new.outbound }
+        ensures memory { IfErr result IsMemory }
+        ensures alive { self.new.is_dead ≡ self.old.is_dead }
+    {
+        match self.ends(id) {
+            Ok(was_open) => {
+                self.outbound
+                    .take_reset(id, code, written, written && was_open);
+                Ok(())
+            }
+            Err(_e) => Err(OutFault::OutOfMemory(Some(Control::Reset { id, code, written }))),
+        }
+    }
+
+    /// Ends a stream by a reset, and answers whether it had neither ended nor been reset.
+    fn ends(&mut self, id: StreamId) -> Result<bool, AllocError>
+        ensures stays { Stays self.old.outbound self.new.outbound }
+        ensures due { self.new.outbound.due ≡ self.old.outbound.due }
+        ensures alive { self.new.is_dead ≡ self.old.is_dead }
+    {
+        if !is_stream(id) {
+            return Ok(false);
+        }
+        if self.outbound.credit.has(id) {
+            self.outbound.forget(id);
+            return Ok(self.open.swap_remove(&id).is_some());
+        }
+        match self.others.insert(id, true) {
+            Ok(before) => Ok(before.is_none()),
+            Err(_refused) => Err(AllocError),
+        }
+    }
+}

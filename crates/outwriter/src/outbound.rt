@@ -1,0 +1,236 @@
+//! The server's side of a connection, as far as it was written: all that says which frames may come next.
+
+ghost use Rattle.std.specs.Prelude.{Err, ◌≢◌, ◌≡◌, ◌≤◌, ◌<◌, ◌&&◌, true, false, nat_lt, nat_le, ℕ, All, List, [], None, OnOk, OnErr, IfErr, length};
+ghost use Rattle.flow.specs.WindowHistory.{Follows};
+ghost use Rattle.flow.specs.WindowHistory.{Step as WindowStep};
+ghost use Rattle.flow.specs.Windows.{balance, CreditFault};
+ghost use Rattle.outwriter.specs.Credits.{knows, owed_on};
+ghost use Rattle.outwriter.specs.Mirrors.{HasOver, HasSilence};
+ghost use Rattle.flow.specs.declared.send_windows.WindowFault.TheVariants as window_fault;
+
+use crate::blocks::HeaderBlock;
+use crate::credit::Credit;
+use crate::due::Due;
+use crate::resize::resize;
+use crate::settings::{PeerSetting, PeerSettings};
+use callbox::Sequence;
+use flow::{MAX_WINDOW, SendWindows, WindowFault};
+use h2frame::{ErrorCode, StreamId};
+use hpack_codec::{Encoder, Field};
+use indexmap::IndexMap;
+use std::alloc::{AllocError, Global};
+use std::collections::VecDeque;
+
+/// What follows from the controls that were taken and the frames that were written.
+#[derive(Drop)]
+pub(crate) struct Outbound {
+    pub(crate) alloc: Global,
+    /// Whether SETTINGS were written.
+    pub(crate) begun: bool,
+    /// Whether a GOAWAY with an error was written.
+    pub(crate) gone: bool,
+    pub(crate) windows: SendWindows,
+    pub(crate) encoder: Encoder,
+    /// The header block that was begun and isn't whole.
+    pub(crate) block: Option<HeaderBlock>,
+    /// The streams on which END_STREAM or RST_STREAM was written, and whether it was RST_STREAM.
+    pub(crate) over: IndexMap<StreamId, bool>,
+    pub(crate) due: VecDeque<Due>,
+    pub(crate) credit: Credit,
+}
+
+impl Outbound {
+    ghost use Rattle.std.specs.VecDeque.{deque_len, deque_capacity};
+    ghost use Rattle.outwriter.specs.Steps.{Step, Taken, Granted};
+    ghost use Rattle.outwriter.specs.Histories.{opens, CanResize, window_sizes};
+    ghost use Rattle.outwriter.specs.Mirrors.{MirrorsOf, Leads, Stays};
+    ghost use Rattle.outwriter.specs.declared.control.Control.TheVariants as order;
+
+    /// A connection on which nothing was written. It takes no memory yet.
+    pub(crate) fn new(alloc: Global) -> Outbound
+        ensures { MirrorsOf [] result }
+    {
+        Outbound {
+            alloc,
+            begun: false,
+            gone: false,
+            windows: SendWindows::new(alloc),
+            encoder: Encoder::new(alloc),
+            block: None,
+            over: IndexMap::new(alloc),
+            due: VecDeque::new(alloc),
+            credit: Credit::new(alloc),
+        }
+    }
+
+    /// Makes room for one more that is due.
+    pub(crate) fn make_room(&mut self) -> Result<(), AllocError>
+        ensures stays { Stays self.old self.new }
+        ensures room { OnOk result (deque_len self.new.due < deque_capacity self.new.due) }
+        ensures credit { self.new.credit ≡ self.old.credit }
+        ensures windows { self.new.windows ≡ self.old.windows }
+    {
+        self.due.reserve(1)
+    }
+
+    /// Applies SETTINGS, the limits of the table and the initial windows, and owes their acknowledgement. Where one of the
+    /// windows would be over 2^31 - 1, none changes.
+    pub(crate) fn take_settings(&mut self, settings: &PeerSettings) -> Result<(), WindowFault>
+        requires room { deque_len self.old.due < deque_capacity self.old.due }
+        ensures taken { Leads (Taken (order.Settings settings.now)) self.old self.new }
+        ensures fits { OnOk result ((history : List WindowStep) → Follows history self.old.windows → All (CanResize history) (window_sizes settings.now)) }
+        ensures over { OnErr result ((history : List WindowStep) → Follows history self.old.windows → ¬ All (CanResize history) (window_sizes settings.now)) }
+    {
+        self.due.push_back_reserved(Due::SettingsAck);
+        limit_table(&mut self.encoder, settings.as_slice());
+        resize(&mut self.windows, settings.as_slice())
+    }
+
+    /// Owes the answer to a PING.
+    pub(crate) fn take_ping(&mut self, bytes: [u8; 8])
+        requires room { deque_len self.old.due < deque_capacity self.old.due }
+        ensures taken { Leads (Taken (order.Ping bytes)) self.old self.new }
+    {
+        self.due.push_back_reserved(Due::PingAck(bytes));
+    }
+
+    /// Takes the peer's credit, and answers whether the window has room for it. A stream that isn't open is none to credit.
+    pub(crate) fn take_window(&mut self, id: StreamId, increment: u32) -> bool
+        ensures taken { Leads (Taken (order.Window id increment)) self.old self.new }
+        ensures fits { result ≡ true → ¬ CreditFault self.old.windows id increment window_fault.Overflow }
+        ensures over { result ≡ false → CreditFault self.old.windows id increment window_fault.Overflow }
+    {
+        let credited = self.windows.credit(id, increment);
+        !is_overflow(credited)
+    }
+
+    /// Opens the window of a call's stream, unless it is open or over, and its credit, if the stream is new. Want of memory
+    /// changes nothing.
+    pub(crate) fn take_open(
+        &mut self,
+        id: StreamId,
+        is_new: bool,
+        was_reset: bool,
+    ) -> Result<(), AllocError>
+        requires new_stream { is_new ≡ true → 0 < id }
+        requires unknown { is_new ≡ true → knows self.old.credit id ≡ false }
+        ensures taken { OnOk result (Leads (Taken (order.Open id tt)) self.old self.new) }
+        ensures stays { OnErr result (Stays self.old self.new) }
+    {
+        if !self.opens(id) {
+            return open_credit(&mut self.credit, &self.over, id, is_new, was_reset);
+        }
+        let Ok(()) = self.windows.open(id) else {
+            return Err(AllocError);
+        };
+        match open_credit(&mut self.credit, &self.over, id, is_new, was_reset) {
+            Ok(()) => Ok(()),
+            Err(e) => {
+                self.windows.close(id);
+                Err(e)
+            }
+        }
+    }
+
+    /// Whether an Open opens a stream's window.
+    fn opens(&self, id: StreamId) -> bool
+        ensures value { (run : List Step) (history : List WindowStep) → HasOver run self.now.over.entries → Follows history self.now.windows → result ≡ opens run history id }
+        ensures stream { result ≡ true → 0 < id }
+        ensures closed { result ≡ true → balance self.now.windows id ≡ None }
+    {
+        is_stream(id) && !self.over.contains_key(&id) && !self.windows.has(id)
+    }
+
+    /// Owes the one header block of a stream.
+    pub(crate) fn take_refuse(&mut self, id: StreamId, fields: Sequence<Field>)
+        requires room { deque_len self.old.due < deque_capacity self.old.due }
+        ensures taken { Leads (Taken (order.Refuse id fields)) self.old self.new }
+    {
+        self.due.push_back_reserved(Due::Refuse(id, fields));
+    }
+
+    /// Owes RST_STREAM, where it is due.
+    pub(crate) fn take_reset(&mut self, id: StreamId, code: ErrorCode, written: bool, is_due: bool)
+        requires room { deque_len self.old.due < deque_capacity self.old.due }
+        ensures taken { Leads (Taken (order.Reset id code written)) self.old self.new }
+    {
+        if is_due {
+            self.due.push_back_reserved(Due::Reset(id, code));
+        }
+    }
+
+    /// Owes no more credit on a stream.
+    pub(crate) fn forget(&mut self, id: StreamId)
+        requires { 0 < id }
+        ensures stays { Stays self.old self.new }
+        ensures rest { self.new ≡ record self.old { credit = self.new.credit } }
+    {
+        self.credit.forget(id);
+    }
+
+    /// Owes n bytes more of credit.
+    pub(crate) fn grant(&mut self, id: StreamId, n: u32)
+        ensures { Leads (Granted id n) self.old self.new }
+    {
+        self.credit.grant(id, n);
+    }
+
+    /// Owes GOAWAY.
+    pub(crate) fn take_goaway(&mut self, last: StreamId, code: ErrorCode)
+        requires room { deque_len self.old.due < deque_capacity self.old.due }
+        ensures taken { Leads (Taken (order.Goaway last code)) self.old self.new }
+    {
+        self.due.push_back_reserved(Due::Goaway(last, code));
+    }
+}
+
+/// Whether a window would be over 2^31 - 1 bytes.
+fn is_overflow(credited: Result<(), WindowFault>) -> bool
+    ensures over { result ≡ true → credited ≡ Err window_fault.Overflow }
+    ensures fits { result ≡ false → credited ≢ Err window_fault.Overflow }
+{
+    match credited {
+        Ok(()) => false,
+        Err(WindowFault::Overflow) => true,
+        Err(WindowFault::NoRoom) => false,
+        Err(WindowFault::Unknown) => false,
+        Err(WindowFault::OutOfMemory) => false,
+    }
+}
+
+/// Whether it is the number of a stream (RFC 9113, section 5.1.1).
+pub(crate) fn is_stream(id: StreamId) -> bool
+    ensures { result ≡ (nat_lt 0 id && nat_le id MAX_WINDOW) }
+{
+    0 < id && id <= MAX_WINDOW
+}
+
+/// The credit of a call's stream, if the stream is new. None is owed on one that was reset.
+fn open_credit(
+    credit: &mut Credit,
+    over: &IndexMap<StreamId, bool>,
+    id: StreamId,
+    is_new: bool,
+    was_reset: bool,
+) -> Result<(), AllocError>
+    requires new_stream { is_new ≡ true → 0 < id }
+    requires unknown { is_new ≡ true → knows credit.old id ≡ false }
+    ensures owed { OnOk result ((other : ℕ) → owed_on credit.new other ≡ owed_on credit.old other) }
+    ensures silent { OnOk result (HasSilence over.now.entries credit.old → HasSilence over.now.entries credit.new) }
+    ensures unchanged { OnErr result (credit.new ≡ credit.old) }
+{
+    if !is_new {
+        return Ok(());
+    }
+    let is_silent = was_reset || over.get(&id).copied() == Some(true);
+    credit.open(id, is_silent)
+}
+
+/// The limits that SETTINGS have for the encoder's table.
+fn limit_table(encoder: &mut Encoder, settings: &[PeerSetting]) {
+    for setting in settings {
+        if let PeerSetting::TableSize(limit) = *setting {
+            encoder.limit(limit);
+        }
+    }
+}

@@ -1,0 +1,41 @@
+//! The initial windows of SETTINGS (RFC 9113, section 6.9.2).
+
+ghost use Rattle.std.specs.Prelude.{◌≡◌, ◌++◌, List, reverse, map, All, OnOk, OnErr};
+ghost use Rattle.flow.specs.WindowHistory.{Step, Resizing, Follows};
+ghost use Rattle.outwriter.specs.Histories.{window_sizes, CanResize};
+ghost use Rattle.outwriter.specs.Resizes.{IsSeen};
+
+use crate::settings::PeerSetting;
+use flow::{SendWindows, WindowFault};
+
+/// Sets the initial windows of SETTINGS, of which the last one counts. All of them have to fit, so the greatest is tried
+/// first.
+pub(crate) fn resize(windows: &mut SendWindows, settings: &[PeerSetting]) -> Result<(), WindowFault>
+    ensures ok { OnOk result ((history : List Step) → Follows history windows.old → All (CanResize history) (window_sizes settings.now)
+        × Follows (reverse (map Resizing (window_sizes settings.now)) ++ history) windows.new) }
+    ensures overflow { OnErr result ((history : List Step) → Follows history windows.old → ¬ All (CanResize history) (window_sizes settings.now)) }
+    ensures unchanged { OnErr result (windows.new ≡ windows.old) }
+{
+    let (greatest, last) = sizes(settings);
+    let Some(size) = last else {
+        return Ok(());
+    };
+    windows.initial(greatest)?;
+    windows.initial(size)?;
+    Ok(())
+}
+
+/// The greatest initial window of SETTINGS, and the last.
+fn sizes(settings: &[PeerSetting]) -> (u32, Option<u32>)
+    ensures { IsSeen (window_sizes settings.now) result.0 result.1 }
+{
+    let mut greatest = 0;
+    let mut last = None;
+    for setting in settings {
+        if let PeerSetting::WindowSize(size) = *setting {
+            greatest = size.max(greatest);
+            last = Some(size);
+        }
+    }
+    (greatest, last)
+}

@@ -1,0 +1,69 @@
+//! An open stream, and what its call's sender has for it.
+
+ghost use Rattle.std.specs.Prelude.{◌≡◌, [], ◌∷◌, ◌++◌, IfOk, OnErr};
+ghost use Rattle.hpack_codec.specs.Codec.{Writes};
+ghost use Rattle.outwriter.specs.Polls.{Polls};
+ghost use Rattle.callbox.specs.declared.account.OutItem.{OutItem};
+
+use bytes::Bytes;
+use callbox::{OutItem, Sender};
+use hpack_codec::{Encoder, Field};
+use lane::Lane;
+use std::alloc::AllocError;
+
+/// A stream whose items are written.
+#[derive(Drop)]
+pub(crate) struct OpenStream {
+    /// Where its sender stands among those of all calls.
+    pub(crate) place: usize,
+    /// What is left of the message that was begun.
+    pub(crate) in_hand: Option<Bytes>,
+    /// Whether it is in the queue of those that take turns.
+    pub(crate) in_turn: bool,
+}
+
+/// What is next on a stream.
+#[derive(Drop)]
+pub(crate) enum Polled {
+    Nothing,
+    /// The bytes of a message, or what is left of them.
+    Message(Bytes),
+    /// A header block, and whether it ends the stream.
+    Block { bytes: Bytes, ends: bool },
+}
+
+/// The next item of a sender. The bytes of a message are shared, and fields are encoded.
+pub(crate) fn poll<L: Lane<Item = OutItem>>(
+    sender: &mut Sender<L>,
+    encoder: &mut Encoder,
+) -> Result<Polled, AllocError>
+    ensures name { L.out_name sender.new.rx ≡ L.out_name sender.old.rx }
+    ensures id { sender.new.id ≡ sender.old.id }
+    ensures ok { IfOk result (Polls (L.got sender.old.rx) (L.got sender.new.rx) (L.ahead sender.new.rx) encoder.old encoder.new) }
+    // Even without memory an item was got.
+    ensures memory { OnErr result ((item : OutItem) × (L.got sender.new.rx ≡ L.got sender.old.rx ++ item ∷ [])) }
+{
+    match sender.next() {
+        None => Ok(Polled::Nothing),
+        Some(OutItem::Message(bytes)) => Ok(Polled::Message(bytes.clone()?)),
+        Some(OutItem::Head(fields)) => {
+            let bytes = encoded(encoder, fields.as_slice())?;
+            Ok(Polled::Block { bytes, ends: false })
+        }
+        Some(OutItem::Trailers(fields)) => {
+            let bytes = encoded(encoder, fields.as_slice())?;
+            Ok(Polled::Block { bytes, ends: true })
+        }
+    }
+}
+
+/// A header block of these fields. One with a name or a value of more than 4,294,967,295 bytes can't be written, and counts
+/// as one that there is no memory for.
+pub(crate) fn encoded(encoder: &mut Encoder, fields: &[Field]) -> Result<Bytes, AllocError>
+    ensures { IfOk result (λ bytes. Writes encoder.old fields.now bytes encoder.new) }
+{
+    match encoder.block(fields) {
+        Ok(block) => Ok(Bytes::from_vec(block)?),
+        Err(_fault) => Err(AllocError),
+    }
+}

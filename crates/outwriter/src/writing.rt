@@ -1,0 +1,287 @@
+//! The frames of a connection, each with what it changes.
+
+ghost use Rattle.std.specs.Prelude.{◌≡◌, ℕ, List, [], ◌∷◌, ◌++◌, ◌≤◌, ◌<◌, ◌==◌, nat_eq, true, false, Some, None, IfOk, IfSome, IfNone, OnOk, MatchOption, length, if◌then◌else◌};
+ghost use Rattle.std.specs.Map.{lookup};
+ghost use Rattle.flow.specs.Windows.{room};
+ghost use Rattle.flow.specs.WindowHistory.{Follows, Closing, room_after};
+ghost use Rattle.flow.specs.WindowHistory.{Step as WindowStep};
+ghost use Rattle.outwriter.specs.Mirrors.{Sets, Ends, closing, spent};
+
+use crate::blocks::HeaderBlock;
+use crate::due::Due;
+use crate::frames::{
+    make_data, make_first_settings, make_goaway, make_ping_ack, make_reset, make_settings_ack,
+    make_update,
+};
+use crate::outbound::{Outbound, is_stream};
+use crate::stream::encoded;
+use bytes::Bytes;
+use callbox::Sequence;
+use flow::SendWindows;
+use h2frame::{ErrorCode, Frame, MAX_PAYLOAD, StreamId};
+use hpack_codec::Field;
+use indexmap::IndexMap;
+use std::alloc::AllocError;
+
+impl Outbound {
+    ghost use Rattle.outwriter.specs.declared.due.Due.TheVariants as due_kind;
+    ghost use Rattle.outwriter.specs.Credits.{owed_on};
+    ghost use Rattle.outwriter.specs.Frames.{IsSound};
+    ghost use Rattle.outwriter.specs.Steps.{Step};
+    ghost use Rattle.outwriter.specs.Mirrors.{Progress, Stays, IsBetween, Writes, WritesIf, WritesDue, WritesOrSkips, Heads, MirrorsOf};
+
+    /// SETTINGS, which are first.
+    pub(crate) fn first_frame(&mut self) -> Frame
+        requires begun { self.old.begun ≡ false }
+        requires going { self.old.gone ≡ false }
+        ensures sound { IsSound result }
+        ensures written { Writes result self.old self.new }
+    {
+        self.begun = true;
+        make_first_settings()
+    }
+
+    /// What comes before anything of the open calls: the rest of a header block, what is due, and credit.
+    pub(crate) fn own_frame(&mut self) -> Result<Option<Frame>, AllocError>
+        requires begun { self.old.begun ≡ true }
+        requires going { self.old.gone ≡ false }
+        ensures sound { IfOk result (λ o. IfSome o IsSound) }
+        ensures frame { IfOk result (λ o. Progress o self.old self.new) }
+        ensures none { IfOk result (λ o. IfNone o ((self.old.block ≡ None) × (self.new.due.items ≡ []) × ((id : ℕ) → owed_on self.new.credit id ≡ 0))) }
+    {
+        if let Some(frame) = self.block_frame()? {
+            return Ok(Some(frame));
+        }
+        if let Some(frame) = self.due_frame()? {
+            return Ok(Some(frame));
+        }
+        self.credit_frame()
+    }
+
+    /// The next frame of the header block that was begun, if one was.
+    pub(crate) fn block_frame(&mut self) -> Result<Option<Frame>, AllocError>
+        requires begun { self.old.begun ≡ true }
+        requires going { self.old.gone ≡ false }
+        ensures sound { IfOk result (λ o. IfSome o IsSound) }
+        ensures frame { IfOk result (λ o. WritesIf o self.old self.new) }
+        ensures none { IfOk result (λ o. IfNone o (self.old.block ≡ None)) }
+    {
+        let Some(block) = self.block.take() else {
+            return Ok(None);
+        };
+        let (frame, rest) = block.cut()?;
+        self.block = rest;
+        Ok(Some(frame))
+    }
+
+    /// The next frame that is due, if one is. A stream that is over isn't refused or reset any more.
+    pub(crate) fn due_frame(&mut self) -> Result<Option<Frame>, AllocError>
+        requires { IsBetween self.old }
+        ensures sound { IfOk result (λ o. IfSome o IsSound) }
+        ensures frame { IfOk result (λ o. IfSome o (λ frame. Writes frame self.old self.new)) }
+        ensures none { IfOk result (λ o. IfNone o (self.new.due.items ≡ [])) }
+        ensures still { IfOk result (λ o. IfNone o ((run : List Step) → MirrorsOf run self.old → MirrorsOf run self.new)) }
+        ensures between { IfOk result (λ o. IfNone o (IsBetween self.new)) }
+    {
+        while let Some(due) = self.due.pop_front() {
+            if let Some(frame) = self.frame_of_due(due)? {
+                return Ok(Some(frame));
+            }
+        }
+        Ok(None)
+    }
+
+    /// The frame that is due, but for a stream that is over.
+    fn frame_of_due(&mut self, due: Due) -> Result<Option<Frame>, AllocError>
+        requires { IsBetween self.old }
+        ensures sound { IfOk result (λ o. IfSome o IsSound) }
+        ensures written { IfOk result (λ o. WritesOrSkips due o self.old self.new) }
+    {
+        match due {
+            Due::SettingsAck => Ok(Some(self.settings_ack())),
+            Due::PingAck(bytes) => Ok(Some(self.ping_ack(bytes)?)),
+            Due::Goaway(last, code) => Ok(Some(self.goaway_frame(last, code)?)),
+            Due::Reset(id, code) => {
+                if !self.may_end(id) {
+                    return Ok(None);
+                }
+                Ok(Some(self.reset_frame(id, code)?))
+            }
+            Due::Refuse(id, fields) => {
+                if !self.may_end(id) {
+                    return Ok(None);
+                }
+                Ok(Some(self.refusal(id, fields)?))
+            }
+        }
+    }
+
+    fn settings_ack(&mut self) -> Frame
+        requires { IsBetween self.old }
+        ensures sound { IsSound result }
+        ensures written { WritesDue due_kind.SettingsAck result self.old self.new }
+    {
+        make_settings_ack()
+    }
+
+    fn ping_ack(&mut self, bytes: [u8; 8]) -> Result<Frame, AllocError>
+        requires { IsBetween self.old }
+        ensures sound { IfOk result IsSound }
+        ensures written { IfOk result (λ frame. WritesDue (due_kind.PingAck bytes) frame self.old self.new) }
+    {
+        make_ping_ack(self.alloc, bytes)
+    }
+
+    fn goaway_frame(&mut self, last: StreamId, code: ErrorCode) -> Result<Frame, AllocError>
+        requires { IsBetween self.old }
+        ensures sound { IfOk result IsSound }
+        ensures written { IfOk result (λ frame. WritesDue (due_kind.Goaway last code) frame self.old self.new) }
+    {
+        let frame = make_goaway(self.alloc, last, code)?;
+        self.gone = code.code() != 0;
+        Ok(frame)
+    }
+
+    /// Whether it is a stream that isn't over.
+    pub(crate) fn may_end(&self, id: StreamId) -> bool
+        ensures stream { result ≡ true → 0 < id }
+        ensures open { result ≡ true → lookup (nat_eq id) self.now.over.entries ≡ None }
+    {
+        is_stream(id) && !self.over.contains_key(&id)
+    }
+
+    fn reset_frame(&mut self, id: StreamId, code: ErrorCode) -> Result<Frame, AllocError>
+        requires between { IsBetween self.old }
+        requires stream { 0 < id }
+        requires open { lookup (nat_eq id) self.old.over.entries ≡ None }
+        ensures sound { IfOk result IsSound }
+        ensures written { IfOk result (λ frame. WritesDue (due_kind.Reset id code) frame self.old self.new) }
+    {
+        let frame = make_reset(self.alloc, id, code)?;
+        self.credit.forget(id);
+        close(&mut self.windows, &mut self.over, id, true)?;
+        Ok(frame)
+    }
+
+    /// The one header block of a stream.
+    fn refusal(&mut self, id: StreamId, fields: Sequence<Field>) -> Result<Frame, AllocError>
+        requires between { IsBetween self.old }
+        requires stream { 0 < id }
+        requires open { lookup (nat_eq id) self.old.over.entries ≡ None }
+        ensures sound { IfOk result IsSound }
+        ensures written { IfOk result (λ frame. WritesDue (due_kind.Refuse id fields) frame self.old self.new) }
+    {
+        let bytes = encoded(&mut self.encoder, fields.as_slice())?;
+        self.headers_frame(id, true, bytes)
+    }
+
+    /// The credit that is owed on the connection or on a stream, if any is.
+    pub(crate) fn credit_frame(&mut self) -> Result<Option<Frame>, AllocError>
+        requires between { IsBetween self.old }
+        ensures sound { IfOk result (λ o. IfSome o IsSound) }
+        ensures frame { IfOk result (λ o. IfSome o (λ frame. Writes frame self.old self.new)) }
+        ensures none { IfOk result (λ o. IfNone o ((id : ℕ) → owed_on self.new.credit id ≡ 0)) }
+        ensures still { IfOk result (λ o. IfNone o (Stays self.old self.new × IsBetween self.new)) }
+        ensures due { self.new.due ≡ self.old.due }
+    {
+        let Some((id, n)) = self.credit.next() else {
+            return Ok(None);
+        };
+        Ok(Some(make_update(self.alloc, id, n)?))
+    }
+
+    /// The first frame of a header block.
+    pub(crate) fn headers_frame(
+        &mut self,
+        id: StreamId,
+        ends: bool,
+        bytes: Bytes,
+    ) -> Result<Frame, AllocError>
+        requires between { IsBetween self.old }
+        requires stream { 0 < id }
+        requires open { lookup (nat_eq id) self.old.over.entries ≡ None }
+        ensures sound { IfOk result IsSound }
+        ensures written { IfOk result (λ frame. Heads frame self.old self.new) }
+    {
+        close_if(&mut self.windows, &mut self.over, id, ends)?;
+        let block = HeaderBlock {
+            id,
+            ends,
+            begun: false,
+            rest: bytes,
+        };
+        let (frame, rest) = block.cut()?;
+        self.block = rest;
+        Ok(frame)
+    }
+
+    /// How much of a message of this length may be written on a stream now, as one frame.
+    pub(crate) fn room(&self, id: StreamId, len: usize) -> usize
+        ensures len { result ≤ len }
+        ensures payload { result ≤ 16384 }
+        ensures room { result ≤ room self.now.windows id }
+        ensures follows { 0 < id → (history : List WindowStep) → Follows history self.now.windows → result ≤ room_after history id }
+        ensures some { 0 < len → 0 < room self.now.windows id → 0 < result }
+    {
+        len.min(self.windows.room(id).min(MAX_PAYLOAD) as usize)
+    }
+
+    /// DATA for which there is room. It is taken out of the windows.
+    pub(crate) fn data_frame(&mut self, id: StreamId, piece: Bytes) -> Frame
+        requires between { IsBetween self.old }
+        requires open { lookup (nat_eq id) self.old.over.entries ≡ None }
+        requires payload { length piece ≤ 16384 }
+        requires room { length piece ≤ room self.old.windows id }
+        requires fits { (history : List WindowStep) → Follows history self.old.windows → length piece ≤ room_after history id }
+        ensures sound { IsSound result }
+        ensures written { Writes result self.old self.new }
+    {
+        spend(&mut self.windows, id, piece.len() as u32);
+        make_data(id, piece)
+    }
+}
+
+/// Spends what there is room for.
+fn spend(windows: &mut SendWindows, id: StreamId, len: u32)
+    requires room { len ≤ room windows.old id }
+    ensures { (history : List WindowStep) → Follows history windows.old → Follows (spent id len ++ history) windows.new }
+{
+    if len > 0 {
+        let _ = windows.spend(id, len);
+    }
+}
+
+/// Notes that a stream's END_STREAM or RST_STREAM is written.
+fn close(
+    windows: &mut SendWindows,
+    over: &mut IndexMap<StreamId, bool>,
+    id: StreamId,
+    is_reset: bool,
+) -> Result<(), AllocError>
+    ensures windows { OnOk result ((history : List WindowStep) → Follows history windows.old → Follows (Closing id ∷ history) windows.new) }
+    ensures over { OnOk result (Sets over.old.entries id is_reset over.new.entries) }
+{
+    match over.insert(id, is_reset) {
+        Ok(_) => {
+            windows.close(id);
+            Ok(())
+        }
+        Err(_refused) => Err(AllocError),
+    }
+}
+
+/// The same for END_STREAM, where it is written.
+fn close_if(
+    windows: &mut SendWindows,
+    over: &mut IndexMap<StreamId, bool>,
+    id: StreamId,
+    ends: bool,
+) -> Result<(), AllocError>
+    ensures windows { OnOk result ((history : List WindowStep) → Follows history windows.old → Follows (closing id ends ++ history) windows.new) }
+    ensures over { OnOk result (Ends over.old.entries id ends over.new.entries) }
+{
+    if ends {
+        return close(windows, over, id, false);
+    }
+    Ok(())
+}
