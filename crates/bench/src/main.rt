@@ -8,7 +8,9 @@ mod flow_halves;
 mod h2frame_feed;
 mod hpack_blocks;
 mod lane_bench;
+mod outbound_frames;
 mod protobuf_messages;
+mod session_reading;
 
 use anyhow::{Context, Result, bail};
 use std::env;
@@ -38,6 +40,8 @@ fn main(rt: HostRuntime) -> Result<()> {
             hpack_blocks::small(&rt)?;
             flow_halves::small(&rt)?;
             protobuf_messages::small(&rt)?;
+            session_reading::small(&rt)?;
+            outbound_frames::small(&rt)?;
         }
         Some("flow-halves") => {
             let streams = u16::try_from(number(words, 1)?)?;
@@ -51,6 +55,13 @@ fn main(rt: HostRuntime) -> Result<()> {
         }
         Some("lane-ring") => lane_bench::rings(&rt, small_number(words, 1)?)?,
         Some("lane-ring-awaited") => lane_bench::rings_awaited(&rt, small_number(words, 1)?)?,
+        Some("outwriter-long") => outbound_frames::long(&rt, number(words, 1)?)?,
+        Some("outwriter-small") => outbound_frames::small_replies(&rt, number(words, 1)?)?,
+        Some("session-calls") => {
+            let calls = u16::try_from(number(words, 2)?)?;
+            session_reading::calls(&rt, number(words, 1)?, calls)?;
+        }
+        Some("session-data") => session_reading::data(&rt, number(words, 1)?)?,
         Some("testproto-body") => protobuf_messages::one_body(&rt, number(words, 1)?)?,
         Some("testproto-many") => protobuf_messages::many(&rt, number(words, 1)?)?,
         Some(_) => bail!("there is no such measurement"),
