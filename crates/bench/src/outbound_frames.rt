@@ -116,7 +116,10 @@ fn filled(alloc: Global, streams: u32, replies: usize, len: usize) -> Result<Out
     let mut core = wide_core(alloc)?;
     for index in 0..streams {
         let id = index.wrapping_mul(2).wrapping_add(1);
-        tell(&mut core, Control::Open(id, sender(alloc, id, replies, len)?))?;
+        tell(
+            &mut core,
+            Control::Open(id, sender(alloc, id, replies, len)?),
+        )?;
     }
     Ok(core)
 }
