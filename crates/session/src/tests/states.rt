@@ -359,7 +359,7 @@ static CLOSED: [State; 8] = [
     },
 ];
 
-/// Cuts each frame, and the byte behind it, at each place.
+/// Each frame, and DATA behind it; the whole connection is cut at each place.
 fn check_states(rt: &impl Abort, alloc: Global, states: &[State]) -> Result<(), Fail> {
     for state in states {
         let id = state.id;
@@ -374,14 +374,7 @@ fn check_states(rt: &impl Abort, alloc: Global, states: &[State]) -> Result<(), 
             let mut bytes = before.clone()?;
             bytes.extend_from_slice(&bytes_of(alloc, frames.as_str())?)?;
             let events = format!(in alloc; " Settings[]{begun}{wanted}")?;
-            check_bytes(
-                rt,
-                alloc,
-                &bytes,
-                before.len(),
-                events.as_str(),
-                frames.as_str(),
-            )?;
+            check_bytes(rt, alloc, &bytes, 0, events.as_str(), frames.as_str())?;
         }
     }
     Ok(())
