@@ -1,5 +1,5 @@
 -- The credit that is owed to the peer (RFC 9113, section 6.9).
-use Rattle.std.specs.Prelude.{◌≡◌, ◌≢◌, ℕ, ◌+◌, ◌<◌, ◌≤◌, ◌==◌, min, not, nat_eq, Bool, true, false, List, [], length, get_or, All, Option, None, Some, is_some, if◌then◌else◌}
+use Rattle.std.specs.Prelude.{◌≡◌, ◌≢◌, ℕ, ◌+◌, ◌<◌, ◌≤◌, ◌^◌, ◌==◌, min, not, nat_eq, Bool, true, false, List, [], length, get_or, All, Option, None, Some, is_some, if◌then◌else◌}
 use Rattle.std.specs.Map.{lookup}
 use Rattle.indexmap.specs.IndexMap.{set_value_at}
 use Rattle.flow.specs.declared.TheConstants.{MAX_WINDOW}
@@ -108,6 +108,10 @@ Fits None = Unit {0}
 abbrev pub AllFit : List (ℕ × Option ℕ) → Type 0
 AllFit streams = All (λ stream. Fits stream.1) streams
 
+-- the number of a stream has 31 bits (RFC 9113, section 5.1.1)
+abbrev pub AreNumbered : List (ℕ × Option ℕ) → Type 0
+AreNumbered streams = (id : ℕ) → is_some (lookup (nat_eq id) streams) ≡ true → id < 2 ^ 31
+
 -- what is true of the amounts at any time: at most 2^31 - 1 each, and none on the streams from a place on; the connection isn't
 -- among the streams
 pub record IsWithin (connection : ℕ) (streams : List (ℕ × Option ℕ)) (owing : ℕ) : Type 0 where
@@ -116,3 +120,4 @@ pub record IsWithin (connection : ℕ) (streams : List (ℕ × Option ℕ)) (owi
   pub fit : AllFit streams
   pub settled : IsSettledFrom owing streams
   pub apart : is_some (lookup (nat_eq 0) streams) ≡ false
+  pub numbered : AreNumbered streams

@@ -3,9 +3,16 @@ pub mod Frames
 pub mod Histories
 pub mod Runs
 pub mod Parts
+pub mod Telling
+pub mod Calls
+pub mod HeaderBlocks
 pub mod Blocks
 pub mod Credits
 pub mod Polls
 pub mod Resizes
 pub mod Mirrors
+pub mod Serving
+pub mod Cores
+pub mod Polling
+pub mod Keeping
 pub mod Examples

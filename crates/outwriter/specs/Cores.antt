@@ -1,0 +1,78 @@
+-- What callers see of a writer's core: over any list of its calls, what was told of each call begins what its sender gave.
+use Rattle.std.specs.Prelude.{◌≡◌, ◌⊎◌, ℕ, true, false, List, [], ◌∷◌, map, get_or, Option, None, Some, Result, Ok, Err, nat_eq}
+use Rattle.std.specs.Map.{lookup}
+use Rattle.callbox.specs.declared.account.OutItem.{OutItem}
+use Rattle.callbox.specs.declared.sender.Sender.{Sender}
+use Rattle.flow.specs.Windows.{room}
+use Rattle.outwriter.specs.declared.control.Control.{Control}
+use Rattle.outwriter.specs.declared.control.Control.TheVariants.{Open}
+use Rattle.outwriter.specs.declared.control.OutFault.{OutFault}
+use Rattle.outwriter.specs.declared.control.OutFault.TheVariants.{OutOfMemory, PeerWindow}
+use Rattle.outwriter.specs.declared.next.Next.{Next}
+use Rattle.outwriter.specs.declared.next.Next.TheVariants as next
+use Rattle.outwriter.specs.declared.out_core.OutCore.{OutCore}
+use Rattle.outwriter.specs.declared.outbound.Outbound.{Outbound}
+use Rattle.outwriter.specs.declared.stream.OpenStream.{OpenStream}
+use Rattle.outwriter.specs.Calls.{TellFronts}
+use Rattle.outwriter.specs.Parts.{Mark}
+use Rattle.outwriter.specs.Serving.{Serves}
+use Rattle.outwriter.specs.Steps.{Step, Taken, Written, order_of}
+
+-- nothing is ahead of a sender, or what is in hand has no room
+abbrev pub IsStuck : ℕ → Option (List ℕ) → List OutItem → Type 0
+IsStuck room_now None ahead = ahead ≡ []
+IsStuck room_now (Some bytes) ahead = room_now ≡ 0
+
+-- of each open stream, where this is ahead of the senders
+abbrev pub AreStuck : Outbound → List (ℕ × OpenStream) → List (List OutItem) → Type 0
+AreStuck o streams aheads = (id : ℕ) (stream : OpenStream) → lookup (nat_eq id) streams ≡ Some stream
+    → IsStuck (room o.windows id) stream.in_hand (get_or aheads stream.place [])
+
+module _ {L In Out Shut : Type 0} where
+  -- each call's stream, with the items that its sender gave, in the order of the Opens
+  abbrev pub calls : (Out → List OutItem) → List (ℕ × Sender L In Out Shut) → List (ℕ × List OutItem)
+  calls got senders = map (λ call. (call.0, got call.1.rx)) senders
+
+  -- What was told of each call is a front of what its sender gave; and as long as the core lives, all that it keeps of the calls
+  -- follows from the run.
+  pub record Serving (got : Out → List OutItem) (run : List Step) (core : OutCore L In Out Shut) : Type 0 where
+    pub fronts : TellFronts run (calls got core.senders.items)
+    pub serves : core.is_dead ≡ false
+        → (marks : List (ℕ × Mark)) × Serves run core.outbound core.streams.entries core.others.entries (calls got core.senders.items) marks
+
+  -- whatever run led to the core before, with this step it leads to the core after
+  abbrev pub ServesOn : (Out → List OutItem) → Step → OutCore L In Out Shut → OutCore L In Out Shut → Type 0
+  ServesOn got step old new = (run : List Step) → Serving got run old → Serving got (step ∷ run) new
+
+  abbrev pub ServesStill : (Out → List OutItem) → OutCore L In Out Shut → OutCore L In Out Shut → Type 0
+  ServesStill got old new = (run : List Step) → Serving got run old → Serving got run new
+
+  -- of the sender of an Open nothing was got before
+  abbrev pub IsUnused : (Out → List OutItem) → Control (Sender L In Out Shut) → Type 0
+  IsUnused got (Open id sender) = got sender.rx ≡ []
+  IsUnused got _ = Unit {0}
+
+  -- a control that is taken is the next step; where it is handed back, there is none
+  abbrev pub ServesControl : (Out → List OutItem) → Result (Unit {0}) (OutFault (Sender L In Out Shut)) → Control (Sender L In Out Shut)
+      → OutCore L In Out Shut → OutCore L In Out Shut → Type 0
+  ServesControl got (Ok done) control old new = IsUnused got control → ServesOn got (Taken (order_of control)) old new
+  ServesControl got (Err (PeerWindow id)) control old new = ServesOn got (Taken (order_of control)) old new
+  ServesControl got (Err (OutOfMemory back)) control old new = ServesStill got old new
+
+  -- a frame is the next step
+  abbrev pub ServesNext : (Out → List OutItem) → Result Next (OutFault (Sender L In Out Shut)) → OutCore L In Out Shut → OutCore L In Out Shut → Type 0
+  ServesNext got (Ok (next.Frame frame)) old new = ServesOn got (Written frame) old new
+  ServesNext got (Ok next.Idle) old new = ServesStill got old new
+  ServesNext got (Ok next.Over) old new = ServesStill got old new
+  ServesNext got (Err fault) old new = ServesStill got old new
+
+  -- Where no frame comes, the last was a GOAWAY with an error, or of each open stream nothing can be written: nothing is ahead of its
+  -- sender, or what is in hand has no room.
+  abbrev pub IsQuiet : (Out → List OutItem) → OutCore L In Out Shut → Type 0
+  IsQuiet ahead core = (core.outbound.gone ≡ true)
+      ⊎ AreStuck core.outbound core.streams.entries (map (λ call. ahead call.1.rx) core.senders.items)
+
+  abbrev pub QuietNext : (Out → List OutItem) → Next → OutCore L In Out Shut → Type 0
+  QuietNext ahead (next.Frame frame) core = Unit {0}
+  QuietNext ahead next.Idle core = IsQuiet ahead core
+  QuietNext ahead next.Over core = IsQuiet ahead core

@@ -1,0 +1,9 @@
+-- A header block of which some is to be written.
+use Rattle.std.specs.Prelude.{ℕ, Bool, List}
+
+-- its stream, whether it ends it, whether its HEADERS were written, and the bytes that weren't
+pub record Block : Type 0 where
+  pub id : ℕ
+  pub ends : Bool
+  pub begun : Bool
+  pub rest : List ℕ
