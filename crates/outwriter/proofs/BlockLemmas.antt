@@ -1,5 +1,5 @@
 -- The frames of a header block, from the fragment that was cut off.
-use Rattle.std.proofs.Common.{◌≡◌, ℕ, true, false, sym, ap, ◌∙◌, List, take, drop, length, Some, None, min}
+use Rattle.std.proofs.Common.{◌≡◌, ◌<◌, ◌^◌, ℕ, Bool, subst, refl, true, false, sym, ap, ◌∙◌, List, take, drop, length, Some, None, min}
 use Rattle.std.specs.Prelude.{nat_le, if◌then◌else◌}
 use Rattle.std.proofs.lemmas.List.{take_min, drop_min}
 use Rattle.h2frame.specs.declared.frame.Frame.{Frame}
@@ -35,3 +35,12 @@ module _ (block : HeaderBlock) (len cut : ℕ) (len_is : len ≡ length block.re
   rest_of-left rest long is =
       ap (λ (r : List ℕ). Some (record { id = block.id; ends = block.ends; begun = true; rest = r })) (is ∙ ap (λ n. drop n block.rest) cut_is ∙ drop_min 16384 block.rest)
       ∙ sym (ap (λ b. if b then None else Some (record { id = block.id; ends = block.ends; begun = true; rest = drop 16384 block.rest })) (sym same_whole ∙ long))
+
+-- the next frame is on the block's stream
+pub numbered-frame : (block : HeaderBlock) (frame : Frame) → frame ≡ frame_of block → block.id < 2 ^ 31 → frame.head.stream < 2 ^ 31
+numbered-frame block frame is small = let P : ℕ → Type 0 = λ n. n < 2 ^ 31 in subst P (sym (ap (λ (f : Frame). f.head.stream) is ∙ by block.begun)) small
+  where
+    by : (b : Bool) → (if b then continuation_frame block.id (is_short block) (take 16384 block.rest)
+        else headers_frame block.id block.ends (is_short block) (take 16384 block.rest)).head.stream ≡ block.id
+    by true = refl
+    by false = refl

@@ -1,5 +1,5 @@
 -- What writes, swaps and further entries leave of what is owed.
-use Rattle.std.proofs.Common.{◌≡◌, ◌≢◌, ℕ, zero, suc, ◌+◌, ◌<◌, ◌≤◌, ◌⊎◌, inl, inr, Bool, true, false, cond, sym, ap, subst, ◌∙◌, refl, true≢false, List, [], ◌∷◌, ◌++◌, length, get_or, Option, Some, None, arith, nat_eq, is_some, swap}
+use Rattle.std.proofs.Common.{◌≡◌, ◌≢◌, ℕ, zero, suc, ◌+◌, ◌<◌, ◌≤◌, ◌^◌, ◌⊎◌, inl, inr, Bool, true, false, cond, sym, ap, subst, ◌∙◌, refl, true≢false, List, [], ◌∷◌, ◌++◌, length, get_or, Option, Some, None, arith, nat_eq, is_some, swap}
 use Rattle.std.specs.Map.{lookup, set_value}
 use Rattle.std.proofs.lemmas.Map.{length-set_value}
 use Rattle.std.specs.Prelude.{if◌then◌else◌, ◌==◌, IfSome}
@@ -12,7 +12,7 @@ use Rattle.indexmap.specs.IndexMap.{set_value_at}
 use Rattle.indexmap.proofs.ReorderLemmas.{get_or-swap, exchange}
 use Rattle.flow.proofs.Entries.{lookup-push, lookup-set_other}
 use Rattle.flow.specs.declared.TheConstants.{MAX_WINDOW}
-use Rattle.outwriter.specs.Credits.{SameStreams, knows, pays, AllFit, IsSettled, IsSettledFrom, IsSettledBut, IsWithin, Fits, Puts, TakesAt, TakesLast, TakesAll, number_of, is_paid, owed_on, pays}
+use Rattle.outwriter.specs.Credits.{SameStreams, knows, pays, AllFit, IsSettled, IsSettledFrom, IsSettledBut, IsWithin, AreNumbered, Fits, Puts, TakesAt, TakesLast, TakesAll, number_of, is_paid, owed_on, pays}
 
 abbrev Entry : Type 0
 Entry = ℕ × Option ℕ
@@ -94,6 +94,13 @@ pub not_0 : (es : List Entry) (id : ℕ) (w : Option ℕ) → is_some (lookup (n
 not_0 es zero w apart found = cc
 not_0 es (suc id) w apart found = omega arith
 
+pub numbered-puts : (es : List Entry) (id : ℕ) (w : Option ℕ) (new : List Entry) → Puts es id w new → is_some (lookup (nat_eq id) es) ≡ true → AreNumbered es → AreNumbered new
+numbered-puts es id w new puts there numbered k found = by (nat_eq id k) refl
+  where
+    by : (b : Bool) → nat_eq id k ≡ b → k < 2 ^ 31
+    by true e = let same : id ≡ k = eqb-true id k e in let here : id < 2 ^ 31 = numbered id there in omega (arith, same, here)
+    by false e = numbered k (sym (ap is_some (puts k ∙ ap (λ b. cond b (Some w) (lookup (nat_eq k) es)) e)) ∙ found)
+
 pub unknown : (o : Option (Option ℕ)) → is_some o ≡ false → o ≡ None
 unknown None e = refl
 unknown (Some w) e = cc
@@ -118,17 +125,45 @@ longer [] x n h = omega (arith, h)
 longer (e ∷ es) x zero h = omega arith
 longer (e ∷ es) x (suc n) h = let rest = longer es x n (omega (arith, h)) in omega (arith, rest)
 
-pub within-push : (connection : ℕ) (es : List Entry) (owing id : ℕ) (w : Option ℕ) (new : List Entry) → IsWithin connection es owing → 0 < id
+numbered-push : (es : List Entry) (id : ℕ) (w : Option ℕ) → id < 2 ^ 31 → AreNumbered es → AreNumbered (es ++ (id, w) ∷ [])
+numbered-push es id w small numbered k found = by (nat_eq k id) refl
+  where
+    by : (b : Bool) → nat_eq k id ≡ b → k < 2 ^ 31
+    by true e = let same : k ≡ id = eqb-true k id e in omega (arith, same, small)
+    by false e = numbered k (sym (ap is_some (lookup-push k id w es e)) ∙ found)
+
+pub within-push : (connection : ℕ) (es : List Entry) (owing id : ℕ) (w : Option ℕ) (new : List Entry) → IsWithin connection es owing → 0 < id → id < 2 ^ 31
     → Fits w → IsSettled w → new ≡ es ++ (id, w) ∷ [] → IsWithin connection new owing
-within-push connection es owing id w new old positive fits settled is = subst (λ (l : List Entry). IsWithin connection l owing) (sym is) (record {
+within-push connection es owing id w new old positive small fits settled is = subst (λ (l : List Entry). IsWithin connection l owing) (sym is) (record {
   connection_fits = old.connection_fits;
   place = longer es (id, w) owing old.place;
   fit = All-push (λ (x : Entry). Fits x.1) es (id, w) old.fit fits;
   settled = settled-push es (id, w) owing old.settled settled;
   apart = ap is_some (lookup-push 0 id w es (ne_eqb 0 id (λ e. omega (arith, e, positive)))) ∙ old.apart;
+  numbered = numbered-push es id w small old.numbered;
 })
 
 -- ---- writes
+
+here-set : (es : List Entry) (id : ℕ) (w : Option ℕ) → is_some (lookup (nat_eq id) (set_value (nat_eq id) es w)) ≡ is_some (lookup (nat_eq id) es)
+here-set [] id w = refl
+here-set (e ∷ es) id w = by (here-set es id w) (nat_eq id e.0) refl
+  where
+    by : is_some (lookup (nat_eq id) (set_value (nat_eq id) es w)) ≡ is_some (lookup (nat_eq id) es) → (b : Bool) → nat_eq id e.0 ≡ b
+        → is_some (lookup (nat_eq id) (cond b ((e.0, w) ∷ es) (e ∷ set_value (nat_eq id) es w))) ≡ is_some (cond b (Some e.1) (lookup (nat_eq id) es))
+    by rest true p = ap (λ b. is_some (cond b (Some w) (lookup (nat_eq id) es))) p
+    by rest false p = ap (λ b. is_some (cond b (Some e.1) (lookup (nat_eq id) (set_value (nat_eq id) es w)))) p ∙ rest
+
+numbered-set : (es : List Entry) (id : ℕ) (w : Option ℕ) → AreNumbered es → AreNumbered (set_value (nat_eq id) es w)
+numbered-set es id w numbered k found = by (nat_eq k id) refl
+  where
+    by : (b : Bool) → nat_eq k id ≡ b → k < 2 ^ 31
+    by true e =
+        let same : k ≡ id = eqb-true k id e in
+        let P : ℕ → Type 0 = λ n. is_some (lookup (nat_eq n) (set_value (nat_eq id) es w)) ≡ true in
+        let here : id < 2 ^ 31 = numbered id (sym (here-set es id w) ∙ subst P same found) in
+        omega (arith, same, here)
+    by false e = numbered k (sym (ap is_some (lookup-set_other k id w es e)) ∙ found)
 
 pub within-set : (connection : ℕ) (es : List Entry) (owing id : ℕ) (w : Option ℕ) (new : List Entry) → IsWithin connection es owing → 0 < id
     → Fits w → IsSettled w → new ≡ set_value (nat_eq id) es w → IsWithin connection new owing
@@ -138,6 +173,7 @@ within-set connection es owing id w new old positive fits settled is = subst (λ
   fit = fit-set (nat_eq id) es w old.fit fits;
   settled = settled-set (nat_eq id) es w owing old.settled settled;
   apart = ap is_some (lookup-set_other 0 id w es (ne_eqb 0 id (λ e. omega (arith, e, positive)))) ∙ old.apart;
+  numbered = numbered-set es id w old.numbered;
 })
 
 -- the stored key is the one that was looked for
@@ -197,6 +233,7 @@ within-taken connection old owing place None new w t fits settled = record {
   fit = subst AllFit (sym t.0) w.fit;
   settled = settled;
   apart = ap (λ (l : List Entry). is_some (lookup (nat_eq 0) l)) t.0 ∙ w.apart;
+  numbered = subst AreNumbered (sym t.0) w.numbered;
 }
 within-taken connection old owing place (Some taken) new w t fits settled = record {
   connection_fits = w.connection_fits;
@@ -204,6 +241,7 @@ within-taken connection old owing place (Some taken) new w t fits settled = reco
   fit = subst AllFit (sym t.3) (fit-set_at old place (Some 0) w.fit (omega arith));
   settled = settled;
   apart = apart-puts old taken.0 (Some 0) new (not_0 old taken.0 (Some taken.1) w.apart t.1) t.2 w.apart;
+  numbered = numbered-puts old taken.0 (Some 0) new t.2 (ap is_some t.1) w.numbered;
 }
 
 all_settled : (es : List Entry) → IsSettledFrom 0 es → (id : ℕ) → number_of (lookup (nat_eq id) es) ≡ 0
@@ -284,3 +322,9 @@ takes_all old owing place (Some taken) new connection none w t settled =
       left old new taken.0 positive t.2,
       same_streams old new taken.0 taken.1 0 t.1 t.2,
     )
+
+-- what is taken is a stream's, or the connection's
+pub taken-numbered : (old : List Entry) (place : ℕ) (taken : Option (ℕ × ℕ)) (new : List Entry) → AreNumbered old → TakesLast old place taken new
+    → IfSome taken (λ t. t.0 < 2 ^ 31)
+taken-numbered old place None new numbered t = tt
+taken-numbered old place (Some taken) new numbered t = numbered taken.0 (ap is_some t.1)

@@ -1,6 +1,6 @@
 //! A header block, cut into frames (RFC 9113, sections 4.3, 6.2 and 6.10).
 
-ghost use Rattle.std.specs.Prelude.{◌≡◌, IfOk};
+ghost use Rattle.std.specs.Prelude.{◌≡◌, ◌<◌, ◌^◌, IfOk};
 ghost use Rattle.outwriter.specs.Blocks.{frame_of, rest_of};
 ghost use Rattle.outwriter.specs.Frames.{IsSound};
 
@@ -8,6 +8,7 @@ use crate::frames::{make_continuation, make_headers};
 use bytes::Bytes;
 use h2frame::{Frame, MAX_PAYLOAD, StreamId};
 use std::alloc::AllocError;
+use std::marker::Model;
 
 /// The most bytes of a fragment.
 const MAX_FRAGMENT: usize = MAX_PAYLOAD as usize;
@@ -24,12 +25,24 @@ pub(crate) struct HeaderBlock {
     pub(crate) rest: Bytes,
 }
 
+impl Model for HeaderBlock {
+    ghost use Rattle.std.specs.Prelude.{◌<◌, ◌^◌};
+    ghost use Rattle.outwriter.specs.HeaderBlocks.{Block};
+
+    ghost Value = { Block };
+
+    ghost view = { λ b. record { id = b.id; ends = b.ends; begun = b.begun; rest = b.rest } };
+
+    ghost invariant = { λ b. b.id < 2 ^ 31 };
+}
+
 impl HeaderBlock {
     /// Its next frame, of at most 16,384 bytes, and the block with what is left then, if anything is.
     pub(crate) fn cut(self) -> Result<(Frame, Option<HeaderBlock>), AllocError>
         ensures frame { IfOk result (λ r. r.0 ≡ frame_of self) }
         ensures sound { IfOk result (λ r. IsSound r.0) }
         ensures rest { IfOk result (λ r. r.1 ≡ rest_of self) }
+        ensures numbered { IfOk result (λ r. r.0.head.stream < 2 ^ 31) }
     {
         let HeaderBlock {
             id,

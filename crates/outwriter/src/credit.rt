@@ -1,6 +1,6 @@
 //! The credit that is owed to the peer (RFC 9113, section 6.9).
 
-ghost use Rattle.std.specs.Prelude.{◌≡◌, ◌<◌, ◌≤◌, ℕ, false, OnOk, OnErr, length, nat_eq};
+ghost use Rattle.std.specs.Prelude.{◌≡◌, ◌<◌, ◌≤◌, ◌^◌, ℕ, false, IfSome, OnOk, OnErr, length, nat_eq};
 ghost use Rattle.std.specs.Map.{lookup};
 ghost use Rattle.outwriter.specs.Credits.{nothing_owed, knows, more, Opens, Grants, Forgets, TakesAll, Adds, AllFit, IsSettledBut, IsSettledFrom, TakesAt, TakesLast};
 
@@ -52,6 +52,7 @@ impl Credit {
     /// The stream of a call that begins.
     pub(crate) fn open(&mut self, id: StreamId, is_reset: bool) -> Result<(), AllocError>
         requires stream { 0 < id }
+        requires number { id < 2 ^ 31 }
         requires not_open { knows self.old id ≡ false }
         ensures ok { OnOk result (Opens self.old id is_reset self.new) }
         ensures unchanged { OnErr result (self.new ≡ self.old) }
@@ -87,7 +88,8 @@ impl Credit {
 
     /// Takes all that is owed on the connection, or else on one of the streams.
     pub(crate) fn next(&mut self) -> Option<(StreamId, u32)>
-        ensures { TakesAll self.old result self.new }
+        ensures takes { TakesAll self.old result self.new }
+        ensures numbered { IfSome result (λ taken. taken.0 < 2 ^ 31) }
     {
         if self.connection > 0 {
             let n = self.connection;

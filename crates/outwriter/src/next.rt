@@ -1,6 +1,6 @@
 //! Which frame is next.
 
-ghost use Rattle.std.specs.Prelude.{◌≡◌, ◌<◌, true, false, None, Err, IfOk, IfErr, IfSome, IfNone, nat_eq};
+ghost use Rattle.std.specs.Prelude.{◌≡◌, ◌<◌, ◌^◌, List, true, false, None, Err, IfOk, IfErr, IfSome, IfNone, nat_eq};
 ghost use Rattle.std.specs.Map.{lookup};
 
 use crate::control::OutFault;
@@ -9,6 +9,7 @@ use crate::stream::{Polled, poll};
 use bytes::Bytes;
 use callbox::{OutItem, Sender};
 use h2frame::{Frame, StreamId};
+use hpack_codec::Encoder;
 use lane::Lane;
 use std::alloc::AllocError;
 
@@ -28,6 +29,8 @@ impl<L: Lane<Item = OutItem>> OutCore<L> {
     ghost use Rattle.outwriter.specs.declared.next.Next.TheVariants as next_kind;
     ghost use Rattle.h2frame.specs.declared.frame.Frame.{Frame as FrameOf};
     ghost use Rattle.outwriter.specs.Frames.{IsSound};
+    ghost use Rattle.outwriter.specs.Cores.{Serving, ServesNext, QuietNext, calls};
+    ghost use Rattle.outwriter.specs.Polling.{shows, SameHands, HandIs, HandKeeps, Removes, ids, TakesAt, SameAhead, aheads, HoldsOn, KeepsFronts, TellsData, GetsStuck, AllStuck, GetsQuiet};
     ghost use Rattle.outwriter.specs.Steps.{Step};
     ghost use Rattle.outwriter.specs.Mirrors.{Answers, SameOwn, IsSpent, Progress, Progresses, Stays, IsBetween, MirrorsOf};
 
@@ -36,8 +39,12 @@ impl<L: Lane<Item = OutItem>> OutCore<L> {
         // A frame that comes next extends a lawful run.
         ensures next { IfOk result (λ next. Answers next self.old.outbound self.new.outbound) }
 
-        // What a frame's writer asks of it, but for the number of its stream.
+        // So it does for what was told of each call.
+        ensures served { ServesNext L.got result self.old self.new }
+
+        // What a frame's writer asks of it.
         ensures sound { IfOk result (λ next. (frame : FrameOf) → next ≡ next_kind.Frame frame → IsSound frame) }
+        ensures numbered { IfOk result (λ next. (frame : FrameOf) → next ≡ next_kind.Frame frame → frame.head.stream < 2 ^ 31) }
         ensures dead { self.old.is_dead ≡ true → result ≡ Err (out_fault.OutOfMemory None) }
         ensures dies { IfErr result (λ fault. (fault ≡ out_fault.OutOfMemory None) × (self.new.is_dead ≡ true)) }
         ensures over { IfOk result (λ next. next ≡ next_kind.Over → self.new.closed ≡ true) }
@@ -45,6 +52,9 @@ impl<L: Lane<Item = OutItem>> OutCore<L> {
         // Where none comes, a GOAWAY with an error was written, or no header block is unfinished, nothing is due and no credit is owed.
         ensures idle { IfOk result (λ next. next ≡ next_kind.Idle → IsSpent self.new.outbound) }
         ensures over_spent { IfOk result (λ next. next ≡ next_kind.Over → IsSpent self.new.outbound) }
+
+        // And of each open stream there is nothing that can be written, what was found ahead of its sender included.
+        ensures quiet { IfOk result (λ next. (run : List Step) → Serving L.got run self.old → self.old.is_dead ≡ false → QuietNext L.ahead next self.new) }
     {
         if self.is_dead {
             return Err(OutFault::OutOfMemory(None));
@@ -63,9 +73,14 @@ impl<L: Lane<Item = OutItem>> OutCore<L> {
     /// SETTINGS first; the rest of a header block; what is due; credit; and then the streams.
     fn choose(&mut self) -> Result<Option<Frame>, AllocError>
         ensures sound { IfOk result (λ o. IfSome o IsSound) }
+        ensures numbered { IfOk result (λ o. IfSome o (λ frame. frame.head.stream < 2 ^ 31)) }
         ensures frame { IfOk result (λ o. Progresses o self.old.outbound self.new.outbound) }
         ensures spent { IfOk result (λ o. IfNone o (IsSpent self.new.outbound)) }
         ensures closed { self.new.closed ≡ self.old.closed }
+        ensures served { IfOk result (λ o. HoldsOn L.got o self.old self.new) }
+        ensures fronts { KeepsFronts L.got self.old self.new }
+        ensures alive { self.new.is_dead ≡ self.old.is_dead }
+        ensures quiet { IfOk result (λ o. IfNone o (GetsQuiet L.got L.ahead self.old self.new)) }
     {
         if self.outbound.gone {
             return Ok(None);
@@ -83,9 +98,14 @@ impl<L: Lane<Item = OutItem>> OutCore<L> {
     fn stream_frame(&mut self) -> Result<Option<Frame>, AllocError>
         requires { IsBetween self.old.outbound }
         ensures sound { IfOk result (λ o. IfSome o IsSound) }
+        ensures numbered { IfOk result (λ o. IfSome o (λ frame. frame.head.stream < 2 ^ 31)) }
         ensures frame { IfOk result (λ o. Progress o self.old.outbound self.new.outbound) }
         ensures own { IfOk result (λ o. IfNone o (SameOwn self.old.outbound self.new.outbound)) }
         ensures closed { self.new.closed ≡ self.old.closed }
+        ensures served { IfOk result (λ o. HoldsOn L.got o self.old self.new) }
+        ensures fronts { KeepsFronts L.got self.old self.new }
+        ensures alive { self.new.is_dead ≡ self.old.is_dead }
+        ensures quiet { IfOk result (λ o. IfNone o (AllStuck L.got L.ahead self.old self.new)) }
     {
         if let Some(frame) = self.frame_out_of_turn()? {
             return Ok(Some(frame));
@@ -100,17 +120,21 @@ impl<L: Lane<Item = OutItem>> OutCore<L> {
     fn frame_out_of_turn(&mut self) -> Result<Option<Frame>, AllocError>
         requires { IsBetween self.old.outbound }
         ensures sound { IfOk result (λ o. IfSome o IsSound) }
+        ensures numbered { IfOk result (λ o. IfSome o (λ frame. frame.head.stream < 2 ^ 31)) }
         ensures frame { IfOk result (λ o. Progress o self.old.outbound self.new.outbound) }
         ensures own { IfOk result (λ o. IfNone o (SameOwn self.old.outbound self.new.outbound)) }
         ensures closed { self.new.closed ≡ self.old.closed }
+        ensures served { IfOk result (λ o. HoldsOn L.got o self.old self.new) }
+        ensures fronts { KeepsFronts L.got self.old self.new }
+        ensures alive { self.new.is_dead ≡ self.old.is_dead }
     {
-        let next = if self.cursor < self.open.len() {
+        let next = if self.cursor < self.streams.len() {
             self.cursor
         } else {
             0
         };
         self.cursor = next.saturating_add(1);
-        let id = match self.open.get_index(next) {
+        let id = match self.streams.get_index(next) {
             Some((id, stream)) if !stream.in_turn => *id,
             _ => return Ok(None),
         };
@@ -121,9 +145,13 @@ impl<L: Lane<Item = OutItem>> OutCore<L> {
     fn frame_in_turn(&mut self) -> Result<Option<Frame>, AllocError>
         requires { IsBetween self.old.outbound }
         ensures sound { IfOk result (λ o. IfSome o IsSound) }
+        ensures numbered { IfOk result (λ o. IfSome o (λ frame. frame.head.stream < 2 ^ 31)) }
         ensures frame { IfOk result (λ o. Progress o self.old.outbound self.new.outbound) }
         ensures own { IfOk result (λ o. IfNone o (SameOwn self.old.outbound self.new.outbound)) }
         ensures closed { self.new.closed ≡ self.old.closed }
+        ensures served { IfOk result (λ o. HoldsOn L.got o self.old self.new) }
+        ensures fronts { KeepsFronts L.got self.old self.new }
+        ensures alive { self.new.is_dead ≡ self.old.is_dead }
     {
         for _ in 0..self.ready.len() {
             let Some(id) = self.ready.pop_front() else {
@@ -141,12 +169,17 @@ impl<L: Lane<Item = OutItem>> OutCore<L> {
     fn frame_of_any(&mut self) -> Result<Option<Frame>, AllocError>
         requires { IsBetween self.old.outbound }
         ensures sound { IfOk result (λ o. IfSome o IsSound) }
+        ensures numbered { IfOk result (λ o. IfSome o (λ frame. frame.head.stream < 2 ^ 31)) }
         ensures frame { IfOk result (λ o. Progress o self.old.outbound self.new.outbound) }
         ensures own { IfOk result (λ o. IfNone o (SameOwn self.old.outbound self.new.outbound)) }
         ensures closed { self.new.closed ≡ self.old.closed }
+        ensures served { IfOk result (λ o. HoldsOn L.got o self.old self.new) }
+        ensures fronts { KeepsFronts L.got self.old self.new }
+        ensures alive { self.new.is_dead ≡ self.old.is_dead }
+        ensures quiet { IfOk result (λ o. IfNone o (AllStuck L.got L.ahead self.old self.new)) }
     {
-        for index in 0..self.open.len() {
-            let id = match self.open.get_index(index) {
+        for index in 0..self.streams.len() {
+            let id = match self.streams.get_index(index) {
                 Some((id, _)) => *id,
                 None => return Ok(None),
             };
@@ -161,9 +194,15 @@ impl<L: Lane<Item = OutItem>> OutCore<L> {
     fn frame_of(&mut self, id: StreamId) -> Result<Option<Frame>, AllocError>
         requires { IsBetween self.old.outbound }
         ensures sound { IfOk result (λ o. IfSome o IsSound) }
+        ensures numbered { IfOk result (λ o. IfSome o (λ frame. frame.head.stream < 2 ^ 31)) }
         ensures frame { IfOk result (λ o. Progress o self.old.outbound self.new.outbound) }
         ensures own { IfOk result (λ o. IfNone o (SameOwn self.old.outbound self.new.outbound)) }
         ensures closed { self.new.closed ≡ self.old.closed }
+        ensures served { IfOk result (λ o. HoldsOn L.got o self.old self.new) }
+        ensures fronts { KeepsFronts L.got self.old self.new }
+        ensures alive { self.new.is_dead ≡ self.old.is_dead }
+        ensures ids { IfOk result (λ o. IfNone o (ids self.new.streams.entries ≡ ids self.old.streams.entries)) }
+        ensures quiet { IfOk result (λ o. IfNone o (GetsStuck L.got L.ahead id self.old self.new)) }
     {
         let Some(frame) = self.look(id)? else {
             return Ok(None);
@@ -176,8 +215,13 @@ impl<L: Lane<Item = OutItem>> OutCore<L> {
     fn take_turns(&mut self, id: StreamId) -> Result<(), AllocError>
         ensures outbound { self.new.outbound ≡ self.old.outbound }
         ensures closed { self.new.closed ≡ self.old.closed }
+        ensures hands { SameHands self.old.streams.entries self.new.streams.entries }
+        ensures ids { ids self.new.streams.entries ≡ ids self.old.streams.entries }
+        ensures senders { self.new.senders ≡ self.old.senders }
+        ensures others { self.new.others ≡ self.old.others }
+        ensures alive { self.new.is_dead ≡ self.old.is_dead }
     {
-        if let Some(stream) = self.open.get_mut(&id) {
+        if let Some(stream) = self.streams.get_mut(&id) {
             stream.in_turn = true;
             self.ready.push_back(id)?;
         }
@@ -187,8 +231,13 @@ impl<L: Lane<Item = OutItem>> OutCore<L> {
     fn leave_turns(&mut self, id: StreamId)
         ensures outbound { self.new.outbound ≡ self.old.outbound }
         ensures closed { self.new.closed ≡ self.old.closed }
+        ensures hands { SameHands self.old.streams.entries self.new.streams.entries }
+        ensures ids { ids self.new.streams.entries ≡ ids self.old.streams.entries }
+        ensures senders { self.new.senders ≡ self.old.senders }
+        ensures others { self.new.others ≡ self.old.others }
+        ensures alive { self.new.is_dead ≡ self.old.is_dead }
     {
-        if let Some(stream) = self.open.get_mut(&id) {
+        if let Some(stream) = self.streams.get_mut(&id) {
             stream.in_turn = false;
         }
     }
@@ -197,9 +246,15 @@ impl<L: Lane<Item = OutItem>> OutCore<L> {
     fn look(&mut self, id: StreamId) -> Result<Option<Frame>, AllocError>
         requires { IsBetween self.old.outbound }
         ensures sound { IfOk result (λ o. IfSome o IsSound) }
+        ensures numbered { IfOk result (λ o. IfSome o (λ frame. frame.head.stream < 2 ^ 31)) }
         ensures frame { IfOk result (λ o. Progress o self.old.outbound self.new.outbound) }
         ensures own { IfOk result (λ o. IfNone o (SameOwn self.old.outbound self.new.outbound)) }
         ensures closed { self.new.closed ≡ self.old.closed }
+        ensures served { IfOk result (λ o. HoldsOn L.got o self.old self.new) }
+        ensures fronts { KeepsFronts L.got self.old self.new }
+        ensures alive { self.new.is_dead ≡ self.old.is_dead }
+        ensures ids { IfOk result (λ o. IfNone o (ids self.new.streams.entries ≡ ids self.old.streams.entries)) }
+        ensures quiet { IfOk result (λ o. IfNone o (GetsStuck L.got L.ahead id self.old self.new)) }
     {
         if !self.outbound.may_end(id) {
             return Ok(None);
@@ -218,28 +273,38 @@ impl<L: Lane<Item = OutItem>> OutCore<L> {
     fn take(&mut self, id: StreamId) -> Result<Polled, AllocError>
         ensures outbound { self.new.outbound ≡ record self.old.outbound { encoder = self.new.outbound.encoder } }
         ensures closed { self.new.closed ≡ self.old.closed }
+        ensures hands { HandIs id None self.old.streams.entries self.new.streams.entries }
+        ensures takes { TakesAt (shows self.old.streams.entries id) (calls L.got self.old.senders.items) (calls L.got self.new.senders.items) (aheads L.ahead self.new.senders.items) self.old.outbound.encoder self.new.outbound.encoder result }
+        ensures ahead { SameAhead (shows self.old.streams.entries id) (aheads L.ahead self.old.senders.items) (aheads L.ahead self.new.senders.items) }
+        ensures ids { ids self.new.streams.entries ≡ ids self.old.streams.entries }
+        ensures others { self.new.others ≡ self.old.others }
+        ensures alive { self.new.is_dead ≡ self.old.is_dead }
     {
-        let Some(stream) = self.open.get_mut(&id) else {
+        let Some(stream) = self.streams.get_mut(&id) else {
             return Ok(Polled::Nothing);
         };
         if let Some(bytes) = stream.in_hand.take() {
             return Ok(Polled::Message(bytes));
         }
-        match self.senders.get_mut(stream.place) {
-            Some((_, sender)) => poll(sender, &mut self.outbound.encoder),
-            None => Ok(Polled::Nothing),
-        }
+        poll_at(&mut self.senders, stream.place, &mut self.outbound.encoder)
     }
 
     /// The next DATA of a message, as far as the windows let it through. What is left is kept in hand.
     fn data(&mut self, id: StreamId, bytes: Bytes) -> Result<Option<Frame>, AllocError>
         requires between { IsBetween self.old.outbound }
         requires stream { 0 < id }
+        requires number { id < 2 ^ 31 }
         requires open { lookup (nat_eq id) self.old.outbound.over.entries ≡ None }
         ensures sound { IfOk result (λ o. IfSome o IsSound) }
+        ensures numbered { IfOk result (λ o. IfSome o (λ frame. frame.head.stream < 2 ^ 31)) }
         ensures frame { IfOk result (λ o. Progress o self.old.outbound self.new.outbound) }
         ensures own { IfOk result (λ o. IfNone o (SameOwn self.old.outbound self.new.outbound)) }
         ensures closed { self.new.closed ≡ self.old.closed }
+        ensures data { IfOk result (λ o. TellsData id bytes o self.old self.new) }
+        ensures ids { ids self.new.streams.entries ≡ ids self.old.streams.entries }
+        ensures senders { self.new.senders ≡ self.old.senders }
+        ensures others { self.new.others ≡ self.old.others }
+        ensures alive { self.new.is_dead ≡ self.old.is_dead }
     {
         let len = self.outbound.room(id, bytes.len());
         if len == 0 && !bytes.is_empty() {
@@ -256,9 +321,13 @@ impl<L: Lane<Item = OutItem>> OutCore<L> {
     fn end(&mut self, id: StreamId, ends: bool)
         ensures outbound { self.new.outbound ≡ self.old.outbound }
         ensures closed { self.new.closed ≡ self.old.closed }
+        ensures ended { Removes id ends self.old.streams.entries self.new.streams.entries }
+        ensures senders { self.new.senders ≡ self.old.senders }
+        ensures others { self.new.others ≡ self.old.others }
+        ensures alive { self.new.is_dead ≡ self.old.is_dead }
     {
         if ends {
-            self.open.swap_remove(&id);
+            self.streams.swap_remove(&id);
         }
     }
 
@@ -266,12 +335,35 @@ impl<L: Lane<Item = OutItem>> OutCore<L> {
     fn keep(&mut self, id: StreamId, bytes: Bytes)
         ensures outbound { self.new.outbound ≡ self.old.outbound }
         ensures closed { self.new.closed ≡ self.old.closed }
+        ensures kept { HandKeeps id bytes self.old.streams.entries self.new.streams.entries }
+        ensures ids { ids self.new.streams.entries ≡ ids self.old.streams.entries }
+        ensures senders { self.new.senders ≡ self.old.senders }
+        ensures others { self.new.others ≡ self.old.others }
+        ensures alive { self.new.is_dead ≡ self.old.is_dead }
     {
         if bytes.is_empty() {
             return;
         }
-        if let Some(stream) = self.open.get_mut(&id) {
+        if let Some(stream) = self.streams.get_mut(&id) {
             stream.in_hand = Some(bytes);
         }
+    }
+}
+
+ghost use Rattle.outwriter.specs.Cores.{calls as calls_of};
+ghost use Rattle.outwriter.specs.Polling.{aheads as aheads_of, TakesHand, SameElsewhere};
+
+/// The next item of the sender at a place, if there is one.
+fn poll_at<L: Lane<Item = OutItem>>(
+    senders: &mut Vec<(StreamId, Sender<L>)>,
+    place: usize,
+    encoder: &mut Encoder,
+) -> Result<Polled, AllocError>
+    ensures takes { TakesHand None place (calls_of L.got senders.old.items) (calls_of L.got senders.new.items) (aheads_of L.ahead senders.new.items) encoder.old encoder.new result }
+    ensures ahead { SameElsewhere place (aheads_of L.ahead senders.old.items) (aheads_of L.ahead senders.new.items) }
+{
+    match senders.get_mut(place) {
+        Some(call) => poll(&mut call.1, encoder),
+        None => Ok(Polled::Nothing),
     }
 }

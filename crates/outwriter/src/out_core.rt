@@ -1,12 +1,18 @@
 //! The core of a connection's writer: what it is told.
 
-ghost use Rattle.std.specs.Prelude.{◌≡◌, ◌<◌, [], false, true, OnOk, OnErr, IfErr, nat_eq, map};
+ghost use Rattle.std.specs.Prelude.{◌≡◌, ◌<◌, List, [], ◌∷◌, Some, Err, false, true, OnOk, OnErr, IfOk, IfErr, nat_eq, map, length};
 ghost use Rattle.std.specs.VecDeque.{deque_len, deque_capacity};
 ghost use Rattle.std.specs.Prelude.{vec_len, vec_capacity};
+ghost use Rattle.outwriter.specs.Cores.{calls, Serving, ServesOn, ServesControl};
+ghost use Rattle.outwriter.specs.declared.control.OutFault.TheVariants as out_fault;
 ghost use Rattle.outwriter.specs.Mirrors.{Reached, GoesOn, Takes, Leads, Stays, Blames, HasRoom, IsMemory, is_held};
 ghost use Rattle.std.specs.Map.{lookup};
 ghost use Rattle.flow.specs.Windows.{room};
-ghost use Rattle.outwriter.specs.Steps.{Taken, Granted};
+ghost use Rattle.outwriter.specs.Calls.{TellFronts};
+ghost use Rattle.outwriter.specs.Keeping.{KeepsServing, Prepares, MayReset};
+ghost use Rattle.outwriter.specs.Serving.{none_is_new};
+ghost use Rattle.outwriter.specs.Serving.{Takes as KeepsCalls};
+ghost use Rattle.outwriter.specs.Steps.{Step, Taken, Granted};
 ghost use Rattle.outwriter.specs.declared.control.Control.TheVariants as order;
 
 use crate::control::{Control, OutFault};
@@ -30,7 +36,8 @@ pub struct OutCore<L: Lane<Item = OutItem>> {
     pub(crate) outbound: Outbound,
     /// The senders of all calls, in the order of their Opens.
     pub(crate) senders: Vec<(StreamId, Sender<L>)>,
-    pub(crate) open: IndexMap<StreamId, OpenStream>,
+    /// The open streams.
+    pub(crate) streams: IndexMap<StreamId, OpenStream>,
     /// Streams that were refused or reset, and were no call's by then: whether they were reset.
     pub(crate) others: IndexMap<StreamId, bool>,
     /// The open streams that had something when they were looked at last, and take turns.
@@ -43,6 +50,7 @@ impl<L: Lane<Item = OutItem>> OutCore<L> {
     /// The core of a connection on which nothing was written. It takes no memory yet.
     pub fn new(alloc: Global) -> OutCore<L>
         ensures reached { Reached [] result.outbound }
+        ensures serving { Serving L.got [] result }
         ensures alive { result.is_dead ≡ false }
         ensures open { result.closed ≡ false }
         ensures senders { result.senders.items ≡ [] }
@@ -52,7 +60,7 @@ impl<L: Lane<Item = OutItem>> OutCore<L> {
             closed: false,
             outbound: Outbound::new(alloc),
             senders: Vec::new(alloc),
-            open: IndexMap::new(alloc),
+            streams: IndexMap::new(alloc),
             others: IndexMap::new(alloc),
             ready: VecDeque::new(alloc),
             cursor: 0,
@@ -60,16 +68,23 @@ impl<L: Lane<Item = OutItem>> OutCore<L> {
     }
 
     /// Takes a control. Want of memory hands it back and changes nothing; a window that would be over 2^31 - 1 bytes
-    /// is a fault of the peer, of which no window changes, and the control counts as taken.
+    /// is a fault of the peer, of which no window changes, and the control counts as taken. A dead core hands each back.
     pub fn control(&mut self, control: Control<Sender<L>>) -> Result<(), OutFault<Sender<L>>>
         // The control is the next step of the run, unless it is handed back.
         ensures taken { Takes result control self.old.outbound self.new.outbound }
+
+        // So it is for what was told of each call, where an Open brings a sender of which nothing was got.
+        ensures served { ServesControl L.got result control self.old self.new }
 
         // A fault of the peer is answered exactly where it stands.
         ensures fault { IfErr result (λ fault. Blames fault control self.old.outbound.windows) }
         ensures room { OnOk result (HasRoom control self.old.outbound.windows) }
         ensures alive { self.new.is_dead ≡ self.old.is_dead }
+        ensures dead { self.old.is_dead ≡ true → result ≡ Err (out_fault.OutOfMemory (Some control)) }
     {
+        if self.is_dead {
+            return Err(OutFault::OutOfMemory(Some(control)));
+        }
         let Ok(()) = self.outbound.make_room() else {
             return Err(OutFault::OutOfMemory(Some(control)));
         };
@@ -110,6 +125,7 @@ impl<L: Lane<Item = OutItem>> OutCore<L> {
     /// most 2^31 - 1 are owed at once. Nothing changes for a stream of no call, and for one that was reset.
     pub fn grant(&mut self, id: StreamId, n: u32)
         ensures granted { GoesOn (Granted id n) self.old.outbound self.new.outbound }
+        ensures served { ServesOn L.got (Granted id n) self.old self.new }
         ensures rest { self.new ≡ record self.old { outbound = self.new.outbound } }
     {
         self.outbound.grant(id, n);
@@ -117,9 +133,9 @@ impl<L: Lane<Item = OutItem>> OutCore<L> {
 
     /// Whether an item of the stream is in hand that a window keeps back.
     pub fn held(&self, id: StreamId) -> bool
-        ensures { result ≡ is_held (lookup (nat_eq id) self.now.open.entries) (room self.now.outbound.windows id) }
+        ensures { result ≡ is_held (lookup (nat_eq id) self.now.streams.entries) (room self.now.outbound.windows id) }
     {
-        match self.open.get(&id) {
+        match self.streams.get(&id) {
             Some(stream) => stream.in_hand.is_some() && self.outbound.windows.room(id) == 0,
             None => false,
         }
@@ -127,7 +143,10 @@ impl<L: Lane<Item = OutItem>> OutCore<L> {
 
     /// The senders of all calls, in the order of their Opens.
     pub fn into_senders(self) -> Vec<(StreamId, Sender<L>)>
-        ensures { result ≡ self.senders }
+        ensures senders { result ≡ self.senders }
+
+        // What was told of each call begins what the items that were got of its sender spell.
+        ensures fronts { (run : List Step) → Serving L.got run self → TellFronts run (calls L.got result.items) }
     {
         let OutCore { senders, .. } = self;
         senders
@@ -136,6 +155,8 @@ impl<L: Lane<Item = OutItem>> OutCore<L> {
     /// Begins a call, if there is memory for it.
     fn begin(&mut self, id: StreamId, sender: Sender<L>) -> Result<(), OutFault<Sender<L>>>
         ensures taken { Takes result (order.Open id sender) self.old.outbound self.new.outbound }
+        ensures served { OnOk result (L.got sender.rx ≡ [] → KeepsServing L.got (Taken (order.Open id tt) ∷ []) self.old self.new) }
+        ensures still { OnErr result (KeepsServing L.got [] self.old self.new) }
         ensures memory { IfErr result IsMemory }
         ensures alive { self.new.is_dead ≡ self.old.is_dead }
     {
@@ -153,11 +174,16 @@ impl<L: Lane<Item = OutItem>> OutCore<L> {
         ensures taken { OnOk result (Leads (Taken (order.Open id tt)) self.old.outbound self.new.outbound) }
         ensures room { OnOk result (vec_len self.new.senders < vec_capacity self.new.senders) }
         ensures stays { OnErr result (Stays self.old.outbound self.new.outbound) }
+        ensures call { OnOk result (Prepares id (length self.old.senders.items) self.old.outbound self.new.outbound self.old.others.entries self.old.streams.entries self.new.streams.entries) }
+        ensures none { OnErr result (KeepsCalls [] none_is_new self.old.outbound self.new.outbound) }
+        ensures streams { OnErr result (self.new.streams.entries ≡ self.old.streams.entries) }
+        ensures others { self.new.others.entries ≡ self.old.others.entries }
+        ensures senders { self.new.senders.items ≡ self.old.senders.items }
         ensures alive { self.new.is_dead ≡ self.old.is_dead }
     {
         self.senders.reserve(1)?;
-        self.ready.reserve(self.open.len().saturating_add(1))?;
-        self.open.reserve(1)?;
+        self.ready.reserve(self.streams.len().saturating_add(1))?;
+        self.streams.reserve(1)?;
         let is_new = is_stream(id) && !self.outbound.credit.has(id);
         let other = self.others.get(&id).copied();
         self.outbound.take_open(id, is_new, other == Some(true))?;
@@ -167,7 +193,7 @@ impl<L: Lane<Item = OutItem>> OutCore<L> {
                 in_hand: None,
                 in_turn: false,
             };
-            let _ = self.open.insert(id, stream);
+            let _ = self.streams.insert(id, stream);
         }
         Ok(())
     }
@@ -176,6 +202,8 @@ impl<L: Lane<Item = OutItem>> OutCore<L> {
     fn refuse(&mut self, id: StreamId, fields: Sequence<Field>) -> Result<(), OutFault<Sender<L>>>
         requires room { deque_len self.old.outbound.due < deque_capacity self.old.outbound.due }
         ensures taken { Takes result (order.Refuse id fields) self.old.outbound self.new.outbound }
+        ensures served { OnOk result (KeepsServing L.got (Taken (order.Refuse id fields) ∷ []) self.old self.new) }
+        ensures still { OnErr result (KeepsServing L.got [] self.old self.new) }
         ensures memory { IfErr result IsMemory }
         ensures alive { self.new.is_dead ≡ self.old.is_dead }
     {
@@ -198,6 +226,8 @@ impl<L: Lane<Item = OutItem>> OutCore<L> {
     ) -> Result<(), OutFault<Sender<L>>>
         requires room { deque_len self.old.outbound.due < deque_capacity self.old.outbound.due }
         ensures taken { Takes result (order.Reset id code written) self.old.outbound self.new.outbound }
+        ensures served { OnOk result (KeepsServing L.got (Taken (order.Reset id code written) ∷ []) self.old self.new) }
+        ensures still { OnErr result (KeepsServing L.got [] self.old self.new) }
         ensures memory { IfErr result IsMemory }
         ensures alive { self.new.is_dead ≡ self.old.is_dead }
     {
@@ -215,6 +245,8 @@ impl<L: Lane<Item = OutItem>> OutCore<L> {
     fn ends(&mut self, id: StreamId) -> Result<bool, AllocError>
         ensures stays { Stays self.old.outbound self.new.outbound }
         ensures due { self.new.outbound.due ≡ self.old.outbound.due }
+        ensures served { KeepsServing L.got [] self.old self.new }
+        ensures was_open { IfOk result (λ was_open. MayReset L.got id was_open self.new) }
         ensures alive { self.new.is_dead ≡ self.old.is_dead }
     {
         if !is_stream(id) {
@@ -222,7 +254,7 @@ impl<L: Lane<Item = OutItem>> OutCore<L> {
         }
         if self.outbound.credit.has(id) {
             self.outbound.forget(id);
-            return Ok(self.open.swap_remove(&id).is_some());
+            return Ok(self.streams.swap_remove(&id).is_some());
         }
         match self.others.insert(id, true) {
             Ok(before) => Ok(before.is_none()),

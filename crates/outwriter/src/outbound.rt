@@ -1,11 +1,12 @@
 //! The server's side of a connection, as far as it was written: all that says which frames may come next.
 
-ghost use Rattle.std.specs.Prelude.{Err, ◌≢◌, ◌≡◌, ◌≤◌, ◌<◌, ◌&&◌, true, false, nat_lt, nat_le, ℕ, All, List, [], None, OnOk, OnErr, IfErr, length};
+ghost use Rattle.std.specs.Prelude.{Err, ◌==◌, ◌∷◌, if◌then◌else◌, ◌≢◌, ◌≡◌, ◌≤◌, ◌<◌, ◌^◌, ◌&&◌, ◌||◌, true, false, nat_lt, nat_le, ℕ, All, List, [], None, OnOk, OnErr, IfErr, length};
 ghost use Rattle.flow.specs.WindowHistory.{Follows};
 ghost use Rattle.flow.specs.WindowHistory.{Step as WindowStep};
 ghost use Rattle.flow.specs.Windows.{balance, CreditFault};
-ghost use Rattle.outwriter.specs.Credits.{knows, owed_on};
+ghost use Rattle.outwriter.specs.Credits.{knows, owed_on, nothing_owed};
 ghost use Rattle.outwriter.specs.Mirrors.{HasOver, HasSilence};
+ghost use Rattle.outwriter.specs.Telling.{KeepsTable, SpellsOf};
 ghost use Rattle.flow.specs.declared.send_windows.WindowFault.TheVariants as window_fault;
 
 use crate::blocks::HeaderBlock;
@@ -44,11 +45,17 @@ impl Outbound {
     ghost use Rattle.outwriter.specs.Steps.{Step, Taken, Granted};
     ghost use Rattle.outwriter.specs.Histories.{opens, CanResize, window_sizes};
     ghost use Rattle.outwriter.specs.Mirrors.{MirrorsOf, Leads, Stays};
+    ghost use Rattle.outwriter.specs.Serving.{Takes, none_is_new};
     ghost use Rattle.outwriter.specs.declared.control.Control.TheVariants as order;
+    ghost use Rattle.outwriter.specs.declared.due.Due.TheVariants as due_kind;
 
     /// A connection on which nothing was written. It takes no memory yet.
     pub(crate) fn new(alloc: Global) -> Outbound
-        ensures { MirrorsOf [] result }
+        ensures mirrors { MirrorsOf [] result }
+        ensures spells { SpellsOf [] result [] }
+        ensures due { result.due.items ≡ [] }
+        ensures credit { result.credit ≡ nothing_owed }
+        ensures over { result.over.entries ≡ [] }
     {
         Outbound {
             alloc,
@@ -69,6 +76,7 @@ impl Outbound {
         ensures room { OnOk result (deque_len self.new.due < deque_capacity self.new.due) }
         ensures credit { self.new.credit ≡ self.old.credit }
         ensures windows { self.new.windows ≡ self.old.windows }
+        ensures takes { Takes [] none_is_new self.old self.new }
     {
         self.due.reserve(1)
     }
@@ -78,6 +86,7 @@ impl Outbound {
     pub(crate) fn take_settings(&mut self, settings: &PeerSettings) -> Result<(), WindowFault>
         requires room { deque_len self.old.due < deque_capacity self.old.due }
         ensures taken { Leads (Taken (order.Settings settings.now)) self.old self.new }
+        ensures takes { Takes (due_kind.SettingsAck ∷ []) none_is_new self.old self.new }
         ensures fits { OnOk result ((history : List WindowStep) → Follows history self.old.windows → All (CanResize history) (window_sizes settings.now)) }
         ensures over { OnErr result ((history : List WindowStep) → Follows history self.old.windows → ¬ All (CanResize history) (window_sizes settings.now)) }
     {
@@ -90,6 +99,7 @@ impl Outbound {
     pub(crate) fn take_ping(&mut self, bytes: [u8; 8])
         requires room { deque_len self.old.due < deque_capacity self.old.due }
         ensures taken { Leads (Taken (order.Ping bytes)) self.old self.new }
+        ensures takes { Takes (due_kind.PingAck bytes ∷ []) none_is_new self.old self.new }
     {
         self.due.push_back_reserved(Due::PingAck(bytes));
     }
@@ -97,6 +107,7 @@ impl Outbound {
     /// Takes the peer's credit, and answers whether the window has room for it. A stream that isn't open is none to credit.
     pub(crate) fn take_window(&mut self, id: StreamId, increment: u32) -> bool
         ensures taken { Leads (Taken (order.Window id increment)) self.old self.new }
+        ensures takes { Takes [] none_is_new self.old self.new }
         ensures fits { result ≡ true → ¬ CreditFault self.old.windows id increment window_fault.Overflow }
         ensures over { result ≡ false → CreditFault self.old.windows id increment window_fault.Overflow }
     {
@@ -113,9 +124,12 @@ impl Outbound {
         was_reset: bool,
     ) -> Result<(), AllocError>
         requires new_stream { is_new ≡ true → 0 < id }
+        requires number { is_new ≡ true → id < 2 ^ 31 }
         requires unknown { is_new ≡ true → knows self.old.credit id ≡ false }
         ensures taken { OnOk result (Leads (Taken (order.Open id tt)) self.old self.new) }
         ensures stays { OnErr result (Stays self.old self.new) }
+        ensures takes { OnOk result (Takes [] (λ other. is_new && (other == id)) self.old self.new) }
+        ensures takes_none { OnErr result (Takes [] none_is_new self.old self.new) }
     {
         if !self.opens(id) {
             return open_credit(&mut self.credit, &self.over, id, is_new, was_reset);
@@ -145,6 +159,7 @@ impl Outbound {
     pub(crate) fn take_refuse(&mut self, id: StreamId, fields: Sequence<Field>)
         requires room { deque_len self.old.due < deque_capacity self.old.due }
         ensures taken { Leads (Taken (order.Refuse id fields)) self.old self.new }
+        ensures takes { Takes (due_kind.Refuse id fields ∷ []) none_is_new self.old self.new }
     {
         self.due.push_back_reserved(Due::Refuse(id, fields));
     }
@@ -153,6 +168,7 @@ impl Outbound {
     pub(crate) fn take_reset(&mut self, id: StreamId, code: ErrorCode, written: bool, is_due: bool)
         requires room { deque_len self.old.due < deque_capacity self.old.due }
         ensures taken { Leads (Taken (order.Reset id code written)) self.old self.new }
+        ensures takes { Takes (if is_due then due_kind.Reset id code ∷ [] else []) none_is_new self.old self.new }
     {
         if is_due {
             self.due.push_back_reserved(Due::Reset(id, code));
@@ -164,13 +180,15 @@ impl Outbound {
         requires { 0 < id }
         ensures stays { Stays self.old self.new }
         ensures rest { self.new ≡ record self.old { credit = self.new.credit } }
+        ensures takes { Takes [] none_is_new self.old self.new }
     {
         self.credit.forget(id);
     }
 
     /// Owes n bytes more of credit.
     pub(crate) fn grant(&mut self, id: StreamId, n: u32)
-        ensures { Leads (Granted id n) self.old self.new }
+        ensures granted { Leads (Granted id n) self.old self.new }
+        ensures takes { Takes [] none_is_new self.old self.new }
     {
         self.credit.grant(id, n);
     }
@@ -179,6 +197,7 @@ impl Outbound {
     pub(crate) fn take_goaway(&mut self, last: StreamId, code: ErrorCode)
         requires room { deque_len self.old.due < deque_capacity self.old.due }
         ensures taken { Leads (Taken (order.Goaway last code)) self.old self.new }
+        ensures takes { Takes (due_kind.Goaway last code ∷ []) none_is_new self.old self.new }
     {
         self.due.push_back_reserved(Due::Goaway(last, code));
     }
@@ -214,9 +233,11 @@ fn open_credit(
     was_reset: bool,
 ) -> Result<(), AllocError>
     requires new_stream { is_new ≡ true → 0 < id }
+    requires number { is_new ≡ true → id < 2 ^ 31 }
     requires unknown { is_new ≡ true → knows credit.old id ≡ false }
     ensures owed { OnOk result ((other : ℕ) → owed_on credit.new other ≡ owed_on credit.old other) }
     ensures silent { OnOk result (HasSilence over.now.entries credit.old → HasSilence over.now.entries credit.new) }
+    ensures known { OnOk result ((other : ℕ) → knows credit.new other ≡ ((is_new && (other == id)) || knows credit.old other)) }
     ensures unchanged { OnErr result (credit.new ≡ credit.old) }
 {
     if !is_new {
@@ -227,7 +248,9 @@ fn open_credit(
 }
 
 /// The limits that SETTINGS have for the encoder's table.
-fn limit_table(encoder: &mut Encoder, settings: &[PeerSetting]) {
+fn limit_table(encoder: &mut Encoder, settings: &[PeerSetting])
+    ensures { KeepsTable encoder.old encoder.new }
+{
     for setting in settings {
         if let PeerSetting::TableSize(limit) = *setting {
             encoder.limit(limit);

@@ -1,6 +1,6 @@
 //! The frames of a connection, each with what it changes.
 
-ghost use Rattle.std.specs.Prelude.{◌≡◌, ℕ, List, [], ◌∷◌, ◌++◌, ◌≤◌, ◌<◌, ◌==◌, nat_eq, true, false, Some, None, IfOk, IfSome, IfNone, OnOk, MatchOption, length, if◌then◌else◌};
+ghost use Rattle.std.specs.Prelude.{◌≡◌, ℕ, List, [], ◌∷◌, ◌++◌, ◌≤◌, ◌<◌, ◌^◌, ◌==◌, ◌&&◌, not, is_some, nat_eq, true, false, Some, None, IfOk, IfSome, IfNone, OnOk, MatchOption, map, length, if◌then◌else◌};
 ghost use Rattle.std.specs.Map.{lookup};
 ghost use Rattle.flow.specs.Windows.{room};
 ghost use Rattle.flow.specs.WindowHistory.{Follows, Closing, room_after};
@@ -28,6 +28,10 @@ impl Outbound {
     ghost use Rattle.outwriter.specs.Credits.{owed_on};
     ghost use Rattle.outwriter.specs.Frames.{IsSound};
     ghost use Rattle.outwriter.specs.Steps.{Step};
+    ghost use Rattle.outwriter.specs.Histories.{is_stream as is_number};
+    ghost use Rattle.outwriter.specs.Parts.{Byte, on_stream};
+    ghost use Rattle.outwriter.specs.Serving.{IsOwn, OwnOrRests};
+    ghost use Rattle.outwriter.specs.Telling.{TellsBlock, TellsMore, OwnByDue, OwnOfDue};
     ghost use Rattle.outwriter.specs.Mirrors.{Progress, Stays, IsBetween, Writes, WritesIf, WritesDue, WritesOrSkips, Heads, MirrorsOf};
 
     /// SETTINGS, which are first.
@@ -35,7 +39,9 @@ impl Outbound {
         requires begun { self.old.begun ≡ false }
         requires going { self.old.gone ≡ false }
         ensures sound { IsSound result }
+        ensures numbered { result.head.stream < 2 ^ 31 }
         ensures written { Writes result self.old self.new }
+        ensures own { IsOwn result self.old self.new }
     {
         self.begun = true;
         make_first_settings()
@@ -46,8 +52,10 @@ impl Outbound {
         requires begun { self.old.begun ≡ true }
         requires going { self.old.gone ≡ false }
         ensures sound { IfOk result (λ o. IfSome o IsSound) }
+        ensures numbered { IfOk result (λ o. IfSome o (λ frame. frame.head.stream < 2 ^ 31)) }
         ensures frame { IfOk result (λ o. Progress o self.old self.new) }
         ensures none { IfOk result (λ o. IfNone o ((self.old.block ≡ None) × (self.new.due.items ≡ []) × ((id : ℕ) → owed_on self.new.credit id ≡ 0))) }
+        ensures own { IfOk result (λ o. OwnOrRests o self.old self.new) }
     {
         if let Some(frame) = self.block_frame()? {
             return Ok(Some(frame));
@@ -63,8 +71,10 @@ impl Outbound {
         requires begun { self.old.begun ≡ true }
         requires going { self.old.gone ≡ false }
         ensures sound { IfOk result (λ o. IfSome o IsSound) }
+        ensures numbered { IfOk result (λ o. IfSome o (λ frame. frame.head.stream < 2 ^ 31)) }
         ensures frame { IfOk result (λ o. WritesIf o self.old self.new) }
         ensures none { IfOk result (λ o. IfNone o (self.old.block ≡ None)) }
+        ensures own { IfOk result (λ o. OwnOrRests o self.old self.new) }
     {
         let Some(block) = self.block.take() else {
             return Ok(None);
@@ -78,8 +88,10 @@ impl Outbound {
     pub(crate) fn due_frame(&mut self) -> Result<Option<Frame>, AllocError>
         requires { IsBetween self.old }
         ensures sound { IfOk result (λ o. IfSome o IsSound) }
+        ensures numbered { IfOk result (λ o. IfSome o (λ frame. frame.head.stream < 2 ^ 31)) }
         ensures frame { IfOk result (λ o. IfSome o (λ frame. Writes frame self.old self.new)) }
         ensures none { IfOk result (λ o. IfNone o (self.new.due.items ≡ [])) }
+        ensures own { IfOk result (λ o. OwnOrRests o self.old self.new) }
         ensures still { IfOk result (λ o. IfNone o ((run : List Step) → MirrorsOf run self.old → MirrorsOf run self.new)) }
         ensures between { IfOk result (λ o. IfNone o (IsBetween self.new)) }
     {
@@ -95,7 +107,9 @@ impl Outbound {
     fn frame_of_due(&mut self, due: Due) -> Result<Option<Frame>, AllocError>
         requires { IsBetween self.old }
         ensures sound { IfOk result (λ o. IfSome o IsSound) }
+        ensures numbered { IfOk result (λ o. IfSome o (λ frame. frame.head.stream < 2 ^ 31)) }
         ensures written { IfOk result (λ o. WritesOrSkips due o self.old self.new) }
+        ensures own { IfOk result (λ o. OwnOfDue due o self.old self.new) }
     {
         match due {
             Due::SettingsAck => Ok(Some(self.settings_ack())),
@@ -119,7 +133,9 @@ impl Outbound {
     fn settings_ack(&mut self) -> Frame
         requires { IsBetween self.old }
         ensures sound { IsSound result }
+        ensures numbered { result.head.stream < 2 ^ 31 }
         ensures written { WritesDue due_kind.SettingsAck result self.old self.new }
+        ensures own { OwnByDue due_kind.SettingsAck result self.old self.new }
     {
         make_settings_ack()
     }
@@ -127,7 +143,9 @@ impl Outbound {
     fn ping_ack(&mut self, bytes: [u8; 8]) -> Result<Frame, AllocError>
         requires { IsBetween self.old }
         ensures sound { IfOk result IsSound }
+        ensures numbered { IfOk result (λ frame. frame.head.stream < 2 ^ 31) }
         ensures written { IfOk result (λ frame. WritesDue (due_kind.PingAck bytes) frame self.old self.new) }
+        ensures own { IfOk result (λ frame. OwnByDue (due_kind.PingAck bytes) frame self.old self.new) }
     {
         make_ping_ack(self.alloc, bytes)
     }
@@ -135,7 +153,9 @@ impl Outbound {
     fn goaway_frame(&mut self, last: StreamId, code: ErrorCode) -> Result<Frame, AllocError>
         requires { IsBetween self.old }
         ensures sound { IfOk result IsSound }
+        ensures numbered { IfOk result (λ frame. frame.head.stream < 2 ^ 31) }
         ensures written { IfOk result (λ frame. WritesDue (due_kind.Goaway last code) frame self.old self.new) }
+        ensures own { IfOk result (λ frame. OwnByDue (due_kind.Goaway last code) frame self.old self.new) }
     {
         let frame = make_goaway(self.alloc, last, code)?;
         self.gone = code.code() != 0;
@@ -144,8 +164,10 @@ impl Outbound {
 
     /// Whether it is a stream that isn't over.
     pub(crate) fn may_end(&self, id: StreamId) -> bool
+        ensures number { result ≡ true → id < 2 ^ 31 }
         ensures stream { result ≡ true → 0 < id }
         ensures open { result ≡ true → lookup (nat_eq id) self.now.over.entries ≡ None }
+        ensures value { result ≡ (is_number id && not (is_some (lookup (nat_eq id) self.now.over.entries))) }
     {
         is_stream(id) && !self.over.contains_key(&id)
     }
@@ -153,9 +175,12 @@ impl Outbound {
     fn reset_frame(&mut self, id: StreamId, code: ErrorCode) -> Result<Frame, AllocError>
         requires between { IsBetween self.old }
         requires stream { 0 < id }
+        requires number { id < 2 ^ 31 }
         requires open { lookup (nat_eq id) self.old.over.entries ≡ None }
         ensures sound { IfOk result IsSound }
+        ensures numbered { IfOk result (λ frame. frame.head.stream < 2 ^ 31) }
         ensures written { IfOk result (λ frame. WritesDue (due_kind.Reset id code) frame self.old self.new) }
+        ensures own { IfOk result (λ frame. OwnByDue (due_kind.Reset id code) frame self.old self.new) }
     {
         let frame = make_reset(self.alloc, id, code)?;
         self.credit.forget(id);
@@ -167,9 +192,12 @@ impl Outbound {
     fn refusal(&mut self, id: StreamId, fields: Sequence<Field>) -> Result<Frame, AllocError>
         requires between { IsBetween self.old }
         requires stream { 0 < id }
+        requires number { id < 2 ^ 31 }
         requires open { lookup (nat_eq id) self.old.over.entries ≡ None }
         ensures sound { IfOk result IsSound }
+        ensures numbered { IfOk result (λ frame. frame.head.stream < 2 ^ 31) }
         ensures written { IfOk result (λ frame. WritesDue (due_kind.Refuse id fields) frame self.old self.new) }
+        ensures own { IfOk result (λ frame. OwnByDue (due_kind.Refuse id fields) frame self.old self.new) }
     {
         let bytes = encoded(&mut self.encoder, fields.as_slice())?;
         self.headers_frame(id, true, bytes)
@@ -179,10 +207,12 @@ impl Outbound {
     pub(crate) fn credit_frame(&mut self) -> Result<Option<Frame>, AllocError>
         requires between { IsBetween self.old }
         ensures sound { IfOk result (λ o. IfSome o IsSound) }
+        ensures numbered { IfOk result (λ o. IfSome o (λ frame. frame.head.stream < 2 ^ 31)) }
         ensures frame { IfOk result (λ o. IfSome o (λ frame. Writes frame self.old self.new)) }
         ensures none { IfOk result (λ o. IfNone o ((id : ℕ) → owed_on self.new.credit id ≡ 0)) }
         ensures still { IfOk result (λ o. IfNone o (Stays self.old self.new × IsBetween self.new)) }
         ensures due { self.new.due ≡ self.old.due }
+        ensures own { IfOk result (λ o. OwnOrRests o self.old self.new) }
     {
         let Some((id, n)) = self.credit.next() else {
             return Ok(None);
@@ -199,9 +229,14 @@ impl Outbound {
     ) -> Result<Frame, AllocError>
         requires between { IsBetween self.old }
         requires stream { 0 < id }
+        requires number { id < 2 ^ 31 }
         requires open { lookup (nat_eq id) self.old.over.entries ≡ None }
         ensures sound { IfOk result IsSound }
+        ensures numbered { IfOk result (λ frame. frame.head.stream < 2 ^ 31) }
         ensures written { IfOk result (λ frame. Heads frame self.old self.new) }
+        ensures tells { IfOk result (λ frame. TellsBlock id ends bytes frame self.old self.new) }
+        ensures ends { OnOk result (Ends self.old.over.entries id ends self.new.over.entries) }
+        ensures rest { OnOk result (self.new ≡ record self.old { windows = self.new.windows; over = self.new.over; block = self.new.block }) }
     {
         close_if(&mut self.windows, &mut self.over, id, ends)?;
         let block = HeaderBlock {
@@ -229,12 +264,16 @@ impl Outbound {
     /// DATA for which there is room. It is taken out of the windows.
     pub(crate) fn data_frame(&mut self, id: StreamId, piece: Bytes) -> Frame
         requires between { IsBetween self.old }
+        requires number { id < 2 ^ 31 }
         requires open { lookup (nat_eq id) self.old.over.entries ≡ None }
         requires payload { length piece ≤ 16384 }
         requires room { length piece ≤ room self.old.windows id }
         requires fits { (history : List WindowStep) → Follows history self.old.windows → length piece ≤ room_after history id }
         ensures sound { IsSound result }
+        ensures numbered { result.head.stream < 2 ^ 31 }
         ensures written { Writes result self.old self.new }
+        ensures tells { TellsMore result (on_stream id (map Byte piece)) self.old self.new }
+        ensures rest { self.new ≡ record self.old { windows = self.new.windows } }
     {
         spend(&mut self.windows, id, piece.len() as u32);
         make_data(id, piece)

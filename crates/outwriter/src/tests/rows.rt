@@ -287,7 +287,7 @@ fn acts_are_told(rt: HostRuntime) -> Result<(), Fail> {
     check(&rt, rt.alloc(), ROWS.as_slice())
 }
 
-/// Each of 64 streams has a head and a message, and each gets its turn.
+/// Each of 64 streams has one item, its head, and each gets its turn.
 #[test]
 fn no_stream_starves(rt: HostRuntime) -> Result<(), Fail> {
     let alloc = rt.alloc();

@@ -1,6 +1,6 @@
 use Rattle.std.proofs.Common.{arith, is_some, length, subst, sym, ap, ◌∙◌}
 use Rattle.outwriter.specs.Credits.{IsSettledBut, AllFit}
-use Rattle.outwriter.proofs.CreditLemmas.{length-set_at, settled_but-set_at, fit-set_at, apart-puts}
+use Rattle.outwriter.proofs.CreditLemmas.{length-set_at, settled_but-set_at, fit-set_at, apart-puts, numbered-puts}
 use Rattle.outwriter.proofs.credit.Credit.grant.Goals as goal
 
 same_length : goal.bring_forward-self-inside-requires-clause-place
@@ -25,4 +25,6 @@ invariant_of-self-in-Some c = record {
   settled = c.bring_forward-self-inside.ensures.settled;
   apart = ap is_some (c.bring_forward-self-inside.ensures.same 0)
       ∙ apart-puts c.self.inside.streams.entries c.args.id _ c.add.new.streams.entries (omega (arith, c.if-id-eq0.false)) c.in-Some.ensures.3 c.self.invariant.apart;
+  numbered = λ id found. numbered-puts c.self.inside.streams.entries c.args.id _ c.add.new.streams.entries c.in-Some.ensures.3 (ap is_some c.in-Some.ensures.1) c.self.invariant.numbered
+      id (sym (ap is_some (c.bring_forward-self-inside.ensures.same id)) ∙ found);
 }

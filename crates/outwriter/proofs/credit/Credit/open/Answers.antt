@@ -13,7 +13,7 @@ invariant_of-self c =
     let settled : IsSettled c.if-is_reset.first = elim c.if-is_reset.branch [ then-is_reset w ↦ rw w.first-is tt | else-is_reset w ↦ rw w.first-is refl ] in
     let fits : Fits c.if-is_reset.first = elim c.if-is_reset.branch [ then-is_reset w ↦ rw w.first-is tt | else-is_reset w ↦ rw w.first-is (omega arith) ] in
     elim c.match-insert.branch [
-      | in-Ok w ↦ within-push c.self.inside.connection c.self.inside.streams.entries c.self.inside.owing c.args.id c.if-is_reset.first c.insert.new.self.entries c.self.invariant c.requires.stream fits settled
+      | in-Ok w ↦ within-push c.self.inside.connection c.self.inside.streams.entries c.self.inside.owing c.args.id c.if-is_reset.first c.insert.new.self.entries c.self.invariant c.requires.stream c.requires.number fits settled
           (w.in-Ok.ensures.entries ∙ insert_entry-new nat_eq c.self.inside.streams c.args.id c.if-is_reset.first none)
       | in-Err w ↦ rw w.in-Err.ensures.err c.self.invariant
     ]

@@ -1,6 +1,10 @@
-use Rattle.std.proofs.Common.{◌≡◌}
+use Rattle.std.proofs.Common.{◌≡◌, None}
 use Rattle.outwriter.specs.Mirrors.{IsBetween, SameOwn, Stays}
+use Rattle.outwriter.specs.Polling.{HoldsOn, KeepsFronts}
+use Rattle.outwriter.proofs.QuietSteps.{StuckBelow}
 use Rattle.outwriter.proofs.out_core.OutCore.frame_of_any.Given as goal
 
 abbrev pub invariant-loop-index : goal.invariant-loop-index
 invariant-loop-index g l = IsBetween l.self.outbound × SameOwn l.fn.self.outbound l.self.outbound × Stays l.fn.self.outbound l.self.outbound × (l.self.closed ≡ l.fn.self.closed)
+    × HoldsOn g.L.Lane.got None l.fn.self l.self × KeepsFronts g.L.Lane.got l.fn.self l.self × (l.self.is_dead ≡ l.fn.self.is_dead)
+    × StuckBelow g.L.Lane.got g.L.Lane.ahead l.index l.fn.self l.self

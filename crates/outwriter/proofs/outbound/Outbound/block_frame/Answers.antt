@@ -1,4 +1,8 @@
-use Rattle.std.proofs.Common.{subst, sym, Option, Some, ◌∙◌, ◌≡◌}
+use Rattle.std.proofs.Common.{subst, sym, inl, refl, ℕ, List, [], ◌∷◌, Option, Some, ◌∙◌, ◌≡◌, append-nil, true≢false}
+use Rattle.outwriter.specs.Parts.{Mark}
+use Rattle.outwriter.specs.Steps.{Written}
+use Rattle.outwriter.specs.Telling.{Spells}
+use Rattle.outwriter.proofs.TellSteps.{next-tells}
 use Rattle.outwriter.specs.declared.blocks.HeaderBlock.{HeaderBlock}
 use Rattle.outwriter.specs.Mirrors.{Mirrors}
 use Rattle.outwriter.proofs.EndSteps.{continuation-written}
@@ -9,3 +13,19 @@ returns-clause-frame c = λ run m.
     let is : c.args.self.now.block ≡ Some c.in-Some.block = sym c.take.ensures.value ∙ c.in-Some.is in
     continuation-written run _ _ _ _ _ c.in-Some.block _ _ _ c.in_ok-frame.ensures.frame c.in_ok-frame.ensures.rest c.requires.begun c.requires.going
     (subst (λ (b : Option HeaderBlock). Mirrors run c.args.self.now.begun c.args.self.now.gone c.args.self.now.windows c.args.self.now.over.entries c.args.self.now.due.items b c.args.self.now.credit) is m)
+
+pub returns-clause-own : goal.returns-clause-own
+returns-clause-own c =
+    let is : c.args.self.now.block ≡ Some c.in-Some.block = sym c.take.ensures.value ∙ c.in-Some.is in (
+      λ id. refl,
+      inl (
+        λ run marks spells. (
+          λ e. absurd (true≢false (sym c.requires.begun ∙ e)),
+          subst (λ (all : List (ℕ × Mark)). Spells (Written c.in_ok-frame.frame ∷ run) c.in_ok-frame.rest c.args.self.now.encoder all) (sym (append-nil marks))
+              (next-tells run c.in-Some.block c.in_ok-frame.frame c.in_ok-frame.rest c.args.self.now.encoder marks c.in_ok-frame.ensures.frame c.in_ok-frame.ensures.rest
+              (subst (λ (b : Option HeaderBlock). Spells run b c.args.self.now.encoder marks) is spells.1)),
+        ),
+        refl,
+        ([], refl),
+      ),
+    )

@@ -1,4 +1,5 @@
-use Rattle.std.proofs.Common.{subst, sym, false, take}
+use Rattle.std.proofs.Common.{subst, sym, ◌∙◌, false, true≢false, take}
+use Rattle.outwriter.proofs.TellSteps.{first-tells}
 use Rattle.outwriter.specs.declared.blocks.HeaderBlock.{HeaderBlock}
 use Rattle.outwriter.specs.Blocks.{is_short}
 use Rattle.outwriter.specs.Mirrors.{Keeps}
@@ -12,3 +13,10 @@ returns-clause-written c = λ run before m dues.
     c.requires.between.begun c.requires.between.going c.requires.between.no_block c.requires.stream c.requires.open
     c.in_ok-close_if.ensures.windows c.in_ok-close_if.ensures.over
     (subst (Keeps c.args.id (is_short block)) (sym c.in_ok-frame.ensures.rest) (keeps-rest block)) dues m
+
+pub returns-clause-tells : goal.returns-clause-tells
+returns-clause-tells c = λ run marks fields before spells writes. (
+  λ e. absurd (true≢false (sym c.requires.between.begun ∙ e)),
+  first-tells run c.args.id c.args.ends c.args.bytes _ c.args.self.now.block _ before c.args.self.now.encoder fields marks c.in_ok-frame.ensures.frame c.in_ok-frame.ensures.rest
+      c.requires.between.no_block spells writes,
+)

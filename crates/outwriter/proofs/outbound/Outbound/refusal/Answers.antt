@@ -1,4 +1,7 @@
-use Rattle.std.proofs.Common.{◌∷◌}
+use Rattle.std.proofs.Common.{refl, subst, List, ◌∷◌}
+use Rattle.hpack_codec.specs.declared.fields.Field.{Field}
+use Rattle.hpack_codec.specs.Codec.{Writes}
+use Rattle.outwriter.proofs.TellStepsOwn.{refusal-own}
 use Rattle.std.proofs.lemmas.Result.{IfOk-weaker}
 use Rattle.h2frame.specs.declared.frame.Frame.{Frame}
 use Rattle.outwriter.specs.declared.due.Due.TheVariants.{Refuse}
@@ -9,3 +12,9 @@ pub returns-clause-written : goal.returns-clause-written
 returns-clause-written c = IfOk-weaker c.headers_frame.result _ (λ (frame : Frame). WritesDue (Refuse c.args.id c.args.fields) frame c.args.self.now c.headers_frame.new.self)
     (λ frame heads run m. heads run (Refuse c.args.id c.args.fields ∷ c.args.self.now.due.items) m m.acknowledges)
     c.headers_frame.ensures.written
+
+pub returns-clause-own : goal.returns-clause-own
+returns-clause-own c = refusal-own c.args.id c.args.fields c.in_ok-bytes.bytes c.headers_frame.result c.args.self.now (record c.args.self.now { encoder = c.encoded.new.encoder }) c.headers_frame.new.self
+    refl c.requires.open
+    (subst (λ (fields : List Field). Writes c.args.self.now.encoder fields c.in_ok-bytes.bytes c.encoded.new.encoder) c.as_slice.ensures c.in_ok-bytes.ensures)
+    c.headers_frame.ensures.tells c.headers_frame.ensures.ends c.headers_frame.ensures.rest

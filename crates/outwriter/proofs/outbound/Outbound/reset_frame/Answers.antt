@@ -1,6 +1,25 @@
+use Rattle.std.proofs.Common.{refl}
+use Rattle.outwriter.specs.Frames.{reset_frame}
+use Rattle.outwriter.proofs.TellSteps.{plain-tells}
 use Rattle.outwriter.proofs.EndSteps.{reset-written}
 use Rattle.outwriter.proofs.outbound.Outbound.reset_frame.Goals as goal
 
 pub returns-clause-written : goal.returns-clause-written
 returns-clause-written c = λ run m. reset-written run _ _ _ _ _ _ _ _ _ _ c.args.id c.args.code _ c.in_ok-frame.ensures c.requires.between.begun c.requires.between.going c.requires.between.no_block
     c.requires.stream c.requires.open c.in_ok-close.ensures.windows c.in_ok-close.ensures.over c.forget.ensures m
+
+pub returns-clause-own : goal.returns-clause-own
+returns-clause-own c = (
+  (refl, λ id. (c.forget.ensures id).0),
+  (
+    (
+      _,
+      λ run marks spells. (
+        spells.0,
+        plain-tells run (reset_frame c.args.id c.args.code) c.in_ok-frame.frame c.args.self.now.block c.args.self.now.block c.args.self.now.encoder marks
+            c.in_ok-frame.ensures (λ begun. refl) c.requires.between.no_block c.requires.between.no_block spells.1,
+      ),
+    ),
+    (c.requires.open, c.in_ok-close.ensures.over),
+  ),
+)

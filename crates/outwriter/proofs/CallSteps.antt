@@ -1,0 +1,266 @@
+-- What a writer keeps of its calls, after a control that it takes.
+use Rattle.std.proofs.Common.{◌≡◌, ℕ, ◌<◌, ◌==◌, inl, refl, sym, ap, subst, ◌∙◌, Bool, true, false, List, [], Option, Some, None, length, get_or, arith, nat_eq, true≢false}
+use Rattle.std.specs.Prelude.{All, ◌||◌, is_some, if◌then◌else◌}
+use Rattle.std.specs.Map.{lookup}
+use Rattle.std.proofs.lemmas.Bool.{eqb-true, eq-eqb, ne_eqb}
+use Rattle.std.proofs.lemmas.List.Elements.{All-append, All-nil, All-weaker}
+use Rattle.callbox.specs.declared.account.OutItem.{OutItem}
+use Rattle.outwriter.specs.declared.due.Due.{Due}
+use Rattle.outwriter.specs.declared.due.Due.TheVariants as due_kind
+use Rattle.outwriter.specs.declared.outbound.Outbound.{Outbound}
+use Rattle.outwriter.specs.declared.stream.OpenStream.{OpenStream}
+use Rattle.outwriter.specs.Calls.{is_fresh, is_served}
+use Rattle.outwriter.specs.Credits.{Owed, knows, nothing_owed}
+use Rattle.outwriter.specs.Keeping.{Closes}
+use Rattle.outwriter.specs.Mirrors.{Sets}
+use Rattle.outwriter.specs.Parts.{Mark, marks_on}
+use Rattle.outwriter.specs.Serving.{Serves, Takes, MayBeDue, IsEnded, none_is_new}
+use Rattle.outwriter.specs.Steps.{Step}
+use Rattle.outwriter.specs.Telling.{SpellsOf}
+use Rattle.outwriter.proofs.Fronts.{open-begins}
+use Rattle.outwriter.proofs.TellSteps.{takes-tells}
+
+-- ---- tests
+
+pub over-same : (more : List Due) (is_new : ℕ → Bool) (o new : Outbound) → Takes more is_new o new → (id : ℕ)
+    → lookup (nat_eq id) new.over.entries ≡ lookup (nat_eq id) o.over.entries
+over-same more is_new o new takes id = cc (takes.over)
+
+-- a test that keeps its no was passed where it is passed
+pub was-true : (b c : Bool) → (b ≡ false → c ≡ false) → c ≡ true → b ≡ true
+was-true true c keeps e = refl
+was-true false c keeps e = absurd (true≢false (sym e ∙ keeps refl))
+
+pub either : (a b c d : Bool) → (a ≡ true → c ≡ true) → (b ≡ true → d ≡ true) → (a || b) ≡ true → (c || d) ≡ true
+either true b c d left right e = ap (λ x. x || d) (left refl)
+either false b true d left right e = refl
+either false b false d left right e = right e
+
+is-nothing : (o : Option Bool) → is_some o ≡ false → o ≡ None
+is-nothing None e = refl
+is-nothing (Some b) e = cc
+
+pub not-some : {X : Type 0} (o : Option X) (x : X) → o ≡ None → o ≡ Some x → ⊥
+not-some o x e f = cc
+
+-- nothing is a front of nothing
+pub none-ended : (over : Option Bool) (told : List Mark) → told ≡ [] → IsEnded over told []
+none-ended over told e = subst (λ (l : List Mark). IsEnded over l []) (sym e) (inl ([], refl), λ isnt. ([], refl))
+
+-- ---- what is due
+
+-- a stream of which a refusal or a reset is due is so still
+module _ (run after : List Step) (o new : Outbound) (streams left : List (ℕ × OpenStream)) (others more : List (ℕ × Bool)) where
+  pub record StaysDue : Type 0 where
+    pub refused : (id : ℕ) → is_fresh id run ≡ false → is_served id run ≡ false → is_some (lookup (nat_eq id) others) ≡ true
+        → (is_fresh id after ≡ false) × (is_served id after ≡ false) × (is_some (lookup (nat_eq id) more) ≡ true)
+    pub reset : (id : ℕ) → lookup (nat_eq id) streams ≡ None → (is_some (lookup (nat_eq id) others) || knows o.credit id) ≡ true
+        → (lookup (nat_eq id) left ≡ None) × ((is_some (lookup (nat_eq id) more) || knows new.credit id) ≡ true)
+
+  stays-due : StaysDue → (one : Due) → MayBeDue run o streams others one → MayBeDue after new left more one
+  stays-due s (due_kind.Refuse id fields) h = s.refused id h.0 h.1 h.2
+  stays-due s (due_kind.Reset id code) h = s.reset id h.0 h.1
+  stays-due s due_kind.SettingsAck h = tt
+  stays-due s (due_kind.PingAck bytes) h = tt
+  stays-due s (due_kind.Goaway last code) h = tt
+
+  pub all-due : StaysDue → (waiting : List Due) → All (MayBeDue run o streams others) waiting → All (MayBeDue after new left more) waiting
+  all-due s waiting all = All-weaker (MayBeDue run o streams others) (MayBeDue after new left more) (stays-due s) waiting all
+
+-- ---- a step that opens and ends no stream
+
+pub serves-same : (run after : List Step) (o new : Outbound) (streams : List (ℕ × OpenStream)) (others : List (ℕ × Bool)) (calls : List (ℕ × List OutItem))
+    (marks : List (ℕ × Mark)) (more : List Due) → Takes more none_is_new o new → SpellsOf after new marks
+    → ((id : ℕ) → is_fresh id run ≡ false → is_fresh id after ≡ false) → ((id : ℕ) → is_served id after ≡ is_served id run)
+    → All (MayBeDue after new streams others) more
+    → Serves run o streams others calls marks → Serves after new streams others calls marks
+serves-same run after o new streams others calls marks more takes spells fresh served due s =
+    let over = over-same more none_is_new o new takes in
+    let knowing : (id : ℕ) → knows new.credit id ≡ knows o.credit id = takes.knows in
+    let still : StaysDue run after o new streams streams others others = record {
+      refused = λ id e f g. (fresh id e, served id ∙ f, g);
+      reset = λ id e f. (e, ap (λ b. is_some (lookup (nat_eq id) others) || b) (knowing id) ∙ f);
+    } in
+    record {
+      spells = spells;
+      exact = s.exact;
+      not_over = λ id stream e. over id ∙ s.not_over id stream e;
+      known = λ id stream e. knowing id ∙ s.known id stream e;
+      numbered = s.numbered;
+      ended = λ k d within none is. subst (λ (b : Option Bool). IsEnded b (marks_on (get_or calls k d).0 marks) (get_or calls k d).1) (sym (over (get_or calls k d).0))
+          (s.ended k d within none (sym (served (get_or calls k d).0) ∙ is));
+      apart = λ i j d first second differ same. served (get_or calls i d).0 ∙ s.apart i j d first second differ same;
+      opened = λ k d within. fresh (get_or calls k d).0 (s.opened k d within);
+      credited = λ id e. fresh id (s.credited id (sym (knowing id) ∙ e));
+      served = λ id e f. knowing id ∙ s.served id (sym (served id) ∙ e) f;
+      due = subst (All (MayBeDue after new streams others)) (sym takes.due)
+          (All-append (MayBeDue after new streams others) o.due.items more (all-due run after o new streams streams others others still o.due.items s.due) due);
+      unknown = λ id e f. let u = s.unknown id (sym (knowing id) ∙ e) f in (u.0, over id ∙ u.1);
+      other = λ id was_reset e. let h = s.other id was_reset e in
+          (h.0, λ f. subst (λ (b : Option Bool). IsEnded b (marks_on id marks) []) (sym (over id)) (h.1 (was-true (is_fresh id run) (is_fresh id after) (fresh id) f)));
+    }
+
+-- ---- the start
+
+-- nothing was told, and no stream is known
+pub serves-nothing : (o : Outbound) (streams : List (ℕ × OpenStream)) (others : List (ℕ × Bool)) (calls : List (ℕ × List OutItem))
+    → SpellsOf [] o [] → o.due.items ≡ [] → o.credit ≡ nothing_owed → o.over.entries ≡ [] → streams ≡ [] → others ≡ [] → calls ≡ []
+    → Serves [] o streams others calls []
+serves-nothing o streams others calls spells due credit over no_streams no_others no_calls =
+    let none : (id : ℕ) (stream : OpenStream) → lookup (nat_eq id) streams ≡ Some stream → ⊥ =
+    λ id stream e. not-some (lookup (nat_eq id) streams) stream (ap (λ (l : List (ℕ × OpenStream)). lookup (nat_eq id) l) no_streams) e in
+    let empty : (k : ℕ) → k < length calls → ⊥ = λ k within. omega (arith, within, ap length no_calls) in
+    let unknown : (id : ℕ) → knows o.credit id ≡ true → ⊥ = λ id e. true≢false (sym e ∙ ap (λ (c : Owed). knows c id) credit) in
+    record {
+      spells = spells;
+      exact = λ id stream e. absurd (none id stream e);
+      not_over = λ id stream e. absurd (none id stream e);
+      known = λ id stream e. absurd (none id stream e);
+      numbered = λ id stream e. absurd (none id stream e);
+      ended = λ k d within e f. absurd (empty k within);
+      apart = λ i j d first second differ same. refl;
+      opened = λ k d within. absurd (empty k within);
+      credited = λ id e. absurd (unknown id e);
+      served = λ id e f. absurd (true≢false (sym e));
+      due = subst (All (MayBeDue [] o streams others)) (sym due) (All-nil (MayBeDue [] o streams others));
+      unknown = λ id e f. (refl, ap (λ (l : List (ℕ × Bool)). lookup (nat_eq id) l) over);
+      other = λ id was_reset e. absurd (not-some (lookup (nat_eq id) others) was_reset (ap (λ (l : List (ℕ × Bool)). lookup (nat_eq id) l) no_others) e);
+    }
+
+-- ---- a stream that isn't a call's is refused or reset
+
+-- it is among the others then: nothing was told of it but perhaps a reset
+pub serves-other : (run : List Step) (o : Outbound) (streams : List (ℕ × OpenStream)) (others more : List (ℕ × Bool)) (calls : List (ℕ × List OutItem))
+    (marks : List (ℕ × Mark)) (id : ℕ) (value : Bool) → knows o.credit id ≡ false → Sets others id value more
+    → Serves run o streams others calls marks → Serves run o streams more calls marks
+serves-other run o streams others more calls marks id value isnt sets s = record {
+  spells = s.spells;
+  exact = s.exact;
+  not_over = s.not_over;
+  known = s.known;
+  numbered = s.numbered;
+  ended = s.ended;
+  apart = s.apart;
+  opened = s.opened;
+  credited = s.credited;
+  served = s.served;
+  due = all-due run run o o streams streams others more (record {
+    refused = λ k e f g. (e, f, still k g);
+    reset = λ k e f. (e, either (is_some (lookup (nat_eq k) others)) (knows o.credit k) (is_some (lookup (nat_eq k) more)) (knows o.credit k) (still k) (λ x. x) f);
+  }) o.due.items s.due;
+  unknown = λ k e f. s.unknown k e (was-none k f);
+  other = other;
+}
+  where
+    still : (k : ℕ) → is_some (lookup (nat_eq k) others) ≡ true → is_some (lookup (nat_eq k) more) ≡ true
+    still k e = by (k == id) refl
+      where
+        by : (b : Bool) → (k == id) ≡ b → is_some (lookup (nat_eq k) more) ≡ true
+        by true p = ap is_some (sets k ∙ ap (λ b. if b then Some value else lookup (nat_eq k) others) p)
+        by false p = ap is_some (sets k ∙ ap (λ b. if b then Some value else lookup (nat_eq k) others) p) ∙ e
+
+    was-none : (k : ℕ) → lookup (nat_eq k) more ≡ None → lookup (nat_eq k) others ≡ None
+    was-none k e = is-nothing (lookup (nat_eq k) others) (by (is_some (lookup (nat_eq k) others)) refl)
+      where
+        by : (b : Bool) → is_some (lookup (nat_eq k) others) ≡ b → b ≡ false
+        by true p = absurd (true≢false (sym (still k p) ∙ ap is_some e))
+        by false p = refl
+
+    closed : lookup (nat_eq id) streams ≡ None
+    closed = by (lookup (nat_eq id) streams) refl
+      where
+        by : (found : Option OpenStream) → lookup (nat_eq id) streams ≡ found → found ≡ None
+        by None p = refl
+        by (Some stream) p = absurd (true≢false (sym (s.known id stream p) ∙ isnt))
+
+    ended-here : (found : Option Bool) → lookup (nat_eq id) others ≡ found → is_fresh id run ≡ true
+        → IsEnded (lookup (nat_eq id) o.over.entries) (marks_on id marks) []
+    ended-here None p fresh = none-ended (lookup (nat_eq id) o.over.entries) (marks_on id marks) (s.unknown id isnt p).0
+    ended-here (Some was_reset) p fresh = (s.other id was_reset p).1 fresh
+
+    other : (k : ℕ) (was_reset : Bool) → lookup (nat_eq k) more ≡ Some was_reset
+        → (lookup (nat_eq k) streams ≡ None) × (is_fresh k run ≡ true → IsEnded (lookup (nat_eq k) o.over.entries) (marks_on k marks) [])
+    other k was_reset e = by (k == id) refl
+      where
+        by : (b : Bool) → (k == id) ≡ b → (lookup (nat_eq k) streams ≡ None) × (is_fresh k run ≡ true → IsEnded (lookup (nat_eq k) o.over.entries) (marks_on k marks) [])
+        by true p = subst (λ (n : ℕ). (lookup (nat_eq n) streams ≡ None) × (is_fresh n run ≡ true → IsEnded (lookup (nat_eq n) o.over.entries) (marks_on n marks) []))
+            (sym (eqb-true k id p)) (closed, ended-here (lookup (nat_eq id) others) refl)
+        by false p = s.other k was_reset (sym (sets k ∙ ap (λ b. if b then Some value else lookup (nat_eq k) others) p) ∙ e)
+
+-- ---- a call's stream is reset
+
+-- what was told of it begins what its items spell
+pub serves-closed : (run : List Step) (o : Outbound) (streams left : List (ℕ × OpenStream)) (others : List (ℕ × Bool)) (calls : List (ℕ × List OutItem))
+    (marks : List (ℕ × Mark)) (id : ℕ) → Closes id streams left
+    → Serves run o streams others calls marks → Serves run o left others calls marks
+serves-closed run o streams left others calls marks id closes s = record {
+  spells = s.spells;
+  exact = λ k stream e. s.exact k stream (was-open k stream e);
+  not_over = λ k stream e. s.not_over k stream (was-open k stream e);
+  known = λ k stream e. s.known k stream (was-open k stream e);
+  numbered = λ k stream e. s.numbered k stream (was-open k stream e);
+  ended = λ k d within none is. ended k d within is (lookup (nat_eq (get_or calls k d).0) streams) refl;
+  apart = s.apart;
+  opened = s.opened;
+  credited = s.credited;
+  served = s.served;
+  due = all-due run run o o streams left others others (record {
+    refused = λ k e f g. (e, f, g);
+    reset = λ k e f. (still-none k e, f);
+  }) o.due.items s.due;
+  unknown = s.unknown;
+  other = λ k was_reset e. let h = s.other k was_reset e in (still-none k h.0, h.1);
+}
+  where
+    was-open : (k : ℕ) (stream : OpenStream) → lookup (nat_eq k) left ≡ Some stream → lookup (nat_eq k) streams ≡ Some stream
+    was-open k stream e = by (k == id) refl
+      where
+        by : (b : Bool) → (k == id) ≡ b → lookup (nat_eq k) streams ≡ Some stream
+        by true p = absurd (not-some (lookup (nat_eq k) left) stream (closes k ∙ ap (λ b. if b then None else lookup (nat_eq k) streams) p) e)
+        by false p = sym (closes k ∙ ap (λ b. if b then None else lookup (nat_eq k) streams) p) ∙ e
+
+    still-none : (k : ℕ) → lookup (nat_eq k) streams ≡ None → lookup (nat_eq k) left ≡ None
+    still-none k e = by (k == id) refl
+      where
+        by : (b : Bool) → (k == id) ≡ b → lookup (nat_eq k) left ≡ None
+        by true p = closes k ∙ ap (λ b. if b then None else lookup (nat_eq k) streams) p
+        by false p = closes k ∙ ap (λ b. if b then None else lookup (nat_eq k) streams) p ∙ e
+
+    ended : (k : ℕ) (d : ℕ × List OutItem) → k < length calls → is_served (get_or calls k d).0 run ≡ true
+        → (found : Option OpenStream) → lookup (nat_eq (get_or calls k d).0) streams ≡ found
+        → IsEnded (lookup (nat_eq (get_or calls k d).0) o.over.entries) (marks_on (get_or calls k d).0 marks) (get_or calls k d).1
+    ended k d within is None p = s.ended k d within p is
+    ended k d within is (Some stream) p =
+        let begins = open-begins run o streams others calls marks s k d stream within p is in
+        (inl begins, λ isnt. begins)
+
+-- ---- maps
+
+-- std's words for what changes in a map, with the key that is looked up on the left
+turned : (k id : ℕ) → nat_eq id k ≡ (k == id)
+turned k id = by (k == id) refl
+  where
+    by : (b : Bool) → (k == id) ≡ b → nat_eq id k ≡ (k == id)
+    by true p = eq-eqb id k (sym (eqb-true k id p)) ∙ sym p
+    by false p = ne_eqb id k (λ e. true≢false (sym (eq-eqb k id (sym e)) ∙ p)) ∙ sym p
+
+pub updated : {X : Type 0} (old new : List (ℕ × X)) (id : ℕ) (value : Option X)
+    → ((q : ℕ) → lookup (nat_eq q) new ≡ (if nat_eq id q then value else lookup (nat_eq q) old))
+    → (k : ℕ) → lookup (nat_eq k) new ≡ (if k == id then value else lookup (nat_eq k) old)
+updated old new id value updates k = updates k ∙ ap (λ b. if b then value else lookup (nat_eq k) old) (turned k id)
+
+-- ---- without a step
+
+pub serves-kept : (run : List Step) (o new : Outbound) (streams : List (ℕ × OpenStream)) (others : List (ℕ × Bool)) (calls : List (ℕ × List OutItem))
+    (marks : List (ℕ × Mark)) → Takes [] none_is_new o new → Serves run o streams others calls marks → Serves run new streams others calls marks
+serves-kept run o new streams others calls marks takes s =
+    serves-same run run o new streams others calls marks [] takes (takes-tells [] none_is_new o new takes run marks s.spells) (λ id e. e) (λ id. refl)
+    (All-nil (MayBeDue run new streams others)) s
+
+-- the same streams
+pub serves-equal : (run : List Step) (o : Outbound) (streams left : List (ℕ × OpenStream)) (others more : List (ℕ × Bool)) (calls now : List (ℕ × List OutItem))
+    (marks : List (ℕ × Mark)) → left ≡ streams → more ≡ others → now ≡ calls → Serves run o streams others calls marks → Serves run o left more now marks
+serves-equal run o streams left others more calls now marks a b c s =
+    subst (λ (l : List (ℕ × OpenStream)). Serves run o l more now marks) (sym a)
+    (subst (λ (l : List (ℕ × Bool)). Serves run o streams l now marks) (sym b)
+    (subst (λ (l : List (ℕ × List OutItem)). Serves run o streams others l marks) (sym c) s))

@@ -1,0 +1,93 @@
+-- What a core keeps of its calls after a control, as callers see it.
+use Rattle.std.proofs.Common.{◌≡◌, ℕ, sym, ap, subst, ◌∙◌, Bool, false, List, [], ◌∷◌, Result, Ok, Err}
+use Rattle.std.specs.Prelude.{All, OnOk, OnErr, IfErr, if◌then◌else◌}
+use Rattle.std.proofs.lemmas.List.Elements.{All-cons, All-nil, All-weaker}
+use Rattle.callbox.specs.declared.account.OutItem.{OutItem}
+use Rattle.callbox.specs.declared.sender.Sender.{Sender}
+use Rattle.outwriter.specs.declared.control.Control.{Control}
+use Rattle.outwriter.specs.declared.control.OutFault.{OutFault}
+use Rattle.outwriter.specs.declared.control.OutFault.TheVariants.{OutOfMemory, PeerWindow}
+use Rattle.outwriter.specs.declared.due.Due.{Due}
+use Rattle.outwriter.specs.declared.due.Due.TheVariants as due_kind
+use Rattle.outwriter.specs.declared.out_core.OutCore.{OutCore}
+use Rattle.outwriter.specs.declared.outbound.Outbound.{Outbound}
+use Rattle.outwriter.specs.declared.stream.OpenStream.{OpenStream}
+use Rattle.outwriter.specs.Calls.{is_fresh, is_served, opens_stream, refuses_stream}
+use Rattle.outwriter.specs.Cores.{ServesControl, ServesOn, ServesStill, IsUnused, calls}
+use Rattle.outwriter.specs.Keeping.{KeepsServing}
+use Rattle.outwriter.specs.Mirrors.{IsMemory}
+use Rattle.outwriter.specs.Serving.{Takes, MayBeDue, none_is_new}
+use Rattle.outwriter.specs.Steps.{Step, Taken, order_of}
+use Rattle.outwriter.proofs.CallSteps.{serves-equal, serves-kept}
+use Rattle.outwriter.proofs.CallStepsCores.{serving-on}
+use Rattle.outwriter.proofs.CallStepsOrders.{serves-ordered}
+
+-- ---- what is due of no stream
+
+abbrev pub IsPlainDue : Due → Type 0
+IsPlainDue (due_kind.Refuse id fields) = ⊥
+IsPlainDue (due_kind.Reset id code) = ⊥
+IsPlainDue _ = Unit {0}
+
+plain-may : (run : List Step) (o : Outbound) (streams : List (ℕ × OpenStream)) (others : List (ℕ × Bool)) (one : Due) → IsPlainDue one → MayBeDue run o streams others one
+plain-may run o streams others (due_kind.Refuse id fields) h = absurd h
+plain-may run o streams others (due_kind.Reset id code) h = absurd h
+plain-may run o streams others due_kind.SettingsAck h = tt
+plain-may run o streams others (due_kind.PingAck bytes) h = tt
+plain-may run o streams others (due_kind.Goaway last code) h = tt
+
+pub one-plain : (one : Due) → IsPlainDue one → All IsPlainDue (one ∷ [])
+one-plain one h = All-cons IsPlainDue one [] h (All-nil IsPlainDue)
+
+pub none-plain : All IsPlainDue []
+none-plain = All-nil IsPlainDue
+
+-- ---- tests
+
+pub ok-from : {X E : Type 0} (r : Result X E) (P Q : Type 0) → OnOk r P → OnOk r (Q → P)
+ok-from (Ok x) P Q h = λ q. h
+ok-from (Err y) P Q h = h
+
+-- ---- controls
+
+module _ {L In Out Shut : Type 0} (got : Out → List OutItem) (old : OutCore L In Out Shut) (alive : old.is_dead ≡ false) where
+  -- room for what is due
+  pub keeps-room : (made : Outbound) → Takes [] none_is_new old.outbound made → KeepsServing got [] old (record old { outbound = made })
+  keeps-room made takes run marks s =
+      serves-kept run old.outbound made old.streams.entries old.others.entries (calls got old.senders.items) marks takes s
+
+  pub serving-room : (made : Outbound) → Takes [] none_is_new old.outbound made → ServesStill got old (record old { outbound = made })
+  serving-room made takes = serving-on got old (record old { outbound = made }) [] alive (keeps-room made takes)
+
+  -- a control that is none of a stream
+  pub serving-plain : (new : OutCore L In Out Shut) (made : Outbound) (control given : Control (Sender L In Out Shut)) (more : List Due)
+      → control ≡ given → ((id : ℕ) → opens_stream id (order_of given) ≡ false) → ((id : ℕ) → refuses_stream id (order_of given) ≡ false) → All IsPlainDue more
+      → new.streams ≡ old.streams → new.others ≡ old.others → new.senders ≡ old.senders
+      → Takes [] none_is_new old.outbound made → Takes more none_is_new made new.outbound → ServesOn got (Taken (order_of control)) old new
+  serving-plain new made control given more is opens refuses plain streams others senders room takes =
+      subst (λ (c : Control (Sender L In Out Shut)). ServesOn got (Taken (order_of c)) old new) (sym is)
+      (serving-on got old new (Taken (order_of given) ∷ []) alive (λ run marks s.
+      serves-equal (Taken (order_of given) ∷ run) new.outbound old.streams.entries new.streams.entries old.others.entries new.others.entries
+      (calls got old.senders.items) (calls got new.senders.items) marks
+      (ap (λ map. map.entries) streams) (ap (λ map. map.entries) others) (ap (λ list. calls got list.items) senders)
+      (serves-ordered run made new.outbound old.streams.entries old.others.entries (calls got old.senders.items) marks (order_of given) more
+      (λ id. ap (λ b. if b then false else (if refuses_stream id (order_of given) then false else is_fresh id run)) (opens id)
+      ∙ ap (λ b. if b then false else is_fresh id run) (refuses id))
+      (λ id. ap (λ b. if b then is_fresh id run else is_served id run) (opens id))
+      (All-weaker IsPlainDue (MayBeDue (Taken (order_of given) ∷ run) new.outbound old.streams.entries old.others.entries)
+      (plain-may (Taken (order_of given) ∷ run) new.outbound old.streams.entries old.others.entries) more plain)
+      takes
+      (keeps-room made room run marks s))))
+
+  -- one that is, as it is answered
+  pub serving-answered : (new : OutCore L In Out Shut) (made : Outbound) (result : Result (Unit {0}) (OutFault (Sender L In Out Shut)))
+      (control given : Control (Sender L In Out Shut)) → control ≡ given → Takes [] none_is_new old.outbound made
+      → OnOk result (IsUnused got given → KeepsServing got (Taken (order_of given) ∷ []) (record old { outbound = made }) new)
+      → OnErr result (KeepsServing got [] (record old { outbound = made }) new) → IfErr result IsMemory → ServesControl got result control old new
+  serving-answered new made (Ok done) control given is room served still memory = λ unused.
+      subst (λ (c : Control (Sender L In Out Shut)). ServesOn got (Taken (order_of c)) old new) (sym is)
+      (serving-on got old new (Taken (order_of given) ∷ []) alive
+      (λ run marks s. served (subst (IsUnused got) is unused) run marks (keeps-room made room run marks s)))
+  serving-answered new made (Err (OutOfMemory back)) control given is room served still memory =
+      serving-on got old new [] alive (λ run marks s. still run marks (keeps-room made room run marks s))
+  serving-answered new made (Err (PeerWindow id)) control given is room served still memory = absurd memory

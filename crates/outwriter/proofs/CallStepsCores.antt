@@ -1,0 +1,74 @@
+-- What a writer's core keeps of its calls, as callers see it.
+use Rattle.std.proofs.Common.{◌≡◌, ℕ, refl, sym, ap, subst, ◌∙◌, Bool, false, List, [], ◌∷◌, ◌++◌, length}
+use Rattle.std.proofs.lemmas.List.{length-map, map-append}
+use Rattle.callbox.specs.declared.account.OutItem.{OutItem}
+use Rattle.callbox.specs.declared.sender.Sender.{Sender}
+use Rattle.outwriter.specs.declared.control.Control.TheVariants as order
+use Rattle.outwriter.specs.declared.out_core.OutCore.{OutCore}
+use Rattle.outwriter.specs.declared.outbound.Outbound.{Outbound}
+use Rattle.outwriter.specs.declared.stream.OpenStream.{OpenStream}
+use Rattle.outwriter.specs.Calls.{TellFronts}
+use Rattle.outwriter.specs.Cores.{Serving, calls, ServesOn}
+use Rattle.outwriter.specs.Credits.{nothing_owed}
+use Rattle.outwriter.specs.Keeping.{KeepsServing, Prepares}
+use Rattle.outwriter.specs.Parts.{Mark}
+use Rattle.outwriter.specs.Serving.{Serves}
+use Rattle.outwriter.specs.Steps.{Step, Taken, Granted}
+use Rattle.outwriter.specs.Telling.{SpellsOf}
+use Rattle.outwriter.proofs.CallSteps.{serves-equal, serves-nothing}
+use Rattle.outwriter.proofs.CallStepsOpen.{serves-opened}
+use Rattle.outwriter.proofs.Fronts.{fronts_of}
+
+module _ {L In Out Shut : Type 0} (got : Out → List OutItem) (old new : OutCore L In Out Shut) where
+  -- as long as the core lives, what was told follows from what is kept
+  pub serving-on : (more : List Step) → old.is_dead ≡ false → KeepsServing got more old new → (run : List Step) → Serving got run old → Serving got (more ++ run) new
+  serving-on more alive keeps run s =
+      let m = s.serves alive in
+      let after = keeps run m.0 m.1 in
+      record {
+        fronts = fronts_of (more ++ run) new.outbound new.streams.entries new.others.entries (calls got new.senders.items) m.0 after;
+        serves = λ still. (m.0, after);
+      }
+
+  -- credit tells nothing, of a dead core as well
+  pub serving-granted : (id n : ℕ) → new.is_dead ≡ old.is_dead → calls got new.senders.items ≡ calls got old.senders.items
+      → KeepsServing got (Granted id n ∷ []) old new → ServesOn got (Granted id n) old new
+  serving-granted id n same senders keeps run s = record {
+    fronts = subst (λ (l : List (ℕ × List OutItem)). TellFronts (Granted id n ∷ run) l) (sym senders) s.fronts;
+    serves = λ alive. let m = s.serves (sym same ∙ alive) in (m.0, keeps run m.0 m.1);
+  }
+
+-- a core of which nothing is kept
+module _ {L In Out Shut : Type 0} (got : Out → List OutItem) (core : OutCore L In Out Shut) where
+  pub serving-nothing : core.senders.items ≡ [] → core.streams.entries ≡ [] → core.others.entries ≡ []
+      → SpellsOf [] core.outbound [] → core.outbound.due.items ≡ [] → core.outbound.credit ≡ nothing_owed → core.outbound.over.entries ≡ []
+      → Serving got [] core
+  serving-nothing senders streams others spells due credit over =
+      let none : calls got core.senders.items ≡ [] = ap (calls got) senders in
+      let serves = serves-nothing core.outbound core.streams.entries core.others.entries (calls got core.senders.items) spells due credit over streams others none in
+      record {
+        fronts = fronts_of [] core.outbound core.streams.entries core.others.entries (calls got core.senders.items) [] serves;
+        serves = λ still. ([], serves);
+      }
+
+-- ---- calls
+
+module _ {L In Out Shut : Type 0} (got : Out → List OutItem) where
+  -- one more sender, of which nothing was got
+  pub calls-more : (old new : List (ℕ × Sender L In Out Shut)) (id : ℕ) (sender : Sender L In Out Shut) → new ≡ old ++ (id, sender) ∷ [] → got sender.rx ≡ []
+      → calls got new ≡ calls got old ++ (id, []) ∷ []
+  calls-more old new id sender is none =
+      ap (calls got) is ∙ map-append (λ (call : ℕ × Sender L In Out Shut). (call.0, got call.1.rx)) old ((id, sender) ∷ [])
+      ∙ ap (λ (l : List OutItem). calls got old ++ (id, l) ∷ []) none
+
+  -- a call begins
+  pub serves-began : (run : List Step) (o new : Outbound) (streams left : List (ℕ × OpenStream)) (others more : List (ℕ × Bool))
+      (old senders now : List (ℕ × Sender L In Out Shut)) (marks : List (ℕ × Mark)) (id : ℕ) (sender : Sender L In Out Shut)
+      → Prepares id (length old) o new others streams left → more ≡ others → senders ≡ old → now ≡ senders ++ (id, sender) ∷ [] → got sender.rx ≡ []
+      → Serves run o streams others (calls got old) marks → Serves (Taken (order.Open id tt) ∷ run) new left more (calls got now) marks
+  serves-began run o new streams left others more old senders now marks id sender prepares same_others same is none s =
+      let long : length (calls got old) ≡ length old = length-map old (λ (call : ℕ × Sender L In Out Shut). (call.0, got call.1.rx)) in
+      serves-equal (Taken (order.Open id tt) ∷ run) new left left others more (calls got old ++ (id, []) ∷ []) (calls got now) marks refl same_others
+      (calls-more old now id sender (is ∙ ap (λ (l : List (ℕ × Sender L In Out Shut)). l ++ (id, sender) ∷ []) same) none)
+      (serves-opened run o new streams left others (calls got old) marks id s
+      (subst (λ n. Prepares id n o new others streams left) (sym long) prepares))

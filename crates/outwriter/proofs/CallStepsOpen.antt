@@ -1,0 +1,288 @@
+-- What a writer keeps of its calls, after an Open.
+use Rattle.std.proofs.Common.{◌≡◌, ℕ, suc, zero, ◌<◌, ◌==◌, inl, inr, refl, sym, ap, subst, ◌∙◌, ◌⊎◌, Bool, true, false, List, [], ◌∷◌, ◌++◌, Option, Some, None, length, get_or, arith, append-nil, nat_eq, true≢false, length-append}
+use Rattle.std.specs.Prelude.{All, ◌&&◌, ◌||◌, not, is_some, is_none, if◌then◌else◌}
+use Rattle.std.specs.Map.{lookup}
+use Rattle.std.proofs.lemmas.Bool.{eqb-true, eq-eqb}
+use Rattle.std.proofs.lemmas.List.{get_or_append_left}
+use Rattle.std.proofs.Math.Seq.{get_or-append_seam}
+use Rattle.callbox.specs.declared.account.OutItem.{OutItem}
+use Rattle.outwriter.specs.declared.control.Control.TheVariants as order
+use Rattle.outwriter.specs.declared.outbound.Outbound.{Outbound}
+use Rattle.outwriter.specs.declared.stream.OpenStream.{OpenStream}
+use Rattle.outwriter.specs.Calls.{is_fresh, is_served}
+use Rattle.outwriter.specs.Credits.{knows}
+use Rattle.outwriter.specs.Histories.{is_stream}
+use Rattle.outwriter.specs.Keeping.{Prepares, is_new_call, becomes_open, stream_at}
+use Rattle.outwriter.specs.Parts.{Mark, marks_on, spelled}
+use Rattle.outwriter.specs.Serving.{Serves, MayBeDue, IsEnded, IsExact}
+use Rattle.outwriter.specs.Steps.{Step, Taken}
+use Rattle.outwriter.proofs.CallSteps.{all-due, none-ended, not-some, over-same, was-true, either}
+use Rattle.outwriter.proofs.TellSteps.{taken-tells}
+
+-- ---- lists
+
+-- what holds of each call and of one more
+each-call : (calls : List (ℕ × List OutItem)) (x : ℕ × List OutItem) (P : ℕ × List OutItem → Type 0) (k : ℕ) (d : ℕ × List OutItem) → k < length (calls ++ x ∷ [])
+    → (k < length calls → P (get_or calls k d)) → (k ≡ length calls → P x) → P (get_or (calls ++ x ∷ []) k d)
+each-call [] x P zero d within old new = new refl
+each-call [] x P (suc k) d within old new = absurd (omega (arith, within))
+each-call (c ∷ calls) x P zero d within old new = old (omega arith)
+each-call (c ∷ calls) x P (suc k) d within old new = each-call calls x P k d (omega (arith, within)) (λ e. old (omega (arith, e))) (λ e. new (ap (λ n. suc n) e))
+
+-- ---- tests
+
+both : (a b : Bool) → (a && b) ≡ true → (a ≡ true) × (b ≡ true)
+both true b e = (refl, e)
+both false b e = absurd (true≢false (sym e))
+
+was-none : (o : Option Bool) → is_none o ≡ true → o ≡ None
+was-none None e = refl
+was-none (Some b) e = absurd (true≢false (sym e))
+
+was-not : (b : Bool) → not b ≡ true → b ≡ false
+was-not true e = absurd (true≢false (sym e))
+was-not false e = refl
+
+-- ---- the run
+
+-- with the Open of a stream
+module _ (run : List Step) (id : ℕ) where
+  fresh-here : (k : ℕ) → (k == id) ≡ true → is_fresh k (Taken (order.Open id tt) ∷ run) ≡ false
+  fresh-here k p = ap (λ b. if b then false else is_fresh k run) p
+
+  fresh-less : (k : ℕ) → is_fresh k run ≡ false → is_fresh k (Taken (order.Open id tt) ∷ run) ≡ false
+  fresh-less k e = by (k == id) refl
+    where
+      by : (b : Bool) → (k == id) ≡ b → is_fresh k (Taken (order.Open id tt) ∷ run) ≡ false
+      by true p = fresh-here k p
+      by false p = ap (λ b. if b then false else is_fresh k run) p ∙ e
+
+  served-here : (k : ℕ) → (k == id) ≡ true → is_served k (Taken (order.Open id tt) ∷ run) ≡ is_fresh k run
+  served-here k p = ap (λ b. if b then is_fresh k run else is_served k run) p
+
+  served-else : (k : ℕ) → (k == id) ≡ false → is_served k (Taken (order.Open id tt) ∷ run) ≡ is_served k run
+  served-else k p = ap (λ b. if b then is_fresh k run else is_served k run) p
+
+  unserved : (k : ℕ) → is_fresh k run ≡ false → is_served k run ≡ false → is_served k (Taken (order.Open id tt) ∷ run) ≡ false
+  unserved k e f = by (k == id) refl
+    where
+      by : (b : Bool) → (k == id) ≡ b → is_served k (Taken (order.Open id tt) ∷ run) ≡ false
+      by true p = served-here k p ∙ e
+      by false p = served-else k p ∙ f
+
+-- ---- all of it
+
+module _ (run : List Step) (o new : Outbound) (streams left : List (ℕ × OpenStream)) (others : List (ℕ × Bool)) (calls : List (ℕ × List OutItem)) (marks : List (ℕ × Mark)) (id : ℕ)
+    (s : Serves run o streams others calls marks) (p : Prepares id (length calls) o new others streams left) where
+  abbrev after : List Step
+  after = Taken (order.Open id tt) ∷ run
+
+  abbrev more : List (ℕ × List OutItem)
+  more = calls ++ (id, []) ∷ []
+
+  -- what becomes open wasn't known
+  was-unknown : becomes_open o others id ≡ true → (is_stream id ≡ true) × (knows o.credit id ≡ false) × (lookup (nat_eq id) others ≡ None)
+  was-unknown e =
+      let a = both (is_new_call o id) (is_none (lookup (nat_eq id) others)) e in
+      let b = both (is_stream id) (not (knows o.credit id)) a.0 in
+      (b.0, was-not (knows o.credit id) b.1, was-none (lookup (nat_eq id) others) a.1)
+
+  -- an open stream is the new one, or it was open
+  opened-by : (k : ℕ) (found : Option OpenStream) → lookup (nat_eq k) left ≡ found
+      → ((becomes_open o others id ≡ true) × (k ≡ id) × (found ≡ Some (stream_at (length calls)))) ⊎ (lookup (nat_eq k) streams ≡ found)
+  opened-by k found e = by (becomes_open o others id && (k == id)) refl
+    where
+      by : (b : Bool) → (becomes_open o others id && (k == id)) ≡ b
+          → ((becomes_open o others id ≡ true) × (k ≡ id) × (found ≡ Some (stream_at (length calls)))) ⊎ (lookup (nat_eq k) streams ≡ found)
+      by true q =
+          let t = both (becomes_open o others id) (k == id) q in
+          inl (t.0, eqb-true k id t.1, sym e ∙ p.opens k ∙ ap (λ b. if b then Some (stream_at (length calls)) else lookup (nat_eq k) streams) q)
+      by false q = inr (sym (p.opens k ∙ ap (λ b. if b then Some (stream_at (length calls)) else lookup (nat_eq k) streams) q) ∙ e)
+
+  -- what isn't open wasn't
+  less-none : (k : ℕ) → lookup (nat_eq k) left ≡ None → lookup (nat_eq k) streams ≡ None
+  less-none k e = by (opened-by k None e)
+    where
+      by : ((becomes_open o others id ≡ true) × (k ≡ id) × (None ≡ Some (stream_at (length calls)))) ⊎ (lookup (nat_eq k) streams ≡ None) → lookup (nat_eq k) streams ≡ None
+      by (inl h) = absurd (not-some None (stream_at (length calls)) refl h.2)
+      by (inr h) = h
+
+  -- and a stream that is none of a call, or is among the others, doesn't become open
+  still-none : (k : ℕ) → lookup (nat_eq k) streams ≡ None → (is_some (lookup (nat_eq k) others) || knows o.credit k) ≡ true → lookup (nat_eq k) left ≡ None
+  still-none k e known = by (lookup (nat_eq k) left) refl
+    where
+      by : (found : Option OpenStream) → lookup (nat_eq k) left ≡ found → found ≡ None
+      by None f = refl
+      by (Some stream) f = cases (opened-by k (Some stream) f)
+        where
+          cases : ((becomes_open o others id ≡ true) × (k ≡ id) × (Some stream ≡ Some (stream_at (length calls)))) ⊎ (lookup (nat_eq k) streams ≡ Some stream) → Some stream ≡ None
+          cases (inl h) =
+              let u = was-unknown h.0 in
+              let none : (is_some (lookup (nat_eq id) others) || knows o.credit id) ≡ false =
+              ap (λ (l : Option Bool). is_some l || knows o.credit id) u.2 ∙ u.1 in
+              let here : (is_some (lookup (nat_eq id) others) || knows o.credit id) ≡ true =
+              subst (λ n. (is_some (lookup (nat_eq n) others) || knows o.credit n) ≡ true) h.1 known in
+              absurd (true≢false (sym here ∙ none))
+          cases (inr h) = absurd (not-some (lookup (nat_eq k) streams) stream e h)
+
+  over : (k : ℕ) → lookup (nat_eq k) new.over.entries ≡ lookup (nat_eq k) o.over.entries
+  over = over-same [] (λ other. is_new_call o id && (other == id)) o new p.takes
+
+  knows-more : (k : ℕ) → knows o.credit k ≡ true → knows new.credit k ≡ true
+  knows-more k e = p.takes.knows k ∙ by (is_new_call o id && (k == id))
+    where
+      by : (b : Bool) → (b || knows o.credit k) ≡ true
+      by true = refl
+      by false = e
+
+  knew : (k : ℕ) → knows new.credit k ≡ false → knows o.credit k ≡ false
+  knew k e = by (knows o.credit k) refl
+    where
+      by : (b : Bool) → knows o.credit k ≡ b → b ≡ false
+      by true f = absurd (true≢false (sym (knows-more k f) ∙ e))
+      by false f = refl
+
+  known-by : (k : ℕ) → knows new.credit k ≡ true → ((k == id) ≡ true) ⊎ (knows o.credit k ≡ true)
+  known-by k e = by (is_new_call o id && (k == id)) refl
+    where
+      by : (b : Bool) → (is_new_call o id && (k == id)) ≡ b → ((k == id) ≡ true) ⊎ (knows o.credit k ≡ true)
+      by true q = inl (both (is_new_call o id) (k == id) q).1
+      by false q = inr (sym (p.takes.knows k ∙ ap (λ b. b || knows o.credit k) q) ∙ e)
+
+  knows-here : is_stream id ≡ true → knows new.credit id ≡ true
+  knows-here e = by (knows o.credit id) refl
+    where
+      by : (b : Bool) → knows o.credit id ≡ b → knows new.credit id ≡ true
+      by true f = knows-more id f
+      by false f =
+          let is_new : is_new_call o id ≡ true = ap (λ b. b && not (knows o.credit id)) e ∙ ap not f in
+          p.takes.knows id ∙ ap (λ b. (b && (id == id)) || knows o.credit id) is_new ∙ ap (λ b. b || knows o.credit id) (eq-eqb id id refl)
+
+  exact : (k : ℕ) (stream : OpenStream) → lookup (nat_eq k) left ≡ Some stream → IsExact k stream more (marks_on k marks)
+  exact k stream e = by (opened-by k (Some stream) e)
+    where
+      some-is : (a b : OpenStream) → Some a ≡ Some b → a ≡ b
+      some-is a b q = cc
+
+      here : becomes_open o others id ≡ true → IsExact id (stream_at (length calls)) more (marks_on id marks)
+      here opens =
+          let u = was-unknown opens in (
+            omega (arith, length-append calls ((id, []) ∷ [])),
+            λ d. let at_end = get_or-append_seam calls (id, []) [] d in (
+              ap (λ (c : ℕ × List OutItem). c.0) at_end,
+              append-nil (marks_on id marks) ∙ (s.unknown id u.1 u.2).0 ∙ sym (ap (λ (c : ℕ × List OutItem). spelled c.1) at_end),
+            ),
+          )
+
+      by : ((becomes_open o others id ≡ true) × (k ≡ id) × (Some stream ≡ Some (stream_at (length calls)))) ⊎ (lookup (nat_eq k) streams ≡ Some stream)
+          → IsExact k stream more (marks_on k marks)
+      by (inl h) = subst (λ (t : OpenStream). IsExact k t more (marks_on k marks)) (sym (some-is stream (stream_at (length calls)) h.2))
+          (subst (λ n. IsExact n (stream_at (length calls)) more (marks_on n marks)) (sym h.1) (here h.0))
+      by (inr h) =
+          let x = s.exact k stream h in (
+            omega (arith, x.0, length-append calls ((id, []) ∷ [])),
+            λ d. let same = get_or_append_left calls ((id, []) ∷ []) d stream.place x.0 in (
+              ap (λ (c : ℕ × List OutItem). c.0) same ∙ (x.1 d).0,
+              (x.1 d).1 ∙ sym (ap (λ (c : ℕ × List OutItem). spelled c.1) same),
+            ),
+          )
+
+  -- what is known of an open stream
+  of-open : (P : ℕ → Type 0) → (becomes_open o others id ≡ true → P id) → ((k : ℕ) (stream : OpenStream) → lookup (nat_eq k) streams ≡ Some stream → P k)
+      → (k : ℕ) (stream : OpenStream) → lookup (nat_eq k) left ≡ Some stream → P k
+  of-open P here before k stream e = by (opened-by k (Some stream) e)
+    where
+      by : ((becomes_open o others id ≡ true) × (k ≡ id) × (Some stream ≡ Some (stream_at (length calls)))) ⊎ (lookup (nat_eq k) streams ≡ Some stream) → P k
+      by (inl h) = subst P (sym h.1) (here h.0)
+      by (inr h) = before k stream h
+
+  -- of a call whose stream was known before, nothing was told, but perhaps a reset
+  new-ended : is_fresh id run ≡ true → IsEnded (lookup (nat_eq id) o.over.entries) (marks_on id marks) []
+  new-ended fresh = by (knows o.credit id) refl
+    where
+      unknown : (found : Option Bool) → lookup (nat_eq id) others ≡ found → knows o.credit id ≡ false → IsEnded (lookup (nat_eq id) o.over.entries) (marks_on id marks) []
+      unknown None q f = none-ended (lookup (nat_eq id) o.over.entries) (marks_on id marks) (s.unknown id f q).0
+      unknown (Some was_reset) q f = (s.other id was_reset q).1 fresh
+
+      by : (b : Bool) → knows o.credit id ≡ b → IsEnded (lookup (nat_eq id) o.over.entries) (marks_on id marks) []
+      by true f = absurd (true≢false (sym fresh ∙ s.credited id f))
+      by false f = unknown (lookup (nat_eq id) others) refl f
+
+  abbrev Ended : ℕ × List OutItem → Type 0
+  Ended c = lookup (nat_eq c.0) left ≡ None → is_served c.0 (Taken (order.Open id tt) ∷ run) ≡ true
+      → IsEnded (lookup (nat_eq c.0) new.over.entries) (marks_on c.0 marks) c.1
+
+  old-served : (k : ℕ) → is_fresh k run ≡ false → is_served k (Taken (order.Open id tt) ∷ run) ≡ true → is_served k run ≡ true
+  old-served k e f = by (k == id) refl
+    where
+      by : (b : Bool) → (k == id) ≡ b → is_served k run ≡ true
+      by true q = absurd (true≢false (sym f ∙ served-here run id k q ∙ e))
+      by false q = sym (served-else run id k q) ∙ f
+
+  ended : (k : ℕ) (d : ℕ × List OutItem) → k < length more → Ended (get_or more k d)
+  ended k d within = each-call calls (id, []) Ended k d within
+      (λ old none is.
+      let before = s.ended k d old (less-none (get_or calls k d).0 none) (old-served (get_or calls k d).0 (s.opened k d old) is) in
+      subst (λ (b : Option Bool). IsEnded b (marks_on (get_or calls k d).0 marks) (get_or calls k d).1) (sym (over (get_or calls k d).0)) before)
+      (λ last none is. subst (λ (b : Option Bool). IsEnded b (marks_on id marks) []) (sym (over id)) (new-ended (sym (served-here run id id (eq-eqb id id refl)) ∙ is)))
+
+  opened : (k : ℕ) (d : ℕ × List OutItem) → k < length more → is_fresh (get_or more k d).0 after ≡ false
+  opened k d within = each-call calls (id, []) (λ (c : ℕ × List OutItem). is_fresh c.0 (Taken (order.Open id tt) ∷ run) ≡ false) k d within
+      (λ old. fresh-less run id (get_or calls k d).0 (s.opened k d old))
+      (λ last. fresh-here run id id (eq-eqb id id refl))
+
+  -- two calls of one stream, of which the second may be the new one
+  new-apart : (i : ℕ) (d : ℕ × List OutItem) → i < length calls → (get_or calls i d).0 ≡ id → is_served id after ≡ false
+  new-apart i d within same =
+      let seen : is_fresh id run ≡ false = ap (λ n. is_fresh n run) (sym same) ∙ s.opened i d within in
+      served-here run id id (eq-eqb id id refl) ∙ seen
+
+  apart : (i j : ℕ) (d : ℕ × List OutItem) → i < length more → j < length more → (i ≡ j → ⊥) → (get_or more i d).0 ≡ (get_or more j d).0
+      → is_served (get_or more i d).0 after ≡ false
+  apart i j d first second differ =
+      each-call calls (id, []) (λ (c : ℕ × List OutItem). c.0 ≡ (get_or more j d).0 → is_served c.0 (Taken (order.Open id tt) ∷ run) ≡ false) i d first
+      (λ old. each-call calls (id, []) (λ (e : ℕ × List OutItem). (get_or calls i d).0 ≡ e.0 → is_served (get_or calls i d).0 (Taken (order.Open id tt) ∷ run) ≡ false) j d second
+      (λ other same. unserved run id (get_or calls i d).0 (s.opened i d old) (s.apart i j d old other differ same))
+      (λ last same. ap (λ n. is_served n (Taken (order.Open id tt) ∷ run)) same ∙ new-apart i d old same))
+      (λ last. each-call calls (id, []) (λ (e : ℕ × List OutItem). id ≡ e.0 → is_served id (Taken (order.Open id tt) ∷ run) ≡ false) j d second
+      (λ other same. new-apart j d other (sym same))
+      (λ end same. absurd (differ (last ∙ sym end))))
+
+  credited : (k : ℕ) → knows new.credit k ≡ true → is_fresh k after ≡ false
+  credited k e = by (known-by k e)
+    where
+      by : ((k == id) ≡ true) ⊎ (knows o.credit k ≡ true) → is_fresh k (Taken (order.Open id tt) ∷ run) ≡ false
+      by (inl q) = fresh-here run id k q
+      by (inr q) = fresh-less run id k (s.credited k q)
+
+  served : (k : ℕ) → is_served k after ≡ true → is_stream k ≡ true → knows new.credit k ≡ true
+  served k is there = by (k == id) refl
+    where
+      by : (b : Bool) → (k == id) ≡ b → knows new.credit k ≡ true
+      by true q =
+          let same : k ≡ id = eqb-true k id q in
+          ap (λ n. knows new.credit n) same ∙ knows-here (ap is_stream (sym same) ∙ there)
+      by false q = knows-more k (s.served k (sym (served-else run id k q) ∙ is) there)
+
+  pub serves-opened : Serves (Taken (order.Open id tt) ∷ run) new left others (calls ++ (id, []) ∷ []) marks
+  serves-opened = record {
+    spells = taken-tells [] (λ other. is_new_call o id && (other == id)) o new (order.Open id tt) p.takes run marks s.spells;
+    exact = exact;
+    not_over = λ k stream e. over k ∙ of-open (λ n. lookup (nat_eq n) o.over.entries ≡ None) (λ here. let u = was-unknown here in (s.unknown id u.1 u.2).1) s.not_over k stream e;
+    known = of-open (λ n. knows new.credit n ≡ true) (λ here. knows-here (was-unknown here).0) (λ n stream e. knows-more n (s.known n stream e));
+    numbered = of-open (λ n. is_stream n ≡ true) (λ here. (was-unknown here).0) s.numbered;
+    ended = ended;
+    apart = apart;
+    opened = opened;
+    credited = credited;
+    served = served;
+    due = subst (All (MayBeDue after new left others)) (sym (p.takes.due ∙ append-nil o.due.items)) (all-due run after o new streams left others others (record {
+      refused = λ k e f g. (fresh-less run id k e, unserved run id k e f, g);
+      reset = λ k e f. (still-none k e f, either (is_some (lookup (nat_eq k) others)) (knows o.credit k) (is_some (lookup (nat_eq k) others)) (knows new.credit k) (λ x. x) (knows-more k) f);
+    }) o.due.items s.due);
+    unknown = λ k e f. let u = s.unknown k (knew k e) f in (u.0, over k ∙ u.1);
+    other = λ k was_reset e. let h = s.other k was_reset e in (
+      still-none k h.0 (ap (λ (l : Option Bool). is_some l || knows o.credit k) e),
+      λ f. subst (λ (b : Option Bool). IsEnded b (marks_on k marks) []) (sym (over k)) (h.1 (was-true (is_fresh k run) (is_fresh k after) (fresh-less run id k) f)),
+    );
+  }

@@ -1,0 +1,93 @@
+-- What a writer keeps of its calls, after a Refuse, a Reset, and what brings no stream and ends none.
+use Rattle.std.proofs.Common.{◌≡◌, ℕ, ◌==◌, refl, sym, ap, ◌∙◌, Bool, true, false, List, [], ◌∷◌, Some, None, append-nil, nat_eq, true≢false}
+use Rattle.std.specs.Prelude.{All, ◌||◌, is_some, if◌then◌else◌}
+use Rattle.std.specs.Map.{lookup}
+use Rattle.std.proofs.lemmas.Bool.{eq-eqb}
+use Rattle.std.proofs.lemmas.List.Elements.{All-cons, All-nil}
+use Rattle.callbox.specs.declared.account.OutItem.{OutItem}
+use Rattle.h2frame.specs.declared.error_code.ErrorCode.{ErrorCode}
+use Rattle.hpack_codec.specs.declared.fields.Field.{Field}
+use Rattle.outwriter.specs.declared.control.Control.TheVariants as order
+use Rattle.outwriter.specs.declared.due.Due.{Due}
+use Rattle.outwriter.specs.declared.due.Due.TheVariants as due_kind
+use Rattle.outwriter.specs.declared.outbound.Outbound.{Outbound}
+use Rattle.outwriter.specs.declared.stream.OpenStream.{OpenStream}
+use Rattle.outwriter.specs.Calls.{is_fresh, is_served}
+use Rattle.outwriter.specs.Credits.{knows}
+use Rattle.outwriter.specs.Histories.{is_stream}
+use Rattle.outwriter.specs.Mirrors.{Sets}
+use Rattle.outwriter.specs.Parts.{Mark}
+use Rattle.outwriter.specs.Serving.{Serves, Takes, MayBeDue, none_is_new}
+use Rattle.outwriter.specs.Steps.{Step, Order, Taken}
+use Rattle.outwriter.proofs.CallSteps.{serves-other, serves-same}
+use Rattle.outwriter.proofs.TellSteps.{taken-tells}
+
+-- nothing changes
+pub takes-nothing : (o : Outbound) → Takes [] none_is_new o o
+takes-nothing o = record {
+  due = sym (append-nil o.due.items);
+  knows = λ id. refl;
+  over = refl;
+  begun = refl;
+  block = refl;
+  table = λ table e. e;
+}
+
+module _ (run : List Step) (o new : Outbound) (streams : List (ℕ × OpenStream)) (others : List (ℕ × Bool)) (calls : List (ℕ × List OutItem)) (marks : List (ℕ × Mark)) where
+  -- a control that is none of a stream's beginning
+  pub serves-ordered : (taken : Order) (more : List Due) → ((id : ℕ) → is_fresh id (Taken taken ∷ run) ≡ is_fresh id run)
+      → ((id : ℕ) → is_served id (Taken taken ∷ run) ≡ is_served id run) → All (MayBeDue (Taken taken ∷ run) new streams others) more → Takes more none_is_new o new
+      → Serves run o streams others calls marks → Serves (Taken taken ∷ run) new streams others calls marks
+  serves-ordered taken more fresh served due takes s =
+      serves-same run (Taken taken ∷ run) o new streams others calls marks more takes (taken-tells more none_is_new o new taken takes run marks s.spells)
+      (λ id e. fresh id ∙ e) served due s
+
+  pub serves-reset : (id : ℕ) (code : ErrorCode) (written is_due : Bool)
+      → (is_due ≡ true → (lookup (nat_eq id) streams ≡ None) × ((is_some (lookup (nat_eq id) others) || knows o.credit id) ≡ true))
+      → Takes (if is_due then due_kind.Reset id code ∷ [] else []) none_is_new o new
+      → Serves run o streams others calls marks → Serves (Taken (order.Reset id code written) ∷ run) new streams others calls marks
+  serves-reset id code written is_due may takes s =
+      serves-ordered (order.Reset id code written) (if is_due then due_kind.Reset id code ∷ [] else []) (λ k. refl) (λ k. refl) (due is_due refl) takes s
+    where
+      due : (b : Bool) → is_due ≡ b → All (MayBeDue (Taken (order.Reset id code written) ∷ run) new streams others) (if b then due_kind.Reset id code ∷ [] else [])
+      due true e =
+          let m = may e in
+          All-cons (MayBeDue (Taken (order.Reset id code written) ∷ run) new streams others) (due_kind.Reset id code) []
+          (m.0, ap (λ b. is_some (lookup (nat_eq id) others) || b) (takes.knows id) ∙ m.1) (All-nil (MayBeDue (Taken (order.Reset id code written) ∷ run) new streams others))
+      due false e = All-nil (MayBeDue (Taken (order.Reset id code written) ∷ run) new streams others)
+
+-- ---- a Refuse
+
+fresh-less : (run : List Step) (id : ℕ) (fields : List Field) (k : ℕ) → is_fresh k run ≡ false → is_fresh k (Taken (order.Refuse id fields) ∷ run) ≡ false
+fresh-less run id fields k e = by (k == id)
+  where
+    by : (b : Bool) → (if b then false else is_fresh k run) ≡ false
+    by true = refl
+    by false = e
+
+module _ (run : List Step) (o : Outbound) (streams : List (ℕ × OpenStream)) (others : List (ℕ × Bool)) (calls : List (ℕ × List OutItem)) (marks : List (ℕ × Mark))
+    (id : ℕ) (fields : List Field) where
+  -- of a stream that was opened, refused or reset before, and of none
+  pub serves-unrefused : Serves run o streams others calls marks → Serves (Taken (order.Refuse id fields) ∷ run) o streams others calls marks
+  serves-unrefused s =
+      serves-same run (Taken (order.Refuse id fields) ∷ run) o o streams others calls marks [] (takes-nothing o)
+      (taken-tells [] none_is_new o o (order.Refuse id fields) (takes-nothing o) run marks s.spells) (fresh-less run id fields) (λ k. refl)
+      (All-nil (MayBeDue (Taken (order.Refuse id fields) ∷ run) o streams others)) s
+
+  pub serves-refused : (new : Outbound) (more : List (ℕ × Bool)) → is_stream id ≡ true → knows o.credit id ≡ false → Sets others id false more
+      → Takes (due_kind.Refuse id fields ∷ []) none_is_new o new
+      → Serves run o streams others calls marks → Serves (Taken (order.Refuse id fields) ∷ run) new streams more calls marks
+  serves-refused new more there isnt sets takes s =
+      serves-same run (Taken (order.Refuse id fields) ∷ run) o new streams more calls marks (due_kind.Refuse id fields ∷ []) takes
+      (taken-tells (due_kind.Refuse id fields ∷ []) none_is_new o new (order.Refuse id fields) takes run marks s.spells) (fresh-less run id fields) (λ k. refl)
+      (All-cons (MayBeDue (Taken (order.Refuse id fields) ∷ run) new streams more) (due_kind.Refuse id fields) [] (
+        ap (λ b. if b then false else is_fresh id run) (eq-eqb id id refl),
+        unserved (is_served id run) refl,
+        ap is_some (sets id ∙ ap (λ b. if b then Some false else lookup (nat_eq id) others) (eq-eqb id id refl)),
+      )
+      (All-nil (MayBeDue (Taken (order.Refuse id fields) ∷ run) new streams more)))
+      (serves-other run o streams others more calls marks id false isnt sets s)
+    where
+      unserved : (b : Bool) → is_served id run ≡ b → b ≡ false
+      unserved true e = absurd (true≢false (sym (s.served id e there) ∙ isnt))
+      unserved false e = refl

@@ -1,0 +1,121 @@
+-- When nothing can be written on any open stream.
+use Rattle.std.proofs.Common.{◌≡◌, inr, Result, Ok, Err, ℕ, zero, suc, ◌+◌, ◌<◌, ◌≤◌, refl, sym, ap, subst, ◌∙◌, Bool, true, false, List, [], ◌∷◌, Option, Some, None, length, get_or, arith, nat_eq, true≢false}
+use Rattle.std.specs.Prelude.{IfNone, IfOk, if◌then◌else◌, slice_get}
+use Rattle.std.specs.Map.{lookup}
+use Rattle.std.proofs.lemmas.Bool.{eqb-true, eq-eqb}
+use Rattle.callbox.specs.declared.account.OutItem.{OutItem}
+use Rattle.outwriter.specs.declared.out_core.OutCore.{OutCore}
+use Rattle.outwriter.specs.declared.stream.OpenStream.{OpenStream}
+use Rattle.h2frame.specs.declared.frame.Frame.{Frame}
+use Rattle.outwriter.specs.Cores.{AreStuck}
+use Rattle.outwriter.specs.Mirrors.{IsBetween, Progress, SameOwn, Stays}
+use Rattle.outwriter.specs.Polling.{AllStuck, GetsQuiet, GetsStuck, Holds, HoldsOn, KeepsFronts, StuckAt, aheads, ids}
+use Rattle.outwriter.specs.Steps.{Step}
+
+-- an open stream stands somewhere among the map's keys
+found-at : (streams : List (ℕ × OpenStream)) (id : ℕ) (stream : OpenStream) → lookup (nat_eq id) streams ≡ Some stream
+    → (k : ℕ) × (k < length (ids streams)) × (get_or (ids streams) k 0 ≡ id)
+found-at [] id stream found = absurd (none-is found)
+  where
+    none-is : None ≡ Some stream → ⊥
+    none-is e = cc
+found-at (e ∷ es) id stream found = by (found-at es id stream) (nat_eq id e.0) refl
+  where
+    more : (k : ℕ) × (k < length (ids es)) × (get_or (ids es) k 0 ≡ id) → (k : ℕ) × (k < length (ids (e ∷ es))) × (get_or (ids (e ∷ es)) k 0 ≡ id)
+    more (k, within, is) = (suc k, omega (arith, within), is)
+
+    by : (lookup (nat_eq id) es ≡ Some stream → (k : ℕ) × (k < length (ids es)) × (get_or (ids es) k 0 ≡ id)) → (b : Bool) → nat_eq id e.0 ≡ b
+        → (k : ℕ) × (k < length (ids (e ∷ es))) × (get_or (ids (e ∷ es)) k 0 ≡ id)
+    by rest true p = (0, omega arith, sym (eqb-true id e.0 p))
+    by rest false p = more (rest (sym (ap (λ b. if b then Some e.1 else lookup (nat_eq id) es) p) ∙ found))
+
+module _ {L In Out Shut : Type 0} (got ahead : Out → List OutItem) where
+  -- nothing can be written on the streams at the first places
+  abbrev pub StuckBelow : ℕ → OutCore L In Out Shut → OutCore L In Out Shut → Type 0
+  StuckBelow n old new = (ids new.streams.entries ≡ ids old.streams.entries)
+      × ((run : List Step) → Holds got run old → Holds got run new × ((k : ℕ) → k < n → StuckAt ahead (get_or (ids old.streams.entries) k 0) new))
+
+  pub stuck-below-none : (core : OutCore L In Out Shut) → StuckBelow 0 core core
+  stuck-below-none core = (refl, λ run h. (h, λ k within. absurd (omega (arith, within))))
+
+  -- with one more
+  pub stuck-below-more : (n : ℕ) (old mid new : OutCore L In Out Shut) (id : ℕ) → StuckBelow n old mid → get_or (ids mid.streams.entries) n 0 ≡ id
+      → HoldsOn got None mid new → ids new.streams.entries ≡ ids mid.streams.entries → GetsStuck got ahead id mid new → StuckBelow (n + 1) old new
+  stuck-below-more n old mid new id below at keeps same gets = (same ∙ below.0, λ run h. (keeps run (below.1 run h).0, λ k within. by run h k within (nat_eq (get_or (ids old.streams.entries) k 0) id) refl))
+    where
+      here : get_or (ids old.streams.entries) n 0 ≡ id
+      here = ap (λ (l : List ℕ). get_or l n 0) (sym below.0) ∙ at
+
+      by : (run : List Step) → Holds got run old → (k : ℕ) → k < n + 1 → (b : Bool) → nat_eq (get_or (ids old.streams.entries) k 0) id ≡ b → StuckAt ahead (get_or (ids old.streams.entries) k 0) new
+      by run h k within true e =
+          subst (λ (i : ℕ). StuckAt ahead i new) (sym (eqb-true (get_or (ids old.streams.entries) k 0) id e)) (gets run (below.1 run h).0).0
+      by run h k within false e =
+          let apart : get_or (ids old.streams.entries) k 0 ≡ id → ⊥ = λ same. true≢false (sym (eq-eqb (get_or (ids old.streams.entries) k 0) id same) ∙ e) in
+          let other : k ≡ n → ⊥ = λ same. apart (ap (λ j. get_or (ids old.streams.entries) j 0) same ∙ here) in
+          let less : k < n = omega (arith, within, other) in
+          (gets run (below.1 run h).0).1 (get_or (ids old.streams.entries) k 0) apart ((below.1 run h).1 k less)
+
+  -- with all of them
+  pub all-stuck : (n : ℕ) (old new : OutCore L In Out Shut) → StuckBelow n old new → length (ids old.streams.entries) ≤ n → (run : List Step) → Holds got run old
+      → AreStuck new.outbound new.streams.entries (aheads ahead new.senders.items)
+  all-stuck n old new below all run h id stream found =
+      let there = found-at new.streams.entries id stream found in
+      let within : there.0 < n = omega (arith, there.1, all, ap length below.0) in
+      let is : get_or (ids old.streams.entries) there.0 0 ≡ id = ap (λ (l : List ℕ). get_or l there.0 0) (sym below.0) ∙ there.2 in
+      subst (λ (i : ℕ). StuckAt ahead i new) is ((below.1 run h).1 there.0 within) stream found
+
+-- the key at a place
+pub key-at : (streams : List (ℕ × OpenStream)) (n : ℕ) (e : ℕ × OpenStream) → Some e ≡ slice_get streams n → get_or (ids streams) n 0 ≡ e.0
+key-at [] n e is = absurd (none-is is)
+  where
+    none-is : Some e ≡ None → ⊥
+    none-is f = cc
+key-at (x ∷ xs) zero e is = sym (first is)
+  where
+    first : Some e ≡ Some x → e.0 ≡ x.0
+    first f = cc
+key-at (x ∷ xs) (suc n) e is = key-at xs n e is
+
+module _ {L In Out Shut : Type 0} (got ahead : Out → List OutItem) where
+  -- what holds of the loop over all streams
+  abbrev pub Looked : ℕ → OutCore L In Out Shut → OutCore L In Out Shut → Type 0
+  Looked n old now = IsBetween now.outbound × SameOwn old.outbound now.outbound × Stays old.outbound now.outbound × (now.closed ≡ old.closed)
+      × HoldsOn got None old now × KeepsFronts got old now × (now.is_dead ≡ old.is_dead) × StuckBelow got ahead n old now
+
+  -- after a stream that has no frame
+  pub looked-more : (n : ℕ) (old mid new : OutCore L In Out Shut) (id : ℕ) (o : Option Frame) → o ≡ None → Looked n old mid → get_or (ids mid.streams.entries) n 0 ≡ id
+      → Progress o mid.outbound new.outbound → IfNone o (SameOwn mid.outbound new.outbound) → new.closed ≡ mid.closed → HoldsOn got o mid new
+      → KeepsFronts got mid new → new.is_dead ≡ mid.is_dead → IfNone o (ids new.streams.entries ≡ ids mid.streams.entries)
+      → IfNone o (GetsStuck got ahead id mid new) → Looked (n + 1) old new
+  looked-more n old mid new id (Some frame) e l at progress own closed served fronts dead same gets = absurd (some-is e)
+    where
+      some-is : Some frame ≡ None → ⊥
+      some-is f = cc
+  looked-more n old mid new id None e l at progress own closed served fronts dead same gets = (
+    progress.1,
+    (own.0 ∙ l.1.0, own.1 ∙ l.1.1, own.2 ∙ l.1.2),
+    λ run m. progress.0 run (l.2 run m),
+    closed ∙ l.3,
+    λ run h. served run (l.4 run h),
+    λ run f. fronts run (l.5 run f),
+    dead ∙ l.6,
+    stuck-below-more got ahead n old mid new id l.7 at served same gets,
+  )
+
+-- what is stuck behind a step that writes nothing
+module _ {L In Out Shut : Type 0} (got ahead : Out → List OutItem) {E : Type 0} where
+  pub stuck-after : (old mid new : OutCore L In Out Shut) (r : Result (Option Frame) E) → HoldsOn got None old mid
+      → IfOk r (λ o. IfNone o (AllStuck got ahead mid new)) → IfOk r (λ o. IfNone o (AllStuck got ahead old new))
+  stuck-after old mid new (Ok None) keeps stuck = λ run h. stuck run (keeps run h)
+  stuck-after old mid new (Ok (Some frame)) keeps stuck = tt
+  stuck-after old mid new (Err e) keeps stuck = tt
+
+  pub quiet-after : (old mid new : OutCore L In Out Shut) (r : Result (Option Frame) E) → HoldsOn got None old mid
+      → IfOk r (λ o. IfNone o (AllStuck got ahead mid new)) → IfOk r (λ o. IfNone o (GetsQuiet got ahead old new))
+  quiet-after old mid new (Ok None) keeps stuck = λ run h. inr (stuck run (keeps run h))
+  quiet-after old mid new (Ok (Some frame)) keeps stuck = tt
+  quiet-after old mid new (Err e) keeps stuck = tt
+
+-- a frame that isn't there
+pub holds-none : {L In Out Shut : Type 0} (got : Out → List OutItem) (old new : OutCore L In Out Shut) (o : Option Frame) → o ≡ None → HoldsOn got o old new → HoldsOn got None old new
+holds-none got old new o e = subst (λ (x : Option Frame). HoldsOn got x old new) e

@@ -1,0 +1,72 @@
+-- The same of a core: one step after another.
+use Rattle.std.proofs.Common.{◌≡◌, sym, subst, ◌∙◌, true, false, List, [], ◌∷◌, ◌++◌, inl, inr, Option, Some, None, true≢false}
+use Rattle.callbox.specs.declared.account.OutItem.{OutItem}
+use Rattle.h2frame.specs.declared.frame.Frame.{Frame}
+use Rattle.outwriter.specs.declared.out_core.OutCore.{OutCore}
+use Rattle.outwriter.specs.declared.outbound.Outbound.{Outbound}
+use Rattle.outwriter.specs.Cores.{calls, ServesOn, ServesStill}
+use Rattle.outwriter.specs.Parts.{Reset, on_stream}
+use Rattle.outwriter.specs.Polling.{SameHands, Holds, HoldsOn, KeepsFronts}
+use Rattle.outwriter.specs.Serving.{Serves, IsOwn, OwnOrRests}
+use Rattle.outwriter.specs.Steps.{Step, Written}
+use Rattle.outwriter.specs.Telling.{block_marks}
+use Rattle.outwriter.proofs.Fronts.{fronts_of}
+use Rattle.outwriter.proofs.ServeStepsOwn.{serves-hands, serves-rests, serves-plain, serves-reset, serves-refusal}
+
+module _ {L In Out Shut : Type 0} where
+  -- no frame came, and then this one did, if any
+  pub holds-then : (got : Out → List OutItem) (old mid new : OutCore L In Out Shut) (o : Option Frame) → HoldsOn got None old mid → HoldsOn got o mid new → HoldsOn got o old new
+  holds-then got old mid new None f g = λ run h. g run (f run h)
+  holds-then got old mid new (Some frame) f g = λ run h. g run (f run h)
+
+  -- the places and what is in hand are the same, and all else that is kept of the calls
+  pub holds-hands : (got : Out → List OutItem) (old new : OutCore L In Out Shut) → SameHands old.streams.entries new.streams.entries
+      → new.outbound ≡ old.outbound → new.senders ≡ old.senders → new.others ≡ old.others → (run : List Step) → Holds got run old → Holds got run new
+  holds-hands got old new hands outbound senders others run (marks, s) = (
+    marks,
+    subst (λ (o : Outbound). Serves run o new.streams.entries new.others.entries (calls got new.senders.items) marks) (sym outbound)
+        (subst (λ senders. Serves run old.outbound new.streams.entries new.others.entries (calls got senders.items) marks) (sym senders)
+        (subst (λ others. Serves run old.outbound new.streams.entries others.entries (calls got old.senders.items) marks) (sym others)
+        (serves-hands run old.outbound old.streams.entries new.streams.entries old.others.entries (calls got old.senders.items) marks hands s))),
+  )
+
+  pub holds-after : (got : Out → List OutItem) (old mid new : OutCore L In Out Shut) (o : Option Frame) → HoldsOn got o old mid
+      → SameHands mid.streams.entries new.streams.entries → new.outbound ≡ mid.outbound → new.senders ≡ mid.senders → new.others ≡ mid.others → HoldsOn got o old new
+  holds-after got old mid new None f hands outbound senders others = λ run h. holds-hands got mid new hands outbound senders others run (f run h)
+  holds-after got old mid new (Some frame) f hands outbound senders others = λ run h. holds-hands got mid new hands outbound senders others (Written frame ∷ run) (f run h)
+
+  pub fronts-then : (got : Out → List OutItem) (old mid new : OutCore L In Out Shut) → KeepsFronts got old mid → KeepsFronts got mid new → KeepsFronts got old new
+  fronts-then got old mid new f g run all = g run (f run all)
+
+  -- a frame that is none of an open stream
+  own-serves : (got : Out → List OutItem) (core : OutCore L In Out Shut) (after : Outbound) (frame : Frame) → IsOwn frame core.outbound after
+      → (run : List Step) → Holds got run core → Holds got (Written frame ∷ run) (record core { outbound = after })
+  own-serves got core after frame (known, inl plain) run (marks, s) =
+      (marks ++ [], serves-plain run core.outbound after core.streams.entries core.others.entries (calls got core.senders.items) marks frame known plain s)
+  own-serves got core after frame (known, inr (inl r)) run (marks, s) =
+      (marks ++ on_stream r.0 (Reset r.4.0 ∷ []), serves-reset run core.outbound after core.streams.entries core.others.entries (calls got core.senders.items) marks frame known r s)
+  own-serves got core after frame (known, inr (inr r)) run (marks, s) =
+      (marks ++ block_marks r.0 r.1 true, serves-refusal run core.outbound after core.streams.entries core.others.entries (calls got core.senders.items) marks frame known r s)
+
+  pub own-holds : (got : Out → List OutItem) (core : OutCore L In Out Shut) (after : Outbound) (o : Option Frame) → OwnOrRests o core.outbound after
+      → HoldsOn got o core (record core { outbound = after })
+  own-holds got core after (Some frame) own = own-serves got core after frame own
+  own-holds got core after None rests = λ run h.
+      (h.0, serves-rests run core.outbound after core.streams.entries core.others.entries (calls got core.senders.items) h.0 rests h.1)
+
+  -- ---- what callers see
+
+  pub serving-on : (got : Out → List OutItem) (frame : Frame) (old new : OutCore L In Out Shut) → old.is_dead ≡ false → HoldsOn got (Some frame) old new
+      → ServesOn got (Written frame) old new
+  serving-on got frame old new alive holds run s =
+      let h = holds run (s.serves alive) in record {
+        fronts = fronts_of (Written frame ∷ run) new.outbound new.streams.entries new.others.entries (calls got new.senders.items) h.0 h.1;
+        serves = λ e. h;
+      }
+
+  pub serving-still : (got : Out → List OutItem) (old new : OutCore L In Out Shut) → old.is_dead ≡ false → HoldsOn got None old new → KeepsFronts got old new
+      → ServesStill got old new
+  serving-still got old new alive holds fronts run s = record { fronts = fronts run s.fronts; serves = λ e. holds run (s.serves alive) }
+
+  pub serving-dead : (got : Out → List OutItem) (old new : OutCore L In Out Shut) → new.is_dead ≡ true → KeepsFronts got old new → ServesStill got old new
+  serving-dead got old new dead fronts run s = record { fronts = fronts run s.fronts; serves = λ e. absurd (true≢false (sym dead ∙ e)) }

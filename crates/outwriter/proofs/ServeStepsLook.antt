@@ -1,0 +1,286 @@
+-- A look at an open stream: what is taken of it is written, or kept in hand.
+use Rattle.std.proofs.Common.{◌≡◌, ℕ, ◌<◌, ◌==◌, inl, inr, refl, sym, ap, subst, ◌∙◌, Bool, true, false, List, [], ◌∷◌, ◌++◌, Option, Some, None, length, nat_eq, append_assoc, true≢false}
+use Rattle.std.specs.Prelude.{Result, Ok, Err, map, get_or, if◌then◌else◌}
+use Rattle.std.specs.Map.{lookup}
+use Rattle.std.proofs.lemmas.Bool.{eqb-true, eq-eqb}
+use Rattle.std.proofs.lemmas.Grind.{flat_map-append}
+use Rattle.std.proofs.lemmas.List.{map-append}
+use Rattle.callbox.specs.declared.account.OutItem.{OutItem}
+use Rattle.callbox.specs.declared.account.OutItem.TheVariants as item
+use Rattle.flow.specs.Windows.{Windows}
+use Rattle.h2frame.specs.declared.frame.Frame.{Frame}
+use Rattle.hpack_codec.specs.declared.fields.Field.{Field}
+use Rattle.hpack_codec.specs.Codec.{Encoding, Writes}
+use Rattle.outwriter.specs.declared.out_core.OutCore.{OutCore}
+use Rattle.outwriter.specs.declared.outbound.Outbound.{Outbound}
+use Rattle.outwriter.specs.declared.stream.OpenStream.{OpenStream}
+use Rattle.outwriter.specs.declared.stream.Polled.{Polled}
+use Rattle.outwriter.specs.declared.stream.Polled.TheVariants as polled
+use Rattle.outwriter.specs.Calls.{is_served, TellFronts}
+use Rattle.outwriter.specs.Cores.{calls}
+use Rattle.outwriter.specs.Credits.{knows}
+use Rattle.outwriter.specs.Mirrors.{Ends}
+use Rattle.outwriter.specs.Parts.{Mark, Byte, Fields, End, on_stream, spelled, marks_of_item, IsFrontOf, IsPart}
+use Rattle.outwriter.specs.Polling.{Shown, shows, with_hand, HandIs, HandKeeps, Removes, TakesAt, TellsData, aheads, HoldsOn, KeepsFronts}
+use Rattle.outwriter.specs.Polls.{block_item}
+use Rattle.outwriter.specs.Serving.{bytes_marks, Serves}
+use Rattle.outwriter.specs.Steps.{Step, Written}
+use Rattle.outwriter.specs.Telling.{SpellsOf, TellsMore, TellsBlock, block_marks}
+use Rattle.outwriter.proofs.ServeSteps.{append-nil}
+use Rattle.outwriter.proofs.ServeStepsOpen.{Grows, grows-none, grows-one, goes-on, ends}
+use Rattle.outwriter.proofs.ServeStepsOwn.{serves-hands}
+
+-- ---- what is told is a front still
+
+front-more : (part all more : List Mark) → IsFrontOf part all → IsFrontOf part (all ++ more)
+front-more part all more (inl (rest, e)) = inl (rest ++ more, ap (λ (l : List Mark). l ++ more) e ∙ append_assoc part rest more)
+front-more part all more (inr (front, code, b, e)) = inr (front, code, (b.0 ++ more, ap (λ (l : List Mark). l ++ more) b.1 ∙ append_assoc front b.0 more), e)
+
+pub fronts-grow : (run : List Step) (place : ℕ) (news : List OutItem) (calls now : List (ℕ × List OutItem)) → Grows place news calls now → TellFronts run calls → TellFronts run now
+fronts-grow run place news calls now g all k d lt = by (k == place) refl
+  where
+    Fronts : ℕ × List OutItem → Type 0
+    Fronts call = is_served call.0 run ≡ true → (part : List Mark) × IsPart call.0 run part × IsFrontOf part (spelled call.1)
+
+    within : k < length calls
+    within = subst (λ n. k < n) g.same_length lt
+
+    more : Fronts (get_or calls k d) → Fronts ((get_or calls k d).0, (get_or calls k d).1 ++ news)
+    more f is = let was = f is in (
+      was.0,
+      was.1,
+      subst (λ (l : List Mark). IsFrontOf was.0 l) (sym (flat_map-append marks_of_item (get_or calls k d).1 news))
+          (front-more was.0 (spelled (get_or calls k d).1) (spelled news) was.2),
+    )
+
+    by : (b : Bool) → (k == place) ≡ b → Fronts (get_or now k d)
+    by true p = subst Fronts (sym (ap (λ n. get_or now n d) (eqb-true k place p) ∙ g.here d (subst (λ n. n < length calls) (eqb-true k place p) within)
+        ∙ ap (λ n. ((get_or calls n d).0, (get_or calls n d).1 ++ news)) (sym (eqb-true k place p)))) (more (all k d within))
+    by false p = subst Fronts (sym (g.elsewhere k d (λ e. true≢false (sym (eq-eqb k place e) ∙ p)))) (all k d within)
+
+-- ---- what was taken
+
+module _ {E : Type 0} where
+  abbrev bytes_of : Result (Polled) E → List ℕ
+  bytes_of (Ok (polled.Message bytes)) = bytes
+  bytes_of _ = []
+
+pub takes-message : (E : Type 0) (view : Shown) (old new : List (ℕ × List OutItem)) (ahead : List (List OutItem)) (from to : Option Encoding) (bytes : List ℕ)
+    → TakesAt {E = E} view old new ahead from to (Ok (polled.Message bytes))
+    → (place : ℕ) × (was : Option (List ℕ)) × (news : List OutItem) × (view ≡ Some (place, was)) × Grows place news old new
+    × (bytes_marks was ++ spelled news ≡ map Byte bytes) × (to ≡ from)
+takes-message E None old new ahead from to bytes t = absurd (message-nothing (Ok (polled.Message bytes)) refl t.0)
+  where
+    message-nothing : (r : Result Polled E) → r ≡ Ok (polled.Message bytes) → r ≡ Ok polled.Nothing → ⊥
+    message-nothing r f e = cc
+takes-message E (Some (place, Some bs)) old new ahead from to bytes t =
+    (place, Some bs, [], refl, grows-none place old new t.1, append-nil (map Byte bs) ∙ ap (map Byte) (sym (ap (bytes_of {E = E}) t.0)), t.2)
+takes-message E (Some (place, None)) old new ahead from to bytes t =
+    (place, None, item.Message bytes ∷ [], refl, grows-one place (item.Message bytes) old new t.0, append-nil (map Byte bytes), t.1)
+
+pub takes-block : (E : Type 0) (view : Shown) (old new : List (ℕ × List OutItem)) (ahead : List (List OutItem)) (from to : Option Encoding) (bytes : List ℕ) (ends_it : Bool)
+    → TakesAt {E = E} view old new ahead from to (Ok (polled.Block bytes ends_it))
+    → (place : ℕ) × (fields : List Field) × (view ≡ Some (place, None)) × Grows place (block_item ends_it fields ∷ []) old new × Writes from fields bytes to
+takes-block E None old new ahead from to bytes ends_it t = absurd (block-nothing (Ok (polled.Block bytes ends_it)) refl t.0)
+  where
+    block-nothing : (r : Result Polled E) → r ≡ Ok (polled.Block bytes ends_it) → r ≡ Ok polled.Nothing → ⊥
+    block-nothing r f e = cc
+takes-block E (Some (place, Some bs)) old new ahead from to bytes ends_it t = absurd (block-message bs (Ok (polled.Block bytes ends_it)) refl t.0)
+  where
+    block-message : (bs : List ℕ) (r : Result Polled E) → r ≡ Ok (polled.Block bytes ends_it) → r ≡ Ok (polled.Message bs) → ⊥
+    block-message bs r f e = cc
+takes-block E (Some (place, None)) old new ahead from to bytes ends_it t =
+    (place, t.0, refl, grows-one place (block_item ends_it t.0) old new t.1, t.2)
+
+pub takes-nothing : (E : Type 0) (view : Shown) (old new : List (ℕ × List OutItem)) (ahead : List (List OutItem)) (from to : Option Encoding)
+    → TakesAt {E = E} view old new ahead from to (Ok polled.Nothing)
+    → (new ≡ old) × (to ≡ from) × (with_hand None view ≡ view) × ((s : ℕ × Option (List ℕ)) → view ≡ Some s → get_or ahead s.0 [] ≡ [])
+takes-nothing E None old new ahead from to t = (t.1, t.2, refl, λ s e. absurd (none-is s e))
+  where
+    none-is : (s : ℕ × Option (List ℕ)) → None ≡ Some s → ⊥
+    none-is s e = cc
+takes-nothing E (Some (place, Some bs)) old new ahead from to t = absurd (nothing-message bs (Ok polled.Nothing) refl t.0)
+  where
+    nothing-message : (bs : List ℕ) (r : Result Polled E) → r ≡ Ok polled.Nothing → r ≡ Ok (polled.Message bs) → ⊥
+    nothing-message bs r f e = cc
+takes-nothing E (Some (place, None)) old new ahead from to t = (t.0, t.2, refl, λ s e. ap (λ n. get_or ahead n []) (sym (at s e)) ∙ t.1)
+  where
+    at : (s : ℕ × Option (List ℕ)) → Some (place, None) ≡ Some s → place ≡ s.0
+    at s e = ap (λ (x : Shown). place_of s x) e
+      where
+        place_of : ℕ × Option (List ℕ) → Shown → ℕ
+        place_of d None = d.0
+        place_of d (Some x) = x.0
+
+-- whatever was taken, even without memory
+pub takes-fronts : {E : Type 0} (view : Shown) (old new : List (ℕ × List OutItem)) (ahead : List (List OutItem)) (from to : Option Encoding) (result : Result Polled E)
+    → TakesAt view old new ahead from to result → (run : List Step) → TellFronts run old → TellFronts run new
+takes-fronts None old new ahead from to result t run all = subst (TellFronts run) (sym t.1) all
+takes-fronts (Some (place, Some bs)) old new ahead from to result t run all = subst (TellFronts run) (sym t.1) all
+takes-fronts (Some (place, None)) old new ahead from to (Ok polled.Nothing) t run all = subst (TellFronts run) (sym t.0) all
+takes-fronts (Some (place, None)) old new ahead from to (Ok (polled.Message bytes)) t run all =
+    fronts-grow run place (item.Message bytes ∷ []) old new (grows-one place (item.Message bytes) old new t.0) all
+takes-fronts (Some (place, None)) old new ahead from to (Ok (polled.Block bytes ends_it)) t run all =
+    fronts-grow run place (block_item ends_it t.0 ∷ []) old new (grows-one place (block_item ends_it t.0) old new t.1) all
+takes-fronts (Some (place, None)) old new ahead from to (Err e) t run all = fronts-grow run place (t.0 ∷ []) old new (grows-one place t.0 old new t.1) all
+
+-- ---- what is in hand then
+
+pub hand-then : (id place : ℕ) (was hand : Option (List ℕ)) (streams left : List (ℕ × OpenStream)) → shows streams id ≡ Some (place, was) → HandIs id hand streams left
+    → (k : ℕ) → shows left k ≡ (if k == id then Some (place, hand) else shows streams k)
+hand-then id place was hand streams left view is k = is k ∙ by (k == id) refl
+  where
+    by : (b : Bool) → (k == id) ≡ b → (if b then with_hand hand (shows streams k) else shows streams k) ≡ (if b then Some (place, hand) else shows streams k)
+    by true p = ap (with_hand hand) (subst (λ n. shows streams n ≡ Some (place, was)) (sym (eqb-true k id p)) view)
+    by false p = refl
+
+if-twice : {A : Type 0} (b : Bool) (x y z : A) → (if b then x else (if b then y else z)) ≡ (if b then x else z)
+if-twice true x y z = refl
+if-twice false x y z = refl
+
+pub hand-twice : (id place : ℕ) (was hand : Option (List ℕ)) (streams middle left : List (ℕ × OpenStream)) → shows streams id ≡ Some (place, was)
+    → HandIs id None streams middle → HandIs id hand middle left
+    → (k : ℕ) → shows left k ≡ (if k == id then Some (place, hand) else shows streams k)
+hand-twice id place was hand streams middle left view none is k =
+    let there : shows middle id ≡ Some (place, None) = hand-then id place was None streams middle view none id
+    ∙ ap (λ b. if b then Some (place, None) else shows streams id) (eq-eqb id id refl) in
+    hand-then id place None hand middle left there is k
+    ∙ ap (λ (v : Shown). if k == id then Some (place, hand) else v) (hand-then id place was None streams middle view none k)
+    ∙ if-twice (k == id) (Some (place, hand)) (Some (place, None)) (shows streams k)
+
+hand-kept : (id place : ℕ) (was : Option (List ℕ)) (rest : List ℕ) (streams middle left : List (ℕ × OpenStream)) → shows streams id ≡ Some (place, was)
+    → HandIs id None streams middle → HandKeeps id rest middle left
+    → (hand : Option (List ℕ)) × ((k : ℕ) → shows left k ≡ (if k == id then Some (place, hand) else shows streams k)) × (bytes_marks hand ≡ map Byte rest)
+hand-kept id place was [] streams middle left view none keeps = (None, λ k. keeps k ∙ hand-then id place was None streams middle view none k, refl)
+hand-kept id place was (b ∷ bs) streams middle left view none keeps =
+    (Some (b ∷ bs), hand-twice id place was (Some (b ∷ bs)) streams middle left view none keeps, refl)
+
+-- ---- the frames
+
+same-outbound : (old mid : Outbound) → mid ≡ record old { encoder = mid.encoder } → mid.encoder ≡ old.encoder → mid ≡ old
+same-outbound old mid e f = e ∙ ap (λ (x : Option Encoding). record old { encoder = x }) f
+
+data-serves : (run : List Step) (o after : Outbound) (windows : Windows) (streams middle left : List (ℕ × OpenStream)) (others : List (ℕ × Bool)) (calls now : List (ℕ × List OutItem))
+    (marks : List (ℕ × Mark)) (id place : ℕ) (was : Option (List ℕ)) (news : List OutItem) (bytes front rest : List ℕ) (frame : Frame)
+    → shows streams id ≡ Some (place, was) → Grows place news calls now → (bytes_marks was ++ spelled news) ≡ map Byte bytes
+    → HandIs id None streams middle → bytes ≡ front ++ rest → HandKeeps id rest middle left
+    → TellsMore frame (on_stream id (map Byte front)) o after → after ≡ record o { windows = windows }
+    → Serves run o streams others calls marks → Serves (Written frame ∷ run) after left others now (marks ++ on_stream id (map Byte front))
+data-serves run o after windows streams middle left others calls now marks id place was news bytes front rest frame view g bal none cut keeps tells is s =
+    let kept = hand-kept id place was rest streams middle left view none keeps in
+    goes-on run (Written frame ∷ run) o after streams left others calls now marks id place was kept.0 (map Byte front) news (λ k. refl) (λ k. refl)
+    (tells run marks s.spells)
+    (ap (λ (x : Outbound). x.due.items) (sym is)) (λ k. ap (λ (x : Outbound). knows x.credit k) is) (λ k. ap (λ (x : Outbound). lookup (nat_eq k) x.over.entries) is)
+    view kept.1 g
+    (bal ∙ ap (map Byte) cut ∙ map-append Byte front rest ∙ ap (λ (l : List Mark). map Byte front ++ l) (sym kept.2)) s
+
+kept-serves : (run : List Step) (o : Outbound) (streams middle left : List (ℕ × OpenStream)) (others : List (ℕ × Bool)) (calls now : List (ℕ × List OutItem))
+    (marks : List (ℕ × Mark)) (id place : ℕ) (was : Option (List ℕ)) (news : List OutItem) (bytes : List ℕ)
+    → shows streams id ≡ Some (place, was) → Grows place news calls now → (bytes_marks was ++ spelled news) ≡ map Byte bytes
+    → HandIs id None streams middle → HandIs id (Some bytes) middle left
+    → Serves run o streams others calls marks → Serves run o left others now (marks ++ on_stream id [])
+kept-serves run o streams middle left others calls now marks id place was news bytes view g bal none keeps s =
+    goes-on run run o o streams left others calls now marks id place was (Some bytes) [] news (λ k. refl) (λ k. refl)
+    (subst (λ (l : List (ℕ × Mark)). SpellsOf run o l) (sym (append-nil marks)) s.spells)
+    refl (λ k. refl) (λ k. refl) view (hand-twice id place was (Some bytes) streams middle left view none keeps) g bal s
+
+head-serves : (run : List Step) (o after : Outbound) (streams middle left : List (ℕ × OpenStream)) (others : List (ℕ × Bool)) (calls now : List (ℕ × List OutItem))
+    (marks : List (ℕ × Mark)) (id place : ℕ) (fields : List Field) (ends_it : Bool) (frame : Frame)
+    → shows streams id ≡ Some (place, None) → Grows place (block_item ends_it fields ∷ []) calls now
+    → HandIs id None streams middle → Removes id ends_it middle left
+    → SpellsOf (Written frame ∷ run) after (marks ++ block_marks id fields ends_it)
+    → o.due.items ≡ after.due.items → ((k : ℕ) → knows after.credit k ≡ knows o.credit k) → Ends o.over.entries id ends_it after.over.entries
+    → Serves run o streams others calls marks → Serves (Written frame ∷ run) after left others now (marks ++ block_marks id fields ends_it)
+head-serves run o after streams middle left others calls now marks id place fields true frame view g none removes spells due known over s =
+    ends run (Written frame ∷ run) o after streams left others calls now marks id place None (Fields fields ∷ End ∷ []) (block_item true fields ∷ []) (λ k. refl) (λ k. refl)
+    spells due known over view
+    (λ k. removes k ∙ ap (λ (v : Shown). if k == id then None else v) (hand-then id place None None streams middle view none k)
+    ∙ if-twice (k == id) None (Some (place, None)) (shows streams k)) g refl s
+head-serves run o after streams middle left others calls now marks id place fields false frame view g none removes spells due known over s =
+    goes-on run (Written frame ∷ run) o after streams left others calls now marks id place None None (Fields fields ∷ []) (block_item false fields ∷ []) (λ k. refl) (λ k. refl)
+    spells due known (λ k. ap (λ (l : List (ℕ × Bool)). lookup (nat_eq k) l) over) view
+    (λ k. removes k ∙ hand-then id place None None streams middle view none k) g refl s
+
+-- ---- a core
+
+module _ {L In Out Shut : Type 0} where
+  -- what was taken, and the encoder and the streams after it
+  pub record Took (E : Type 0) (got ahead : Out → List OutItem) (old mid : OutCore L In Out Shut) (id : ℕ) (result : Result Polled E) : Type 0 where
+    pub takes : TakesAt (shows old.streams.entries id) (calls got old.senders.items) (calls got mid.senders.items) (aheads ahead mid.senders.items)
+        old.outbound.encoder mid.outbound.encoder result
+    pub outbound : mid.outbound ≡ record old.outbound { encoder = mid.outbound.encoder }
+    pub hands : HandIs id None old.streams.entries mid.streams.entries
+    pub others : mid.others ≡ old.others
+
+  pub fronts-still : (got : Out → List OutItem) (old mid new : OutCore L In Out Shut) → KeepsFronts got old mid → new.senders ≡ mid.senders → KeepsFronts got old new
+  fronts-still got old mid new keeps e run all = subst (λ senders. TellFronts run (calls got senders.items)) (sym e) (keeps run all)
+
+  pub look-nothing : (E : Type 0) (got ahead : Out → List OutItem) (old mid : OutCore L In Out Shut) (id : ℕ) (result : Polled)
+      → Took E got ahead old mid id (Ok result) → result ≡ polled.Nothing → HoldsOn got None old mid
+  look-nothing E got ahead old mid id result took is run (marks, s) =
+      let t = subst (λ (p : Polled). TakesAt {E = E} (shows old.streams.entries id) (calls got old.senders.items) (calls got mid.senders.items) (aheads ahead mid.senders.items) old.outbound.encoder mid.outbound.encoder (Ok p)) is took.takes in
+      let found = takes-nothing E (shows old.streams.entries id) (calls got old.senders.items) (calls got mid.senders.items) (aheads ahead mid.senders.items) old.outbound.encoder mid.outbound.encoder t in (
+        marks,
+        subst (λ (o : Outbound). Serves run o mid.streams.entries mid.others.entries (calls got mid.senders.items) marks) (sym (same-outbound old.outbound mid.outbound took.outbound found.1))
+            (subst (λ (l : List (ℕ × List OutItem)). Serves run old.outbound mid.streams.entries mid.others.entries l marks) (sym found.0)
+            (subst (λ others. Serves run old.outbound mid.streams.entries others.entries (calls got old.senders.items) marks) (sym took.others)
+            (serves-hands run old.outbound old.streams.entries mid.streams.entries old.others.entries (calls got old.senders.items) marks
+            (λ k. took.hands k ∙ by k found.2 (k == id) refl) s))),
+      )
+    where
+      by : (k : ℕ) → with_hand None (shows old.streams.entries id) ≡ shows old.streams.entries id → (b : Bool) → (k == id) ≡ b
+          → (if b then with_hand None (shows old.streams.entries k) else shows old.streams.entries k) ≡ shows old.streams.entries k
+      by k same true p = subst (λ n. with_hand None (shows old.streams.entries n) ≡ shows old.streams.entries n) (sym (eqb-true k id p)) same
+      by k same false p = refl
+
+  pub look-data : (E : Type 0) (got ahead : Out → List OutItem) (old mid new : OutCore L In Out Shut) (id : ℕ) (bytes : List ℕ) (result : Polled) (o : Option Frame)
+      → Took E got ahead old mid id (Ok result) → result ≡ polled.Message bytes
+      → TellsData id bytes o mid new → new.senders ≡ mid.senders → new.others ≡ mid.others
+      → HoldsOn got o old new
+  look-data E got ahead old mid new id bytes result (Some frame) took is tells senders others_same = λ run m.
+      let t = subst (λ (p : Polled). TakesAt {E = E} (shows old.streams.entries id) (calls got old.senders.items) (calls got mid.senders.items) (aheads ahead mid.senders.items) old.outbound.encoder mid.outbound.encoder (Ok p)) is took.takes in
+      let found = takes-message E (shows old.streams.entries id) (calls got old.senders.items) (calls got mid.senders.items) (aheads ahead mid.senders.items) old.outbound.encoder mid.outbound.encoder bytes t in
+      let same = same-outbound old.outbound mid.outbound took.outbound found.6 in (
+        m.0 ++ on_stream id (map Byte tells.0),
+        subst (λ senders. Serves (Written frame ∷ run) new.outbound new.streams.entries new.others.entries (calls got senders.items) (m.0 ++ on_stream id (map Byte tells.0))) (sym senders)
+            (subst (λ others. Serves (Written frame ∷ run) new.outbound new.streams.entries others.entries (calls got mid.senders.items) (m.0 ++ on_stream id (map Byte tells.0))) (sym (others_same ∙ took.others))
+            (data-serves run old.outbound new.outbound new.outbound.windows old.streams.entries mid.streams.entries new.streams.entries old.others.entries
+            (calls got old.senders.items) (calls got mid.senders.items) m.0 id found.0 found.1 found.2 bytes tells.0 tells.1 frame found.3 found.4 found.5 took.hands tells.2 tells.3
+            (subst (λ (x : Outbound). TellsMore frame (on_stream id (map Byte tells.0)) x new.outbound) same tells.4)
+            (subst (λ (x : Outbound). new.outbound ≡ record x { windows = new.outbound.windows }) same tells.5) m.1)),
+      )
+  look-data E got ahead old mid new id bytes result None took is tells senders others_same = λ run m.
+      let t = subst (λ (p : Polled). TakesAt {E = E} (shows old.streams.entries id) (calls got old.senders.items) (calls got mid.senders.items) (aheads ahead mid.senders.items) old.outbound.encoder mid.outbound.encoder (Ok p)) is took.takes in
+      let found = takes-message E (shows old.streams.entries id) (calls got old.senders.items) (calls got mid.senders.items) (aheads ahead mid.senders.items) old.outbound.encoder mid.outbound.encoder bytes t in
+      let same = same-outbound old.outbound mid.outbound took.outbound found.6 in (
+        m.0 ++ on_stream id [],
+        subst (λ (x : Outbound). Serves run x new.streams.entries new.others.entries (calls got new.senders.items) (m.0 ++ on_stream id [])) (sym (tells.1 ∙ same))
+            (subst (λ senders. Serves run old.outbound new.streams.entries new.others.entries (calls got senders.items) (m.0 ++ on_stream id [])) (sym senders)
+            (subst (λ others. Serves run old.outbound new.streams.entries others.entries (calls got mid.senders.items) (m.0 ++ on_stream id [])) (sym (others_same ∙ took.others))
+            (kept-serves run old.outbound old.streams.entries mid.streams.entries new.streams.entries old.others.entries
+            (calls got old.senders.items) (calls got mid.senders.items) m.0 id found.0 found.1 found.2 bytes found.3 found.4 found.5 took.hands tells.0 m.1))),
+      )
+
+  pub look-block : (E : Type 0) (got ahead : Out → List OutItem) (old mid fin : OutCore L In Out Shut) (after : Outbound) (id : ℕ) (bytes : List ℕ) (ends_it : Bool) (result : Polled) (frame : Frame)
+      → Took E got ahead old mid id (Ok result) → result ≡ polled.Block bytes ends_it
+      → fin.outbound ≡ mid.outbound → Removes id ends_it mid.streams.entries fin.streams.entries → fin.senders ≡ mid.senders → fin.others ≡ mid.others
+      → TellsBlock id ends_it bytes frame fin.outbound after → Ends fin.outbound.over.entries id ends_it after.over.entries
+      → after ≡ record fin.outbound { windows = after.windows; over = after.over; block = after.block }
+      → HoldsOn got (Some frame) old (record fin { outbound = after })
+  look-block E got ahead old mid fin after id bytes ends_it result frame took is_block outbound removes senders others_same tells over is run (marks, s) =
+      let t = subst (λ (p : Polled). TakesAt {E = E} (shows old.streams.entries id) (calls got old.senders.items) (calls got mid.senders.items) (aheads ahead mid.senders.items) old.outbound.encoder mid.outbound.encoder (Ok p)) is_block took.takes in
+      let found = takes-block E (shows old.streams.entries id) (calls got old.senders.items) (calls got mid.senders.items) (aheads ahead mid.senders.items) old.outbound.encoder mid.outbound.encoder bytes ends_it t in
+      let same : fin.outbound ≡ record old.outbound { encoder = mid.outbound.encoder } = outbound ∙ took.outbound in
+      let told : TellsBlock id ends_it bytes frame (record old.outbound { encoder = mid.outbound.encoder }) after =
+      subst (λ (x : Outbound). TellsBlock id ends_it bytes frame x after) same tells in
+      let rest : after ≡ record old.outbound { encoder = mid.outbound.encoder; windows = after.windows; over = after.over; block = after.block } =
+      subst (λ (x : Outbound). after ≡ record x { windows = after.windows; over = after.over; block = after.block }) same is in (
+        marks ++ block_marks id found.1 ends_it,
+        subst (λ senders. Serves (Written frame ∷ run) after fin.streams.entries fin.others.entries (calls got senders.items) (marks ++ block_marks id found.1 ends_it)) (sym senders)
+            (subst (λ others. Serves (Written frame ∷ run) after fin.streams.entries others.entries (calls got mid.senders.items) (marks ++ block_marks id found.1 ends_it)) (sym (others_same ∙ took.others))
+            (head-serves run old.outbound after old.streams.entries mid.streams.entries fin.streams.entries old.others.entries (calls got old.senders.items) (calls got mid.senders.items)
+            marks id found.0 found.1 ends_it frame found.2 found.3 took.hands removes
+            (told run marks found.1 old.outbound.encoder s.spells.1 found.4)
+            (ap (λ (x : Outbound). x.due.items) (sym rest)) (λ k. ap (λ (x : Outbound). knows x.credit k) rest)
+            (subst (λ (x : Outbound). Ends x.over.entries id ends_it after.over.entries) same over) s)),
+      )

@@ -1,0 +1,61 @@
+-- What a poll of the sender at a place changes of all calls.
+use Rattle.std.proofs.Common.{◌≡◌, ℕ, ◌<◌, sym, ap, subst, ◌∙◌, List, [], ◌∷◌, ◌++◌, Option, Some, None, length, arith}
+use Rattle.std.specs.Prelude.{Result, Ok, Err, OnErr, IfOk, map, get_or, set, ◌≢◌}
+use Rattle.std.proofs.lemmas.List.{map-set, get_or-map, get_or-set_same, get_or-set_other, length-set}
+use Rattle.std.proofs.Math.Seq.{map-set_same}
+use Rattle.callbox.specs.declared.account.OutItem.{OutItem}
+use Rattle.callbox.specs.declared.account.OutItem.TheVariants as item
+use Rattle.callbox.specs.declared.sender.Sender.{Sender}
+use Rattle.hpack_codec.specs.Codec.{Encoding}
+use Rattle.outwriter.specs.declared.stream.OpenStream.{OpenStream}
+use Rattle.outwriter.specs.declared.stream.Polled.{Polled}
+use Rattle.outwriter.specs.declared.stream.Polled.TheVariants as polled
+use Rattle.outwriter.specs.Cores.{calls}
+use Rattle.outwriter.specs.Polling.{Shown, shown, with_item, one_more, TakesHand, TakesAt, SameAhead, aheads}
+use Rattle.outwriter.specs.Polls.{Polls, block_item}
+
+module _ {L In Out Shut : Type 0} where
+  more-one : (got : Out → List OutItem) (senders : List (ℕ × Sender L In Out Shut)) (place : ℕ) (entry : ℕ × Sender L In Out Shut) (new : Sender L In Out Shut) (one : OutItem)
+      → place < length senders → entry ≡ get_or senders place entry → got new.rx ≡ got entry.1.rx ++ one ∷ []
+      → calls got (set senders place (entry.0, new)) ≡ one_more place one (calls got senders)
+  more-one got senders place entry new one lt is e =
+      let f : ℕ × Sender L In Out Shut → ℕ × List OutItem = λ call. (call.0, got call.1.rx) in
+      let was : f entry ≡ get_or (map f senders) place (0, []) = ap f is ∙ sym (get_or-map f senders place entry (0, []) lt) in
+      map-set f senders place (entry.0, new)
+      ∙ ap (λ (c : ℕ × List OutItem). set (map f senders) place c) (ap (λ (l : List OutItem). (entry.0, l)) e ∙ ap (with_item one) was)
+
+  pub polled-at : {E : Type 0} (got ahead : Out → List OutItem) (senders : List (ℕ × Sender L In Out Shut)) (place : ℕ) (entry : ℕ × Sender L In Out Shut) (new : Sender L In Out Shut)
+      (from to : Option Encoding) (result : Result Polled E)
+      → place < length senders → entry ≡ get_or senders place entry
+      → IfOk result (Polls (got entry.1.rx) (got new.rx) (ahead new.rx) from to)
+      → OnErr result ((one : OutItem) × (got new.rx ≡ got entry.1.rx ++ one ∷ []))
+      → TakesHand None place (calls got senders) (calls got (set senders place (entry.0, new))) (aheads ahead (set senders place (entry.0, new))) from to result
+  polled-at got ahead senders place entry new from to (Ok polled.Nothing) lt is p err = (
+    map-set_same (λ (call : ℕ × Sender L In Out Shut). (call.0, got call.1.rx)) senders place (entry.0, new) entry
+        (ap (λ (l : List OutItem). (entry.0, l)) p.0 ∙ ap (λ (call : ℕ × Sender L In Out Shut). (call.0, got call.1.rx)) is),
+    get_or-map (λ (call : ℕ × Sender L In Out Shut). ahead call.1.rx) (set senders place (entry.0, new)) place entry [] (omega (arith, lt, length-set senders place (entry.0, new)))
+        ∙ ap (λ (call : ℕ × Sender L In Out Shut). ahead call.1.rx) (get_or-set_same senders place (entry.0, new) entry lt) ∙ p.1,
+    p.2,
+  )
+  polled-at got ahead senders place entry new from to (Ok (polled.Message bytes)) lt is p err =
+      (more-one got senders place entry new (item.Message bytes) lt is p.0, p.1)
+  polled-at got ahead senders place entry new from to (Ok (polled.Block bytes ends)) lt is p err =
+      (p.0, more-one got senders place entry new (block_item ends p.0) lt is p.1, p.2)
+  polled-at got ahead senders place entry new from to (Err e) lt is p err = (err.0, more-one got senders place entry new err.0 lt is err.1)
+
+  pub ahead-elsewhere : (ahead : Out → List OutItem) (senders : List (ℕ × Sender L In Out Shut)) (place : ℕ) (call : ℕ × Sender L In Out Shut) (k : ℕ) → k ≢ place
+      → get_or (aheads ahead (set senders place call)) k [] ≡ get_or (aheads ahead senders) k []
+  ahead-elsewhere ahead senders place call k ne =
+      ap (λ (l : List (List OutItem)). get_or l k []) (map-set (λ (c : ℕ × Sender L In Out Shut). ahead c.1.rx) senders place call)
+      ∙ get_or-set_other (map (λ (c : ℕ × Sender L In Out Shut). ahead c.1.rx) senders) place k (ahead call.1.rx) [] ne
+
+pub shows-is : (o : Option OpenStream) (stream : OpenStream) → Some stream ≡ o → stream.in_hand ≡ None → shown o ≡ Some (stream.place, None)
+shows-is o stream e none = ap shown (sym e) ∙ ap (λ (h : Option (List ℕ)). Some (stream.place, h)) none
+
+pub takes-at : {E : Type 0} (view : Shown) (place : ℕ) (old new : List (ℕ × List OutItem)) (ahead : List (List OutItem)) (from to : Option Encoding) (result : Result Polled E)
+    → view ≡ Some (place, None) → TakesHand None place old new ahead from to result → TakesAt view old new ahead from to result
+takes-at view place old new ahead from to result e t = subst (λ (v : Shown). TakesAt v old new ahead from to result) (sym e) t
+
+pub same-ahead : (view : Shown) (place : ℕ) (old new : List (List OutItem)) → view ≡ Some (place, None) → ((k : ℕ) → k ≢ place → get_or new k [] ≡ get_or old k [])
+    → SameAhead view old new
+same-ahead view place old new e same = subst (λ (v : Shown). SameAhead v old new) (sym e) same

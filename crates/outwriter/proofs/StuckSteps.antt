@@ -1,0 +1,106 @@
+-- Where a look at a stream finds nothing to write, nothing can be written on it, and of the other streams all is the same.
+use Rattle.std.proofs.Common.{◌≡◌, ℕ, refl, sym, ap, subst, ◌∙◌, Bool, false, List, [], Option, Some, None, nat_eq, true≢false}
+use Rattle.h2frame.specs.declared.frame.Frame.{Frame}
+use Rattle.std.specs.Prelude.{IfNone, Result, Ok, get_or, ◌≢◌, ◌&&◌, not, is_some, if◌then◌else◌}
+use Rattle.std.specs.Map.{lookup}
+use Rattle.std.proofs.lemmas.Bool.{eq-eqb, ne_eqb}
+use Rattle.callbox.specs.declared.account.OutItem.{OutItem}
+use Rattle.flow.specs.Windows.{Windows, room}
+use Rattle.outwriter.specs.declared.out_core.OutCore.{OutCore}
+use Rattle.outwriter.specs.declared.outbound.Outbound.{Outbound}
+use Rattle.outwriter.specs.declared.stream.OpenStream.{OpenStream}
+use Rattle.outwriter.specs.declared.stream.Polled.{Polled}
+use Rattle.outwriter.specs.declared.stream.Polled.TheVariants as polled
+use Rattle.outwriter.specs.Cores.{calls, IsStuck}
+use Rattle.outwriter.specs.Histories.{is_stream}
+use Rattle.outwriter.specs.Polling.{Shown, shown, shows, with_hand, HandIs, TakesAt, SameAhead, TellsData, aheads, Holds, StuckAt, GetsStuck}
+use Rattle.outwriter.specs.Steps.{Step}
+use Rattle.outwriter.proofs.ServeSteps.{shown-some, from_some, none-some}
+use Rattle.outwriter.proofs.ServeStepsLook.{Took, takes-nothing}
+
+hand-of : (hand : Option (List ℕ)) (v : Shown) (s : ℕ × Option (List ℕ)) → with_hand hand v ≡ Some s → (s.1 ≡ hand) × ((was : Option (List ℕ)) × (v ≡ Some (s.0, was)))
+hand-of hand None s e = absurd (none-some s e)
+hand-of hand (Some x) s e = (
+  sym (ap (λ (o : Shown). (from_some s o).1) e),
+  (x.1, ap (λ (n : ℕ). Some (n, x.1)) (ap (λ (o : Shown). (from_some s o).0) e)),
+)
+
+stuck-same : (r room_now : ℕ) (h hand : Option (List ℕ)) (a ahead : List OutItem) → room_now ≡ r → hand ≡ h → ahead ≡ a → IsStuck r h a → IsStuck room_now hand ahead
+stuck-same r room_now h hand a ahead e f g is =
+    subst (λ (n : ℕ). IsStuck n hand ahead) (sym e) (subst (λ (x : Option (List ℕ)). IsStuck r x ahead) (sym f) (subst (λ (l : List OutItem). IsStuck r h l) (sym g) is))
+
+here-is : (hand : Option (List ℕ)) (id : ℕ) (middle left : List (ℕ × OpenStream)) (stream : OpenStream) → HandIs id hand middle left → lookup (nat_eq id) left ≡ Some stream
+    → with_hand hand (shows middle id) ≡ Some (stream.place, stream.in_hand)
+here-is hand id middle left stream is e =
+    sym (is id ∙ ap (λ b. if b then with_hand hand (shows middle id) else shows middle id) (eq-eqb id id refl)) ∙ ap shown e
+
+elsewhere-is : (hand : Option (List ℕ)) (id k : ℕ) (middle left : List (ℕ × OpenStream)) → HandIs id hand middle left → k ≢ id → shows left k ≡ shows middle k
+elsewhere-is hand id k middle left is ne = is k ∙ ap (λ b. if b then with_hand hand (shows middle k) else shows middle k) (ne_eqb k id ne)
+
+module _ {L In Out Shut : Type 0} where
+  others-stuck : (got ahead : Out → List OutItem) (old mid new : OutCore L In Out Shut) (id : ℕ) (run : List Step) → Holds got run old
+      → SameAhead (shows old.streams.entries id) (aheads ahead old.senders.items) (aheads ahead mid.senders.items)
+      → ((k : ℕ) → k ≢ id → shows new.streams.entries k ≡ shows old.streams.entries k) → new.senders ≡ mid.senders → new.outbound.windows ≡ old.outbound.windows
+      → (k : ℕ) → k ≢ id → StuckAt ahead k old → StuckAt ahead k new
+  others-stuck got ahead old mid new id run (marks, s) same hands senders windows k ne stuck stream e =
+      stuck-same (room old.outbound.windows k) (room new.outbound.windows k) f.0.in_hand stream.in_hand
+      (get_or (aheads ahead old.senders.items) f.0.place []) (get_or (aheads ahead new.senders.items) stream.place [])
+      (ap (λ (w : Windows). room w k) windows) (sym f.3)
+      (ap (λ senders. get_or (aheads ahead senders.items) stream.place []) senders ∙ by (shows old.streams.entries id) refl same
+      ∙ ap (λ n. get_or (aheads ahead old.senders.items) n []) (sym f.2)) (stuck f.0 f.1)
+    where
+      f : (st : OpenStream) × (lookup (nat_eq k) old.streams.entries ≡ Some st) × (st.place ≡ stream.place) × (st.in_hand ≡ stream.in_hand)
+      f = shown-some (lookup (nat_eq k) old.streams.entries) (stream.place, stream.in_hand) (sym (hands k ne) ∙ ap shown e)
+
+      apart : (x : ℕ × Option (List ℕ)) → shows old.streams.entries id ≡ Some x → stream.place ≡ x.0 → ⊥
+      apart x v p =
+          let i = shown-some (lookup (nat_eq id) old.streams.entries) x v in
+          let d : ℕ × List OutItem = (0, []) in
+          ne (sym ((s.exact k f.0 f.1).1 d).0 ∙ ap (λ n. (get_or (calls got old.senders.items) n d).0) (f.2 ∙ p ∙ sym i.2) ∙ ((s.exact id i.0 i.1).1 d).0)
+
+      by : (v : Shown) → shows old.streams.entries id ≡ v → SameAhead v (aheads ahead old.senders.items) (aheads ahead mid.senders.items)
+          → get_or (aheads ahead mid.senders.items) stream.place [] ≡ get_or (aheads ahead old.senders.items) stream.place []
+      by None v same_all = ap (λ (l : List (List OutItem)). get_or l stream.place []) same_all
+      by (Some x) v same_but = same_but stream.place (apart x v)
+
+  -- a stream that is over, or none
+  pub stuck-over : (got ahead : Out → List OutItem) (core : OutCore L In Out Shut) (id : ℕ) (may : Bool) → may ≡ false
+      → may ≡ (is_stream id && not (is_some (lookup (nat_eq id) core.outbound.over.entries))) → GetsStuck got ahead id core core
+  stuck-over got ahead core id may denied is run (marks, s) = (
+    λ stream e. absurd (true≢false (sym (ap (λ b. b && not (is_some (lookup (nat_eq id) core.outbound.over.entries))) (s.numbered id stream e)
+        ∙ ap (λ (o : Option Bool). not (is_some o)) (s.not_over id stream e)) ∙ sym is ∙ denied)),
+    λ k ne stuck. stuck,
+  )
+
+  pub stuck-nothing : (E : Type 0) (got ahead : Out → List OutItem) (old mid : OutCore L In Out Shut) (id : ℕ) (result : Polled)
+      → Took E got ahead old mid id (Ok result) → SameAhead (shows old.streams.entries id) (aheads ahead old.senders.items) (aheads ahead mid.senders.items)
+      → result ≡ polled.Nothing → GetsStuck got ahead id old mid
+  stuck-nothing E got ahead old mid id result took same is run h = (
+    λ stream e.
+        let found = takes-nothing E (shows old.streams.entries id) (calls got old.senders.items) (calls got mid.senders.items) (aheads ahead mid.senders.items) old.outbound.encoder mid.outbound.encoder
+        (subst (λ (p : Polled). TakesAt {E = E} (shows old.streams.entries id) (calls got old.senders.items) (calls got mid.senders.items) (aheads ahead mid.senders.items) old.outbound.encoder mid.outbound.encoder (Ok p)) is took.takes) in
+        let hand = hand-of None (shows old.streams.entries id) (stream.place, stream.in_hand) (here-is None id old.streams.entries mid.streams.entries stream took.hands e) in
+        subst (λ (x : Option (List ℕ)). IsStuck (room mid.outbound.windows id) x (get_or (aheads ahead mid.senders.items) stream.place [])) (sym hand.0)
+        (found.3 (stream.place, hand.1.0) hand.1.1),
+    others-stuck got ahead old mid mid id run h same (λ k ne. elsewhere-is None id k old.streams.entries mid.streams.entries took.hands ne) refl
+        (ap (λ (o : Outbound). o.windows) took.outbound),
+  )
+
+  pub stuck-data : (E : Type 0) (got ahead : Out → List OutItem) (old mid new : OutCore L In Out Shut) (id : ℕ) (bytes : List ℕ) (result : Result Polled E)
+      → Took E got ahead old mid id result → SameAhead (shows old.streams.entries id) (aheads ahead old.senders.items) (aheads ahead mid.senders.items)
+      → TellsData id bytes None mid new → new.senders ≡ mid.senders → GetsStuck got ahead id old new
+  stuck-data E got ahead old mid new id bytes result took same tells senders run h = (
+    λ stream e.
+        let hand = hand-of (Some bytes) (shows mid.streams.entries id) (stream.place, stream.in_hand) (here-is (Some bytes) id mid.streams.entries new.streams.entries stream tells.0 e) in
+        subst (λ (x : Option (List ℕ)). IsStuck (room new.outbound.windows id) x (get_or (aheads ahead new.senders.items) stream.place [])) (sym hand.0)
+        (ap (λ (o : Outbound). room o.windows id) tells.1 ∙ tells.2),
+    others-stuck got ahead old mid new id run h same
+        (λ k ne. elsewhere-is (Some bytes) id k mid.streams.entries new.streams.entries tells.0 ne ∙ elsewhere-is None id k old.streams.entries mid.streams.entries took.hands ne) senders
+        (ap (λ (o : Outbound). o.windows) tells.1 ∙ ap (λ (o : Outbound). o.windows) took.outbound),
+  )
+
+  pub stuck-if : (E : Type 0) (got ahead : Out → List OutItem) (old mid new : OutCore L In Out Shut) (id : ℕ) (bytes : List ℕ) (result : Result Polled E) (o : Option Frame)
+      → Took E got ahead old mid id result → SameAhead (shows old.streams.entries id) (aheads ahead old.senders.items) (aheads ahead mid.senders.items)
+      → TellsData id bytes o mid new → new.senders ≡ mid.senders → IfNone o (GetsStuck got ahead id old new)
+  stuck-if E got ahead old mid new id bytes result None took same tells senders = stuck-data E got ahead old mid new id bytes result took same tells senders
+  stuck-if E got ahead old mid new id bytes result (Some frame) took same tells senders = tt

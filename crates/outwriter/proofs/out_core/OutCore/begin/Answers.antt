@@ -1,0 +1,19 @@
+use Rattle.std.proofs.Common.{ap}
+use Rattle.outwriter.specs.Cores.{calls}
+use Rattle.outwriter.proofs.CallSteps.{serves-equal, serves-kept}
+use Rattle.outwriter.proofs.CallStepsCores.{serves-began}
+use Rattle.outwriter.proofs.out_core.OutCore.begin.Goals as goal
+
+pub returns-in-Ok-clause-served : goal.returns-in-Ok-clause-served
+returns-in-Ok-clause-served g c = λ none run marks s.
+    serves-began g.L.Lane.got run c.args.self.now.outbound c.prepare.new.self.outbound c.args.self.now.streams.entries c.prepare.new.self.streams.entries
+    c.args.self.now.others.entries c.prepare.new.self.others.entries c.args.self.now.senders.items c.prepare.new.self.senders.items c.push_reserved.new.self.items marks
+    c.args.id c.args.sender c.in-Ok.ensures.call c.in-Ok.ensures.others c.in-Ok.ensures.senders c.push_reserved.ensures.items none s
+
+pub returns-in-Err-clause-still : goal.returns-in-Err-clause-still
+returns-in-Err-clause-still g c = λ run marks s.
+    serves-equal run c.prepare.new.self.outbound c.args.self.now.streams.entries c.prepare.new.self.streams.entries c.args.self.now.others.entries c.prepare.new.self.others.entries
+    (calls g.L.Lane.got c.args.self.now.senders.items) (calls g.L.Lane.got c.prepare.new.self.senders.items) marks
+    c.in-Err.ensures.streams c.in-Err.ensures.others (ap (calls g.L.Lane.got) c.in-Err.ensures.senders)
+    (serves-kept run c.args.self.now.outbound c.prepare.new.self.outbound c.args.self.now.streams.entries c.args.self.now.others.entries
+    (calls g.L.Lane.got c.args.self.now.senders.items) marks c.in-Err.ensures.none s)

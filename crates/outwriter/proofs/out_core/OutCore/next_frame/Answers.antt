@@ -1,0 +1,19 @@
+use Rattle.std.proofs.Common.{Option, subst}
+use Rattle.h2frame.specs.declared.frame.Frame.{Frame}
+use Rattle.std.specs.Prelude.{IfNone}
+use Rattle.outwriter.specs.Polling.{GetsQuiet, HoldsOn}
+use Rattle.outwriter.proofs.ServeStepsCore.{serving-on}
+use Rattle.outwriter.proofs.out_core.OutCore.next_frame.Goals as goal
+
+pub returns-in-Ok-Some-clause-served : goal.returns-in-Ok-Some-clause-served
+returns-in-Ok-Some-clause-served g c =
+    serving-on g.L.Lane.got c.in-Ok-Some.frame c.args.self.now c.choose.new.self c.if-self.false
+    (subst (λ (o : Option Frame). HoldsOn g.L.Lane.got o c.args.self.now c.choose.new.self) c.in-Ok-Some.field-0-is c.in-Ok-Some.ensures.served)
+
+pub returns-in-Ok-None-clause-quiet : goal.returns-in-Ok-None-clause-quiet
+returns-in-Ok-None-clause-quiet g c = λ run s alive.
+    subst (λ (o : Option Frame). IfNone o (GetsQuiet g.L.Lane.got g.L.Lane.ahead c.args.self.now c.choose.new.self)) c.in-Ok-None.field-0-is c.in-Ok-None.ensures.quiet run (s.serves alive)
+
+pub returns-in-Ok-None-2-clause-quiet : goal.returns-in-Ok-None-2-clause-quiet
+returns-in-Ok-None-2-clause-quiet g c = λ run s alive.
+    subst (λ (o : Option Frame). IfNone o (GetsQuiet g.L.Lane.got g.L.Lane.ahead c.args.self.now c.choose.new.self)) c.in-Ok-None.field-0-is c.in-Ok-None.ensures.quiet run (s.serves alive)

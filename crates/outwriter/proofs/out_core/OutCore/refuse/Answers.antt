@@ -1,0 +1,31 @@
+use Rattle.std.proofs.Common.{◌≡◌, ◌∙◌, refl, sym, false, Some, arith, Result, Ok, Err, true≢false}
+use Rattle.std.specs.Prelude.{OnOk}
+use Rattle.std.specs.Result.{is_err}
+use Rattle.std.proofs.lemmas.Grind.{common_steps}
+use Rattle.outwriter.specs.Cores.{calls}
+use Rattle.outwriter.proofs.CallSteps.{serves-equal, updated}
+use Rattle.outwriter.proofs.CallStepsOrders.{serves-refused, serves-unrefused}
+use Rattle.outwriter.proofs.out_core.OutCore.refuse.Goals as goal
+
+pub returns-then-not-is_stream-clause-served : goal.returns-then-not-is_stream-clause-served
+returns-then-not-is_stream-clause-served g c = λ run marks s.
+    serves-unrefused run c.args.self.now.outbound c.args.self.now.streams.entries c.args.self.now.others.entries (calls g.L.Lane.got c.args.self.now.senders.items) marks
+    c.args.id c.args.fields s
+
+pub returns-then-is_err-clause-still : goal.returns-then-is_err-clause-still
+returns-then-is_err-clause-still g c = λ run marks s.
+    let err : c.insert.new.self.entries ≡ c.args.self.now.others.entries = grind (arith, common_steps) in
+    serves-equal run c.args.self.now.outbound c.args.self.now.streams.entries c.args.self.now.streams.entries c.args.self.now.others.entries c.insert.new.self.entries
+    (calls g.L.Lane.got c.args.self.now.senders.items) (calls g.L.Lane.got c.args.self.now.senders.items) marks refl err refl s
+
+-- what holds of a value holds where there is no error
+on-ok : {X E : Type 0} (r : Result X E) (P : Type 0) → is_err r ≡ false → OnOk r P → P
+on-ok (Ok x) P e h = h
+on-ok (Err y) P e h = absurd (true≢false e)
+
+pub returns-clause-served : goal.returns-clause-served
+returns-clause-served g c = λ run marks s.
+    let updates = on-ok c.insert.result _ (sym c.is_err.ensures.value ∙ c.if-is_err.false) c.insert.ensures.updates in
+    serves-refused run c.args.self.now.outbound c.args.self.now.streams.entries c.args.self.now.others.entries (calls g.L.Lane.got c.args.self.now.senders.items) marks
+    c.args.id c.args.fields c.take_refuse.new.self c.insert.new.self.entries (sym c.is_stream.ensures ∙ c.if-not-is_stream.false) (sym c.has.ensures ∙ c.if-has.false)
+    (updated c.args.self.now.others.entries c.insert.new.self.entries c.args.id (Some false) updates.0) c.take_refuse.ensures.takes s
