@@ -9,6 +9,7 @@ ghost use Rattle.outwriter.specs.Mirrors.{Reached, GoesOn, Takes, Leads, Stays, 
 ghost use Rattle.std.specs.Map.{lookup};
 ghost use Rattle.flow.specs.Windows.{room};
 ghost use Rattle.outwriter.specs.Calls.{TellFronts};
+ghost use Rattle.outwriter.specs.Credits.{Grants};
 ghost use Rattle.outwriter.specs.Keeping.{KeepsServing, Prepares, MayReset};
 ghost use Rattle.outwriter.specs.Serving.{none_is_new};
 ghost use Rattle.outwriter.specs.Serving.{Takes as KeepsCalls};
@@ -126,6 +127,9 @@ impl<L: Lane<Item = OutItem>> OutCore<L> {
     pub fn grant(&mut self, id: StreamId, n: u32)
         ensures granted { GoesOn (Granted id n) self.old.outbound self.new.outbound }
         ensures served { ServesOn L.got (Granted id n) self.old self.new }
+
+        // So much more is owed.
+        ensures owed { Grants self.old.outbound.credit id n self.new.outbound.credit }
         ensures rest { self.new ≡ record self.old { outbound = self.new.outbound } }
     {
         self.outbound.grant(id, n);

@@ -4,7 +4,7 @@ ghost use Rattle.std.specs.Prelude.{Err, ◌==◌, ◌∷◌, if◌then◌else�
 ghost use Rattle.flow.specs.WindowHistory.{Follows};
 ghost use Rattle.flow.specs.WindowHistory.{Step as WindowStep};
 ghost use Rattle.flow.specs.Windows.{balance, CreditFault};
-ghost use Rattle.outwriter.specs.Credits.{knows, owed_on, nothing_owed};
+ghost use Rattle.outwriter.specs.Credits.{Grants, knows, owed_on, nothing_owed};
 ghost use Rattle.outwriter.specs.Mirrors.{HasOver, HasSilence};
 ghost use Rattle.outwriter.specs.Telling.{KeepsTable, SpellsOf};
 ghost use Rattle.flow.specs.declared.send_windows.WindowFault.TheVariants as window_fault;
@@ -188,6 +188,7 @@ impl Outbound {
     /// Owes n bytes more of credit.
     pub(crate) fn grant(&mut self, id: StreamId, n: u32)
         ensures granted { Leads (Granted id n) self.old self.new }
+        ensures owes { Grants self.old.credit id n self.new.credit }
         ensures takes { Takes [] none_is_new self.old self.new }
     {
         self.credit.grant(id, n);
