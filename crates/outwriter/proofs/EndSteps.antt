@@ -1,6 +1,6 @@
 -- A frame that ends a stream or resets it.
 use Rattle.std.proofs.Common.{◌≡◌, ℕ, ◌+◌, ◌<◌, ◌≤◌, ◌==◌, inl, inr, refl, sym, ap, subst, ◌∙◌, Bool, true, false, List, [], ◌∷◌, ◌++◌, Option, Some, None, length, arith, nat_eq, true≢false}
-use Rattle.std.specs.Prelude.{IfSome, MatchOption, take, drop, ◌%◌, ◌^◌, ◌||◌, ◌&&◌, is_some, if◌then◌else◌}
+use Rattle.std.specs.Prelude.{IfSome, MatchOption, flat_map, take, drop, ◌%◌, ◌^◌, ◌||◌, ◌&&◌, is_some, if◌then◌else◌}
 use Rattle.std.specs.List.{list_any}
 use Rattle.std.specs.Map.{lookup}
 use Rattle.std.specs.Int.{bytes_high_first}
@@ -8,6 +8,7 @@ use Rattle.std.proofs.lemmas.Nat.{from_be_bytes-to_be_bytes_4}
 use Rattle.std.proofs.lemmas.Bool.{eqb-true, ne_eqb}
 use Rattle.h2frame.specs.Faults.{increment_of}
 use Rattle.hpack_codec.proofs.Bits.{small_mod}
+use Rattle.std.proofs.lemmas.List.Elements.{All-head}
 use Rattle.std.proofs.lemmas.List.Sums.{sum_by-cons}
 use Rattle.flow.specs.WindowHistory.{Follows, Closing, room_after}
 use Rattle.flow.specs.WindowHistory.{Step as WindowStep}
@@ -21,8 +22,8 @@ use Rattle.outwriter.specs.Blocks.{frame_of, rest_of, is_short}
 use Rattle.outwriter.specs.Credits.{Owed, owed_on, pays, Forgets, TakesAll}
 use Rattle.outwriter.specs.Frames.{resets, ends, update_on, reset_frame, data_frame, update_frame, headers_frame, continuation_frame, ends_stream, ends_block}
 use Rattle.outwriter.specs.Histories.{is_over, closing_of, spending_of}
-use Rattle.outwriter.specs.Mirrors.{Mirrors, HasWindows, HasOver, HasDue, HasBlock, HasHead, HasCredit, HasSilence, Sets, spent, closing, Keeps, Ends}
-use Rattle.outwriter.specs.Runs.{Fragments, Continues, MayWrite, fragments, unfinished, updated, granted}
+use Rattle.outwriter.specs.Mirrors.{Mirrors, resets_of, HasWindows, HasOver, HasDue, HasBlock, HasHead, HasCredit, HasSilence, Sets, spent, closing, Keeps, Ends}
+use Rattle.outwriter.specs.Runs.{IsAsked, Fragments, Continues, MayWrite, fragments, unfinished, updated, granted}
 use Rattle.outwriter.specs.Steps.{Step, Written, frames_of}
 use Rattle.outwriter.proofs.MirrorSteps.{same-block}
 use Rattle.outwriter.proofs.FrameSteps.{not-over, none-over, none-begun, no-updates, credits-none, tells-first, due-told, no-block, over-same, due-same, tells-none, credit-same, windows-same, head-same, plain-written, IsPlain}
@@ -96,7 +97,7 @@ pub reset-written : (run : List Step) (begun gone : Bool) (w windows : Windows) 
     → Mirrors run begun gone w over (due_kind.Reset id code ∷ waiting) block owed
     → MayWrite run made × Mirrors (Written made ∷ run) begun gone windows after waiting block less
 reset-written run begun gone w windows over after waiting block owed less id code made is is_begun not_gone no_block there is_open follows sets forgets m =
-    let frame : Frame = reset_frame id code in
+    let Asked : ℕ × ErrorCode → Type 0 = λ reset. IsAsked reset.0 reset.1 run in
     let nothing : unfinished run ≡ None = subst (HasBlock run) no_block m.goes_on in
     let still = not-over run id (sym (m.is_over id).0 ∙ none-over (lookup (nat_eq id) over) is_open) in
     let none = no-updates run (reset_frame id code) refl in
@@ -104,7 +105,8 @@ reset-written run begun gone w windows over after waiting block owed less id cod
       record {
         first = λ e. absurd (none-begun (frames_of run) (m.begins ∙ is_begun) e);
         windows = λ e. cc;
-        acknowledges = tells-first run (reset_frame id code) (due_kind.Reset id code) waiting refl m.acknowledges;
+        answers = tells-first run (reset_frame id code) (due_kind.Reset id code) waiting refl m.answers;
+        asked = λ e. (code, All-head Asked (id, code) (flat_map resets_of waiting) m.answers.1, refl);
         block = subst (λ (o : Option Fragments). Continues o (reset_frame id code)) (sym nothing) (λ e. cc);
         not_reset = still.0;
         not_ended = λ e. absurd (true≢false (sym e ∙ still.1));
@@ -116,7 +118,7 @@ reset-written run begun gone w windows over after waiting block owed less id cod
         goes = m.goes;
         windows_follow = windows-more run (reset_frame id code) w windows (Closing id ∷ []) (λ h. refl) follows m.windows_follow;
         is_over = over-more run (reset_frame id code) over after id true (λ k. or-none (k == id)) (λ k e. cc) (λ k e. e) sets is_open m.is_over;
-        acknowledges = due-told run (reset_frame id code) (due_kind.Reset id code) waiting refl m.acknowledges;
+        answers = due-told run (reset_frame id code) (due_kind.Reset id code) waiting refl m.answers;
         goes_on = same-block run (Written (reset_frame id code) ∷ run) block (no-block run (reset_frame id code) refl ∙ sym nothing) m.goes_on;
         not_reset = subst (HasHead (reset_frame id code ∷ frames_of run)) (sym no_block) tt;
         credits = credit-less run (reset_frame id code) owed less none (λ k. subst (λ n. n ≤ owed_on owed k) (sym (forgets k).1) (if-less (k == id) (owed_on owed k))) m.credits;
@@ -201,7 +203,7 @@ keeps-rest block = by (is_short block)
     by true = refl
     by false = (refl, refl)
 
--- HEADERS, for which what is due is as it was, or lost what isn't acknowledged
+-- HEADERS, for which what is due is as it was, or lost what obliges to nothing
 pub headers-written : (run : List Step) (begun gone : Bool) (w windows : Windows) (over after : List (ℕ × Bool)) (waiting left : List Due)
     (block rest : Option HeaderBlock) (owed : Owed) (id : ℕ) (ends_it whole : Bool) (fragment : List ℕ) (made : Frame)
     → made ≡ headers_frame id ends_it whole fragment → begun ≡ true → gone ≡ false → block ≡ None
@@ -218,7 +220,8 @@ headers-written run begun gone w windows over after waiting left block rest owed
       record {
         first = λ e. absurd (none-begun (frames_of run) (m.begins ∙ is_begun) e);
         windows = λ e. cc;
-        acknowledges = tells-none run (headers_frame id ends_it whole fragment) left refl dues;
+        answers = tells-none run (headers_frame id ends_it whole fragment) left refl dues;
+        asked = λ e. cc;
         block = subst (λ (o : Option Fragments). Continues o (headers_frame id ends_it whole fragment)) (sym nothing) (λ e. cc);
         not_reset = still.0;
         not_ended = λ e. absurd (true≢false (sym e ∙ still.1));
@@ -230,7 +233,7 @@ headers-written run begun gone w windows over after waiting left block rest owed
         goes = m.goes;
         windows_follow = windows-more run (headers_frame id ends_it whole fragment) w windows (closing id ends_it) (closes id ends_it whole fragment) follows m.windows_follow;
         is_over = headed-over run id ends_it whole fragment over after sets is_open m.is_over;
-        acknowledges = due-same run (headers_frame id ends_it whole fragment) left refl dues;
+        answers = due-same run (headers_frame id ends_it whole fragment) left refl dues;
         goes_on = headed-block run id ends_it whole fragment rest keeps;
         not_reset = headed-head run id ends_it whole fragment rest keeps still.0;
         credits = credit-same run (headers_frame id ends_it whole fragment) owed none m.credits;
@@ -277,7 +280,8 @@ continuation-written run begun gone w over waiting block rest owed made is is_re
       record {
         first = λ e. absurd (none-begun (frames_of run) (m.begins ∙ is_begun) e);
         windows = λ e. cc;
-        acknowledges = tells-none run (continuation_frame block.id (is_short block) (take 16384 block.rest)) waiting refl m.acknowledges;
+        answers = tells-none run (continuation_frame block.id (is_short block) (take 16384 block.rest)) waiting refl m.answers;
+        asked = λ e. cc;
         block = goes-on (unfinished run) block.id (is_short block) (take 16384 block.rest) m.goes_on.1 m.goes_on.2;
         not_reset = m.not_reset;
         not_ended = λ e. inr refl;
@@ -289,7 +293,7 @@ continuation-written run begun gone w over waiting block rest owed made is is_re
         goes = m.goes;
         windows_follow = windows-same run (continuation_frame block.id (is_short block) (take 16384 block.rest)) w refl refl m.windows_follow;
         is_over = over-same run (continuation_frame block.id (is_short block) (take 16384 block.rest)) over refl refl m.is_over;
-        acknowledges = due-same run (continuation_frame block.id (is_short block) (take 16384 block.rest)) waiting refl m.acknowledges;
+        answers = due-same run (continuation_frame block.id (is_short block) (take 16384 block.rest)) waiting refl m.answers;
         goes_on = continued-block run block.id (is_short block) (take 16384 block.rest) rest keeps m.goes_on.1 m.goes_on.2;
         not_reset = continued-head run block.id (is_short block) (take 16384 block.rest) rest keeps m.not_reset;
         credits = credit-same run (continuation_frame block.id (is_short block) (take 16384 block.rest)) owed none m.credits;
@@ -315,7 +319,8 @@ data-written run begun gone w windows over waiting block owed id bytes made is i
       record {
         first = λ e. absurd (none-begun (frames_of run) (m.begins ∙ is_begun) e);
         windows = λ e. (short, λ some. (m.windows_follow.0, m.windows_follow.1, fits m.windows_follow.0 m.windows_follow.2));
-        acknowledges = tells-none run (data_frame id bytes) waiting refl m.acknowledges;
+        answers = tells-none run (data_frame id bytes) waiting refl m.answers;
+        asked = λ e. cc;
         block = subst (λ (o : Option Fragments). Continues o (data_frame id bytes)) (sym nothing) (λ e. cc);
         not_reset = still.0;
         not_ended = λ e. absurd (true≢false (sym e ∙ still.1));
@@ -327,7 +332,7 @@ data-written run begun gone w windows over waiting block owed id bytes made is i
         goes = m.goes;
         windows_follow = windows-more run (data_frame id bytes) w windows (spent id (length bytes)) (λ h. refl) follows m.windows_follow;
         is_over = over-same run (data_frame id bytes) over refl refl m.is_over;
-        acknowledges = due-same run (data_frame id bytes) waiting refl m.acknowledges;
+        answers = due-same run (data_frame id bytes) waiting refl m.answers;
         goes_on = same-block run (Written (data_frame id bytes) ∷ run) block (no-block run (data_frame id bytes) refl ∙ sym nothing) m.goes_on;
         not_reset = head-same (data_frame id bytes) (frames_of run) block refl m.not_reset;
         credits = credit-same run (data_frame id bytes) owed none m.credits;
@@ -371,7 +376,7 @@ update-written run begun gone w over waiting block owed less taken made is is_be
     let amount = λ (k : ℕ). update-amount taken.0 taken.1 k small in
     subst (λ (f : Frame). MayWrite run f × Mirrors (Written f ∷ run) begun gone w over waiting block less) (sym is)
     (plain-written run begun gone gone w over waiting waiting block owed less (update_frame taken.0 taken.1) is_begun not_gone no_block (update-plain taken.0 taken.1)
-    (tells-none run (update_frame taken.0 taken.1) waiting refl m.acknowledges) (due-same run (update_frame taken.0 taken.1) waiting refl m.acknowledges)
+    (tells-none run (update_frame taken.0 taken.1) waiting refl m.answers) (due-same run (update_frame taken.0 taken.1) waiting refl m.answers)
     ((m.is_over taken.0).1 (some-paid (lookup (nat_eq taken.0) over) (pays owed taken.0) (m.silent taken.0) takes.2))
     (λ e. inl refl)
     (λ k. subst (λ n. updated k run + n ≤ granted k run) (sym (amount k)) (at-most (k == taken.0) taken.1 (updated k run) (owed_on owed k) (granted k run) (m.credits k) (here k)))

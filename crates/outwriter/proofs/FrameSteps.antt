@@ -13,12 +13,12 @@ use Rattle.h2frame.specs.declared.kind.FrameKind.TheVariants as kind
 use Rattle.outwriter.specs.declared.blocks.HeaderBlock.{HeaderBlock}
 use Rattle.outwriter.specs.declared.due.Due.{Due}
 use Rattle.outwriter.specs.Credits.{Owed}
-use Rattle.outwriter.specs.Frames.{is_last, resets, ends, ends_stream, is_reset, update_on, update_kind, ends_block, first_settings, settings_ack, ping_ack, goaway_frame}
+use Rattle.outwriter.specs.Frames.{is_last, reset_frame, resets, ends, ends_stream, is_reset, update_on, update_kind, ends_block, first_settings, settings_ack, ping_ack, goaway_frame}
 use Rattle.outwriter.specs.Histories.{closing_of, spending_of, is_over}
-use Rattle.outwriter.specs.Mirrors.{Mirrors, HasWindows, HasOver, HasDue, HasBlock, HasHead, HasCredit, HasSilence, has_begun, acknowledgement_of}
-use Rattle.outwriter.specs.Runs.{Acknowledgement, Fragments, unfinished, granted, updated, due, told, told_by, MayWrite, Continues, MayFollowEnd, fragments}
+use Rattle.outwriter.specs.Mirrors.{Mirrors, HasWindows, HasOver, HasDue, HasBlock, HasHead, HasCredit, HasSilence, has_begun, duties_of, resets_of}
+use Rattle.outwriter.specs.Runs.{Duty, IsAsked, Fragments, unfinished, granted, updated, due, told, told_by, MayWrite, Continues, MayFollowEnd, fragments}
 use Rattle.outwriter.specs.Steps.{Step, Taken, Granted, Written, frames_of}
-use Rattle.outwriter.proofs.MirrorSteps.{same-block}
+use Rattle.outwriter.proofs.MirrorSteps.{same-block, all-behind}
 
 pub none-begun : (frames : List Frame) → has_begun frames ≡ true → frames ≡ [] → ⊥
 none-begun [] begun e = cc
@@ -48,20 +48,25 @@ module _ (run : List Step) (frame : Frame) where
       )
 
   pub due-same : (waiting : List Due) → told_by frame ≡ [] → HasDue run waiting → HasDue (Written frame ∷ run) waiting
-  due-same waiting none h = h ∙ ap (λ (xs : List Acknowledgement). xs ++ flat_map acknowledgement_of waiting)
-      (sym (ap (λ (xs : List Acknowledgement). told run ++ xs) none ∙ append-nil (told run)))
+  due-same waiting none h = (
+    h.0 ∙ ap (λ (xs : List Duty). xs ++ flat_map duties_of waiting) (sym (ap (λ (xs : List Duty). told run ++ xs) none ∙ append-nil (told run))),
+    h.1,
+  )
 
-  -- nothing is acknowledged
+  -- nothing that is due is written
   pub tells-none : (waiting : List Due) → told_by frame ≡ [] → HasDue run waiting → Begins (told run ++ told_by frame) (due run)
-  tells-none waiting none h = (flat_map acknowledgement_of waiting, due-same waiting none h)
+  tells-none waiting none h = (flat_map duties_of waiting, (due-same waiting none h).0)
 
-  -- the first that is due is acknowledged
-  pub due-told : (one : Due) (waiting : List Due) → told_by frame ≡ acknowledgement_of one → HasDue run (one ∷ waiting) → HasDue (Written frame ∷ run) waiting
-  due-told one waiting is h = h ∙ sym (append_assoc (told run) (acknowledgement_of one) (flat_map acknowledgement_of waiting))
-      ∙ ap (λ (xs : List Acknowledgement). (told run ++ xs) ++ flat_map acknowledgement_of waiting) (sym is)
+  -- the first that is due is written
+  pub due-told : (one : Due) (waiting : List Due) → told_by frame ≡ duties_of one → HasDue run (one ∷ waiting) → HasDue (Written frame ∷ run) waiting
+  due-told one waiting is h = let P : ℕ × ErrorCode → Type 0 = λ reset. IsAsked reset.0 reset.1 run in (
+    h.0 ∙ sym (append_assoc (told run) (duties_of one) (flat_map duties_of waiting))
+        ∙ ap (λ (xs : List Duty). (told run ++ xs) ++ flat_map duties_of waiting) (sym is),
+    all-behind P (resets_of one) (flat_map resets_of waiting) h.1,
+  )
 
-  pub tells-first : (one : Due) (waiting : List Due) → told_by frame ≡ acknowledgement_of one → HasDue run (one ∷ waiting) → Begins (told run ++ told_by frame) (due run)
-  tells-first one waiting is h = (flat_map acknowledgement_of waiting, due-told one waiting is h)
+  pub tells-first : (one : Due) (waiting : List Due) → told_by frame ≡ duties_of one → HasDue run (one ∷ waiting) → Begins (told run ++ told_by frame) (due run)
+  tells-first one waiting is h = (flat_map duties_of waiting, (due-told one waiting is h).0)
 
   pub credit-same : (owed : Owed) → ((id : ℕ) → update_on id frame ≡ 0) → HasCredit run owed → HasCredit (Written frame ∷ run) owed
   credit-same owed none h id = omega (arith, h id, none id, sum_by-cons (update_on id) frame (frames_of run))
@@ -131,7 +136,8 @@ first-written run begun gone w over waiting block owed frame is not_begun not_go
       record {
         first = λ e. refl;
         windows = λ e. cc;
-        acknowledges = tells-none run first_settings waiting refl m.acknowledges;
+        answers = tells-none run first_settings waiting refl m.answers;
+        asked = λ e. cc;
         block = subst (λ (o : Option Fragments). Continues o first_settings) (sym nothing) (λ e. cc);
         not_reset = ap (list_any (resets 0)) none;
         not_ended = λ e. absurd (true≢false (sym e ∙ ap (list_any (ends 0)) none));
@@ -143,7 +149,7 @@ first-written run begun gone w over waiting block owed frame is not_begun not_go
         goes = m.goes;
         windows_follow = windows-same run first_settings w refl refl m.windows_follow;
         is_over = over-same run first_settings over refl refl m.is_over;
-        acknowledges = due-same run first_settings waiting refl m.acknowledges;
+        answers = due-same run first_settings waiting refl m.answers;
         goes_on = same-block run (Written first_settings ∷ run) block (no-block run first_settings refl ∙ sym nothing) m.goes_on;
         not_reset = head-same first_settings (frames_of run) block refl m.not_reset;
         credits = credit-same run first_settings owed no_update m.credits;
@@ -178,7 +184,8 @@ plain-written run begun gone after w over waiting left block owed less frame is_
       record {
         first = λ e. absurd (none-begun (frames_of run) (m.begins ∙ is_begun) e);
         windows = λ e. absurd (plain.no_data e);
-        acknowledges = tells;
+        answers = tells;
+        asked = λ e. no-asked frame plain.no_reset e;
         block = subst (λ (o : Option Fragments). Continues o frame) (sym nothing) plain.no_continuation;
         not_reset = not_reset;
         not_ended = not_ended;
@@ -190,7 +197,7 @@ plain-written run begun gone after w over waiting left block owed less frame is_
         goes = ap (λ b. b || list_any is_last (frames_of run)) last ∙ ap (λ b. after || b) (m.goes ∙ not_gone) ∙ or-nothing after;
         windows_follow = windows-same run frame w plain.no_closing plain.no_spending m.windows_follow;
         is_over = over-same run frame over plain.no_end plain.no_reset m.is_over;
-        acknowledges = dues;
+        answers = dues;
         goes_on = same-block run (Written frame ∷ run) block (no-block run frame (plain.no_fragment (unfinished run)) ∙ sym nothing) m.goes_on;
         not_reset = head-same frame (frames_of run) block plain.no_reset m.not_reset;
         credits = credits;
@@ -199,6 +206,9 @@ plain-written run begun gone after w over waiting left block owed less frame is_
       },
     )
   where
+    no-asked : (f : Frame) → is_reset f.head.kind ≡ false → f.head.kind ≡ kind.RstStream → (code : ErrorCode) × IsAsked f.head.stream code run × (f ≡ reset_frame f.head.stream code)
+    no-asked f none e = absurd (true≢false (sym (ap is_reset e) ∙ none))
+
     or-nothing : (b : Bool) → (b || false) ≡ b
     or-nothing true = refl
     or-nothing false = refl
@@ -226,7 +236,7 @@ connection-on run over has none = not-over run 0 (sym (has 0).0 ∙ none-over (l
 -- a frame of the connection that is due
 pub due-written : (run : List Step) (begun gone after : Bool) (w : Windows) (over : List (ℕ × Bool)) (one : Due) (waiting : List Due) (block : Option HeaderBlock)
     (owed : Owed) (made frame : Frame) → made ≡ frame → begun ≡ true → gone ≡ false → block ≡ None → IsPlain frame → frame.head.stream ≡ 0
-    → update_kind frame.head.kind frame.content ≡ 0 → told_by frame ≡ acknowledgement_of one → is_last frame ≡ after
+    → update_kind frame.head.kind frame.content ≡ 0 → told_by frame ≡ duties_of one → is_last frame ≡ after
     → Mirrors run begun gone w over (one ∷ waiting) block owed
     → MayWrite run made × Mirrors (Written made ∷ run) begun after w over waiting block owed
 due-written run begun gone after w over one waiting block owed made frame is is_begun not_gone no_block plain on_0 no_update tells last m =
@@ -234,7 +244,7 @@ due-written run begun gone after w over one waiting block owed made frame is is_
     let none = no-updates run frame no_update in
     subst (λ (f : Frame). MayWrite run f × Mirrors (Written f ∷ run) begun after w over waiting block owed) (sym is)
     (plain-written run begun gone after w over (one ∷ waiting) waiting block owed owed frame is_begun not_gone no_block plain
-    (tells-first run frame one waiting tells m.acknowledges) (due-told run frame one waiting tells m.acknowledges)
+    (tells-first run frame one waiting tells m.answers) (due-told run frame one waiting tells m.answers)
     (ap (λ id. list_any (resets id) (frames_of run)) on_0 ∙ still.0)
     (λ e. absurd (true≢false (sym e ∙ ap (λ id. list_any (ends id) (frames_of run)) on_0 ∙ still.1)))
     (credits-none run frame owed none m.credits) (credit-same run frame owed none m.credits) m.silent last m)

@@ -1,9 +1,12 @@
 -- One part of a choice after another.
-use Rattle.std.proofs.Common.{Option, Some, None}
-use Rattle.std.specs.Prelude.{IfNone, IfSome}
+use Rattle.std.proofs.Common.{inl, inr, sym, ap, subst, ◌∙◌, List, ◌++◌, Option, Some, None, append-nil}
+use Rattle.std.specs.Prelude.{IfNone, IfSome, flat_map}
 use Rattle.h2frame.specs.declared.frame.Frame.{Frame}
 use Rattle.outwriter.specs.declared.outbound.Outbound.{Outbound}
-use Rattle.outwriter.specs.Mirrors.{Progress, Progresses, Stays, IsBetween, Writes}
+use Rattle.outwriter.specs.declared.due.Due.{Due}
+use Rattle.outwriter.specs.Mirrors.{MirrorsOf, HasBlock, Progress, Progresses, Stays, IsBetween, IsSpent, IsAnswered, Writes, duties_of}
+use Rattle.outwriter.specs.Runs.{told}
+use Rattle.outwriter.specs.Steps.{Step}
 
 -- what came before changed nothing that matters
 pub after-progress : (old mid new : Outbound) (o : Option Frame) → Stays old mid → Progress o mid new → Progress o old new
@@ -17,3 +20,11 @@ after-progresses old mid new None stays p = λ run m. p.0 run (stays run m)
 pub progress : (old new : Outbound) (o : Option Frame) → IfSome o (λ frame. Writes frame old new) → IfNone o (Stays old new × IsBetween new) → Progress o old new
 progress old new (Some frame) writes still = writes
 progress old new None writes still = still
+
+-- where nothing is due, all was written
+pub spent-answered : (run : List Step) (o : Outbound) → IsSpent o → MirrorsOf run o → IsAnswered run
+spent-answered run o (inl gone) m = inl (m.goes ∙ gone)
+spent-answered run o (inr (no_block, none, owed)) m = inr (
+  sym (m.answers.0 ∙ ap (λ (waiting : List Due). told run ++ flat_map duties_of waiting) none ∙ append-nil (told run)),
+  subst (HasBlock run) no_block m.goes_on,
+)

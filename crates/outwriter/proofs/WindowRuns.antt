@@ -8,12 +8,12 @@ use Rattle.std.proofs.lemmas.Int.{ints}
 use Rattle.flow.specs.declared.send_windows.WindowFault.{WindowFault}
 use Rattle.flow.specs.declared.send_windows.WindowFault.TheVariants.{Overflow, NoRoom, Unknown, OutOfMemory}
 use Rattle.flow.specs.declared.TheConstants.{MAX_WINDOW}
-use Rattle.flow.specs.WindowHistory.{Credit, Resizing, connection_window, stream_window, since_opening, balance_of, initial_size, Follows}
+use Rattle.flow.specs.WindowHistory.{Opening, Credit, Resizing, connection_window, stream_window, since_opening, balance_of, initial_size, Follows}
 use Rattle.flow.specs.WindowHistory.{Step as WindowStep}
 use Rattle.flow.specs.Windows.{Windows, Fits, window, balance, opened, closed, CreditFault, Meets}
-use Rattle.outwriter.specs.declared.control.Control.TheVariants.{Window, Settings}
+use Rattle.outwriter.specs.declared.control.Control.TheVariants.{Window, Settings, Open}
 use Rattle.outwriter.specs.declared.settings.PeerSetting.{PeerSetting}
-use Rattle.outwriter.specs.Histories.{CanCredit, CanResize, Takes, window_sizes}
+use Rattle.outwriter.specs.Histories.{CanCredit, CanResize, Takes, opens, window_sizes}
 use Rattle.outwriter.specs.Mirrors.{HasWindows}
 use Rattle.outwriter.specs.Steps.{Step, Order, Taken}
 
@@ -99,6 +99,14 @@ settings-taken run settings old new (Err fault) ok err same (h, has, f) = (h, (h
 pub nothing-taken : (run : List Step) (order : Order) (w : Windows) → ((history : List WindowStep) → Takes run history order history)
     → HasWindows run w → HasWindows (Taken order ∷ run) w
 nothing-taken run order w stays (h, has, f) = (h, (h, has, stays h), f)
+
+-- an Open, whether or not it opens the window of its stream
+pub open-taken : (run : List Step) (id : ℕ) (w windows : Windows) (opening : Bool)
+    → ((history : List WindowStep) → Follows history w → opening ≡ opens run history id)
+    → ((history : List WindowStep) → Follows history w → Follows (if opening then Opening id ∷ history else history) windows)
+    → HasWindows run w → HasWindows (Taken (Open id tt) ∷ run) windows
+open-taken run id w windows opening value follows (h, has, f) =
+    (if opening then Opening id ∷ h else h, (h, has, ap (λ b. if b then Opening id ∷ h else h) (value h f)), follows h f)
 
 -- ---- a window that was opened in vain
 

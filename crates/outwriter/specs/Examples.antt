@@ -1,16 +1,18 @@
 -- Worked examples of the definitions, computed.
+use Rattle.std.proofs.Common.{inl}
 use Rattle.std.specs.Prelude.{◌≡◌, false, true, refl, List, [], ◌∷◌, ◌++◌, Some, None}
 use Rattle.callbox.specs.declared.account.OutItem.TheVariants.{Head, Message, Trailers}
 use Rattle.flow.specs.WindowHistory.{Spending, Closing}
 use Rattle.h2frame.specs.declared.error_code.ErrorCode.TheVariants.{Cancel, NoError}
 use Rattle.h2frame.specs.Spelling.{spelled as spelling}
 use Rattle.hpack_codec.specs.declared.fields.Field.{Field}
-use Rattle.outwriter.specs.declared.control.Control.TheVariants.{Settings, Ping}
+use Rattle.outwriter.specs.declared.control.Control.TheVariants.{Settings, Ping, Goaway}
+use Rattle.outwriter.specs.declared.control.Control.TheVariants as order
 use Rattle.outwriter.specs.declared.settings.PeerSetting.TheVariants.{TableSize, WindowSize}
 use Rattle.outwriter.specs.Frames.{first_settings, settings_ack, reset_frame, goaway_frame, update_frame, data_frame, headers_frame, continuation_frame, is_last}
 use Rattle.outwriter.specs.Histories.{window_sizes, spending_of, closing_of, is_over}
 use Rattle.outwriter.specs.Parts.{Byte, Fields, End, Reset, spelled, plain_marks, completed, marks_on, on_stream}
-use Rattle.outwriter.specs.Runs.{OfSettings, OfPing, due, told, unfinished, granted, updated}
+use Rattle.outwriter.specs.Runs.{OfSettings, OfPing, IsAsked, due, told, unfinished, granted, updated}
 use Rattle.outwriter.specs.Steps.{Step, Taken, Granted, Written}
 
 -- SETTINGS of 12 bytes: 3 is 64, and 6 is 16,384
@@ -34,6 +36,16 @@ both_are_due = refl
 
 pub one_is_told : told acknowledging ≡ OfSettings ∷ []
 one_is_told = refl
+
+-- a GOAWAY is due by its control, and a reset is asked for by one that is to be written
+abbrev pub leaving : List Step
+leaving = Written (goaway_frame 7 Cancel) ∷ Taken (order.Reset 3 Cancel true) ∷ Taken (Goaway 7 Cancel) ∷ Written first_settings ∷ []
+
+pub goaway_is_told : told leaving ≡ due leaving
+goaway_is_told = refl
+
+pub reset_is_asked : IsAsked 3 Cancel leaving
+reset_is_asked = inl (refl, refl)
 
 pub sizes_of_windows : window_sizes (TableSize 9 ∷ WindowSize 5 ∷ WindowSize 7 ∷ []) ≡ 5 ∷ 7 ∷ []
 sizes_of_windows = refl

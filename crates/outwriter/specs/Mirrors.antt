@@ -6,6 +6,7 @@ use Rattle.flow.specs.WindowHistory.{Follows, Closing, Spending}
 use Rattle.flow.specs.WindowHistory.{Step as WindowStep}
 use Rattle.flow.specs.declared.send_windows.WindowFault.TheVariants.{Overflow}
 use Rattle.flow.specs.Windows.{Windows, CreditFault}
+use Rattle.h2frame.specs.declared.error_code.ErrorCode.{ErrorCode}
 use Rattle.h2frame.specs.declared.frame.Frame.{Frame}
 use Rattle.outwriter.specs.declared.blocks.HeaderBlock.{HeaderBlock}
 use Rattle.outwriter.specs.declared.control.Control.{Control}
@@ -19,9 +20,9 @@ use Rattle.outwriter.specs.declared.due.Due.{Due}
 use Rattle.outwriter.specs.declared.due.Due.TheVariants as due_kind
 use Rattle.outwriter.specs.declared.outbound.Outbound.{Outbound}
 use Rattle.outwriter.specs.Credits.{Owed, owed_on, pays}
-use Rattle.outwriter.specs.Frames.{is_last, resets}
+use Rattle.outwriter.specs.Frames.{is_last, resets, goaway_frame}
 use Rattle.outwriter.specs.Histories.{HasHistory, CanResize, window_sizes, is_over}
-use Rattle.outwriter.specs.Runs.{IsLawful, Acknowledgement, OfSettings, OfPing, due, told, unfinished, granted, updated, MayWrite}
+use Rattle.outwriter.specs.Runs.{IsLawful, Duty, OfSettings, OfPing, OfGoaway, IsAsked, due, told, unfinished, granted, updated, MayWrite}
 use Rattle.outwriter.specs.Steps.{Step, Taken, Written, frames_of, order_of}
 
 -- the first frame was written
@@ -38,16 +39,24 @@ abbrev pub HasOver : List Step → List (ℕ × Bool) → Type 0
 HasOver run over = (id : ℕ) → (is_some (lookup (nat_eq id) over) ≡ is_over id run)
     × (lookup (nat_eq id) over ≢ Some true → list_any (resets id) (frames_of run) ≡ false)
 
-abbrev pub acknowledgement_of : Due → List Acknowledgement
-acknowledgement_of due_kind.SettingsAck = OfSettings ∷ []
-acknowledgement_of (due_kind.PingAck bytes) = OfPing bytes ∷ []
-acknowledgement_of (due_kind.Refuse id fields) = []
-acknowledgement_of (due_kind.Reset id code) = []
-acknowledgement_of (due_kind.Goaway last code) = []
+abbrev pub duties_of : Due → List Duty
+duties_of due_kind.SettingsAck = OfSettings ∷ []
+duties_of (due_kind.PingAck bytes) = OfPing bytes ∷ []
+duties_of (due_kind.Refuse id fields) = []
+duties_of (due_kind.Reset id code) = []
+duties_of (due_kind.Goaway last code) = OfGoaway (goaway_frame last code).content ∷ []
 
--- the acknowledgements that are due are those that were written and those that wait, in this order
+abbrev pub resets_of : Due → List (ℕ × ErrorCode)
+resets_of (due_kind.Reset id code) = (id, code) ∷ []
+resets_of _ = []
+
+-- the resets that wait were asked for
+abbrev pub AreAsked : List Step → List Due → Type 0
+AreAsked run waiting = All (λ reset. IsAsked reset.0 reset.1 run) (flat_map resets_of waiting)
+
+-- what is due is what was written and what waits, in this order
 abbrev pub HasDue : List Step → List Due → Type 0
-HasDue run waiting = due run ≡ told run ++ flat_map acknowledgement_of waiting
+HasDue run waiting = (due run ≡ told run ++ flat_map duties_of waiting) × AreAsked run waiting
 
 -- the header block that isn't whole is the one of which the rest is kept
 abbrev pub HasBlock : List Step → Option HeaderBlock → Type 0
@@ -98,7 +107,7 @@ pub record Mirrors (run : List Step) (begun gone : Bool) (windows : Windows) (ov
   pub goes : list_any is_last (frames_of run) ≡ gone
   pub windows_follow : HasWindows run windows
   pub is_over : HasOver run over
-  pub acknowledges : HasDue run waiting
+  pub answers : HasDue run waiting
   pub goes_on : HasBlock run block
   pub not_reset : HasHead (frames_of run) block
   pub credits : HasCredit run owed
@@ -132,7 +141,7 @@ WritesDue one frame old new = (run : List Step) → MirrorsWith run one old → 
 -- or it isn't written any more, and nothing else changes
 abbrev pub WritesOrSkips : Due → Option Frame → Outbound → Outbound → Type 0
 WritesOrSkips one (Some frame) old new = WritesDue one frame old new
-WritesOrSkips one None old new = (acknowledgement_of one ≡ []) × (new ≡ old)
+WritesOrSkips one None old new = (duties_of one ≡ []) × (new ≡ old)
 
 -- a header block begins, whatever was due with what is due now
 abbrev pub Heads : Frame → Outbound → Outbound → Type 0
@@ -185,6 +194,16 @@ Answers next.Over old new = Remains old new
 -- no header block is unfinished, nothing is due and no credit is owed; or nothing is written any more
 abbrev pub IsSpent : Outbound → Type 0
 IsSpent o = (o.gone ≡ true) ⊎ ((o.block ≡ None) × (o.due.items ≡ []) × ((id : ℕ) → owed_on o.credit id ≡ 0))
+
+-- all that controls obliged to was written, and each header block is whole; or nothing is written any more
+abbrev pub IsAnswered : List Step → Type 0
+IsAnswered run = (list_any is_last (frames_of run) ≡ true) ⊎ ((told run ≡ due run) × (unfinished run ≡ None))
+
+-- so it is of each run that leads here, where no frame comes
+abbrev pub AnswersAll : Next → Outbound → Type 0
+AnswersAll (next.Frame frame) o = Unit {0}
+AnswersAll next.Idle o = (run : List Step) → Reached run o → IsAnswered run
+AnswersAll next.Over o = (run : List Step) → Reached run o → IsAnswered run
 
 -- what is due and what is owed is the same
 abbrev pub SameOwn : Outbound → Outbound → Type 0

@@ -5,47 +5,66 @@ use Rattle.std.specs.Option.{option_map}
 use Rattle.callbox.specs.Accounts.{Begins}
 use Rattle.flow.specs.WindowHistory.{room_after}
 use Rattle.flow.specs.WindowHistory.{Step as WindowStep}
+use Rattle.h2frame.specs.declared.error_code.ErrorCode.{ErrorCode}
 use Rattle.h2frame.specs.declared.frame.Frame.{Frame}
 use Rattle.h2frame.specs.declared.kind.FrameKind.{FrameKind}
 use Rattle.h2frame.specs.declared.kind.FrameKind.TheVariants as kind
 use Rattle.h2frame.specs.Flags.{has, ack}
-use Rattle.outwriter.specs.declared.control.Control.TheVariants.{Settings, Ping}
-use Rattle.outwriter.specs.Frames.{first_settings, ends_stream, ends_block, is_last, update_on, resets, ends}
+use Rattle.outwriter.specs.declared.control.Control.TheVariants.{Settings, Ping, Reset, Goaway}
+use Rattle.outwriter.specs.Frames.{first_settings, reset_frame, goaway_frame, ends_stream, ends_block, is_last, update_on, resets, ends}
 use Rattle.outwriter.specs.Histories.{HasHistory}
 use Rattle.outwriter.specs.Steps.{Step, Order, Taken, Granted, Written, frames_of}
 
--- ---- acknowledgements (sections 6.5.3 and 6.7)
+-- ---- what controls oblige to write
 
-pub data Acknowledgement : Type 0 where
-  OfSettings : Acknowledgement
-  OfPing : List ℕ → Acknowledgement
+-- an acknowledgement (sections 6.5.3 and 6.7), or a GOAWAY with this content (section 6.8)
+pub data Duty : Type 0 where
+  OfSettings : Duty
+  OfPing : List ℕ → Duty
+  OfGoaway : List ℕ → Duty
 
-abbrev pub due_by : Order → List Acknowledgement
+abbrev pub due_by : Order → List Duty
 due_by (Settings settings) = OfSettings ∷ []
 due_by (Ping bytes) = OfPing bytes ∷ []
+due_by (Goaway last code) = OfGoaway (goaway_frame last code).content ∷ []
 due_by _ = []
 
 -- what the controls of a run oblige to, in their order
-abbrev pub due : List Step → List Acknowledgement
+abbrev pub due : List Step → List Duty
 due [] = []
 due (Taken order ∷ before) = due before ++ due_by order
 due (Granted id n ∷ before) = due before
 due (Written frame ∷ before) = due before
 
-abbrev pub told_by_kind : FrameKind → Bool → List ℕ → List Acknowledgement
+abbrev pub told_by_kind : FrameKind → Bool → List ℕ → List Duty
 told_by_kind kind.Settings true content = OfSettings ∷ []
 told_by_kind kind.Ping true content = OfPing content ∷ []
+told_by_kind kind.GoAway acks content = OfGoaway content ∷ []
 told_by_kind _ _ content = []
 
-abbrev pub told_by : Frame → List Acknowledgement
+abbrev pub told_by : Frame → List Duty
 told_by frame = told_by_kind frame.head.kind (has ack frame.head.flags) frame.content
 
--- the acknowledgements that were written, in their order
-abbrev pub told : List Step → List Acknowledgement
+-- what was written of it, in its order
+abbrev pub told : List Step → List Duty
 told [] = []
 told (Taken order ∷ before) = told before
 told (Granted id n ∷ before) = told before
 told (Written frame ∷ before) = told before ++ told_by frame
+
+-- ---- resets (section 6.4)
+
+-- a control that asks for an RST_STREAM of this stream, with this error
+abbrev pub Asks : ℕ → ErrorCode → Order → Type 0
+Asks id code (Reset stream found true) = (id ≡ stream) × (code ≡ found)
+Asks id code _ = ⊥
+
+-- such a control was taken
+abbrev pub IsAsked : ℕ → ErrorCode → List Step → Type 0
+IsAsked id code [] = ⊥
+IsAsked id code (Taken order ∷ before) = Asks id code order ⊎ IsAsked id code before
+IsAsked id code (Granted stream n ∷ before) = IsAsked id code before
+IsAsked id code (Written frame ∷ before) = IsAsked id code before
 
 -- ---- header blocks (section 4.3)
 
@@ -107,8 +126,10 @@ pub record MayWrite (before : List Step) (frame : Frame) : Type 0 where
   -- first come SETTINGS
   pub first : frames_of before ≡ [] → frame ≡ first_settings
   pub windows : frame.head.kind ≡ kind.Data → FitsWindows before frame
-  -- acknowledgements come in the order of what they acknowledge, and after it
-  pub acknowledges : Begins (told before ++ told_by frame) (due before)
+  -- acknowledgements and GOAWAY come in the order of the controls that oblige to them, and after them
+  pub answers : Begins (told before ++ told_by frame) (due before)
+  -- and a reset after the control that asks for it
+  pub asked : frame.head.kind ≡ kind.RstStream → (code : ErrorCode) × IsAsked frame.head.stream code before × (frame ≡ reset_frame frame.head.stream code)
   pub block : Continues (unfinished before) frame
   pub not_reset : list_any (resets frame.head.stream) (frames_of before) ≡ false
   pub not_ended : list_any (ends frame.head.stream) (frames_of before) ≡ true → MayFollowEnd frame.head.kind

@@ -5,8 +5,8 @@
 //! nothing, and waits for nothing.
 //!
 //! What it does is a run: a list of steps, each a control taken, credit granted or a frame written (`specs/Steps.antt`).
-//! Which runs are lawful is said in `specs/Runs.antt`: windows, acknowledgements in their order, whole header blocks,
-//! nothing behind a stream's end. `specs/Parts.antt` says what the frames of one stream tell, and what items spell.
+//! Which runs are lawful is said in `specs/Runs.antt`: windows, acknowledgements in their order, resets that were asked
+//! for, whole header blocks, nothing behind a stream's end. `specs/Parts.antt` says what the frames of one stream tell, and what items spell.
 //!
 //! Read `settings` and `control` for what goes in; `frames` and `blocks` for the frames that come out; `stream`, `due`,
 //! `resize` and `credit` for what is kept; `out_core` for what a control does, and `next` for the choice of a frame.

@@ -32,7 +32,7 @@ impl<L: Lane<Item = OutItem>> OutCore<L> {
     ghost use Rattle.outwriter.specs.Cores.{Serving, ServesNext, QuietNext, calls};
     ghost use Rattle.outwriter.specs.Polling.{shows, SameHands, HandIs, HandKeeps, Removes, ids, TakesAt, SameAhead, aheads, HoldsOn, KeepsFronts, TellsData, GetsStuck, AllStuck, GetsQuiet};
     ghost use Rattle.outwriter.specs.Steps.{Step};
-    ghost use Rattle.outwriter.specs.Mirrors.{Answers, SameOwn, IsSpent, Progress, Progresses, Stays, IsBetween, MirrorsOf};
+    ghost use Rattle.outwriter.specs.Mirrors.{Answers, AnswersAll, SameOwn, IsSpent, Progress, Progresses, Stays, IsBetween, MirrorsOf};
 
     /// The next frame. After want of memory the core is dead, and answers that again.
     pub fn next_frame(&mut self) -> Result<Next, OutFault<Sender<L>>>
@@ -52,6 +52,9 @@ impl<L: Lane<Item = OutItem>> OutCore<L> {
         // Where none comes, a GOAWAY with an error was written, or no header block is unfinished, nothing is due and no credit is owed.
         ensures idle { IfOk result (λ next. next ≡ next_kind.Idle → IsSpent self.new.outbound) }
         ensures over_spent { IfOk result (λ next. next ≡ next_kind.Over → IsSpent self.new.outbound) }
+
+        // So all was written that the controls obliged to.
+        ensures answered { IfOk result (λ next. AnswersAll next self.new.outbound) }
 
         // And of each open stream there is nothing that can be written, what was found ahead of its sender included.
         ensures quiet { IfOk result (λ next. (run : List Step) → Serving L.got run self.old → self.old.is_dead ≡ false → QuietNext L.ahead next self.new) }

@@ -237,8 +237,7 @@ impl<L: Lane<Item = OutItem>> OutCore<L> {
     {
         match self.ends(id) {
             Ok(was_open) => {
-                self.outbound
-                    .take_reset(id, code, written, written && was_open);
+                self.outbound.take_reset(id, code, written, was_open);
                 Ok(())
             }
             Err(_e) => Err(OutFault::OutOfMemory(Some(Control::Reset { id, code, written }))),

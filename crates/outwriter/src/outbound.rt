@@ -164,13 +164,19 @@ impl Outbound {
         self.due.push_back_reserved(Due::Refuse(id, fields));
     }
 
-    /// Owes RST_STREAM, where it is due.
-    pub(crate) fn take_reset(&mut self, id: StreamId, code: ErrorCode, written: bool, is_due: bool)
+    /// Owes RST_STREAM, where a Reset is to be written and its stream had neither ended nor been reset.
+    pub(crate) fn take_reset(
+        &mut self,
+        id: StreamId,
+        code: ErrorCode,
+        written: bool,
+        was_open: bool,
+    )
         requires room { deque_len self.old.due < deque_capacity self.old.due }
         ensures taken { Leads (Taken (order.Reset id code written)) self.old self.new }
-        ensures takes { Takes (if is_due then due_kind.Reset id code ∷ [] else []) none_is_new self.old self.new }
+        ensures takes { Takes (if written && was_open then due_kind.Reset id code ∷ [] else []) none_is_new self.old self.new }
     {
-        if is_due {
+        if written && was_open {
             self.due.push_back_reserved(Due::Reset(id, code));
         }
     }

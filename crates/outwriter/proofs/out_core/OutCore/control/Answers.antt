@@ -5,6 +5,7 @@ use Rattle.outwriter.specs.declared.due.Due.TheVariants as due_kind
 use Rattle.outwriter.proofs.CallStepsControl.{none-plain, ok-from, one-plain, serving-answered, serving-plain, serving-room}
 use Rattle.outwriter.proofs.CallStepsOrders.{takes-nothing}
 use Rattle.outwriter.proofs.Faults.{no-blame}
+use Rattle.outwriter.proofs.MirrorSteps.{quiet-led}
 use Rattle.outwriter.proofs.out_core.OutCore.control.Goals as goal
 
 pub returns-in-Open-clause-fault : goal.returns-in-Open-clause-fault
@@ -73,3 +74,11 @@ pub returns-in-Reset-clause-served : goal.returns-in-Reset-clause-served
 returns-in-Reset-clause-served g c =
     serving-answered g.L.Lane.got c.args.self.now c.if-self.false c.reset.new.self c.make_room.new.self c.reset.result c.args.control (order.Reset c.in-Reset.id c.in-Reset.code c.in-Reset.written)
     c.in-Reset.is c.make_room.ensures.takes (ok-from c.reset.result _ _ c.reset.ensures.served) c.reset.ensures.still c.reset.ensures.memory
+
+pub returns-in-InputEnded-clause-taken : goal.returns-in-InputEnded-clause-taken
+returns-in-InputEnded-clause-taken g c =
+    quiet-led c.args.control order.InputEnded c.args.self.now.outbound c.make_room.new.self c.in-InputEnded.is refl (λ run history. refl) c.make_room.ensures.stays
+
+pub returns-clause-taken : goal.returns-clause-taken
+returns-clause-taken g c =
+    quiet-led c.args.control order.Close c.args.self.now.outbound c.make_room.new.self c.in-Close.is refl (λ run history. refl) c.make_room.ensures.stays

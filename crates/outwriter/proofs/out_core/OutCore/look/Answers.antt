@@ -10,7 +10,7 @@ use Rattle.outwriter.proofs.out_core.OutCore.look.Goals as goal
 pub returns-in_ok-headers_frame-in-Block-clause-frame : goal.returns-in_ok-headers_frame-in-Block-clause-frame
 returns-in_ok-headers_frame-in-Block-clause-frame g c = λ run m.
     subst (λ (o : Outbound). Heads c.in_ok-headers_frame-in-Block.field-0 o c.headers_frame.new.self) (c.end.ensures.outbound ∙ c.in_ok-take.ensures.outbound)
-    c.in_ok-headers_frame-in-Block.ensures.written run c.args.self.now.outbound.due.items m m.acknowledges
+    c.in_ok-headers_frame-in-Block.ensures.written run c.args.self.now.outbound.due.items m m.answers
 
 pub returns-in_err-take-clause-fronts : goal.returns-in_err-take-clause-fronts
 returns-in_err-take-clause-fronts g c = takes-fronts _ _ _ _ _ _ _ c.take.ensures.takes

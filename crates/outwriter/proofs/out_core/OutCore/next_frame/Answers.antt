@@ -1,7 +1,9 @@
 use Rattle.std.proofs.Common.{Option, subst}
 use Rattle.h2frame.specs.declared.frame.Frame.{Frame}
 use Rattle.std.specs.Prelude.{IfNone}
+use Rattle.outwriter.specs.Mirrors.{IsSpent}
 use Rattle.outwriter.specs.Polling.{GetsQuiet, HoldsOn}
+use Rattle.outwriter.proofs.Progresses.{spent-answered}
 use Rattle.outwriter.proofs.ServeStepsCore.{serving-on}
 use Rattle.outwriter.proofs.out_core.OutCore.next_frame.Goals as goal
 
@@ -17,3 +19,13 @@ returns-in-Ok-None-clause-quiet g c = λ run s alive.
 pub returns-in-Ok-None-2-clause-quiet : goal.returns-in-Ok-None-2-clause-quiet
 returns-in-Ok-None-2-clause-quiet g c = λ run s alive.
     subst (λ (o : Option Frame). IfNone o (GetsQuiet g.L.Lane.got g.L.Lane.ahead c.args.self.now c.choose.new.self)) c.in-Ok-None.field-0-is c.in-Ok-None.ensures.quiet run (s.serves alive)
+
+pub returns-in-Ok-None-clause-answered : goal.returns-in-Ok-None-clause-answered
+returns-in-Ok-None-clause-answered g c = λ run reached.
+    spent-answered run c.choose.new.self.outbound
+    (subst (λ (o : Option Frame). IfNone o (IsSpent c.choose.new.self.outbound)) c.in-Ok-None.field-0-is c.in-Ok-None.ensures.spent) reached.0
+
+pub returns-in-Ok-None-2-clause-answered : goal.returns-in-Ok-None-2-clause-answered
+returns-in-Ok-None-2-clause-answered g c = λ run reached.
+    spent-answered run c.choose.new.self.outbound
+    (subst (λ (o : Option Frame). IfNone o (IsSpent c.choose.new.self.outbound)) c.in-Ok-None.field-0-is c.in-Ok-None.ensures.spent) reached.0

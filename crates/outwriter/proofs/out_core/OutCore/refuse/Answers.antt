@@ -2,9 +2,12 @@ use Rattle.std.proofs.Common.{◌≡◌, ◌∙◌, refl, sym, false, Some, arit
 use Rattle.std.specs.Prelude.{OnOk}
 use Rattle.std.specs.Result.{is_err}
 use Rattle.std.proofs.lemmas.Grind.{common_steps}
+use Rattle.outwriter.specs.declared.control.Control.{Control}
+use Rattle.outwriter.specs.declared.control.Control.TheVariants as order
 use Rattle.outwriter.specs.Cores.{calls}
 use Rattle.outwriter.proofs.CallSteps.{serves-equal, updated}
 use Rattle.outwriter.proofs.CallStepsOrders.{serves-refused, serves-unrefused}
+use Rattle.outwriter.proofs.MirrorSteps.{quiet-led}
 use Rattle.outwriter.proofs.out_core.OutCore.refuse.Goals as goal
 
 pub returns-then-not-is_stream-clause-served : goal.returns-then-not-is_stream-clause-served
@@ -29,3 +32,8 @@ returns-clause-served g c = λ run marks s.
     serves-refused run c.args.self.now.outbound c.args.self.now.streams.entries c.args.self.now.others.entries (calls g.L.Lane.got c.args.self.now.senders.items) marks
     c.args.id c.args.fields c.take_refuse.new.self c.insert.new.self.entries (sym c.is_stream.ensures ∙ c.if-not-is_stream.false) (sym c.has.ensures ∙ c.if-has.false)
     (updated c.args.self.now.others.entries c.insert.new.self.entries c.args.id (Some false) updates.0) c.take_refuse.ensures.takes s
+
+pub returns-then-not-is_stream-clause-taken : goal.returns-then-not-is_stream-clause-taken
+returns-then-not-is_stream-clause-taken g c =
+    let refuse : Control (Unit {0}) = order.Refuse c.args.id c.args.fields in
+    quiet-led refuse refuse c.args.self.now.outbound c.args.self.now.outbound refl refl (λ run history. refl) (λ run m. m)

@@ -1,8 +1,11 @@
-use Rattle.std.proofs.Common.{rules, ◌≡◌, Option, refl, sym, subst}
+use Rattle.std.proofs.Common.{rules, ◌≡◌, List, Option, refl, sym, subst}
 use Rattle.h2frame.specs.declared.frame.Frame.{Frame}
+use Rattle.outwriter.specs.declared.due.Due.{Due}
 use Rattle.outwriter.specs.declared.outbound.Outbound.{Outbound}
+use Rattle.outwriter.specs.Mirrors.{Mirrors, MirrorsOf, WritesOrSkips}
 use Rattle.outwriter.specs.Serving.{Rests}
 use Rattle.outwriter.specs.Telling.{OwnOfDue}
+use Rattle.outwriter.proofs.MirrorSteps.{skipped}
 use Rattle.outwriter.proofs.TellStepsOwn.{due-first, dropped-rests, rests-rests}
 use Rattle.outwriter.proofs.outbound.Outbound.due_frame.Goals as goal
 
@@ -17,9 +20,13 @@ pub loop-due-preserved : goal.loop-due-preserved
 loop-due-preserved c =
     let popped : Outbound = record c.loop-due.self { due = c.pop_front.new.self } in
     let same : c.frame_of_due.new.self ≡ popped = subst (λ (o : Option Frame). OwnOfDue c.in-Some.due o popped c.frame_of_due.new.self) c.in_default-2.is c.in_ok-frame.ensures.own in
+    let skips = subst (λ (o : Option Frame). WritesOrSkips c.in-Some.due o popped c.frame_of_due.new.self) c.in_default-2.is c.in_ok-frame.ensures.written in
     record {
       between = search rules;
-      mirrors = search rules;
+      mirrors = λ run m. subst (MirrorsOf run) (sym same)
+          (skipped run popped.begun popped.gone popped.windows popped.over.entries c.in-Some.due popped.due.items popped.block popped.credit skips.0
+          (subst (λ (waiting : List Due). Mirrors run popped.begun popped.gone popped.windows popped.over.entries waiting popped.block popped.credit) c.in-Some.ensures.items
+          (c.loop-due.invariant.mirrors run m)));
       rests = rests-rests c.args.self.now c.loop-due.self c.frame_of_due.new.self c.loop-due.invariant.rests
           (subst (λ (o : Outbound). Rests c.loop-due.self o) (sym same) (dropped-rests c.loop-due.self popped c.in-Some.due c.in-Some.ensures.items refl));
     }

@@ -10,7 +10,7 @@ use Rattle.outwriter.proofs.outbound.Outbound.refusal.Goals as goal
 
 pub returns-clause-written : goal.returns-clause-written
 returns-clause-written c = IfOk-weaker c.headers_frame.result _ (λ (frame : Frame). WritesDue (Refuse c.args.id c.args.fields) frame c.args.self.now c.headers_frame.new.self)
-    (λ frame heads run m. heads run (Refuse c.args.id c.args.fields ∷ c.args.self.now.due.items) m m.acknowledges)
+    (λ frame heads run m. heads run (Refuse c.args.id c.args.fields ∷ c.args.self.now.due.items) m m.answers)
     c.headers_frame.ensures.written
 
 pub returns-clause-own : goal.returns-clause-own

@@ -1,8 +1,11 @@
-use Rattle.std.proofs.Common.{◌≡◌, subst, sym, ap, ◌∙◌, None}
+use Rattle.std.proofs.Common.{◌≡◌, ◌∷◌, subst, sym, ap, ◌∙◌, None, Result, Ok, Err, OnOk}
+use Rattle.std.specs.Prelude.{if◌then◌else◌}
+use Rattle.flow.specs.WindowHistory.{Opening, Follows}
 use Rattle.flow.specs.Windows.{Windows, closed, balance}
 use Rattle.outwriter.specs.Credits.{Owed}
 use Rattle.outwriter.specs.Mirrors.{Mirrors}
-use Rattle.outwriter.proofs.WindowRuns.{closed-again}
+use Rattle.outwriter.proofs.MirrorSteps.{open-led}
+use Rattle.outwriter.proofs.WindowRuns.{closed-again, open-taken}
 use Rattle.outwriter.proofs.outbound.Outbound.take_open.Goals as goal
 
 pub returns-in-Err-clause-stays : goal.returns-in-Err-clause-stays
@@ -12,3 +15,22 @@ returns-in-Err-clause-stays c = λ run m.
     c.close.ensures.value ∙ ap (λ (w : Windows). closed w c.args.id) c.in-Ok.ensures.ok ∙ closed-again c.args.self.now.windows c.args.id none in
     subst (λ (w : Windows). Mirrors run c.args.self.now.begun c.args.self.now.gone w c.args.self.now.over.entries c.args.self.now.due.items c.args.self.now.block c.open_credit-2.new.credit) (sym windows)
     (subst (λ (owed : Owed). Mirrors run c.args.self.now.begun c.args.self.now.gone c.args.self.now.windows c.args.self.now.over.entries c.args.self.now.due.items c.args.self.now.block owed) (sym c.in-Err.ensures.unchanged) m)
+
+both : {X E A B C : Type 0} (r : Result X E) → (A → B → C) → OnOk r A → OnOk r B → OnOk r C
+both (Ok x) f a b = f a b
+both (Err e) f a b = tt
+
+pub returns-then-not-opens-clause-taken : goal.returns-then-not-opens-clause-taken
+returns-then-not-opens-clause-taken c = both c.open_credit.result
+    (λ owed silent run m. open-led c.args.id run _ _ _ _ _ _ _ c.args.self.now.credit c.open_credit.new.credit owed silent
+    (open-taken run c.args.id c.args.self.now.windows c.args.self.now.windows c.opens.result (λ h f. c.opens.ensures.value run h m.is_over f)
+    (λ h f. subst (λ b. Follows (if b then Opening c.args.id ∷ h else h) c.args.self.now.windows) (sym c.if-not-opens.true) f)
+    m.windows_follow) m)
+    c.open_credit.ensures.owed c.open_credit.ensures.silent
+
+pub returns-in-Ok-open_credit-clause-taken : goal.returns-in-Ok-open_credit-clause-taken
+returns-in-Ok-open_credit-clause-taken c = λ run m.
+    open-led c.args.id run _ _ _ _ _ _ _ c.args.self.now.credit c.open_credit-2.new.credit c.in-Ok-open_credit.ensures.owed c.in-Ok-open_credit.ensures.silent
+    (open-taken run c.args.id c.args.self.now.windows c.open.new.self c.opens.result (λ h f. c.opens.ensures.value run h m.is_over f)
+    (λ h f. subst (λ b. Follows (if b then Opening c.args.id ∷ h else h) c.open.new.self) (sym c.if-not-opens.false) (c.in-Ok.ensures.follows h f))
+    m.windows_follow) m

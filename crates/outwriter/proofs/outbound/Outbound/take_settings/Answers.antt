@@ -1,5 +1,6 @@
 use Rattle.outwriter.specs.declared.due.Due.{Due}
 use Rattle.std.proofs.Common.{sym, refl, subst, List, ◌∷◌}
+use Rattle.std.proofs.lemmas.List.Elements.{All-nil}
 use Rattle.outwriter.specs.declared.control.Control.TheVariants.{Settings}
 use Rattle.outwriter.specs.declared.due.Due.TheVariants.{SettingsAck}
 use Rattle.outwriter.specs.declared.settings.PeerSetting.{PeerSetting}
@@ -15,4 +16,4 @@ returns-clause-taken c =
     (subst (λ (s : List PeerSetting). HasWindows (Taken (Settings s) ∷ run) c.resize.new.windows) c.as_slice-2.ensures
     (settings-taken run c.as_slice-2.result.now _ _ c.resize.result c.resize.ensures.ok c.resize.ensures.overflow c.resize.ensures.unchanged m.windows_follow))
     (subst (λ (xs : List Due). HasDue (Taken (Settings c.args.settings.now) ∷ run) xs) (sym c.push_back_reserved.ensures.items)
-    (more-due (Settings c.args.settings.now) run c.args.self.now.due.items SettingsAck refl m.acknowledges))
+    (more-due (Settings c.args.settings.now) run c.args.self.now.due.items SettingsAck refl (All-nil _) m.answers))

@@ -1,0 +1,16 @@
+use Rattle.std.proofs.Common.{refl, sym, subst, List, ◌∷◌}
+use Rattle.std.proofs.lemmas.List.Elements.{All-nil}
+use Rattle.outwriter.specs.declared.control.Control.TheVariants as order
+use Rattle.outwriter.specs.declared.due.Due.{Due}
+use Rattle.outwriter.specs.declared.due.Due.TheVariants as due_kind
+use Rattle.outwriter.specs.Mirrors.{HasDue}
+use Rattle.outwriter.specs.Steps.{Taken}
+use Rattle.outwriter.proofs.MirrorSteps.{taken, more-due}
+use Rattle.outwriter.proofs.WindowRuns.{nothing-taken}
+use Rattle.outwriter.proofs.outbound.Outbound.take_goaway.Goals as goal
+
+pub returns-clause-taken : goal.returns-clause-taken
+returns-clause-taken c = λ run m.
+    taken (order.Goaway c.args.last c.args.code) run _ _ _ _ _ _ _ _ _ m (nothing-taken run (order.Goaway c.args.last c.args.code) c.args.self.now.windows (λ h. refl) m.windows_follow)
+    (subst (λ (xs : List Due). HasDue (Taken (order.Goaway c.args.last c.args.code) ∷ run) xs) (sym c.push_back_reserved.ensures.items)
+    (more-due (order.Goaway c.args.last c.args.code) run c.args.self.now.due.items (due_kind.Goaway c.args.last c.args.code) refl (All-nil _) m.answers))

@@ -1,0 +1,28 @@
+use Rattle.std.proofs.Common.{refl, sym, subst, inl, ℕ, List, [], ◌∷◌}
+use Rattle.std.proofs.lemmas.List.Elements.{All-nil, All-cons}
+use Rattle.h2frame.specs.declared.error_code.ErrorCode.{ErrorCode}
+use Rattle.outwriter.specs.declared.control.Control.TheVariants as order
+use Rattle.outwriter.specs.declared.due.Due.{Due}
+use Rattle.outwriter.specs.declared.due.Due.TheVariants as due_kind
+use Rattle.outwriter.specs.Mirrors.{HasDue}
+use Rattle.outwriter.specs.Runs.{Asks, IsAsked}
+use Rattle.outwriter.specs.Steps.{Order, Taken}
+use Rattle.outwriter.proofs.MirrorSteps.{taken, more-due, same-due}
+use Rattle.outwriter.proofs.WindowRuns.{nothing-taken}
+use Rattle.outwriter.proofs.outbound.Outbound.take_reset.Goals as goal
+
+pub returns-then-was_open-clause-taken : goal.returns-then-was_open-clause-taken
+returns-then-was_open-clause-taken c = λ run m.
+    let reset : Order = order.Reset c.args.id c.args.code c.args.written in
+    let P : ℕ × ErrorCode → Type 0 = λ asked. IsAsked asked.0 asked.1 (Taken reset ∷ run) in
+    taken reset run _ _ _ _ _ _ _ _ _ m (nothing-taken run reset c.args.self.now.windows (λ h. refl) m.windows_follow)
+    (subst (λ (xs : List Due). HasDue (Taken reset ∷ run) xs) (sym c.push_back_reserved.ensures.items)
+    (more-due reset run c.args.self.now.due.items (due_kind.Reset c.args.id c.args.code) refl
+    (All-cons P (c.args.id, c.args.code) [] (inl (subst (λ b. Asks c.args.id c.args.code (order.Reset c.args.id c.args.code b)) (sym c.if-written.true) (refl, refl))) (All-nil P))
+    m.answers))
+
+pub returns-else-written-clause-taken : goal.returns-else-written-clause-taken
+returns-else-written-clause-taken c = λ run m.
+    let reset : Order = order.Reset c.args.id c.args.code c.args.written in
+    taken reset run _ _ _ _ _ _ _ _ _ m (nothing-taken run reset c.args.self.now.windows (λ h. refl) m.windows_follow)
+    (same-due reset run c.args.self.now.due.items refl m.answers)
