@@ -14,10 +14,11 @@ use Rattle.outwriter.specs.Credits.{Owed, knows, nothing_owed}
 use Rattle.outwriter.specs.Keeping.{Closes}
 use Rattle.outwriter.specs.Mirrors.{Sets}
 use Rattle.outwriter.specs.Parts.{Mark, marks_on}
-use Rattle.outwriter.specs.Serving.{Serves, Takes, MayBeDue, IsEnded, none_is_new}
+use Rattle.outwriter.specs.Serving.{Serves, Takes, MayBeDue, IsEnded, IsUncalled, none_is_new}
 use Rattle.outwriter.specs.Steps.{Step}
 use Rattle.outwriter.specs.Telling.{SpellsOf}
 use Rattle.outwriter.proofs.Fronts.{open-begins}
+use Rattle.outwriter.proofs.Others.{Later, later-none, uncalled-same}
 use Rattle.outwriter.proofs.TellSteps.{takes-tells}
 
 -- ---- tests
@@ -56,9 +57,10 @@ module _ (run after : List Step) (o new : Outbound) (streams left : List (ℕ ×
         → (is_fresh id after ≡ false) × (is_served id after ≡ false) × (is_some (lookup (nat_eq id) more) ≡ true)
     pub reset : (id : ℕ) → lookup (nat_eq id) streams ≡ None → (is_some (lookup (nat_eq id) others) || knows o.credit id) ≡ true
         → (lookup (nat_eq id) left ≡ None) × ((is_some (lookup (nat_eq id) more) || knows new.credit id) ≡ true)
+    pub later : Later run after
 
   stays-due : StaysDue → (one : Due) → MayBeDue run o streams others one → MayBeDue after new left more one
-  stays-due s (due_kind.Refuse id fields) h = s.refused id h.0 h.1 h.2
+  stays-due s (due_kind.Refuse id fields) h = let r = s.refused id h.0 h.1 h.2 in (r.0, r.1, r.2, s.later.refused id fields h.3)
   stays-due s (due_kind.Reset id code) h = s.reset id h.0 h.1
   stays-due s due_kind.SettingsAck h = tt
   stays-due s (due_kind.PingAck bytes) h = tt
@@ -71,15 +73,16 @@ module _ (run after : List Step) (o new : Outbound) (streams left : List (ℕ ×
 
 pub serves-same : (run after : List Step) (o new : Outbound) (streams : List (ℕ × OpenStream)) (others : List (ℕ × Bool)) (calls : List (ℕ × List OutItem))
     (marks : List (ℕ × Mark)) (more : List Due) → Takes more none_is_new o new → SpellsOf after new marks
-    → ((id : ℕ) → is_fresh id run ≡ false → is_fresh id after ≡ false) → ((id : ℕ) → is_served id after ≡ is_served id run)
+    → ((id : ℕ) → is_fresh id run ≡ false → is_fresh id after ≡ false) → ((id : ℕ) → is_served id after ≡ is_served id run) → Later run after
     → All (MayBeDue after new streams others) more
     → Serves run o streams others calls marks → Serves after new streams others calls marks
-serves-same run after o new streams others calls marks more takes spells fresh served due s =
+serves-same run after o new streams others calls marks more takes spells fresh served later due s =
     let over = over-same more none_is_new o new takes in
     let knowing : (id : ℕ) → knows new.credit id ≡ knows o.credit id = takes.knows in
     let still : StaysDue run after o new streams streams others others = record {
       refused = λ id e f g. (fresh id e, served id ∙ f, g);
       reset = λ id e f. (e, ap (λ b. is_some (lookup (nat_eq id) others) || b) (knowing id) ∙ f);
+      later = later;
     } in
     record {
       spells = spells;
@@ -98,6 +101,10 @@ serves-same run after o new streams others calls marks more takes spells fresh s
       unknown = λ id e f. let u = s.unknown id (sym (knowing id) ∙ e) f in (u.0, over id ∙ u.1);
       other = λ id was_reset e. let h = s.other id was_reset e in
           (h.0, λ f. subst (λ (b : Option Bool). IsEnded b (marks_on id marks) []) (sym (over id)) (h.1 (was-true (is_fresh id run) (is_fresh id after) (fresh id) f)));
+      brought = λ id e. later.opened id (s.brought id (sym (knowing id) ∙ e));
+      uncalled = λ id was_reset e there.
+          uncalled-same run after id (lookup (nat_eq id) o.over.entries) (lookup (nat_eq id) new.over.entries) (marks_on id marks) (marks_on id marks) later (over id) refl
+          (s.uncalled id was_reset (sym (knowing id) ∙ e) there);
     }
 
 -- ---- the start
@@ -125,6 +132,8 @@ serves-nothing o streams others calls spells due credit over no_streams no_other
       due = subst (All (MayBeDue [] o streams others)) (sym due) (All-nil (MayBeDue [] o streams others));
       unknown = λ id e f. (refl, ap (λ (l : List (ℕ × Bool)). lookup (nat_eq id) l) over);
       other = λ id was_reset e. absurd (not-some (lookup (nat_eq id) others) was_reset (ap (λ (l : List (ℕ × Bool)). lookup (nat_eq id) l) no_others) e);
+      brought = λ id e. absurd (unknown id e);
+      uncalled = λ id was_reset e there. absurd (not-some (lookup (nat_eq id) others) was_reset (ap (λ (l : List (ℕ × Bool)). lookup (nat_eq id) l) no_others) there);
     }
 
 -- ---- a stream that isn't a call's is refused or reset
@@ -147,9 +156,12 @@ serves-other run o streams others more calls marks id value isnt sets s = record
   due = all-due run run o o streams streams others more (record {
     refused = λ k e f g. (e, f, still k g);
     reset = λ k e f. (e, either (is_some (lookup (nat_eq k) others)) (knows o.credit k) (is_some (lookup (nat_eq k) more)) (knows o.credit k) (still k) (λ x. x) f);
+    later = later-none run;
   }) o.due.items s.due;
   unknown = λ k e f. s.unknown k e (was-none k f);
   other = other;
+  brought = s.brought;
+  uncalled = uncalled;
 }
   where
     still : (k : ℕ) → is_some (lookup (nat_eq k) others) ≡ true → is_some (lookup (nat_eq k) more) ≡ true
@@ -187,6 +199,14 @@ serves-other run o streams others more calls marks id value isnt sets s = record
             (sym (eqb-true k id p)) (closed, ended-here (lookup (nat_eq id) others) refl)
         by false p = s.other k was_reset (sym (sets k ∙ ap (λ b. if b then Some value else lookup (nat_eq k) others) p) ∙ e)
 
+    uncalled : (k : ℕ) (was_reset : Bool) → knows o.credit k ≡ false → lookup (nat_eq k) more ≡ Some was_reset
+        → IsUncalled k run (lookup (nat_eq k) o.over.entries) (marks_on k marks)
+    uncalled k was_reset e there = by (lookup (nat_eq k) others) refl
+      where
+        by : (found : Option Bool) → lookup (nat_eq k) others ≡ found → IsUncalled k run (lookup (nat_eq k) o.over.entries) (marks_on k marks)
+        by None p = let u = s.unknown k e p in (λ still. u.0, inl u.0)
+        by (Some before) p = s.uncalled k before e p
+
 -- ---- a call's stream is reset
 
 -- what was told of it begins what its items spell
@@ -207,9 +227,12 @@ serves-closed run o streams left others calls marks id closes s = record {
   due = all-due run run o o streams left others others (record {
     refused = λ k e f g. (e, f, g);
     reset = λ k e f. (still-none k e, f);
+    later = later-none run;
   }) o.due.items s.due;
   unknown = s.unknown;
   other = λ k was_reset e. let h = s.other k was_reset e in (still-none k h.0, h.1);
+  brought = s.brought;
+  uncalled = s.uncalled;
 }
   where
     was-open : (k : ℕ) (stream : OpenStream) → lookup (nat_eq k) left ≡ Some stream → lookup (nat_eq k) streams ≡ Some stream
@@ -254,7 +277,7 @@ updated old new id value updates k = updates k ∙ ap (λ b. if b then value els
 pub serves-kept : (run : List Step) (o new : Outbound) (streams : List (ℕ × OpenStream)) (others : List (ℕ × Bool)) (calls : List (ℕ × List OutItem))
     (marks : List (ℕ × Mark)) → Takes [] none_is_new o new → Serves run o streams others calls marks → Serves run new streams others calls marks
 serves-kept run o new streams others calls marks takes s =
-    serves-same run run o new streams others calls marks [] takes (takes-tells [] none_is_new o new takes run marks s.spells) (λ id e. e) (λ id. refl)
+    serves-same run run o new streams others calls marks [] takes (takes-tells [] none_is_new o new takes run marks s.spells) (λ id e. e) (λ id. refl) (later-none run)
     (All-nil (MayBeDue run new streams others)) s
 
 -- the same streams

@@ -17,7 +17,7 @@ use Rattle.outwriter.specs.Steps.{Step, Taken, Granted}
 use Rattle.outwriter.specs.Telling.{SpellsOf}
 use Rattle.outwriter.proofs.CallSteps.{serves-equal, serves-nothing}
 use Rattle.outwriter.proofs.CallStepsOpen.{serves-opened}
-use Rattle.outwriter.proofs.Fronts.{fronts_of}
+use Rattle.outwriter.proofs.Fronts.{fronts_of, others_of}
 
 module _ {L In Out Shut : Type 0} (got : Out → List OutItem) (old new : OutCore L In Out Shut) where
   -- as long as the core lives, what was told follows from what is kept
@@ -27,6 +27,7 @@ module _ {L In Out Shut : Type 0} (got : Out → List OutItem) (old new : OutCor
       let after = keeps run m.0 m.1 in
       record {
         fronts = fronts_of (more ++ run) new.outbound new.streams.entries new.others.entries (calls got new.senders.items) m.0 after;
+        others = others_of (more ++ run) new.outbound new.streams.entries new.others.entries (calls got new.senders.items) m.0 after;
         serves = λ still. (m.0, after);
       }
 
@@ -35,6 +36,7 @@ module _ {L In Out Shut : Type 0} (got : Out → List OutItem) (old new : OutCor
       → KeepsServing got (Granted id n ∷ []) old new → ServesOn got (Granted id n) old new
   serving-granted id n same senders keeps run s = record {
     fronts = subst (λ (l : List (ℕ × List OutItem)). TellFronts (Granted id n ∷ run) l) (sym senders) s.fronts;
+    others = s.others;
     serves = λ alive. let m = s.serves (sym same ∙ alive) in (m.0, keeps run m.0 m.1);
   }
 
@@ -48,6 +50,7 @@ module _ {L In Out Shut : Type 0} (got : Out → List OutItem) (core : OutCore L
       let serves = serves-nothing core.outbound core.streams.entries core.others.entries (calls got core.senders.items) spells due credit over streams others none in
       record {
         fronts = fronts_of [] core.outbound core.streams.entries core.others.entries (calls got core.senders.items) [] serves;
+        others = others_of [] core.outbound core.streams.entries core.others.entries (calls got core.senders.items) [] serves;
         serves = λ still. ([], serves);
       }
 

@@ -9,7 +9,7 @@ use Rattle.callbox.specs.declared.account.OutItem.{OutItem}
 use Rattle.outwriter.specs.declared.control.Control.TheVariants as order
 use Rattle.outwriter.specs.declared.outbound.Outbound.{Outbound}
 use Rattle.outwriter.specs.declared.stream.OpenStream.{OpenStream}
-use Rattle.outwriter.specs.Calls.{is_fresh, is_served}
+use Rattle.outwriter.specs.Calls.{is_fresh, is_served, is_opened}
 use Rattle.outwriter.specs.Credits.{knows}
 use Rattle.outwriter.specs.Histories.{is_stream}
 use Rattle.outwriter.specs.Keeping.{Prepares, is_new_call, becomes_open, stream_at}
@@ -17,6 +17,7 @@ use Rattle.outwriter.specs.Parts.{Mark, marks_on, spelled}
 use Rattle.outwriter.specs.Serving.{Serves, MayBeDue, IsEnded, IsExact}
 use Rattle.outwriter.specs.Steps.{Step, Taken}
 use Rattle.outwriter.proofs.CallSteps.{all-due, none-ended, not-some, over-same, was-true, either}
+use Rattle.outwriter.proofs.Others.{later-taken, uncalled-same}
 use Rattle.outwriter.proofs.TellSteps.{taken-tells}
 
 -- ---- lists
@@ -149,6 +150,10 @@ module _ (run : List Step) (o new : Outbound) (streams left : List (ℕ × OpenS
       by true q = inl (both (is_new_call o id) (k == id) q).1
       by false q = inr (sym (p.takes.knows k ∙ ap (λ b. b || knows o.credit k) q) ∙ e)
 
+  opened-at : (k : ℕ) → ((k == id) ≡ true) ⊎ (knows o.credit k ≡ true) → is_opened k after ≡ true
+  opened-at k (inl here) = ap (λ b. b || is_opened k run) here
+  opened-at k (inr old) = (later-taken run (order.Open id tt)).opened k (s.brought k old)
+
   knows-here : is_stream id ≡ true → knows new.credit id ≡ true
   knows-here e = by (knows o.credit id) refl
     where
@@ -279,10 +284,15 @@ module _ (run : List Step) (o new : Outbound) (streams left : List (ℕ × OpenS
     due = subst (All (MayBeDue after new left others)) (sym (p.takes.due ∙ append-nil o.due.items)) (all-due run after o new streams left others others (record {
       refused = λ k e f g. (fresh-less run id k e, unserved run id k e f, g);
       reset = λ k e f. (still-none k e f, either (is_some (lookup (nat_eq k) others)) (knows o.credit k) (is_some (lookup (nat_eq k) others)) (knows new.credit k) (λ x. x) (knows-more k) f);
+      later = later-taken run (order.Open id tt);
     }) o.due.items s.due);
     unknown = λ k e f. let u = s.unknown k (knew k e) f in (u.0, over k ∙ u.1);
     other = λ k was_reset e. let h = s.other k was_reset e in (
       still-none k h.0 (ap (λ (l : Option Bool). is_some l || knows o.credit k) e),
       λ f. subst (λ (b : Option Bool). IsEnded b (marks_on k marks) []) (sym (over k)) (h.1 (was-true (is_fresh k run) (is_fresh k after) (fresh-less run id k) f)),
     );
+    brought = λ k e. opened-at k (known-by k e);
+    uncalled = λ k was_reset e there.
+        uncalled-same run after k (lookup (nat_eq k) o.over.entries) (lookup (nat_eq k) new.over.entries) (marks_on k marks) (marks_on k marks) (later-taken run (order.Open id tt)) (over k) refl
+        (s.uncalled k was_reset (knew k e) there);
   }

@@ -1,5 +1,5 @@
 -- What a writer keeps of its calls, after a Refuse, a Reset, and what brings no stream and ends none.
-use Rattle.std.proofs.Common.{◌≡◌, ℕ, ◌==◌, refl, sym, ap, ◌∙◌, Bool, true, false, List, [], ◌∷◌, Some, None, append-nil, nat_eq, true≢false}
+use Rattle.std.proofs.Common.{◌≡◌, ℕ, ◌==◌, inl, refl, sym, ap, ◌∙◌, Bool, true, false, List, [], ◌∷◌, Some, None, append-nil, nat_eq, true≢false}
 use Rattle.std.specs.Prelude.{All, ◌||◌, is_some, if◌then◌else◌}
 use Rattle.std.specs.Map.{lookup}
 use Rattle.std.proofs.lemmas.Bool.{eq-eqb}
@@ -20,6 +20,7 @@ use Rattle.outwriter.specs.Parts.{Mark}
 use Rattle.outwriter.specs.Serving.{Serves, Takes, MayBeDue, none_is_new}
 use Rattle.outwriter.specs.Steps.{Step, Order, Taken}
 use Rattle.outwriter.proofs.CallSteps.{serves-other, serves-same}
+use Rattle.outwriter.proofs.Others.{later-taken}
 use Rattle.outwriter.proofs.TellSteps.{taken-tells}
 
 -- nothing changes
@@ -40,7 +41,7 @@ module _ (run : List Step) (o new : Outbound) (streams : List (ℕ × OpenStream
       → Serves run o streams others calls marks → Serves (Taken taken ∷ run) new streams others calls marks
   serves-ordered taken more fresh served due takes s =
       serves-same run (Taken taken ∷ run) o new streams others calls marks more takes (taken-tells more none_is_new o new taken takes run marks s.spells)
-      (λ id e. fresh id ∙ e) served due s
+      (λ id e. fresh id ∙ e) served (later-taken run taken) due s
 
   pub serves-reset : (id : ℕ) (code : ErrorCode) (written is_due : Bool)
       → (is_due ≡ true → (lookup (nat_eq id) streams ≡ None) × ((is_some (lookup (nat_eq id) others) || knows o.credit id) ≡ true))
@@ -71,7 +72,7 @@ module _ (run : List Step) (o : Outbound) (streams : List (ℕ × OpenStream)) (
   pub serves-unrefused : Serves run o streams others calls marks → Serves (Taken (order.Refuse id fields) ∷ run) o streams others calls marks
   serves-unrefused s =
       serves-same run (Taken (order.Refuse id fields) ∷ run) o o streams others calls marks [] (takes-nothing o)
-      (taken-tells [] none_is_new o o (order.Refuse id fields) (takes-nothing o) run marks s.spells) (fresh-less run id fields) (λ k. refl)
+      (taken-tells [] none_is_new o o (order.Refuse id fields) (takes-nothing o) run marks s.spells) (fresh-less run id fields) (λ k. refl) (later-taken run (order.Refuse id fields))
       (All-nil (MayBeDue (Taken (order.Refuse id fields) ∷ run) o streams others)) s
 
   pub serves-refused : (new : Outbound) (more : List (ℕ × Bool)) → is_stream id ≡ true → knows o.credit id ≡ false → Sets others id false more
@@ -79,11 +80,12 @@ module _ (run : List Step) (o : Outbound) (streams : List (ℕ × OpenStream)) (
       → Serves run o streams others calls marks → Serves (Taken (order.Refuse id fields) ∷ run) new streams more calls marks
   serves-refused new more there isnt sets takes s =
       serves-same run (Taken (order.Refuse id fields) ∷ run) o new streams more calls marks (due_kind.Refuse id fields ∷ []) takes
-      (taken-tells (due_kind.Refuse id fields ∷ []) none_is_new o new (order.Refuse id fields) takes run marks s.spells) (fresh-less run id fields) (λ k. refl)
+      (taken-tells (due_kind.Refuse id fields ∷ []) none_is_new o new (order.Refuse id fields) takes run marks s.spells) (fresh-less run id fields) (λ k. refl) (later-taken run (order.Refuse id fields))
       (All-cons (MayBeDue (Taken (order.Refuse id fields) ∷ run) new streams more) (due_kind.Refuse id fields) [] (
         ap (λ b. if b then false else is_fresh id run) (eq-eqb id id refl),
         unserved (is_served id run) refl,
         ap is_some (sets id ∙ ap (λ b. if b then Some false else lookup (nat_eq id) others) (eq-eqb id id refl)),
+        inl (refl, refl),
       )
       (All-nil (MayBeDue (Taken (order.Refuse id fields) ∷ run) new streams more)))
       (serves-other run o streams others more calls marks id false isnt sets s)

@@ -7,13 +7,19 @@ use Rattle.std.proofs.lemmas.List.{map-append}
 use Rattle.std.proofs.lemmas.List.Elements.{filter-append, All-from_get_or}
 use Rattle.callbox.specs.Accounts.{Begins}
 use Rattle.callbox.specs.declared.account.OutItem.{OutItem}
+use Rattle.hpack_codec.specs.declared.fields.Field.{Field}
+use Rattle.hpack_codec.specs.Codec.{Encoding}
+use Rattle.hpack_codec.specs.Table.{Table}
+use Rattle.outwriter.specs.declared.blocks.HeaderBlock.{HeaderBlock}
 use Rattle.outwriter.specs.declared.outbound.Outbound.{Outbound}
 use Rattle.outwriter.specs.declared.stream.OpenStream.{OpenStream}
-use Rattle.outwriter.specs.Calls.{is_served, TellFronts}
-use Rattle.outwriter.specs.Parts.{Mark, Reset, marks_on, spelled, IsFrontOf, IsPart}
+use Rattle.outwriter.specs.Calls.{is_served, IsOther, TellFronts, TellOthers}
+use Rattle.outwriter.specs.Credits.{knows}
+use Rattle.outwriter.specs.Parts.{Mark, Fields, End, Reset, end_mark, marks_on, spelled, IsFrontOf, IsPart}
 use Rattle.outwriter.specs.Serving.{Serves, bytes_marks}
 use Rattle.outwriter.specs.Steps.{Step}
-use Rattle.outwriter.specs.Telling.{SpellsOf}
+use Rattle.outwriter.specs.Telling.{SpellsOf, Owes, block_marks}
+use Rattle.outwriter.proofs.ServeSteps.{append-nil, marks-here, marks-elsewhere}
 
 -- ---- the marks of one stream
 
@@ -97,3 +103,64 @@ fronts_of run o streams others calls marks s =
     All-from_get_or (λ (call : ℕ × List OutItem). is_served call.0 run ≡ true → (part : List Mark) × IsPart call.0 run part × IsFrontOf part (spelled call.1)) calls (0, [])
     (λ k within served. front-now (get_or calls k (0, [])).0 (get_or calls k (0, [])).1 run o marks s.spells
     (call-front run o streams others calls marks s k (0, []) within served))
+
+-- ---- other streams
+
+-- what a header block that is begun has yet to tell of a stream: nothing, or all of its marks
+abbrev IsBlockRest : List Mark → Type 0
+IsBlockRest rest = (rest ≡ []) ⊎ ((fields : List Field) × (ends_it : Bool) × (rest ≡ Fields fields ∷ end_mark ends_it))
+
+rest-on : (id at : ℕ) (fields : List Field) (ends_it : Bool) → IsBlockRest (marks_on id (block_marks at fields ends_it))
+rest-on id at fields ends_it = by (id == at) refl
+  where
+    by : (b : Bool) → (id == at) ≡ b → IsBlockRest (marks_on id (block_marks at fields ends_it))
+    by true p = inr (fields, ends_it, subst (λ n. marks_on n (block_marks at fields ends_it) ≡ Fields fields ∷ end_mark ends_it) (sym (eqb-true id at p)) (marks-here at (Fields fields ∷ end_mark ends_it)))
+    by false p = inl (marks-elsewhere id at (Fields fields ∷ end_mark ends_it) p)
+
+block-rest : (id : ℕ) (run : List Step) (block : Option HeaderBlock) (kept : Option Encoding) (table : Table) (rest : List (ℕ × Mark)) → Owes run block kept table rest
+    → IsBlockRest (marks_on id rest)
+block-rest id run None kept table rest owes = inl (ap (marks_on id) owes.1)
+block-rest id run (Some block) kept table rest (begun, fields, next, started, unfinished, on, ends, is_block, of_table, is) =
+    subst (λ (l : List (ℕ × Mark)). IsBlockRest (marks_on id l)) (sym is) (rest-on id block.id fields block.ends)
+
+not-nil : (front : List Mark) (x : Mark) (back : List Mark) → front ++ x ∷ back ≡ [] → ⊥
+not-nil [] x back e = cc
+not-nil (y ∷ front) x back e = cc
+
+not-end : (front : List Mark) (fields : List Field) (back : List Mark) → front ++ Fields fields ∷ back ≡ End ∷ [] → ⊥
+not-end [] fields back e = cc
+not-end (y ∷ front) fields back e = not-nil front (Fields fields) back cc
+
+-- what was told before a block's marks is nothing
+other-front : (id : ℕ) (run : List Step) (told rest : List Mark) → IsBlockRest rest → IsOther id run (told ++ rest) → IsOther id run told
+other-front id run told rest (inl none) other = subst (IsOther id run) (ap (λ (l : List Mark). told ++ l) none ∙ append-nil told) other
+other-front id run [] rest (inr (fields, ends_it, is)) other = inl refl
+other-front id run (x ∷ told) rest (inr (fields, ends_it, is)) other =
+    by (subst (λ (l : List Mark). IsOther id run (x ∷ (told ++ l))) is other)
+  where
+    by : IsOther id run (x ∷ (told ++ Fields fields ∷ end_mark ends_it)) → IsOther id run (x ∷ told)
+    by (inl e) = absurd cc
+    by (inr (inl (code, e))) = absurd (not-nil told (Fields fields) (end_mark ends_it) cc)
+    by (inr (inr (found, asked, e))) = absurd (not-end told fields (end_mark ends_it) cc)
+
+-- what was told of each stream that no Open opened
+pub others_of : (run : List Step) (o : Outbound) (streams : List (ℕ × OpenStream)) (others : List (ℕ × Bool)) (calls : List (ℕ × List OutItem)) (marks : List (ℕ × Mark))
+    → Serves run o streams others calls marks → TellOthers run
+others_of run o streams others calls marks s id unopened =
+    let spells = s.spells.1 in
+    let table : Table = spells.0 in
+    let told : List (ℕ × Mark) = spells.1 in
+    let rest : List (ℕ × Mark) = spells.2 in (
+      marks_on id told,
+      (table, told, spells.3, refl),
+      other-front id run (marks_on id told) (marks_on id rest) (block-rest id run o.block o.encoder table rest spells.4)
+          (subst (IsOther id run) (ap (marks_on id) spells.5 ∙ marks-append id told rest) (at (lookup (nat_eq id) others) refl)),
+    )
+  where
+    unknown : (b : Bool) → knows o.credit id ≡ b → b ≡ false
+    unknown true e = absurd (true≢false (sym (s.brought id e) ∙ unopened))
+    unknown false e = refl
+
+    at : (found : Option Bool) → lookup (nat_eq id) others ≡ found → IsOther id run (marks_on id marks)
+    at None e = inl (s.unknown id (unknown (knows o.credit id) refl) e).0
+    at (Some was_reset) e = (s.uncalled id was_reset (unknown (knows o.credit id) refl) e).1

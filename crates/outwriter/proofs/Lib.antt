@@ -11,6 +11,7 @@ pub mod Fronts
 pub mod TellSteps
 pub mod TellStepsOwn
 pub mod MirrorSteps
+pub mod Others
 pub mod Progresses
 pub mod QuietSteps
 pub mod ResizeLemmas

@@ -14,9 +14,10 @@ use Rattle.outwriter.specs.Calls.{is_fresh, is_served}
 use Rattle.outwriter.specs.Credits.{knows}
 use Rattle.outwriter.specs.Parts.{Mark, marks_on, on_stream, spelled}
 use Rattle.outwriter.specs.Polling.{Shown, shown, shows}
-use Rattle.outwriter.specs.Serving.{bytes_marks, IsExact, IsEnded, MayBeDue, Serves}
+use Rattle.outwriter.specs.Serving.{bytes_marks, IsExact, IsEnded, IsUncalled, MayBeDue, Serves}
 use Rattle.outwriter.specs.Steps.{Step}
 use Rattle.outwriter.specs.Telling.{SpellsOf}
+use Rattle.outwriter.proofs.Others.{Later, uncalled-same}
 
 -- ---- marks
 
@@ -73,6 +74,7 @@ shown-some (Some stream) s e = (stream, refl, ap (λ o. (from_some s o).0) e, ap
 pub record Change (run next : List Step) (o after : Outbound) (streams left : List (ℕ × OpenStream)) (others : List (ℕ × Bool)) (calls now : List (ℕ × List OutItem)) (marks told : List (ℕ × Mark)) (is_changed : ℕ → Bool) : Type 0 where
   pub same_fresh : (id : ℕ) → is_fresh id next ≡ is_fresh id run
   pub same_served : (id : ℕ) → is_served id next ≡ is_served id run
+  pub later : Later run next
   pub spells : SpellsOf next after told
   pub fewer_due : (front : List Due) × (o.due.items ≡ front ++ after.due.items)
   pub same_knows : (id : ℕ) → knows after.credit id ≡ knows o.credit id
@@ -92,6 +94,8 @@ pub record Change (run next : List Step) (o after : Outbound) (streams left : Li
       → (marks_on id told ≡ []) × (lookup (nat_eq id) after.over.entries ≡ None)
   pub other : (id : ℕ) (was_reset : Bool) → is_changed id ≡ true → lookup (nat_eq id) others ≡ Some was_reset → is_fresh id run ≡ true
       → IsEnded (lookup (nat_eq id) after.over.entries) (marks_on id told) []
+  pub uncalled : (id : ℕ) (was_reset : Bool) → is_changed id ≡ true → knows o.credit id ≡ false → lookup (nat_eq id) others ≡ Some was_reset
+      → IsUncalled id next (lookup (nat_eq id) after.over.entries) (marks_on id told)
 
 exact-same : (id : ℕ) (a b : OpenStream) (calls now : List (ℕ × List OutItem)) (told after : List Mark) → a.place ≡ b.place → a.in_hand ≡ b.in_hand
     → length now ≡ length calls → after ≡ told → ((d : ℕ × List OutItem) → get_or now a.place d ≡ get_or calls a.place d)
@@ -121,15 +125,15 @@ All-weaker : {A : Type 0} (P Q : A → Type 0) (list : List A) → ((x : A) → 
 All-weaker P Q list f all k d lt = f (get_or list k d) (all k d lt)
 
 due-same : (run next : List Step) (o after : Outbound) (streams left : List (ℕ × OpenStream)) (others : List (ℕ × Bool))
-    → ((id : ℕ) → is_fresh id next ≡ is_fresh id run) → ((id : ℕ) → is_served id next ≡ is_served id run)
+    → Later run next → ((id : ℕ) → is_fresh id next ≡ is_fresh id run) → ((id : ℕ) → is_served id next ≡ is_served id run)
     → ((id : ℕ) → knows after.credit id ≡ knows o.credit id) → ((id : ℕ) → lookup (nat_eq id) streams ≡ None → lookup (nat_eq id) left ≡ None)
     → (one : Due) → MayBeDue run o streams others one → MayBeDue next after left others one
-due-same run next o after streams left others fresh served known closed (due_kind.Refuse id fields) m = (fresh id ∙ m.0, served id ∙ m.1, m.2)
-due-same run next o after streams left others fresh served known closed (due_kind.Reset id code) m =
+due-same run next o after streams left others later fresh served known closed (due_kind.Refuse id fields) m = (fresh id ∙ m.0, served id ∙ m.1, m.2, later.refused id fields m.3)
+due-same run next o after streams left others later fresh served known closed (due_kind.Reset id code) m =
     (closed id m.0, ap (λ b. is_some (lookup (nat_eq id) others) || b) (known id) ∙ m.1)
-due-same run next o after streams left others fresh served known closed due_kind.SettingsAck m = tt
-due-same run next o after streams left others fresh served known closed (due_kind.PingAck bytes) m = tt
-due-same run next o after streams left others fresh served known closed (due_kind.Goaway last code) m = tt
+due-same run next o after streams left others later fresh served known closed due_kind.SettingsAck m = tt
+due-same run next o after streams left others later fresh served known closed (due_kind.PingAck bytes) m = tt
+due-same run next o after streams left others later fresh served known closed (due_kind.Goaway last code) m = tt
 
 was-open : (streams left : List (ℕ × OpenStream)) (id : ℕ) (stream : OpenStream) → (lookup (nat_eq id) streams ≡ None → lookup (nat_eq id) left ≡ None)
     → lookup (nat_eq id) left ≡ Some stream → (o : Option OpenStream) → lookup (nat_eq id) streams ≡ o → (st : OpenStream) × (lookup (nat_eq id) streams ≡ Some st)
@@ -153,10 +157,12 @@ serves-changed run next o after streams left others calls now marks told is_chan
   credited = λ id e. c.same_fresh id ∙ s.credited id (sym (c.same_knows id) ∙ e);
   served = λ id e f. c.same_knows id ∙ s.served id (sym (c.same_served id) ∙ e) f;
   due = All-weaker (MayBeDue run o streams others) (MayBeDue next after left others) after.due.items
-      (due-same run next o after streams left others c.same_fresh c.same_served c.same_knows c.closed)
+      (due-same run next o after streams left others c.later c.same_fresh c.same_served c.same_knows c.closed)
       (All-later (MayBeDue run o streams others) c.fewer_due.0 after.due.items (subst (All (MayBeDue run o streams others)) c.fewer_due.1 s.due));
   unknown = λ id e none. unknown-by id (sym (c.same_knows id) ∙ e) none (is_changed id) refl;
   other = λ id was e. (c.closed id (s.other id was e).0, λ fresh. other-by id was e (sym (c.same_fresh id) ∙ fresh) (is_changed id) refl);
+  brought = λ id e. c.later.opened id (s.brought id (sym (c.same_knows id) ∙ e));
+  uncalled = λ id was e there. uncalled-by id was (sym (c.same_knows id) ∙ e) there (is_changed id) refl;
 }
   where
     within : (k : ℕ) → k < length now → k < length calls
@@ -198,3 +204,10 @@ serves-changed run next o after streams left others calls now marks told is_chan
     other-by id was e fresh false p =
         ended-same (lookup (nat_eq id) o.over.entries) (lookup (nat_eq id) after.over.entries) (marks_on id marks) (marks_on id told) [] [] (c.same_over id p) (c.same_marks id p) refl
         ((s.other id was e).1 fresh)
+
+    uncalled-by : (id : ℕ) (was : Bool) → knows o.credit id ≡ false → lookup (nat_eq id) others ≡ Some was → (b : Bool) → is_changed id ≡ b
+        → IsUncalled id next (lookup (nat_eq id) after.over.entries) (marks_on id told)
+    uncalled-by id was e there true p = c.uncalled id was p e there
+    uncalled-by id was e there false p =
+        uncalled-same run next id (lookup (nat_eq id) o.over.entries) (lookup (nat_eq id) after.over.entries) (marks_on id marks) (marks_on id told) c.later
+        (c.same_over id p) (c.same_marks id p) (s.uncalled id was e there)

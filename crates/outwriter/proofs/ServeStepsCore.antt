@@ -10,7 +10,7 @@ use Rattle.outwriter.specs.Polling.{SameHands, Holds, HoldsOn, KeepsFronts}
 use Rattle.outwriter.specs.Serving.{Serves, IsOwn, OwnOrRests}
 use Rattle.outwriter.specs.Steps.{Step, Written}
 use Rattle.outwriter.specs.Telling.{block_marks}
-use Rattle.outwriter.proofs.Fronts.{fronts_of}
+use Rattle.outwriter.proofs.Fronts.{fronts_of, others_of}
 use Rattle.outwriter.proofs.ServeStepsOwn.{serves-hands, serves-rests, serves-plain, serves-reset, serves-refusal}
 
 module _ {L In Out Shut : Type 0} where
@@ -61,12 +61,13 @@ module _ {L In Out Shut : Type 0} where
   serving-on got frame old new alive holds run s =
       let h = holds run (s.serves alive) in record {
         fronts = fronts_of (Written frame ∷ run) new.outbound new.streams.entries new.others.entries (calls got new.senders.items) h.0 h.1;
+        others = others_of (Written frame ∷ run) new.outbound new.streams.entries new.others.entries (calls got new.senders.items) h.0 h.1;
         serves = λ e. h;
       }
 
   pub serving-still : (got : Out → List OutItem) (old new : OutCore L In Out Shut) → old.is_dead ≡ false → HoldsOn got None old new → KeepsFronts got old new
       → ServesStill got old new
-  serving-still got old new alive holds fronts run s = record { fronts = fronts run s.fronts; serves = λ e. holds run (s.serves alive) }
+  serving-still got old new alive holds fronts run s = record { fronts = fronts run s.fronts; others = s.others; serves = λ e. holds run (s.serves alive) }
 
   pub serving-dead : (got : Out → List OutItem) (old new : OutCore L In Out Shut) → new.is_dead ≡ true → KeepsFronts got old new → ServesStill got old new
-  serving-dead got old new dead fronts run s = record { fronts = fronts run s.fronts; serves = λ e. absurd (true≢false (sym dead ∙ e)) }
+  serving-dead got old new dead fronts run s = record { fronts = fronts run s.fronts; others = s.others; serves = λ e. absurd (true≢false (sym dead ∙ e)) }

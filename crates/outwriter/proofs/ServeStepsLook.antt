@@ -27,6 +27,7 @@ use Rattle.outwriter.specs.Serving.{bytes_marks, Serves}
 use Rattle.outwriter.specs.Steps.{Step, Written}
 use Rattle.outwriter.specs.Telling.{SpellsOf, TellsMore, TellsBlock, block_marks}
 use Rattle.outwriter.proofs.ServeSteps.{append-nil}
+use Rattle.outwriter.proofs.Others.{later-none, later-written}
 use Rattle.outwriter.proofs.ServeStepsOpen.{Grows, grows-none, grows-one, goes-on, ends}
 use Rattle.outwriter.proofs.ServeStepsOwn.{serves-hands}
 
@@ -168,7 +169,7 @@ data-serves : (run : List Step) (o after : Outbound) (windows : Windows) (stream
     → Serves run o streams others calls marks → Serves (Written frame ∷ run) after left others now (marks ++ on_stream id (map Byte front))
 data-serves run o after windows streams middle left others calls now marks id place was news bytes front rest frame view g bal none cut keeps tells is s =
     let kept = hand-kept id place was rest streams middle left view none keeps in
-    goes-on run (Written frame ∷ run) o after streams left others calls now marks id place was kept.0 (map Byte front) news (λ k. refl) (λ k. refl)
+    goes-on run (Written frame ∷ run) o after streams left others calls now marks id place was kept.0 (map Byte front) news (λ k. refl) (λ k. refl) (later-written run frame)
     (tells run marks s.spells)
     (ap (λ (x : Outbound). x.due.items) (sym is)) (λ k. ap (λ (x : Outbound). knows x.credit k) is) (λ k. ap (λ (x : Outbound). lookup (nat_eq k) x.over.entries) is)
     view kept.1 g
@@ -180,7 +181,7 @@ kept-serves : (run : List Step) (o : Outbound) (streams middle left : List (ℕ 
     → HandIs id None streams middle → HandIs id (Some bytes) middle left
     → Serves run o streams others calls marks → Serves run o left others now (marks ++ on_stream id [])
 kept-serves run o streams middle left others calls now marks id place was news bytes view g bal none keeps s =
-    goes-on run run o o streams left others calls now marks id place was (Some bytes) [] news (λ k. refl) (λ k. refl)
+    goes-on run run o o streams left others calls now marks id place was (Some bytes) [] news (λ k. refl) (λ k. refl) (later-none run)
     (subst (λ (l : List (ℕ × Mark)). SpellsOf run o l) (sym (append-nil marks)) s.spells)
     refl (λ k. refl) (λ k. refl) view (hand-twice id place was (Some bytes) streams middle left view none keeps) g bal s
 
@@ -192,12 +193,12 @@ head-serves : (run : List Step) (o after : Outbound) (streams middle left : List
     → o.due.items ≡ after.due.items → ((k : ℕ) → knows after.credit k ≡ knows o.credit k) → Ends o.over.entries id ends_it after.over.entries
     → Serves run o streams others calls marks → Serves (Written frame ∷ run) after left others now (marks ++ block_marks id fields ends_it)
 head-serves run o after streams middle left others calls now marks id place fields true frame view g none removes spells due known over s =
-    ends run (Written frame ∷ run) o after streams left others calls now marks id place None (Fields fields ∷ End ∷ []) (block_item true fields ∷ []) (λ k. refl) (λ k. refl)
+    ends run (Written frame ∷ run) o after streams left others calls now marks id place None (Fields fields ∷ End ∷ []) (block_item true fields ∷ []) (λ k. refl) (λ k. refl) (later-written run frame)
     spells due known over view
     (λ k. removes k ∙ ap (λ (v : Shown). if k == id then None else v) (hand-then id place None None streams middle view none k)
     ∙ if-twice (k == id) None (Some (place, None)) (shows streams k)) g refl s
 head-serves run o after streams middle left others calls now marks id place fields false frame view g none removes spells due known over s =
-    goes-on run (Written frame ∷ run) o after streams left others calls now marks id place None None (Fields fields ∷ []) (block_item false fields ∷ []) (λ k. refl) (λ k. refl)
+    goes-on run (Written frame ∷ run) o after streams left others calls now marks id place None None (Fields fields ∷ []) (block_item false fields ∷ []) (λ k. refl) (λ k. refl) (later-written run frame)
     spells due known (λ k. ap (λ (l : List (ℕ × Bool)). lookup (nat_eq k) l) over) view
     (λ k. removes k ∙ hand-then id place None None streams middle view none k) g refl s
 

@@ -16,6 +16,7 @@ use Rattle.outwriter.specs.Polling.{Shown, shown, shows, with_item, one_more}
 use Rattle.outwriter.specs.Serving.{bytes_marks, IsExact, IsEnded, Serves}
 use Rattle.outwriter.specs.Steps.{Step}
 use Rattle.outwriter.specs.Telling.{SpellsOf}
+use Rattle.outwriter.proofs.Others.{Later}
 use Rattle.outwriter.proofs.ServeSteps.{append-nil, more-here, more-elsewhere, none-some, some-none, none-shown, shown-some, from_some, serves-changed}
 
 -- ---- calls
@@ -65,17 +66,18 @@ balance told old more rest items news e f =
 
 pub goes-on : (run next : List Step) (o after : Outbound) (streams left : List (ℕ × OpenStream)) (others : List (ℕ × Bool)) (calls now : List (ℕ × List OutItem))
     (marks : List (ℕ × Mark)) (id place : ℕ) (was hand : Option (List ℕ)) (more : List Mark) (news : List OutItem)
-    → ((k : ℕ) → is_fresh k next ≡ is_fresh k run) → ((k : ℕ) → is_served k next ≡ is_served k run)
+    → ((k : ℕ) → is_fresh k next ≡ is_fresh k run) → ((k : ℕ) → is_served k next ≡ is_served k run) → Later run next
     → SpellsOf next after (marks ++ on_stream id more)
     → o.due.items ≡ after.due.items → ((k : ℕ) → knows after.credit k ≡ knows o.credit k)
     → ((k : ℕ) → lookup (nat_eq k) after.over.entries ≡ lookup (nat_eq k) o.over.entries)
     → shows streams id ≡ Some (place, was) → ((k : ℕ) → shows left k ≡ (if k == id then Some (place, hand) else shows streams k))
     → Grows place news calls now → (bytes_marks was ++ spelled news) ≡ more ++ bytes_marks hand
     → Serves run o streams others calls marks → Serves next after left others now (marks ++ on_stream id more)
-goes-on run next o after streams left others calls now marks id place was hand more news fresh served spells due known over view left_shows g bal s =
+goes-on run next o after streams left others calls now marks id place was hand more news fresh served later spells due known over view left_shows g bal s =
     serves-changed run next o after streams left others calls now marks (marks ++ on_stream id more) (λ k. k == id) (record {
       same_fresh = fresh;
       same_served = served;
+      later = later;
       spells = spells;
       fewer_due = ([], due);
       same_knows = known;
@@ -92,6 +94,7 @@ goes-on run next o after streams left others calls now marks id place was hand m
       ended = λ k d lt p none is. absurd (still (get_or calls k d).0 p none);
       unknown = λ k p e none. absurd (true≢false (sym (s.known id f.0 f.1) ∙ subst (λ (n : ℕ). knows o.credit n ≡ false) (eqb-true k id p) e));
       other = λ k w p e is. absurd (none-some f.0 (sym (subst (λ (n : ℕ). lookup (nat_eq n) streams ≡ None) (eqb-true k id p) (s.other k w e).0) ∙ f.1));
+      uncalled = λ k w p e there. absurd (true≢false (sym (s.known id f.0 f.1) ∙ subst (λ (n : ℕ). knows o.credit n ≡ false) (eqb-true k id p) e));
     }) s
   where
     f : (stream : OpenStream) × (lookup (nat_eq id) streams ≡ Some stream) × (stream.place ≡ place) × (stream.in_hand ≡ was)
@@ -135,17 +138,18 @@ goes-on run next o after streams left others calls now marks id place was hand m
 
 pub ends : (run next : List Step) (o after : Outbound) (streams left : List (ℕ × OpenStream)) (others : List (ℕ × Bool)) (calls now : List (ℕ × List OutItem))
     (marks : List (ℕ × Mark)) (id place : ℕ) (was : Option (List ℕ)) (more : List Mark) (news : List OutItem)
-    → ((k : ℕ) → is_fresh k next ≡ is_fresh k run) → ((k : ℕ) → is_served k next ≡ is_served k run)
+    → ((k : ℕ) → is_fresh k next ≡ is_fresh k run) → ((k : ℕ) → is_served k next ≡ is_served k run) → Later run next
     → SpellsOf next after (marks ++ on_stream id more)
     → o.due.items ≡ after.due.items → ((k : ℕ) → knows after.credit k ≡ knows o.credit k)
     → Sets o.over.entries id false after.over.entries
     → shows streams id ≡ Some (place, was) → ((k : ℕ) → shows left k ≡ (if k == id then None else shows streams k))
     → Grows place news calls now → (bytes_marks was ++ spelled news) ≡ more ++ []
     → Serves run o streams others calls marks → Serves next after left others now (marks ++ on_stream id more)
-ends run next o after streams left others calls now marks id place was more news fresh served spells due known sets view left_shows g bal s =
+ends run next o after streams left others calls now marks id place was more news fresh served later spells due known sets view left_shows g bal s =
     serves-changed run next o after streams left others calls now marks (marks ++ on_stream id more) (λ k. k == id) (record {
       same_fresh = fresh;
       same_served = served;
+      later = later;
       spells = spells;
       fewer_due = ([], due);
       same_knows = known;
@@ -161,6 +165,7 @@ ends run next o after streams left others calls now marks id place was more news
       ended = λ k d lt p none is. ended-by k d lt p is (k == place) refl;
       unknown = λ k p e none. absurd (true≢false (sym (s.known id f.0 f.1) ∙ subst (λ (n : ℕ). knows o.credit n ≡ false) (eqb-true k id p) e));
       other = λ k w p e is. absurd (none-some f.0 (sym (subst (λ (n : ℕ). lookup (nat_eq n) streams ≡ None) (eqb-true k id p) (s.other k w e).0) ∙ f.1));
+      uncalled = λ k w p e there. absurd (true≢false (sym (s.known id f.0 f.1) ∙ subst (λ (n : ℕ). knows o.credit n ≡ false) (eqb-true k id p) e));
     }) s
   where
     f : (stream : OpenStream) × (lookup (nat_eq id) streams ≡ Some stream) × (stream.place ≡ place) × (stream.in_hand ≡ was)

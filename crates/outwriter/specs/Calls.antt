@@ -1,8 +1,9 @@
--- The calls that a writer serves: what their senders gave, and what was told of it.
-use Rattle.std.specs.Prelude.{◌≡◌, ℕ, ◌==◌, Bool, true, false, All, List, [], ◌∷◌, if◌then◌else◌}
+-- The calls that a writer serves: what their senders gave, and what was told of it; and what was told of other streams.
+use Rattle.std.specs.Prelude.{◌≡◌, ◌⊎◌, ◌||◌, ℕ, ◌==◌, Bool, true, false, All, List, [], ◌∷◌, if◌then◌else◌}
 use Rattle.callbox.specs.declared.account.OutItem.{OutItem}
+use Rattle.hpack_codec.specs.declared.fields.Field.{Field}
 use Rattle.outwriter.specs.declared.control.Control.TheVariants.{Open, Refuse}
-use Rattle.outwriter.specs.Parts.{Mark, spelled, IsPart, IsFrontOf}
+use Rattle.outwriter.specs.Parts.{Mark, Fields, End, Reset, spelled, IsPart, IsFrontOf}
 use Rattle.outwriter.specs.Steps.{Step, Order, Taken, Granted, Written}
 
 abbrev pub opens_stream : ℕ → Order → Bool
@@ -32,3 +33,32 @@ is_served id (Written frame ∷ before) = is_served id before
 abbrev pub TellFronts : List Step → List (ℕ × List OutItem) → Type 0
 TellFronts run calls =
     All (λ call. is_served call.0 run ≡ true → (part : List Mark) × IsPart call.0 run part × IsFrontOf part (spelled call.1)) calls
+
+-- ---- streams that are no call's
+
+-- an Open of the stream was taken
+abbrev pub is_opened : ℕ → List Step → Bool
+is_opened id [] = false
+is_opened id (Taken order ∷ before) = opens_stream id order || is_opened id before
+is_opened id (Granted stream n ∷ before) = is_opened id before
+is_opened id (Written frame ∷ before) = is_opened id before
+
+abbrev pub Refuses : ℕ → List Field → Order → Type 0
+Refuses id fields (Refuse stream found) = (id ≡ stream) × (fields ≡ found)
+Refuses id fields _ = ⊥
+
+-- a Refuse of the stream with these fields was taken
+abbrev pub IsRefused : ℕ → List Field → List Step → Type 0
+IsRefused id fields [] = ⊥
+IsRefused id fields (Taken order ∷ before) = Refuses id fields order ⊎ IsRefused id fields before
+IsRefused id fields (Granted stream n ∷ before) = IsRefused id fields before
+IsRefused id fields (Written frame ∷ before) = IsRefused id fields before
+
+-- nothing, a reset, or the fields of a Refuse and the end of the stream
+abbrev pub IsOther : ℕ → List Step → List Mark → Type 0
+IsOther id run part = (part ≡ [])
+    ⊎ (((code : ℕ) × (part ≡ Reset code ∷ [])) ⊎ ((fields : List Field) × IsRefused id fields run × (part ≡ Fields fields ∷ End ∷ [])))
+
+-- so it is with what the frames tell of each stream that no Open opened
+abbrev pub TellOthers : List Step → Type 0
+TellOthers run = (id : ℕ) → is_opened id run ≡ false → (part : List Mark) × IsPart id run part × IsOther id run part

@@ -13,7 +13,7 @@ use Rattle.outwriter.specs.declared.next.Next.TheVariants as next
 use Rattle.outwriter.specs.declared.out_core.OutCore.{OutCore}
 use Rattle.outwriter.specs.declared.outbound.Outbound.{Outbound}
 use Rattle.outwriter.specs.declared.stream.OpenStream.{OpenStream}
-use Rattle.outwriter.specs.Calls.{TellFronts}
+use Rattle.outwriter.specs.Calls.{TellFronts, TellOthers}
 use Rattle.outwriter.specs.Parts.{Mark}
 use Rattle.outwriter.specs.Serving.{Serves}
 use Rattle.outwriter.specs.Steps.{Step, Taken, Written, order_of}
@@ -33,10 +33,11 @@ module _ {L In Out Shut : Type 0} where
   abbrev pub calls : (Out → List OutItem) → List (ℕ × Sender L In Out Shut) → List (ℕ × List OutItem)
   calls got senders = map (λ call. (call.0, got call.1.rx)) senders
 
-  -- What was told of each call is a front of what its sender gave; and as long as the core lives, all that it keeps of the calls
+  -- What was told of each call is a front of what its sender gave, and of other streams what is to be told of them; and as long as the core lives, all that it keeps of the calls
   -- follows from the run.
   pub record Serving (got : Out → List OutItem) (run : List Step) (core : OutCore L In Out Shut) : Type 0 where
     pub fronts : TellFronts run (calls got core.senders.items)
+    pub others : TellOthers run
     pub serves : core.is_dead ≡ false
         → (marks : List (ℕ × Mark)) × Serves run core.outbound core.streams.entries core.others.entries (calls got core.senders.items) marks
 

@@ -10,7 +10,7 @@ use Rattle.outwriter.specs.declared.due.Due.{Due}
 use Rattle.outwriter.specs.declared.due.Due.TheVariants as due_kind
 use Rattle.outwriter.specs.declared.outbound.Outbound.{Outbound}
 use Rattle.outwriter.specs.declared.stream.OpenStream.{OpenStream}
-use Rattle.outwriter.specs.Calls.{is_fresh, is_served}
+use Rattle.outwriter.specs.Calls.{is_fresh, is_served, is_opened, IsRefused, IsOther}
 use Rattle.outwriter.specs.Credits.{knows}
 use Rattle.outwriter.specs.Histories.{is_stream}
 use Rattle.outwriter.specs.Mirrors.{Sets}
@@ -34,10 +34,14 @@ IsExact id stream calls told = (stream.place < length calls)
 abbrev pub IsEnded : Option Bool → List Mark → List OutItem → Type 0
 IsEnded over told items = IsFrontOf told (spelled items) × (over ≢ Some true → Begins told (spelled items))
 
+-- nothing was told of a stream that is no call's before it was over; and no more than a reset, or a refusal that was asked for
+abbrev pub IsUncalled : ℕ → List Step → Option Bool → List Mark → Type 0
+IsUncalled id run over told = (over ≡ None → told ≡ []) × IsOther id run told
+
 -- what is due of a stream that was refused or reset
 abbrev pub MayBeDue : List Step → Outbound → List (ℕ × OpenStream) → List (ℕ × Bool) → Due → Type 0
 MayBeDue run o streams others (due_kind.Refuse id fields) =
-    (is_fresh id run ≡ false) × (is_served id run ≡ false) × (is_some (lookup (nat_eq id) others) ≡ true)
+    (is_fresh id run ≡ false) × (is_served id run ≡ false) × (is_some (lookup (nat_eq id) others) ≡ true) × IsRefused id fields run
 MayBeDue run o streams others (due_kind.Reset id code) =
     (lookup (nat_eq id) streams ≡ None) × ((is_some (lookup (nat_eq id) others) || knows o.credit id) ≡ true)
 MayBeDue run o streams others _ = Unit {0}
@@ -68,6 +72,10 @@ pub record Serves (run : List Step) (o : Outbound) (streams : List (ℕ × OpenS
   -- of one that was reset before it was a call's, at most that
   pub other : (id : ℕ) (was_reset : Bool) → lookup (nat_eq id) others ≡ Some was_reset → (lookup (nat_eq id) streams ≡ None)
       × (is_fresh id run ≡ true → IsEnded (lookup (nat_eq id) o.over.entries) (marks_on id marks) [])
+  -- a call's stream was opened
+  pub brought : (id : ℕ) → knows o.credit id ≡ true → is_opened id run ≡ true
+  pub uncalled : (id : ℕ) (was_reset : Bool) → knows o.credit id ≡ false → lookup (nat_eq id) others ≡ Some was_reset
+      → IsUncalled id run (lookup (nat_eq id) o.over.entries) (marks_on id marks)
 
 -- ---- what an Outbound's calls change of it
 

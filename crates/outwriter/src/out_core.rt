@@ -8,7 +8,7 @@ ghost use Rattle.outwriter.specs.declared.control.OutFault.TheVariants as out_fa
 ghost use Rattle.outwriter.specs.Mirrors.{Reached, GoesOn, Takes, Leads, Stays, Blames, HasRoom, IsMemory, is_held};
 ghost use Rattle.std.specs.Map.{lookup};
 ghost use Rattle.flow.specs.Windows.{room};
-ghost use Rattle.outwriter.specs.Calls.{TellFronts};
+ghost use Rattle.outwriter.specs.Calls.{TellFronts, TellOthers};
 ghost use Rattle.outwriter.specs.Credits.{Grants};
 ghost use Rattle.outwriter.specs.Keeping.{KeepsServing, Prepares, MayReset};
 ghost use Rattle.outwriter.specs.Serving.{none_is_new};
@@ -151,6 +151,9 @@ impl<L: Lane<Item = OutItem>> OutCore<L> {
 
         // What was told of each call begins what the items that were got of its sender spell.
         ensures fronts { (run : List Step) → Serving L.got run self → TellFronts run (calls L.got result.items) }
+
+        // Of a stream that was never opened nothing was told, a reset, or what a Refuse asked for.
+        ensures others { (run : List Step) → Serving L.got run self → TellOthers run }
     {
         let OutCore { senders, .. } = self;
         senders
