@@ -1,5 +1,5 @@
 -- What a writer keeps of its calls, after a control that it takes.
-use Rattle.std.proofs.Common.{◌≡◌, ℕ, ◌<◌, ◌==◌, inl, refl, sym, ap, subst, ◌∙◌, Bool, true, false, List, [], Option, Some, None, length, get_or, arith, nat_eq, true≢false}
+use Rattle.std.proofs.Common.{◌≡◌, ℕ, ◌<◌, ◌==◌, ◌⊎◌, inl, inr, refl, sym, ap, subst, ◌∙◌, Bool, true, false, List, [], Option, Some, None, length, get_or, arith, nat_eq, true≢false}
 use Rattle.std.specs.Prelude.{All, ◌||◌, is_some, if◌then◌else◌}
 use Rattle.std.specs.Map.{lookup}
 use Rattle.std.proofs.lemmas.Bool.{eqb-true, eq-eqb, ne_eqb}
@@ -9,8 +9,9 @@ use Rattle.outwriter.specs.declared.due.Due.{Due}
 use Rattle.outwriter.specs.declared.due.Due.TheVariants as due_kind
 use Rattle.outwriter.specs.declared.outbound.Outbound.{Outbound}
 use Rattle.outwriter.specs.declared.stream.OpenStream.{OpenStream}
-use Rattle.outwriter.specs.Calls.{is_fresh, is_served}
+use Rattle.outwriter.specs.Calls.{is_fresh, is_served, was_reset}
 use Rattle.outwriter.specs.Credits.{Owed, knows, nothing_owed}
+use Rattle.outwriter.specs.Histories.{is_stream}
 use Rattle.outwriter.specs.Keeping.{Closes}
 use Rattle.outwriter.specs.Mirrors.{Sets}
 use Rattle.outwriter.specs.Parts.{Mark, marks_on}
@@ -18,7 +19,7 @@ use Rattle.outwriter.specs.Serving.{Serves, Takes, MayBeDue, IsEnded, IsUncalled
 use Rattle.outwriter.specs.Steps.{Step}
 use Rattle.outwriter.specs.Telling.{SpellsOf}
 use Rattle.outwriter.proofs.Fronts.{open-begins}
-use Rattle.outwriter.proofs.Others.{Later, later-none, uncalled-same}
+use Rattle.outwriter.proofs.Others.{Later, later-none, ended-later, uncalled-same}
 use Rattle.outwriter.proofs.TellSteps.{takes-tells}
 
 -- ---- tests
@@ -101,6 +102,9 @@ serves-same run after o new streams others calls marks more takes spells fresh s
       unknown = λ id e f. let u = s.unknown id (sym (knowing id) ∙ e) f in (u.0, over id ∙ u.1);
       other = λ id was_reset e. let h = s.other id was_reset e in
           (h.0, λ f. subst (λ (b : Option Bool). IsEnded b (marks_on id marks) []) (sym (over id)) (h.1 (was-true (is_fresh id run) (is_fresh id after) (fresh id) f)));
+      stays = λ id is there none. ended-later (lookup (nat_eq id) o.over.entries) (lookup (nat_eq id) new.over.entries) (was_reset id run) (was_reset id after) (over id) (later.reset id)
+          (s.stays id (sym (served id) ∙ is) there none);
+      early = λ id before e f. later.reset id (s.early id before e (was-true (is_fresh id run) (is_fresh id after) (fresh id) f));
       brought = λ id e. later.opened id (s.brought id (sym (knowing id) ∙ e));
       uncalled = λ id was_reset e there.
           uncalled-same run after id (lookup (nat_eq id) o.over.entries) (lookup (nat_eq id) new.over.entries) (marks_on id marks) (marks_on id marks) later (over id) refl
@@ -132,6 +136,8 @@ serves-nothing o streams others calls spells due credit over no_streams no_other
       due = subst (All (MayBeDue [] o streams others)) (sym due) (All-nil (MayBeDue [] o streams others));
       unknown = λ id e f. (refl, ap (λ (l : List (ℕ × Bool)). lookup (nat_eq id) l) over);
       other = λ id was_reset e. absurd (not-some (lookup (nat_eq id) others) was_reset (ap (λ (l : List (ℕ × Bool)). lookup (nat_eq id) l) no_others) e);
+      stays = λ id is there none. absurd (true≢false (sym is));
+      early = λ id before e f. absurd (not-some (lookup (nat_eq id) others) before (ap (λ (l : List (ℕ × Bool)). lookup (nat_eq id) l) no_others) e);
       brought = λ id e. absurd (unknown id e);
       uncalled = λ id was_reset e there. absurd (not-some (lookup (nat_eq id) others) was_reset (ap (λ (l : List (ℕ × Bool)). lookup (nat_eq id) l) no_others) there);
     }
@@ -140,9 +146,9 @@ serves-nothing o streams others calls spells due credit over no_streams no_other
 
 -- it is among the others then: nothing was told of it but perhaps a reset
 pub serves-other : (run : List Step) (o : Outbound) (streams : List (ℕ × OpenStream)) (others more : List (ℕ × Bool)) (calls : List (ℕ × List OutItem))
-    (marks : List (ℕ × Mark)) (id : ℕ) (value : Bool) → knows o.credit id ≡ false → Sets others id value more
+    (marks : List (ℕ × Mark)) (id : ℕ) (value : Bool) → knows o.credit id ≡ false → Sets others id value more → (is_fresh id run ≡ true → was_reset id run ≡ true)
     → Serves run o streams others calls marks → Serves run o streams more calls marks
-serves-other run o streams others more calls marks id value isnt sets s = record {
+serves-other run o streams others more calls marks id value isnt sets reset s = record {
   spells = s.spells;
   exact = s.exact;
   not_over = s.not_over;
@@ -160,6 +166,8 @@ serves-other run o streams others more calls marks id value isnt sets s = record
   }) o.due.items s.due;
   unknown = λ k e f. s.unknown k e (was-none k f);
   other = other;
+  stays = s.stays;
+  early = early;
   brought = s.brought;
   uncalled = uncalled;
 }
@@ -199,6 +207,13 @@ serves-other run o streams others more calls marks id value isnt sets s = record
             (sym (eqb-true k id p)) (closed, ended-here (lookup (nat_eq id) others) refl)
         by false p = s.other k was_reset (sym (sets k ∙ ap (λ b. if b then Some value else lookup (nat_eq k) others) p) ∙ e)
 
+    early : (k : ℕ) (before : Bool) → lookup (nat_eq k) more ≡ Some before → is_fresh k run ≡ true → was_reset k run ≡ true
+    early k before e = by (k == id) refl
+      where
+        by : (b : Bool) → (k == id) ≡ b → is_fresh k run ≡ true → was_reset k run ≡ true
+        by true p = subst (λ (n : ℕ). is_fresh n run ≡ true → was_reset n run ≡ true) (sym (eqb-true k id p)) reset
+        by false p = s.early k before (sym (sets k ∙ ap (λ b. if b then Some value else lookup (nat_eq k) others) p) ∙ e)
+
     uncalled : (k : ℕ) (was_reset : Bool) → knows o.credit k ≡ false → lookup (nat_eq k) more ≡ Some was_reset
         → IsUncalled k run (lookup (nat_eq k) o.over.entries) (marks_on k marks)
     uncalled k was_reset e there = by (lookup (nat_eq k) others) refl
@@ -211,9 +226,9 @@ serves-other run o streams others more calls marks id value isnt sets s = record
 
 -- what was told of it begins what its items spell
 pub serves-closed : (run : List Step) (o : Outbound) (streams left : List (ℕ × OpenStream)) (others : List (ℕ × Bool)) (calls : List (ℕ × List OutItem))
-    (marks : List (ℕ × Mark)) (id : ℕ) → Closes id streams left
+    (marks : List (ℕ × Mark)) (id : ℕ) → Closes id streams left → was_reset id run ≡ true
     → Serves run o streams others calls marks → Serves run o left others calls marks
-serves-closed run o streams left others calls marks id closes s = record {
+serves-closed run o streams left others calls marks id closes reset s = record {
   spells = s.spells;
   exact = λ k stream e. s.exact k stream (was-open k stream e);
   not_over = λ k stream e. s.not_over k stream (was-open k stream e);
@@ -231,6 +246,8 @@ serves-closed run o streams left others calls marks id closes s = record {
   }) o.due.items s.due;
   unknown = s.unknown;
   other = λ k was_reset e. let h = s.other k was_reset e in (still-none k h.0, h.1);
+  stays = λ k is there none. stays k is there none (lookup (nat_eq k) streams) refl;
+  early = s.early;
   brought = s.brought;
   uncalled = s.uncalled;
 }
@@ -248,6 +265,15 @@ serves-closed run o streams left others calls marks id closes s = record {
         by : (b : Bool) → (k == id) ≡ b → lookup (nat_eq k) left ≡ None
         by true p = closes k ∙ ap (λ b. if b then None else lookup (nat_eq k) streams) p
         by false p = closes k ∙ ap (λ b. if b then None else lookup (nat_eq k) streams) p ∙ e
+
+    stays : (k : ℕ) → is_served k run ≡ true → is_stream k ≡ true → lookup (nat_eq k) left ≡ None → (found : Option OpenStream) → lookup (nat_eq k) streams ≡ found
+        → (is_some (lookup (nat_eq k) o.over.entries) ≡ true) ⊎ (was_reset k run ≡ true)
+    stays k is there none None p = s.stays k is there p
+    stays k is there none (Some stream) p = inr (by (k == id) refl)
+      where
+        by : (b : Bool) → (k == id) ≡ b → was_reset k run ≡ true
+        by true q = subst (λ (n : ℕ). was_reset n run ≡ true) (sym (eqb-true k id q)) reset
+        by false q = absurd (not-some (lookup (nat_eq k) streams) stream (sym (closes k ∙ ap (λ b. if b then None else lookup (nat_eq k) streams) q) ∙ none) p)
 
     ended : (k : ℕ) (d : ℕ × List OutItem) → k < length calls → is_served (get_or calls k d).0 run ≡ true
         → (found : Option OpenStream) → lookup (nat_eq (get_or calls k d).0) streams ≡ found
@@ -279,6 +305,13 @@ pub serves-kept : (run : List Step) (o new : Outbound) (streams : List (ℕ × O
 serves-kept run o new streams others calls marks takes s =
     serves-same run run o new streams others calls marks [] takes (takes-tells [] none_is_new o new takes run marks s.spells) (λ id e. e) (λ id. refl) (later-none run)
     (All-nil (MayBeDue run new streams others)) s
+
+-- more is due
+pub serves-owing : (run : List Step) (o new : Outbound) (streams : List (ℕ × OpenStream)) (others : List (ℕ × Bool)) (calls : List (ℕ × List OutItem))
+    (marks : List (ℕ × Mark)) (more : List Due) → Takes more none_is_new o new → All (MayBeDue run new streams others) more
+    → Serves run o streams others calls marks → Serves run new streams others calls marks
+serves-owing run o new streams others calls marks more takes due s =
+    serves-same run run o new streams others calls marks more takes (takes-tells more none_is_new o new takes run marks s.spells) (λ id e. e) (λ id. refl) (later-none run) due s
 
 -- the same streams
 pub serves-equal : (run : List Step) (o : Outbound) (streams left : List (ℕ × OpenStream)) (others more : List (ℕ × Bool)) (calls now : List (ℕ × List OutItem))

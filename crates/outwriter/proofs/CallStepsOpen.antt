@@ -9,7 +9,7 @@ use Rattle.callbox.specs.declared.account.OutItem.{OutItem}
 use Rattle.outwriter.specs.declared.control.Control.TheVariants as order
 use Rattle.outwriter.specs.declared.outbound.Outbound.{Outbound}
 use Rattle.outwriter.specs.declared.stream.OpenStream.{OpenStream}
-use Rattle.outwriter.specs.Calls.{is_fresh, is_served, is_opened}
+use Rattle.outwriter.specs.Calls.{is_fresh, is_served, is_opened, was_reset}
 use Rattle.outwriter.specs.Credits.{knows}
 use Rattle.outwriter.specs.Histories.{is_stream}
 use Rattle.outwriter.specs.Keeping.{Prepares, is_new_call, becomes_open, stream_at}
@@ -17,7 +17,7 @@ use Rattle.outwriter.specs.Parts.{Mark, marks_on, spelled}
 use Rattle.outwriter.specs.Serving.{Serves, MayBeDue, IsEnded, IsExact}
 use Rattle.outwriter.specs.Steps.{Step, Taken}
 use Rattle.outwriter.proofs.CallSteps.{all-due, none-ended, not-some, over-same, was-true, either}
-use Rattle.outwriter.proofs.Others.{later-taken, uncalled-same}
+use Rattle.outwriter.proofs.Others.{later-taken, ended-later, uncalled-same}
 use Rattle.outwriter.proofs.TellSteps.{taken-tells}
 
 -- ---- lists
@@ -269,6 +269,31 @@ module _ (run : List Step) (o new : Outbound) (streams left : List (ℕ × OpenS
           ap (λ n. knows new.credit n) same ∙ knows-here (ap is_stream (sym same) ∙ there)
       by false q = knows-more k (s.served k (sym (served-else run id k q) ∙ is) there)
 
+  -- a new call's stream is open, unless it was reset before
+  opens-unless : is_fresh id run ≡ true → is_stream id ≡ true → lookup (nat_eq id) left ≡ None → (found : Option Bool) → lookup (nat_eq id) others ≡ found → was_reset id run ≡ true
+  opens-unless fresh there none (Some before) e = s.early id before e fresh
+  opens-unless fresh there none None e =
+      let new_one : becomes_open o others id ≡ true =
+      ap (λ b. (is_stream id && not (knows o.credit id)) && b) (ap is_none e) ∙ ap (λ b. (b && not (knows o.credit id)) && true) there ∙ ap (λ b. (true && not b) && true) (unheard (knows o.credit id) refl) in
+      absurd (not-some (lookup (nat_eq id) left) (stream_at (length calls)) none
+      (p.opens id ∙ ap (λ b. if b && (id == id) then Some (stream_at (length calls)) else lookup (nat_eq id) streams) new_one
+      ∙ ap (λ b. if b then Some (stream_at (length calls)) else lookup (nat_eq id) streams) (eq-eqb id id refl)))
+    where
+      unheard : (b : Bool) → knows o.credit id ≡ b → b ≡ false
+      unheard true e = absurd (true≢false (sym fresh ∙ s.credited id e))
+      unheard false e = refl
+
+  stays : (k : ℕ) → is_served k after ≡ true → is_stream k ≡ true → lookup (nat_eq k) left ≡ None → (b : Bool) → (k == id) ≡ b
+      → (is_some (lookup (nat_eq k) new.over.entries) ≡ true) ⊎ (was_reset k after ≡ true)
+  stays k is there none true q =
+      let same : k ≡ id = eqb-true k id q in
+      let fresh : is_fresh id run ≡ true = ap (λ n. is_fresh n run) (sym same) ∙ sym (served-here run id k q) ∙ is in
+      inr (subst (λ n. was_reset n after ≡ true) (sym same) ((later-taken run (order.Open id tt)).reset id
+      (opens-unless fresh (ap is_stream (sym same) ∙ there) (subst (λ n. lookup (nat_eq n) left ≡ None) same none) (lookup (nat_eq id) others) refl)))
+  stays k is there none false q =
+      ended-later (lookup (nat_eq k) o.over.entries) (lookup (nat_eq k) new.over.entries) (was_reset k run) (was_reset k after) (over k) ((later-taken run (order.Open id tt)).reset k)
+      (s.stays k (sym (served-else run id k q) ∙ is) there (less-none k none))
+
   pub serves-opened : Serves (Taken (order.Open id tt) ∷ run) new left others (calls ++ (id, []) ∷ []) marks
   serves-opened = record {
     spells = taken-tells [] (λ other. is_new_call o id && (other == id)) o new (order.Open id tt) p.takes run marks s.spells;
@@ -291,6 +316,8 @@ module _ (run : List Step) (o new : Outbound) (streams left : List (ℕ × OpenS
       still-none k h.0 (ap (λ (l : Option Bool). is_some l || knows o.credit k) e),
       λ f. subst (λ (b : Option Bool). IsEnded b (marks_on k marks) []) (sym (over k)) (h.1 (was-true (is_fresh k run) (is_fresh k after) (fresh-less run id k) f)),
     );
+    stays = λ k is there none. stays k is there none (k == id) refl;
+    early = λ k before e f. (later-taken run (order.Open id tt)).reset k (s.early k before e (was-true (is_fresh k run) (is_fresh k after) (fresh-less run id k) f));
     brought = λ k e. opened-at k (known-by k e);
     uncalled = λ k was_reset e there.
         uncalled-same run after k (lookup (nat_eq k) o.over.entries) (lookup (nat_eq k) new.over.entries) (marks_on k marks) (marks_on k marks) (later-taken run (order.Open id tt)) (over k) refl

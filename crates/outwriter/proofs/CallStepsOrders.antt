@@ -12,14 +12,14 @@ use Rattle.outwriter.specs.declared.due.Due.{Due}
 use Rattle.outwriter.specs.declared.due.Due.TheVariants as due_kind
 use Rattle.outwriter.specs.declared.outbound.Outbound.{Outbound}
 use Rattle.outwriter.specs.declared.stream.OpenStream.{OpenStream}
-use Rattle.outwriter.specs.Calls.{is_fresh, is_served}
+use Rattle.outwriter.specs.Calls.{is_fresh, is_served, was_reset}
 use Rattle.outwriter.specs.Credits.{knows}
 use Rattle.outwriter.specs.Histories.{is_stream}
 use Rattle.outwriter.specs.Mirrors.{Sets}
 use Rattle.outwriter.specs.Parts.{Mark}
 use Rattle.outwriter.specs.Serving.{Serves, Takes, MayBeDue, none_is_new}
 use Rattle.outwriter.specs.Steps.{Step, Order, Taken}
-use Rattle.outwriter.proofs.CallSteps.{serves-other, serves-same}
+use Rattle.outwriter.proofs.CallSteps.{serves-other, serves-owing, serves-same}
 use Rattle.outwriter.proofs.Others.{later-taken}
 use Rattle.outwriter.proofs.TellSteps.{taken-tells}
 
@@ -43,19 +43,30 @@ module _ (run : List Step) (o new : Outbound) (streams : List (ℕ × OpenStream
       serves-same run (Taken taken ∷ run) o new streams others calls marks more takes (taken-tells more none_is_new o new taken takes run marks s.spells)
       (λ id e. fresh id ∙ e) served (later-taken run taken) due s
 
-  pub serves-reset : (id : ℕ) (code : ErrorCode) (written is_due : Bool)
+  -- a Reset is due, of a stream that isn't open any more
+  pub serves-reset : (id : ℕ) (code : ErrorCode) (is_due : Bool)
       → (is_due ≡ true → (lookup (nat_eq id) streams ≡ None) × ((is_some (lookup (nat_eq id) others) || knows o.credit id) ≡ true))
       → Takes (if is_due then due_kind.Reset id code ∷ [] else []) none_is_new o new
-      → Serves run o streams others calls marks → Serves (Taken (order.Reset id code written) ∷ run) new streams others calls marks
-  serves-reset id code written is_due may takes s =
-      serves-ordered (order.Reset id code written) (if is_due then due_kind.Reset id code ∷ [] else []) (λ k. refl) (λ k. refl) (due is_due refl) takes s
+      → Serves run o streams others calls marks → Serves run new streams others calls marks
+  serves-reset id code is_due may takes s =
+      serves-owing run o new streams others calls marks (if is_due then due_kind.Reset id code ∷ [] else []) takes (due is_due refl) s
     where
-      due : (b : Bool) → is_due ≡ b → All (MayBeDue (Taken (order.Reset id code written) ∷ run) new streams others) (if b then due_kind.Reset id code ∷ [] else [])
+      due : (b : Bool) → is_due ≡ b → All (MayBeDue run new streams others) (if b then due_kind.Reset id code ∷ [] else [])
       due true e =
           let m = may e in
-          All-cons (MayBeDue (Taken (order.Reset id code written) ∷ run) new streams others) (due_kind.Reset id code) []
-          (m.0, ap (λ b. is_some (lookup (nat_eq id) others) || b) (takes.knows id) ∙ m.1) (All-nil (MayBeDue (Taken (order.Reset id code written) ∷ run) new streams others))
-      due false e = All-nil (MayBeDue (Taken (order.Reset id code written) ∷ run) new streams others)
+          All-cons (MayBeDue run new streams others) (due_kind.Reset id code) []
+          (m.0, ap (λ b. is_some (lookup (nat_eq id) others) || b) (takes.knows id) ∙ m.1) (All-nil (MayBeDue run new streams others))
+      due false e = All-nil (MayBeDue run new streams others)
+
+  -- a Reset is taken, before what it changes of the streams
+  pub serves-told : (id : ℕ) (code : ErrorCode) (written : Bool) → Takes [] none_is_new o new
+      → Serves run o streams others calls marks → Serves (Taken (order.Reset id code written) ∷ run) new streams others calls marks
+  serves-told id code written takes s =
+      serves-ordered (order.Reset id code written) [] (λ k. refl) (λ k. refl) (All-nil (MayBeDue (Taken (order.Reset id code written) ∷ run) new streams others)) takes s
+
+-- that Reset was taken
+pub reset-here : (run : List Step) (id : ℕ) (code : ErrorCode) (written : Bool) → was_reset id (Taken (order.Reset id code written) ∷ run) ≡ true
+reset-here run id code written = ap (λ b. b || was_reset id run) (eq-eqb id id refl)
 
 -- ---- a Refuse
 
@@ -79,16 +90,17 @@ module _ (run : List Step) (o : Outbound) (streams : List (ℕ × OpenStream)) (
       → Takes (due_kind.Refuse id fields ∷ []) none_is_new o new
       → Serves run o streams others calls marks → Serves (Taken (order.Refuse id fields) ∷ run) new streams more calls marks
   serves-refused new more there isnt sets takes s =
-      serves-same run (Taken (order.Refuse id fields) ∷ run) o new streams more calls marks (due_kind.Refuse id fields ∷ []) takes
-      (taken-tells (due_kind.Refuse id fields ∷ []) none_is_new o new (order.Refuse id fields) takes run marks s.spells) (fresh-less run id fields) (λ k. refl) (later-taken run (order.Refuse id fields))
-      (All-cons (MayBeDue (Taken (order.Refuse id fields) ∷ run) new streams more) (due_kind.Refuse id fields) [] (
-        ap (λ b. if b then false else is_fresh id run) (eq-eqb id id refl),
+      let after : List Step = Taken (order.Refuse id fields) ∷ run in
+      let stale : is_fresh id after ≡ false = ap (λ b. if b then false else is_fresh id run) (eq-eqb id id refl) in
+      serves-owing after o new streams more calls marks (due_kind.Refuse id fields ∷ []) takes
+      (All-cons (MayBeDue after new streams more) (due_kind.Refuse id fields) [] (
+        stale,
         unserved (is_served id run) refl,
         ap is_some (sets id ∙ ap (λ b. if b then Some false else lookup (nat_eq id) others) (eq-eqb id id refl)),
         inl (refl, refl),
       )
-      (All-nil (MayBeDue (Taken (order.Refuse id fields) ∷ run) new streams more)))
-      (serves-other run o streams others more calls marks id false isnt sets s)
+      (All-nil (MayBeDue after new streams more)))
+      (serves-other after o streams others more calls marks id false isnt sets (λ fresh. absurd (true≢false (sym fresh ∙ stale))) (serves-unrefused s))
     where
       unserved : (b : Bool) → is_served id run ≡ b → b ≡ false
       unserved true e = absurd (true≢false (sym (s.served id e there) ∙ isnt))

@@ -1,14 +1,21 @@
 -- When nothing can be written on any open stream.
-use Rattle.std.proofs.Common.{◌≡◌, inr, Result, Ok, Err, ℕ, zero, suc, ◌+◌, ◌<◌, ◌≤◌, refl, sym, ap, subst, ◌∙◌, Bool, true, false, List, [], ◌∷◌, Option, Some, None, length, get_or, arith, nat_eq, true≢false}
-use Rattle.std.specs.Prelude.{IfNone, IfOk, if◌then◌else◌, slice_get}
+use Rattle.std.proofs.Common.{◌≡◌, ◌⊎◌, inl, inr, Result, Ok, Err, ℕ, zero, suc, ◌+◌, ◌<◌, ◌≤◌, refl, sym, ap, subst, ◌∙◌, Bool, true, false, List, [], ◌∷◌, Option, Some, None, length, get_or, arith, nat_eq, true≢false}
+use Rattle.std.specs.Prelude.{All, is_some, IfNone, IfOk, if◌then◌else◌, slice_get}
 use Rattle.std.specs.Map.{lookup}
 use Rattle.std.proofs.lemmas.Bool.{eqb-true, eq-eqb}
+use Rattle.std.proofs.lemmas.List.{get_or-map, length-map}
 use Rattle.callbox.specs.declared.account.OutItem.{OutItem}
+use Rattle.callbox.specs.declared.sender.Sender.{Sender}
+use Rattle.flow.specs.Windows.{room}
 use Rattle.outwriter.specs.declared.out_core.OutCore.{OutCore}
 use Rattle.outwriter.specs.declared.stream.OpenStream.{OpenStream}
 use Rattle.h2frame.specs.declared.frame.Frame.{Frame}
-use Rattle.outwriter.specs.Cores.{AreStuck}
-use Rattle.outwriter.specs.Mirrors.{IsBetween, Progress, SameOwn, Stays}
+use Rattle.outwriter.specs.Cores.{calls, AreStuck, IsStuck, IsQuiet, HasNoFrame, Ended, WasReset, Stuck, HaveNoFrame}
+use Rattle.outwriter.specs.Calls.{is_served, was_reset}
+use Rattle.outwriter.specs.Histories.{is_stream}
+use Rattle.outwriter.specs.Parts.{Mark}
+use Rattle.outwriter.specs.Serving.{Serves}
+use Rattle.outwriter.specs.Mirrors.{HasOver, IsBetween, Progress, SameOwn, Stays}
 use Rattle.outwriter.specs.Polling.{AllStuck, GetsQuiet, GetsStuck, Holds, HoldsOn, KeepsFronts, StuckAt, aheads, ids}
 use Rattle.outwriter.specs.Steps.{Step}
 
@@ -119,3 +126,51 @@ module _ {L In Out Shut : Type 0} (got ahead : Out → List OutItem) {E : Type 0
 -- a frame that isn't there
 pub holds-none : {L In Out Shut : Type 0} (got : Out → List OutItem) (old new : OutCore L In Out Shut) (o : Option Frame) → o ≡ None → HoldsOn got o old new → HoldsOn got None old new
 holds-none got old new o e = subst (λ (x : Option Frame). HoldsOn got x old new) e
+
+-- ---- each call
+
+module _ {L In Out Shut : Type 0} (got ahead : Out → List OutItem) (run : List Step) (core : OutCore L In Out Shut) (marks : List (ℕ × Mark))
+    (s : Serves run core.outbound core.streams.entries core.others.entries (calls got core.senders.items) marks) (over : HasOver run core.outbound.over.entries)
+    (stuck : AreStuck core.outbound core.streams.entries (aheads ahead core.senders.items)) where
+  -- the call of an open stream stands at the stream's place
+  place-of : (k : ℕ) (d : ℕ × List OutItem) (stream : OpenStream) → k < length (calls got core.senders.items)
+      → lookup (nat_eq (get_or (calls got core.senders.items) k d).0) core.streams.entries ≡ Some stream
+      → is_served (get_or (calls got core.senders.items) k d).0 run ≡ true → stream.place ≡ k
+  place-of k d stream within found served = by (nat_eq stream.place k) refl
+    where
+      by : (b : Bool) → nat_eq stream.place k ≡ b → stream.place ≡ k
+      by true e = eqb-true stream.place k e
+      by false e =
+          let there = s.exact (get_or (calls got core.senders.items) k d).0 stream found in
+          let not : is_served (get_or (calls got core.senders.items) stream.place d).0 run ≡ false =
+          s.apart stream.place k d there.0 within (λ same. true≢false (sym (eq-eqb stream.place k same) ∙ e)) (there.1 d).0 in
+          absurd (true≢false (sym (ap (λ n. is_served n run) (there.1 d).0 ∙ served) ∙ not))
+
+  no-frame-at : (k : ℕ) (d : ℕ × Sender L In Out Shut) → k < length core.senders.items → (id : ℕ) → (get_or core.senders.items k d).0 ≡ id
+      → is_served id run ≡ true → is_stream id ≡ true → (found : Option OpenStream) → lookup (nat_eq id) core.streams.entries ≡ found
+      → HasNoFrame run core id (ahead (get_or core.senders.items k d).1.rx)
+  no-frame-at k d within id is served there None e = by (s.stays id served there e)
+    where
+      by : (is_some (lookup (nat_eq id) core.outbound.over.entries) ≡ true) ⊎ (was_reset id run ≡ true) → HasNoFrame run core id (ahead (get_or core.senders.items k d).1.rx)
+      by (inl ended) = Ended (sym (over id).0 ∙ ended)
+      by (inr reset) = WasReset reset
+  no-frame-at k d within id is served there (Some stream) e =
+      let call : ℕ × Sender L In Out Shut → ℕ × List OutItem = λ c. (c.0, got c.1.rx) in
+      let at : get_or (calls got core.senders.items) k (0, []) ≡ ((get_or core.senders.items k d).0, got (get_or core.senders.items k d).1.rx) =
+      get_or-map call core.senders.items k d (0, []) within in
+      let number : (get_or (calls got core.senders.items) k (0, [])).0 ≡ id = ap (λ (c : ℕ × List OutItem). c.0) at ∙ is in
+      let place : stream.place ≡ k =
+      place-of k (0, []) stream (omega (arith, within, length-map core.senders.items call))
+      (ap (λ n. lookup (nat_eq n) core.streams.entries) number ∙ e) (ap (λ n. is_served n run) number ∙ served) in
+      let hand : get_or (aheads ahead core.senders.items) stream.place [] ≡ ahead (get_or core.senders.items k d).1.rx =
+      ap (λ n. get_or (aheads ahead core.senders.items) n []) place ∙ get_or-map (λ (c : ℕ × Sender L In Out Shut). ahead c.1.rx) core.senders.items k d [] within in
+      Stuck stream e (subst (IsStuck (room core.outbound.windows id) stream.in_hand) hand (stuck id stream e))
+
+  pub all-no-frame : All (λ call. is_served call.0 run ≡ true → is_stream call.0 ≡ true → HasNoFrame run core call.0 (ahead call.1.rx)) core.senders.items
+  all-no-frame k d within served there =
+      no-frame-at k d within (get_or core.senders.items k d).0 refl served there (lookup (nat_eq (get_or core.senders.items k d).0) core.streams.entries) refl
+
+pub no-frame-if : {L In Out Shut : Type 0} (got ahead : Out → List OutItem) (run : List Step) (core : OutCore L In Out Shut) → Holds got run core
+    → HasOver run core.outbound.over.entries → IsQuiet ahead core → HaveNoFrame ahead run core
+no-frame-if got ahead run core (marks, s) over (inl gone) = inl gone
+no-frame-if got ahead run core (marks, s) over (inr stuck) = inr (all-no-frame got ahead run core marks s over stuck)

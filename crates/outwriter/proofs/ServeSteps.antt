@@ -1,5 +1,5 @@
 -- What is kept of the calls follows from the run still: after a frame, after an item, and after what tells nothing.
-use Rattle.std.proofs.Common.{◌≡◌, ℕ, suc, ◌<◌, ◌==◌, refl, sym, ap, subst, ◌∙◌, Bool, true, false, List, [], ◌∷◌, ◌++◌, Option, Some, None, length, arith, nat_eq}
+use Rattle.std.proofs.Common.{◌≡◌, ℕ, suc, ◌<◌, ◌==◌, ◌⊎◌, inl, refl, sym, ap, subst, ◌∙◌, Bool, true, false, List, [], ◌∷◌, ◌++◌, Option, Some, None, length, arith, nat_eq}
 use Rattle.std.specs.Prelude.{All, map, filter, get_or, ◌||◌, is_some, if◌then◌else◌}
 use Rattle.std.specs.Map.{lookup}
 use Rattle.std.proofs.lemmas.Bool.{eq-eqb}
@@ -10,14 +10,15 @@ use Rattle.outwriter.specs.declared.due.Due.{Due}
 use Rattle.outwriter.specs.declared.due.Due.TheVariants as due_kind
 use Rattle.outwriter.specs.declared.outbound.Outbound.{Outbound}
 use Rattle.outwriter.specs.declared.stream.OpenStream.{OpenStream}
-use Rattle.outwriter.specs.Calls.{is_fresh, is_served}
+use Rattle.outwriter.specs.Calls.{is_fresh, is_served, was_reset}
 use Rattle.outwriter.specs.Credits.{knows}
+use Rattle.outwriter.specs.Histories.{is_stream}
 use Rattle.outwriter.specs.Parts.{Mark, marks_on, on_stream, spelled}
 use Rattle.outwriter.specs.Polling.{Shown, shown, shows}
 use Rattle.outwriter.specs.Serving.{bytes_marks, IsExact, IsEnded, IsUncalled, MayBeDue, Serves}
 use Rattle.outwriter.specs.Steps.{Step}
 use Rattle.outwriter.specs.Telling.{SpellsOf}
-use Rattle.outwriter.proofs.Others.{Later, uncalled-same}
+use Rattle.outwriter.proofs.Others.{Later, ended-later, uncalled-same}
 
 -- ---- marks
 
@@ -94,6 +95,7 @@ pub record Change (run next : List Step) (o after : Outbound) (streams left : Li
       → (marks_on id told ≡ []) × (lookup (nat_eq id) after.over.entries ≡ None)
   pub other : (id : ℕ) (was_reset : Bool) → is_changed id ≡ true → lookup (nat_eq id) others ≡ Some was_reset → is_fresh id run ≡ true
       → IsEnded (lookup (nat_eq id) after.over.entries) (marks_on id told) []
+  pub stays : (id : ℕ) → is_changed id ≡ true → lookup (nat_eq id) left ≡ None → is_some (lookup (nat_eq id) after.over.entries) ≡ true
   pub uncalled : (id : ℕ) (was_reset : Bool) → is_changed id ≡ true → knows o.credit id ≡ false → lookup (nat_eq id) others ≡ Some was_reset
       → IsUncalled id next (lookup (nat_eq id) after.over.entries) (marks_on id told)
 
@@ -161,6 +163,8 @@ serves-changed run next o after streams left others calls now marks told is_chan
       (All-later (MayBeDue run o streams others) c.fewer_due.0 after.due.items (subst (All (MayBeDue run o streams others)) c.fewer_due.1 s.due));
   unknown = λ id e none. unknown-by id (sym (c.same_knows id) ∙ e) none (is_changed id) refl;
   other = λ id was e. (c.closed id (s.other id was e).0, λ fresh. other-by id was e (sym (c.same_fresh id) ∙ fresh) (is_changed id) refl);
+  stays = λ id served there none. stays-by id (sym (c.same_served id) ∙ served) there none (is_changed id) refl;
+  early = λ id before e fresh. c.later.reset id (s.early id before e (sym (c.same_fresh id) ∙ fresh));
   brought = λ id e. c.later.opened id (s.brought id (sym (c.same_knows id) ∙ e));
   uncalled = λ id was e there. uncalled-by id was (sym (c.same_knows id) ∙ e) there (is_changed id) refl;
 }
@@ -211,3 +215,10 @@ serves-changed run next o after streams left others calls now marks told is_chan
     uncalled-by id was e there false p =
         uncalled-same run next id (lookup (nat_eq id) o.over.entries) (lookup (nat_eq id) after.over.entries) (marks_on id marks) (marks_on id told) c.later
         (c.same_over id p) (c.same_marks id p) (s.uncalled id was e there)
+
+    stays-by : (id : ℕ) → is_served id run ≡ true → is_stream id ≡ true → lookup (nat_eq id) left ≡ None → (b : Bool) → is_changed id ≡ b
+        → (is_some (lookup (nat_eq id) after.over.entries) ≡ true) ⊎ (was_reset id next ≡ true)
+    stays-by id served there none true p = inl (c.stays id p none)
+    stays-by id served there none false p =
+        ended-later (lookup (nat_eq id) o.over.entries) (lookup (nat_eq id) after.over.entries) (was_reset id run) (was_reset id next) (c.same_over id p) (c.later.reset id)
+        (s.stays id served there (none-shown (lookup (nat_eq id) streams) (sym (c.same_shown id p) ∙ ap shown none)))

@@ -1,6 +1,6 @@
 -- What a frame of an open stream leads to: DATA, a head, or trailers, after which it is open no more.
 use Rattle.std.proofs.Common.{◌≡◌, ℕ, ◌<◌, ◌==◌, inl, refl, sym, ap, subst, ◌∙◌, Bool, true, false, List, [], ◌∷◌, ◌++◌, Option, Some, None, length, arith, nat_eq, append_assoc, true≢false}
-use Rattle.std.specs.Prelude.{get_or, ◌≢◌, if◌then◌else◌}
+use Rattle.std.specs.Prelude.{get_or, ◌≢◌, is_some, if◌then◌else◌}
 use Rattle.std.specs.Map.{lookup}
 use Rattle.std.proofs.lemmas.Bool.{eqb-true, eq-eqb}
 use Rattle.std.proofs.lemmas.Grind.{flat_map-append}
@@ -94,6 +94,7 @@ goes-on run next o after streams left others calls now marks id place was hand m
       ended = λ k d lt p none is. absurd (still (get_or calls k d).0 p none);
       unknown = λ k p e none. absurd (true≢false (sym (s.known id f.0 f.1) ∙ subst (λ (n : ℕ). knows o.credit n ≡ false) (eqb-true k id p) e));
       other = λ k w p e is. absurd (none-some f.0 (sym (subst (λ (n : ℕ). lookup (nat_eq n) streams ≡ None) (eqb-true k id p) (s.other k w e).0) ∙ f.1));
+      stays = λ k p none. absurd (still k p none);
       uncalled = λ k w p e there. absurd (true≢false (sym (s.known id f.0 f.1) ∙ subst (λ (n : ℕ). knows o.credit n ≡ false) (eqb-true k id p) e));
     }) s
   where
@@ -165,6 +166,7 @@ ends run next o after streams left others calls now marks id place was more news
       ended = λ k d lt p none is. ended-by k d lt p is (k == place) refl;
       unknown = λ k p e none. absurd (true≢false (sym (s.known id f.0 f.1) ∙ subst (λ (n : ℕ). knows o.credit n ≡ false) (eqb-true k id p) e));
       other = λ k w p e is. absurd (none-some f.0 (sym (subst (λ (n : ℕ). lookup (nat_eq n) streams ≡ None) (eqb-true k id p) (s.other k w e).0) ∙ f.1));
+      stays = λ k p none. ap is_some (sets k ∙ ap (λ b. if b then Some false else lookup (nat_eq k) o.over.entries) p);
       uncalled = λ k w p e there. absurd (true≢false (sym (s.known id f.0 f.1) ∙ subst (λ (n : ℕ). knows o.credit n ≡ false) (eqb-true k id p) e));
     }) s
   where

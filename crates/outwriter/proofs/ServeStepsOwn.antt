@@ -48,6 +48,7 @@ serves-same run next o after streams left others calls marks told fresh served l
       ended = λ k d lt p none is. absurd (true≢false (sym p));
       unknown = λ k p e none. absurd (true≢false (sym p));
       other = λ k w p e is. absurd (true≢false (sym p));
+      stays = λ k p none. absurd (true≢false (sym p));
       uncalled = λ k w p e there. absurd (true≢false (sym p));
     }) s
 
@@ -110,6 +111,7 @@ serves-reset run o after streams others calls marks frame known r s =
       unknown = λ k p e gone. absurd (true≢false (sym (subst (λ (n : ℕ). (is_some (lookup (nat_eq n) others) || knows o.credit n) ≡ true) (sym (eqb-true k id p)) may.1)
           ∙ ap (λ b. b || knows o.credit k) (ap is_some gone) ∙ e));
       other = λ k w p e is. ended-here k [] p ((s.other k w e).1 is);
+      stays = λ k p closed. ap is_some (r.6 k ∙ ap (λ b. if b then Some true else lookup (nat_eq k) o.over.entries) p);
       uncalled = λ k w p e there. (
         λ still. absurd (some-none true (sym (r.6 k ∙ ap (λ b. if b then Some true else lookup (nat_eq k) o.over.entries) p) ∙ still)),
         inr (inl (r.4.0, more-at k p ∙ ap (λ (l : List Mark). l ++ more) ((s.uncalled k w e there).0 (was-open k p)))),
@@ -165,6 +167,7 @@ serves-refusal run o after streams others calls marks frame known r s =
       ended = λ k d lt p gone is. absurd (true≢false (sym is ∙ subst (λ (n : ℕ). is_served n run ≡ false) (sym (eqb-true (get_or calls k d).0 id p)) may.1));
       unknown = λ k p e gone. absurd (true≢false (sym may.2 ∙ ap is_some (subst (λ (n : ℕ). lookup (nat_eq n) others ≡ None) (eqb-true k id p) gone)));
       other = λ k w p e is. absurd (true≢false (sym is ∙ subst (λ (n : ℕ). is_fresh n run ≡ false) (sym (eqb-true k id p)) may.0));
+      stays = λ k p closed. ap is_some (r.6 k ∙ ap (λ b. if b then Some false else lookup (nat_eq k) o.over.entries) p);
       uncalled = λ k w p e there. (
         λ still. absurd (some-none false (sym (r.6 k ∙ ap (λ b. if b then Some false else lookup (nat_eq k) o.over.entries) p) ∙ still)),
         inr (inr (

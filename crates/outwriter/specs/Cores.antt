@@ -1,5 +1,5 @@
 -- What callers see of a writer's core: over any list of its calls, what was told of each call begins what its sender gave.
-use Rattle.std.specs.Prelude.{◌≡◌, ◌⊎◌, ℕ, true, false, List, [], ◌∷◌, map, get_or, Option, None, Some, Result, Ok, Err, nat_eq}
+use Rattle.std.specs.Prelude.{◌≡◌, ◌⊎◌, ℕ, true, false, All, List, [], ◌∷◌, map, get_or, Option, None, Some, Result, Ok, Err, nat_eq}
 use Rattle.std.specs.Map.{lookup}
 use Rattle.callbox.specs.declared.account.OutItem.{OutItem}
 use Rattle.callbox.specs.declared.sender.Sender.{Sender}
@@ -13,7 +13,8 @@ use Rattle.outwriter.specs.declared.next.Next.TheVariants as next
 use Rattle.outwriter.specs.declared.out_core.OutCore.{OutCore}
 use Rattle.outwriter.specs.declared.outbound.Outbound.{Outbound}
 use Rattle.outwriter.specs.declared.stream.OpenStream.{OpenStream}
-use Rattle.outwriter.specs.Calls.{TellFronts, TellOthers}
+use Rattle.outwriter.specs.Calls.{TellFronts, TellOthers, is_served, was_reset}
+use Rattle.outwriter.specs.Histories.{is_stream, is_over}
 use Rattle.outwriter.specs.Parts.{Mark}
 use Rattle.outwriter.specs.Serving.{Serves}
 use Rattle.outwriter.specs.Steps.{Step, Taken, Written, order_of}
@@ -77,3 +78,21 @@ module _ {L In Out Shut : Type 0} where
   QuietNext ahead (next.Frame frame) core = Unit {0}
   QuietNext ahead next.Idle core = IsQuiet ahead core
   QuietNext ahead next.Over core = IsQuiet ahead core
+
+  -- Of a call whose stream was opened once and not refused before: its end was written, or it was reset; or nothing can be written on its stream,
+  -- since nothing is ahead of its sender, or what is in hand has no room.
+  pub data HasNoFrame (run : List Step) (core : OutCore L In Out Shut) (id : ℕ) (ahead : List OutItem) : Type 0 where
+    Ended : is_over id run ≡ true → HasNoFrame run core id ahead
+    WasReset : was_reset id run ≡ true → HasNoFrame run core id ahead
+    Stuck : (stream : OpenStream) → lookup (nat_eq id) core.streams.entries ≡ Some stream → IsStuck (room core.outbound.windows id) stream.in_hand ahead
+        → HasNoFrame run core id ahead
+
+  -- so it is of each, unless the last frame was a GOAWAY with an error
+  abbrev pub HaveNoFrame : (Out → List OutItem) → List Step → OutCore L In Out Shut → Type 0
+  HaveNoFrame ahead run core = (core.outbound.gone ≡ true)
+      ⊎ All (λ call. is_served call.0 run ≡ true → is_stream call.0 ≡ true → HasNoFrame run core call.0 (ahead call.1.rx)) core.senders.items
+
+  abbrev pub NoFrameNext : (Out → List OutItem) → List Step → Next → OutCore L In Out Shut → Type 0
+  NoFrameNext ahead run (next.Frame frame) core = Unit {0}
+  NoFrameNext ahead run next.Idle core = HaveNoFrame ahead run core
+  NoFrameNext ahead run next.Over core = HaveNoFrame ahead run core

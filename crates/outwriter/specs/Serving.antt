@@ -10,7 +10,7 @@ use Rattle.outwriter.specs.declared.due.Due.{Due}
 use Rattle.outwriter.specs.declared.due.Due.TheVariants as due_kind
 use Rattle.outwriter.specs.declared.outbound.Outbound.{Outbound}
 use Rattle.outwriter.specs.declared.stream.OpenStream.{OpenStream}
-use Rattle.outwriter.specs.Calls.{is_fresh, is_served, is_opened, IsRefused, IsOther}
+use Rattle.outwriter.specs.Calls.{is_fresh, is_served, is_opened, was_reset, IsRefused, IsOther}
 use Rattle.outwriter.specs.Credits.{knows}
 use Rattle.outwriter.specs.Histories.{is_stream}
 use Rattle.outwriter.specs.Mirrors.{Sets}
@@ -72,7 +72,11 @@ pub record Serves (run : List Step) (o : Outbound) (streams : List (ℕ × OpenS
   -- of one that was reset before it was a call's, at most that
   pub other : (id : ℕ) (was_reset : Bool) → lookup (nat_eq id) others ≡ Some was_reset → (lookup (nat_eq id) streams ≡ None)
       × (is_fresh id run ≡ true → IsEnded (lookup (nat_eq id) o.over.entries) (marks_on id marks) [])
-  -- a call's stream was opened
+  -- a call's stream is open until its end was written or a Reset of it was taken
+  pub stays : (id : ℕ) → is_served id run ≡ true → is_stream id ≡ true → lookup (nat_eq id) streams ≡ None
+      → (is_some (lookup (nat_eq id) o.over.entries) ≡ true) ⊎ (was_reset id run ≡ true)
+  pub early : (id : ℕ) (before : Bool) → lookup (nat_eq id) others ≡ Some before → is_fresh id run ≡ true → was_reset id run ≡ true
+  -- it was opened
   pub brought : (id : ℕ) → knows o.credit id ≡ true → is_opened id run ≡ true
   pub uncalled : (id : ℕ) (was_reset : Bool) → knows o.credit id ≡ false → lookup (nat_eq id) others ≡ Some was_reset
       → IsUncalled id run (lookup (nat_eq id) o.over.entries) (marks_on id marks)

@@ -29,10 +29,10 @@ impl<L: Lane<Item = OutItem>> OutCore<L> {
     ghost use Rattle.outwriter.specs.declared.next.Next.TheVariants as next_kind;
     ghost use Rattle.h2frame.specs.declared.frame.Frame.{Frame as FrameOf};
     ghost use Rattle.outwriter.specs.Frames.{IsSound};
-    ghost use Rattle.outwriter.specs.Cores.{Serving, ServesNext, QuietNext, calls};
+    ghost use Rattle.outwriter.specs.Cores.{Serving, ServesNext, QuietNext, NoFrameNext, calls};
     ghost use Rattle.outwriter.specs.Polling.{shows, SameHands, HandIs, HandKeeps, Removes, ids, TakesAt, SameAhead, aheads, HoldsOn, KeepsFronts, TellsData, GetsStuck, AllStuck, GetsQuiet};
     ghost use Rattle.outwriter.specs.Steps.{Step};
-    ghost use Rattle.outwriter.specs.Mirrors.{Answers, AnswersAll, SameOwn, IsSpent, Progress, Progresses, Stays, IsBetween, MirrorsOf};
+    ghost use Rattle.outwriter.specs.Mirrors.{Answers, AnswersAll, Reached, SameOwn, IsSpent, Progress, Progresses, Stays, IsBetween, MirrorsOf};
 
     /// The next frame. After want of memory the core is dead, and answers that again.
     pub fn next_frame(&mut self) -> Result<Next, OutFault<Sender<L>>>
@@ -58,6 +58,9 @@ impl<L: Lane<Item = OutItem>> OutCore<L> {
 
         // And of each open stream there is nothing that can be written, what was found ahead of its sender included.
         ensures quiet { IfOk result (λ next. (run : List Step) → Serving L.got run self.old → self.old.is_dead ≡ false → QuietNext L.ahead next self.new) }
+
+        // So each call has ended or was reset, or has nothing that can be written now.
+        ensures no_frame { IfOk result (λ next. (run : List Step) → Reached run self.old.outbound → Serving L.got run self.old → self.old.is_dead ≡ false → NoFrameNext L.ahead run next self.new) }
     {
         if self.is_dead {
             return Err(OutFault::OutOfMemory(None));

@@ -1,6 +1,6 @@
 //! The core of a connection's writer: what it is told.
 
-ghost use Rattle.std.specs.Prelude.{◌≡◌, ◌<◌, List, [], ◌∷◌, Some, Err, false, true, OnOk, OnErr, IfOk, IfErr, nat_eq, map, length};
+ghost use Rattle.std.specs.Prelude.{◌≡◌, ◌<◌, Bool, List, [], ◌∷◌, Some, Err, false, true, OnOk, OnErr, IfOk, IfErr, nat_eq, map, length};
 ghost use Rattle.std.specs.VecDeque.{deque_len, deque_capacity};
 ghost use Rattle.std.specs.Prelude.{vec_len, vec_capacity};
 ghost use Rattle.outwriter.specs.Cores.{calls, Serving, ServesOn, ServesControl};
@@ -14,6 +14,7 @@ ghost use Rattle.outwriter.specs.Keeping.{KeepsServing, Prepares, MayReset};
 ghost use Rattle.outwriter.specs.Serving.{none_is_new};
 ghost use Rattle.outwriter.specs.Serving.{Takes as KeepsCalls};
 ghost use Rattle.outwriter.specs.Steps.{Step, Taken, Granted};
+ghost use Rattle.h2frame.specs.declared.error_code.ErrorCode.{ErrorCode as ErrorCodeOf};
 ghost use Rattle.outwriter.specs.declared.control.Control.TheVariants as order;
 
 use crate::control::{Control, OutFault};
@@ -251,7 +252,8 @@ impl<L: Lane<Item = OutItem>> OutCore<L> {
     fn ends(&mut self, id: StreamId) -> Result<bool, AllocError>
         ensures stays { Stays self.old.outbound self.new.outbound }
         ensures due { self.new.outbound.due ≡ self.old.outbound.due }
-        ensures served { KeepsServing L.got [] self.old self.new }
+        ensures served { OnOk result ((code : ErrorCodeOf) (written : Bool) → KeepsServing L.got (Taken (order.Reset id code written) ∷ []) self.old self.new) }
+        ensures still { OnErr result (KeepsServing L.got [] self.old self.new) }
         ensures was_open { IfOk result (λ was_open. MayReset L.got id was_open self.new) }
         ensures alive { self.new.is_dead ≡ self.old.is_dead }
     {

@@ -1,9 +1,10 @@
 use Rattle.std.proofs.Common.{Option, subst}
 use Rattle.h2frame.specs.declared.frame.Frame.{Frame}
 use Rattle.std.specs.Prelude.{IfNone}
-use Rattle.outwriter.specs.Mirrors.{IsSpent}
+use Rattle.outwriter.specs.Mirrors.{IsSpent, Progresses}
 use Rattle.outwriter.specs.Polling.{GetsQuiet, HoldsOn}
 use Rattle.outwriter.proofs.Progresses.{spent-answered}
+use Rattle.outwriter.proofs.QuietSteps.{no-frame-if}
 use Rattle.outwriter.proofs.ServeStepsCore.{serving-on}
 use Rattle.outwriter.proofs.out_core.OutCore.next_frame.Goals as goal
 
@@ -29,3 +30,17 @@ pub returns-in-Ok-None-2-clause-answered : goal.returns-in-Ok-None-2-clause-answ
 returns-in-Ok-None-2-clause-answered g c = λ run reached.
     spent-answered run c.choose.new.self.outbound
     (subst (λ (o : Option Frame). IfNone o (IsSpent c.choose.new.self.outbound)) c.in-Ok-None.field-0-is c.in-Ok-None.ensures.spent) reached.0
+
+pub returns-in-Ok-None-clause-no_frame : goal.returns-in-Ok-None-clause-no_frame
+returns-in-Ok-None-clause-no_frame g c = λ run reached s alive.
+    no-frame-if g.L.Lane.got g.L.Lane.ahead run c.choose.new.self
+    (subst (λ (o : Option Frame). HoldsOn g.L.Lane.got o c.args.self.now c.choose.new.self) c.in-Ok-None.field-0-is c.in-Ok-None.ensures.served run (s.serves alive))
+    ((subst (λ (o : Option Frame). Progresses o c.args.self.now.outbound c.choose.new.self.outbound) c.in-Ok-None.field-0-is c.in-Ok-None.ensures.frame) run reached.0).is_over
+    (subst (λ (o : Option Frame). IfNone o (GetsQuiet g.L.Lane.got g.L.Lane.ahead c.args.self.now c.choose.new.self)) c.in-Ok-None.field-0-is c.in-Ok-None.ensures.quiet run (s.serves alive))
+
+pub returns-in-Ok-None-2-clause-no_frame : goal.returns-in-Ok-None-2-clause-no_frame
+returns-in-Ok-None-2-clause-no_frame g c = λ run reached s alive.
+    no-frame-if g.L.Lane.got g.L.Lane.ahead run c.choose.new.self
+    (subst (λ (o : Option Frame). HoldsOn g.L.Lane.got o c.args.self.now c.choose.new.self) c.in-Ok-None.field-0-is c.in-Ok-None.ensures.served run (s.serves alive))
+    ((subst (λ (o : Option Frame). Progresses o c.args.self.now.outbound c.choose.new.self.outbound) c.in-Ok-None.field-0-is c.in-Ok-None.ensures.frame) run reached.0).is_over
+    (subst (λ (o : Option Frame). IfNone o (GetsQuiet g.L.Lane.got g.L.Lane.ahead c.args.self.now c.choose.new.self)) c.in-Ok-None.field-0-is c.in-Ok-None.ensures.quiet run (s.serves alive))
