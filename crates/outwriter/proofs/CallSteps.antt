@@ -5,17 +5,18 @@ use Rattle.std.specs.Map.{lookup}
 use Rattle.std.proofs.lemmas.Bool.{eqb-true, eq-eqb, ne_eqb}
 use Rattle.std.proofs.lemmas.List.Elements.{All-append, All-nil, All-weaker}
 use Rattle.callbox.specs.declared.account.OutItem.{OutItem}
+use Rattle.hpack_codec.specs.declared.fields.Field.{Field}
 use Rattle.outwriter.specs.declared.due.Due.{Due}
 use Rattle.outwriter.specs.declared.due.Due.TheVariants as due_kind
 use Rattle.outwriter.specs.declared.outbound.Outbound.{Outbound}
 use Rattle.outwriter.specs.declared.stream.OpenStream.{OpenStream}
-use Rattle.outwriter.specs.Calls.{is_fresh, is_served, was_reset}
+use Rattle.outwriter.specs.Calls.{is_fresh, is_served, was_reset, IsRefused}
 use Rattle.outwriter.specs.Credits.{Owed, knows, nothing_owed}
 use Rattle.outwriter.specs.Histories.{is_stream}
 use Rattle.outwriter.specs.Keeping.{Closes}
 use Rattle.outwriter.specs.Mirrors.{Sets}
 use Rattle.outwriter.specs.Parts.{Mark, marks_on}
-use Rattle.outwriter.specs.Serving.{Serves, Takes, MayBeDue, IsEnded, IsUncalled, none_is_new}
+use Rattle.outwriter.specs.Serving.{Serves, Takes, MayBeDue, IsEnded, IsUncalled, has_reason, none_is_new}
 use Rattle.outwriter.specs.Steps.{Step}
 use Rattle.outwriter.specs.Telling.{SpellsOf}
 use Rattle.outwriter.proofs.Fronts.{open-begins}
@@ -58,10 +59,10 @@ module _ (run after : List Step) (o new : Outbound) (streams left : List (ℕ ×
         → (is_fresh id after ≡ false) × (is_served id after ≡ false) × (is_some (lookup (nat_eq id) more) ≡ true)
     pub reset : (id : ℕ) → lookup (nat_eq id) streams ≡ None → (is_some (lookup (nat_eq id) others) || knows o.credit id) ≡ true
         → (lookup (nat_eq id) left ≡ None) × ((is_some (lookup (nat_eq id) more) || knows new.credit id) ≡ true)
-    pub later : Later run after
+    pub asked : (id : ℕ) (fields : List Field) → IsRefused id fields run → IsRefused id fields after
 
   stays-due : StaysDue → (one : Due) → MayBeDue run o streams others one → MayBeDue after new left more one
-  stays-due s (due_kind.Refuse id fields) h = let r = s.refused id h.0 h.1 h.2 in (r.0, r.1, r.2, s.later.refused id fields h.3)
+  stays-due s (due_kind.Refuse id fields) h = let r = s.refused id h.0 h.1 h.2 in (r.0, r.1, r.2, s.asked id fields h.3)
   stays-due s (due_kind.Reset id code) h = s.reset id h.0 h.1
   stays-due s due_kind.SettingsAck h = tt
   stays-due s (due_kind.PingAck bytes) h = tt
@@ -83,7 +84,7 @@ serves-same run after o new streams others calls marks more takes spells fresh s
     let still : StaysDue run after o new streams streams others others = record {
       refused = λ id e f g. (fresh id e, served id ∙ f, g);
       reset = λ id e f. (e, ap (λ b. is_some (lookup (nat_eq id) others) || b) (knowing id) ∙ f);
-      later = later;
+      asked = later.refused;
     } in
     record {
       spells = spells;
@@ -105,9 +106,12 @@ serves-same run after o new streams others calls marks more takes spells fresh s
       stays = λ id is there none. ended-later (lookup (nat_eq id) o.over.entries) (lookup (nat_eq id) new.over.entries) (was_reset id run) (was_reset id after) (over id) (later.reset id)
           (s.stays id (sym (served id) ∙ is) there none);
       early = λ id before e f. later.reset id (s.early id before e (was-true (is_fresh id run) (is_fresh id after) (fresh id) f));
-      brought = λ id e. later.opened id (s.brought id (sym (knowing id) ∙ e));
+      reasons = λ id there none known. ended-later (lookup (nat_eq id) o.over.entries) (lookup (nat_eq id) new.over.entries) (has_reason id run) (has_reason id after) (over id) (later.reason id)
+          (s.reasons id there none (ap (λ b. is_some (lookup (nat_eq id) others) || b) (sym (knowing id)) ∙ known));
+      heard = λ id e there. knowing id ∙ s.heard id (sym (later.opened id) ∙ e) there;
+      brought = λ id e. later.opened id ∙ s.brought id (sym (knowing id) ∙ e);
       uncalled = λ id was_reset e there.
-          uncalled-same run after id (lookup (nat_eq id) o.over.entries) (lookup (nat_eq id) new.over.entries) (marks_on id marks) (marks_on id marks) later (over id) refl
+          uncalled-same run after id (lookup (nat_eq id) o.over.entries) (lookup (nat_eq id) new.over.entries) (marks_on id marks) (marks_on id marks) (later.refused id) (over id) refl
           (s.uncalled id was_reset (sym (knowing id) ∙ e) there);
     }
 
@@ -138,6 +142,9 @@ serves-nothing o streams others calls spells due credit over no_streams no_other
       other = λ id was_reset e. absurd (not-some (lookup (nat_eq id) others) was_reset (ap (λ (l : List (ℕ × Bool)). lookup (nat_eq id) l) no_others) e);
       stays = λ id is there none. absurd (true≢false (sym is));
       early = λ id before e f. absurd (not-some (lookup (nat_eq id) others) before (ap (λ (l : List (ℕ × Bool)). lookup (nat_eq id) l) no_others) e);
+      reasons = λ id there none known. absurd (true≢false (sym known ∙ ap (λ b. b || knows o.credit id) (ap (λ (l : List (ℕ × Bool)). is_some (lookup (nat_eq id) l)) no_others)
+          ∙ ap (λ (c : Owed). knows c id) credit));
+      heard = λ id e there. absurd (true≢false (sym e));
       brought = λ id e. absurd (unknown id e);
       uncalled = λ id was_reset e there. absurd (not-some (lookup (nat_eq id) others) was_reset (ap (λ (l : List (ℕ × Bool)). lookup (nat_eq id) l) no_others) there);
     }
@@ -146,9 +153,9 @@ serves-nothing o streams others calls spells due credit over no_streams no_other
 
 -- it is among the others then: nothing was told of it but perhaps a reset
 pub serves-other : (run : List Step) (o : Outbound) (streams : List (ℕ × OpenStream)) (others more : List (ℕ × Bool)) (calls : List (ℕ × List OutItem))
-    (marks : List (ℕ × Mark)) (id : ℕ) (value : Bool) → knows o.credit id ≡ false → Sets others id value more → (is_fresh id run ≡ true → was_reset id run ≡ true)
+    (marks : List (ℕ × Mark)) (id : ℕ) (value : Bool) → knows o.credit id ≡ false → Sets others id value more → (is_fresh id run ≡ true → was_reset id run ≡ true) → has_reason id run ≡ true
     → Serves run o streams others calls marks → Serves run o streams more calls marks
-serves-other run o streams others more calls marks id value isnt sets reset s = record {
+serves-other run o streams others more calls marks id value isnt sets reset reason s = record {
   spells = s.spells;
   exact = s.exact;
   not_over = s.not_over;
@@ -162,12 +169,14 @@ serves-other run o streams others more calls marks id value isnt sets reset s = 
   due = all-due run run o o streams streams others more (record {
     refused = λ k e f g. (e, f, still k g);
     reset = λ k e f. (e, either (is_some (lookup (nat_eq k) others)) (knows o.credit k) (is_some (lookup (nat_eq k) more)) (knows o.credit k) (still k) (λ x. x) f);
-    later = later-none run;
+    asked = λ k fields is. is;
   }) o.due.items s.due;
   unknown = λ k e f. s.unknown k e (was-none k f);
   other = other;
   stays = s.stays;
   early = early;
+  reasons = reasons;
+  heard = s.heard;
   brought = s.brought;
   uncalled = uncalled;
 }
@@ -207,6 +216,15 @@ serves-other run o streams others more calls marks id value isnt sets reset s = 
             (sym (eqb-true k id p)) (closed, ended-here (lookup (nat_eq id) others) refl)
         by false p = s.other k was_reset (sym (sets k ∙ ap (λ b. if b then Some value else lookup (nat_eq k) others) p) ∙ e)
 
+    reasons : (k : ℕ) → is_stream k ≡ true → lookup (nat_eq k) streams ≡ None → (is_some (lookup (nat_eq k) more) || knows o.credit k) ≡ true
+        → (is_some (lookup (nat_eq k) o.over.entries) ≡ true) ⊎ (has_reason k run ≡ true)
+    reasons k there none known = by (k == id) refl
+      where
+        by : (b : Bool) → (k == id) ≡ b → (is_some (lookup (nat_eq k) o.over.entries) ≡ true) ⊎ (has_reason k run ≡ true)
+        by true p = inr (subst (λ (n : ℕ). has_reason n run ≡ true) (sym (eqb-true k id p)) reason)
+        by false p = s.reasons k there none
+            (sym (ap (λ (l : Option Bool). is_some l || knows o.credit k) (sets k ∙ ap (λ b. if b then Some value else lookup (nat_eq k) others) p)) ∙ known)
+
     early : (k : ℕ) (before : Bool) → lookup (nat_eq k) more ≡ Some before → is_fresh k run ≡ true → was_reset k run ≡ true
     early k before e = by (k == id) refl
       where
@@ -226,9 +244,9 @@ serves-other run o streams others more calls marks id value isnt sets reset s = 
 
 -- what was told of it begins what its items spell
 pub serves-closed : (run : List Step) (o : Outbound) (streams left : List (ℕ × OpenStream)) (others : List (ℕ × Bool)) (calls : List (ℕ × List OutItem))
-    (marks : List (ℕ × Mark)) (id : ℕ) → Closes id streams left → was_reset id run ≡ true
+    (marks : List (ℕ × Mark)) (id : ℕ) → Closes id streams left → was_reset id run ≡ true → has_reason id run ≡ true
     → Serves run o streams others calls marks → Serves run o left others calls marks
-serves-closed run o streams left others calls marks id closes reset s = record {
+serves-closed run o streams left others calls marks id closes reset reason s = record {
   spells = s.spells;
   exact = λ k stream e. s.exact k stream (was-open k stream e);
   not_over = λ k stream e. s.not_over k stream (was-open k stream e);
@@ -242,12 +260,14 @@ serves-closed run o streams left others calls marks id closes reset s = record {
   due = all-due run run o o streams left others others (record {
     refused = λ k e f g. (e, f, g);
     reset = λ k e f. (still-none k e, f);
-    later = later-none run;
+    asked = λ k fields is. is;
   }) o.due.items s.due;
   unknown = s.unknown;
   other = λ k was_reset e. let h = s.other k was_reset e in (still-none k h.0, h.1);
   stays = λ k is there none. stays k is there none (lookup (nat_eq k) streams) refl;
   early = s.early;
+  reasons = λ k there none known. reasons k there none known (lookup (nat_eq k) streams) refl;
+  heard = s.heard;
   brought = s.brought;
   uncalled = s.uncalled;
 }
@@ -265,6 +285,15 @@ serves-closed run o streams left others calls marks id closes reset s = record {
         by : (b : Bool) → (k == id) ≡ b → lookup (nat_eq k) left ≡ None
         by true p = closes k ∙ ap (λ b. if b then None else lookup (nat_eq k) streams) p
         by false p = closes k ∙ ap (λ b. if b then None else lookup (nat_eq k) streams) p ∙ e
+
+    reasons : (k : ℕ) → is_stream k ≡ true → lookup (nat_eq k) left ≡ None → (is_some (lookup (nat_eq k) others) || knows o.credit k) ≡ true
+        → (found : Option OpenStream) → lookup (nat_eq k) streams ≡ found → (is_some (lookup (nat_eq k) o.over.entries) ≡ true) ⊎ (has_reason k run ≡ true)
+    reasons k there none known None p = s.reasons k there p known
+    reasons k there none known (Some stream) p = inr (by (k == id) refl)
+      where
+        by : (b : Bool) → (k == id) ≡ b → has_reason k run ≡ true
+        by true q = subst (λ (n : ℕ). has_reason n run ≡ true) (sym (eqb-true k id q)) reason
+        by false q = absurd (not-some (lookup (nat_eq k) streams) stream (sym (closes k ∙ ap (λ b. if b then None else lookup (nat_eq k) streams) q) ∙ none) p)
 
     stays : (k : ℕ) → is_served k run ≡ true → is_stream k ≡ true → lookup (nat_eq k) left ≡ None → (found : Option OpenStream) → lookup (nat_eq k) streams ≡ found
         → (is_some (lookup (nat_eq k) o.over.entries) ≡ true) ⊎ (was_reset k run ≡ true)

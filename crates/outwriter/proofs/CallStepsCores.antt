@@ -1,5 +1,5 @@
 -- What a writer's core keeps of its calls, as callers see it.
-use Rattle.std.proofs.Common.{◌≡◌, ℕ, refl, sym, ap, subst, ◌∙◌, Bool, false, List, [], ◌∷◌, ◌++◌, length}
+use Rattle.std.proofs.Common.{◌≡◌, ℕ, true≢false, refl, sym, ap, subst, ◌∙◌, Bool, false, List, [], ◌∷◌, ◌++◌, length}
 use Rattle.std.proofs.lemmas.List.{length-map, map-append}
 use Rattle.callbox.specs.declared.account.OutItem.{OutItem}
 use Rattle.callbox.specs.declared.sender.Sender.{Sender}
@@ -10,7 +10,7 @@ use Rattle.outwriter.specs.declared.stream.OpenStream.{OpenStream}
 use Rattle.outwriter.specs.Calls.{TellFronts}
 use Rattle.outwriter.specs.Cores.{Serving, calls, ServesOn}
 use Rattle.outwriter.specs.Credits.{nothing_owed}
-use Rattle.outwriter.specs.Keeping.{KeepsServing, Prepares}
+use Rattle.outwriter.specs.Keeping.{KeepsServing, KeepsHeeds, Prepares}
 use Rattle.outwriter.specs.Parts.{Mark}
 use Rattle.outwriter.specs.Serving.{Serves}
 use Rattle.outwriter.specs.Steps.{Step, Taken, Granted}
@@ -21,23 +21,23 @@ use Rattle.outwriter.proofs.Fronts.{fronts_of, others_of}
 
 module _ {L In Out Shut : Type 0} (got : Out → List OutItem) (old new : OutCore L In Out Shut) where
   -- as long as the core lives, what was told follows from what is kept
-  pub serving-on : (more : List Step) → old.is_dead ≡ false → KeepsServing got more old new → (run : List Step) → Serving got run old → Serving got (more ++ run) new
-  serving-on more alive keeps run s =
+  pub serving-on : (more : List Step) → old.is_dead ≡ false → KeepsServing got more old new → KeepsHeeds got more old new → (run : List Step) → Serving got run old → Serving got (more ++ run) new
+  serving-on more alive keeps heeds run s =
       let m = s.serves alive in
       let after = keeps run m.0 m.1 in
       record {
         fronts = fronts_of (more ++ run) new.outbound new.streams.entries new.others.entries (calls got new.senders.items) m.0 after;
         others = others_of (more ++ run) new.outbound new.streams.entries new.others.entries (calls got new.senders.items) m.0 after;
-        serves = λ still. (m.0, after);
+        serves = λ still. (m.0, after, heeds run m.0 m.1 m.2);
       }
 
   -- credit tells nothing, of a dead core as well
   pub serving-granted : (id n : ℕ) → new.is_dead ≡ old.is_dead → calls got new.senders.items ≡ calls got old.senders.items
-      → KeepsServing got (Granted id n ∷ []) old new → ServesOn got (Granted id n) old new
-  serving-granted id n same senders keeps run s = record {
+      → KeepsServing got (Granted id n ∷ []) old new → KeepsHeeds got (Granted id n ∷ []) old new → ServesOn got (Granted id n) old new
+  serving-granted id n same senders keeps heeds run s = record {
     fronts = subst (λ (l : List (ℕ × List OutItem)). TellFronts (Granted id n ∷ run) l) (sym senders) s.fronts;
     others = s.others;
-    serves = λ alive. let m = s.serves (sym same ∙ alive) in (m.0, keeps run m.0 m.1);
+    serves = λ alive. let m = s.serves (sym same ∙ alive) in (m.0, keeps run m.0 m.1, heeds run m.0 m.1 m.2);
   }
 
 -- a core of which nothing is kept
@@ -51,7 +51,7 @@ module _ {L In Out Shut : Type 0} (got : Out → List OutItem) (core : OutCore L
       record {
         fronts = fronts_of [] core.outbound core.streams.entries core.others.entries (calls got core.senders.items) [] serves;
         others = others_of [] core.outbound core.streams.entries core.others.entries (calls got core.senders.items) [] serves;
-        serves = λ still. ([], serves);
+        serves = λ still. ([], serves, λ id there e. absurd (true≢false (sym e)));
       }
 
 -- ---- calls

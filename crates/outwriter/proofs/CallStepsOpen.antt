@@ -14,10 +14,10 @@ use Rattle.outwriter.specs.Credits.{knows}
 use Rattle.outwriter.specs.Histories.{is_stream}
 use Rattle.outwriter.specs.Keeping.{Prepares, is_new_call, becomes_open, stream_at}
 use Rattle.outwriter.specs.Parts.{Mark, marks_on, spelled}
-use Rattle.outwriter.specs.Serving.{Serves, MayBeDue, IsEnded, IsExact}
+use Rattle.outwriter.specs.Serving.{Serves, MayBeDue, IsEnded, IsExact, has_reason}
 use Rattle.outwriter.specs.Steps.{Step, Taken}
 use Rattle.outwriter.proofs.CallSteps.{all-due, none-ended, not-some, over-same, was-true, either}
-use Rattle.outwriter.proofs.Others.{later-taken, ended-later, uncalled-same}
+use Rattle.outwriter.proofs.Others.{opened-taken, refused-taken, reset-taken, reason-taken, ended-later, uncalled-same}
 use Rattle.outwriter.proofs.TellSteps.{taken-tells}
 
 -- ---- lists
@@ -152,7 +152,7 @@ module _ (run : List Step) (o new : Outbound) (streams left : List (ℕ × OpenS
 
   opened-at : (k : ℕ) → ((k == id) ≡ true) ⊎ (knows o.credit k ≡ true) → is_opened k after ≡ true
   opened-at k (inl here) = ap (λ b. b || is_opened k run) here
-  opened-at k (inr old) = (later-taken run (order.Open id tt)).opened k (s.brought k old)
+  opened-at k (inr old) = opened-taken run (order.Open id tt) k (s.brought k old)
 
   knows-here : is_stream id ≡ true → knows new.credit id ≡ true
   knows-here e = by (knows o.credit id) refl
@@ -269,29 +269,59 @@ module _ (run : List Step) (o new : Outbound) (streams left : List (ℕ × OpenS
           ap (λ n. knows new.credit n) same ∙ knows-here (ap is_stream (sym same) ∙ there)
       by false q = knows-more k (s.served k (sym (served-else run id k q) ∙ is) there)
 
-  -- a new call's stream is open, unless it was reset before
+  -- a stream of which nothing was heard is open now
+  opens-new : is_stream id ≡ true → knows o.credit id ≡ false → lookup (nat_eq id) others ≡ None → lookup (nat_eq id) left ≡ None → ⊥
+  opens-new there unheard none closed =
+      let new_one : becomes_open o others id ≡ true =
+      ap (λ b. (is_stream id && not (knows o.credit id)) && b) (ap is_none none) ∙ ap (λ b. (b && not (knows o.credit id)) && true) there ∙ ap (λ b. (true && not b) && true) unheard in
+      not-some (lookup (nat_eq id) left) (stream_at (length calls)) closed
+      (p.opens id ∙ ap (λ b. if b && (id == id) then Some (stream_at (length calls)) else lookup (nat_eq id) streams) new_one
+      ∙ ap (λ b. if b then Some (stream_at (length calls)) else lookup (nat_eq id) streams) (eq-eqb id id refl))
+
   opens-unless : is_fresh id run ≡ true → is_stream id ≡ true → lookup (nat_eq id) left ≡ None → (found : Option Bool) → lookup (nat_eq id) others ≡ found → was_reset id run ≡ true
   opens-unless fresh there none (Some before) e = s.early id before e fresh
-  opens-unless fresh there none None e =
-      let new_one : becomes_open o others id ≡ true =
-      ap (λ b. (is_stream id && not (knows o.credit id)) && b) (ap is_none e) ∙ ap (λ b. (b && not (knows o.credit id)) && true) there ∙ ap (λ b. (true && not b) && true) (unheard (knows o.credit id) refl) in
-      absurd (not-some (lookup (nat_eq id) left) (stream_at (length calls)) none
-      (p.opens id ∙ ap (λ b. if b && (id == id) then Some (stream_at (length calls)) else lookup (nat_eq id) streams) new_one
-      ∙ ap (λ b. if b then Some (stream_at (length calls)) else lookup (nat_eq id) streams) (eq-eqb id id refl)))
+  opens-unless fresh there none None e = absurd (opens-new there (unheard (knows o.credit id) refl) e none)
     where
       unheard : (b : Bool) → knows o.credit id ≡ b → b ≡ false
       unheard true e = absurd (true≢false (sym fresh ∙ s.credited id e))
       unheard false e = refl
+
+  -- what isn't open was heard of before
+  heard-before : (k : ℕ) → is_stream k ≡ true → lookup (nat_eq k) left ≡ None → (is_some (lookup (nat_eq k) others) || knows new.credit k) ≡ true
+      → (found : Option Bool) → lookup (nat_eq k) others ≡ found → (b : Bool) → knows o.credit k ≡ b → (is_some found || b) ≡ true
+  heard-before k there none known (Some before) e b f = refl
+  heard-before k there none known None e true f = refl
+  heard-before k there none known None e false f = cases (known-by k (sym (ap (λ (l : Option Bool). is_some l || knows new.credit k) e) ∙ known))
+    where
+      cases : ((k == id) ≡ true) ⊎ (knows o.credit k ≡ true) → false ≡ true
+      cases (inl here) =
+          let same : k ≡ id = eqb-true k id here in
+          absurd (opens-new (ap is_stream (sym same) ∙ there) (ap (λ n. knows o.credit n) (sym same) ∙ f) (subst (λ n. lookup (nat_eq n) others ≡ None) same e)
+          (subst (λ n. lookup (nat_eq n) left ≡ None) same none))
+      cases (inr old) = sym f ∙ old
+
+  reasons : (k : ℕ) → is_stream k ≡ true → lookup (nat_eq k) left ≡ None → (is_some (lookup (nat_eq k) others) || knows new.credit k) ≡ true
+      → (is_some (lookup (nat_eq k) new.over.entries) ≡ true) ⊎ (has_reason k after ≡ true)
+  reasons k there none known =
+      ended-later (lookup (nat_eq k) o.over.entries) (lookup (nat_eq k) new.over.entries) (has_reason k run) (has_reason k after) (over k) (reason-taken run (order.Open id tt) k)
+      (s.reasons k there (less-none k none) (heard-before k there none known (lookup (nat_eq k) others) refl (knows o.credit k) refl))
+
+  heard : (k : ℕ) → is_opened k after ≡ true → is_stream k ≡ true → knows new.credit k ≡ true
+  heard k is there = by (k == id) refl
+    where
+      by : (b : Bool) → (k == id) ≡ b → knows new.credit k ≡ true
+      by true q = let same : k ≡ id = eqb-true k id q in ap (λ n. knows new.credit n) same ∙ knows-here (ap is_stream (sym same) ∙ there)
+      by false q = knows-more k (s.heard k (sym (ap (λ b. b || is_opened k run) q) ∙ is) there)
 
   stays : (k : ℕ) → is_served k after ≡ true → is_stream k ≡ true → lookup (nat_eq k) left ≡ None → (b : Bool) → (k == id) ≡ b
       → (is_some (lookup (nat_eq k) new.over.entries) ≡ true) ⊎ (was_reset k after ≡ true)
   stays k is there none true q =
       let same : k ≡ id = eqb-true k id q in
       let fresh : is_fresh id run ≡ true = ap (λ n. is_fresh n run) (sym same) ∙ sym (served-here run id k q) ∙ is in
-      inr (subst (λ n. was_reset n after ≡ true) (sym same) ((later-taken run (order.Open id tt)).reset id
+      inr (subst (λ n. was_reset n after ≡ true) (sym same) (reset-taken run (order.Open id tt) id
       (opens-unless fresh (ap is_stream (sym same) ∙ there) (subst (λ n. lookup (nat_eq n) left ≡ None) same none) (lookup (nat_eq id) others) refl)))
   stays k is there none false q =
-      ended-later (lookup (nat_eq k) o.over.entries) (lookup (nat_eq k) new.over.entries) (was_reset k run) (was_reset k after) (over k) ((later-taken run (order.Open id tt)).reset k)
+      ended-later (lookup (nat_eq k) o.over.entries) (lookup (nat_eq k) new.over.entries) (was_reset k run) (was_reset k after) (over k) (reset-taken run (order.Open id tt) k)
       (s.stays k (sym (served-else run id k q) ∙ is) there (less-none k none))
 
   pub serves-opened : Serves (Taken (order.Open id tt) ∷ run) new left others (calls ++ (id, []) ∷ []) marks
@@ -309,7 +339,7 @@ module _ (run : List Step) (o new : Outbound) (streams left : List (ℕ × OpenS
     due = subst (All (MayBeDue after new left others)) (sym (p.takes.due ∙ append-nil o.due.items)) (all-due run after o new streams left others others (record {
       refused = λ k e f g. (fresh-less run id k e, unserved run id k e f, g);
       reset = λ k e f. (still-none k e f, either (is_some (lookup (nat_eq k) others)) (knows o.credit k) (is_some (lookup (nat_eq k) others)) (knows new.credit k) (λ x. x) (knows-more k) f);
-      later = later-taken run (order.Open id tt);
+      asked = refused-taken run (order.Open id tt);
     }) o.due.items s.due);
     unknown = λ k e f. let u = s.unknown k (knew k e) f in (u.0, over k ∙ u.1);
     other = λ k was_reset e. let h = s.other k was_reset e in (
@@ -317,9 +347,11 @@ module _ (run : List Step) (o new : Outbound) (streams left : List (ℕ × OpenS
       λ f. subst (λ (b : Option Bool). IsEnded b (marks_on k marks) []) (sym (over k)) (h.1 (was-true (is_fresh k run) (is_fresh k after) (fresh-less run id k) f)),
     );
     stays = λ k is there none. stays k is there none (k == id) refl;
-    early = λ k before e f. (later-taken run (order.Open id tt)).reset k (s.early k before e (was-true (is_fresh k run) (is_fresh k after) (fresh-less run id k) f));
+    early = λ k before e f. reset-taken run (order.Open id tt) k (s.early k before e (was-true (is_fresh k run) (is_fresh k after) (fresh-less run id k) f));
+    reasons = reasons;
+    heard = heard;
     brought = λ k e. opened-at k (known-by k e);
     uncalled = λ k was_reset e there.
-        uncalled-same run after k (lookup (nat_eq k) o.over.entries) (lookup (nat_eq k) new.over.entries) (marks_on k marks) (marks_on k marks) (later-taken run (order.Open id tt)) (over k) refl
+        uncalled-same run after k (lookup (nat_eq k) o.over.entries) (lookup (nat_eq k) new.over.entries) (marks_on k marks) (marks_on k marks) (refused-taken run (order.Open id tt) k) (over k) refl
         (s.uncalled k was_reset (knew k e) there);
   }

@@ -1,6 +1,6 @@
 -- What a writer keeps of its calls, after a Refuse, a Reset, and what brings no stream and ends none.
 use Rattle.std.proofs.Common.{◌≡◌, ℕ, ◌==◌, inl, refl, sym, ap, ◌∙◌, Bool, true, false, List, [], ◌∷◌, Some, None, append-nil, nat_eq, true≢false}
-use Rattle.std.specs.Prelude.{All, ◌||◌, is_some, if◌then◌else◌}
+use Rattle.std.specs.Prelude.{All, ◌&&◌, ◌||◌, not, is_some, if◌then◌else◌}
 use Rattle.std.specs.Map.{lookup}
 use Rattle.std.proofs.lemmas.Bool.{eq-eqb}
 use Rattle.std.proofs.lemmas.List.Elements.{All-cons, All-nil}
@@ -12,12 +12,12 @@ use Rattle.outwriter.specs.declared.due.Due.{Due}
 use Rattle.outwriter.specs.declared.due.Due.TheVariants as due_kind
 use Rattle.outwriter.specs.declared.outbound.Outbound.{Outbound}
 use Rattle.outwriter.specs.declared.stream.OpenStream.{OpenStream}
-use Rattle.outwriter.specs.Calls.{is_fresh, is_served, was_reset}
+use Rattle.outwriter.specs.Calls.{is_fresh, is_served, is_opened, is_called_off, is_dropped, opens_stream, was_reset}
 use Rattle.outwriter.specs.Credits.{knows}
 use Rattle.outwriter.specs.Histories.{is_stream}
 use Rattle.outwriter.specs.Mirrors.{Sets}
 use Rattle.outwriter.specs.Parts.{Mark}
-use Rattle.outwriter.specs.Serving.{Serves, Takes, MayBeDue, none_is_new}
+use Rattle.outwriter.specs.Serving.{Serves, Takes, MayBeDue, has_reason, none_is_new}
 use Rattle.outwriter.specs.Steps.{Step, Order, Taken}
 use Rattle.outwriter.proofs.CallSteps.{serves-other, serves-owing, serves-same}
 use Rattle.outwriter.proofs.Others.{later-taken}
@@ -36,12 +36,12 @@ takes-nothing o = record {
 
 module _ (run : List Step) (o new : Outbound) (streams : List (ℕ × OpenStream)) (others : List (ℕ × Bool)) (calls : List (ℕ × List OutItem)) (marks : List (ℕ × Mark)) where
   -- a control that is none of a stream's beginning
-  pub serves-ordered : (taken : Order) (more : List Due) → ((id : ℕ) → is_fresh id (Taken taken ∷ run) ≡ is_fresh id run)
+  pub serves-ordered : (taken : Order) (more : List Due) → ((id : ℕ) → opens_stream id taken ≡ false) → ((id : ℕ) → is_fresh id (Taken taken ∷ run) ≡ is_fresh id run)
       → ((id : ℕ) → is_served id (Taken taken ∷ run) ≡ is_served id run) → All (MayBeDue (Taken taken ∷ run) new streams others) more → Takes more none_is_new o new
       → Serves run o streams others calls marks → Serves (Taken taken ∷ run) new streams others calls marks
-  serves-ordered taken more fresh served due takes s =
+  serves-ordered taken more unopened fresh served due takes s =
       serves-same run (Taken taken ∷ run) o new streams others calls marks more takes (taken-tells more none_is_new o new taken takes run marks s.spells)
-      (λ id e. fresh id ∙ e) served (later-taken run taken) due s
+      (λ id e. fresh id ∙ e) served (later-taken run taken unopened) due s
 
   -- a Reset is due, of a stream that isn't open any more
   pub serves-reset : (id : ℕ) (code : ErrorCode) (is_due : Bool)
@@ -62,11 +62,21 @@ module _ (run : List Step) (o new : Outbound) (streams : List (ℕ × OpenStream
   pub serves-told : (id : ℕ) (code : ErrorCode) (written : Bool) → Takes [] none_is_new o new
       → Serves run o streams others calls marks → Serves (Taken (order.Reset id code written) ∷ run) new streams others calls marks
   serves-told id code written takes s =
-      serves-ordered (order.Reset id code written) [] (λ k. refl) (λ k. refl) (All-nil (MayBeDue (Taken (order.Reset id code written) ∷ run) new streams others)) takes s
+      serves-ordered (order.Reset id code written) [] (λ k. refl) (λ k. refl) (λ k. refl) (All-nil (MayBeDue (Taken (order.Reset id code written) ∷ run) new streams others)) takes s
 
 -- that Reset was taken
 pub reset-here : (run : List Step) (id : ℕ) (code : ErrorCode) (written : Bool) → was_reset id (Taken (order.Reset id code written) ∷ run) ≡ true
 reset-here run id code written = ap (λ b. b || was_reset id run) (eq-eqb id id refl)
+
+-- and called the stream off, or dropped it
+pub reason-here : (run : List Step) (id : ℕ) (code : ErrorCode) (written : Bool) → has_reason id (Taken (order.Reset id code written) ∷ run) ≡ true
+reason-here run id code true = ap (λ b. ((b && true) || is_called_off id run) || is_dropped id (Taken (order.Reset id code true) ∷ run)) (eq-eqb id id refl)
+reason-here run id code false =
+    ap (λ b. ((b && false) || is_called_off id run) || ((b && true) || is_dropped id run)) (eq-eqb id id refl) ∙ or-right (is_called_off id run)
+  where
+    or-right : (b : Bool) → (b || true) ≡ true
+    or-right true = refl
+    or-right false = refl
 
 -- ---- a Refuse
 
@@ -83,7 +93,7 @@ module _ (run : List Step) (o : Outbound) (streams : List (ℕ × OpenStream)) (
   pub serves-unrefused : Serves run o streams others calls marks → Serves (Taken (order.Refuse id fields) ∷ run) o streams others calls marks
   serves-unrefused s =
       serves-same run (Taken (order.Refuse id fields) ∷ run) o o streams others calls marks [] (takes-nothing o)
-      (taken-tells [] none_is_new o o (order.Refuse id fields) (takes-nothing o) run marks s.spells) (fresh-less run id fields) (λ k. refl) (later-taken run (order.Refuse id fields))
+      (taken-tells [] none_is_new o o (order.Refuse id fields) (takes-nothing o) run marks s.spells) (fresh-less run id fields) (λ k. refl) (later-taken run (order.Refuse id fields) (λ k. refl))
       (All-nil (MayBeDue (Taken (order.Refuse id fields) ∷ run) o streams others)) s
 
   pub serves-refused : (new : Outbound) (more : List (ℕ × Bool)) → is_stream id ≡ true → knows o.credit id ≡ false → Sets others id false more
@@ -91,6 +101,9 @@ module _ (run : List Step) (o : Outbound) (streams : List (ℕ × OpenStream)) (
       → Serves run o streams others calls marks → Serves (Taken (order.Refuse id fields) ∷ run) new streams more calls marks
   serves-refused new more there isnt sets takes s =
       let after : List Step = Taken (order.Refuse id fields) ∷ run in
+      let reason : has_reason id after ≡ true =
+      ap (λ b. ((b && not (is_opened id run)) || is_called_off id run) || is_dropped id run) (eq-eqb id id refl)
+      ∙ ap (λ b. (not b || is_called_off id run) || is_dropped id run) (unopened (is_opened id run) refl) in
       let stale : is_fresh id after ≡ false = ap (λ b. if b then false else is_fresh id run) (eq-eqb id id refl) in
       serves-owing after o new streams more calls marks (due_kind.Refuse id fields ∷ []) takes
       (All-cons (MayBeDue after new streams more) (due_kind.Refuse id fields) [] (
@@ -100,8 +113,12 @@ module _ (run : List Step) (o : Outbound) (streams : List (ℕ × OpenStream)) (
         inl (refl, refl),
       )
       (All-nil (MayBeDue after new streams more)))
-      (serves-other after o streams others more calls marks id false isnt sets (λ fresh. absurd (true≢false (sym fresh ∙ stale))) (serves-unrefused s))
+      (serves-other after o streams others more calls marks id false isnt sets (λ fresh. absurd (true≢false (sym fresh ∙ stale))) reason (serves-unrefused s))
     where
       unserved : (b : Bool) → is_served id run ≡ b → b ≡ false
       unserved true e = absurd (true≢false (sym (s.served id e there) ∙ isnt))
       unserved false e = refl
+
+      unopened : (b : Bool) → is_opened id run ≡ b → b ≡ false
+      unopened true e = absurd (true≢false (sym (s.heard id e there) ∙ isnt))
+      unopened false e = refl

@@ -10,6 +10,7 @@ pub mod FrameSteps
 pub mod Fronts
 pub mod TellSteps
 pub mod TellStepsOwn
+pub mod EndsKept
 pub mod MirrorSteps
 pub mod Others
 pub mod Progresses

@@ -3,46 +3,73 @@ use Rattle.std.proofs.Common.{◌≡◌, ◌⊎◌, ℕ, inl, inr, refl, sym, ap
 use Rattle.std.specs.Prelude.{◌||◌, is_some}
 use Rattle.h2frame.specs.declared.frame.Frame.{Frame}
 use Rattle.hpack_codec.specs.declared.fields.Field.{Field}
-use Rattle.outwriter.specs.Calls.{is_opened, opens_stream, was_reset, resets_stream, IsRefused, IsOther}
+use Rattle.outwriter.specs.Calls.{is_opened, opens_stream, calls_off, is_called_off, drops, is_dropped, was_reset, resets_stream, IsRefused, IsOther}
 use Rattle.outwriter.specs.Parts.{Mark}
-use Rattle.outwriter.specs.Serving.{IsUncalled}
+use Rattle.outwriter.specs.Serving.{IsUncalled, has_reason}
 use Rattle.outwriter.specs.Steps.{Step, Order, Taken, Granted, Written}
 
--- what was opened, refused or reset is so still
-pub record Later (run next : List Step) : Type 0 where
-  pub opened : (id : ℕ) → is_opened id run ≡ true → is_opened id next ≡ true
-  pub refused : (id : ℕ) (fields : List Field) → IsRefused id fields run → IsRefused id fields next
-  pub reset : (id : ℕ) → was_reset id run ≡ true → was_reset id next ≡ true
-
-pub later-none : (run : List Step) → Later run run
-later-none run = record { opened = λ id e. e; refused = λ id fields is. is; reset = λ id e. e }
-
-pub later-written : (run : List Step) (frame : Frame) → Later run (Written frame ∷ run)
-later-written run frame = record { opened = λ id e. e; refused = λ id fields is. is; reset = λ id e. e }
-
-pub later-granted : (run : List Step) (id n : ℕ) → Later run (Granted id n ∷ run)
-later-granted run id n = record { opened = λ other e. e; refused = λ other fields is. is; reset = λ other e. e }
-
-or-true : (a b : Bool) → b ≡ true → (a || b) ≡ true
+pub or-true : (a b : Bool) → b ≡ true → (a || b) ≡ true
 or-true true b e = refl
 or-true false b e = e
 
-pub later-taken : (run : List Step) (order : Order) → Later run (Taken order ∷ run)
-later-taken run order = record {
-  opened = λ id e. or-true (opens_stream id order) (is_opened id run) e;
-  refused = λ id fields is. inr is;
-  reset = λ id e. or-true (resets_stream id order) (was_reset id run) e;
+pub or-false : (a b : Bool) → a ≡ false → (a || b) ≡ b
+or-false true b e = cc
+or-false false b e = refl
+
+or-more : (a b c d : Bool) → (b || d) ≡ true → ((a || b) || (c || d)) ≡ true
+or-more true b c d e = refl
+or-more false true c d e = refl
+or-more false false c d e = or-true c d e
+
+-- what was refused, reset, called off or dropped is so still, and what is opened was
+pub record Later (run next : List Step) : Type 0 where
+  pub opened : (id : ℕ) → is_opened id next ≡ is_opened id run
+  pub refused : (id : ℕ) (fields : List Field) → IsRefused id fields run → IsRefused id fields next
+  pub reset : (id : ℕ) → was_reset id run ≡ true → was_reset id next ≡ true
+  pub reason : (id : ℕ) → has_reason id run ≡ true → has_reason id next ≡ true
+
+pub later-none : (run : List Step) → Later run run
+later-none run = record { opened = λ id. refl; refused = λ id fields is. is; reset = λ id e. e; reason = λ id e. e }
+
+pub later-written : (run : List Step) (frame : Frame) → Later run (Written frame ∷ run)
+later-written run frame = record { opened = λ id. refl; refused = λ id fields is. is; reset = λ id e. e; reason = λ id e. e }
+
+pub later-granted : (run : List Step) (id n : ℕ) → Later run (Granted id n ∷ run)
+later-granted run id n = record { opened = λ other. refl; refused = λ other fields is. is; reset = λ other e. e; reason = λ other e. e }
+
+-- with any control
+pub opened-taken : (run : List Step) (order : Order) (id : ℕ) → is_opened id run ≡ true → is_opened id (Taken order ∷ run) ≡ true
+opened-taken run order id e = or-true (opens_stream id order) (is_opened id run) e
+
+pub reset-taken : (run : List Step) (order : Order) (id : ℕ) → was_reset id run ≡ true → was_reset id (Taken order ∷ run) ≡ true
+reset-taken run order id e = or-true (resets_stream id order) (was_reset id run) e
+
+pub reason-taken : (run : List Step) (order : Order) (id : ℕ) → has_reason id run ≡ true → has_reason id (Taken order ∷ run) ≡ true
+reason-taken run order id e = or-more (calls_off id (is_opened id run) order) (is_called_off id run) (drops id order) (is_dropped id run) e
+
+pub dropped-taken : (run : List Step) (order : Order) (id : ℕ) → is_dropped id run ≡ true → is_dropped id (Taken order ∷ run) ≡ true
+dropped-taken run order id e = or-true (drops id order) (is_dropped id run) e
+
+pub refused-taken : (run : List Step) (order : Order) (id : ℕ) (fields : List Field) → IsRefused id fields run → IsRefused id fields (Taken order ∷ run)
+refused-taken run order id fields is = inr is
+
+pub later-taken : (run : List Step) (order : Order) → ((id : ℕ) → opens_stream id order ≡ false) → Later run (Taken order ∷ run)
+later-taken run order none = record {
+  opened = λ id. or-false (opens_stream id order) (is_opened id run) (none id);
+  refused = refused-taken run order;
+  reset = reset-taken run order;
+  reason = reason-taken run order;
 }
 
-other-later : (run next : List Step) (id : ℕ) (part : List Mark) → Later run next → IsOther id run part → IsOther id next part
-other-later run next id part later (inl none) = inl none
-other-later run next id part later (inr (inl reset)) = inr (inl reset)
-other-later run next id part later (inr (inr (fields, asked, is))) = inr (inr (fields, later.refused id fields asked, is))
+other-later : (run next : List Step) (id : ℕ) (part : List Mark) → ((fields : List Field) → IsRefused id fields run → IsRefused id fields next) → IsOther id run part → IsOther id next part
+other-later run next id part refused (inl none) = inl none
+other-later run next id part refused (inr (inl reset)) = inr (inl reset)
+other-later run next id part refused (inr (inr (fields, asked, is))) = inr (inr (fields, refused fields asked, is))
 
-pub uncalled-same : (run next : List Step) (id : ℕ) (over after : Option Bool) (told more : List Mark) → Later run next → after ≡ over → more ≡ told
+pub uncalled-same : (run next : List Step) (id : ℕ) (over after : Option Bool) (told more : List Mark) → ((fields : List Field) → IsRefused id fields run → IsRefused id fields next) → after ≡ over → more ≡ told
     → IsUncalled id run over told → IsUncalled id next after more
-uncalled-same run next id over after told more later e f (none, other) =
-    subst (λ (x : Option Bool). IsUncalled id next x more) (sym e) (subst (λ (x : List Mark). IsUncalled id next over x) (sym f) (none, other-later run next id told later other))
+uncalled-same run next id over after told more refused e f (none, other) =
+    subst (λ (x : Option Bool). IsUncalled id next x more) (sym e) (subst (λ (x : List Mark). IsUncalled id next over x) (sym f) (none, other-later run next id told refused other))
 
 -- a stream that has ended or was reset has or was so still
 pub ended-later : (over after : Option Bool) (reset later : Bool) → after ≡ over → (reset ≡ true → later ≡ true)

@@ -172,5 +172,5 @@ module _ {L In Out Shut : Type 0} (got ahead : Out → List OutItem) (run : List
 
 pub no-frame-if : {L In Out Shut : Type 0} (got ahead : Out → List OutItem) (run : List Step) (core : OutCore L In Out Shut) → Holds got run core
     → HasOver run core.outbound.over.entries → IsQuiet ahead core → HaveNoFrame ahead run core
-no-frame-if got ahead run core (marks, s) over (inl gone) = inl gone
-no-frame-if got ahead run core (marks, s) over (inr stuck) = inr (all-no-frame got ahead run core marks s over stuck)
+no-frame-if got ahead run core (marks, s, heeds) over (inl gone) = inl gone
+no-frame-if got ahead run core (marks, s, heeds) over (inr stuck) = inr (all-no-frame got ahead run core marks s over stuck)

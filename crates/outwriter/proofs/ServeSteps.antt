@@ -15,7 +15,7 @@ use Rattle.outwriter.specs.Credits.{knows}
 use Rattle.outwriter.specs.Histories.{is_stream}
 use Rattle.outwriter.specs.Parts.{Mark, marks_on, on_stream, spelled}
 use Rattle.outwriter.specs.Polling.{Shown, shown, shows}
-use Rattle.outwriter.specs.Serving.{bytes_marks, IsExact, IsEnded, IsUncalled, MayBeDue, Serves}
+use Rattle.outwriter.specs.Serving.{bytes_marks, IsExact, IsEnded, IsUncalled, MayBeDue, Serves, has_reason}
 use Rattle.outwriter.specs.Steps.{Step}
 use Rattle.outwriter.specs.Telling.{SpellsOf}
 use Rattle.outwriter.proofs.Others.{Later, ended-later, uncalled-same}
@@ -165,7 +165,9 @@ serves-changed run next o after streams left others calls now marks told is_chan
   other = λ id was e. (c.closed id (s.other id was e).0, λ fresh. other-by id was e (sym (c.same_fresh id) ∙ fresh) (is_changed id) refl);
   stays = λ id served there none. stays-by id (sym (c.same_served id) ∙ served) there none (is_changed id) refl;
   early = λ id before e fresh. c.later.reset id (s.early id before e (sym (c.same_fresh id) ∙ fresh));
-  brought = λ id e. c.later.opened id (s.brought id (sym (c.same_knows id) ∙ e));
+  reasons = λ id there none known. reasons-by id there none (ap (λ b. is_some (lookup (nat_eq id) others) || b) (sym (c.same_knows id)) ∙ known) (is_changed id) refl;
+  heard = λ id e there. c.same_knows id ∙ s.heard id (sym (c.later.opened id) ∙ e) there;
+  brought = λ id e. c.later.opened id ∙ s.brought id (sym (c.same_knows id) ∙ e);
   uncalled = λ id was e there. uncalled-by id was (sym (c.same_knows id) ∙ e) there (is_changed id) refl;
 }
   where
@@ -213,7 +215,7 @@ serves-changed run next o after streams left others calls now marks told is_chan
         → IsUncalled id next (lookup (nat_eq id) after.over.entries) (marks_on id told)
     uncalled-by id was e there true p = c.uncalled id was p e there
     uncalled-by id was e there false p =
-        uncalled-same run next id (lookup (nat_eq id) o.over.entries) (lookup (nat_eq id) after.over.entries) (marks_on id marks) (marks_on id told) c.later
+        uncalled-same run next id (lookup (nat_eq id) o.over.entries) (lookup (nat_eq id) after.over.entries) (marks_on id marks) (marks_on id told) (c.later.refused id)
         (c.same_over id p) (c.same_marks id p) (s.uncalled id was e there)
 
     stays-by : (id : ℕ) → is_served id run ≡ true → is_stream id ≡ true → lookup (nat_eq id) left ≡ None → (b : Bool) → is_changed id ≡ b
@@ -222,3 +224,10 @@ serves-changed run next o after streams left others calls now marks told is_chan
     stays-by id served there none false p =
         ended-later (lookup (nat_eq id) o.over.entries) (lookup (nat_eq id) after.over.entries) (was_reset id run) (was_reset id next) (c.same_over id p) (c.later.reset id)
         (s.stays id served there (none-shown (lookup (nat_eq id) streams) (sym (c.same_shown id p) ∙ ap shown none)))
+
+    reasons-by : (id : ℕ) → is_stream id ≡ true → lookup (nat_eq id) left ≡ None → (is_some (lookup (nat_eq id) others) || knows o.credit id) ≡ true → (b : Bool) → is_changed id ≡ b
+        → (is_some (lookup (nat_eq id) after.over.entries) ≡ true) ⊎ (has_reason id next ≡ true)
+    reasons-by id there none known true p = inl (c.stays id p none)
+    reasons-by id there none known false p =
+        ended-later (lookup (nat_eq id) o.over.entries) (lookup (nat_eq id) after.over.entries) (has_reason id run) (has_reason id next) (c.same_over id p) (c.later.reason id)
+        (s.reasons id there (none-shown (lookup (nat_eq id) streams) (sym (c.same_shown id p) ∙ ap shown none)) known)

@@ -7,9 +7,10 @@ use Rattle.outwriter.specs.declared.outbound.Outbound.{Outbound}
 use Rattle.outwriter.specs.Cores.{calls, ServesOn, ServesStill}
 use Rattle.outwriter.specs.Parts.{Reset, on_stream}
 use Rattle.outwriter.specs.Polling.{SameHands, Holds, HoldsOn, KeepsFronts}
-use Rattle.outwriter.specs.Serving.{Serves, IsOwn, OwnOrRests}
+use Rattle.outwriter.specs.Serving.{Serves, Heeds, IsOwn, OwnOrRests}
 use Rattle.outwriter.specs.Steps.{Step, Written}
 use Rattle.outwriter.specs.Telling.{block_marks}
+use Rattle.outwriter.proofs.EndsKept.{heeds-kept, own-ends, rests-ends}
 use Rattle.outwriter.proofs.Fronts.{fronts_of, others_of}
 use Rattle.outwriter.proofs.ServeStepsOwn.{serves-hands, serves-rests, serves-plain, serves-reset, serves-refusal}
 
@@ -22,12 +23,13 @@ module _ {L In Out Shut : Type 0} where
   -- the places and what is in hand are the same, and all else that is kept of the calls
   pub holds-hands : (got : Out → List OutItem) (old new : OutCore L In Out Shut) → SameHands old.streams.entries new.streams.entries
       → new.outbound ≡ old.outbound → new.senders ≡ old.senders → new.others ≡ old.others → (run : List Step) → Holds got run old → Holds got run new
-  holds-hands got old new hands outbound senders others run (marks, s) = (
+  holds-hands got old new hands outbound senders others run (marks, s, heeds) = (
     marks,
     subst (λ (o : Outbound). Serves run o new.streams.entries new.others.entries (calls got new.senders.items) marks) (sym outbound)
         (subst (λ senders. Serves run old.outbound new.streams.entries new.others.entries (calls got senders.items) marks) (sym senders)
         (subst (λ others. Serves run old.outbound new.streams.entries others.entries (calls got old.senders.items) marks) (sym others)
         (serves-hands run old.outbound old.streams.entries new.streams.entries old.others.entries (calls got old.senders.items) marks hands s))),
+    subst (Heeds run) (sym outbound) heeds,
   )
 
   pub holds-after : (got : Out → List OutItem) (old mid new : OutCore L In Out Shut) (o : Option Frame) → HoldsOn got o old mid
@@ -41,18 +43,18 @@ module _ {L In Out Shut : Type 0} where
   -- a frame that is none of an open stream
   own-serves : (got : Out → List OutItem) (core : OutCore L In Out Shut) (after : Outbound) (frame : Frame) → IsOwn frame core.outbound after
       → (run : List Step) → Holds got run core → Holds got (Written frame ∷ run) (record core { outbound = after })
-  own-serves got core after frame (known, inl plain) run (marks, s) =
-      (marks ++ [], serves-plain run core.outbound after core.streams.entries core.others.entries (calls got core.senders.items) marks frame known plain s)
-  own-serves got core after frame (known, inr (inl r)) run (marks, s) =
-      (marks ++ on_stream r.0 (Reset r.4.0 ∷ []), serves-reset run core.outbound after core.streams.entries core.others.entries (calls got core.senders.items) marks frame known r s)
-  own-serves got core after frame (known, inr (inr r)) run (marks, s) =
-      (marks ++ block_marks r.0 r.1 true, serves-refusal run core.outbound after core.streams.entries core.others.entries (calls got core.senders.items) marks frame known r s)
+  own-serves got core after frame (known, inl plain) run (marks, s, heeds) =
+      (marks ++ [], serves-plain run core.outbound after core.streams.entries core.others.entries (calls got core.senders.items) marks frame known plain s, heeds-kept run core.outbound after (own-ends frame core.outbound after (known, inl plain)) heeds)
+  own-serves got core after frame (known, inr (inl r)) run (marks, s, heeds) =
+      (marks ++ on_stream r.0 (Reset r.4.0 ∷ []), serves-reset run core.outbound after core.streams.entries core.others.entries (calls got core.senders.items) marks frame known r s, heeds-kept run core.outbound after (own-ends frame core.outbound after (known, inr (inl r))) heeds)
+  own-serves got core after frame (known, inr (inr r)) run (marks, s, heeds) =
+      (marks ++ block_marks r.0 r.1 true, serves-refusal run core.outbound after core.streams.entries core.others.entries (calls got core.senders.items) marks frame known r s, heeds-kept run core.outbound after (own-ends frame core.outbound after (known, inr (inr r))) heeds)
 
   pub own-holds : (got : Out → List OutItem) (core : OutCore L In Out Shut) (after : Outbound) (o : Option Frame) → OwnOrRests o core.outbound after
       → HoldsOn got o core (record core { outbound = after })
   own-holds got core after (Some frame) own = own-serves got core after frame own
   own-holds got core after None rests = λ run h.
-      (h.0, serves-rests run core.outbound after core.streams.entries core.others.entries (calls got core.senders.items) h.0 rests h.1)
+      (h.0, serves-rests run core.outbound after core.streams.entries core.others.entries (calls got core.senders.items) h.0 rests h.1, heeds-kept run core.outbound after (rests-ends core.outbound after rests) h.2)
 
   -- ---- what callers see
 

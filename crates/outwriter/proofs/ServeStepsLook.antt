@@ -23,10 +23,11 @@ use Rattle.outwriter.specs.Mirrors.{Ends}
 use Rattle.outwriter.specs.Parts.{Mark, Byte, Fields, End, on_stream, spelled, marks_of_item, IsFrontOf, IsPart}
 use Rattle.outwriter.specs.Polling.{Shown, shows, with_hand, HandIs, HandKeeps, Removes, TakesAt, TellsData, aheads, HoldsOn, KeepsFronts}
 use Rattle.outwriter.specs.Polls.{block_item}
-use Rattle.outwriter.specs.Serving.{bytes_marks, Serves}
+use Rattle.outwriter.specs.Serving.{Heeds, bytes_marks, Serves}
 use Rattle.outwriter.specs.Steps.{Step, Written}
 use Rattle.outwriter.specs.Telling.{SpellsOf, TellsMore, TellsBlock, block_marks}
 use Rattle.outwriter.proofs.ServeSteps.{append-nil}
+use Rattle.outwriter.proofs.EndsKept.{heeds-kept, same-ends, block-ends}
 use Rattle.outwriter.proofs.Others.{later-none, later-written}
 use Rattle.outwriter.proofs.ServeStepsOpen.{Grows, grows-none, grows-one, goes-on, ends}
 use Rattle.outwriter.proofs.ServeStepsOwn.{serves-hands}
@@ -218,7 +219,7 @@ module _ {L In Out Shut : Type 0} where
 
   pub look-nothing : (E : Type 0) (got ahead : Out → List OutItem) (old mid : OutCore L In Out Shut) (id : ℕ) (result : Polled)
       → Took E got ahead old mid id (Ok result) → result ≡ polled.Nothing → HoldsOn got None old mid
-  look-nothing E got ahead old mid id result took is run (marks, s) =
+  look-nothing E got ahead old mid id result took is run (marks, s, heeds) =
       let t = subst (λ (p : Polled). TakesAt {E = E} (shows old.streams.entries id) (calls got old.senders.items) (calls got mid.senders.items) (aheads ahead mid.senders.items) old.outbound.encoder mid.outbound.encoder (Ok p)) is took.takes in
       let found = takes-nothing E (shows old.streams.entries id) (calls got old.senders.items) (calls got mid.senders.items) (aheads ahead mid.senders.items) old.outbound.encoder mid.outbound.encoder t in (
         marks,
@@ -227,6 +228,7 @@ module _ {L In Out Shut : Type 0} where
             (subst (λ others. Serves run old.outbound mid.streams.entries others.entries (calls got old.senders.items) marks) (sym took.others)
             (serves-hands run old.outbound old.streams.entries mid.streams.entries old.others.entries (calls got old.senders.items) marks
             (λ k. took.hands k ∙ by k found.2 (k == id) refl) s))),
+        subst (Heeds run) (sym (same-outbound old.outbound mid.outbound took.outbound found.1)) heeds,
       )
     where
       by : (k : ℕ) → with_hand None (shows old.streams.entries id) ≡ shows old.streams.entries id → (b : Bool) → (k == id) ≡ b
@@ -249,6 +251,8 @@ module _ {L In Out Shut : Type 0} where
             (calls got old.senders.items) (calls got mid.senders.items) m.0 id found.0 found.1 found.2 bytes tells.0 tells.1 frame found.3 found.4 found.5 took.hands tells.2 tells.3
             (subst (λ (x : Outbound). TellsMore frame (on_stream id (map Byte tells.0)) x new.outbound) same tells.4)
             (subst (λ (x : Outbound). new.outbound ≡ record x { windows = new.outbound.windows }) same tells.5) m.1)),
+        let is : new.outbound ≡ record old.outbound { windows = new.outbound.windows } = subst (λ (x : Outbound). new.outbound ≡ record x { windows = new.outbound.windows }) same tells.5 in
+            heeds-kept run old.outbound new.outbound (same-ends old.outbound new.outbound (ap (λ (x : Outbound). x.due) is) (ap (λ (x : Outbound). x.over) is)) m.2,
       )
   look-data E got ahead old mid new id bytes result None took is tells senders others_same = λ run m.
       let t = subst (λ (p : Polled). TakesAt {E = E} (shows old.streams.entries id) (calls got old.senders.items) (calls got mid.senders.items) (aheads ahead mid.senders.items) old.outbound.encoder mid.outbound.encoder (Ok p)) is took.takes in
@@ -260,6 +264,7 @@ module _ {L In Out Shut : Type 0} where
             (subst (λ others. Serves run old.outbound new.streams.entries others.entries (calls got mid.senders.items) (m.0 ++ on_stream id [])) (sym (others_same ∙ took.others))
             (kept-serves run old.outbound old.streams.entries mid.streams.entries new.streams.entries old.others.entries
             (calls got old.senders.items) (calls got mid.senders.items) m.0 id found.0 found.1 found.2 bytes found.3 found.4 found.5 took.hands tells.0 m.1))),
+        subst (Heeds run) (sym (tells.1 ∙ same)) m.2,
       )
 
   pub look-block : (E : Type 0) (got ahead : Out → List OutItem) (old mid fin : OutCore L In Out Shut) (after : Outbound) (id : ℕ) (bytes : List ℕ) (ends_it : Bool) (result : Polled) (frame : Frame)
@@ -268,7 +273,7 @@ module _ {L In Out Shut : Type 0} where
       → TellsBlock id ends_it bytes frame fin.outbound after → Ends fin.outbound.over.entries id ends_it after.over.entries
       → after ≡ record fin.outbound { windows = after.windows; over = after.over; block = after.block }
       → HoldsOn got (Some frame) old (record fin { outbound = after })
-  look-block E got ahead old mid fin after id bytes ends_it result frame took is_block outbound removes senders others_same tells over is run (marks, s) =
+  look-block E got ahead old mid fin after id bytes ends_it result frame took is_block outbound removes senders others_same tells over is run (marks, s, heeds) =
       let t = subst (λ (p : Polled). TakesAt {E = E} (shows old.streams.entries id) (calls got old.senders.items) (calls got mid.senders.items) (aheads ahead mid.senders.items) old.outbound.encoder mid.outbound.encoder (Ok p)) is_block took.takes in
       let found = takes-block E (shows old.streams.entries id) (calls got old.senders.items) (calls got mid.senders.items) (aheads ahead mid.senders.items) old.outbound.encoder mid.outbound.encoder bytes ends_it t in
       let same : fin.outbound ≡ record old.outbound { encoder = mid.outbound.encoder } = outbound ∙ took.outbound in
@@ -284,4 +289,6 @@ module _ {L In Out Shut : Type 0} where
             (told run marks found.1 old.outbound.encoder s.spells.1 found.4)
             (ap (λ (x : Outbound). x.due.items) (sym rest)) (λ k. ap (λ (x : Outbound). knows x.credit k) rest)
             (subst (λ (x : Outbound). Ends x.over.entries id ends_it after.over.entries) same over) s)),
+        heeds-kept run old.outbound after
+            (block-ends old.outbound after id ends_it (ap (λ (x : Outbound). x.due) rest) (subst (λ (x : Outbound). Ends x.over.entries id ends_it after.over.entries) same over)) heeds,
       )

@@ -42,7 +42,7 @@ module _ {L In Out Shut : Type 0} where
       → SameAhead (shows old.streams.entries id) (aheads ahead old.senders.items) (aheads ahead mid.senders.items)
       → ((k : ℕ) → k ≢ id → shows new.streams.entries k ≡ shows old.streams.entries k) → new.senders ≡ mid.senders → new.outbound.windows ≡ old.outbound.windows
       → (k : ℕ) → k ≢ id → StuckAt ahead k old → StuckAt ahead k new
-  others-stuck got ahead old mid new id run (marks, s) same hands senders windows k ne stuck stream e =
+  others-stuck got ahead old mid new id run (marks, s, heeds) same hands senders windows k ne stuck stream e =
       stuck-same (room old.outbound.windows k) (room new.outbound.windows k) f.0.in_hand stream.in_hand
       (get_or (aheads ahead old.senders.items) f.0.place []) (get_or (aheads ahead new.senders.items) stream.place [])
       (ap (λ (w : Windows). room w k) windows) (sym f.3)
@@ -66,7 +66,7 @@ module _ {L In Out Shut : Type 0} where
   -- a stream that is over, or none
   pub stuck-over : (got ahead : Out → List OutItem) (core : OutCore L In Out Shut) (id : ℕ) (may : Bool) → may ≡ false
       → may ≡ (is_stream id && not (is_some (lookup (nat_eq id) core.outbound.over.entries))) → GetsStuck got ahead id core core
-  stuck-over got ahead core id may denied is run (marks, s) = (
+  stuck-over got ahead core id may denied is run (marks, s, heeds) = (
     λ stream e. absurd (true≢false (sym (ap (λ b. b && not (is_some (lookup (nat_eq id) core.outbound.over.entries))) (s.numbered id stream e)
         ∙ ap (λ (o : Option Bool). not (is_some o)) (s.not_over id stream e)) ∙ sym is ∙ denied)),
     λ k ne stuck. stuck,

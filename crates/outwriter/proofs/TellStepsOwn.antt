@@ -1,7 +1,10 @@
 -- A frame that is none of an open stream, from the frame for what was due.
-use Rattle.std.proofs.Common.{◌≡◌, ℕ, inl, inr, sym, ap, subst, ◌∙◌, true, false, List, [], ◌∷◌, ◌++◌, Option, Some, None, append_assoc, nat_eq}
-use Rattle.std.specs.Prelude.{Result, Ok, Err, IfOk, OnOk}
+use Rattle.std.proofs.Common.{◌≡◌, ℕ, ◌==◌, inl, inr, refl, sym, ap, subst, ◌∙◌, Bool, true, false, List, [], ◌∷◌, ◌++◌, Option, Some, None, append_assoc, nat_eq, true≢false}
+use Rattle.std.specs.Prelude.{◌||◌, ◌&&◌, not, is_some, Result, Ok, Err, IfOk, OnOk}
+use Rattle.std.specs.List.{list_any}
 use Rattle.std.specs.Map.{lookup}
+use Rattle.std.proofs.lemmas.Bool.{eqb-true}
+use Rattle.std.proofs.lemmas.List.Folds.{list_any-append}
 use Rattle.h2frame.specs.declared.frame.Frame.{Frame}
 use Rattle.hpack_codec.specs.declared.fields.Field.{Field}
 use Rattle.hpack_codec.specs.Codec.{Writes}
@@ -10,10 +13,11 @@ use Rattle.outwriter.specs.declared.due.Due.{Due}
 use Rattle.outwriter.specs.declared.due.Due.TheVariants as due_kind
 use Rattle.outwriter.specs.declared.outbound.Outbound.{Outbound}
 use Rattle.outwriter.specs.Credits.{knows}
+use Rattle.outwriter.specs.Histories.{is_stream}
 use Rattle.outwriter.specs.Mirrors.{Sets, Ends}
 use Rattle.outwriter.specs.Parts.{Mark}
-use Rattle.outwriter.specs.Serving.{Rests, IsOwn, OwnOrRests}
-use Rattle.outwriter.specs.Telling.{Spells, KeepsTelling, TellsMore, TellsBlock, OwnByDue, block_marks}
+use Rattle.outwriter.specs.Serving.{AreOver, Rests, IsOwn, OwnOrRests, is_due_of}
+use Rattle.outwriter.specs.Telling.{Spells, SpellsOf, KeepsTelling, TellsMore, TellsBlock, OwnByDue, block_marks}
 use Rattle.outwriter.proofs.TellSteps.{rests-tells}
 
 -- ---- after steps that drop what was due at most
@@ -21,9 +25,26 @@ use Rattle.outwriter.proofs.TellSteps.{rests-tells}
 rests-due : (old mid new : List Due) (front more : List Due) → old ≡ front ++ mid → mid ≡ more ++ new → old ≡ (front ++ more) ++ new
 rests-due old mid new front more a b = a ∙ ap (λ (xs : List Due). front ++ xs) b ∙ sym (append_assoc front more new)
 
+-- what was dropped here and then had ended before
+more-over : (old mid : Outbound) (front more : List Due) → mid.over ≡ old.over → AreOver old front → AreOver mid more → AreOver old (front ++ more)
+more-over old mid front more same a b id there e =
+    by (list_any (is_due_of id) front) refl
+  where
+    by : (d : Bool) → list_any (is_due_of id) front ≡ d → is_some (lookup (nat_eq id) old.over.entries) ≡ true
+    by true p = a id there p
+    by false p = sym (ap (λ over. is_some (lookup (nat_eq id) over.entries)) same)
+        ∙ b id there (sym (list_any-append (is_due_of id) front more ∙ ap (λ d. d || list_any (is_due_of id) more) p) ∙ e)
+
+pub none-over : (o : Outbound) → AreOver o []
+none-over o id there e = absurd (true≢false (sym e))
+
 pub rests-rests : (old mid new : Outbound) → Rests old mid → Rests mid new → Rests old new
 rests-rests old mid new a b = record {
-  due = (a.due.0 ++ b.due.0, rests-due old.due.items mid.due.items new.due.items a.due.0 b.due.0 a.due.1 b.due.1);
+  due = (
+    a.due.0 ++ b.due.0,
+    rests-due old.due.items mid.due.items new.due.items a.due.0 b.due.0 a.due.1 b.due.1,
+    more-over old mid a.due.0 b.due.0 a.over a.due.2 b.due.2,
+  );
   knows = λ id. b.knows id ∙ a.knows id;
   over = b.over ∙ a.over;
   begun = b.begun ∙ a.begun;
@@ -38,15 +59,19 @@ still-open : (old mid : Outbound) (id : ℕ) → mid.over ≡ old.over → looku
 still-open old mid id e none = sym (ap (λ over. lookup (nat_eq id) over.entries) e) ∙ none
 
 pub rests-own : (old mid new : Outbound) (frame : Frame) → Rests old mid → IsOwn frame mid new → IsOwn frame old new
-rests-own old mid new frame rests (known, inl (tells, over, (front, due))) = (
+rests-own old mid new frame rests (known, inl (tells, over, (front, due, dropped))) = (
   λ id. known id ∙ rests.knows id,
   inl (
     more-after frame [] old mid new (rests-tells old mid rests) tells,
     over ∙ rests.over,
-    (rests.due.0 ++ front, rests-due old.due.items mid.due.items new.due.items rests.due.0 front rests.due.1 due),
+    (
+      rests.due.0 ++ front,
+      rests-due old.due.items mid.due.items new.due.items rests.due.0 front rests.due.1 due,
+      more-over old mid rests.due.0 front rests.over rests.due.2 dropped,
+    ),
   ),
 )
-rests-own old mid new frame rests (known, inr (inl (id, code, front, due, tells, none, sets))) = (
+rests-own old mid new frame rests (known, inr (inl (id, code, front, due, tells, none, sets, dropped))) = (
   λ k. known k ∙ rests.knows k,
   inr (inl (
     id,
@@ -56,9 +81,10 @@ rests-own old mid new frame rests (known, inr (inl (id, code, front, due, tells,
     (tells.0, more-after frame _ old mid new (rests-tells old mid rests) tells.1),
     still-open old mid id rests.over none,
     subst (λ over. Sets over.entries id true new.over.entries) rests.over sets,
+    more-over old mid rests.due.0 front rests.over rests.due.2 dropped,
   )),
 )
-rests-own old mid new frame rests (known, inr (inr (id, fields, front, due, tells, none, sets))) = (
+rests-own old mid new frame rests (known, inr (inr (id, fields, front, due, tells, none, sets, dropped))) = (
   λ k. known k ∙ rests.knows k,
   inr (inr (
     id,
@@ -68,6 +94,7 @@ rests-own old mid new frame rests (known, inr (inr (id, fields, front, due, tell
     more-after frame (block_marks id fields true) old mid new (rests-tells old mid rests) tells,
     still-open old mid id rests.over none,
     subst (λ over. Sets over.entries id false new.over.entries) rests.over sets,
+    more-over old mid rests.due.0 front rests.over rests.due.2 dropped,
   )),
 )
 
@@ -77,9 +104,9 @@ rests-either old mid new (Some frame) rests own = rests-own old mid new frame re
 
 -- ---- the first that was due
 
-pub dropped-rests : (mid popped : Outbound) (one : Due) → mid.due.items ≡ one ∷ popped.due.items → popped ≡ record mid { due = popped.due } → Rests mid popped
-dropped-rests mid popped one first is = record {
-  due = (one ∷ [], first);
+pub dropped-rests : (mid popped : Outbound) (one : Due) → mid.due.items ≡ one ∷ popped.due.items → popped ≡ record mid { due = popped.due } → AreOver mid (one ∷ []) → Rests mid popped
+dropped-rests mid popped one first is over = record {
+  due = (one ∷ [], first, over);
   knows = λ id. ap (λ (o : Outbound). knows o.credit id) is;
   over = ap (λ (o : Outbound). o.over) is;
   begun = ap (λ (o : Outbound). o.begun) is;
@@ -87,44 +114,69 @@ dropped-rests mid popped one first is = record {
   encoder = ap (λ (o : Outbound). o.encoder) is;
 }
 
+-- nothing that tells changes
+popped-tells : (mid popped : Outbound) → popped ≡ record mid { due = popped.due } → KeepsTelling mid popped
+popped-tells mid popped is run marks spells = subst (λ (o : Outbound). SpellsOf run o marks) (sym is) spells
+
 -- its frame is none of an open stream
-due-own : (mid popped new : Outbound) (one : Due) (frame : Frame) → mid.due.items ≡ one ∷ popped.due.items → Rests mid popped → OwnByDue one frame popped new
-    → IsOwn frame mid new
-due-own mid popped new due_kind.SettingsAck frame first rests ((same, known), (tells, over)) =
-    rests-own mid popped new frame rests (known, inl (tells, over, ([], ap (λ due. due.items) (sym same))))
-due-own mid popped new (due_kind.PingAck bytes) frame first rests ((same, known), (tells, over)) =
-    rests-own mid popped new frame rests (known, inl (tells, over, ([], ap (λ due. due.items) (sym same))))
-due-own mid popped new (due_kind.Goaway last code) frame first rests ((same, known), (tells, over)) =
-    rests-own mid popped new frame rests (known, inl (tells, over, ([], ap (λ due. due.items) (sym same))))
-due-own mid popped new (due_kind.Reset id code) frame first rests ((same, known), (tells, (none, sets))) = (
-  λ k. known k ∙ rests.knows k,
+due-own : (mid popped new : Outbound) (one : Due) (frame : Frame) → mid.due.items ≡ one ∷ popped.due.items → popped ≡ record mid { due = popped.due }
+    → OwnByDue one frame popped new → IsOwn frame mid new
+due-own mid popped new due_kind.SettingsAck frame first is ((same, known), (tells, over)) =
+    rests-own mid popped new frame (dropped-rests mid popped due_kind.SettingsAck first is (λ id there e. absurd (true≢false (sym e))))
+    (known, inl (tells, over, ([], ap (λ due. due.items) (sym same), none-over popped)))
+due-own mid popped new (due_kind.PingAck bytes) frame first is ((same, known), (tells, over)) =
+    rests-own mid popped new frame (dropped-rests mid popped (due_kind.PingAck bytes) first is (λ id there e. absurd (true≢false (sym e))))
+    (known, inl (tells, over, ([], ap (λ due. due.items) (sym same), none-over popped)))
+due-own mid popped new (due_kind.Goaway last code) frame first is ((same, known), (tells, over)) =
+    rests-own mid popped new frame (dropped-rests mid popped (due_kind.Goaway last code) first is (λ id there e. absurd (true≢false (sym e))))
+    (known, inl (tells, over, ([], ap (λ due. due.items) (sym same), none-over popped)))
+due-own mid popped new (due_kind.Reset id code) frame first is ((same, known), (tells, (none, sets))) = (
+  λ k. known k ∙ ap (λ (o : Outbound). knows o.credit k) is,
   inr (inl (
     id,
     code,
     [],
     first ∙ ap (λ due. due_kind.Reset id code ∷ due.items) (sym same),
-    (tells.0, more-after frame _ mid popped new (rests-tells mid popped rests) tells.1),
-    still-open mid popped id rests.over none,
-    subst (λ over. Sets over.entries id true new.over.entries) rests.over sets,
+    (tells.0, more-after frame _ mid popped new (popped-tells mid popped is) tells.1),
+    still-open mid popped id (ap (λ (o : Outbound). o.over) is) none,
+    subst (λ over. Sets over.entries id true new.over.entries) (ap (λ (o : Outbound). o.over) is) sets,
+    none-over mid,
   )),
 )
-due-own mid popped new (due_kind.Refuse id fields) frame first rests ((same, known), (tells, (none, sets))) = (
-  λ k. known k ∙ rests.knows k,
+due-own mid popped new (due_kind.Refuse id fields) frame first is ((same, known), (tells, (none, sets))) = (
+  λ k. known k ∙ ap (λ (o : Outbound). knows o.credit k) is,
   inr (inr (
     id,
     fields,
     [],
     first ∙ ap (λ due. due_kind.Refuse id fields ∷ due.items) (sym same),
-    more-after frame (block_marks id fields true) mid popped new (rests-tells mid popped rests) tells,
-    still-open mid popped id rests.over none,
-    subst (λ over. Sets over.entries id false new.over.entries) rests.over sets,
+    more-after frame (block_marks id fields true) mid popped new (popped-tells mid popped is) tells,
+    still-open mid popped id (ap (λ (o : Outbound). o.over) is) none,
+    subst (λ over. Sets over.entries id false new.over.entries) (ap (λ (o : Outbound). o.over) is) sets,
+    none-over mid,
   )),
 )
 
 pub due-first : (old mid popped new : Outbound) (one : Due) (frame : Frame) → Rests old mid → mid.due.items ≡ one ∷ popped.due.items
     → popped ≡ record mid { due = popped.due } → OwnByDue one frame popped new → IsOwn frame old new
-due-first old mid popped new one frame rests first is own =
-    rests-own old mid new frame rests (due-own mid popped new one frame first (dropped-rests mid popped one first is) own)
+due-first old mid popped new one frame rests first is own = rests-own old mid new frame rests (due-own mid popped new one frame first is own)
+
+-- an end that isn't due any more, since its stream is over
+pub not-ending : (o : Outbound) (at : ℕ) (may : Bool) (one : Due) → may ≡ false → may ≡ (is_stream at && not (is_some (lookup (nat_eq at) o.over.entries)))
+    → ((id : ℕ) → list_any (is_due_of id) (one ∷ []) ≡ ((id == at) || false)) → AreOver o (one ∷ [])
+not-ending o at may one denied is here id there e = by (id == at) refl
+  where
+    was : (b : Bool) → not b ≡ false → b ≡ true
+    was true f = refl
+    was false f = sym f
+
+    by : (b : Bool) → (id == at) ≡ b → is_some (lookup (nat_eq id) o.over.entries) ≡ true
+    by true p =
+        let same : id ≡ at = eqb-true id at p in
+        ap (λ n. is_some (lookup (nat_eq n) o.over.entries)) same
+        ∙ was (is_some (lookup (nat_eq at) o.over.entries))
+        (ap (λ b. b && not (is_some (lookup (nat_eq at) o.over.entries))) (sym (ap is_stream (sym same) ∙ there)) ∙ sym is ∙ denied)
+    by false p = absurd (true≢false (sym e ∙ here id ∙ ap (λ b. b || false) p))
 
 -- ---- a refusal
 

@@ -1,9 +1,10 @@
 -- The calls that a writer serves: what their senders gave, and what was told of it; and what was told of other streams.
-use Rattle.std.specs.Prelude.{◌≡◌, ◌⊎◌, ◌||◌, ℕ, ◌==◌, Bool, true, false, All, List, [], ◌∷◌, if◌then◌else◌}
+use Rattle.std.specs.Prelude.{◌≡◌, ◌⊎◌, ◌||◌, ◌&&◌, not, ℕ, ◌==◌, Bool, true, false, All, List, [], ◌∷◌, if◌then◌else◌}
 use Rattle.callbox.specs.declared.account.OutItem.{OutItem}
 use Rattle.hpack_codec.specs.declared.fields.Field.{Field}
 use Rattle.outwriter.specs.declared.control.Control.TheVariants.{Open, Refuse}
 use Rattle.outwriter.specs.declared.control.Control.TheVariants as order
+use Rattle.outwriter.specs.Histories.{is_stream, is_over}
 use Rattle.outwriter.specs.Parts.{Mark, Fields, End, Reset, spelled, IsPart, IsFrontOf}
 use Rattle.outwriter.specs.Steps.{Step, Order, Taken, Granted, Written}
 
@@ -74,3 +75,34 @@ IsOther id run part = (part ≡ [])
 -- so it is with what the frames tell of each stream that no Open opened
 abbrev pub TellOthers : List Step → Type 0
 TellOthers run = (id : ℕ) → is_opened id run ≡ false → (part : List Mark) × IsPart id run part × IsOther id run part
+
+-- ---- streams that are called off
+
+-- a control that calls a stream off: a Reset of it that is to be written, or a Refuse of it while no Open of it was taken
+abbrev pub calls_off : ℕ → Bool → Order → Bool
+calls_off id opened (order.Reset stream code written) = (id == stream) && written
+calls_off id opened (Refuse stream fields) = (id == stream) && not opened
+calls_off id opened _ = false
+
+-- one was taken
+abbrev pub is_called_off : ℕ → List Step → Bool
+is_called_off id [] = false
+is_called_off id (Taken order ∷ before) = calls_off id (is_opened id before) order || is_called_off id before
+is_called_off id (Granted stream n ∷ before) = is_called_off id before
+is_called_off id (Written frame ∷ before) = is_called_off id before
+
+-- a Reset of it that isn't to be written
+abbrev pub drops : ℕ → Order → Bool
+drops id (order.Reset stream code written) = (id == stream) && not written
+drops id _ = false
+
+-- one was taken
+abbrev pub is_dropped : ℕ → List Step → Bool
+is_dropped id [] = false
+is_dropped id (Taken order ∷ before) = drops id order || is_dropped id before
+is_dropped id (Granted stream n ∷ before) = is_dropped id before
+is_dropped id (Written frame ∷ before) = is_dropped id before
+
+-- the end of each stream that was called off was written, by END_STREAM or RST_STREAM, unless it was dropped
+abbrev pub TellEnds : List Step → Type 0
+TellEnds run = (id : ℕ) → is_stream id ≡ true → is_called_off id run ≡ true → (is_over id run ≡ true) ⊎ (is_dropped id run ≡ true)

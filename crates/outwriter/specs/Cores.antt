@@ -13,10 +13,10 @@ use Rattle.outwriter.specs.declared.next.Next.TheVariants as next
 use Rattle.outwriter.specs.declared.out_core.OutCore.{OutCore}
 use Rattle.outwriter.specs.declared.outbound.Outbound.{Outbound}
 use Rattle.outwriter.specs.declared.stream.OpenStream.{OpenStream}
-use Rattle.outwriter.specs.Calls.{TellFronts, TellOthers, is_served, was_reset}
+use Rattle.outwriter.specs.Calls.{TellEnds, TellFronts, TellOthers, is_served, was_reset}
 use Rattle.outwriter.specs.Histories.{is_stream, is_over}
 use Rattle.outwriter.specs.Parts.{Mark}
-use Rattle.outwriter.specs.Serving.{Serves}
+use Rattle.outwriter.specs.Serving.{Serves, Heeds}
 use Rattle.outwriter.specs.Steps.{Step, Taken, Written, order_of}
 
 -- nothing is ahead of a sender, or what is in hand has no room
@@ -40,7 +40,7 @@ module _ {L In Out Shut : Type 0} where
     pub fronts : TellFronts run (calls got core.senders.items)
     pub others : TellOthers run
     pub serves : core.is_dead ≡ false
-        → (marks : List (ℕ × Mark)) × Serves run core.outbound core.streams.entries core.others.entries (calls got core.senders.items) marks
+        → (marks : List (ℕ × Mark)) × Serves run core.outbound core.streams.entries core.others.entries (calls got core.senders.items) marks × Heeds run core.outbound
 
   -- whatever run led to the core before, with this step it leads to the core after
   abbrev pub ServesOn : (Out → List OutItem) → Step → OutCore L In Out Shut → OutCore L In Out Shut → Type 0
@@ -96,3 +96,9 @@ module _ {L In Out Shut : Type 0} where
   NoFrameNext ahead run (next.Frame frame) core = Unit {0}
   NoFrameNext ahead run next.Idle core = HaveNoFrame ahead run core
   NoFrameNext ahead run next.Over core = HaveNoFrame ahead run core
+
+  -- the end of each stream that was called off was written, unless the last frame was a GOAWAY with an error
+  abbrev pub EndedNext : List Step → Next → OutCore L In Out Shut → Type 0
+  EndedNext run (next.Frame frame) core = Unit {0}
+  EndedNext run next.Idle core = (core.outbound.gone ≡ true) ⊎ TellEnds run
+  EndedNext run next.Over core = (core.outbound.gone ≡ true) ⊎ TellEnds run

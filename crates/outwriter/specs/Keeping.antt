@@ -9,7 +9,7 @@ use Rattle.outwriter.specs.Cores.{calls}
 use Rattle.outwriter.specs.Credits.{knows}
 use Rattle.outwriter.specs.Histories.{is_stream}
 use Rattle.outwriter.specs.Parts.{Mark}
-use Rattle.outwriter.specs.Serving.{Serves, Takes}
+use Rattle.outwriter.specs.Serving.{Serves, Heeds, Takes}
 use Rattle.outwriter.specs.Steps.{Step}
 
 module _ {L In Out Shut : Type 0} where
@@ -19,6 +19,10 @@ module _ {L In Out Shut : Type 0} where
   -- whatever run led to the core before, with these steps it leads to the core after, and nothing more is told
   abbrev pub KeepsServing : (Out → List OutItem) → List Step → OutCore L In Out Shut → OutCore L In Out Shut → Type 0
   KeepsServing got more old new = (run : List Step) (marks : List (ℕ × Mark)) → ServesOf got run old marks → ServesOf got (more ++ run) new marks
+
+  -- and the ends that controls ask for are heeded still
+  abbrev pub KeepsHeeds : (Out → List OutItem) → List Step → OutCore L In Out Shut → OutCore L In Out Shut → Type 0
+  KeepsHeeds got more old new = (run : List Step) (marks : List (ℕ × Mark)) → ServesOf got run old marks → Heeds run old.outbound → Heeds (more ++ run) new.outbound
 
 -- ---- an Open
 
@@ -48,4 +52,9 @@ module _ {L In Out Shut : Type 0} where
   -- where a stream had neither ended nor been reset, its reset may be due
   abbrev pub MayReset : (Out → List OutItem) → ℕ → Bool → OutCore L In Out Shut → Type 0
   MayReset got id was_open core = (run : List Step) (marks : List (ℕ × Mark)) → ServesOf got run core marks → was_open ≡ true
+      → (lookup (nat_eq id) core.streams.entries ≡ None) × ((is_some (lookup (nat_eq id) core.others.entries) || knows core.outbound.credit id) ≡ true)
+
+  -- where it had, it wasn't open
+  abbrev pub WasClosed : (Out → List OutItem) → ℕ → Bool → OutCore L In Out Shut → Type 0
+  WasClosed got id was_open core = (run : List Step) (marks : List (ℕ × Mark)) → ServesOf got run core marks → is_stream id ≡ true → was_open ≡ false
       → (lookup (nat_eq id) core.streams.entries ≡ None) × ((is_some (lookup (nat_eq id) core.others.entries) || knows core.outbound.credit id) ≡ true)

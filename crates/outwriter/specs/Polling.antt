@@ -16,7 +16,7 @@ use Rattle.outwriter.specs.Calls.{TellFronts}
 use Rattle.outwriter.specs.Cores.{calls, IsStuck, AreStuck, IsQuiet}
 use Rattle.outwriter.specs.Parts.{Mark, Byte, on_stream}
 use Rattle.outwriter.specs.Polls.{block_item}
-use Rattle.outwriter.specs.Serving.{Serves}
+use Rattle.outwriter.specs.Serving.{Serves, Heeds}
 use Rattle.outwriter.specs.Steps.{Step, Written}
 use Rattle.outwriter.specs.Telling.{TellsMore}
 
@@ -100,7 +100,7 @@ module _ {L In Out Shut : Type 0} where
 
   -- all that is kept of the calls follows from the run
   abbrev pub Holds : (Out → List OutItem) → List Step → OutCore L In Out Shut → Type 0
-  Holds got run core = (marks : List (ℕ × Mark)) × Serves run core.outbound core.streams.entries core.others.entries (calls got core.senders.items) marks
+  Holds got run core = (marks : List (ℕ × Mark)) × Serves run core.outbound core.streams.entries core.others.entries (calls got core.senders.items) marks × Heeds run core.outbound
 
   -- a frame, if there is one, is the next step
   abbrev pub HoldsOn : (Out → List OutItem) → Option Frame → OutCore L In Out Shut → OutCore L In Out Shut → Type 0

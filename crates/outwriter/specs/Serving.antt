@@ -1,5 +1,6 @@
 -- What a writer keeps of its calls follows from its run.
-use Rattle.std.specs.Prelude.{◌≡◌, ◌≢◌, ◌⊎◌, ◌||◌, ℕ, ◌<◌, Bool, true, false, All, List, [], ◌∷◌, ◌++◌, map, length, get_or, Option, None, Some, is_some, nat_eq}
+use Rattle.std.specs.Prelude.{◌≡◌, ◌≢◌, ◌⊎◌, ◌||◌, ℕ, ◌==◌, ◌<◌, Bool, true, false, All, List, [], ◌∷◌, ◌++◌, map, length, get_or, Option, None, Some, is_some, nat_eq}
+use Rattle.std.specs.List.{list_any}
 use Rattle.std.specs.Map.{lookup}
 use Rattle.callbox.specs.Accounts.{Begins}
 use Rattle.callbox.specs.declared.account.OutItem.{OutItem}
@@ -10,7 +11,7 @@ use Rattle.outwriter.specs.declared.due.Due.{Due}
 use Rattle.outwriter.specs.declared.due.Due.TheVariants as due_kind
 use Rattle.outwriter.specs.declared.outbound.Outbound.{Outbound}
 use Rattle.outwriter.specs.declared.stream.OpenStream.{OpenStream}
-use Rattle.outwriter.specs.Calls.{is_fresh, is_served, is_opened, was_reset, IsRefused, IsOther}
+use Rattle.outwriter.specs.Calls.{is_fresh, is_served, is_opened, is_called_off, is_dropped, was_reset, IsRefused, IsOther}
 use Rattle.outwriter.specs.Credits.{knows}
 use Rattle.outwriter.specs.Histories.{is_stream}
 use Rattle.outwriter.specs.Mirrors.{Sets}
@@ -46,6 +47,30 @@ MayBeDue run o streams others (due_kind.Reset id code) =
     (lookup (nat_eq id) streams ≡ None) × ((is_some (lookup (nat_eq id) others) || knows o.credit id) ≡ true)
 MayBeDue run o streams others _ = Unit {0}
 
+-- ---- how streams end
+
+-- the end of a stream, as it is due
+abbrev pub is_due_of : ℕ → Due → Bool
+is_due_of id (due_kind.Reset stream code) = id == stream
+is_due_of id (due_kind.Refuse stream fields) = id == stream
+is_due_of id _ = false
+
+-- a stream's end was written, or is due
+abbrev pub IsEnding : ℕ → Outbound → Type 0
+IsEnding id o = (is_some (lookup (nat_eq id) o.over.entries) ≡ true) ⊎ (list_any (is_due_of id) o.due.items ≡ true)
+
+-- so it is of each stream that was called off, unless it was dropped
+abbrev pub Heeds : List Step → Outbound → Type 0
+Heeds run o = (id : ℕ) → is_stream id ≡ true → is_called_off id run ≡ true → IsEnding id o ⊎ (is_dropped id run ≡ true)
+
+-- the ends that were due here were written before
+abbrev pub AreOver : Outbound → List Due → Type 0
+AreOver o dues = (id : ℕ) → is_stream id ≡ true → list_any (is_due_of id) dues ≡ true → is_some (lookup (nat_eq id) o.over.entries) ≡ true
+
+-- a stream was called off or dropped
+abbrev pub has_reason : ℕ → List Step → Bool
+has_reason id run = is_called_off id run || is_dropped id run
+
 -- ---- all of them
 
 -- The streams of a writer, of which its frames tell these marks: those that are open, those that were refused or reset before they
@@ -76,7 +101,11 @@ pub record Serves (run : List Step) (o : Outbound) (streams : List (ℕ × OpenS
   pub stays : (id : ℕ) → is_served id run ≡ true → is_stream id ≡ true → lookup (nat_eq id) streams ≡ None
       → (is_some (lookup (nat_eq id) o.over.entries) ≡ true) ⊎ (was_reset id run ≡ true)
   pub early : (id : ℕ) (before : Bool) → lookup (nat_eq id) others ≡ Some before → is_fresh id run ≡ true → was_reset id run ≡ true
-  -- it was opened
+  -- a stream that was heard of is open until its end was written, or it was called off or dropped
+  pub reasons : (id : ℕ) → is_stream id ≡ true → lookup (nat_eq id) streams ≡ None → (is_some (lookup (nat_eq id) others) || knows o.credit id) ≡ true
+      → (is_some (lookup (nat_eq id) o.over.entries) ≡ true) ⊎ (has_reason id run ≡ true)
+  pub heard : (id : ℕ) → is_opened id run ≡ true → is_stream id ≡ true → knows o.credit id ≡ true
+  -- a call's was opened
   pub brought : (id : ℕ) → knows o.credit id ≡ true → is_opened id run ≡ true
   pub uncalled : (id : ℕ) (was_reset : Bool) → knows o.credit id ≡ false → lookup (nat_eq id) others ≡ Some was_reset
       → IsUncalled id run (lookup (nat_eq id) o.over.entries) (marks_on id marks)
@@ -98,17 +127,17 @@ none_is_new id = false
 
 -- a frame tells nothing of a stream, and no stream is over by it
 abbrev pub IsPlain : Frame → Outbound → Outbound → Type 0
-IsPlain frame old new = TellsMore frame [] old new × (new.over ≡ old.over) × ((front : List Due) × (old.due.items ≡ front ++ new.due.items))
+IsPlain frame old new = TellsMore frame [] old new × (new.over ≡ old.over) × ((front : List Due) × (old.due.items ≡ front ++ new.due.items) × AreOver old front)
 
 -- it resets a stream, for which that was due
 abbrev pub IsReset : Frame → Outbound → Outbound → Type 0
 IsReset frame old new = (id : ℕ) × (code : ErrorCode) × (front : List Due) × (old.due.items ≡ front ++ due_kind.Reset id code ∷ new.due.items)
-    × TellsReset id frame old new × (lookup (nat_eq id) old.over.entries ≡ None) × Sets old.over.entries id true new.over.entries
+    × TellsReset id frame old new × (lookup (nat_eq id) old.over.entries ≡ None) × Sets old.over.entries id true new.over.entries × AreOver old front
 
 -- it begins the refusal of a stream, for which that was due
 abbrev pub IsRefusal : Frame → Outbound → Outbound → Type 0
 IsRefusal frame old new = (id : ℕ) × (fields : List Field) × (front : List Due) × (old.due.items ≡ front ++ due_kind.Refuse id fields ∷ new.due.items)
-    × TellsMore frame (block_marks id fields true) old new × (lookup (nat_eq id) old.over.entries ≡ None) × Sets old.over.entries id false new.over.entries
+    × TellsMore frame (block_marks id fields true) old new × (lookup (nat_eq id) old.over.entries ≡ None) × Sets old.over.entries id false new.over.entries × AreOver old front
 
 -- a frame that is none of an open stream
 abbrev pub IsOwn : Frame → Outbound → Outbound → Type 0
@@ -116,7 +145,7 @@ IsOwn frame old new = ((id : ℕ) → knows new.credit id ≡ knows old.credit i
 
 -- no frame: what was due is dropped at most
 pub record Rests (old new : Outbound) : Type 0 where
-  pub due : (front : List Due) × (old.due.items ≡ front ++ new.due.items)
+  pub due : (front : List Due) × (old.due.items ≡ front ++ new.due.items) × AreOver old front
   pub knows : (id : ℕ) → knows new.credit id ≡ knows old.credit id
   pub over : new.over ≡ old.over
   pub begun : new.begun ≡ old.begun

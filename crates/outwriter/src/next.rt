@@ -29,7 +29,7 @@ impl<L: Lane<Item = OutItem>> OutCore<L> {
     ghost use Rattle.outwriter.specs.declared.next.Next.TheVariants as next_kind;
     ghost use Rattle.h2frame.specs.declared.frame.Frame.{Frame as FrameOf};
     ghost use Rattle.outwriter.specs.Frames.{IsSound};
-    ghost use Rattle.outwriter.specs.Cores.{Serving, ServesNext, QuietNext, NoFrameNext, calls};
+    ghost use Rattle.outwriter.specs.Cores.{Serving, ServesNext, QuietNext, NoFrameNext, EndedNext, calls};
     ghost use Rattle.outwriter.specs.Polling.{shows, SameHands, HandIs, HandKeeps, Removes, ids, TakesAt, SameAhead, aheads, HoldsOn, KeepsFronts, TellsData, GetsStuck, AllStuck, GetsQuiet};
     ghost use Rattle.outwriter.specs.Steps.{Step};
     ghost use Rattle.outwriter.specs.Mirrors.{Answers, AnswersAll, Reached, SameOwn, IsSpent, Progress, Progresses, Stays, IsBetween, MirrorsOf};
@@ -61,6 +61,9 @@ impl<L: Lane<Item = OutItem>> OutCore<L> {
 
         // So each call has ended or was reset, or has nothing that can be written now.
         ensures no_frame { IfOk result (λ next. (run : List Step) → Reached run self.old.outbound → Serving L.got run self.old → self.old.is_dead ≡ false → NoFrameNext L.ahead run next self.new) }
+
+        // And the end of each stream that a Reset or a Refuse called off was written.
+        ensures ended { IfOk result (λ next. (run : List Step) → Reached run self.old.outbound → Serving L.got run self.old → self.old.is_dead ≡ false → EndedNext run next self.new) }
     {
         if self.is_dead {
             return Err(OutFault::OutOfMemory(None));

@@ -10,7 +10,7 @@ ghost use Rattle.std.specs.Map.{lookup};
 ghost use Rattle.flow.specs.Windows.{room};
 ghost use Rattle.outwriter.specs.Calls.{TellFronts, TellOthers};
 ghost use Rattle.outwriter.specs.Credits.{Grants};
-ghost use Rattle.outwriter.specs.Keeping.{KeepsServing, Prepares, MayReset};
+ghost use Rattle.outwriter.specs.Keeping.{KeepsServing, KeepsHeeds, Prepares, MayReset, WasClosed};
 ghost use Rattle.outwriter.specs.Serving.{none_is_new};
 ghost use Rattle.outwriter.specs.Serving.{Takes as KeepsCalls};
 ghost use Rattle.outwriter.specs.Steps.{Step, Taken, Granted};
@@ -165,6 +165,8 @@ impl<L: Lane<Item = OutItem>> OutCore<L> {
         ensures taken { Takes result (order.Open id sender) self.old.outbound self.new.outbound }
         ensures served { OnOk result (L.got sender.rx ≡ [] → KeepsServing L.got (Taken (order.Open id tt) ∷ []) self.old self.new) }
         ensures still { OnErr result (KeepsServing L.got [] self.old self.new) }
+        ensures heeds { OnOk result (KeepsHeeds L.got (Taken (order.Open id tt) ∷ []) self.old self.new) }
+        ensures heeds_still { OnErr result (KeepsHeeds L.got [] self.old self.new) }
         ensures memory { IfErr result IsMemory }
         ensures alive { self.new.is_dead ≡ self.old.is_dead }
     {
@@ -212,6 +214,8 @@ impl<L: Lane<Item = OutItem>> OutCore<L> {
         ensures taken { Takes result (order.Refuse id fields) self.old.outbound self.new.outbound }
         ensures served { OnOk result (KeepsServing L.got (Taken (order.Refuse id fields) ∷ []) self.old self.new) }
         ensures still { OnErr result (KeepsServing L.got [] self.old self.new) }
+        ensures heeds { OnOk result (KeepsHeeds L.got (Taken (order.Refuse id fields) ∷ []) self.old self.new) }
+        ensures heeds_still { OnErr result (KeepsHeeds L.got [] self.old self.new) }
         ensures memory { IfErr result IsMemory }
         ensures alive { self.new.is_dead ≡ self.old.is_dead }
     {
@@ -236,6 +240,8 @@ impl<L: Lane<Item = OutItem>> OutCore<L> {
         ensures taken { Takes result (order.Reset id code written) self.old.outbound self.new.outbound }
         ensures served { OnOk result (KeepsServing L.got (Taken (order.Reset id code written) ∷ []) self.old self.new) }
         ensures still { OnErr result (KeepsServing L.got [] self.old self.new) }
+        ensures heeds { OnOk result (KeepsHeeds L.got (Taken (order.Reset id code written) ∷ []) self.old self.new) }
+        ensures heeds_still { OnErr result (KeepsHeeds L.got [] self.old self.new) }
         ensures memory { IfErr result IsMemory }
         ensures alive { self.new.is_dead ≡ self.old.is_dead }
     {
@@ -252,9 +258,11 @@ impl<L: Lane<Item = OutItem>> OutCore<L> {
     fn ends(&mut self, id: StreamId) -> Result<bool, AllocError>
         ensures stays { Stays self.old.outbound self.new.outbound }
         ensures due { self.new.outbound.due ≡ self.old.outbound.due }
+        ensures kept { KeepsCalls [] none_is_new self.old.outbound self.new.outbound }
         ensures served { OnOk result ((code : ErrorCodeOf) (written : Bool) → KeepsServing L.got (Taken (order.Reset id code written) ∷ []) self.old self.new) }
         ensures still { OnErr result (KeepsServing L.got [] self.old self.new) }
         ensures was_open { IfOk result (λ was_open. MayReset L.got id was_open self.new) }
+        ensures was_closed { IfOk result (λ was_open. WasClosed L.got id was_open self.old) }
         ensures alive { self.new.is_dead ≡ self.old.is_dead }
     {
         if !is_stream(id) {

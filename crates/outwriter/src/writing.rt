@@ -30,7 +30,7 @@ impl Outbound {
     ghost use Rattle.outwriter.specs.Steps.{Step};
     ghost use Rattle.outwriter.specs.Histories.{is_stream as is_number};
     ghost use Rattle.outwriter.specs.Parts.{Byte, on_stream};
-    ghost use Rattle.outwriter.specs.Serving.{IsOwn, OwnOrRests};
+    ghost use Rattle.outwriter.specs.Serving.{AreOver, IsOwn, OwnOrRests};
     ghost use Rattle.outwriter.specs.Telling.{TellsBlock, TellsMore, OwnByDue, OwnOfDue};
     ghost use Rattle.outwriter.specs.Mirrors.{Progress, Stays, IsBetween, Writes, WritesIf, WritesDue, WritesOrSkips, Heads, MirrorsOf};
 
@@ -110,6 +110,7 @@ impl Outbound {
         ensures numbered { IfOk result (λ o. IfSome o (λ frame. frame.head.stream < 2 ^ 31)) }
         ensures written { IfOk result (λ o. WritesOrSkips due o self.old self.new) }
         ensures own { IfOk result (λ o. OwnOfDue due o self.old self.new) }
+        ensures dropped { IfOk result (λ o. IfNone o (AreOver self.old (due ∷ []))) }
     {
         match due {
             Due::SettingsAck => Ok(Some(self.settings_ack())),

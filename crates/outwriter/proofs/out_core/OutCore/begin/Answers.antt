@@ -1,7 +1,9 @@
-use Rattle.std.proofs.Common.{ap}
+use Rattle.std.proofs.Common.{ap, []}
 use Rattle.outwriter.specs.Cores.{calls}
 use Rattle.outwriter.proofs.CallSteps.{serves-equal, serves-kept}
 use Rattle.outwriter.proofs.CallStepsCores.{serves-began}
+use Rattle.outwriter.specs.Serving.{none_is_new}
+use Rattle.outwriter.proofs.EndsKept.{heeds-kept, takes-ends}
 use Rattle.outwriter.proofs.out_core.OutCore.begin.Goals as goal
 
 pub returns-in-Ok-clause-served : goal.returns-in-Ok-clause-served
@@ -17,3 +19,13 @@ returns-in-Err-clause-still g c = λ run marks s.
     c.in-Err.ensures.streams c.in-Err.ensures.others (ap (calls g.L.Lane.got) c.in-Err.ensures.senders)
     (serves-kept run c.args.self.now.outbound c.prepare.new.self.outbound c.args.self.now.streams.entries c.args.self.now.others.entries
     (calls g.L.Lane.got c.args.self.now.senders.items) marks c.in-Err.ensures.none s)
+
+pub returns-in-Ok-clause-heeds : goal.returns-in-Ok-clause-heeds
+returns-in-Ok-clause-heeds g c = λ run marks s heeds.
+    heeds-kept run c.args.self.now.outbound c.prepare.new.self.outbound
+    (takes-ends [] _ c.args.self.now.outbound c.prepare.new.self.outbound c.in-Ok.ensures.call.takes) heeds
+
+pub returns-in-Err-clause-heeds_still : goal.returns-in-Err-clause-heeds_still
+returns-in-Err-clause-heeds_still g c = λ run marks s heeds.
+    heeds-kept run c.args.self.now.outbound c.prepare.new.self.outbound
+    (takes-ends [] none_is_new c.args.self.now.outbound c.prepare.new.self.outbound c.in-Err.ensures.none) heeds

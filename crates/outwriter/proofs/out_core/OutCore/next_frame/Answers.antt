@@ -3,6 +3,7 @@ use Rattle.h2frame.specs.declared.frame.Frame.{Frame}
 use Rattle.std.specs.Prelude.{IfNone}
 use Rattle.outwriter.specs.Mirrors.{IsSpent, Progresses}
 use Rattle.outwriter.specs.Polling.{GetsQuiet, HoldsOn}
+use Rattle.outwriter.proofs.EndsKept.{ended-if}
 use Rattle.outwriter.proofs.Progresses.{spent-answered}
 use Rattle.outwriter.proofs.QuietSteps.{no-frame-if}
 use Rattle.outwriter.proofs.ServeStepsCore.{serving-on}
@@ -44,3 +45,17 @@ returns-in-Ok-None-2-clause-no_frame g c = λ run reached s alive.
     (subst (λ (o : Option Frame). HoldsOn g.L.Lane.got o c.args.self.now c.choose.new.self) c.in-Ok-None.field-0-is c.in-Ok-None.ensures.served run (s.serves alive))
     ((subst (λ (o : Option Frame). Progresses o c.args.self.now.outbound c.choose.new.self.outbound) c.in-Ok-None.field-0-is c.in-Ok-None.ensures.frame) run reached.0).is_over
     (subst (λ (o : Option Frame). IfNone o (GetsQuiet g.L.Lane.got g.L.Lane.ahead c.args.self.now c.choose.new.self)) c.in-Ok-None.field-0-is c.in-Ok-None.ensures.quiet run (s.serves alive))
+
+pub returns-in-Ok-None-clause-ended : goal.returns-in-Ok-None-clause-ended
+returns-in-Ok-None-clause-ended g c = λ run reached s alive.
+    ended-if run c.choose.new.self.outbound
+    (subst (λ (o : Option Frame). IfNone o (IsSpent c.choose.new.self.outbound)) c.in-Ok-None.field-0-is c.in-Ok-None.ensures.spent)
+    ((subst (λ (o : Option Frame). Progresses o c.args.self.now.outbound c.choose.new.self.outbound) c.in-Ok-None.field-0-is c.in-Ok-None.ensures.frame) run reached.0).is_over
+    (subst (λ (o : Option Frame). HoldsOn g.L.Lane.got o c.args.self.now c.choose.new.self) c.in-Ok-None.field-0-is c.in-Ok-None.ensures.served run (s.serves alive)).2
+
+pub returns-in-Ok-None-2-clause-ended : goal.returns-in-Ok-None-2-clause-ended
+returns-in-Ok-None-2-clause-ended g c = λ run reached s alive.
+    ended-if run c.choose.new.self.outbound
+    (subst (λ (o : Option Frame). IfNone o (IsSpent c.choose.new.self.outbound)) c.in-Ok-None.field-0-is c.in-Ok-None.ensures.spent)
+    ((subst (λ (o : Option Frame). Progresses o c.args.self.now.outbound c.choose.new.self.outbound) c.in-Ok-None.field-0-is c.in-Ok-None.ensures.frame) run reached.0).is_over
+    (subst (λ (o : Option Frame). HoldsOn g.L.Lane.got o c.args.self.now c.choose.new.self) c.in-Ok-None.field-0-is c.in-Ok-None.ensures.served run (s.serves alive)).2

@@ -6,6 +6,7 @@ use Rattle.outwriter.proofs.TellSteps.{next-tells}
 use Rattle.outwriter.specs.declared.blocks.HeaderBlock.{HeaderBlock}
 use Rattle.outwriter.specs.Mirrors.{Mirrors}
 use Rattle.outwriter.proofs.EndSteps.{continuation-written}
+use Rattle.outwriter.proofs.TellStepsOwn.{none-over}
 use Rattle.outwriter.proofs.outbound.Outbound.block_frame.Goals as goal
 
 pub returns-clause-frame : goal.returns-clause-frame
@@ -26,6 +27,6 @@ returns-clause-own c =
               (subst (λ (b : Option HeaderBlock). Spells run b c.args.self.now.encoder marks) is spells.1)),
         ),
         refl,
-        ([], refl),
+        ([], refl, none-over c.args.self.now),
       ),
     )

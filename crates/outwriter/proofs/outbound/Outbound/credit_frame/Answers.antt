@@ -2,6 +2,7 @@ use Rattle.std.proofs.Common.{inl, refl, []}
 use Rattle.outwriter.specs.Frames.{update_frame}
 use Rattle.outwriter.proofs.TellSteps.{plain-tells}
 use Rattle.outwriter.proofs.EndSteps.{update-written}
+use Rattle.outwriter.proofs.TellStepsOwn.{none-over}
 use Rattle.outwriter.proofs.outbound.Outbound.credit_frame.Goals as goal
 
 pub returns-clause-frame : goal.returns-clause-frame
@@ -18,6 +19,6 @@ returns-clause-own c = (
           (λ begun. refl) c.requires.between.no_block c.requires.between.no_block spells.1,
     ),
     refl,
-    ([], refl),
+    ([], refl, none-over c.args.self.now),
   ),
 )

@@ -1,9 +1,10 @@
 use Rattle.std.proofs.Common.{rules, ◌≡◌, List, Option, refl, sym, subst}
+use Rattle.std.specs.Prelude.{IfNone, [], ◌∷◌}
 use Rattle.h2frame.specs.declared.frame.Frame.{Frame}
 use Rattle.outwriter.specs.declared.due.Due.{Due}
 use Rattle.outwriter.specs.declared.outbound.Outbound.{Outbound}
 use Rattle.outwriter.specs.Mirrors.{Mirrors, MirrorsOf, WritesOrSkips}
-use Rattle.outwriter.specs.Serving.{Rests}
+use Rattle.outwriter.specs.Serving.{AreOver, Rests}
 use Rattle.outwriter.specs.Telling.{OwnOfDue}
 use Rattle.outwriter.proofs.MirrorSteps.{skipped}
 use Rattle.outwriter.proofs.TellStepsOwn.{due-first, dropped-rests, rests-rests}
@@ -28,5 +29,6 @@ loop-due-preserved c =
           (subst (λ (waiting : List Due). Mirrors run popped.begun popped.gone popped.windows popped.over.entries waiting popped.block popped.credit) c.in-Some.ensures.items
           (c.loop-due.invariant.mirrors run m)));
       rests = rests-rests c.args.self.now c.loop-due.self c.frame_of_due.new.self c.loop-due.invariant.rests
-          (subst (λ (o : Outbound). Rests c.loop-due.self o) (sym same) (dropped-rests c.loop-due.self popped c.in-Some.due c.in-Some.ensures.items refl));
+          (subst (λ (o : Outbound). Rests c.loop-due.self o) (sym same) (dropped-rests c.loop-due.self popped c.in-Some.due c.in-Some.ensures.items refl
+          (subst (λ (o : Option Frame). IfNone o (AreOver popped (c.in-Some.due ∷ []))) c.in_default-2.is c.in_ok-frame.ensures.dropped)));
     }

@@ -2,6 +2,7 @@ use Rattle.std.proofs.Common.{inl, refl, []}
 use Rattle.outwriter.specs.Frames.{first_settings}
 use Rattle.outwriter.proofs.TellSteps.{plain-tells}
 use Rattle.outwriter.proofs.FrameSteps.{first-written}
+use Rattle.outwriter.proofs.TellStepsOwn.{none-over}
 use Rattle.outwriter.proofs.outbound.Outbound.first_frame.Goals as goal
 
 pub returns-clause-written : goal.returns-clause-written
@@ -17,6 +18,6 @@ returns-clause-own c = (
           (λ begun. refl) (spells.0 c.requires.begun) (spells.0 c.requires.begun) spells.1,
     ),
     refl,
-    ([], refl),
+    ([], refl, none-over c.args.self.now),
   ),
 )
