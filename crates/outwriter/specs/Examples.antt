@@ -9,6 +9,7 @@ use Rattle.hpack_codec.specs.declared.fields.Field.{Field}
 use Rattle.outwriter.specs.declared.control.Control.TheVariants.{Settings, Ping, Goaway}
 use Rattle.outwriter.specs.declared.control.Control.TheVariants as order
 use Rattle.outwriter.specs.declared.settings.PeerSetting.TheVariants.{TableSize, WindowSize}
+use Rattle.outwriter.specs.Calls.{is_called_off}
 use Rattle.outwriter.specs.Frames.{first_settings, settings_ack, reset_frame, goaway_frame, update_frame, data_frame, headers_frame, continuation_frame, is_last}
 use Rattle.outwriter.specs.Histories.{window_sizes, spending_of, closing_of, is_over}
 use Rattle.outwriter.specs.Parts.{Byte, Fields, End, Reset, spelled, plain_marks, completed, marks_on, on_stream}
@@ -46,6 +47,13 @@ goaway_is_told = refl
 
 pub reset_is_asked : IsAsked 3 Cancel leaving
 reset_is_asked = inl (refl, refl)
+
+-- a Refuse calls a stream off, unless the stream was opened before
+pub refused_first : is_called_off 5 (Taken (order.Open 5 tt) ∷ Taken (order.Refuse 5 []) ∷ []) ≡ true
+refused_first = refl
+
+pub opened_first : is_called_off 5 (Taken (order.Refuse 5 []) ∷ Taken (order.Open 5 tt) ∷ []) ≡ false
+opened_first = refl
 
 pub sizes_of_windows : window_sizes (TableSize 9 ∷ WindowSize 5 ∷ WindowSize 7 ∷ []) ≡ 5 ∷ 7 ∷ []
 sizes_of_windows = refl
