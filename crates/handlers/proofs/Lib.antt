@@ -3,3 +3,4 @@ pub mod Streams
 pub mod OneAnswer
 pub mod OneSum
 pub mod Statuses
+pub mod Growing
