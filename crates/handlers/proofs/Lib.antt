@@ -3,4 +3,3 @@ pub mod Streams
 pub mod OneAnswer
 pub mod OneSum
 pub mod Statuses
-pub mod Growing

@@ -97,11 +97,6 @@ HasOneAnswer answers = (messages : List (List ℕ)) (ended : Bool) (answer other
 abbrev pub HasStatusAtEnd : (List (List ℕ) → Bool → Step → Type 0) → Type 0
 HasStatusAtEnd answers = (messages : List (List ℕ)) (answer : Step) → answers messages true answer → IsSome answer.ends
 
--- What was replied to some messages whose end wasn't told begins what is replied to them and more, whether or not the end is told.
-abbrev pub HasGrowingReplies : (List (List ℕ) → Bool → Step → Type 0) → Type 0
-HasGrowingReplies answers = (messages more : List (List ℕ)) (ended : Bool) (answer later : Step) → answers messages false answer → answers (messages ++ more) ended later
-    → (rest : List Reply) × (later.replies ≡ answer.replies ++ rest)
-
 -- ---- what a state stands for: the messages of the call so far, to which this was answered
 
 -- the call has its status

@@ -5,7 +5,7 @@ ghost use Rattle.handlers.specs.declared.state.MethodState.{MethodState as State
 ghost use Rattle.handlers.specs.declared.state.MethodState.TheVariants.{Ended};
 ghost use Rattle.handlers.specs.declared.step.Step.{Step as Given};
 ghost use Rattle.handlers.specs.Steps.{nothing, joined};
-ghost use Rattle.handlers.specs.Answers.{HasGrowingReplies, HasOneAnswer, HasStatusAtEnd};
+ghost use Rattle.handlers.specs.Answers.{HasOneAnswer, HasStatusAtEnd};
 
 use crate::fault::MethodFault;
 use crate::state::MethodState;
@@ -37,8 +37,6 @@ pub trait Method: Send + Sync + Drop {
         ensures answers { answers self.now [] false nothing }
         // No list of messages has two answers.
         ensures one_answer { HasOneAnswer (answers self.now) }
-        // What was replied stays.
-        ensures grows { HasGrowingReplies (answers self.now) }
         // A call whose end was told has a status.
         ensures status { HasStatusAtEnd (answers self.now) };
 
