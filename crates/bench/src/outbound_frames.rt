@@ -2,10 +2,10 @@
 
 use anyhow::{Context, Result};
 use bytes::Bytes;
-use callbox::{OutItem, Sender, Sequence, open_out};
+use callbox::{OutItem, Sender, open_out};
 use h2frame::{Frame, FrameKind, write_frame};
-use hpack_codec::{Field, Octets};
 use lane::RingLane;
+use lists::{Field, Octets, Sequence};
 use outwriter::{Control, Next, OutCore, PeerSetting, PeerSettings};
 use std::alloc::Global;
 use std::rt::Clock;

@@ -8,7 +8,7 @@ use Rattle.lane.specs.Lawful.{count_of}
 use Rattle.lpm.specs.declared.fault.LpmFault.TheVariants.{Compressed, BadFlag, TooLong, CutAtEnd, OutOfMemory}
 use Rattle.lpm.specs.Messages.{frame, frames, IsMessage}
 use Rattle.lpm.specs.Reading.{Reading, messages_of}
-use Rattle.lpm.proofs.Behind.{reading_of-frames}
+use Rattle.lpm.proofs.WholeMessages.{reading_of-frames}
 use Rattle.lpm.proofs.Readings.{frames-cons}
 use Rattle.std.proofs.lemmas.Grind.{flat_map-append, fold-append}
 use Rattle.callbox.specs.declared.taker.Progress.{Progress}

@@ -5,12 +5,12 @@ use Rattle.std.proofs.lemmas.Bool.{cases_eq, eq-eqb, ne_eqb}
 use Rattle.std.proofs.lemmas.List.{append-nil, length-append, map-append, take-append-drop}
 use Rattle.std.proofs.lemmas.Grind.{fold-append}
 use mathlib.Core.List.{IsPrefix}
-use Rattle.hpack_codec.specs.declared.fields.Field.{Field}
+use Rattle.lists.specs.declared.field.Field.{Field}
 use Rattle.lane.specs.Lawful.{count_of}
 use Rattle.lane.proofs.Prefixes.{IsPrefix-take}
 use Rattle.lpm.specs.Messages.{frame, IsMessage, IsFrame}
 use Rattle.lpm.specs.Reading.{messages_of}
-use Rattle.lpm.proofs.Alone.{is_frame-IsFrame}
+use Rattle.lpm.proofs.OneMessage.{is_frame-IsFrame}
 use Rattle.callbox.specs.declared.account.Account.{Account}
 use Rattle.callbox.specs.declared.account.CallEvent.TheVariants as event
 use Rattle.callbox.specs.declared.account.OutItem.{OutItem}

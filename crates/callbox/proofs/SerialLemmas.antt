@@ -3,14 +3,14 @@ use Rattle.std.proofs.Common.{◌≡◌, ℕ, zero, suc, ◌<◌, get_or, true, 
 use Rattle.std.specs.Prelude.{All, slice_get, is_none, is_some}
 use Rattle.std.proofs.lemmas.List.{append-nil, length-append}
 use Rattle.std.proofs.lemmas.List.Elements.{All-nil}
-use Rattle.hpack_codec.specs.declared.fields.Field.{Field}
+use Rattle.lists.specs.declared.field.Field.{Field}
 use Rattle.lpm.specs.declared.fault.LpmFault.{LpmFault}
 use Rattle.lpm.specs.declared.fault.LpmFault.TheVariants.{Compressed, BadFlag, TooLong, CutAtEnd, OutOfMemory}
 use Rattle.lpm.specs.Messages.{frame, frames, IsMessage, IsUnfinished, IsFaulty, Spells, IsCut, IsNotCut}
 use Rattle.lpm.specs.Reading.{Reading, messages_of, rest_of, fault_of}
 use Rattle.lpm.specs.Splits.{Stands}
 use Rattle.lpm.proofs.Readings.{IsFaultyAfter-longer, Spells-read, IsFaultyAfter-read, never_both}
-use Rattle.lpm.proofs.Behind.{reading_of-frame, reading_of-frames}
+use Rattle.lpm.proofs.WholeMessages.{reading_of-frame, reading_of-frames}
 use Rattle.callbox.specs.declared.account.Account.{Account}
 use Rattle.callbox.specs.declared.account.CallEvent.TheVariants as event
 use Rattle.callbox.specs.declared.account.OutItem.{OutItem}

@@ -4,7 +4,7 @@ use Rattle.std.specs.List.{concat}
 use Rattle.lane.specs.Lawful.{count_of}
 use Rattle.callbox.specs.declared.account.Shut.{Shut}
 use Rattle.callbox.specs.declared.account.Told.{Told}
-use Rattle.callbox.specs.declared.settle.InAccount.{InAccount}
+use Rattle.callbox.specs.declared.in_side.InAccount.{InAccount}
 use Rattle.callbox.specs.Accounts.{IsLawful}
 use Rattle.callbox.specs.Runs.{run}
 use Rattle.callbox.specs.InSides.{in_account, in_events}

@@ -2,7 +2,7 @@
 use Rattle.std.specs.Prelude.{◌≡◌, List}
 use Rattle.lane.specs.Lawful.{count_of}
 use Rattle.callbox.specs.declared.account.OutItem.{OutItem}
-use Rattle.callbox.specs.declared.outcome.OutAccount.{OutAccount}
+use Rattle.callbox.specs.declared.out_side.OutAccount.{OutAccount}
 use Rattle.callbox.specs.Accounts.{IsLawful}
 use Rattle.callbox.specs.Runs.{run}
 use Rattle.callbox.specs.OutSides.{has_trailers, out_account, out_events}

@@ -2,9 +2,8 @@
 
 ghost use Rattle.std.specs.Prelude.{◌≡◌, IfOk};
 
-use crate::Sequence;
 use bytes::Bytes;
-use hpack_codec::{Field, Octets};
+use lists::{Field, Octets, Sequence};
 use lpm::LpmFault;
 use std::alloc::AllocError;
 

@@ -3,7 +3,7 @@
 ghost use Rattle.std.specs.Prelude.{◌≡◌, [], IfOk};
 ghost use Rattle.callbox.specs.InSides.{Took};
 
-use crate::outcome::open_out;
+use crate::out_side::open_out;
 use crate::{Feeder, Giver, InPiece, OutItem, Sender, Taker, open_in};
 use lane::Lane;
 use std::alloc::{AllocError, Global};

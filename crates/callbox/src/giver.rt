@@ -7,10 +7,10 @@ ghost use Rattle.callbox.specs.Accounts.{IsResponse};
 ghost use Rattle.callbox.specs.OutSides.{has_head, has_trailers, is_head, IsResponse-prop, MayRefuseMessage};
 ghost use Rattle.callbox.specs.declared.account.OutItem.TheVariants as out_item;
 
-use crate::{OutItem, Sequence};
+use crate::OutItem;
 use bytes::Bytes;
-use hpack_codec::Field;
 use lane::{Lane, PutFault};
+use lists::{Field, Sequence};
 use lpm::write_message;
 use std::alloc::{AllocError, Global};
 

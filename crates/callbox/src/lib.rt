@@ -10,35 +10,32 @@
 //! the account, over a lane; `settle_in` and `settle_out` bring two of them together. In every schedule what they did is a
 //! lawful account, the one that the serial core makes.
 //!
-//! Read `account` first, then `serial`; then `specs/InSides.antt` with `piece`, `feeder`, `taker` and `settle`;
-//! `specs/OutSides.antt` with `giver`, `sender` and `outcome`; and `call` and `threads` last.
+//! Read `account` first, then `serial`; then `specs/InSides.antt` with `piece`, `feeder`, `taker` and `in_side`;
+//! `specs/OutSides.antt` with `giver`, `sender` and `out_side`; and `call` and `uses::four_threads` last.
 #![tactic(auto)]
 
 pub mod account;
 pub mod call;
 pub mod feeder;
 pub mod giver;
-pub mod outcome;
+pub mod in_side;
+pub mod out_side;
 pub mod piece;
 pub mod sender;
-pub mod sequence;
 pub mod serial;
-pub mod settle;
 pub mod taker;
-pub mod threads;
 
 pub use account::{Account, CallEvent, OutItem, Shut, Told};
 pub use call::open_call;
 pub use feeder::{FedShut, FeedFault, Feeder};
 pub use giver::{GiveFault, GivenShut, Giver};
-pub use outcome::{OutAccount, open_out, settle_out};
+pub use out_side::{OutAccount, open_out, settle_out};
 pub use piece::InPiece;
 pub use sender::Sender;
-pub use sequence::Sequence;
 pub use serial::replay;
-pub use settle::{InAccount, open_in, settle_in};
+pub use in_side::{InAccount, open_in, settle_in};
 pub use taker::{Taken, Taker};
-pub use threads::{Answer, Request, run_call};
+pub use uses::four_threads::{Answer, Request, run_call};
 
 #[cfg(test)]
 mod in_tests;
@@ -46,3 +43,4 @@ mod in_tests;
 mod out_tests;
 #[cfg(test)]
 mod tests;
+pub mod uses;

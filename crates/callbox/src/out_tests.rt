@@ -1,13 +1,10 @@
 //! The two ends of the out side, and all four ends of a call in threads of their own, over both lanes.
 
 use crate::tests::{fields, message, told_item};
-use crate::{
-    Account, Answer, CallEvent, GiveFault, InAccount, InPiece, OutAccount, OutItem, Request,
-    Sequence, Shut, Told, open_out, replay, run_call, settle_out,
-};
+use crate::{Account, Answer, CallEvent, GiveFault, InAccount, InPiece, OutAccount, OutItem, Request, Shut, Told, open_out, replay, run_call, settle_out, };
 use bytes::Bytes;
-use hpack_codec::Field;
 use lane::{End, Lane, PutFault, RingLane, RowLane};
+use lists::{Field, Sequence};
 use lpm::LpmFault;
 use std::alloc::{AllocError, Global};
 use std::process::Abort;

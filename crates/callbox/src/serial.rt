@@ -7,9 +7,9 @@ ghost use Rattle.callbox.specs.Runs.{after, may_follow, run, telling};
 ghost use Rattle.callbox.specs.declared.account.CallEvent.TheVariants as event;
 ghost use Rattle.lpm.specs.Messages.{IsUnfinished};
 
-use crate::{Account, CallEvent, OutItem, Sequence, Shut, Told};
+use crate::{Account, CallEvent, OutItem, Shut, Told};
 use bytes::Bytes;
-use hpack_codec::Octets;
+use lists::{Octets, Sequence};
 use lpm::{LpmFault, Split, Splitter, is_frame};
 use std::alloc::{AllocError, Global};
 

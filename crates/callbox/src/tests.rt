@@ -1,7 +1,7 @@
 //! What no clause says: that the calls succeed where memory is left, and worked values.
 use super::*;
 use bytes::Bytes;
-use hpack_codec::{Field, Octets};
+use lists::{Field, Octets};
 use lpm::LpmFault;
 use std::alloc::{AllocError, Global};
 use std::test::Fail;

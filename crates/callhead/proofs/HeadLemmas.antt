@@ -9,7 +9,7 @@ use Rattle.std.proofs.lemmas.Bool.Decides.{Decides-eqb}
 use Rattle.std.proofs.lemmas.Slice.Eq.{starts_is}
 use Rattle.std.proofs.lemmas.Str.{IsUtf8-from_ascii, utf8_lossy-IsUtf8}
 use Rattle.std.specs.Str.Lossy.{utf8_lossy}
-use Rattle.hpack_codec.specs.declared.fields.Field.{Field}
+use Rattle.lists.specs.declared.field.Field.{Field}
 use Rattle.callhead.specs.Fields.{is_named, first_of, values_of}
 use Rattle.callhead.specs.MalformedHeads.{is_malformed, is_malformed_field, has_late_pseudo_header, is_repeated, is_missing, pseudo_headers, required_headers}
 use Rattle.callhead.specs.Timeouts.{IsTimeout}

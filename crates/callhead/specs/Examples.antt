@@ -6,7 +6,7 @@ use Rattle.base64.specs.Rfc4648.{encode_symbols}
 use Rattle.callhead.specs.Timeouts.{IsTimeout}
 use Rattle.callhead.specs.StatusTexts.{percent_text}
 use Rattle.callhead.specs.BinValues.{unpadded, padded}
-use Rattle.hpack_codec.specs.declared.fields.Field.{Field}
+use Rattle.lists.specs.declared.field.Field.{Field}
 use Rattle.callhead.specs.declared.head.CallHead.{CallHead}
 use Rattle.callhead.specs.declared.head.Encoding.TheVariants.{Identity}
 use Rattle.callhead.specs.Fields.{field_of}

@@ -1,6 +1,6 @@
 -- Fields of a header block, by their names.
 use Rattle.std.specs.Prelude.{ℕ, Bool, List, map, filter, find, Option, option_map, bytes_eq}
-use Rattle.hpack_codec.specs.declared.fields.Field.{Field}
+use Rattle.lists.specs.declared.field.Field.{Field}
 
 abbrev pub field_of : List ℕ → List ℕ → Field
 field_of name_bytes value_bytes = record { name = name_bytes; value = value_bytes }

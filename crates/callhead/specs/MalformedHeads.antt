@@ -1,7 +1,7 @@
 -- Which fields are no request: RFC 9113, sections 8.2, 8.2.1, 8.2.2, 8.3 and 8.3.1.
 use Rattle.std.specs.Prelude.{ℕ, ◌-◌, ◌==◌, nat_lt, nat_le, Bool, false, not, ◌&&◌, ◌||◌, List, [], ◌∷◌, length, drop, count_by, Option, Some, None, is_none, slice_get, bytes_eq, codes}
 use Rattle.std.specs.List.{list_any, prefix_len}
-use Rattle.hpack_codec.specs.declared.fields.Field.{Field}
+use Rattle.lists.specs.declared.field.Field.{Field}
 use Rattle.callhead.specs.Fields.{is_named, first_of}
 
 -- ---- names (section 8.2.1)

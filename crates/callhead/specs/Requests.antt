@@ -1,6 +1,6 @@
 -- Fields in which no fault of a head stands. A word of the crate's own functions.
 use Rattle.std.specs.Prelude.{◌≡◌, ℕ, false, List, Option}
-use Rattle.hpack_codec.specs.declared.fields.Field.{Field}
+use Rattle.lists.specs.declared.field.Field.{Field}
 use Rattle.callhead.specs.MalformedHeads.{is_malformed}
 use Rattle.callhead.specs.Heads.{IsPost, IsGrpc, HasTimeout}
 

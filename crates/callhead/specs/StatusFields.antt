@@ -1,6 +1,6 @@
 -- The fields that answer a call: gRPC over HTTP/2, "Responses"; RFC 9110, sections 15.5.6 and 15.5.16.
 use Rattle.std.specs.Prelude.{ℕ, List, [], ◌∷◌, ◌++◌, map, Option, Some, None, decimal, codes}
-use Rattle.hpack_codec.specs.declared.fields.Field.{Field}
+use Rattle.lists.specs.declared.field.Field.{Field}
 use Rattle.callhead.specs.declared.fault.HeadFault.{HeadFault}
 use Rattle.callhead.specs.declared.fault.HeadFault.TheVariants.{Malformed, NotPost, NotGrpc, BadTimeout, OutOfMemory}
 use Rattle.callhead.specs.Fields.{field_of}

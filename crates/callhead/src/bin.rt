@@ -8,7 +8,7 @@ ghost use Rattle.callhead.specs.Parts.{IsWithout, IsPadded, ReadsPart};
 use crate::Values;
 use base64::DecodeAllocError;
 use base64::engine::general_purpose::{GeneralPurpose, STANDARD, STANDARD_NO_PAD};
-use hpack_codec::Octets;
+use lists::Octets;
 use std::alloc::{AllocError, Global};
 
 /// The value of a `-bin` field that carries these bytes: base64 without padding.

@@ -3,7 +3,7 @@
 ghost use Rattle.std.specs.Prelude.{◌≡◌, count_by, option_copied, IfOk};
 ghost use Rattle.callhead.specs.Fields.{field_of, is_named, first_of};
 
-use hpack_codec::{Field, Octets};
+use lists::{Field, Octets};
 use std::alloc::{AllocError, Global};
 
 /// Whether the field has this name.

@@ -16,7 +16,7 @@ use crate::names::{CONTENT_TYPE, ECHO_INITIAL, ECHO_TRAILING, GRPC_TYPE};
 use crate::texts::Texts;
 use crate::timeout::read_timeout;
 use crate::values::Values;
-use hpack_codec::{Field, Octets};
+use lists::{Field, Octets};
 use std::alloc::{AllocError, Global};
 
 /// How the messages of a call are said to be compressed.

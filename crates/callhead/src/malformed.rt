@@ -5,7 +5,7 @@ ghost use Rattle.callhead.specs.MalformedHeads.{is_forbidden_in_names, has_bad_n
 ghost use Rattle.std.specs.List.{list_any};
 
 use crate::fields::{count_named, first_value, is_named};
-use hpack_codec::Field;
+use lists::Field;
 
 const METHOD: &[u8] = b":method";
 

@@ -11,7 +11,7 @@ use crate::names::{CONTENT_TYPE, ECHO_INITIAL, ECHO_TRAILING, GRPC_TYPE};
 use crate::percent::percent_text;
 use crate::texts::Texts;
 use crate::values::Values;
-use hpack_codec::Field;
+use lists::Field;
 use std::alloc::{AllocError, Global};
 
 /// INTERNAL, as gRPC numbers its statuses.

@@ -1,6 +1,6 @@
 //! What no clause says: that the calls succeed where memory is left, and worked values.
 use super::*;
-use hpack_codec::{Field, Octets};
+use lists::{Field, Octets};
 use std::alloc::{AllocError, Global};
 use std::test::Fail;
 

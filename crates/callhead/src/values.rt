@@ -2,7 +2,7 @@
 
 ghost use Rattle.std.specs.Prelude.{◌≡◌};
 
-use hpack_codec::Octets;
+use lists::Octets;
 use std::marker::Model;
 
 /// Values in order. A contract sees the list of them.

@@ -4,7 +4,7 @@
 use crate::print_bytes;
 use anyhow::Result;
 use callhead::{CallHead, Encoding};
-use session::serial::events_of;
+use session::uses::in_pieces::events_of;
 use session::{Control, InEvent};
 use std::alloc::Global;
 

@@ -3,6 +3,6 @@ pub mod HalfExamples
 pub mod Windows
 pub mod WindowHistory
 pub mod WindowHistoryExamples
-pub mod Examples
+pub mod WindowExamples
 pub mod Books
 pub mod BookExamples

@@ -1,5 +1,5 @@
-pub mod Single
-pub mod Streams
+pub mod OneMessageSteps
+pub mod ManyMessageSteps
 pub mod OneAnswer
 pub mod OneSum
-pub mod Statuses
+pub mod LastStatus

@@ -1,4 +1,4 @@
-pub mod Statuses
+pub mod LastStatus
 pub mod Replies
 pub mod Steps
 pub mod Requests

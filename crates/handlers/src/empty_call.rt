@@ -4,7 +4,7 @@ ghost use Rattle.std.specs.Prelude.{codes};
 ghost use Rattle.handlers.specs.Requests.{EmptyVerdict};
 ghost use Rattle.handlers.specs.Answers.{AnswersSingle, StandsEmpty};
 
-use crate::ends::{end_with, refuse, reply_and_end};
+use crate::ending_steps::{end_with, refuse, reply_and_end};
 use crate::fault::MethodFault;
 use crate::judge::judge_empty;
 use crate::method::Method;

@@ -6,12 +6,12 @@
 //! there is only one answer; [`Reply::bytes`] is the canonical spelling of the response message; [`Methods::find`]
 //! answers the least index with a path.
 //!
-//! Read [`status`], [`reply`], [`step`] and [`state`] first, the types; then [`method`], the law, and [`serial`], a whole
+//! Read [`status`], [`reply`], [`step`] and [`state`] first, the types; then [`method`], the law, and [`uses::whole_call`], a whole
 //! call by it; then the methods.
 #![tactic(auto)]
 
 pub mod empty_call;
-mod ends;
+mod ending_steps;
 pub mod fault;
 pub mod full_duplex_call;
 pub mod half_duplex_call;
@@ -19,7 +19,6 @@ mod judge;
 pub mod method;
 pub mod methods;
 pub mod reply;
-pub mod serial;
 pub mod state;
 pub mod status;
 pub mod step;
@@ -34,7 +33,7 @@ pub use half_duplex_call::HalfDuplexCall;
 pub use method::Method;
 pub use methods::Methods;
 pub use reply::{Replies, Reply};
-pub use serial::run;
+pub use uses::whole_call::run;
 pub use state::{MessageList, MethodState};
 pub use status::{Refusal, Status};
 pub use step::Step;
@@ -46,3 +45,4 @@ pub use unary_call::{CacheableUnaryCall, UnaryCall};
 mod sum_tests;
 #[cfg(test)]
 mod tests;
+pub mod uses;

@@ -4,7 +4,7 @@ ghost use Rattle.std.specs.Prelude.{◌≡◌, ◌+◌, ◌≤◌, ◌++◌, ◌
 ghost use Rattle.handlers.specs.Requests.{InputVerdict};
 ghost use Rattle.handlers.specs.Answers.{AnswersSum, StandsSum};
 
-use crate::ends::{end_with, refuse, reply_and_end};
+use crate::ending_steps::{end_with, refuse, reply_and_end};
 use crate::fault::MethodFault;
 use crate::judge::judge_input_call;
 use crate::method::Method;

@@ -4,7 +4,7 @@ ghost use Rattle.std.specs.Prelude.{◌≡◌, ◌++◌, ◌∷◌, [], codes};
 ghost use Rattle.handlers.specs.Requests.{OutputVerdict};
 ghost use Rattle.handlers.specs.Answers.{AnswersSingle, StandsOutput};
 
-use crate::ends::{end_with, refuse};
+use crate::ending_steps::{end_with, refuse};
 use crate::fault::MethodFault;
 use crate::judge::judge_output_call;
 use crate::method::Method;

@@ -7,7 +7,7 @@ ghost use Rattle.handlers.specs.Steps.{nothing, joined};
 ghost use Rattle.handlers.specs.Requests.{SimpleVerdict};
 ghost use Rattle.handlers.specs.Answers.{AnswersSingle, StandsUnary};
 
-use crate::ends::{end_with, refuse, reply_and_end};
+use crate::ending_steps::{end_with, refuse, reply_and_end};
 use crate::fault::MethodFault;
 use crate::judge::judge_unary;
 use crate::method::Method;

@@ -1,7 +1,7 @@
 -- On blocks: fields and changes of size one behind another.
 use Rattle.std.proofs.Common.{◌≡◌, ℕ, zero, suc, ◌+◌, ◌-◌, ◌<◌, ◌≤◌, List, [], ◌∷◌, ◌++◌, length, take, get_or, refl, sym, subst, ◌∙◌, ap, arith, append_assoc, Some, slice_get}
 use Rattle.std.proofs.lemmas.List.{append-nil, take_more, take_all}
-use Rattle.hpack_codec.specs.declared.fields.Field.{Field}
+use Rattle.lists.specs.declared.field.Field.{Field}
 use Rattle.hpack_codec.specs.Integer.{IsInteger}
 use Rattle.hpack_codec.specs.StringLiteral.{IsString}
 use Rattle.hpack_codec.specs.StaticTable.{static_table, entry}

@@ -4,7 +4,7 @@ use Rattle.hpack_codec.specs.Codec.{IsFirstFault}
 use Rattle.std.proofs.lemmas.List.{append-nil}
 use Rattle.hpack_codec.specs.declared.fault.HpackFault.{HpackFault}
 use Rattle.hpack_codec.specs.declared.fault.HpackFault.TheVariants.{Integer, Index, Huffman, SizeUpdate, Truncated, OutOfMemory, Dead, TooLarge}
-use Rattle.hpack_codec.specs.declared.fields.Field.{Field}
+use Rattle.lists.specs.declared.field.Field.{Field}
 use Rattle.hpack_codec.specs.Integer.{IsInteger}
 use Rattle.hpack_codec.specs.Table.{Table, resize, sizes_of, size_of}
 use Rattle.hpack_codec.specs.Block.{AreUpdates, AreFields, Represents, IsBlock}

@@ -1,6 +1,6 @@
 -- The static table is what the code's table refers to.
 use Rattle.std.proofs.Common.{◌≡◌, ℕ, zero, suc, ◌+◌, ◌-◌, ◌<◌, List, [], ◌∷◌, length, map, get_or, refl, arith, Some, slice_get, Bor, ap, ◌∙◌}
-use Rattle.hpack_codec.specs.declared.fields.Field.{Field}
+use Rattle.lists.specs.declared.field.Field.{Field}
 use Rattle.hpack_codec.specs.StaticTable.{static_table, entry}
 use Rattle.hpack_codec.specs.declared.static_table.Found.TheVariants.{Name}
 use Rattle.hpack_codec.specs.Reading.{IsFound}

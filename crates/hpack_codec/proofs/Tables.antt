@@ -1,7 +1,7 @@
 -- On the tables: which entries stay where the oldest go, and the static entries.
 use Rattle.std.proofs.Common.{◌≡◌, ◌≢◌, ℕ, zero, suc, ◌+◌, ◌-◌, ◌<◌, ◌≤◌, List, [], ◌∷◌, ◌++◌, length, refl, sym, subst, ◌∙◌, ap, inl, inr, arith, Option, Some, None, slice_get}
 use Rattle.std.proofs.lemmas.Bool.Decides.{leb_tells}
-use Rattle.hpack_codec.specs.declared.fields.Field.{Field}
+use Rattle.lists.specs.declared.field.Field.{Field}
 use Rattle.hpack_codec.specs.StaticTable.{static_table, entry}
 use Rattle.hpack_codec.specs.Table.{Table, size_of, sizes_of, fitting, insert_entry, entry_at}
 

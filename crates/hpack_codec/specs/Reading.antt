@@ -3,7 +3,7 @@ use Rattle.std.specs.Prelude.{◌≡◌, ℕ, ◌-◌, ◌*◌, ◌/◌, ◌^◌
 use Rattle.std.specs.List.{flat_map}
 use Rattle.hpack_codec.specs.declared.fault.HpackFault.{HpackFault}
 use Rattle.hpack_codec.specs.declared.fault.HpackFault.TheVariants.{Integer, Huffman, SizeUpdate, Truncated, OutOfMemory, Dead, TooLarge}
-use Rattle.hpack_codec.specs.declared.fields.Field.{Field}
+use Rattle.lists.specs.declared.field.Field.{Field}
 use Rattle.hpack_codec.specs.declared.static_table.Found.{Found}
 use Rattle.hpack_codec.specs.declared.static_table.Found.TheVariants.{Whole, Name, Nothing}
 use Rattle.hpack_codec.specs.StaticTable.{static_table, entry}

@@ -1,6 +1,6 @@
 -- The static table (RFC 7541, appendix A).
 use Rattle.std.specs.Prelude.{ℕ, List, [], ◌∷◌, codes}
-use Rattle.hpack_codec.specs.declared.fields.Field.{Field}
+use Rattle.lists.specs.declared.field.Field.{Field}
 
 abbrev pub entry : List ℕ → List ℕ → Field
 entry name_bytes value_bytes = record { name = name_bytes; value = value_bytes }

@@ -1,6 +1,6 @@
 -- The tables (RFC 7541, sections 2.3 and 4).
 use Rattle.std.specs.Prelude.{ℕ, zero, suc, ◌+◌, ◌-◌, List, [], ◌∷◌, ◌++◌, length, Option, None, slice_get, nat_le, if◌then◌else◌}
-use Rattle.hpack_codec.specs.declared.fields.Field.{Field}
+use Rattle.lists.specs.declared.field.Field.{Field}
 use Rattle.hpack_codec.specs.StaticTable.{static_table}
 
 -- The dynamic table: its entries, newest first, and the size that they may have together.

@@ -1,6 +1,6 @@
 //! Reading a header block (RFC 7541, sections 3.2 and 6).
 ghost use Rattle.std.specs.Prelude.{List, Option, MatchResult, ◌≡◌, ◌<◌, ◌≤◌, ◌⊎◌, [], length, Some, None, IfOk, IfErr, OnOk, OnErr, min, true, false};
-ghost use Rattle.hpack_codec.specs.declared.fields.Field.{Field as FieldOf};
+ghost use Rattle.lists.specs.declared.field.Field.{Field as FieldOf};
 ghost use Rattle.hpack_codec.specs.Table.{Table, empty_table, size_of, sizes_of};
 ghost use Rattle.hpack_codec.specs.Block.{AreFields};
 ghost use Rattle.hpack_codec.specs.Faults.{IsIndexedFault, IsLiteralFault, IsNameFault, Begins};
@@ -8,10 +8,10 @@ ghost use Rattle.hpack_codec.specs.Codec.{Reads, IsFirstFault};
 ghost use Rattle.hpack_codec.specs.Reading.{OrMemory, TakesName, TakesLiteral, TakesIndexed, TakesField, TakesUpdates, IsFieldFault, IsFieldsFault, IsUpdatesFault, next_table, flags_of};
 
 use crate::fault::HpackFault;
-use crate::fields::{Field, Octets};
 use crate::integer::integer;
 use crate::string_literal::string;
 use crate::table::{DynamicTable, MAX_LIMIT, OVERHEAD};
+use lists::{Field, Octets};
 use std::alloc::{AllocError, Global};
 use std::marker::Model;
 

@@ -4,11 +4,11 @@ ghost use Rattle.hpack_codec.specs.Codec.{first_encoding, limited, Writes, IsToo
 ghost use Rattle.hpack_codec.specs.Reading.{Appends, SpellsField, SpellsFields, SpellsUpdate};
 
 use crate::fault::HpackFault;
-use crate::fields::Field;
 use crate::integer::push_integer;
 use crate::static_table::{Found, find};
 use crate::string_literal::push_string;
 use crate::table::MAX_LIMIT;
+use lists::Field;
 use std::alloc::{AllocError, Global};
 use std::marker::Model;
 

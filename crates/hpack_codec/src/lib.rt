@@ -5,8 +5,8 @@
 //! is `IsBlock` of `specs/Block.antt`, and both meet it. Where a block is none, the decoder answers the first fault
 //! from the left (`specs/Faults.antt`); after any fault a codec is dead.
 //!
-//! Read `fields`, what blocks carry; `integer`, `huffman` and `string_literal`, how they are spelled (section 5,
-//! appendix B); `static_table` and `table`, what is named by index (appendix A); then `decoder` and `encoder`.
+//! Blocks carry a list of `lists::Field`. Read `integer`, `huffman` and `string_literal`, how these are spelled
+//! (section 5, appendix B); `static_table` and `table`, what is named by index (appendix A); then `decoder` and `encoder`.
 //! Each has its definitions in the file of `specs/` of its name; what the private functions hand on to one another
 //! is in `specs/Reading.antt`.
 #![tactic(auto)]
@@ -14,7 +14,6 @@
 mod decoder;
 mod encoder;
 mod fault;
-mod fields;
 mod huffman;
 mod integer;
 mod static_table;
@@ -24,4 +23,3 @@ mod table;
 pub use decoder::Decoder;
 pub use encoder::Encoder;
 pub use fault::HpackFault;
-pub use fields::{Field, Octets};

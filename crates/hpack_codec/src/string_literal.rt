@@ -5,9 +5,9 @@ ghost use Rattle.hpack_codec.specs.Faults.{IsStringFault};
 ghost use Rattle.hpack_codec.specs.StringLiteral.{IsString};
 
 use crate::fault::HpackFault;
-use crate::fields::Octets;
 use crate::huffman;
 use crate::integer::{integer, push_integer};
+use lists::Octets;
 use std::alloc::{AllocError, Global};
 
 /// The bit of the first byte that says that a text is Huffman's.

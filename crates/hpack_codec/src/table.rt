@@ -3,8 +3,8 @@ ghost use Rattle.std.specs.Prelude.{◌≡◌, ◌<◌, ◌≤◌, ◌^◌, ◌+
 ghost use Rattle.hpack_codec.specs.StaticTable.{entry};
 ghost use Rattle.hpack_codec.specs.Table.{size_of, entry_at, insert_entry, resize, empty_table, sizes_of, fitting};
 
-use crate::fields::Field;
 use crate::static_table;
+use lists::Field;
 use std::alloc::{AllocError, Global};
 use std::collections::VecDeque;
 use std::marker::Model;

@@ -4,6 +4,6 @@ pub mod PutFault
 pub mod RingEnds
 pub mod Ring
 pub mod RingLane
-pub mod Holds
-pub mod Known
+pub mod Notes
+pub mod KnownCells
 pub mod RowLane

@@ -3,7 +3,7 @@ use Rattle.std.specs.Prelude.{◌≡◌, ℕ, ◌-◌, Bool, List, Option}
 use Rattle.std.proofs.Props.{props}
 use Rattle.std.specs.Arc.{arc_value}
 use Rattle.lane.specs.RingEnds.{RingName, slots_of, producer_name, consumer_name}
-use Rattle.lane.specs.Known.{names_of, items_of}
+use Rattle.lane.specs.KnownCells.{names_of, items_of}
 use Rattle.lane.specs.Lawful.{last_of}
 use Rattle.lane.specs.declared.row_lane.RowLaneIn.{RowLaneIn}
 use Rattle.lane.specs.declared.row_lane.RowLaneShut.{RowLaneShut}

@@ -2,11 +2,11 @@
 ghost use Rattle.std.specs.Prelude.{◌≡◌, ◌+◌, ◌<◌, ◌≤◌, [], ◌∷◌, true, length, vec_len, slice_index, take, IfOk, IfErr, IfSome, Some};
 ghost use mathlib.Core.List.{IsPrefix};
 ghost use Rattle.once_cell.specs.Once.{cell_name};
-ghost use Rattle.lane.specs.Holds.{known_item, holds_item};
+ghost use Rattle.lane.specs.Notes.{known_item, holds_item};
 ghost use Rattle.lane.specs.Lawful.{count_of};
-ghost use Rattle.lane.specs.Known.{names_of, cell_of, item_of, cells_of, items_of};
+ghost use Rattle.lane.specs.KnownCells.{names_of, cell_of, item_of, cells_of, items_of};
 
-use crate::known::Known;
+use crate::known_cell::Known;
 use crate::lane::Settled;
 use once_cell::race::OnceBox;
 use std::alloc::{AllocError, Global};

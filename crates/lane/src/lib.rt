@@ -9,22 +9,21 @@
 //! - `lane`: the trait `Lane`, a queue with room for a number of items and for one last item;
 //! - `fault`: why an item is handed back;
 //! - `ring_lane`: the lane over a ring, which has room again as items are got;
-//! - `row_lane`, with `cells` and `known`: a second lane, over cells that are set once, for tests of
+//! - `row_lane`, with `cells` and `known_cell`: a second lane, over cells that are set once, for tests of
 //!   what is generic over lanes;
 //! - `ring`: a ring of slots whose items move out to the reader, without a last one;
 //! - `bell`: waiting for what another thread does;
-//! - `threads`: any lane between two threads.
+//! - `uses::two_threads`: any lane between two threads.
 #![tactic(auto)]
 
 mod bell;
 mod cells;
 mod fault;
-mod known;
+mod known_cell;
 mod lane;
 mod ring;
 mod ring_lane;
 mod row_lane;
-mod threads;
 
 pub use bell::Bell;
 pub use fault::PutFault;
@@ -32,7 +31,8 @@ pub use lane::{End, Lane, Settled};
 pub use ring::{Ring, RingIn, RingOut};
 pub use ring_lane::{RingLane, RingLaneIn, RingLaneOut, RingLaneShut};
 pub use row_lane::{RowLane, RowLaneIn, RowLaneOut, RowLaneShut};
-pub use threads::{poll_copy, put_waiting, relay};
+pub use uses::two_threads::{poll_copy, put_waiting, relay};
 
 #[cfg(test)]
 mod tests;
+pub mod uses;

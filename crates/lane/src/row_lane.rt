@@ -2,12 +2,12 @@
 ghost use Rattle.std.specs.Prelude.{◌≡◌, ℕ, ◌+◌, ◌≤◌, length, take, vec_len, vec_capacity};
 ghost use Rattle.std.specs.Arc.{arc_value};
 ghost use Rattle.rtrb.specs.Ring.{sent, known_free, producer_capacity, received};
-ghost use Rattle.lane.specs.Known.{names_of, cells_of};
+ghost use Rattle.lane.specs.KnownCells.{names_of, cells_of};
 ghost use Rattle.lane.specs.Lawful.{last_count};
 
 use crate::cells::{Cells, compare, item_at, look_at, set_at, unset_cells};
 use crate::fault::PutFault;
-use crate::known::Known;
+use crate::known_cell::Known;
 use crate::lane::{End, Lane, Settled};
 use rtrb::{Consumer, Producer, RingBuffer};
 use std::alloc::{AllocError, Global};

@@ -2,5 +2,5 @@ pub mod Fronts
 pub mod Readings
 pub mod Extents
 pub mod Tails
-pub mod Alone
-pub mod Behind
+pub mod OneMessage
+pub mod WholeMessages

@@ -5,7 +5,7 @@ use Rattle.std.specs.Map.{lookup}
 use Rattle.std.proofs.lemmas.Bool.{eqb-true, eq-eqb, ne_eqb}
 use Rattle.std.proofs.lemmas.List.Elements.{All-append, All-nil, All-weaker}
 use Rattle.callbox.specs.declared.account.OutItem.{OutItem}
-use Rattle.hpack_codec.specs.declared.fields.Field.{Field}
+use Rattle.lists.specs.declared.field.Field.{Field}
 use Rattle.outwriter.specs.declared.due.Due.{Due}
 use Rattle.outwriter.specs.declared.due.Due.TheVariants as due_kind
 use Rattle.outwriter.specs.declared.outbound.Outbound.{Outbound}
@@ -13,12 +13,12 @@ use Rattle.outwriter.specs.declared.stream.OpenStream.{OpenStream}
 use Rattle.outwriter.specs.Calls.{is_fresh, is_served, was_reset, IsRefused}
 use Rattle.outwriter.specs.Credits.{Owed, knows, nothing_owed}
 use Rattle.outwriter.specs.Histories.{is_stream}
-use Rattle.outwriter.specs.Keeping.{Closes}
-use Rattle.outwriter.specs.Mirrors.{Sets}
+use Rattle.outwriter.specs.CoreChanges.{Closes}
+use Rattle.outwriter.specs.RunState.{Sets}
 use Rattle.outwriter.specs.Parts.{Mark, marks_on}
-use Rattle.outwriter.specs.Serving.{Serves, Takes, MayBeDue, IsEnded, IsUncalled, has_reason, none_is_new}
+use Rattle.outwriter.specs.CallState.{Serves, Takes, MayBeDue, IsEnded, IsUncalled, has_reason, none_is_new}
 use Rattle.outwriter.specs.Steps.{Step}
-use Rattle.outwriter.specs.Telling.{SpellsOf}
+use Rattle.outwriter.specs.ToldByNow.{SpellsOf}
 use Rattle.outwriter.proofs.Fronts.{open-begins}
 use Rattle.outwriter.proofs.Others.{Later, later-none, ended-later, uncalled-same}
 use Rattle.outwriter.proofs.TellSteps.{takes-tells}

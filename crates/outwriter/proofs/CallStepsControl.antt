@@ -14,9 +14,9 @@ use Rattle.outwriter.specs.declared.outbound.Outbound.{Outbound}
 use Rattle.outwriter.specs.declared.stream.OpenStream.{OpenStream}
 use Rattle.outwriter.specs.Calls.{is_fresh, is_served, calls_off, opens_stream, refuses_stream}
 use Rattle.outwriter.specs.Cores.{ServesControl, ServesOn, ServesStill, IsUnused, calls}
-use Rattle.outwriter.specs.Keeping.{KeepsServing, KeepsHeeds}
-use Rattle.outwriter.specs.Mirrors.{IsMemory}
-use Rattle.outwriter.specs.Serving.{Takes, MayBeDue, none_is_new}
+use Rattle.outwriter.specs.CoreChanges.{KeepsServing, KeepsHeeds}
+use Rattle.outwriter.specs.RunState.{IsMemory}
+use Rattle.outwriter.specs.CallState.{Takes, MayBeDue, none_is_new}
 use Rattle.outwriter.specs.Steps.{Step, Taken, order_of}
 use Rattle.outwriter.proofs.CallSteps.{serves-equal, serves-kept}
 use Rattle.outwriter.proofs.CallStepsCores.{serving-on}

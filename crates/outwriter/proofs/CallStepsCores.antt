@@ -10,11 +10,11 @@ use Rattle.outwriter.specs.declared.stream.OpenStream.{OpenStream}
 use Rattle.outwriter.specs.Calls.{TellFronts}
 use Rattle.outwriter.specs.Cores.{Serving, calls, ServesOn}
 use Rattle.outwriter.specs.Credits.{nothing_owed}
-use Rattle.outwriter.specs.Keeping.{KeepsServing, KeepsHeeds, Prepares}
+use Rattle.outwriter.specs.CoreChanges.{KeepsServing, KeepsHeeds, Prepares}
 use Rattle.outwriter.specs.Parts.{Mark}
-use Rattle.outwriter.specs.Serving.{Serves}
+use Rattle.outwriter.specs.CallState.{Serves}
 use Rattle.outwriter.specs.Steps.{Step, Taken, Granted}
-use Rattle.outwriter.specs.Telling.{SpellsOf}
+use Rattle.outwriter.specs.ToldByNow.{SpellsOf}
 use Rattle.outwriter.proofs.CallSteps.{serves-equal, serves-nothing}
 use Rattle.outwriter.proofs.CallStepsOpen.{serves-opened}
 use Rattle.outwriter.proofs.Fronts.{fronts_of, others_of}

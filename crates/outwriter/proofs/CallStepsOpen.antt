@@ -12,9 +12,9 @@ use Rattle.outwriter.specs.declared.stream.OpenStream.{OpenStream}
 use Rattle.outwriter.specs.Calls.{is_fresh, is_served, is_opened, was_reset}
 use Rattle.outwriter.specs.Credits.{knows}
 use Rattle.outwriter.specs.Histories.{is_stream}
-use Rattle.outwriter.specs.Keeping.{Prepares, is_new_call, becomes_open, stream_at}
+use Rattle.outwriter.specs.CoreChanges.{Prepares, is_new_call, becomes_open, stream_at}
 use Rattle.outwriter.specs.Parts.{Mark, marks_on, spelled}
-use Rattle.outwriter.specs.Serving.{Serves, MayBeDue, IsEnded, IsExact, has_reason}
+use Rattle.outwriter.specs.CallState.{Serves, MayBeDue, IsEnded, IsExact, has_reason}
 use Rattle.outwriter.specs.Steps.{Step, Taken}
 use Rattle.outwriter.proofs.CallSteps.{all-due, none-ended, not-some, over-same, was-true, either}
 use Rattle.outwriter.proofs.Others.{opened-taken, refused-taken, reset-taken, reason-taken, ended-later, uncalled-same}

@@ -6,7 +6,7 @@ use Rattle.std.proofs.lemmas.Bool.{eq-eqb}
 use Rattle.std.proofs.lemmas.List.Elements.{All-cons, All-nil}
 use Rattle.callbox.specs.declared.account.OutItem.{OutItem}
 use Rattle.h2frame.specs.declared.error_code.ErrorCode.{ErrorCode}
-use Rattle.hpack_codec.specs.declared.fields.Field.{Field}
+use Rattle.lists.specs.declared.field.Field.{Field}
 use Rattle.outwriter.specs.declared.control.Control.TheVariants as order
 use Rattle.outwriter.specs.declared.due.Due.{Due}
 use Rattle.outwriter.specs.declared.due.Due.TheVariants as due_kind
@@ -15,9 +15,9 @@ use Rattle.outwriter.specs.declared.stream.OpenStream.{OpenStream}
 use Rattle.outwriter.specs.Calls.{is_fresh, is_served, is_opened, is_called_off, is_dropped, opens_stream, was_reset}
 use Rattle.outwriter.specs.Credits.{knows}
 use Rattle.outwriter.specs.Histories.{is_stream}
-use Rattle.outwriter.specs.Mirrors.{Sets}
+use Rattle.outwriter.specs.RunState.{Sets}
 use Rattle.outwriter.specs.Parts.{Mark}
-use Rattle.outwriter.specs.Serving.{Serves, Takes, MayBeDue, has_reason, none_is_new}
+use Rattle.outwriter.specs.CallState.{Serves, Takes, MayBeDue, has_reason, none_is_new}
 use Rattle.outwriter.specs.Steps.{Step, Order, Taken}
 use Rattle.outwriter.proofs.CallSteps.{serves-other, serves-owing, serves-same}
 use Rattle.outwriter.proofs.Others.{later-taken}

@@ -22,10 +22,10 @@ use Rattle.outwriter.specs.Blocks.{frame_of, rest_of, is_short}
 use Rattle.outwriter.specs.Credits.{Owed, owed_on, pays, Forgets, TakesAll}
 use Rattle.outwriter.specs.Frames.{resets, ends, update_on, reset_frame, data_frame, update_frame, headers_frame, continuation_frame, ends_stream, ends_block}
 use Rattle.outwriter.specs.Histories.{is_over, closing_of, spending_of}
-use Rattle.outwriter.specs.Mirrors.{Mirrors, resets_of, HasWindows, HasOver, HasDue, HasBlock, HasHead, HasCredit, HasSilence, Sets, spent, closing, Keeps, Ends}
+use Rattle.outwriter.specs.RunState.{Mirrors, resets_of, HasWindows, HasOver, HasDue, HasBlock, HasHead, HasCredit, HasSilence, Sets, spent, closing, Keeps, Ends}
 use Rattle.outwriter.specs.Runs.{IsAsked, Fragments, Continues, MayWrite, fragments, unfinished, updated, granted}
 use Rattle.outwriter.specs.Steps.{Step, Written, frames_of}
-use Rattle.outwriter.proofs.MirrorSteps.{same-block}
+use Rattle.outwriter.proofs.RunStateSteps.{same-block}
 use Rattle.outwriter.proofs.FrameSteps.{not-over, none-over, none-begun, no-updates, credits-none, tells-first, due-told, no-block, over-same, due-same, tells-none, credit-same, windows-same, head-same, plain-written, IsPlain}
 
 -- the windows go on by what a frame closes and spends

@@ -17,8 +17,8 @@ use Rattle.outwriter.specs.declared.outbound.Outbound.{Outbound}
 use Rattle.outwriter.specs.Calls.{calls_off, is_called_off, is_dropped, is_opened, TellEnds}
 use Rattle.outwriter.specs.Credits.{knows}
 use Rattle.outwriter.specs.Histories.{is_stream, is_over}
-use Rattle.outwriter.specs.Mirrors.{Sets, Ends, HasOver, IsSpent}
-use Rattle.outwriter.specs.Serving.{AreOver, Heeds, IsEnding, IsOwn, Rests, Serves, Takes, has_reason, is_due_of, none_is_new}
+use Rattle.outwriter.specs.RunState.{Sets, Ends, HasOver, IsSpent}
+use Rattle.outwriter.specs.CallState.{AreOver, Heeds, IsEnding, IsOwn, Rests, Serves, Takes, has_reason, is_due_of, none_is_new}
 use Rattle.outwriter.specs.Parts.{Mark}
 use Rattle.outwriter.specs.Steps.{Step, Order, Taken}
 use Rattle.outwriter.proofs.Others.{or-false, or-true, dropped-taken}

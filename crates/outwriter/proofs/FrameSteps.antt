@@ -15,10 +15,10 @@ use Rattle.outwriter.specs.declared.due.Due.{Due}
 use Rattle.outwriter.specs.Credits.{Owed}
 use Rattle.outwriter.specs.Frames.{is_last, reset_frame, resets, ends, ends_stream, is_reset, update_on, update_kind, ends_block, first_settings, settings_ack, ping_ack, goaway_frame}
 use Rattle.outwriter.specs.Histories.{closing_of, spending_of, is_over}
-use Rattle.outwriter.specs.Mirrors.{Mirrors, HasWindows, HasOver, HasDue, HasBlock, HasHead, HasCredit, HasSilence, has_begun, duties_of, resets_of}
+use Rattle.outwriter.specs.RunState.{Mirrors, HasWindows, HasOver, HasDue, HasBlock, HasHead, HasCredit, HasSilence, has_begun, duties_of, resets_of}
 use Rattle.outwriter.specs.Runs.{Duty, IsAsked, Fragments, unfinished, granted, updated, due, told, told_by, MayWrite, Continues, MayFollowEnd, fragments}
 use Rattle.outwriter.specs.Steps.{Step, Taken, Granted, Written, frames_of}
-use Rattle.outwriter.proofs.MirrorSteps.{same-block, all-behind}
+use Rattle.outwriter.proofs.RunStateSteps.{same-block, all-behind}
 
 pub none-begun : (frames : List Frame) → has_begun frames ≡ true → frames ≡ [] → ⊥
 none-begun [] begun e = cc

@@ -7,7 +7,7 @@ use Rattle.std.proofs.lemmas.List.{map-append}
 use Rattle.std.proofs.lemmas.List.Elements.{filter-append, All-from_get_or}
 use Rattle.callbox.specs.Accounts.{Begins}
 use Rattle.callbox.specs.declared.account.OutItem.{OutItem}
-use Rattle.hpack_codec.specs.declared.fields.Field.{Field}
+use Rattle.lists.specs.declared.field.Field.{Field}
 use Rattle.hpack_codec.specs.Codec.{Encoding}
 use Rattle.hpack_codec.specs.Table.{Table}
 use Rattle.outwriter.specs.declared.blocks.HeaderBlock.{HeaderBlock}
@@ -16,9 +16,9 @@ use Rattle.outwriter.specs.declared.stream.OpenStream.{OpenStream}
 use Rattle.outwriter.specs.Calls.{is_served, IsOther, TellFronts, TellOthers}
 use Rattle.outwriter.specs.Credits.{knows}
 use Rattle.outwriter.specs.Parts.{Mark, Fields, End, Reset, end_mark, marks_on, spelled, IsFrontOf, IsPart}
-use Rattle.outwriter.specs.Serving.{Serves, bytes_marks}
+use Rattle.outwriter.specs.CallState.{Serves, bytes_marks}
 use Rattle.outwriter.specs.Steps.{Step}
-use Rattle.outwriter.specs.Telling.{SpellsOf, Owes, block_marks}
+use Rattle.outwriter.specs.ToldByNow.{SpellsOf, Owes, block_marks}
 use Rattle.outwriter.proofs.ServeSteps.{append-nil, marks-here, marks-elsewhere}
 
 -- ---- the marks of one stream

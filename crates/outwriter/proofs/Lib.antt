@@ -11,7 +11,7 @@ pub mod Fronts
 pub mod TellSteps
 pub mod TellStepsOwn
 pub mod EndsKept
-pub mod MirrorSteps
+pub mod RunStateSteps
 pub mod Others
 pub mod Progresses
 pub mod QuietSteps

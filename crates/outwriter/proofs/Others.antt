@@ -2,10 +2,10 @@
 use Rattle.std.proofs.Common.{◌≡◌, ◌⊎◌, ℕ, inl, inr, refl, sym, ap, subst, ◌∙◌, Bool, true, false, List, ◌∷◌, Option}
 use Rattle.std.specs.Prelude.{◌||◌, is_some}
 use Rattle.h2frame.specs.declared.frame.Frame.{Frame}
-use Rattle.hpack_codec.specs.declared.fields.Field.{Field}
+use Rattle.lists.specs.declared.field.Field.{Field}
 use Rattle.outwriter.specs.Calls.{is_opened, opens_stream, calls_off, is_called_off, drops, is_dropped, was_reset, resets_stream, IsRefused, IsOther}
 use Rattle.outwriter.specs.Parts.{Mark}
-use Rattle.outwriter.specs.Serving.{IsUncalled, has_reason}
+use Rattle.outwriter.specs.CallState.{IsUncalled, has_reason}
 use Rattle.outwriter.specs.Steps.{Step, Order, Taken, Granted, Written}
 
 pub or-true : (a b : Bool) → b ≡ true → (a || b) ≡ true

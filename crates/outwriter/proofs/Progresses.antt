@@ -4,7 +4,7 @@ use Rattle.std.specs.Prelude.{IfNone, IfSome, flat_map}
 use Rattle.h2frame.specs.declared.frame.Frame.{Frame}
 use Rattle.outwriter.specs.declared.outbound.Outbound.{Outbound}
 use Rattle.outwriter.specs.declared.due.Due.{Due}
-use Rattle.outwriter.specs.Mirrors.{MirrorsOf, HasBlock, Progress, Progresses, Stays, IsBetween, IsSpent, IsAnswered, Writes, duties_of}
+use Rattle.outwriter.specs.RunState.{MirrorsOf, HasBlock, Progress, Progresses, Stays, IsBetween, IsSpent, IsAnswered, Writes, duties_of}
 use Rattle.outwriter.specs.Runs.{told}
 use Rattle.outwriter.specs.Steps.{Step}
 

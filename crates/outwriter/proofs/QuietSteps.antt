@@ -14,9 +14,9 @@ use Rattle.outwriter.specs.Cores.{calls, AreStuck, IsStuck, IsQuiet, HasNoFrame,
 use Rattle.outwriter.specs.Calls.{is_served, was_reset}
 use Rattle.outwriter.specs.Histories.{is_stream}
 use Rattle.outwriter.specs.Parts.{Mark}
-use Rattle.outwriter.specs.Serving.{Serves}
-use Rattle.outwriter.specs.Mirrors.{HasOver, IsBetween, Progress, SameOwn, Stays}
-use Rattle.outwriter.specs.Polling.{AllStuck, GetsQuiet, GetsStuck, Holds, HoldsOn, KeepsFronts, StuckAt, aheads, ids}
+use Rattle.outwriter.specs.CallState.{Serves}
+use Rattle.outwriter.specs.RunState.{HasOver, IsBetween, Progress, SameOwn, Stays}
+use Rattle.outwriter.specs.StreamLooks.{AllStuck, GetsQuiet, GetsStuck, Holds, HoldsOn, KeepsFronts, StuckAt, aheads, ids}
 use Rattle.outwriter.specs.Steps.{Step}
 
 -- an open stream stands somewhere among the map's keys

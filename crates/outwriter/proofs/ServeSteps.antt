@@ -14,10 +14,10 @@ use Rattle.outwriter.specs.Calls.{is_fresh, is_served, was_reset}
 use Rattle.outwriter.specs.Credits.{knows}
 use Rattle.outwriter.specs.Histories.{is_stream}
 use Rattle.outwriter.specs.Parts.{Mark, marks_on, on_stream, spelled}
-use Rattle.outwriter.specs.Polling.{Shown, shown, shows}
-use Rattle.outwriter.specs.Serving.{bytes_marks, IsExact, IsEnded, IsUncalled, MayBeDue, Serves, has_reason}
+use Rattle.outwriter.specs.StreamLooks.{Shown, shown, shows}
+use Rattle.outwriter.specs.CallState.{bytes_marks, IsExact, IsEnded, IsUncalled, MayBeDue, Serves, has_reason}
 use Rattle.outwriter.specs.Steps.{Step}
-use Rattle.outwriter.specs.Telling.{SpellsOf}
+use Rattle.outwriter.specs.ToldByNow.{SpellsOf}
 use Rattle.outwriter.proofs.Others.{Later, ended-later, uncalled-same}
 
 -- ---- marks

@@ -6,10 +6,10 @@ use Rattle.outwriter.specs.declared.out_core.OutCore.{OutCore}
 use Rattle.outwriter.specs.declared.outbound.Outbound.{Outbound}
 use Rattle.outwriter.specs.Cores.{calls, ServesOn, ServesStill}
 use Rattle.outwriter.specs.Parts.{Reset, on_stream}
-use Rattle.outwriter.specs.Polling.{SameHands, Holds, HoldsOn, KeepsFronts}
-use Rattle.outwriter.specs.Serving.{Serves, Heeds, IsOwn, OwnOrRests}
+use Rattle.outwriter.specs.StreamLooks.{SameHands, Holds, HoldsOn, KeepsFronts}
+use Rattle.outwriter.specs.CallState.{Serves, Heeds, IsOwn, OwnOrRests}
 use Rattle.outwriter.specs.Steps.{Step, Written}
-use Rattle.outwriter.specs.Telling.{block_marks}
+use Rattle.outwriter.specs.ToldByNow.{block_marks}
 use Rattle.outwriter.proofs.EndsKept.{heeds-kept, own-ends, rests-ends}
 use Rattle.outwriter.proofs.Fronts.{fronts_of, others_of}
 use Rattle.outwriter.proofs.ServeStepsOwn.{serves-hands, serves-rests, serves-plain, serves-reset, serves-refusal}

@@ -9,7 +9,7 @@ use Rattle.callbox.specs.declared.account.OutItem.{OutItem}
 use Rattle.callbox.specs.declared.account.OutItem.TheVariants as item
 use Rattle.flow.specs.Windows.{Windows}
 use Rattle.h2frame.specs.declared.frame.Frame.{Frame}
-use Rattle.hpack_codec.specs.declared.fields.Field.{Field}
+use Rattle.lists.specs.declared.field.Field.{Field}
 use Rattle.hpack_codec.specs.Codec.{Encoding, Writes}
 use Rattle.outwriter.specs.declared.out_core.OutCore.{OutCore}
 use Rattle.outwriter.specs.declared.outbound.Outbound.{Outbound}
@@ -19,13 +19,13 @@ use Rattle.outwriter.specs.declared.stream.Polled.TheVariants as polled
 use Rattle.outwriter.specs.Calls.{is_served, TellFronts}
 use Rattle.outwriter.specs.Cores.{calls}
 use Rattle.outwriter.specs.Credits.{knows}
-use Rattle.outwriter.specs.Mirrors.{Ends}
+use Rattle.outwriter.specs.RunState.{Ends}
 use Rattle.outwriter.specs.Parts.{Mark, Byte, Fields, End, on_stream, spelled, marks_of_item, IsFrontOf, IsPart}
-use Rattle.outwriter.specs.Polling.{Shown, shows, with_hand, HandIs, HandKeeps, Removes, TakesAt, TellsData, aheads, HoldsOn, KeepsFronts}
+use Rattle.outwriter.specs.StreamLooks.{Shown, shows, with_hand, HandIs, HandKeeps, Removes, TakesAt, TellsData, aheads, HoldsOn, KeepsFronts}
 use Rattle.outwriter.specs.Polls.{block_item}
-use Rattle.outwriter.specs.Serving.{Heeds, bytes_marks, Serves}
+use Rattle.outwriter.specs.CallState.{Heeds, bytes_marks, Serves}
 use Rattle.outwriter.specs.Steps.{Step, Written}
-use Rattle.outwriter.specs.Telling.{SpellsOf, TellsMore, TellsBlock, block_marks}
+use Rattle.outwriter.specs.ToldByNow.{SpellsOf, TellsMore, TellsBlock, block_marks}
 use Rattle.outwriter.proofs.ServeSteps.{append-nil}
 use Rattle.outwriter.proofs.EndsKept.{heeds-kept, same-ends, block-ends}
 use Rattle.outwriter.proofs.Others.{later-none, later-written}

@@ -10,12 +10,12 @@ use Rattle.outwriter.specs.declared.outbound.Outbound.{Outbound}
 use Rattle.outwriter.specs.declared.stream.OpenStream.{OpenStream}
 use Rattle.outwriter.specs.Calls.{is_fresh, is_served}
 use Rattle.outwriter.specs.Credits.{knows}
-use Rattle.outwriter.specs.Mirrors.{Sets}
+use Rattle.outwriter.specs.RunState.{Sets}
 use Rattle.outwriter.specs.Parts.{Mark, marks_on, on_stream, spelled, marks_of_item}
-use Rattle.outwriter.specs.Polling.{Shown, shown, shows, with_item, one_more}
-use Rattle.outwriter.specs.Serving.{bytes_marks, IsExact, IsEnded, Serves}
+use Rattle.outwriter.specs.StreamLooks.{Shown, shown, shows, with_item, one_more}
+use Rattle.outwriter.specs.CallState.{bytes_marks, IsExact, IsEnded, Serves}
 use Rattle.outwriter.specs.Steps.{Step}
-use Rattle.outwriter.specs.Telling.{SpellsOf}
+use Rattle.outwriter.specs.ToldByNow.{SpellsOf}
 use Rattle.outwriter.proofs.Others.{Later}
 use Rattle.outwriter.proofs.ServeSteps.{append-nil, more-here, more-elsewhere, none-some, some-none, none-shown, shown-some, from_some, serves-changed}
 

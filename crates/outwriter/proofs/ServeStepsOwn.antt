@@ -12,10 +12,10 @@ use Rattle.outwriter.specs.declared.stream.OpenStream.{OpenStream}
 use Rattle.outwriter.specs.Calls.{is_fresh, is_served, IsRefused}
 use Rattle.outwriter.specs.Credits.{knows}
 use Rattle.outwriter.specs.Parts.{Mark, Fields, End, Reset, marks_on, on_stream}
-use Rattle.outwriter.specs.Polling.{shown, SameHands}
-use Rattle.outwriter.specs.Serving.{IsEnded, MayBeDue, Serves, IsPlain, IsReset, IsRefusal, Rests}
+use Rattle.outwriter.specs.StreamLooks.{shown, SameHands}
+use Rattle.outwriter.specs.CallState.{IsEnded, MayBeDue, Serves, IsPlain, IsReset, IsRefusal, Rests}
 use Rattle.outwriter.specs.Steps.{Step, Written}
-use Rattle.outwriter.specs.Telling.{SpellsOf, block_marks}
+use Rattle.outwriter.specs.ToldByNow.{SpellsOf, block_marks}
 use Rattle.outwriter.proofs.Others.{Later, later-none, later-written}
 use Rattle.outwriter.proofs.TellSteps.{rests-tells}
 use Rattle.outwriter.proofs.ServeSteps.{append-nil, All-later, more-here, more-elsewhere, marks-append, none-some, some-none, none-shown, serves-changed}

@@ -11,7 +11,7 @@ use Rattle.outwriter.specs.declared.stream.OpenStream.{OpenStream}
 use Rattle.outwriter.specs.declared.stream.Polled.{Polled}
 use Rattle.outwriter.specs.declared.stream.Polled.TheVariants as polled
 use Rattle.outwriter.specs.Cores.{calls}
-use Rattle.outwriter.specs.Polling.{Shown, shown, with_item, one_more, TakesHand, TakesAt, SameAhead, aheads}
+use Rattle.outwriter.specs.StreamLooks.{Shown, shown, with_item, one_more, TakesHand, TakesAt, SameAhead, aheads}
 use Rattle.outwriter.specs.Polls.{Polls, block_item}
 
 module _ {L In Out Shut : Type 0} where

@@ -13,7 +13,7 @@ use Rattle.outwriter.specs.declared.stream.Polled.{Polled}
 use Rattle.outwriter.specs.declared.stream.Polled.TheVariants as polled
 use Rattle.outwriter.specs.Cores.{calls, IsStuck}
 use Rattle.outwriter.specs.Histories.{is_stream}
-use Rattle.outwriter.specs.Polling.{Shown, shown, shows, with_hand, HandIs, TakesAt, SameAhead, TellsData, aheads, Holds, StuckAt, GetsStuck}
+use Rattle.outwriter.specs.StreamLooks.{Shown, shown, shows, with_hand, HandIs, TakesAt, SameAhead, TellsData, aheads, Holds, StuckAt, GetsStuck}
 use Rattle.outwriter.specs.Steps.{Step}
 use Rattle.outwriter.proofs.ServeSteps.{shown-some, from_some, none-some}
 use Rattle.outwriter.proofs.ServeStepsLook.{Took, takes-nothing}

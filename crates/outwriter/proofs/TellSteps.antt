@@ -5,7 +5,7 @@ use Rattle.std.proofs.Math.Seq.{take-length}
 use Rattle.std.proofs.lemmas.Bool.{leb-true}
 use Rattle.std.proofs.lemmas.List.{take_min, take-append-drop}
 use Rattle.h2frame.specs.declared.frame.Frame.{Frame}
-use Rattle.hpack_codec.specs.declared.fields.Field.{Field}
+use Rattle.lists.specs.declared.field.Field.{Field}
 use Rattle.hpack_codec.specs.Block.{IsBlock}
 use Rattle.hpack_codec.specs.Codec.{Encoding, Writes, limited}
 use Rattle.hpack_codec.specs.Table.{Table}
@@ -16,9 +16,9 @@ use Rattle.outwriter.specs.Blocks.{is_short, frame_of, rest_of}
 use Rattle.outwriter.specs.Frames.{ends_block, headers_frame, continuation_frame}
 use Rattle.outwriter.specs.Parts.{Mark, Tells, Adds, completed, on_stream, plain_marks}
 use Rattle.outwriter.specs.Runs.{Fragments, fragments, unfinished}
-use Rattle.outwriter.specs.Serving.{Takes, Rests}
+use Rattle.outwriter.specs.CallState.{Takes, Rests}
 use Rattle.outwriter.specs.Steps.{Step, Order, Taken, Granted, Written}
-use Rattle.outwriter.specs.Telling.{Owes, Spells, KeepsTable, IsTableOf, block_marks, TellsNothing, KeepsTelling}
+use Rattle.outwriter.specs.ToldByNow.{Owes, Spells, KeepsTable, IsTableOf, block_marks, TellsNothing, KeepsTelling}
 
 -- ---- steps that write nothing
 

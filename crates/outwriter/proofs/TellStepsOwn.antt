@@ -6,7 +6,7 @@ use Rattle.std.specs.Map.{lookup}
 use Rattle.std.proofs.lemmas.Bool.{eqb-true}
 use Rattle.std.proofs.lemmas.List.Folds.{list_any-append}
 use Rattle.h2frame.specs.declared.frame.Frame.{Frame}
-use Rattle.hpack_codec.specs.declared.fields.Field.{Field}
+use Rattle.lists.specs.declared.field.Field.{Field}
 use Rattle.hpack_codec.specs.Codec.{Writes}
 use Rattle.outwriter.specs.declared.blocks.HeaderBlock.{HeaderBlock}
 use Rattle.outwriter.specs.declared.due.Due.{Due}
@@ -14,10 +14,10 @@ use Rattle.outwriter.specs.declared.due.Due.TheVariants as due_kind
 use Rattle.outwriter.specs.declared.outbound.Outbound.{Outbound}
 use Rattle.outwriter.specs.Credits.{knows}
 use Rattle.outwriter.specs.Histories.{is_stream}
-use Rattle.outwriter.specs.Mirrors.{Sets, Ends}
+use Rattle.outwriter.specs.RunState.{Sets, Ends}
 use Rattle.outwriter.specs.Parts.{Mark}
-use Rattle.outwriter.specs.Serving.{AreOver, Rests, IsOwn, OwnOrRests, is_due_of}
-use Rattle.outwriter.specs.Telling.{Spells, SpellsOf, KeepsTelling, TellsMore, TellsBlock, OwnByDue, block_marks}
+use Rattle.outwriter.specs.CallState.{AreOver, Rests, IsOwn, OwnOrRests, is_due_of}
+use Rattle.outwriter.specs.ToldByNow.{Spells, SpellsOf, KeepsTelling, TellsMore, TellsBlock, OwnByDue, block_marks}
 use Rattle.outwriter.proofs.TellSteps.{rests-tells}
 
 -- ---- after steps that drop what was due at most

@@ -14,7 +14,7 @@ use Rattle.flow.specs.Windows.{Windows, Fits, window, balance, opened, closed, C
 use Rattle.outwriter.specs.declared.control.Control.TheVariants.{Window, Settings, Open}
 use Rattle.outwriter.specs.declared.settings.PeerSetting.{PeerSetting}
 use Rattle.outwriter.specs.Histories.{CanCredit, CanResize, Takes, opens, window_sizes}
-use Rattle.outwriter.specs.Mirrors.{HasWindows}
+use Rattle.outwriter.specs.RunState.{HasWindows}
 use Rattle.outwriter.specs.Steps.{Step, Order, Taken}
 
 -- ---- a window by what is kept, and by its history

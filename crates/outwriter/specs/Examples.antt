@@ -5,7 +5,7 @@ use Rattle.callbox.specs.declared.account.OutItem.TheVariants.{Head, Message, Tr
 use Rattle.flow.specs.WindowHistory.{Spending, Closing}
 use Rattle.h2frame.specs.declared.error_code.ErrorCode.TheVariants.{Cancel, NoError}
 use Rattle.h2frame.specs.Spelling.{spelled as spelling}
-use Rattle.hpack_codec.specs.declared.fields.Field.{Field}
+use Rattle.lists.specs.declared.field.Field.{Field}
 use Rattle.outwriter.specs.declared.control.Control.TheVariants.{Settings, Ping, Goaway}
 use Rattle.outwriter.specs.declared.control.Control.TheVariants as order
 use Rattle.outwriter.specs.declared.settings.PeerSetting.TheVariants.{TableSize, WindowSize}

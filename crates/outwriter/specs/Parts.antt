@@ -7,7 +7,7 @@ use Rattle.callbox.specs.declared.account.OutItem.TheVariants.{Head, Message, Tr
 use Rattle.h2frame.specs.declared.frame.Frame.{Frame}
 use Rattle.h2frame.specs.declared.kind.FrameKind.{FrameKind}
 use Rattle.h2frame.specs.declared.kind.FrameKind.TheVariants.{Data, RstStream}
-use Rattle.hpack_codec.specs.declared.fields.Field.{Field}
+use Rattle.lists.specs.declared.field.Field.{Field}
 use Rattle.hpack_codec.specs.Block.{IsBlock}
 use Rattle.hpack_codec.specs.Table.{Table, empty_table}
 use Rattle.outwriter.specs.Frames.{ends_stream, ends_block}

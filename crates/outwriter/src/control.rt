@@ -1,9 +1,8 @@
 //! What the writer's core is told, and why it refuses.
 
 use crate::settings::PeerSettings;
-use callbox::Sequence;
 use h2frame::{ErrorCode, StreamId};
-use hpack_codec::Field;
+use lists::{Field, Sequence};
 use std::fmt;
 
 /// What the core is told, by the peer or by its own side. `S` is the sender of a call.

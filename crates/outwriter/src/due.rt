@@ -1,8 +1,7 @@
 //! What controls oblige to write, in their order.
 
-use callbox::Sequence;
 use h2frame::{ErrorCode, StreamId};
-use hpack_codec::Field;
+use lists::{Field, Sequence};
 
 /// What is to be written before anything of the open calls.
 #[derive(Drop)]

@@ -30,9 +30,9 @@ impl<L: Lane<Item = OutItem>> OutCore<L> {
     ghost use Rattle.h2frame.specs.declared.frame.Frame.{Frame as FrameOf};
     ghost use Rattle.outwriter.specs.Frames.{IsSound};
     ghost use Rattle.outwriter.specs.Cores.{Serving, ServesNext, QuietNext, NoFrameNext, EndedNext, calls};
-    ghost use Rattle.outwriter.specs.Polling.{shows, SameHands, HandIs, HandKeeps, Removes, ids, TakesAt, SameAhead, aheads, HoldsOn, KeepsFronts, TellsData, GetsStuck, AllStuck, GetsQuiet};
+    ghost use Rattle.outwriter.specs.StreamLooks.{shows, SameHands, HandIs, HandKeeps, Removes, ids, TakesAt, SameAhead, aheads, HoldsOn, KeepsFronts, TellsData, GetsStuck, AllStuck, GetsQuiet};
     ghost use Rattle.outwriter.specs.Steps.{Step};
-    ghost use Rattle.outwriter.specs.Mirrors.{Answers, AnswersAll, Reached, SameOwn, IsSpent, Progress, Progresses, Stays, IsBetween, MirrorsOf};
+    ghost use Rattle.outwriter.specs.RunState.{Answers, AnswersAll, Reached, SameOwn, IsSpent, Progress, Progresses, Stays, IsBetween, MirrorsOf};
 
     /// The next frame. After want of memory the core is dead, and answers that again.
     pub fn next_frame(&mut self) -> Result<Next, OutFault<Sender<L>>>
@@ -360,7 +360,7 @@ impl<L: Lane<Item = OutItem>> OutCore<L> {
 }
 
 ghost use Rattle.outwriter.specs.Cores.{calls as calls_of};
-ghost use Rattle.outwriter.specs.Polling.{aheads as aheads_of, TakesHand, SameElsewhere};
+ghost use Rattle.outwriter.specs.StreamLooks.{aheads as aheads_of, TakesHand, SameElsewhere};
 
 /// The next item of the sender at a place, if there is one.
 fn poll_at<L: Lane<Item = OutItem>>(

@@ -5,8 +5,8 @@ ghost use Rattle.flow.specs.WindowHistory.{Follows};
 ghost use Rattle.flow.specs.WindowHistory.{Step as WindowStep};
 ghost use Rattle.flow.specs.Windows.{balance, CreditFault};
 ghost use Rattle.outwriter.specs.Credits.{Grants, knows, owed_on, nothing_owed};
-ghost use Rattle.outwriter.specs.Mirrors.{HasOver, HasSilence};
-ghost use Rattle.outwriter.specs.Telling.{KeepsTable, SpellsOf};
+ghost use Rattle.outwriter.specs.RunState.{HasOver, HasSilence};
+ghost use Rattle.outwriter.specs.ToldByNow.{KeepsTable, SpellsOf};
 ghost use Rattle.flow.specs.declared.send_windows.WindowFault.TheVariants as window_fault;
 
 use crate::blocks::HeaderBlock;
@@ -14,11 +14,11 @@ use crate::credit::Credit;
 use crate::due::Due;
 use crate::resize::resize;
 use crate::settings::{PeerSetting, PeerSettings};
-use callbox::Sequence;
 use flow::{MAX_WINDOW, SendWindows, WindowFault};
 use h2frame::{ErrorCode, StreamId};
-use hpack_codec::{Encoder, Field};
+use hpack_codec::Encoder;
 use indexmap::IndexMap;
+use lists::{Field, Sequence};
 use std::alloc::{AllocError, Global};
 use std::collections::VecDeque;
 
@@ -44,8 +44,8 @@ impl Outbound {
     ghost use Rattle.std.specs.VecDeque.{deque_len, deque_capacity};
     ghost use Rattle.outwriter.specs.Steps.{Step, Taken, Granted};
     ghost use Rattle.outwriter.specs.Histories.{opens, CanResize, window_sizes};
-    ghost use Rattle.outwriter.specs.Mirrors.{MirrorsOf, Leads, Stays};
-    ghost use Rattle.outwriter.specs.Serving.{Takes, none_is_new};
+    ghost use Rattle.outwriter.specs.RunState.{MirrorsOf, Leads, Stays};
+    ghost use Rattle.outwriter.specs.CallState.{Takes, none_is_new};
     ghost use Rattle.outwriter.specs.declared.control.Control.TheVariants as order;
     ghost use Rattle.outwriter.specs.declared.due.Due.TheVariants as due_kind;
 

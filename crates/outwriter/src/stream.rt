@@ -7,8 +7,9 @@ ghost use Rattle.callbox.specs.declared.account.OutItem.{OutItem};
 
 use bytes::Bytes;
 use callbox::{OutItem, Sender};
-use hpack_codec::{Encoder, Field};
+use hpack_codec::Encoder;
 use lane::Lane;
+use lists::Field;
 use std::alloc::AllocError;
 
 /// A stream whose items are written.

@@ -2,10 +2,10 @@
 
 use crate::{Control, Next, OutCore, PeerSettings};
 use bytes::Bytes;
-use callbox::{OutItem, Sender, Sequence, open_out};
+use callbox::{OutItem, Sender, open_out};
 use h2frame::ErrorCode;
-use hpack_codec::{Field, Octets};
 use lane::RingLane;
+use lists::{Field, Octets, Sequence};
 use std::alloc::{AllocError, Global};
 use std::process::Abort;
 use std::test::Fail;

@@ -5,7 +5,7 @@ ghost use Rattle.std.specs.Map.{lookup};
 ghost use Rattle.flow.specs.Windows.{room};
 ghost use Rattle.flow.specs.WindowHistory.{Follows, Closing, room_after};
 ghost use Rattle.flow.specs.WindowHistory.{Step as WindowStep};
-ghost use Rattle.outwriter.specs.Mirrors.{Sets, Ends, closing, spent};
+ghost use Rattle.outwriter.specs.RunState.{Sets, Ends, closing, spent};
 
 use crate::blocks::HeaderBlock;
 use crate::due::Due;
@@ -16,11 +16,10 @@ use crate::frames::{
 use crate::outbound::{Outbound, is_stream};
 use crate::stream::encoded;
 use bytes::Bytes;
-use callbox::Sequence;
 use flow::SendWindows;
 use h2frame::{ErrorCode, Frame, MAX_PAYLOAD, StreamId};
-use hpack_codec::Field;
 use indexmap::IndexMap;
+use lists::{Field, Sequence};
 use std::alloc::AllocError;
 
 impl Outbound {
@@ -30,9 +29,9 @@ impl Outbound {
     ghost use Rattle.outwriter.specs.Steps.{Step};
     ghost use Rattle.outwriter.specs.Histories.{is_stream as is_number};
     ghost use Rattle.outwriter.specs.Parts.{Byte, on_stream};
-    ghost use Rattle.outwriter.specs.Serving.{AreOver, IsOwn, OwnOrRests};
-    ghost use Rattle.outwriter.specs.Telling.{TellsBlock, TellsMore, OwnByDue, OwnOfDue};
-    ghost use Rattle.outwriter.specs.Mirrors.{Progress, Stays, IsBetween, Writes, WritesIf, WritesDue, WritesOrSkips, Heads, MirrorsOf};
+    ghost use Rattle.outwriter.specs.CallState.{AreOver, IsOwn, OwnOrRests};
+    ghost use Rattle.outwriter.specs.ToldByNow.{TellsBlock, TellsMore, OwnByDue, OwnOfDue};
+    ghost use Rattle.outwriter.specs.RunState.{Progress, Stays, IsBetween, Writes, WritesIf, WritesDue, WritesOrSkips, Heads, MirrorsOf};
 
     /// SETTINGS, which are first.
     pub(crate) fn first_frame(&mut self) -> Frame

@@ -1,5 +1,5 @@
 pub mod Varints
 pub mod FieldsRead
 pub mod VarintsWritten
-pub mod WholeReadings
+pub mod OneReading
 pub mod Examples

@@ -8,24 +8,24 @@
 //! numbers, which is read again whatever follows it; where memory runs out the buffer is as it was.
 //!
 //! Read [`fault`] and [`field`] first, the types; then [`varint`], [`tag`] and [`reading`], a layer each;
-//! [`whole`] and [`writing`] stand on them. What is right is defined in `specs/`: `Varint`, `Fields` and
+//! [`all_fields`] and [`writing`] stand on them. What is right is defined in `specs/`: `Varint`, `Fields` and
 //! `Spelling`. [`laws`] says that these definitions fit together.
 #![tactic(auto)]
 
+mod all_fields;
 mod fault;
 mod field;
 pub mod laws;
 mod reading;
 mod tag;
 mod varint;
-mod whole;
 mod writing;
 
 pub use fault::WireFault;
 pub use field::{FieldItem, FieldValue};
 pub use reading::Fields;
 pub use varint::read_varint;
-pub use whole::{AllFields, read_fields};
+pub use all_fields::{AllFields, read_fields};
 pub use writing::{varint_len, write_field, write_varint};
 
 #[cfg(test)]

@@ -14,7 +14,7 @@ use Rattle.session.specs.declared.in_core.Stage.{Stage}
 use Rattle.session.specs.declared.in_core.Stage.TheVariants.{Greeting, Reading, Dead}
 use Rattle.session.specs.Prefaces.{preface}
 use Rattle.session.specs.Events.{is_fatal, IsCalm, Close, Unfinished, Faulty, Refused, Broken, Ended, Follows, start, Events, Greeted, Departed, Unsettled, Read}
-use Rattle.session.specs.Reached.{Core, Leads, IsOver, AtStage, Reached}
+use Rattle.session.specs.CoreStates.{Core, Leads, IsOver, AtStage, Reached}
 use Rattle.session.proofs.Groups.{calm_runs}
 use Rattle.session.proofs.Reading.{stood}
 use Rattle.session.proofs.Stages.{follows_more, departs_more}

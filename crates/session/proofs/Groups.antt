@@ -10,7 +10,7 @@ use Rattle.session.specs.declared.event.InEvent.{InEvent}
 use Rattle.session.specs.declared.event.InEvent.TheVariants.{Fatal}
 use Rattle.session.specs.Frames.{fatal}
 use Rattle.session.specs.Events.{Situation, start, Group, entries_of, GroupGives, is_fatal, IsCalm, Runs, Opens, Passes}
-use Rattle.session.specs.Reached.{IsSettled, ends_at}
+use Rattle.session.specs.CoreStates.{IsSettled, ends_at}
 
 -- ---- calm events
 

@@ -4,7 +4,7 @@ use Rattle.std.specs.Prelude.{Option, Some, None, MatchOption, Ok, ◌==◌, if�
 use Rattle.std.specs.Str.Parse.{digits_value}
 use Rattle.std.proofs.lemmas.Bool.{cases_lt, true≢false}
 use Rattle.std.proofs.lemmas.List.{append-nil}
-use Rattle.hpack_codec.specs.declared.fields.Field.{Field}
+use Rattle.lists.specs.declared.field.Field.{Field}
 use Rattle.callhead.specs.declared.head.Encoding.{Encoding}
 use Rattle.callhead.specs.declared.head.CallHead.{CallHead}
 use Rattle.callhead.specs.declared.fault.HeadFault.{HeadFault}

@@ -8,10 +8,10 @@ use Rattle.h2frame.specs.declared.kind.FrameKind.{FrameKind}
 use Rattle.h2frame.specs.declared.kind.FrameKind.TheVariants.{Data, Headers, Priority, RstStream, Settings, PushPromise, Ping, GoAway, WindowUpdate, Continuation, Unknown}
 use Rattle.h2frame.specs.FrameList.{Entry, Whole, NoIncrement}
 use Rattle.flow.specs.Halves.{Event, verdict, is_connection_error}
-use Rattle.session.specs.declared.fragments.FragmentFault.{FragmentFault}
-use Rattle.session.specs.Fragments.{Pending, AreMarked, Collects}
+use Rattle.session.specs.declared.header_block.FragmentFault.{FragmentFault}
+use Rattle.session.specs.HeaderBlocks.{Pending, AreMarked, Collects}
 use Rattle.session.specs.Events.{Group, Single, Credit, Block, IsBegun, entries_of, IsPartial, Breaks}
-use Rattle.session.proofs.OneMarks.{Meeting, Same, More, Fewer, meet, marks_same, marks_end, collects_one, unbroken, breaks_one}
+use Rattle.session.proofs.OneHeaderBlock.{Meeting, Same, More, Fewer, meet, marks_same, marks_end, collects_one, unbroken, breaks_one}
 
 -- what is taken from the front: a group, HEADERS that are an error of the connection, or a header block that breaks off
 pub data Piece : Type 0 where

@@ -13,7 +13,7 @@ use Rattle.flow.specs.declared.halves.HalfVerdict.TheVariants.{ConnectionError}
 use Rattle.flow.specs.Halves.{verdict, is_connection_error}
 use Rattle.session.specs.declared.event.InEvent.{InEvent}
 use Rattle.session.specs.Frames.{fatal, KindGives}
-use Rattle.session.specs.Fragments.{fragment_error}
+use Rattle.session.specs.HeaderBlocks.{fragment_error}
 use Rattle.session.specs.Events.{Situation, Group, Single, Credit, Block, entries_of, GroupGives, IsCalm, Runs, Close, Unfinished, Faulty, Refused, Broken, Ended, IsPartial, Closes}
 use Rattle.session.proofs.OneGroup.{group_one, not_calm_end}
 use Rattle.session.proofs.OnePiece.{Piece, Of, Refusal, Cut, taken, StandsIn, piece_one, partial_none}

@@ -15,9 +15,9 @@ use Rattle.session.specs.declared.context.Position.{Position}
 use Rattle.session.specs.declared.context.Position.TheVariants.{First, Between, Inside}
 use Rattle.session.specs.Frames.{fatal}
 use Rattle.session.specs.Events.{Situation, start, IsPartial, Passes, Faulty, Unfinished}
-use Rattle.session.specs.Reached.{IsSound, IsSoundNext, Leads, Stops, LeadsOn, Advances, IsEnd, ReadsTo, IsOver, ReadsNext}
+use Rattle.session.specs.CoreStates.{IsSound, IsSoundNext, Leads, Stops, LeadsOn, Advances, IsEnd, ReadsTo, IsOver, ReadsNext}
 use Rattle.session.proofs.Groups.{passes_none}
-use Rattle.session.proofs.Leading.{closed}
+use Rattle.session.proofs.Positions.{closed}
 
 -- ---- less is left behind an entry
 

@@ -15,7 +15,7 @@ use Rattle.session.specs.declared.in_core.Stage.TheVariants.{Greeting, Reading, 
 use Rattle.session.specs.Prefaces.{preface, Departs, Brings}
 use Rattle.session.specs.Frames.{fatal}
 use Rattle.session.specs.Events.{Situation, Close, Unfinished, Faulty, Refused, Broken, Ended, Closes, Follows}
-use Rattle.session.specs.Reached.{Stops, ReadsTo, IsOver, ReadsOn, AtStage}
+use Rattle.session.specs.CoreStates.{Stops, ReadsTo, IsOver, ReadsOn, AtStage}
 
 -- ---- more bytes
 

@@ -8,7 +8,7 @@ use Rattle.h2frame.specs.declared.kind.FrameKind.{FrameKind}
 use Rattle.h2frame.specs.declared.kind.FrameKind.TheVariants.{Data, Headers, Priority, RstStream, Settings, PushPromise, Ping, GoAway, WindowUpdate, Continuation, Unknown}
 use Rattle.h2frame.specs.Flags.{has, end_stream}
 use Rattle.h2frame.specs.FrameList.{Entry, Whole}
-use Rattle.hpack_codec.specs.declared.fields.Field.{Field}
+use Rattle.lists.specs.declared.field.Field.{Field}
 use Rattle.hpack_codec.specs.Table.{Table}
 use Rattle.callhead.specs.declared.fault.HeadFault.TheVariants.{Malformed}
 use Rattle.flow.specs.declared.halves.Half.{Half}
@@ -18,7 +18,7 @@ use Rattle.flow.specs.Halves.{Event, Cut, is_headers, begun, verdict}
 use Rattle.session.specs.declared.event.InEvent.{InEvent}
 use Rattle.session.specs.Streams.{after_frame, data_events, credit_head, credit_verdict}
 use Rattle.session.specs.Frames.{WindowGives, KindGives}
-use Rattle.session.specs.Fragments.{Pending, Collects, IsContinuation}
+use Rattle.session.specs.HeaderBlocks.{Pending, Collects, IsContinuation}
 use Rattle.session.specs.Blocks.{HeadGives, FieldsGive, BlockGives}
 use Rattle.session.specs.Events.{Situation, Group, Single, Credit, Block, entries_of, GroupGives}
 use Rattle.session.specs.StreamData.{data_with, data_behind, data_of, is_opening}

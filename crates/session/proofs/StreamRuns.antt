@@ -16,11 +16,11 @@ use Rattle.session.specs.StreamData.{data_behind, data_of, pieces, is_opening, E
 use Rattle.session.proofs.HalfSteps.{half_at, IsClosed}
 use Rattle.session.proofs.StreamPieces.{IsSilent, pieces_append, silent_join, silent_same}
 use Rattle.session.proofs.StreamGroups.{group_closed}
-use Rattle.session.proofs.OpenStreams.{IsCounted, closed_silent, group_open}
-use Rattle.session.proofs.NewStreams.{group_unbegun}
+use Rattle.session.proofs.OpenStreamData.{IsCounted, closed_silent, group_open}
+use Rattle.session.proofs.NewStreamData.{group_unbegun}
 use Rattle.session.proofs.StreamEnds.{told_append}
-use Rattle.session.proofs.OpenEnds.{group_open_end}
-use Rattle.session.proofs.NewEnds.{Still, Begins, Ends, Untold, group_new_end}
+use Rattle.session.proofs.OpenStreamEnds.{group_open_end}
+use Rattle.session.proofs.NewStreamEnds.{Still, Begins, Ends, Untold, group_new_end}
 
 abbrev pub front_of : List Group → List Entry
 front_of [] = []

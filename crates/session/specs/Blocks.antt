@@ -5,7 +5,7 @@ use Rattle.h2frame.specs.declared.error_code.ErrorCode.TheVariants.{CompressionE
 use Rattle.h2frame.specs.declared.frame.FrameHead.{FrameHead}
 use Rattle.hpack_codec.specs.declared.fault.HpackFault.{HpackFault}
 use Rattle.hpack_codec.specs.declared.fault.HpackFault.TheVariants.{TooLarge, OutOfMemory}
-use Rattle.hpack_codec.specs.declared.fields.Field.{Field}
+use Rattle.lists.specs.declared.field.Field.{Field}
 use Rattle.hpack_codec.specs.Table.{Table}
 use Rattle.hpack_codec.specs.Codec.{Reads, IsFirstFault}
 use Rattle.callhead.specs.declared.head.CallHead.{CallHead}

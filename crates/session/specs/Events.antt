@@ -14,12 +14,12 @@ use Rattle.flow.specs.declared.halves.HalfVerdict.TheVariants.{ConnectionError}
 use Rattle.flow.specs.Halves.{Event, verdict, is_connection_error}
 use Rattle.session.specs.declared.event.InEvent.{InEvent}
 use Rattle.session.specs.declared.event.InEvent.TheVariants.{Fatal}
-use Rattle.session.specs.declared.fragments.FragmentFault.{FragmentFault}
-use Rattle.session.specs.declared.fragments.FragmentFault.TheVariants.{Interrupted, TooLong, OutOfMemory}
+use Rattle.session.specs.declared.header_block.FragmentFault.{FragmentFault}
+use Rattle.session.specs.declared.header_block.FragmentFault.TheVariants.{Interrupted, TooLong, OutOfMemory}
 use Rattle.session.specs.Prefaces.{preface, Departs}
 use Rattle.session.specs.Streams.{after_frame, refusal, credit_head, credit_verdict}
 use Rattle.session.specs.Frames.{fatal, Gives}
-use Rattle.session.specs.Fragments.{Pending, Collects, Stands, fragment_error}
+use Rattle.session.specs.HeaderBlocks.{Pending, Collects, Stands, fragment_error}
 use Rattle.session.specs.Blocks.{BlockGives}
 
 -- what frames are judged by: those before them and the resets, and the table of header fields

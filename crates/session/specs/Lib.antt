@@ -3,9 +3,9 @@ pub mod Settings
 pub mod Streams
 pub mod Frames
 pub mod Blocks
-pub mod Fragments
+pub mod HeaderBlocks
 pub mod Events
-pub mod Reached
+pub mod CoreStates
 pub mod StreamData
 pub mod Examples
 pub mod EventExamples

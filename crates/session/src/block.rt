@@ -12,7 +12,8 @@ use crate::judge::refuse;
 use callhead::{CallHead, HeadFault};
 use flow::{HalfVerdict, Halves};
 use h2frame::{ErrorCode, Flags, FrameHead};
-use hpack_codec::{Decoder, Field, HpackFault};
+use hpack_codec::{Decoder, HpackFault};
+use lists::Field;
 use std::alloc::{AllocError, Global};
 
 /// The events of a whole header block, behind those before it. Its HEADERS, with this head, had this verdict.

@@ -9,11 +9,11 @@ ghost use Rattle.flow.specs.declared.halves.HalfVerdict.TheVariants.{Open};
 ghost use Rattle.flow.specs.Halves.{Stands, half_of};
 ghost use Rattle.session.specs.declared.context.Position.TheVariants.{Inside};
 ghost use Rattle.session.specs.Frames.{fatal};
-ghost use Rattle.session.specs.Reached.{IsSound, IsSoundNext, Advances, Begins, Collected, IsEnd, position_behind};
+ghost use Rattle.session.specs.CoreStates.{IsSound, IsSoundNext, Advances, Begins, Collected, IsEnd, position_behind};
 
 use crate::block::block_events;
 use crate::event::InEvent;
-use crate::fragments::{FragmentFault, HeaderBlock};
+use crate::header_block::{FragmentFault, HeaderBlock};
 use crate::judge::{frame_events, judge, judge_credit, refuse};
 use flow::{HalfVerdict, Halves};
 use h2frame::{ErrorCode, Flags, Frame, FrameFault, FrameHead, FrameKind, StreamId};

@@ -3,7 +3,7 @@
 ghost use Rattle.std.specs.Prelude.{◌≡◌, List, ℕ, [], ◌++◌, IfOk, IsOk, OnErr};
 ghost use Rattle.session.specs.declared.event.InEvent.{InEvent as InEventOf};
 ghost use Rattle.session.specs.declared.in_core.Stage.TheVariants.{Dead, Greeting, Reading};
-ghost use Rattle.session.specs.Reached.{Reached, IsSound, IsSoundStage, ReadsTo, ReadsOn, AtStage};
+ghost use Rattle.session.specs.CoreStates.{Reached, IsSound, IsSoundStage, ReadsTo, ReadsOn, AtStage};
 
 use crate::context::{Context, Position};
 use crate::event::InEvent;
@@ -33,7 +33,7 @@ pub struct InCore {
 }
 
 impl Model for InCore {
-    ghost use Rattle.session.specs.Reached.{Core, IsSoundStage};
+    ghost use Rattle.session.specs.CoreStates.{Core, IsSoundStage};
 
     ghost Value = { Core };
 

@@ -6,7 +6,7 @@ ghost use Rattle.session.specs.declared.event.InEvent.{InEvent as InEventOf};
 ghost use Rattle.h2frame.specs.FrameList.{Entry, Joined};
 ghost use Rattle.session.specs.Events.{Events, Group, GroupGives, IsCalm, Passes, Situation, is_fatal};
 ghost use Rattle.session.specs.StreamData.{data_of, ending_of, ending_told, is_opening, pieces};
-ghost use Rattle.session.specs.Reached.{Core, Reached};
+ghost use Rattle.session.specs.CoreStates.{Core, Reached};
 
 /// What a core has answered are the events of the bytes that it was fed.
 pub fn answers()

@@ -8,7 +8,7 @@ use Rattle.std.proofs.lemmas.Grind.{flat_map-append}
 use Rattle.std.proofs.lemmas.Int.{to_z-of_z}
 use Rattle.pbwire.specs.Fields.{Field, field_with, Content, varint, eight_bytes, bytes, four_bytes, tag_of, IsReading}
 use Rattle.pbwire.specs.Spelling.{varint_spelling, content_spelling, spelling_of, spelling_of_all, IsFieldNumber, FitsContent, FitsField}
-use Rattle.pbwire.proofs.WholeReadings.{written_fields}
+use Rattle.pbwire.proofs.OneReading.{written_fields}
 use Rattle.testproto.specs.Values.{bytes_of, varint_in, content_in, varints, contents, last_or, low_32, int32, boolean, byte_string, IsEmbedded, AreRepeated, IsWellFormed, AcceptsText, AcceptsMessage, IsValueOf}
 use Rattle.testproto.specs.Canonical.{int32_fields, bool_fields, bytes_fields, message_field, message_fields, repeated_fields, IsReadBack}
 

@@ -5,7 +5,7 @@ use Rattle.std.specs.List.{AllByRecursion}
 use Rattle.pbwire.specs.declared.fault.WireFault.{WireFault}
 use Rattle.pbwire.specs.Fields.{Field, StartsWithField, StartsWithFields, FaultAt}
 use Rattle.pbwire.proofs.FieldsRead.{one_field, field_or_fault, no_field_at_end, no_fault_at_end}
-use Rattle.pbwire.proofs.WholeReadings.{one_reading}
+use Rattle.pbwire.proofs.OneReading.{one_reading}
 use Rattle.testproto.specs.declared.fault.ProtoFault.{ProtoFault}
 use Rattle.testproto.specs.declared.fault.ProtoFault.TheVariants.{Wire}
 use Rattle.testproto.specs.Values.{AreJoined, IsEmbedded, AreRepeated, IsWellFormed, AcceptsText, AcceptsMessage, HasFault, RefusesText, RefusesMessage, IsValueOf}

@@ -1,7 +1,7 @@
 //! The fields that answer a call.
 use super::{SPECIAL, lines};
 use crate::{HeadFault, Texts, Values, response_fields, status_fields};
-use hpack_codec::Octets;
+use lists::Octets;
 use std::alloc::{AllocError, Global};
 use std::test::Fail;
 

@@ -1,7 +1,7 @@
 //! Each cause of a malformed head, each fault and their order, and what heads say.
 use super::{initial_text, trailing_text};
 use crate::{CallHead, Encoding, HeadFault};
-use hpack_codec::{Field, Octets};
+use lists::{Field, Octets};
 use std::alloc::{AllocError, Global};
 use std::process::Abort;
 use std::test::Fail;

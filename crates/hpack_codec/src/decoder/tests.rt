@@ -2,7 +2,7 @@
 use super::Decoder;
 use super::clients::Connection;
 use crate::fault::HpackFault;
-use crate::fields::Field;
+use lists::Field;
 use std::alloc::{AllocError, Global};
 use std::process::Abort;
 use std::test::Fail;

@@ -2,7 +2,7 @@
 use super::Encoder;
 use crate::decoder::Decoder;
 use crate::fault::HpackFault;
-use crate::fields::{Field, Octets};
+use lists::{Field, Octets};
 use std::alloc::{AllocError, Global};
 use std::test::Fail;
 

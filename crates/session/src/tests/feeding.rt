@@ -1,6 +1,6 @@
 //! Feeds connections to the reading core, cut at each place and a byte at a time, and compares their events.
 
-use crate::serial::events_of;
+use crate::uses::in_pieces::events_of;
 use crate::tests::{bytes_of, describe};
 use crate::{Control, InCore, InEvent};
 use std::alloc::{AllocError, Global};

@@ -1,6 +1,6 @@
 use Rattle.std.proofs.Common.{inr}
 use Rattle.handlers.specs.Requests.{OutputVerdict}
-use Rattle.handlers.proofs.Streams.{all_ended, all_more}
+use Rattle.handlers.proofs.ManyMessageSteps.{all_ended, all_more}
 use Rattle.handlers.proofs.half_duplex_call.answer_all.Goals as goal
 
 pub returns-in-Err : goal.returns-in-Err

@@ -1,5 +1,5 @@
 use Rattle.handlers.specs.Requests.{SimpleVerdict}
-use Rattle.handlers.proofs.Single.{with_ok, end_after_one}
+use Rattle.handlers.proofs.OneMessageSteps.{with_ok, end_after_one}
 use Rattle.handlers.proofs.unary_call.answer_request.Goals as goal
 
 pub returns-in-Sum-clause-answers : goal.returns-in-Sum-clause-answers

@@ -1,7 +1,7 @@
 use Rattle.std.proofs.Common.{◌∷◌, []}
 use Rattle.handlers.specs.declared.reply.Reply.TheVariants.{Zeros}
 use Rattle.handlers.specs.Requests.{SimpleVerdict}
-use Rattle.handlers.proofs.Single.{with_ok, first_asks, first_ends, second_ends}
+use Rattle.handlers.proofs.OneMessageSteps.{with_ok, first_asks, first_ends, second_ends}
 use Rattle.handlers.proofs.unary_call.take_request.Goals as goal
 
 pub returns-in-Ok-clause-answers : goal.returns-in-Ok-clause-answers

@@ -1,5 +1,5 @@
 use Rattle.std.proofs.Common.{◌≡◌, vec_len}
-use Rattle.lane.specs.Known.{cells_of, items_of}
+use Rattle.lane.specs.KnownCells.{cells_of, items_of}
 use Rattle.lane.proofs.cells.agree.Given as goal
 
 abbrev pub invariant-loop-mine : goal.invariant-loop-mine

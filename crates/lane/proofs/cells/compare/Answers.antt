@@ -1,6 +1,6 @@
 use Rattle.std.proofs.Common.{◌≡◌, vec_len, take}
 use Rattle.std.proofs.lemmas.List.{take-map}
-use Rattle.lane.specs.Known.{cell_of, cells_of}
+use Rattle.lane.specs.KnownCells.{cell_of, cells_of}
 use Rattle.lane.proofs.cells.compare.Goals as goal
 
 pub agree-requires : goal.agree-requires

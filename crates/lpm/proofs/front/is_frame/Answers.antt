@@ -1,5 +1,5 @@
 use Rattle.std.proofs.Common.{false, eqb, length}
-use Rattle.lpm.proofs.Alone.{frame_by_length, no_frame, tested}
+use Rattle.lpm.proofs.OneMessage.{frame_by_length, no_frame, tested}
 use Rattle.lpm.proofs.front.is_frame.Goals as goal
 
 pub returns-in-Ok-clause-frame : goal.returns-in-Ok-clause-frame

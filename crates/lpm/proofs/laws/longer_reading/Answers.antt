@@ -1,7 +1,7 @@
 use Rattle.lpm.proofs.Readings.{longer_messages, IsFaultyAfter-longer}
 use Rattle.std.proofs.Common.{ap}
 use Rattle.lpm.specs.Reading.{Reading}
-use Rattle.lpm.proofs.Behind.{reading_of-frames}
+use Rattle.lpm.proofs.WholeMessages.{reading_of-frames}
 use Rattle.lpm.proofs.laws.longer_reading.Goals as goal
 
 pub returns-clause-messages : goal.returns-clause-messages

@@ -1,4 +1,4 @@
-use Rattle.outwriter.specs.Telling.{KeepsTable}
+use Rattle.outwriter.specs.ToldByNow.{KeepsTable}
 use Rattle.outwriter.proofs.outbound.limit_table.Given as goal
 
 abbrev pub invariant-loop-setting : goal.invariant-loop-setting

@@ -1,4 +1,4 @@
-use Rattle.pbwire.proofs.WholeReadings.{some_reading, one_reading}
+use Rattle.pbwire.proofs.OneReading.{some_reading, one_reading}
 use Rattle.pbwire.proofs.laws.one_reading.Goals as goal
 
 pub returns-clause-some : goal.returns-clause-some

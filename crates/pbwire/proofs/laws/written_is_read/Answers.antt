@@ -1,4 +1,4 @@
-use Rattle.pbwire.proofs.WholeReadings.{written_fields}
+use Rattle.pbwire.proofs.OneReading.{written_fields}
 use Rattle.pbwire.proofs.laws.written_is_read.Goals as goal
 
 pub returns : goal.returns

@@ -1,4 +1,4 @@
-use Rattle.session.proofs.BlockGifts.{block_opens}
+use Rattle.session.proofs.OpeningBlocks.{block_opens}
 use Rattle.session.proofs.block.block_events.Goals as goal
 
 pub returns-in-Open : goal.returns-in-Open

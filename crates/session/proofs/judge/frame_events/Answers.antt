@@ -1,6 +1,6 @@
 use Rattle.std.proofs.Common.{[], sym}
 use Rattle.std.proofs.lemmas.List.{append-nil}
-use Rattle.session.proofs.FrameGifts.{gives_nothing}
+use Rattle.session.proofs.SilentFrames.{gives_nothing}
 use Rattle.session.proofs.judge.frame_events.Goals as goal
 
 pub returns-in-Priority : goal.returns-in-Priority

@@ -1,4 +1,4 @@
-use Rattle.session.proofs.FrameGifts.{credited}
+use Rattle.session.proofs.SilentFrames.{credited}
 use Rattle.session.proofs.judge.window_events.Goals as goal
 
 pub returns : goal.returns

@@ -1,7 +1,7 @@
 use Rattle.std.proofs.Common.{◌∷◌, []}
 use Rattle.handlers.specs.declared.reply.Reply.TheVariants.{Empty}
 use Rattle.handlers.specs.Requests.{EmptyVerdict}
-use Rattle.handlers.proofs.Single.{with_ok, end_after_one}
+use Rattle.handlers.proofs.OneMessageSteps.{with_ok, end_after_one}
 use Rattle.handlers.proofs.empty_call.EmptyCallMethod.end.Goals as goal
 
 pub returns-in-Kept-clause-answers : goal.returns-in-Kept-clause-answers

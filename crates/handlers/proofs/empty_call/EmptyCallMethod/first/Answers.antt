@@ -1,6 +1,6 @@
 use Rattle.handlers.specs.Requests.{EmptyVerdict}
 use Rattle.handlers.proofs.OneAnswer.{one_empty_call}
-use Rattle.handlers.proofs.Statuses.{single_status}
+use Rattle.handlers.proofs.LastStatus.{single_status}
 use Rattle.handlers.proofs.empty_call.EmptyCallMethod.first.Goals as goal
 
 pub returns-clause-one_answer : goal.returns-clause-one_answer

@@ -1,7 +1,7 @@
 use Rattle.std.proofs.Common.{◌∷◌, []}
 use Rattle.handlers.specs.declared.reply.Reply.TheVariants.{Empty}
 use Rattle.handlers.specs.Requests.{EmptyVerdict}
-use Rattle.handlers.proofs.Single.{with_ok, first_asks, first_ends, second_ends}
+use Rattle.handlers.proofs.OneMessageSteps.{with_ok, first_asks, first_ends, second_ends}
 use Rattle.handlers.proofs.empty_call.EmptyCallMethod.message.Goals as goal
 
 pub returns-in-Ok-clause-answers : goal.returns-in-Ok-clause-answers

@@ -1,6 +1,6 @@
 use Rattle.std.proofs.Common.{inl, inr}
 use Rattle.handlers.specs.Requests.{OutputVerdict}
-use Rattle.handlers.proofs.Streams.{one_more, stays_by_one}
+use Rattle.handlers.proofs.ManyMessageSteps.{one_more, stays_by_one}
 use Rattle.handlers.proofs.full_duplex_call.FullDuplexCallMethod.message.Goals as goal
 
 pub returns-in-Ok-clause-stands : goal.returns-in-Ok-clause-stands

@@ -1,6 +1,6 @@
 use Rattle.handlers.specs.Requests.{OutputVerdict}
 use Rattle.handlers.proofs.OneAnswer.{one_half_duplex_call}
-use Rattle.handlers.proofs.Statuses.{half_status}
+use Rattle.handlers.proofs.LastStatus.{half_status}
 use Rattle.handlers.proofs.half_duplex_call.HalfDuplexCallMethod.first.Goals as goal
 
 pub returns-clause-one_answer : goal.returns-clause-one_answer

@@ -1,6 +1,6 @@
 use Rattle.handlers.specs.Requests.{InputVerdict}
 use Rattle.handlers.proofs.OneSum.{one_input_call}
-use Rattle.handlers.proofs.Statuses.{sum_status}
+use Rattle.handlers.proofs.LastStatus.{sum_status}
 use Rattle.handlers.proofs.streaming_input_call.StreamingInputCallMethod.first.Goals as goal
 
 pub returns-clause-one_answer : goal.returns-clause-one_answer

@@ -1,7 +1,7 @@
 use Rattle.std.proofs.Common.{inl, inr}
 use Rattle.handlers.specs.Requests.{InputVerdict}
-use Rattle.handlers.proofs.Single.{with_ok}
-use Rattle.handlers.proofs.Streams.{sum_more, sum_over, stays_by_sum}
+use Rattle.handlers.proofs.OneMessageSteps.{with_ok}
+use Rattle.handlers.proofs.ManyMessageSteps.{sum_more, sum_over, stays_by_sum}
 use Rattle.handlers.proofs.streaming_input_call.StreamingInputCallMethod.message.Goals as goal
 
 pub returns-in-Some-clause-stands : goal.returns-in-Some-clause-stands

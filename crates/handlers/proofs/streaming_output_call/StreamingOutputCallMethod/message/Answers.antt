@@ -1,5 +1,5 @@
 use Rattle.handlers.specs.Requests.{OutputVerdict}
-use Rattle.handlers.proofs.Single.{with_ok, second_ends}
+use Rattle.handlers.proofs.OneMessageSteps.{with_ok, second_ends}
 use Rattle.handlers.proofs.streaming_output_call.StreamingOutputCallMethod.message.Goals as goal
 
 pub returns-in-Kept-clause-stands : goal.returns-in-Kept-clause-stands

@@ -1,6 +1,6 @@
 use Rattle.handlers.specs.Requests.{SimpleVerdict}
 use Rattle.handlers.proofs.OneAnswer.{one_unary_call}
-use Rattle.handlers.proofs.Statuses.{single_status}
+use Rattle.handlers.proofs.LastStatus.{single_status}
 use Rattle.handlers.proofs.unary_call.CacheableUnaryCallMethod.first.Goals as goal
 
 pub returns-clause-one_answer : goal.returns-clause-one_answer

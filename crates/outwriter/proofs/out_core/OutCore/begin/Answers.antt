@@ -2,7 +2,7 @@ use Rattle.std.proofs.Common.{ap, []}
 use Rattle.outwriter.specs.Cores.{calls}
 use Rattle.outwriter.proofs.CallSteps.{serves-equal, serves-kept}
 use Rattle.outwriter.proofs.CallStepsCores.{serves-began}
-use Rattle.outwriter.specs.Serving.{none_is_new}
+use Rattle.outwriter.specs.CallState.{none_is_new}
 use Rattle.outwriter.proofs.EndsKept.{heeds-kept, takes-ends}
 use Rattle.outwriter.proofs.out_core.OutCore.begin.Goals as goal
 

@@ -1,7 +1,7 @@
 use Rattle.std.proofs.Common.{Option, Some, None, subst}
 use Rattle.std.proofs.lemmas.Result.{IfOk-weaker}
 use Rattle.h2frame.specs.declared.frame.Frame.{Frame}
-use Rattle.outwriter.specs.Serving.{OwnOrRests}
+use Rattle.outwriter.specs.CallState.{OwnOrRests}
 use Rattle.outwriter.proofs.QuietSteps.{quiet-after}
 use Rattle.outwriter.proofs.ServeStepsCore.{holds-then, own-holds}
 use Rattle.outwriter.proofs.out_core.OutCore.choose.Goals as goal

@@ -5,7 +5,7 @@ use Rattle.outwriter.specs.declared.due.Due.TheVariants as due_kind
 use Rattle.outwriter.proofs.CallStepsControl.{none-plain, ok-from, one-plain, serving-answered, serving-plain, serving-room}
 use Rattle.outwriter.proofs.CallStepsOrders.{takes-nothing}
 use Rattle.outwriter.proofs.Faults.{no-blame}
-use Rattle.outwriter.proofs.MirrorSteps.{quiet-led}
+use Rattle.outwriter.proofs.RunStateSteps.{quiet-led}
 use Rattle.outwriter.proofs.out_core.OutCore.control.Goals as goal
 
 pub returns-in-Open-clause-fault : goal.returns-in-Open-clause-fault

@@ -2,9 +2,9 @@ use Rattle.std.proofs.Common.{subst, sym, ap, ◌∙◌, List, ◌++◌, ◌≡�
 use Rattle.std.specs.Prelude.{map, drop}
 use Rattle.std.proofs.lemmas.List.{take-append-drop}
 use Rattle.outwriter.specs.declared.outbound.Outbound.{Outbound}
-use Rattle.outwriter.specs.Mirrors.{Writes}
+use Rattle.outwriter.specs.RunState.{Writes}
 use Rattle.outwriter.specs.Parts.{Byte, on_stream}
-use Rattle.outwriter.specs.Telling.{TellsMore}
+use Rattle.outwriter.specs.ToldByNow.{TellsMore}
 use Rattle.outwriter.proofs.out_core.OutCore.data.Goals as goal
 
 pub returns-clause-frame : goal.returns-clause-frame

@@ -1,6 +1,6 @@
 use Rattle.std.proofs.Common.{Option, None, subst, rules}
 use Rattle.h2frame.specs.declared.frame.Frame.{Frame}
-use Rattle.outwriter.specs.Polling.{HoldsOn}
+use Rattle.outwriter.specs.StreamLooks.{HoldsOn}
 use Rattle.outwriter.proofs.ServeStepsCore.{holds-then, holds-after, fronts-then}
 use Rattle.outwriter.proofs.ServeStepsLook.{fronts-still}
 use Rattle.outwriter.proofs.out_core.OutCore.frame_in_turn.Goals as goal

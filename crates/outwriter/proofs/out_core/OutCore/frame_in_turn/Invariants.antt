@@ -1,6 +1,6 @@
 use Rattle.std.proofs.Common.{◌≡◌, None}
-use Rattle.outwriter.specs.Mirrors.{IsBetween, SameOwn, Stays}
-use Rattle.outwriter.specs.Polling.{HoldsOn, KeepsFronts}
+use Rattle.outwriter.specs.RunState.{IsBetween, SameOwn, Stays}
+use Rattle.outwriter.specs.StreamLooks.{HoldsOn, KeepsFronts}
 use Rattle.outwriter.proofs.out_core.OutCore.frame_in_turn.Given as goal
 
 abbrev pub invariant-loop : goal.invariant-loop

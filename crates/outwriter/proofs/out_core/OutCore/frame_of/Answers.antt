@@ -1,6 +1,6 @@
 use Rattle.std.proofs.Common.{Option, Some, subst}
 use Rattle.h2frame.specs.declared.frame.Frame.{Frame}
-use Rattle.outwriter.specs.Polling.{HoldsOn}
+use Rattle.outwriter.specs.StreamLooks.{HoldsOn}
 use Rattle.outwriter.proofs.ServeStepsCore.{holds-after}
 use Rattle.outwriter.proofs.out_core.OutCore.frame_of.Goals as goal
 

@@ -1,6 +1,6 @@
 use Rattle.std.proofs.Common.{◌≤◌, ℕ, length, arith}
 use Rattle.std.proofs.lemmas.List.{length-map}
-use Rattle.outwriter.specs.Polling.{ids}
+use Rattle.outwriter.specs.StreamLooks.{ids}
 use Rattle.outwriter.specs.declared.stream.OpenStream.{OpenStream}
 use Rattle.outwriter.proofs.QuietSteps.{all-stuck, key-at, looked-more}
 use Rattle.outwriter.proofs.out_core.OutCore.frame_of_any.Goals as goal

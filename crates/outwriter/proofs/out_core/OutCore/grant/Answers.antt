@@ -1,7 +1,7 @@
 use Rattle.std.proofs.Common.{refl, [], ◌∷◌}
 use Rattle.std.proofs.lemmas.List.Elements.{All-nil}
 use Rattle.outwriter.specs.Cores.{calls}
-use Rattle.outwriter.specs.Serving.{MayBeDue, none_is_new}
+use Rattle.outwriter.specs.CallState.{MayBeDue, none_is_new}
 use Rattle.outwriter.specs.Steps.{Granted}
 use Rattle.outwriter.proofs.CallSteps.{serves-same}
 use Rattle.outwriter.proofs.CallStepsCores.{serving-granted}

@@ -1,6 +1,6 @@
 use Rattle.std.proofs.Common.{subst, ◌∙◌}
 use Rattle.outwriter.specs.declared.outbound.Outbound.{Outbound}
-use Rattle.outwriter.specs.Mirrors.{Heads}
+use Rattle.outwriter.specs.RunState.{Heads}
 use Rattle.outwriter.proofs.ServeStepsLook.{look-nothing, look-data, look-block, takes-fronts, fronts-still}
 use Rattle.outwriter.proofs.StuckSteps.{stuck-if}
 use Rattle.std.specs.Prelude.{Ok}

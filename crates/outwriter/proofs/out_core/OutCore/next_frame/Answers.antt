@@ -1,8 +1,8 @@
 use Rattle.std.proofs.Common.{Option, subst}
 use Rattle.h2frame.specs.declared.frame.Frame.{Frame}
 use Rattle.std.specs.Prelude.{IfNone}
-use Rattle.outwriter.specs.Mirrors.{IsSpent, Progresses}
-use Rattle.outwriter.specs.Polling.{GetsQuiet, HoldsOn}
+use Rattle.outwriter.specs.RunState.{IsSpent, Progresses}
+use Rattle.outwriter.specs.StreamLooks.{GetsQuiet, HoldsOn}
 use Rattle.outwriter.proofs.EndsKept.{ended-if}
 use Rattle.outwriter.proofs.Progresses.{spent-answered}
 use Rattle.outwriter.proofs.QuietSteps.{no-frame-if}

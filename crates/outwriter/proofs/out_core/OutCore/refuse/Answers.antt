@@ -7,7 +7,7 @@ use Rattle.outwriter.specs.declared.control.Control.TheVariants as order
 use Rattle.outwriter.specs.Cores.{calls}
 use Rattle.outwriter.proofs.CallSteps.{serves-equal, updated}
 use Rattle.outwriter.proofs.CallStepsOrders.{serves-refused, serves-unrefused}
-use Rattle.outwriter.proofs.MirrorSteps.{quiet-led}
+use Rattle.outwriter.proofs.RunStateSteps.{quiet-led}
 use Rattle.outwriter.proofs.out_core.OutCore.refuse.Goals as goal
 
 pub returns-then-not-is_stream-clause-served : goal.returns-then-not-is_stream-clause-served

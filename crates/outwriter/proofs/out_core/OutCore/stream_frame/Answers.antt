@@ -1,7 +1,7 @@
 use Rattle.std.proofs.Common.{Option, None, subst}
 use Rattle.std.proofs.lemmas.Result.{IfOk-weaker}
 use Rattle.h2frame.specs.declared.frame.Frame.{Frame}
-use Rattle.outwriter.specs.Polling.{HoldsOn}
+use Rattle.outwriter.specs.StreamLooks.{HoldsOn}
 use Rattle.outwriter.proofs.QuietSteps.{holds-none, stuck-after}
 use Rattle.outwriter.proofs.ServeStepsCore.{holds-then, fronts-then}
 use Rattle.outwriter.proofs.out_core.OutCore.stream_frame.Goals as goal

@@ -1,10 +1,10 @@
 use Rattle.std.proofs.Common.{subst, sym, inl, refl, ℕ, List, [], ◌∷◌, Option, Some, ◌∙◌, ◌≡◌, append-nil, true≢false}
 use Rattle.outwriter.specs.Parts.{Mark}
 use Rattle.outwriter.specs.Steps.{Written}
-use Rattle.outwriter.specs.Telling.{Spells}
+use Rattle.outwriter.specs.ToldByNow.{Spells}
 use Rattle.outwriter.proofs.TellSteps.{next-tells}
 use Rattle.outwriter.specs.declared.blocks.HeaderBlock.{HeaderBlock}
-use Rattle.outwriter.specs.Mirrors.{Mirrors}
+use Rattle.outwriter.specs.RunState.{Mirrors}
 use Rattle.outwriter.proofs.EndSteps.{continuation-written}
 use Rattle.outwriter.proofs.TellStepsOwn.{none-over}
 use Rattle.outwriter.proofs.outbound.Outbound.block_frame.Goals as goal

@@ -2,11 +2,11 @@ use Rattle.std.proofs.Common.{subst, ◌++◌, ◌∷◌, List, ℕ, append-nil,
 use Rattle.outwriter.specs.Frames.{data_frame}
 use Rattle.outwriter.specs.Parts.{Mark, Byte, on_stream}
 use Rattle.outwriter.specs.Steps.{Written}
-use Rattle.outwriter.specs.Telling.{Spells}
+use Rattle.outwriter.specs.ToldByNow.{Spells}
 use Rattle.outwriter.proofs.TellSteps.{plain-tells}
 use Rattle.flow.specs.WindowHistory.{Follows}
 use Rattle.flow.specs.WindowHistory.{Step as WindowStep}
-use Rattle.outwriter.specs.Mirrors.{spent}
+use Rattle.outwriter.specs.RunState.{spent}
 use Rattle.outwriter.proofs.EndSteps.{data-written}
 use Rattle.outwriter.proofs.outbound.Outbound.data_frame.Goals as goal
 

@@ -3,10 +3,10 @@ use Rattle.std.specs.Prelude.{IfNone, [], ◌∷◌}
 use Rattle.h2frame.specs.declared.frame.Frame.{Frame}
 use Rattle.outwriter.specs.declared.due.Due.{Due}
 use Rattle.outwriter.specs.declared.outbound.Outbound.{Outbound}
-use Rattle.outwriter.specs.Mirrors.{Mirrors, MirrorsOf, WritesOrSkips}
-use Rattle.outwriter.specs.Serving.{AreOver, Rests}
-use Rattle.outwriter.specs.Telling.{OwnOfDue}
-use Rattle.outwriter.proofs.MirrorSteps.{skipped}
+use Rattle.outwriter.specs.RunState.{Mirrors, MirrorsOf, WritesOrSkips}
+use Rattle.outwriter.specs.CallState.{AreOver, Rests}
+use Rattle.outwriter.specs.ToldByNow.{OwnOfDue}
+use Rattle.outwriter.proofs.RunStateSteps.{skipped}
 use Rattle.outwriter.proofs.TellStepsOwn.{due-first, dropped-rests, rests-rests}
 use Rattle.outwriter.proofs.outbound.Outbound.due_frame.Goals as goal
 

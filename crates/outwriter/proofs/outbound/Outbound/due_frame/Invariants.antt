@@ -1,6 +1,6 @@
 use Rattle.std.proofs.Common.{List, length}
-use Rattle.outwriter.specs.Mirrors.{MirrorsOf, IsBetween}
-use Rattle.outwriter.specs.Serving.{Rests}
+use Rattle.outwriter.specs.RunState.{MirrorsOf, IsBetween}
+use Rattle.outwriter.specs.CallState.{Rests}
 use Rattle.outwriter.specs.Steps.{Step}
 use Rattle.outwriter.proofs.outbound.Outbound.due_frame.Given as goal
 

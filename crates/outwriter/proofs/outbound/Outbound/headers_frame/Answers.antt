@@ -2,7 +2,7 @@ use Rattle.std.proofs.Common.{subst, sym, ◌∙◌, false, true≢false, take}
 use Rattle.outwriter.proofs.TellSteps.{first-tells}
 use Rattle.outwriter.specs.declared.blocks.HeaderBlock.{HeaderBlock}
 use Rattle.outwriter.specs.Blocks.{is_short}
-use Rattle.outwriter.specs.Mirrors.{Keeps}
+use Rattle.outwriter.specs.RunState.{Keeps}
 use Rattle.outwriter.proofs.EndSteps.{headers-written, keeps-rest}
 use Rattle.outwriter.proofs.outbound.Outbound.headers_frame.Goals as goal
 

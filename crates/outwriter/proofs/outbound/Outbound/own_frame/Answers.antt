@@ -1,7 +1,7 @@
 use Rattle.std.proofs.Common.{Option, subst}
 use Rattle.std.proofs.lemmas.Result.{IfOk-weaker}
 use Rattle.h2frame.specs.declared.frame.Frame.{Frame}
-use Rattle.outwriter.specs.Serving.{OwnOrRests}
+use Rattle.outwriter.specs.CallState.{OwnOrRests}
 use Rattle.outwriter.proofs.TellStepsOwn.{rests-own, rests-rests, rests-either}
 use Rattle.outwriter.proofs.outbound.Outbound.own_frame.Goals as goal
 

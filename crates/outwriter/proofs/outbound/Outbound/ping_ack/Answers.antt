@@ -3,8 +3,8 @@ use Rattle.std.proofs.lemmas.Result.{IfOk-weaker}
 use Rattle.h2frame.specs.declared.frame.Frame.{Frame}
 use Rattle.outwriter.specs.declared.due.Due.TheVariants.{PingAck}
 use Rattle.outwriter.specs.Frames.{ping_ack}
-use Rattle.outwriter.specs.Mirrors.{WritesDue}
-use Rattle.outwriter.specs.Telling.{OwnByDue}
+use Rattle.outwriter.specs.RunState.{WritesDue}
+use Rattle.outwriter.specs.ToldByNow.{OwnByDue}
 use Rattle.outwriter.proofs.TellSteps.{plain-tells}
 use Rattle.outwriter.proofs.FrameSteps.{due-written, ping-plain}
 use Rattle.outwriter.proofs.outbound.Outbound.ping_ack.Goals as goal

@@ -1,11 +1,11 @@
 use Rattle.std.proofs.Common.{refl, subst, List, ◌∷◌}
-use Rattle.hpack_codec.specs.declared.fields.Field.{Field}
+use Rattle.lists.specs.declared.field.Field.{Field}
 use Rattle.hpack_codec.specs.Codec.{Writes}
 use Rattle.outwriter.proofs.TellStepsOwn.{refusal-own}
 use Rattle.std.proofs.lemmas.Result.{IfOk-weaker}
 use Rattle.h2frame.specs.declared.frame.Frame.{Frame}
 use Rattle.outwriter.specs.declared.due.Due.TheVariants.{Refuse}
-use Rattle.outwriter.specs.Mirrors.{WritesDue}
+use Rattle.outwriter.specs.RunState.{WritesDue}
 use Rattle.outwriter.proofs.outbound.Outbound.refusal.Goals as goal
 
 pub returns-clause-written : goal.returns-clause-written

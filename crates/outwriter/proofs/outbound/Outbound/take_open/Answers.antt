@@ -3,8 +3,8 @@ use Rattle.std.specs.Prelude.{if◌then◌else◌}
 use Rattle.flow.specs.WindowHistory.{Opening, Follows}
 use Rattle.flow.specs.Windows.{Windows, closed, balance}
 use Rattle.outwriter.specs.Credits.{Owed}
-use Rattle.outwriter.specs.Mirrors.{Mirrors}
-use Rattle.outwriter.proofs.MirrorSteps.{open-led}
+use Rattle.outwriter.specs.RunState.{Mirrors}
+use Rattle.outwriter.proofs.RunStateSteps.{open-led}
 use Rattle.outwriter.proofs.WindowRuns.{closed-again, open-taken}
 use Rattle.outwriter.proofs.outbound.Outbound.take_open.Goals as goal
 

@@ -3,9 +3,9 @@ use Rattle.std.proofs.lemmas.List.Elements.{All-nil}
 use Rattle.outwriter.specs.declared.control.Control.TheVariants as order
 use Rattle.outwriter.specs.declared.due.Due.{Due}
 use Rattle.outwriter.specs.declared.due.Due.TheVariants as due_kind
-use Rattle.outwriter.specs.Mirrors.{HasDue}
+use Rattle.outwriter.specs.RunState.{HasDue}
 use Rattle.outwriter.specs.Steps.{Taken}
-use Rattle.outwriter.proofs.MirrorSteps.{taken, more-due}
+use Rattle.outwriter.proofs.RunStateSteps.{taken, more-due}
 use Rattle.outwriter.proofs.WindowRuns.{nothing-taken}
 use Rattle.outwriter.proofs.outbound.Outbound.take_ping.Goals as goal
 

@@ -4,10 +4,10 @@ use Rattle.h2frame.specs.declared.error_code.ErrorCode.{ErrorCode}
 use Rattle.outwriter.specs.declared.control.Control.TheVariants as order
 use Rattle.outwriter.specs.declared.due.Due.{Due}
 use Rattle.outwriter.specs.declared.due.Due.TheVariants as due_kind
-use Rattle.outwriter.specs.Mirrors.{HasDue}
+use Rattle.outwriter.specs.RunState.{HasDue}
 use Rattle.outwriter.specs.Runs.{Asks, IsAsked}
 use Rattle.outwriter.specs.Steps.{Order, Taken}
-use Rattle.outwriter.proofs.MirrorSteps.{taken, more-due, same-due}
+use Rattle.outwriter.proofs.RunStateSteps.{taken, more-due, same-due}
 use Rattle.outwriter.proofs.WindowRuns.{nothing-taken}
 use Rattle.outwriter.proofs.outbound.Outbound.take_reset.Goals as goal
 

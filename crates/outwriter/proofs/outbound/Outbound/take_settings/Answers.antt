@@ -4,9 +4,9 @@ use Rattle.std.proofs.lemmas.List.Elements.{All-nil}
 use Rattle.outwriter.specs.declared.control.Control.TheVariants.{Settings}
 use Rattle.outwriter.specs.declared.due.Due.TheVariants.{SettingsAck}
 use Rattle.outwriter.specs.declared.settings.PeerSetting.{PeerSetting}
-use Rattle.outwriter.specs.Mirrors.{HasWindows, HasDue}
+use Rattle.outwriter.specs.RunState.{HasWindows, HasDue}
 use Rattle.outwriter.specs.Steps.{Taken}
-use Rattle.outwriter.proofs.MirrorSteps.{taken, more-due}
+use Rattle.outwriter.proofs.RunStateSteps.{taken, more-due}
 use Rattle.outwriter.proofs.WindowRuns.{settings-taken}
 use Rattle.outwriter.proofs.outbound.Outbound.take_settings.Goals as goal
 

@@ -1,6 +1,6 @@
 use Rattle.std.proofs.Common.{refl, sym, append-nil}
 use Rattle.outwriter.specs.declared.control.Control.TheVariants.{Window}
-use Rattle.outwriter.proofs.MirrorSteps.{taken, same-due}
+use Rattle.outwriter.proofs.RunStateSteps.{taken, same-due}
 use Rattle.outwriter.proofs.WindowRuns.{window-taken, fits-unless-over, over-stands, not-true, not-false}
 use Rattle.outwriter.proofs.outbound.Outbound.take_window.Goals as goal
 

@@ -2,8 +2,8 @@ use Rattle.std.proofs.Common.{◌≡◌, ◌≤◌, length, sym, ap, refl, ◌�
 use Rattle.h2frame.specs.declared.kind.FrameKind.TheVariants.{Headers}
 use Rattle.h2frame.specs.FrameList.{Whole}
 use Rattle.session.specs.Events.{Single}
-use Rattle.session.specs.Reached.{position_behind}
-use Rattle.session.proofs.Leading.{if_then, if_ended, behind_groups, refuses, block_begins, one_frame}
+use Rattle.session.specs.CoreStates.{position_behind}
+use Rattle.session.proofs.Positions.{if_then, if_ended, behind_groups, refuses, block_begins, one_frame}
 use Rattle.session.proofs.context.Context.begin.Goals as goal
 
 pub returns-then-ne-clause-follows : goal.returns-then-ne-clause-follows

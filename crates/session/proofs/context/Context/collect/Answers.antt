@@ -1,5 +1,5 @@
 use Rattle.std.proofs.Common.{sym}
-use Rattle.session.proofs.Leading.{if_then, whole_block}
+use Rattle.session.proofs.Positions.{if_then, whole_block}
 use Rattle.session.proofs.context.Context.collect.Goals as goal
 
 pub returns-clause-follows : goal.returns-clause-follows

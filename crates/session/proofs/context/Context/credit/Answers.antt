@@ -1,6 +1,6 @@
 use Rattle.std.proofs.Common.{ap, ◌∙◌}
-use Rattle.session.specs.Reached.{position_behind}
-use Rattle.session.proofs.Leading.{if_ended, credits, no_credit}
+use Rattle.session.specs.CoreStates.{position_behind}
+use Rattle.session.proofs.Positions.{if_ended, credits, no_credit}
 use Rattle.session.proofs.context.Context.credit.Goals as goal
 
 pub returns-in_default : goal.returns-in_default

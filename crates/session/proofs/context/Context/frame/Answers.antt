@@ -1,6 +1,6 @@
 use Rattle.std.proofs.Common.{◌≡◌, rules}
 use Rattle.h2frame.specs.declared.kind.FrameKind.TheVariants.{Settings}
-use Rattle.session.proofs.Leading.{if_then, if_ended, first_begins, next_begins, first_stops}
+use Rattle.session.proofs.Positions.{if_then, if_ended, first_begins, next_begins, first_stops}
 use Rattle.session.proofs.context.Context.frame.Goals as goal
 
 pub returns-then-eq-clause-follows : goal.returns-then-eq-clause-follows

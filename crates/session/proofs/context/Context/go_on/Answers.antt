@@ -1,6 +1,6 @@
 use Rattle.std.proofs.Common.{ap, ◌∙◌, ◌++◌}
 use Rattle.session.specs.Frames.{fatal}
-use Rattle.session.proofs.Leading.{if_then, if_ended, held, breaks, frame_breaks}
+use Rattle.session.proofs.Positions.{if_then, if_ended, held, breaks, frame_breaks}
 use Rattle.session.proofs.context.Context.go_on.Goals as goal
 
 pub returns-in-Ok-clause-follows : goal.returns-in-Ok-clause-follows

@@ -1,6 +1,6 @@
 use Rattle.std.proofs.Common.{ap, refl, ◌∙◌}
-use Rattle.session.specs.Reached.{position_behind}
-use Rattle.session.proofs.Leading.{collected}
+use Rattle.session.specs.CoreStates.{position_behind}
+use Rattle.session.proofs.Positions.{collected}
 use Rattle.session.proofs.context.Context.whole.Goals as goal
 
 pub returns-clause-follows : goal.returns-clause-follows

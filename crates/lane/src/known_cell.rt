@@ -1,0 +1,25 @@
+// A cell with what is known of it.
+ghost use Rattle.std.specs.Prelude.{◌≡◌, true};
+ghost use Rattle.lane.specs.Notes.{holds_item};
+
+use once_cell::race::Note;
+
+/// A cell of which it is known that it holds an item, and which. It takes no bytes.
+#[derive(Drop)]
+pub(crate) struct Known<T> {
+    pub(crate) note: Note<Option<T>>,
+    ghost holds: { holds_item note.known ≡ true },
+}
+
+impl<T: Drop> Known<T> {
+    ghost use Rattle.lane.specs.KnownCells.{cell_of, item_of};
+
+    /// The same knowledge once more.
+    pub(crate) fn again(&mut self) -> Known<T>
+        ensures unchanged { (cell_of self.new ≡ cell_of self.old) × (item_of self.new ≡ item_of self.old) }
+        ensures same { (cell_of result ≡ cell_of self.old) × (item_of result ≡ item_of self.old) }
+    {
+        let note = self.note.again();
+        Known { note }
+    }
+}

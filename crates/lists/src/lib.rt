@@ -1,0 +1,17 @@
+//! Lists that contracts see as lists, and the field of a header block, which is made of two.
+//!
+//! A definition speaks of a list of numbers; a program keeps a `Vec<u8>`. The types of this crate own a `Vec`, which
+//! they are made from and give back without memory, and a clause sees the list alone: `octets`, bytes; `sequence`,
+//! items of any type; `field`, a name and a value. The crates for header blocks and for calls share them.
+#![tactic(auto)]
+
+mod field;
+mod octets;
+mod sequence;
+
+pub use field::Field;
+pub use octets::Octets;
+pub use sequence::Sequence;
+
+#[cfg(test)]
+mod tests;

@@ -1,0 +1,157 @@
+-- What a writer keeps of its calls follows from its run.
+use Rattle.std.specs.Prelude.{◌≡◌, ◌≢◌, ◌⊎◌, ◌||◌, ℕ, ◌==◌, ◌<◌, Bool, true, false, All, List, [], ◌∷◌, ◌++◌, map, length, get_or, Option, None, Some, is_some, nat_eq}
+use Rattle.std.specs.List.{list_any}
+use Rattle.std.specs.Map.{lookup}
+use Rattle.callbox.specs.Accounts.{Begins}
+use Rattle.callbox.specs.declared.account.OutItem.{OutItem}
+use Rattle.h2frame.specs.declared.frame.Frame.{Frame}
+use Rattle.h2frame.specs.declared.error_code.ErrorCode.{ErrorCode}
+use Rattle.lists.specs.declared.field.Field.{Field}
+use Rattle.outwriter.specs.declared.due.Due.{Due}
+use Rattle.outwriter.specs.declared.due.Due.TheVariants as due_kind
+use Rattle.outwriter.specs.declared.outbound.Outbound.{Outbound}
+use Rattle.outwriter.specs.declared.stream.OpenStream.{OpenStream}
+use Rattle.outwriter.specs.Calls.{is_fresh, is_served, is_opened, is_called_off, is_dropped, was_reset, IsRefused, IsOther}
+use Rattle.outwriter.specs.Credits.{knows}
+use Rattle.outwriter.specs.Histories.{is_stream}
+use Rattle.outwriter.specs.RunState.{Sets}
+use Rattle.outwriter.specs.Parts.{Mark, Byte, marks_on, spelled, IsFrontOf}
+use Rattle.outwriter.specs.Steps.{Step}
+use Rattle.outwriter.specs.ToldByNow.{SpellsOf, KeepsTable, TellsMore, TellsReset, block_marks}
+
+-- ---- one stream
+
+abbrev pub bytes_marks : Option (List ℕ) → List Mark
+bytes_marks None = []
+bytes_marks (Some bytes) = map Byte bytes
+
+-- the call at an open stream's place is the stream's; what was told of it, with what is in hand, is all that its items spell
+abbrev pub IsExact : ℕ → OpenStream → List (ℕ × List OutItem) → List Mark → Type 0
+IsExact id stream calls told = (stream.place < length calls)
+    × ((d : ℕ × List OutItem) → ((get_or calls stream.place d).0 ≡ id)
+    × (told ++ bytes_marks stream.in_hand ≡ spelled (get_or calls stream.place d).1))
+
+-- what was told on a stream that isn't open begins what the items spell, with a reset behind it only where one was written
+abbrev pub IsEnded : Option Bool → List Mark → List OutItem → Type 0
+IsEnded over told items = IsFrontOf told (spelled items) × (over ≢ Some true → Begins told (spelled items))
+
+-- nothing was told of a stream that is no call's before it was over; and no more than a reset, or a refusal that was asked for
+abbrev pub IsUncalled : ℕ → List Step → Option Bool → List Mark → Type 0
+IsUncalled id run over told = (over ≡ None → told ≡ []) × IsOther id run told
+
+-- what is due of a stream that was refused or reset
+abbrev pub MayBeDue : List Step → Outbound → List (ℕ × OpenStream) → List (ℕ × Bool) → Due → Type 0
+MayBeDue run o streams others (due_kind.Refuse id fields) =
+    (is_fresh id run ≡ false) × (is_served id run ≡ false) × (is_some (lookup (nat_eq id) others) ≡ true) × IsRefused id fields run
+MayBeDue run o streams others (due_kind.Reset id code) =
+    (lookup (nat_eq id) streams ≡ None) × ((is_some (lookup (nat_eq id) others) || knows o.credit id) ≡ true)
+MayBeDue run o streams others _ = Unit {0}
+
+-- ---- how streams end
+
+-- the end of a stream, as it is due
+abbrev pub is_due_of : ℕ → Due → Bool
+is_due_of id (due_kind.Reset stream code) = id == stream
+is_due_of id (due_kind.Refuse stream fields) = id == stream
+is_due_of id _ = false
+
+-- a stream's end was written, or is due
+abbrev pub IsEnding : ℕ → Outbound → Type 0
+IsEnding id o = (is_some (lookup (nat_eq id) o.over.entries) ≡ true) ⊎ (list_any (is_due_of id) o.due.items ≡ true)
+
+-- so it is of each stream that was called off, unless it was dropped
+abbrev pub Heeds : List Step → Outbound → Type 0
+Heeds run o = (id : ℕ) → is_stream id ≡ true → is_called_off id run ≡ true → IsEnding id o ⊎ (is_dropped id run ≡ true)
+
+-- the ends that were due here were written before
+abbrev pub AreOver : Outbound → List Due → Type 0
+AreOver o dues = (id : ℕ) → is_stream id ≡ true → list_any (is_due_of id) dues ≡ true → is_some (lookup (nat_eq id) o.over.entries) ≡ true
+
+-- a stream was called off or dropped
+abbrev pub has_reason : ℕ → List Step → Bool
+has_reason id run = is_called_off id run || is_dropped id run
+
+-- ---- all of them
+
+-- The streams of a writer, of which its frames tell these marks: those that are open, those that were refused or reset before they
+-- were a call's, and the calls in the order of their Opens.
+pub record Serves (run : List Step) (o : Outbound) (streams : List (ℕ × OpenStream)) (others : List (ℕ × Bool)) (calls : List (ℕ × List OutItem)) (marks : List (ℕ × Mark)) : Type 0 where
+  pub spells : SpellsOf run o marks
+  -- of an open stream all is told but what is in hand
+  pub exact : (id : ℕ) (stream : OpenStream) → lookup (nat_eq id) streams ≡ Some stream → IsExact id stream calls (marks_on id marks)
+  pub not_over : (id : ℕ) (stream : OpenStream) → lookup (nat_eq id) streams ≡ Some stream → lookup (nat_eq id) o.over.entries ≡ None
+  pub known : (id : ℕ) (stream : OpenStream) → lookup (nat_eq id) streams ≡ Some stream → knows o.credit id ≡ true
+  pub numbered : (id : ℕ) (stream : OpenStream) → lookup (nat_eq id) streams ≡ Some stream → is_stream id ≡ true
+  -- of a call whose stream isn't open, a front
+  pub ended : (k : ℕ) (d : ℕ × List OutItem) → k < length calls → lookup (nat_eq (get_or calls k d).0) streams ≡ None → is_served (get_or calls k d).0 run ≡ true
+      → IsEnded (lookup (nat_eq (get_or calls k d).0) o.over.entries) (marks_on (get_or calls k d).0 marks) (get_or calls k d).1
+  -- a stream that two calls have is none that is served
+  pub apart : (i j : ℕ) (d : ℕ × List OutItem) → i < length calls → j < length calls → i ≢ j → (get_or calls i d).0 ≡ (get_or calls j d).0
+      → is_served (get_or calls i d).0 run ≡ false
+  pub opened : (k : ℕ) (d : ℕ × List OutItem) → k < length calls → is_fresh (get_or calls k d).0 run ≡ false
+  pub credited : (id : ℕ) → knows o.credit id ≡ true → is_fresh id run ≡ false
+  pub served : (id : ℕ) → is_served id run ≡ true → is_stream id ≡ true → knows o.credit id ≡ true
+  pub due : All (MayBeDue run o streams others) o.due.items
+  -- of a stream of which nothing was heard nothing is told
+  pub unknown : (id : ℕ) → knows o.credit id ≡ false → lookup (nat_eq id) others ≡ None → (marks_on id marks ≡ []) × (lookup (nat_eq id) o.over.entries ≡ None)
+  -- of one that was reset before it was a call's, at most that
+  pub other : (id : ℕ) (was_reset : Bool) → lookup (nat_eq id) others ≡ Some was_reset → (lookup (nat_eq id) streams ≡ None)
+      × (is_fresh id run ≡ true → IsEnded (lookup (nat_eq id) o.over.entries) (marks_on id marks) [])
+  -- a call's stream is open until its end was written or a Reset of it was taken
+  pub stays : (id : ℕ) → is_served id run ≡ true → is_stream id ≡ true → lookup (nat_eq id) streams ≡ None
+      → (is_some (lookup (nat_eq id) o.over.entries) ≡ true) ⊎ (was_reset id run ≡ true)
+  pub early : (id : ℕ) (before : Bool) → lookup (nat_eq id) others ≡ Some before → is_fresh id run ≡ true → was_reset id run ≡ true
+  -- a stream that was heard of is open until its end was written, or it was called off or dropped
+  pub reasons : (id : ℕ) → is_stream id ≡ true → lookup (nat_eq id) streams ≡ None → (is_some (lookup (nat_eq id) others) || knows o.credit id) ≡ true
+      → (is_some (lookup (nat_eq id) o.over.entries) ≡ true) ⊎ (has_reason id run ≡ true)
+  pub heard : (id : ℕ) → is_opened id run ≡ true → is_stream id ≡ true → knows o.credit id ≡ true
+  -- a call's was opened
+  pub brought : (id : ℕ) → knows o.credit id ≡ true → is_opened id run ≡ true
+  pub uncalled : (id : ℕ) (was_reset : Bool) → knows o.credit id ≡ false → lookup (nat_eq id) others ≡ Some was_reset
+      → IsUncalled id run (lookup (nat_eq id) o.over.entries) (marks_on id marks)
+
+-- ---- what an Outbound's calls change of it
+
+-- these were put behind what was due, and these streams are a call's now; the streams that are over, the first frame, the header block and
+-- the encoder's table are the same
+pub record Takes (more : List Due) (is_new : ℕ → Bool) (old new : Outbound) : Type 0 where
+  pub due : new.due.items ≡ old.due.items ++ more
+  pub knows : (id : ℕ) → knows new.credit id ≡ (is_new id || knows old.credit id)
+  pub over : new.over ≡ old.over
+  pub begun : new.begun ≡ old.begun
+  pub block : new.block ≡ old.block
+  pub table : KeepsTable old.encoder new.encoder
+
+abbrev pub none_is_new : ℕ → Bool
+none_is_new id = false
+
+-- a frame tells nothing of a stream, and no stream is over by it
+abbrev pub IsPlain : Frame → Outbound → Outbound → Type 0
+IsPlain frame old new = TellsMore frame [] old new × (new.over ≡ old.over) × ((front : List Due) × (old.due.items ≡ front ++ new.due.items) × AreOver old front)
+
+-- it resets a stream, for which that was due
+abbrev pub IsReset : Frame → Outbound → Outbound → Type 0
+IsReset frame old new = (id : ℕ) × (code : ErrorCode) × (front : List Due) × (old.due.items ≡ front ++ due_kind.Reset id code ∷ new.due.items)
+    × TellsReset id frame old new × (lookup (nat_eq id) old.over.entries ≡ None) × Sets old.over.entries id true new.over.entries × AreOver old front
+
+-- it begins the refusal of a stream, for which that was due
+abbrev pub IsRefusal : Frame → Outbound → Outbound → Type 0
+IsRefusal frame old new = (id : ℕ) × (fields : List Field) × (front : List Due) × (old.due.items ≡ front ++ due_kind.Refuse id fields ∷ new.due.items)
+    × TellsMore frame (block_marks id fields true) old new × (lookup (nat_eq id) old.over.entries ≡ None) × Sets old.over.entries id false new.over.entries × AreOver old front
+
+-- a frame that is none of an open stream
+abbrev pub IsOwn : Frame → Outbound → Outbound → Type 0
+IsOwn frame old new = ((id : ℕ) → knows new.credit id ≡ knows old.credit id) × (IsPlain frame old new ⊎ (IsReset frame old new ⊎ IsRefusal frame old new))
+
+-- no frame: what was due is dropped at most
+pub record Rests (old new : Outbound) : Type 0 where
+  pub due : (front : List Due) × (old.due.items ≡ front ++ new.due.items) × AreOver old front
+  pub knows : (id : ℕ) → knows new.credit id ≡ knows old.credit id
+  pub over : new.over ≡ old.over
+  pub begun : new.begun ≡ old.begun
+  pub block : new.block ≡ old.block
+  pub encoder : new.encoder ≡ old.encoder
+
+abbrev pub OwnOrRests : Option Frame → Outbound → Outbound → Type 0
+OwnOrRests (Some frame) old new = IsOwn frame old new
+OwnOrRests None old new = Rests old new

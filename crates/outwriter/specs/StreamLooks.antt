@@ -1,0 +1,135 @@
+-- What a look at an open stream changes.
+use Rattle.std.specs.Prelude.{◌≡◌, ◌≢◌, ℕ, ◌==◌, Bool, true, false, List, [], ◌∷◌, ◌++◌, map, set, get_or, Option, None, Some, Result, Ok, Err, nat_eq, if◌then◌else◌}
+use Rattle.std.specs.Map.{lookup}
+use Rattle.callbox.specs.declared.account.OutItem.{OutItem}
+use Rattle.callbox.specs.declared.account.OutItem.TheVariants as item
+use Rattle.callbox.specs.declared.sender.Sender.{Sender}
+use Rattle.flow.specs.Windows.{room}
+use Rattle.h2frame.specs.declared.frame.Frame.{Frame}
+use Rattle.lists.specs.declared.field.Field.{Field}
+use Rattle.hpack_codec.specs.Codec.{Encoding, Writes}
+use Rattle.outwriter.specs.declared.out_core.OutCore.{OutCore}
+use Rattle.outwriter.specs.declared.stream.OpenStream.{OpenStream}
+use Rattle.outwriter.specs.declared.stream.Polled.{Polled}
+use Rattle.outwriter.specs.declared.stream.Polled.TheVariants as polled
+use Rattle.outwriter.specs.Calls.{TellFronts}
+use Rattle.outwriter.specs.Cores.{calls, IsStuck, AreStuck, IsQuiet}
+use Rattle.outwriter.specs.Parts.{Mark, Byte, on_stream}
+use Rattle.outwriter.specs.Polls.{block_item}
+use Rattle.outwriter.specs.CallState.{Serves, Heeds}
+use Rattle.outwriter.specs.Steps.{Step, Written}
+use Rattle.outwriter.specs.ToldByNow.{TellsMore}
+
+-- ---- streams
+
+-- the place of an open stream, and what is in hand
+abbrev pub Shown : Type 0
+Shown = Option (ℕ × Option (List ℕ))
+
+abbrev pub shown : Option OpenStream → Shown
+shown None = None
+shown (Some stream) = Some (stream.place, stream.in_hand)
+
+abbrev pub shows : List (ℕ × OpenStream) → ℕ → Shown
+shows streams id = shown (lookup (nat_eq id) streams)
+
+abbrev pub with_hand : Option (List ℕ) → Shown → Shown
+with_hand hand None = None
+with_hand hand (Some s) = Some (s.0, hand)
+
+abbrev pub SameHands : List (ℕ × OpenStream) → List (ℕ × OpenStream) → Type 0
+SameHands old new = (k : ℕ) → shows new k ≡ shows old k
+
+-- this is in hand of one stream now
+abbrev pub HandIs : ℕ → Option (List ℕ) → List (ℕ × OpenStream) → List (ℕ × OpenStream) → Type 0
+HandIs id hand old new = (k : ℕ) → shows new k ≡ (if k == id then with_hand hand (shows old k) else shows old k)
+
+-- bytes are kept in hand, where there are any
+abbrev pub HandKeeps : ℕ → List ℕ → List (ℕ × OpenStream) → List (ℕ × OpenStream) → Type 0
+HandKeeps id [] old new = SameHands old new
+HandKeeps id (byte ∷ bytes) old new = HandIs id (Some (byte ∷ bytes)) old new
+
+-- a stream is open no more, where it ends
+abbrev pub Removes : ℕ → Bool → List (ℕ × OpenStream) → List (ℕ × OpenStream) → Type 0
+Removes id true old new = (k : ℕ) → shows new k ≡ (if k == id then None else shows old k)
+Removes id false old new = SameHands old new
+
+abbrev pub ids : List (ℕ × OpenStream) → List ℕ
+ids streams = map (λ e. e.0) streams
+
+-- ---- calls
+
+abbrev pub with_item : OutItem → ℕ × List OutItem → ℕ × List OutItem
+with_item one call = (call.0, call.1 ++ one ∷ [])
+
+-- the sender at a place gave one more item
+abbrev pub one_more : ℕ → OutItem → List (ℕ × List OutItem) → List (ℕ × List OutItem)
+one_more place one all = set all place (with_item one (get_or all place (0, [])))
+
+-- what is found at a place
+abbrev pub Finds : ℕ → List (ℕ × List OutItem) → List (ℕ × List OutItem) → List (List OutItem) → Option Encoding → Option Encoding → Polled → Type 0
+Finds place old new ahead from to polled.Nothing = (new ≡ old) × (get_or ahead place [] ≡ []) × (to ≡ from)
+Finds place old new ahead from to (polled.Message bytes) = (new ≡ one_more place (item.Message bytes) old) × (to ≡ from)
+Finds place old new ahead from to (polled.Block bytes ends) =
+    (fields : List Field) × (new ≡ one_more place (block_item ends fields) old) × Writes from fields bytes to
+
+module _ {E : Type 0} where
+  -- what is in hand comes first
+  abbrev pub TakesHand : Option (List ℕ) → ℕ → List (ℕ × List OutItem) → List (ℕ × List OutItem) → List (List OutItem) → Option Encoding → Option Encoding → Result Polled E → Type 0
+  TakesHand (Some bytes) place old new ahead from to result = (result ≡ Ok (polled.Message bytes)) × (new ≡ old) × (to ≡ from)
+  TakesHand None place old new ahead from to (Ok found) = Finds place old new ahead from to found
+  TakesHand None place old new ahead from to (Err e) = (one : OutItem) × (new ≡ one_more place one old)
+
+  abbrev pub TakesAt : Shown → List (ℕ × List OutItem) → List (ℕ × List OutItem) → List (List OutItem) → Option Encoding → Option Encoding → Result Polled E → Type 0
+  TakesAt None old new ahead from to result = (result ≡ Ok polled.Nothing) × (new ≡ old) × (to ≡ from)
+  TakesAt (Some s) old new ahead from to result = TakesHand s.1 s.0 old new ahead from to result
+
+-- what is ahead of the other senders is the same
+abbrev pub SameElsewhere : ℕ → List (List OutItem) → List (List OutItem) → Type 0
+SameElsewhere place old new = (k : ℕ) → k ≢ place → get_or new k [] ≡ get_or old k []
+
+abbrev pub SameAhead : Shown → List (List OutItem) → List (List OutItem) → Type 0
+SameAhead None old new = new ≡ old
+SameAhead (Some s) old new = SameElsewhere s.0 old new
+
+-- ---- a core
+
+module _ {L In Out Shut : Type 0} where
+  abbrev pub aheads : (Out → List OutItem) → List (ℕ × Sender L In Out Shut) → List (List OutItem)
+  aheads ahead senders = map (λ call. ahead call.1.rx) senders
+
+  -- all that is kept of the calls follows from the run
+  abbrev pub Holds : (Out → List OutItem) → List Step → OutCore L In Out Shut → Type 0
+  Holds got run core = (marks : List (ℕ × Mark)) × Serves run core.outbound core.streams.entries core.others.entries (calls got core.senders.items) marks × Heeds run core.outbound
+
+  -- a frame, if there is one, is the next step
+  abbrev pub HoldsOn : (Out → List OutItem) → Option Frame → OutCore L In Out Shut → OutCore L In Out Shut → Type 0
+  HoldsOn got (Some frame) old new = (run : List Step) → Holds got run old → Holds got (Written frame ∷ run) new
+  HoldsOn got None old new = (run : List Step) → Holds got run old → Holds got run new
+
+  -- what was told is a front still
+  abbrev pub KeepsFronts : (Out → List OutItem) → OutCore L In Out Shut → OutCore L In Out Shut → Type 0
+  KeepsFronts got old new = (run : List Step) → TellFronts run (calls got old.senders.items) → TellFronts run (calls got new.senders.items)
+
+  -- DATA of a front of some bytes, of which the rest is kept; or all of them are, as there is no room
+  abbrev pub TellsData : ℕ → List ℕ → Option Frame → OutCore L In Out Shut → OutCore L In Out Shut → Type 0
+  TellsData id bytes (Some frame) old new = (front : List ℕ) × (rest : List ℕ) × (bytes ≡ front ++ rest) × HandKeeps id rest old.streams.entries new.streams.entries
+      × TellsMore frame (on_stream id (map Byte front)) old.outbound new.outbound × (new.outbound ≡ record old.outbound { windows = new.outbound.windows })
+  TellsData id bytes None old new = HandIs id (Some bytes) old.streams.entries new.streams.entries × (new.outbound ≡ old.outbound) × (room old.outbound.windows id ≡ 0)
+
+  -- nothing can be written on this stream, if it is open
+  abbrev pub StuckAt : (Out → List OutItem) → ℕ → OutCore L In Out Shut → Type 0
+  StuckAt ahead id core = (stream : OpenStream) → lookup (nat_eq id) core.streams.entries ≡ Some stream
+      → IsStuck (room core.outbound.windows id) stream.in_hand (get_or (aheads ahead core.senders.items) stream.place [])
+
+  -- nor on any on which nothing could be before
+  abbrev pub GetsStuck : (Out → List OutItem) → (Out → List OutItem) → ℕ → OutCore L In Out Shut → OutCore L In Out Shut → Type 0
+  GetsStuck got ahead id old new = (run : List Step) → Holds got run old → StuckAt ahead id new × ((k : ℕ) → k ≢ id → StuckAt ahead k old → StuckAt ahead k new)
+
+  -- nothing can be written on any open stream
+  abbrev pub AllStuck : (Out → List OutItem) → (Out → List OutItem) → OutCore L In Out Shut → OutCore L In Out Shut → Type 0
+  AllStuck got ahead old new = (run : List Step) → Holds got run old → AreStuck new.outbound new.streams.entries (aheads ahead new.senders.items)
+
+  -- or the last frame was a GOAWAY with an error
+  abbrev pub GetsQuiet : (Out → List OutItem) → (Out → List OutItem) → OutCore L In Out Shut → OutCore L In Out Shut → Type 0
+  GetsQuiet got ahead old new = (run : List Step) → Holds got run old → IsQuiet ahead new

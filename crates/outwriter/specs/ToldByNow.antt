@@ -1,0 +1,93 @@
+-- What a run has told by now, with the rest of a header block that is begun.
+use Rattle.std.specs.Prelude.{◌≡◌, ℕ, Bool, true, false, List, [], ◌∷◌, ◌++◌, Option, None, Some, IfSome, nat_eq}
+use Rattle.std.specs.Map.{lookup}
+use Rattle.h2frame.specs.declared.frame.Frame.{Frame}
+use Rattle.lists.specs.declared.field.Field.{Field}
+use Rattle.hpack_codec.specs.Block.{IsBlock}
+use Rattle.hpack_codec.specs.Codec.{Encoding, Writes}
+use Rattle.hpack_codec.specs.Table.{Table}
+use Rattle.outwriter.specs.declared.blocks.HeaderBlock.{HeaderBlock}
+use Rattle.outwriter.specs.declared.due.Due.{Due}
+use Rattle.outwriter.specs.declared.due.Due.TheVariants as due_kind
+use Rattle.outwriter.specs.declared.outbound.Outbound.{Outbound}
+use Rattle.outwriter.specs.Credits.{knows}
+use Rattle.outwriter.specs.RunState.{Sets}
+use Rattle.outwriter.specs.Parts.{Mark, Fields, Reset, end_mark, on_stream, Tells}
+use Rattle.outwriter.specs.Runs.{Fragments, unfinished}
+use Rattle.outwriter.specs.Steps.{Step, Written}
+
+-- the marks of a header block, on its stream
+abbrev pub block_marks : ℕ → List Field → Bool → List (ℕ × Mark)
+block_marks id fields ends_it = on_stream id (Fields fields ∷ end_mark ends_it)
+
+-- the table is the one that an encoder keeps, as long as it lives
+abbrev pub IsTableOf : Option Encoding → Table → Type 0
+IsTableOf kept table = IfSome kept (λ encoding. encoding.table ≡ table)
+
+-- that table stays
+abbrev pub KeepsTable : Option Encoding → Option Encoding → Type 0
+KeepsTable old new = (table : Table) → IsTableOf old table → IsTableOf new table
+
+-- What a run has yet to tell of a header block that is begun: over the table that all blocks before it left, what was
+-- written of it and the rest spell fields, and leave the encoder's table.
+abbrev pub Owes : List Step → Option HeaderBlock → Option Encoding → Table → List (ℕ × Mark) → Type 0
+Owes run None kept table rest = IsTableOf kept table × (rest ≡ [])
+Owes run (Some block) kept table rest =
+    (begun : Fragments) × (fields : List Field) × (next : Table)
+    × (block.begun ≡ true) × (unfinished run ≡ Some begun) × (begun.stream ≡ block.id) × (begun.ends_it ≡ block.ends)
+    × IsBlock table (begun.bytes ++ block.rest) fields next × IsTableOf kept next × (rest ≡ block_marks block.id fields block.ends)
+
+-- the run's frames tell these marks, once the header block that is begun is whole
+abbrev pub Spells : List Step → Option HeaderBlock → Option Encoding → List (ℕ × Mark) → Type 0
+Spells run block kept marks =
+    (table : Table) × (told : List (ℕ × Mark)) × (rest : List (ℕ × Mark))
+    × Tells run table told × Owes run block kept table rest × (marks ≡ told ++ rest)
+
+-- the same of what a writer keeps, which begins no header block before its first frame
+abbrev pub SpellsOf : List Step → Outbound → List (ℕ × Mark) → Type 0
+SpellsOf run o marks = (o.begun ≡ false → o.block ≡ None) × Spells run o.block o.encoder marks
+
+-- a step tells nothing
+abbrev pub TellsNothing : Step → Outbound → Outbound → Type 0
+TellsNothing step old new = (run : List Step) (marks : List (ℕ × Mark)) → SpellsOf run old marks → SpellsOf (step ∷ run) new marks
+
+-- and without a step
+abbrev pub KeepsTelling : Outbound → Outbound → Type 0
+KeepsTelling old new = (run : List Step) (marks : List (ℕ × Mark)) → SpellsOf run old marks → SpellsOf run new marks
+
+-- a frame tells these marks
+abbrev pub TellsMore : Frame → List (ℕ × Mark) → Outbound → Outbound → Type 0
+TellsMore frame more old new = (run : List Step) (marks : List (ℕ × Mark)) → SpellsOf run old marks → SpellsOf (Written frame ∷ run) new (marks ++ more)
+
+-- a frame begins a header block that the encoder wrote before: of these bytes, on a stream, whether or not it ends it
+abbrev pub TellsBlock : ℕ → Bool → List ℕ → Frame → Outbound → Outbound → Type 0
+TellsBlock id ends_it bytes frame old new = (run : List Step) (marks : List (ℕ × Mark)) (fields : List Field) (before : Option Encoding)
+    → Spells run old.block before marks → Writes before fields bytes old.encoder → SpellsOf (Written frame ∷ run) new (marks ++ block_marks id fields ends_it)
+
+-- a reset of a stream
+abbrev pub TellsReset : ℕ → Frame → Outbound → Outbound → Type 0
+TellsReset id frame old new = (code : ℕ) × TellsMore frame ((id, Reset code) ∷ []) old new
+
+-- ---- frames that were due
+
+-- what else is due is the same, and of which streams there are calls
+abbrev pub KeepsDue : Outbound → Outbound → Type 0
+KeepsDue old new = (new.due ≡ old.due) × ((id : ℕ) → knows new.credit id ≡ knows old.credit id)
+
+-- a stream is over, on which nothing was
+abbrev pub EndsOne : ℕ → Bool → Outbound → Outbound → Type 0
+EndsOne id is_reset old new = (lookup (nat_eq id) old.over.entries ≡ None) × Sets old.over.entries id is_reset new.over.entries
+
+-- the frame for what was due, and is no longer among what is due: one for a stream ends it, and tells that; others tell nothing
+abbrev pub TellsDue : Due → Frame → Outbound → Outbound → Type 0
+TellsDue (due_kind.Reset id code) frame old new = TellsReset id frame old new × EndsOne id true old new
+TellsDue (due_kind.Refuse id fields) frame old new = TellsMore frame (block_marks id fields true) old new × EndsOne id false old new
+TellsDue _ frame old new = TellsMore frame [] old new × (new.over ≡ old.over)
+
+abbrev pub OwnByDue : Due → Frame → Outbound → Outbound → Type 0
+OwnByDue one frame old new = KeepsDue old new × TellsDue one frame old new
+
+-- or there is none any more, and nothing changes
+abbrev pub OwnOfDue : Due → Option Frame → Outbound → Outbound → Type 0
+OwnOfDue one (Some frame) old new = OwnByDue one frame old new
+OwnOfDue one None old new = new ≡ old
