@@ -1,4 +1,4 @@
-pub mod LastStatus
+pub mod Statuses
 pub mod Replies
 pub mod Steps
 pub mod Requests
