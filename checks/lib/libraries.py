@@ -61,10 +61,9 @@ def build_below(names, root=crates.ROOT):
                 if is_well and len(beside) < lanes and built.issuperset(uses[it]) and not any(held[it] & held[other] for other in beside):
                     chosen.append(it)
             idle = processors() - sum(jobs for _, jobs in running.values())
-            while chosen:
-                # The largest comes last here, and gets the processors that are left over.
-                jobs = max(1, idle // len(chosen))
-                idle, name = idle - jobs, chosen.pop()
+            for name in chosen:
+                # The largest, which the others above wait for longest, gets the processors that are free. The rest get one each.
+                jobs, idle = max(1, idle), 0
                 left.remove(name)
                 running[pool.submit(build, name, jobs, root)] = name, jobs
             for it in wait(running, return_when=FIRST_COMPLETED).done:
