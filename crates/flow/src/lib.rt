@@ -8,7 +8,8 @@
 //! `Book` is the credit book of what is received: how many bytes came, were taken, and were told to the peer, on the
 //! connection and on each live call.
 //!
-//! Nothing here reads or writes frames: the numbers come from frames that `h2frame` has read.
+//! Nothing here reads or writes frames: the numbers come from frames that `h2frame` has read. Worked histories of all
+//! three, with the answers that RFC 9113 demands, are the rows of the program `frame_rows`.
 #![tactic(auto)]
 
 pub mod book;
@@ -34,9 +35,5 @@ pub const MAX_LIVE: usize = 64;
 /// How many bytes of DATA a book counts on a connection.
 pub const MAX_RECEIVED: u64 = 0x4000_0000_0000_0000;
 
-#[cfg(test)]
-mod book_tests;
-#[cfg(test)]
-mod halves_tests;
 #[cfg(test)]
 mod tests;

@@ -9,7 +9,7 @@ use Rattle.h2frame.specs.declared.frame.FrameHead.{FrameHead}
 use Rattle.h2frame.specs.declared.span.Span.{Span}
 use Rattle.h2frame.specs.Flags.{is_padded, has_priority}
 use Rattle.h2frame.specs.Faults.{max_payload, may_be_on, may_have_length, overhead, head_fault}
-use Rattle.h2frame.specs.Spelling.{Skipped, head_text}
+use Rattle.h2frame.specs.Spelling.{Skipped, IsHead, Fits, head_text, spelling}
 use Rattle.h2frame.specs.FrameList.{BeginsWith, HasFaultyHead, IsOverpadded, IsFaulty}
 use Rattle.h2frame.specs.Reading.{head_at, padding_at, content_at, unless_faulty, frame_at, span_at, IsFront}
 use Rattle.h2frame.proofs.Heads.{AreBytes, begins}
@@ -51,6 +51,20 @@ overpadded head bytes begun fine whole less =
     let cells : drop 9 bytes ≡ get_or bytes 9 0 ∷ drop 10 bytes = drop_more bytes 9 0 (omega arith) in
     (head, get_or bytes 9 0, drop 10 bytes, subst (λ (after : List ℕ). BeginsWith bytes head after) cells begun, fine, padded.0, omega (arith, length-drop 10 bytes), padded.1)
 
+fits_parts : (head : FrameHead) (payload content : List ℕ) (reserved : ℕ) (q : Parts (is_padded head) (has_priority head) payload content) → IsHead head → reserved < 2 → length payload ≡ head.length
+    → Fits (record { head = head; content = content }) (record { reserved = reserved; priority = q.priority; padding = q.padding })
+fits_parts head payload content reserved q fine low size =
+    record { head = fine; reserved = low; priority = q.priority_length; padding = q.no_padding; payload = ap length (sym q.text) ∙ size }
+
+text_parts : (head : FrameHead) (payload content rest bytes : List ℕ) (reserved : ℕ) (q : Parts (is_padded head) (has_priority head) payload content) → bytes ≡ (head_text reserved head ++ payload) ++ rest
+    → bytes ≡ spelling (record { head = head; content = content }) (record { reserved = reserved; priority = q.priority; padding = q.padding }) ++ rest
+text_parts head payload content rest bytes reserved q e = e ∙ ap (λ (ys : List ℕ). (head_text reserved head ++ ys) ++ rest) q.text
+
+-- bytes that were cut behind so many
+cut_text : (first after rest : List ℕ) (n : ℕ) → drop n after ≡ rest → first ++ after ≡ (first ++ take n after) ++ rest
+cut_text first after rest n e =
+    ap (λ (ys : List ℕ). first ++ ys) (sym (take-append-drop n after) ∙ ap (λ (ys : List ℕ). take n after ++ ys) e) ∙ sym (append_assoc first (take n after) rest)
+
 spelled_at : (head : FrameHead) (bytes : List ℕ) → BeginsWith bytes head (drop 9 bytes) → head_fault head ≡ None → 9 + head.length ≤ length bytes
     → overhead head + padding_at head bytes ≤ head.length → IsFront bytes (Some (Ok (record { head = head; start = 9 + overhead head; len = head.length - (overhead head + padding_at head bytes) })))
 spelled_at head bytes begun fine whole le =
@@ -65,14 +79,12 @@ spelled_at head bytes begun fine whole le =
     let content : take m (drop o payload) ≡ take m (drop (9 + o) bytes) = within after o m head.length (omega arith) ∙ ap (λ (ys : List ℕ). take m ys) (drop-drop o 9 bytes) in
     let q : Parts (is_padded head) (has_priority head) payload (take m (drop (9 + o) bytes)) = subst (λ (c : List ℕ). Parts (is_padded head) (has_priority head) payload c) content p in
     let skipped : Skipped = record { reserved = begun.0; priority = q.priority; padding = q.padding } in
-    let rest : drop head.length after ≡ drop (9 + head.length) bytes = drop-drop head.length 9 bytes in
-    let text : bytes ≡ (head_text begun.0 head ++ payload) ++ drop (9 + head.length) bytes =
-    begun.3 ∙ ap (λ (ys : List ℕ). head_text begun.0 head ++ ys) (sym (take-append-drop head.length after) ∙ ap (λ (ys : List ℕ). payload ++ ys) rest)
-    ∙ sym (append_assoc (head_text begun.0 head) payload (drop (9 + head.length) bytes)) in (
+    let rest = drop (9 + head.length) bytes in
+    let text : bytes ≡ (head_text begun.0 head ++ payload) ++ rest = begun.3 ∙ cut_text (head_text begun.0 head) after rest head.length (drop-drop head.length 9 bytes) in (
       skipped,
-      record { head = begun.2; reserved = begun.1; priority = q.priority_length; padding = q.no_padding; payload = ap length (sym q.text) ∙ size },
+      fits_parts head payload (take m (drop (9 + o) bytes)) begun.0 q begun.2 begun.1 size,
       fine,
-      text ∙ ap (λ (ys : List ℕ). (head_text begun.0 head ++ ys) ++ drop (9 + head.length) bytes) q.text,
+      text_parts head payload (take m (drop (9 + o) bytes)) rest bytes begun.0 q text,
     )
 
 content_front : (head : FrameHead) (bytes : List ℕ) → BeginsWith bytes head (drop 9 bytes) → head_fault head ≡ None → 9 + head.length ≤ length bytes → IsFront bytes (Some (content_at head bytes))
