@@ -1,4 +1,4 @@
-//! The lines of a file. `#` at the front of a line, or between two blanks, begins a comment; a line without `->` is a
+//! The lines of a file. `#` at the start of a line, or between two blanks, begins a comment; a line without `->` is a
 //! direction for the rows behind it.
 
 use crate::subject::{Runner, Subject};
