@@ -9,6 +9,10 @@ ghost use Rattle.hpack_codec.specs.Reading.{OrMemory, TakesName, TakesLiteral, T
 
 use crate::fault::HpackFault;
 use crate::integer::integer;
+use crate::representation::{
+    INDEXED, INDEXED_PREFIX, LITERAL_INDEXED, LITERAL_INDEXED_PREFIX, LITERAL_PREFIX, NEW_NAME,
+    SIZE_UPDATE, SIZE_UPDATE_PREFIX,
+};
 use crate::string_literal::string;
 use crate::table::{DynamicTable, MAX_LIMIT, OVERHEAD};
 use lists::{Field, Octets};
@@ -77,14 +81,14 @@ impl Decoder {
     }
 }
 
-/// Makes the changes of size at the front of a block, and answers what is behind them.
+/// Makes the changes of size that a block begins with, and answers what is behind them.
 fn updates<'b>(table: &mut DynamicTable, block: &'b [u8]) -> Result<&'b [u8], HpackFault>
     ensures ok { IfOk result (λ rest. TakesUpdates table.old block.now table.new rest.now) }
     ensures err { IfErr result (λ fault. IsUpdatesFault fault table.old block.now) }
 {
     let mut rest = block;
     while begins_update(rest) {
-        let (limit, behind) = integer(5, rest)?;
+        let (limit, behind) = integer(SIZE_UPDATE_PREFIX, rest)?;
         if limit > MAX_LIMIT {
             return Err(HpackFault::SizeUpdate);
         }
@@ -99,7 +103,7 @@ fn begins_update(bytes: &[u8]) -> bool
     ensures not { result ≡ false → Begins 32 64 bytes.now → ⊥ }
 {
     match bytes {
-        [first, ..] => *first >= 32 && *first < 64,
+        [first, ..] => *first >= SIZE_UPDATE && *first < LITERAL_INDEXED,
         [] => false,
     }
 }
@@ -159,7 +163,7 @@ fn keep(
     Ok(())
 }
 
-/// The field at the front, whether it becomes an entry, and the bytes behind it.
+/// The first field, whether it becomes an entry, and the bytes behind it.
 fn field_at<'b>(
     alloc: Global,
     table: &DynamicTable,
@@ -170,18 +174,18 @@ fn field_at<'b>(
     ensures err { IfErr result (λ fault. OrMemory fault (IsFieldFault fault table.now bytes.now)) }
 {
     let first = bytes[0];
-    if first >= 128 {
+    if first >= INDEXED {
         let (field, rest) = indexed(alloc, table, bytes)?;
         return Ok((field, false, rest));
     }
-    if first >= 64 {
-        let (field, rest) = literal(alloc, table, 6, bytes)?;
+    if first >= LITERAL_INDEXED {
+        let (field, rest) = literal(alloc, table, LITERAL_INDEXED_PREFIX, bytes)?;
         return Ok((field, true, rest));
     }
-    if first >= 32 {
+    if first >= SIZE_UPDATE {
         return Err(HpackFault::SizeUpdate);
     }
-    let (field, rest) = literal(alloc, table, 4, bytes)?;
+    let (field, rest) = literal(alloc, table, LITERAL_PREFIX, bytes)?;
     Ok((field, false, rest))
 }
 
@@ -194,7 +198,7 @@ fn indexed<'b>(
     ensures ok { IfOk result (λ taken. TakesIndexed table.now bytes.now taken.0 taken.1.now) }
     ensures err { IfErr result (λ fault. OrMemory fault (IsIndexedFault fault table.now bytes.now)) }
 {
-    let (index, rest) = integer(7, bytes)?;
+    let (index, rest) = integer(INDEXED_PREFIX, bytes)?;
     let Some((name, value)) = table.get(index) else {
         return Err(HpackFault::Index);
     };
@@ -229,7 +233,7 @@ fn literal_name<'b>(
     ensures ok { IfOk result (λ taken. TakesName table.now index bytes.now taken.0 taken.1.now) }
     ensures err { IfErr result (λ fault. OrMemory fault (IsNameFault fault table.now index bytes.now)) }
 {
-    if index == 0 {
+    if index == NEW_NAME {
         return string(alloc, bytes);
     }
     let Some((name, _)) = table.get(index) else {
@@ -237,8 +241,3 @@ fn literal_name<'b>(
     };
     Ok((Octets::from(Vec::from_slice(alloc, name)?), bytes))
 }
-
-#[cfg(test)]
-mod clients;
-#[cfg(test)]
-mod tests;

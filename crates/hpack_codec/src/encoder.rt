@@ -5,6 +5,9 @@ ghost use Rattle.hpack_codec.specs.Reading.{Appends, SpellsField, SpellsFields, 
 
 use crate::fault::HpackFault;
 use crate::integer::push_integer;
+use crate::representation::{
+    INDEXED, INDEXED_PREFIX, LITERAL, LITERAL_PREFIX, NEW_NAME, SIZE_UPDATE, SIZE_UPDATE_PREFIX,
+};
 use crate::static_table::{Found, find};
 use crate::string_literal::push_string;
 use crate::table::MAX_LIMIT;
@@ -99,7 +102,7 @@ fn push_update(out: &mut Vec<u8>, from: u32, to: u32) -> Result<(), AllocError>
     ensures { OnOk result (Appends out.old.items out.new.items (SpellsUpdate from to)) }
 {
     if to < from {
-        push_integer(out, 0x20, 5, to)?;
+        push_integer(out, SIZE_UPDATE, SIZE_UPDATE_PREFIX, to)?;
     }
     Ok(())
 }
@@ -110,13 +113,13 @@ fn push_field(out: &mut Vec<u8>, field: &Field) -> Result<(), AllocError>
     ensures { OnOk result (Appends out.old.items out.new.items (SpellsField field.now)) }
 {
     match find(field.name.as_slice(), field.value.as_slice()) {
-        Found::Whole(index) => push_integer(out, 0x80, 7, index),
+        Found::Whole(index) => push_integer(out, INDEXED, INDEXED_PREFIX, index),
         Found::Name(index) => {
-            push_integer(out, 0, 4, index)?;
+            push_integer(out, LITERAL, LITERAL_PREFIX, index)?;
             push_string(out, field.value.as_slice())
         }
         Found::Nothing => {
-            push_integer(out, 0, 4, 0)?;
+            push_integer(out, LITERAL, LITERAL_PREFIX, NEW_NAME)?;
             push_string(out, field.name.as_slice())?;
             push_string(out, field.value.as_slice())
         }
@@ -132,6 +135,3 @@ fn push_fields(out: &mut Vec<u8>, fields: &[Field]) -> Result<(), AllocError>
     }
     Ok(())
 }
-
-#[cfg(test)]
-mod tests;

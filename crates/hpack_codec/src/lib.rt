@@ -6,7 +6,8 @@
 //! from the left (`specs/Faults.antt`); after any fault a codec is dead.
 //!
 //! Blocks carry a list of `lists::Field`. Read `integer`, `huffman` and `string_literal`, how these are spelled
-//! (section 5, appendix B); `static_table` and `table`, what is named by index (appendix A); then `decoder` and `encoder`.
+//! (section 5, appendix B); `static_table` and `table`, what is named by index (appendix A); `representation`, the first bits
+//! of fields (section 6); then `decoder` and `encoder`.
 //! Each has its definitions in the file of `specs/` of its name; what the private functions hand on to one another
 //! is in `specs/Reading.antt`.
 #![tactic(auto)]
@@ -16,6 +17,7 @@ mod encoder;
 mod fault;
 mod huffman;
 mod integer;
+mod representation;
 mod static_table;
 mod string_literal;
 mod table;
@@ -23,3 +25,6 @@ mod table;
 pub use decoder::Decoder;
 pub use encoder::Encoder;
 pub use fault::HpackFault;
+
+#[cfg(test)]
+mod tests;

@@ -11,7 +11,13 @@ use lists::Octets;
 use std::alloc::{AllocError, Global};
 
 /// The bit of the first byte that says that a text is Huffman's.
-const HUFFMAN: u8 = 128;
+const HUFFMAN: u8 = 0x80;
+
+/// The bits above the prefix where it is none.
+const PLAIN: u8 = 0;
+
+/// The prefix of a text's length.
+const LEN_PREFIX: u32 = 7;
 
 /// The string at the front, and the bytes behind it.
 pub fn string(alloc: Global, bytes: &[u8]) -> Result<(Octets, &[u8]), HpackFault>
@@ -22,7 +28,7 @@ pub fn string(alloc: Global, bytes: &[u8]) -> Result<(Octets, &[u8]), HpackFault
         return Err(HpackFault::Truncated);
     };
     let is_huffman = *first >= HUFFMAN;
-    let (len, rest) = integer(7, bytes)?;
+    let (len, rest) = integer(LEN_PREFIX, bytes)?;
     let len = len as usize;
     if rest.len() < len {
         return Err(HpackFault::Truncated);
@@ -41,6 +47,6 @@ pub fn push_string(out: &mut Vec<u8>, octets: &[u8]) -> Result<(), AllocError>
     requires { length octets.now < 2 ^ 32 }
     ensures { OnOk result (Appends out.old.items out.new.items (λ text. IsString text octets.now)) }
 {
-    push_integer(out, 0, 7, octets.len() as u32)?;
+    push_integer(out, PLAIN, LEN_PREFIX, octets.len() as u32)?;
     out.extend_from_slice(octets)
 }

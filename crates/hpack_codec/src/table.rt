@@ -45,14 +45,6 @@ impl DynamicTable {
         }
     }
 
-    /// The size of all entries.
-    #[cfg(test)]
-    pub fn size(&self) -> usize
-        ensures { result ≡ sizes_of self.now.entries }
-    {
-        self.size
-    }
-
     /// The name and the value at an index of both tables.
     pub fn get(&self, index: u32) -> Option<(&[u8], &[u8])>
         ensures { MatchOption result (entry_at self.now index ≡ None)

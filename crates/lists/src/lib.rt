@@ -3,6 +3,8 @@
 //! A definition speaks of a list of numbers; a program keeps a `Vec<u8>`. The types of this crate own a `Vec`, which
 //! they are made from and give back without memory, and a clause sees the list alone: `octets`, bytes; `sequence`,
 //! items of any type; `field`, a name and a value. The crates for header blocks and for calls share them.
+//!
+//! Read `octets`, `field` and `sequence`.
 #![tactic(auto)]
 
 mod field;

@@ -1,4 +1,5 @@
 //! Bytes that something owns.
+
 ghost use Rattle.std.specs.Prelude.{◌≡◌, ◌==◌, ◌↔◌, [], length, bytes_eq, IfOk, IsTrue};
 ghost use Rattle.std.specs.Cmp.{partial_equiv_from_equiv};
 ghost use Rattle.std.specs.Cmp.Lexicographic.{nat_list_eq_equiv};
@@ -22,13 +23,14 @@ impl Model for Octets {
 }
 
 impl Octets {
+    /// The bytes as a slice.
     pub fn as_slice(&self) -> &[u8]
         ensures { result.now ≡ self.now }
     {
         self.bytes.as_slice()
     }
 
-    /// Takes no memory.
+    /// The bytes, with no memory taken.
     pub fn into_vec(self) -> Vec<u8>
         ensures { result.items ≡ self }
     {
@@ -36,12 +38,14 @@ impl Octets {
         bytes
     }
 
+    /// How many bytes there are.
     pub fn len(&self) -> usize
         ensures { result ≡ length self.now }
     {
         self.bytes.len()
     }
 
+    /// Whether there are none.
     pub fn is_empty(&self) -> bool
         ensures { IsTrue result ↔ (self.now ≡ []) }
     {
@@ -58,7 +62,7 @@ impl Octets {
     }
 }
 
-/// Takes no memory.
+/// The bytes, with no memory taken.
 impl From<Vec<u8>> for Octets {
     ghost use Rattle.std.specs.Prelude.{◌≡◌};
 

@@ -62,12 +62,12 @@ impl Sequence<Field> {
     }
 }
 
+/// The items, with no memory taken.
 impl<T> From<Vec<T>> for Sequence<T> {
     ghost use Rattle.std.specs.Prelude.{◌≡◌};
 
     ghost from_gives = { λ items sequence. sequence ≡ items.items };
 
-    /// The items, with no memory taken.
     fn from(items: Vec<T>) -> Sequence<T> {
         Sequence { items }
     }

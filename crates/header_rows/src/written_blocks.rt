@@ -1,0 +1,49 @@
+//! Header blocks that are written (RFC 7541). `encoder NAME` begins a connection, and `limit N` announces that size of the
+//! peer's table. A row puts in fields, and the answer is their block, which the peer's decoder has to read as those fields.
+
+use crate::fields::{fields_of, text_of};
+use crate::text::push_bytes;
+use anyhow::{Context, Result};
+use hpack_codec::{Decoder, Encoder};
+use std::alloc::Global;
+
+/// The encoder of a connection, and the decoder of its peer.
+#[derive(Drop)]
+pub struct Pair {
+    encoder: Encoder,
+    decoder: Decoder,
+}
+
+impl Pair {
+    pub fn new(alloc: Global) -> Pair {
+        Pair {
+            encoder: Encoder::new(alloc),
+            decoder: Decoder::new(alloc),
+        }
+    }
+
+    pub fn direct(&mut self, alloc: Global, direction: &str) -> Result<()> {
+        if direction.starts_with("encoder ") {
+            *self = Pair::new(alloc);
+            return Ok(());
+        }
+        let limit = direction
+            .strip_prefix("limit ")
+            .context(format_args!("no row: {direction}"))?;
+        self.encoder.limit(limit.parse::<u32>()?);
+        Ok(())
+    }
+
+    pub fn answer(&mut self, alloc: Global, input: &str) -> Result<String> {
+        let fields = fields_of(alloc, input)?;
+        let block = self.encoder.block(fields.as_slice())?;
+        let mut answer = String::new(alloc);
+        push_bytes(&mut answer, block.as_slice())?;
+        let again = self.decoder.block(block.as_slice())?;
+        if again.as_slice() != fields.as_slice() {
+            let again = text_of(alloc, again.as_slice())?;
+            write!(answer, " which is read as {again}")?;
+        }
+        Ok(answer)
+    }
+}
