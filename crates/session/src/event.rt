@@ -1,4 +1,7 @@
 //! What the bytes of a connection come to, one event after another.
+//!
+//! `Control` has what the peer tells or asks of the side that writes, and no ends of calls. A PING's eight bytes share the
+//! frame's memory.
 
 use crate::settings::PeerSettings;
 use bytes::Bytes;

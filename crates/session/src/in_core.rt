@@ -1,4 +1,7 @@
 //! The reading core of a connection: its bytes go in, in any pieces, and their events come out.
+//!
+//! `feed` says what a piece leads to, for every list of bytes and events that led to the core before it; the loop that feeds
+//! the pieces names the list, and `laws::answers` then gives the events. After `Fatal` what is fed isn't kept.
 
 ghost use Rattle.std.specs.Prelude.{◌≡◌, List, ℕ, [], ◌++◌, IfOk, IsOk, OnErr};
 ghost use Rattle.session.specs.declared.event.InEvent.{InEvent as InEventOf};
@@ -20,7 +23,7 @@ pub enum Stage {
     Greeting(Preface),
     /// Frames are read.
     Reading(Position),
-    /// The connection has ended, or memory was wanting. Nothing more is read.
+    /// The connection has ended, or the core ran out of memory. Nothing more is read.
     Dead,
 }
 

@@ -17,6 +17,7 @@ pub mod judge;
 pub mod laws;
 mod preface;
 mod settings;
+pub mod uses;
 
 pub use event::{Control, InEvent};
 pub use header_block::{FragmentFault, HeaderBlock, MAX_BLOCK};
@@ -26,4 +27,3 @@ pub use settings::{Parameter, PeerSetting, PeerSettings, SettingsFault, read_set
 
 #[cfg(test)]
 mod tests;
-pub mod uses;

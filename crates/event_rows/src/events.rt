@@ -1,0 +1,72 @@
+//! Events as the rows have them, each behind a space. Of a head the path, the timeout in nanoseconds, and the echoes.
+
+use callhead::{CallHead, Encoding};
+use session::{Control, InEvent};
+use std::alloc::{AllocError, Global};
+
+const DIGITS: &[u8; 16] = b"0123456789abcdef";
+
+/// The digits of bytes.
+fn add_bytes(out: &mut String, bytes: &[u8]) -> Result<(), AllocError> {
+    for byte in bytes {
+        out.push(char::from(DIGITS[usize::from(*byte / 16)]))?;
+        out.push(char::from(DIGITS[usize::from(*byte % 16)]))?;
+    }
+    Ok(())
+}
+
+fn add_head(out: &mut String, head: &CallHead) -> Result<(), AllocError> {
+    for byte in head.path.as_slice() {
+        out.push(char::from(*byte))?;
+    }
+    write!(out, ", {:?}, [", head.timeout)?;
+    if head.encoding != Encoding::Identity {
+        out.push_str("compressed ")?;
+    }
+    for echo in head.echo_initial.as_slice() {
+        out.push_str(echo.as_str())?;
+    }
+    out.push_str("], [")?;
+    for echo in head.echo_trailing.as_slice() {
+        add_bytes(out, echo.as_slice())?;
+    }
+    out.push(']')
+}
+
+fn add_control(out: &mut String, control: &Control) -> Result<(), AllocError> {
+    match control {
+        Control::Settings(settings) => write!(out, " Settings{:?}", settings.as_slice()),
+        Control::Window(id, more) => write!(out, " Window({id}, {more})"),
+        Control::Ping(bytes) => {
+            out.push_str(" Ping(")?;
+            add_bytes(out, bytes.as_slice())?;
+            out.push(')')
+        }
+    }
+}
+
+fn add_event(out: &mut String, event: &InEvent) -> Result<(), AllocError> {
+    match event {
+        InEvent::Open(id, head) => {
+            write!(out, " Open({id}, ")?;
+            add_head(out, head)?;
+            out.push(')')
+        }
+        InEvent::Data(id, piece, counted) => {
+            write!(out, " Data({id}, ")?;
+            add_bytes(out, piece.as_slice())?;
+            write!(out, ", {counted})")
+        }
+        InEvent::Control(control) => add_control(out, control),
+        other => write!(out, " {other:?}"),
+    }
+}
+
+/// Events, one behind the other.
+pub fn text_of(alloc: Global, events: &[InEvent]) -> Result<String, AllocError> {
+    let mut out = String::new(alloc);
+    for event in events {
+        add_event(&mut out, event)?;
+    }
+    Ok(out)
+}
