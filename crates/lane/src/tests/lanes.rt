@@ -1,36 +1,28 @@
 //! Both lanes: what was put is found, and the last item has its place.
 
-use crate::{End, Lane, PutFault, RingLane, RowLane, Settled, poll_copy, relay};
+use crate::{End, Lane, RingLane, RowLane, poll_copy, relay};
 use std::alloc::Global;
-use std::process::Abort;
 use std::sync::Wait;
 use std::test::Fail;
 use std::thread::Threads;
 
-fn waiting_of(refused: Result<(), PutFault<u64>>) -> Option<u64> {
-    match refused {
-        Err(PutFault::Full { waiting, .. }) => Some(waiting),
-        _ => None,
-    }
-}
-
 // Room for one: a second item comes back, and the last one is placed.
-fn fill_and_empty<L: Lane<Item = u64>>(rt: &impl Abort, alloc: Global) -> Result<(), Fail> {
+fn fills_and_empties<L: Lane<Item = u64>>(alloc: Global) -> Result<bool, Fail> {
     let (mut tx, mut rx) = L::open(alloc, 1)?;
-    assert!(rt; L::put(&mut tx, 10).is_ok());
-    assert_eq!(rt; waiting_of(L::put(&mut tx, 12)), Some(1));
-    let shut = L::last(tx, 13);
-    assert!(rt; L::placed(&shut));
-    assert_eq!(rt; poll_copy::<u64, L>(&mut rx), Some(10));
-    assert_eq!(rt; L::again(&mut rx).copied(), Some(10));
-    assert_eq!(rt; poll_copy::<u64, L>(&mut rx), Some(13));
-    let wanted = Settled {
-        put: 2,
-        got: 2,
-        left: 0,
+    if L::put(&mut tx, 10).is_err() {
+        return Ok(false);
+    }
+    let Err(fault) = L::put(&mut tx, 12) else {
+        return Ok(false);
     };
-    assert_eq!(rt; L::settle(End::Shut(shut), rx), wanted);
-    Ok(())
+    let shut = L::last(tx, 13);
+    let is_placed = L::placed(&shut) && fault.code() == 1;
+    let first = poll_copy::<u64, L>(&mut rx);
+    let again = L::again(&mut rx).copied();
+    let second = poll_copy::<u64, L>(&mut rx);
+    let settled = L::settle(End::Shut(shut), rx);
+    let is_got = first == Some(10) && again == Some(10) && second == Some(13);
+    Ok(is_placed && is_got && settled.put == 2 && settled.left == 0)
 }
 
 // Each item finds its place and is found there, the last one too.
@@ -61,15 +53,17 @@ fn crosses<L: Lane<Item = u64> + Send, R: Threads + Wait + Sync>(
 
 #[test]
 fn both_lanes_fill_and_empty(rt: HostRuntime) -> Result<(), Fail> {
-    fill_and_empty::<RingLane<u64>>(&rt, rt.alloc())?;
-    fill_and_empty::<RowLane<u64>>(&rt, rt.alloc())
+    assert!(rt; fills_and_empties::<RingLane<u64>>(rt.alloc())?);
+    assert!(rt; fills_and_empties::<RowLane<u64>>(rt.alloc())?);
+    Ok(())
 }
 
 #[test]
 fn items_are_found(rt: HostRuntime) -> Result<(), Fail> {
-    for room in [0u32, 1, 2, 3, 255, 256] {
-        assert!(rt; is_found::<RingLane<u64>>(rt.alloc(), room)?);
-        assert!(rt; is_found::<RowLane<u64>>(rt.alloc(), room)?);
+    let rooms: &[u32] = &[0, 1, 2, 3, 255, 256];
+    for room in rooms {
+        assert!(rt; is_found::<RingLane<u64>>(rt.alloc(), *room)?);
+        assert!(rt; is_found::<RowLane<u64>>(rt.alloc(), *room)?);
     }
     Ok(())
 }
