@@ -24,23 +24,19 @@ pub mod piece;
 pub mod sender;
 pub mod serial;
 pub mod taker;
+pub mod uses;
 
 pub use account::{Account, CallEvent, OutItem, Shut, Told};
 pub use call::open_call;
 pub use feeder::{FedShut, FeedFault, Feeder};
 pub use giver::{GiveFault, GivenShut, Giver};
+pub use in_side::{InAccount, open_in, settle_in};
 pub use out_side::{OutAccount, open_out, settle_out};
 pub use piece::InPiece;
 pub use sender::Sender;
 pub use serial::replay;
-pub use in_side::{InAccount, open_in, settle_in};
 pub use taker::{Taken, Taker};
 pub use uses::four_threads::{Answer, Request, run_call};
 
 #[cfg(test)]
-mod in_tests;
-#[cfg(test)]
-mod out_tests;
-#[cfg(test)]
 mod tests;
-pub mod uses;

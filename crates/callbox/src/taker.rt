@@ -25,7 +25,7 @@ pub enum Taken {
     End,
     /// The call was reset, with this error code.
     Reset(u32),
-    /// What was fed can't go on as messages, or ended inside one; or memory was wanting.
+    /// What was fed can't go on as messages, or ended inside one; or memory ran out.
     Fault(LpmFault),
 }
 
@@ -34,7 +34,7 @@ pub enum Taken {
 pub(crate) enum Polled {
     Bytes(Bytes),
     Shut(Shut),
-    /// A piece of so many bytes that can't be shared, for want of memory.
+    /// A piece of so many bytes whose sharing ran out of memory.
     Unshared(u64),
 }
 
@@ -43,7 +43,7 @@ pub(crate) enum Polled {
 pub(crate) struct Progress {
     /// The bytes that were polled, but for those of the messages that were taken and of an unread piece.
     pub(crate) splitter: Splitter,
-    /// Whether the piece that was polled last is unread, for want of memory.
+    /// Whether the piece that was polled last is unread, since memory ran out.
     pub(crate) unread: bool,
     pub(crate) shut: Option<Shut>,
     pub(crate) told: Option<Told>,

@@ -9,6 +9,9 @@ use callbox::{Account, CallEvent, Shut, Told};
 use lpm::LpmFault;
 use std::alloc::{AllocError, Global};
 
+/// The bytes before those of a message: its flag and its length (gRPC over HTTP/2, "Length-Prefixed-Message").
+const PREFIX_LEN: usize = 5;
+
 // The events of bytes that come in pieces of `cut`. The pieces share the bytes.
 fn feeds(alloc: Global, mut bytes: Bytes, cut: usize) -> Result<Vec<CallEvent>, AllocError>
     requires { 0 < cut }
@@ -38,7 +41,7 @@ pub fn whole_call(alloc: Global, bytes: Vec<u8>, cut: usize) -> Result<Vec<CallE
     requires { 0 < cut }
     ensures { IfOk result (λ events. IsWholeCall cut bytes.items events.items) }
 {
-    let takes = bytes.len() / 5 + 1;
+    let takes = bytes.len() / PREFIX_LEN + 1;
     let mut events = feeds(alloc, Bytes::from_vec(bytes)?, cut)?;
     events.reserve_exact(takes + 1)?;
     events.push(CallEvent::Shut(Shut::End))?;

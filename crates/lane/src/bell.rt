@@ -1,4 +1,4 @@
-// Waiting for a change that another thread makes.
+//! Waiting for a change that another thread makes.
 use std::sync::Wait;
 use std::sync::atomic::{AtomicU64, Ordering};
 use std::time::Duration;

@@ -1,4 +1,4 @@
-// Why an item was not put.
+//! Why an item was not put.
 ghost use Rattle.std.specs.Prelude.{◌≡◌};
 
 use std::error::Error;

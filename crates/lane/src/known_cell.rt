@@ -1,4 +1,4 @@
-// A cell with what is known of it.
+//! A cell with what is known of it.
 ghost use Rattle.std.specs.Prelude.{◌≡◌, true};
 ghost use Rattle.lane.specs.Notes.{holds_item};
 

@@ -1,4 +1,4 @@
-// What a queue from one writer to one reader is.
+//! What a queue from one writer to one reader is.
 ghost use Rattle.std.specs.Prelude.{◌≡◌, ℕ, ◌+◌, ◌≤◌, ◌<◌, List, [], ◌∷◌, ◌++◌, Bool, length, ⊤, Option, None, Some, IfOk, OnOk, IfErr, OnErr, MatchOption, MatchBool};
 ghost use Rattle.std.specs.Borrow.{sem};
 ghost use denote.Follow.{follows_so};

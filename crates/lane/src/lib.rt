@@ -1,6 +1,6 @@
 //! Queues from one writer to one reader, whose ends may go to threads of their own.
 //!
-//! In every schedule what the reading end got is a front of what the writing end put. Neither end
+//! In every schedule what the reading end got is a prefix of what the writing end put. Neither end
 //! can say so alone: what each did is known to it, and the two are compared where both are in one
 //! place again, by `settle` or `meet`. No call of an end waits, so no lock fits into one; who has to
 //! wait does so at a `Bell`.
@@ -24,6 +24,7 @@ mod lane;
 mod ring;
 mod ring_lane;
 mod row_lane;
+pub mod uses;
 
 pub use bell::Bell;
 pub use fault::PutFault;
@@ -35,4 +36,3 @@ pub use uses::two_threads::{poll_copy, put_waiting, relay};
 
 #[cfg(test)]
 mod tests;
-pub mod uses;

@@ -1,4 +1,4 @@
-// A ring without a last item.
+//! A ring without a last item.
 ghost use Rattle.std.specs.Prelude.{◌≡◌, ◌+◌, ◌≤◌, length};
 ghost use Rattle.rtrb.specs.Ring.{sent, known_free, producer_capacity};
 

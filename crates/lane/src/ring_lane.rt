@@ -1,4 +1,4 @@
-// A lane over a ring, which the reader empties for the writer.
+//! A lane over a ring, which the reader empties for the writer.
 ghost use Rattle.std.specs.Prelude.{◌≡◌, ℕ, ◌+◌, ◌<◌, ◌≤◌, length};
 ghost use Rattle.rtrb.specs.Ring.{sent, known_free, producer_capacity, received, consumer_capacity};
 ghost use Rattle.lane.specs.Lawful.{count_of};

@@ -1,4 +1,4 @@
-// A lane over a row of cells, each of which is set once.
+//! A lane over a row of cells, each of which is set once.
 ghost use Rattle.std.specs.Prelude.{◌≡◌, ℕ, ◌+◌, ◌≤◌, length, take, vec_len, vec_capacity};
 ghost use Rattle.std.specs.Arc.{arc_value};
 ghost use Rattle.rtrb.specs.Ring.{sent, known_free, producer_capacity, received};

@@ -10,7 +10,10 @@ ghost use Rattle.callbox.specs.OutAccounts.{CountsOut};
 ghost use Rattle.callbox.specs.declared.account.OutItem.{OutItem};
 ghost use Rattle.callbox.specs.declared.piece.InPiece.TheVariants as in_piece;
 
-use crate::{FedShut, Feeder, GivenShut, Giver, InAccount, InPiece, OutAccount, OutItem, Sender, Shut, Taken, Taker, open_call, settle_in, settle_out, };
+use crate::{
+    FedShut, Feeder, GivenShut, Giver, InAccount, InPiece, OutAccount, OutItem, Sender, Shut,
+    Taken, Taker, open_call, settle_in, settle_out,
+};
 use bytes::Bytes;
 use lane::{End, Lane};
 use lists::{Field, Sequence};
@@ -52,7 +55,7 @@ fn feed_all<L: Lane<Item = InPiece>>(
     fed
 }
 
-/// Feeds the pieces up to the first that is refused, or can't be shared for want of memory.
+/// Feeds the pieces up to the first that is refused, or whose sharing runs out of memory.
 fn feed_pieces<L: Lane<Item = InPiece>>(feeder: Feeder<L>, pieces: &[Bytes]) -> Feeder<L>
     requires { L.put_in feeder.tx ≡ [] }
     ensures name { L.in_name result.tx ≡ L.in_name feeder.tx }
@@ -140,7 +143,7 @@ fn give_answer<L: Lane<Item = OutItem>>(
     End::Shut(giver.trailers(trailers))
 }
 
-/// Gives the messages up to the first that is refused, or can't be shared for want of memory, and says whether it gave all.
+/// Gives the messages up to the first that is refused, or whose sharing runs out of memory, and says whether it gave all.
 fn give_messages<L: Lane<Item = OutItem>>(giver: &mut Giver<L>, messages: &[Bytes]) -> bool
     requires head { has_head (L.put_in giver.old.tx) ≡ true }
     requires within { All (λ m. length m ≤ 4194304) messages.now }

@@ -1,0 +1,97 @@
+//! Runs the worked calls of `data/calls.rows`, each in three ways, and prints what differs from the account that is wanted.
+//!
+//! A row is a line `EVENTS => ACCOUNT`, whose words `data/calls.rows` explains. Each is run through the serial core
+//! (`callbox::replay`), and through the four ends of a call, over rings and over rows of cells.
+//!
+//! Read `events` first, which reads the events of a row, and `account_text`, which writes an account as rows have it; then
+//! `in_ends` and `out_ends`, which run the two sides of a call by its ends.
+#![tactic(auto)]
+
+use account_text::text_of;
+use anyhow::{Context, Result, ensure};
+use callbox::{Account, CallEvent, InPiece, OutItem, replay};
+use events::events_of;
+use in_ends::run_in;
+use lane::{Lane, RingLane, RowLane};
+use lists::{Octets, Sequence};
+use out_ends::run_out;
+use std::alloc::Global;
+use std::fs;
+use std::rt::Files;
+
+mod account_text;
+mod events;
+mod in_ends;
+mod out_ends;
+
+const FILES: [&str; 1] = ["calls.rows"];
+
+/// What the ends of a call did and told, over such lanes.
+fn account_of_ends<I: Lane<Item = InPiece>, O: Lane<Item = OutItem>>(
+    alloc: Global,
+    events: &[CallEvent],
+) -> Result<Account> {
+    let heard = run_in::<I>(alloc, events)?;
+    let (given, sent) = run_out::<O>(alloc, events)?;
+    Ok(Account {
+        fed: Octets::from(heard.fed),
+        shut: heard.shut,
+        taken: Sequence::from(heard.taken),
+        told: heard.told,
+        given: Sequence::from(given),
+        sent: Sequence::from(sent),
+    })
+}
+
+/// The accounts that a row's events make, each with the name of the way.
+fn accounts_of(alloc: Global, events: &[CallEvent]) -> Result<[(&'static str, Account); 3]> {
+    let ring = account_of_ends::<RingLane<InPiece>, RingLane<OutItem>>(alloc, events)?;
+    let row = account_of_ends::<RowLane<InPiece>, RowLane<OutItem>>(alloc, events)?;
+    let serial = replay(alloc, events)?;
+    Ok([("serial", serial), ("ring", ring), ("row", row)])
+}
+
+/// Runs one row, and says whether each way made the wanted account.
+fn is_met(rt: &(impl Print + AllocGlobal), row: &str, place: &str) -> Result<bool> {
+    let alloc = rt.alloc();
+    let (events, wanted) = row.split_once("=>").context("no `=>`")?;
+    let events = events_of(alloc, events)?;
+    let mut is_met = true;
+    for (way, account) in accounts_of(alloc, events.as_slice())? {
+        let got = text_of(alloc, &account)?;
+        if got.as_str() != wanted.trim() {
+            println!(rt; "{place}, {way}\n  wanted {}\n  got {got}", wanted.trim())?;
+            is_met = false;
+        }
+    }
+    Ok(is_met)
+}
+
+/// Runs the rows of a file, and answers how many differ.
+fn run_file(rt: &(impl Print + Files + AllocGlobal), name: &str) -> Result<u64> {
+    let alloc = rt.alloc();
+    let text = fs::read_to_string(rt, name)?;
+    let mut rows = 0_u64;
+    let mut differing = 0_u64;
+    for (number, line) in text.as_str().lines().enumerate() {
+        let row = line.trim();
+        if row.is_empty() || row.starts_with('#') {
+            continue;
+        }
+        let place = format!(in alloc; "{name}, line {}", number.saturating_add(1))?;
+        rows = rows.saturating_add(1);
+        if !is_met(rt, row, place.as_str()).context(place.as_str())? {
+            differing = differing.saturating_add(1);
+        }
+    }
+    println!(rt; "{name}: {rows} rows")?;
+    Ok(differing)
+}
+
+fn main(rt: HostRuntime) -> Result<()> {
+    for name in FILES {
+        let differing = run_file(&rt, name)?;
+        ensure!(differing == 0, "{differing} rows of {name} differ");
+    }
+    Ok(())
+}

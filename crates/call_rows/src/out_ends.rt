@@ -1,0 +1,122 @@
+//! The out side of a call, run by its two ends.
+
+ghost use Rattle.std.specs.Prelude.{◌≡◌, IfOk, OnOk};
+ghost use Rattle.lane.specs.End.{of_end};
+
+use anyhow::{Context, Result, ensure};
+use bytes::Bytes;
+use callbox::{CallEvent, GivenShut, Giver, OutItem, Sender, open_out, settle_out};
+use lane::{End, Lane};
+use lpm::{MAX_MESSAGE_LEN, is_frame};
+use std::alloc::Global;
+
+/// Room for the items of a row.
+const ROOM: usize = 64;
+
+const STREAM: u32 = 1;
+
+/// The bytes before those of a message: its flag and its length (gRPC over HTTP/2, "Length-Prefixed-Message").
+const PREFIX_LEN: usize = 5;
+
+/// Gives an item, where it is in place.
+fn give_open<L: Lane<Item = OutItem>>(
+    alloc: Global,
+    giver: Giver<L>,
+    item: &OutItem,
+    given: &mut Vec<OutItem>,
+) -> Result<End<Giver<L>, GivenShut<L>>>
+    ensures { IfOk result (λ end. of_end (λ g. L.in_name g.tx) (λ s. L.shut_name s.shut) end ≡ L.in_name giver.tx) }
+{
+    let mut giver = giver;
+    match item {
+        OutItem::Head(fields) => {
+            if !giver.has_head() {
+                given.push(item.copy()?)?;
+                ensure!(giver.head(fields.copy()?).is_ok(), "a head is refused");
+            }
+        }
+        OutItem::Message(bytes) => {
+            if giver.has_head() && is_frame(bytes.as_slice()) {
+                let message = bytes.as_slice().get(PREFIX_LEN..).context("no prefix")?;
+                ensure!(message.len() <= MAX_MESSAGE_LEN, "a message is too long");
+                let message = Bytes::copy_from_slice(alloc, message)?;
+                given.push(item.copy()?)?;
+                ensure!(giver.give(message).is_ok(), "a message is refused");
+            }
+        }
+        OutItem::Trailers(fields) => {
+            given.push(item.copy()?)?;
+            return Ok(End::Shut(giver.trailers(fields.copy()?)));
+        }
+    }
+    Ok(End::Open(giver))
+}
+
+/// Gives an item, where trailers weren't given.
+fn give<L: Lane<Item = OutItem>>(
+    alloc: Global,
+    end: End<Giver<L>, GivenShut<L>>,
+    item: &OutItem,
+    given: &mut Vec<OutItem>,
+) -> Result<End<Giver<L>, GivenShut<L>>>
+    ensures { IfOk result (λ new. of_end (λ g. L.in_name g.tx) (λ s. L.shut_name s.shut) new
+        ≡ of_end (λ g. L.in_name g.tx) (λ s. L.shut_name s.shut) end) }
+{
+    match end {
+        End::Open(giver) => give_open::<L>(alloc, giver, item, given),
+        End::Shut(shut) => Ok(End::Shut(shut)),
+    }
+}
+
+fn send<L: Lane<Item = OutItem>>(sender: &mut Sender<L>, sent: &mut Vec<OutItem>) -> Result<()>
+    ensures { OnOk result (L.out_name sender.new.rx ≡ L.out_name sender.old.rx) }
+{
+    if let Some(item) = sender.next() {
+        sent.push(item.copy()?)?;
+    }
+    Ok(())
+}
+
+fn has_trailers(items: &[OutItem]) -> bool {
+    matches!(items.last(), Some(OutItem::Trailers(_)))
+}
+
+/// Settles the two ends, whose counts have to be those of what was given and sent.
+fn settle<L: Lane<Item = OutItem>>(
+    end: End<Giver<L>, GivenShut<L>>,
+    sender: Sender<L>,
+    given: &[OutItem],
+    sent: &[OutItem],
+) -> Result<()>
+    requires { of_end (λ g. L.in_name g.tx) (λ s. L.shut_name s.shut) end ≡ L.out_name sender.rx }
+{
+    let account = settle_out(end, sender);
+    ensure!(
+        account.given == given.len() as u64
+            && account.sent == sent.len() as u64
+            && account.trailers_given == has_trailers(given)
+            && account.trailers_sent == has_trailers(sent),
+        "settled as {account:?}"
+    );
+    Ok(())
+}
+
+/// Runs the out side's events of a row, in order: what was given and what was sent.
+pub fn run_out<L: Lane<Item = OutItem>>(
+    alloc: Global,
+    events: &[CallEvent],
+) -> Result<(Vec<OutItem>, Vec<OutItem>)> {
+    let (giver, mut sender) = open_out::<L>(alloc, STREAM, ROOM)?;
+    let mut end = End::Open(giver);
+    let mut given = Vec::new(alloc);
+    let mut sent = Vec::new(alloc);
+    for event in events {
+        match event {
+            CallEvent::Give(item) => end = give::<L>(alloc, end, item, &mut given)?,
+            CallEvent::Send => send::<L>(&mut sender, &mut sent)?,
+            CallEvent::Feed(_) | CallEvent::Shut(_) | CallEvent::Take => {}
+        }
+    }
+    settle::<L>(end, sender, given.as_slice(), sent.as_slice())?;
+    Ok((given, sent))
+}

@@ -1,5 +1,0 @@
-use Rattle.std.proofs.Common.{◌≡◌}
-use Rattle.lane.proofs.tests.fill.Given as goal
-
-abbrev pub invariant-loop-item : goal.invariant-loop-item
-invariant-loop-item g l = g.L.Lane.in_name l.tx ≡ g.L.Lane.out_name l.rx
