@@ -3,6 +3,7 @@
 ghost use Rattle.std.specs.Prelude.{◌<◌};
 ghost use Rattle.flow.specs.Halves.{IsJudged};
 
+use crate::sizes::{number16, number32};
 use anyhow::Result;
 use flow::{HalfVerdict, Halves};
 use h2frame::{Flags, FrameHead, FrameKind, StreamId};
@@ -68,21 +69,34 @@ fn judge(halves: &mut Halves, streams: u16, rounds: u32) -> Result<Count, AllocE
     Ok(count)
 }
 
-/// Prints the heads that were judged, those that were lawful and the nanoseconds.
-pub fn timed(rt: &(impl Clock + AllocGlobal + Print), streams: u16, rounds: u32) -> Result<()> {
+/// Judges so often on so many streams, and answers the nanoseconds too.
+fn judge_timed(
+    rt: &(impl Clock + AllocGlobal),
+    streams: u16,
+    rounds: u32,
+) -> Result<(Count, u128)> {
     let mut halves = opened(rt.alloc(), streams)?;
     let start = Instant::now(rt)?;
     let count = judge(&mut halves, streams, rounds)?;
-    let nanos = start.elapsed(rt)?.as_nanos();
+    Ok((count, start.elapsed(rt)?.as_nanos()))
+}
+
+/// `flow-halves STREAMS ROUNDS`: prints the heads that were judged, those that were lawful and the nanoseconds.
+pub fn timed(rt: &(impl Clock + AllocGlobal + Print), sizes: &[String]) -> Result<()> {
+    let (count, nanos) = judge_timed(rt, number16(sizes, 0)?, number32(sizes, 1)?)?;
     let heads = count.heads;
     let accepted = count.accepted;
     println!(rt; "{heads} {accepted} {nanos}")?;
     Ok(())
 }
 
+fn judge_few(alloc: Global) -> Result<Count, AllocError> {
+    let mut halves = opened(alloc, 16)?;
+    judge(&mut halves, 16, 10)
+}
+
 pub fn small(rt: &(impl AllocGlobal + Print)) -> Result<()> {
-    let mut halves = opened(rt.alloc(), 16)?;
-    let count = judge(&mut halves, 16, 10)?;
+    let count = judge_few(rt.alloc())?;
     let heads = count.heads;
     let accepted = count.accepted;
     println!(rt; "flow-halves: {heads} heads, {accepted} accepted")?;

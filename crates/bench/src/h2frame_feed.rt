@@ -1,5 +1,6 @@
 //! Reading frames from pieces of one size.
 
+use crate::sizes::number;
 use anyhow::Result;
 use bytes::Bytes;
 use h2frame::{Flags, Frame, FrameKind, FrameReader, write_frame};
@@ -68,11 +69,12 @@ fn read(alloc: Global, bytes: &[u8], rounds: usize, piece: usize) -> Result<Coun
     Ok(count)
 }
 
-/// Prints the bytes fed, the frames read, the bytes of their contents and the nanoseconds.
-pub fn timed(rt: &(impl Clock + AllocGlobal + Print), piece: usize, total: usize) -> Result<()> {
+/// `h2frame-feed PIECE TOTAL`: prints the bytes fed, the frames read, the bytes of their contents and the nanoseconds.
+pub fn timed(rt: &(impl Clock + AllocGlobal + Print), sizes: &[String]) -> Result<()> {
     let alloc = rt.alloc();
     let bytes = round(alloc)?;
-    let rounds = total.div_ceil(ROUND);
+    let piece = number(sizes, 0)?;
+    let rounds = number(sizes, 1)?.div_ceil(ROUND);
     let start = Instant::now(rt)?;
     let count = read(alloc, bytes.as_slice(), rounds, piece)?;
     let nanos = start.elapsed(rt)?.as_nanos();

@@ -1,5 +1,6 @@
 //! Reading header blocks: one long Huffman text, and entries that go from the table one after another.
 
+use crate::sizes::number;
 use anyhow::Result;
 use hpack_codec::{Decoder, HpackFault};
 use std::alloc::{AllocError, Global};
@@ -45,41 +46,48 @@ fn read(decoder: &mut Decoder, block: &[u8]) -> Result<usize, HpackFault> {
     Ok(bytes)
 }
 
-/// Prints what was read in a Huffman text of this many bytes, and the nanoseconds.
-pub fn huffman(rt: &(impl Clock + AllocGlobal + Print), len: usize) -> Result<()> {
-    let alloc = rt.alloc();
-    let block = text(alloc, len)?;
-    let mut decoder = Decoder::new(alloc);
+/// Reads a block so often. Answers how many bytes of names and values stood in it altogether, and the nanoseconds.
+fn read_timed(
+    rt: &(impl Clock + AllocGlobal),
+    block: &[u8],
+    times: usize,
+) -> Result<(usize, u128)> {
+    let mut decoder = Decoder::new(rt.alloc());
+    let mut bytes = 0usize;
     let start = Instant::now(rt)?;
-    let bytes = read(&mut decoder, block.as_slice())?;
-    let nanos = start.elapsed(rt)?.as_nanos();
+    for _ in 0..times {
+        bytes = bytes.wrapping_add(read(&mut decoder, block)?);
+    }
+    Ok((bytes, start.elapsed(rt)?.as_nanos()))
+}
+
+/// `hpack-huffman LENGTH`: prints what was read in a Huffman text of this many bytes, and the nanoseconds.
+pub fn huffman(rt: &(impl Clock + AllocGlobal + Print), sizes: &[String]) -> Result<()> {
+    let block = text(rt.alloc(), number(sizes, 0)?)?;
+    let (bytes, nanos) = read_timed(rt, block.as_slice(), 1)?;
     println!(rt; "{bytes} {nanos}")?;
     Ok(())
 }
 
-/// Prints what was read in this many thousand entries, and the nanoseconds.
-pub fn evictions(rt: &(impl Clock + AllocGlobal + Print), thousands: usize) -> Result<()> {
-    let alloc = rt.alloc();
-    let block = entries(alloc)?;
-    let mut decoder = Decoder::new(alloc);
-    let mut bytes = 0usize;
-    let start = Instant::now(rt)?;
-    for _ in 0..thousands {
-        bytes = bytes.wrapping_add(read(&mut decoder, block.as_slice())?);
-    }
-    let nanos = start.elapsed(rt)?.as_nanos();
+/// `hpack-evictions THOUSANDS`: prints what was read in this many thousand entries, and the nanoseconds.
+pub fn evictions(rt: &(impl Clock + AllocGlobal + Print), sizes: &[String]) -> Result<()> {
+    let block = entries(rt.alloc())?;
+    let (bytes, nanos) = read_timed(rt, block.as_slice(), number(sizes, 0)?)?;
     println!(rt; "{bytes} {nanos}")?;
     Ok(())
+}
+
+/// Reads both blocks by one decoder, one after another.
+fn read_small(alloc: Global) -> Result<(usize, usize)> {
+    let mut decoder = Decoder::new(alloc);
+    let huffman = read(&mut decoder, &text(alloc, 500)?)?;
+    let evictions = read(&mut decoder, &entries(alloc)?)?;
+    Ok((huffman, evictions))
 }
 
 pub fn small(rt: &(impl AllocGlobal + Print)) -> Result<()> {
-    let alloc = rt.alloc();
-    let mut decoder = Decoder::new(alloc);
-    let block = text(alloc, 500)?;
-    let bytes = read(&mut decoder, block.as_slice())?;
-    println!(rt; "hpack-huffman: {bytes} bytes")?;
-    let block = entries(alloc)?;
-    let bytes = read(&mut decoder, block.as_slice())?;
-    println!(rt; "hpack-evictions: {bytes} bytes")?;
+    let (huffman, evictions) = read_small(rt.alloc())?;
+    println!(rt; "hpack-huffman: {huffman} bytes")?;
+    println!(rt; "hpack-evictions: {evictions} bytes")?;
     Ok(())
 }

@@ -1,4 +1,7 @@
-// How fast items and rings of a bell go from one thread to another.
+//! How fast items and rings of a bell go from one thread to another.
+
+use crate::sizes::{number, number32};
+use anyhow::Result;
 use lane::{Bell, RingLane, relay};
 use std::alloc::Global;
 use std::sync::Wait;
@@ -8,43 +11,50 @@ use std::time::{Clock, Duration, Instant};
 use std::{io, thread};
 
 /// Each measurement once, small.
-pub fn run_all<R: Threads + Wait + Sync + Print>(rt: &R, alloc: Global) -> io::Result<()> {
+pub fn run_all<R: Threads + Wait + Sync + Print>(rt: &R, alloc: Global) -> Result<()> {
     let taken = relay_numbers(rt, alloc, 1_000, 16)?;
     ring_often(1_000);
     ring_awaited(rt, 1_000);
-    println!(rt; "lane: {taken} of 1000 items were taken")
+    println!(rt; "lane: {taken} of 1000 items were taken")?;
+    Ok(())
 }
 
 /// `lane-relay ITEMS ROOM`: numbers through a `RingLane`.
 pub fn relayed<R: Threads + Wait + Sync + Print + Clock>(
     rt: &R,
     alloc: Global,
-    items: u32,
-    room: u32,
-) -> io::Result<()> {
+    sizes: &[String],
+) -> Result<()> {
+    let items = number32(sizes, 0)?;
+    let room = number(sizes, 1)?;
     let start = Instant::now(rt)?;
-    let taken = relay_numbers(rt, alloc, items, room as usize)?;
+    let taken = relay_numbers(rt, alloc, items, room)?;
     let time = start.elapsed(rt)?.as_nanos();
-    println!(rt; "{taken} items in {time} ns")
+    println!(rt; "{taken} items in {time} ns")?;
+    Ok(())
 }
 
 /// `lane-ring RINGS`: a bell at which nobody waits.
-pub fn rings<R: Print + Clock>(rt: &R, rings: u32) -> io::Result<()> {
+pub fn rings<R: Print + Clock>(rt: &R, sizes: &[String]) -> Result<()> {
+    let rings = number32(sizes, 0)?;
     let start = Instant::now(rt)?;
     ring_often(rings);
     let time = start.elapsed(rt)?.as_nanos();
-    println!(rt; "{rings} rings in {time} ns")
+    println!(rt; "{rings} rings in {time} ns")?;
+    Ok(())
 }
 
 /// `lane-ring-awaited RINGS`: a bell at which another thread waits again after each ring.
 pub fn rings_awaited<R: Threads + Wait + Sync + Print + Clock>(
     rt: &R,
-    rings: u32,
-) -> io::Result<()> {
+    sizes: &[String],
+) -> Result<()> {
+    let rings = number32(sizes, 0)?;
     let start = Instant::now(rt)?;
     ring_awaited(rt, rings);
     let time = start.elapsed(rt)?.as_nanos();
-    println!(rt; "{rings} rings in {time} ns")
+    println!(rt; "{rings} rings in {time} ns")?;
+    Ok(())
 }
 
 fn relay_numbers<R: Threads + Wait + Sync>(

@@ -1,8 +1,10 @@
 //! Writing the frames of calls: one stream of long replies, and 64 streams of small ones, over windows that don't bind.
 
+use crate::sizes::number;
 use anyhow::{Context, Result};
 use bytes::Bytes;
-use callbox::{OutItem, Sender, open_out};
+use callbox::{Giver, OutItem, Sender, open_out};
+use flow::{INITIAL_WINDOW, MAX_WINDOW};
 use h2frame::{Frame, FrameKind, write_frame};
 use lane::RingLane;
 use lists::{Field, Octets, Sequence};
@@ -54,9 +56,15 @@ fn field(alloc: Global, name: &str, value: &str) -> Result<Sequence<Field>> {
 
 /// The sender of a call that gave a head, so many replies of a length, and trailers.
 fn sender(alloc: Global, id: u32, replies: usize, len: usize) -> Result<Sender<Ring>> {
-    let (mut giver, sender) = open_out::<Ring>(alloc, id, ROOM)?;
     let head = field(alloc, ":status", "200")?;
+    let (mut giver, sender) = open_out::<Ring>(alloc, id, ROOM)?;
     giver.head(head).ok().context("the head is refused")?;
+    give_all(alloc, giver, replies, len)?;
+    Ok(sender)
+}
+
+/// Gives what comes behind the head.
+fn give_all(alloc: Global, mut giver: Giver<Ring>, replies: usize, len: usize) -> Result<()> {
     for _ in 0..replies {
         let reply = Bytes::from_vec(vec![in alloc; 0; len.min(LONG_LEN)]?)?;
         if giver.has_head() {
@@ -64,17 +72,15 @@ fn sender(alloc: Global, id: u32, replies: usize, len: usize) -> Result<Sender<R
         }
     }
     let _shut = giver.trailers(field(alloc, "grpc-status", "0")?);
-    Ok(sender)
+    Ok(())
 }
 
-/// A core whose windows let 2^31 - 1 bytes through.
-fn wide_core(alloc: Global) -> Result<OutCore<Ring>> {
+/// Opens the windows of a core, so that 2^31 - 1 bytes may be written.
+fn widen(alloc: Global, core: &mut OutCore<Ring>) -> Result<()> {
     let mut settings = Vec::new(alloc);
-    settings.push(PeerSetting::WindowSize(0x7fff_ffff))?;
-    let mut core = OutCore::<Ring>::new(alloc);
-    tell(&mut core, Control::Settings(PeerSettings::from(settings)))?;
-    tell(&mut core, Control::Window(0, 0x7fff_0000))?;
-    Ok(core)
+    settings.push(PeerSetting::WindowSize(MAX_WINDOW))?;
+    tell(core, Control::Settings(PeerSettings::from(settings)))?;
+    tell(core, Control::Window(0, MAX_WINDOW - INITIAL_WINDOW))
 }
 
 fn tell(core: &mut OutCore<Ring>, control: Control<Sender<Ring>>) -> Result<()> {
@@ -93,13 +99,15 @@ fn push_frame(frame: &Frame, out: &mut Vec<u8>) -> Result<()> {
 }
 
 /// Writes all there is, into one buffer that is emptied when it is full enough.
-fn write_all(core: &mut OutCore<Ring>, out: &mut Vec<u8>, count: &mut Count) -> Result<()> {
+fn write_all(alloc: Global, core: &mut OutCore<Ring>) -> Result<Count> {
+    let mut out = Vec::new(alloc);
+    let mut count = NOTHING;
     for _ in 0..u64::MAX {
         let next = core.next_frame().ok().context("no memory is left")?;
         let Next::Frame(frame) = next else {
             break;
         };
-        push_frame(&frame, out)?;
+        push_frame(&frame, &mut out)?;
         count.frames = count.frames.wrapping_add(1);
         if out.len() >= ENOUGH {
             count.bytes = count.bytes.wrapping_add(out.len() as u64);
@@ -107,70 +115,94 @@ fn write_all(core: &mut OutCore<Ring>, out: &mut Vec<u8>, count: &mut Count) -> 
         }
     }
     count.bytes = count.bytes.wrapping_add(out.len() as u64);
-    out.clear();
+    Ok(count)
+}
+
+/// So many calls of so many replies each, which are all given.
+#[derive(Clone, Copy)]
+struct Calls {
+    streams: u32,
+    replies: usize,
+    len: usize,
+}
+
+/// Opens the calls on a core with wide windows.
+fn fill(alloc: Global, core: &mut OutCore<Ring>, calls: Calls) -> Result<()> {
+    widen(alloc, core)?;
+    for index in 0..calls.streams {
+        let id = index.wrapping_mul(2).wrapping_add(1);
+        let sender = sender(alloc, id, calls.replies, calls.len)?;
+        tell(core, Control::Open(id, sender))?;
+    }
     Ok(())
 }
 
-/// A core with so many calls of so many replies each, which are all given.
-fn filled(alloc: Global, streams: u32, replies: usize, len: usize) -> Result<OutCore<Ring>> {
-    let mut core = wide_core(alloc)?;
-    for index in 0..streams {
-        let id = index.wrapping_mul(2).wrapping_add(1);
-        tell(
-            &mut core,
-            Control::Open(id, sender(alloc, id, replies, len)?),
-        )?;
-    }
-    Ok(core)
+/// What is written of these calls, and the time that writing took.
+fn written(rt: &(impl Clock + AllocGlobal), calls: Calls) -> Result<(Count, Duration)> {
+    let mut core = OutCore::<Ring>::new(rt.alloc());
+    write_calls(rt, &mut core, calls)
 }
 
-/// Prints the frames, their bytes and the nanoseconds of writing so many replies of 1 MiB on one stream.
-pub fn long(rt: &(impl Clock + AllocGlobal + Print), replies: usize) -> Result<()> {
-    let alloc = rt.alloc();
-    let mut core = filled(alloc, 1, replies, LONG_LEN)?;
-    let mut out = Vec::new(alloc);
-    let mut count = NOTHING;
+fn write_calls(
+    rt: &(impl Clock + AllocGlobal),
+    core: &mut OutCore<Ring>,
+    calls: Calls,
+) -> Result<(Count, Duration)> {
+    fill(rt.alloc(), core, calls)?;
     let start = Instant::now(rt)?;
-    write_all(&mut core, &mut out, &mut count)?;
-    print_count(rt, count, start.elapsed(rt)?)
+    let count = write_all(rt.alloc(), core)?;
+    Ok((count, start.elapsed(rt)?))
 }
 
-/// Prints the frames, their bytes and the nanoseconds of so many connections of 64 streams with small replies.
-pub fn small_replies(rt: &(impl Clock + AllocGlobal + Print), times: usize) -> Result<()> {
-    let alloc = rt.alloc();
-    let mut out = Vec::new(alloc);
+/// `outwriter-long REPLIES`: prints the frames, their bytes and the nanoseconds of writing so many replies of 1 MiB on
+/// one stream.
+pub fn long(rt: &(impl Clock + AllocGlobal + Print), sizes: &[String]) -> Result<()> {
+    let replies = number(sizes, 0)?;
+    let (count, spent) = written(rt, long_calls(replies))?;
+    print_count(rt, count, spent)
+}
+
+fn long_calls(replies: usize) -> Calls {
+    Calls {
+        streams: 1,
+        replies,
+        len: LONG_LEN,
+    }
+}
+
+/// `outwriter-small TIMES`: prints the frames, their bytes and the nanoseconds of so many connections of 64 streams with
+/// small replies.
+pub fn small_replies(rt: &(impl Clock + AllocGlobal + Print), sizes: &[String]) -> Result<()> {
     let mut count = NOTHING;
     let mut spent = Duration::ZERO;
-    for _ in 0..times {
-        let mut core = filled(alloc, STREAMS, SMALL_REPLIES, SMALL_LEN)?;
-        let start = Instant::now(rt)?;
-        write_all(&mut core, &mut out, &mut count)?;
-        spent = spent.saturating_add(start.elapsed(rt)?);
+    for _ in 0..number(sizes, 0)? {
+        let (more, time) = written(rt, small_calls(STREAMS, SMALL_REPLIES))?;
+        count.frames = count.frames.wrapping_add(more.frames);
+        count.bytes = count.bytes.wrapping_add(more.bytes);
+        spent = spent.saturating_add(time);
     }
     print_count(rt, count, spent)
 }
 
+fn small_calls(streams: u32, replies: usize) -> Calls {
+    Calls {
+        streams,
+        replies,
+        len: SMALL_LEN,
+    }
+}
+
 fn print_count(rt: &impl Print, count: Count, spent: Duration) -> Result<()> {
-    let frames = count.frames;
-    let bytes = count.bytes;
+    let Count { frames, bytes } = count;
     let nanos = spent.as_nanos();
     println!(rt; "{frames} {bytes} {nanos}")?;
     Ok(())
 }
 
-pub fn small(rt: &(impl AllocGlobal + Print)) -> Result<()> {
-    let alloc = rt.alloc();
-    let mut out = Vec::new(alloc);
-    for (name, streams, replies, len) in [
-        ("outwriter-long", 1, 2, LONG_LEN),
-        ("outwriter-small", 3, 4, SMALL_LEN),
-    ] {
-        let mut core = filled(alloc, streams, replies, len)?;
-        let mut count = NOTHING;
-        write_all(&mut core, &mut out, &mut count)?;
-        let frames = count.frames;
-        let bytes = count.bytes;
-        println!(rt; "{name}: {frames} frames, {bytes} bytes")?;
-    }
+pub fn small(rt: &(impl Clock + AllocGlobal + Print)) -> Result<()> {
+    let (Count { frames, bytes }, _spent) = written(rt, long_calls(2))?;
+    println!(rt; "outwriter-long: {frames} frames, {bytes} bytes")?;
+    let (Count { frames, bytes }, _spent) = written(rt, small_calls(3, 4))?;
+    println!(rt; "outwriter-small: {frames} frames, {bytes} bytes")?;
     Ok(())
 }

@@ -1,5 +1,6 @@
 //! Reading and writing messages: one large body, and a list of many small messages.
 
+use crate::sizes::number;
 use anyhow::Result;
 use std::alloc::{AllocError, Global};
 use std::rt::Clock;
@@ -41,23 +42,36 @@ fn timed<M: Message, R: Clock + AllocGlobal + Print>(rt: &R, bytes: &[u8]) -> Re
     Ok(())
 }
 
-/// One body of this many bytes.
-pub fn one_body<R: Clock + AllocGlobal + Print>(rt: &R, len: usize) -> Result<()> {
-    let bytes = body(rt.alloc(), len)?;
+/// `testproto-body LENGTH`: one body of this many bytes.
+pub fn one_body<R: Clock + AllocGlobal + Print>(rt: &R, sizes: &[String]) -> Result<()> {
+    let bytes = body(rt.alloc(), number(sizes, 0)?)?;
     timed::<Payload, R>(rt, &bytes)
 }
 
-/// This many messages in one.
-pub fn many<R: Clock + AllocGlobal + Print>(rt: &R, count: usize) -> Result<()> {
-    let bytes = parameters(rt.alloc(), count)?;
+/// `testproto-many COUNT`: this many messages in one.
+pub fn many<R: Clock + AllocGlobal + Print>(rt: &R, sizes: &[String]) -> Result<()> {
+    let bytes = parameters(rt.alloc(), number(sizes, 0)?)?;
     timed::<StreamingOutputCallRequest, R>(rt, &bytes)
 }
 
+/// How many bytes are written of the message that these are.
+fn written<M: Message>(alloc: Global, bytes: &[u8]) -> Result<usize> {
+    let message = M::decode(alloc, bytes)?;
+    Ok(message.encode(alloc)?.len())
+}
+
+fn small_body(alloc: Global) -> Result<usize> {
+    written::<Payload>(alloc, &body(alloc, 300)?)
+}
+
+fn small_request(alloc: Global) -> Result<usize> {
+    written::<StreamingOutputCallRequest>(alloc, &parameters(alloc, 100)?)
+}
+
 pub fn small(rt: &(impl AllocGlobal + Print)) -> Result<()> {
-    let alloc = rt.alloc();
-    let payload = Payload::decode(alloc, &body(alloc, 300)?)?;
-    println!(rt; "testproto-body: {} bytes", payload.encode(alloc)?.len())?;
-    let request = StreamingOutputCallRequest::decode(alloc, &parameters(alloc, 100)?)?;
-    println!(rt; "testproto-many: {} bytes", request.encode(alloc)?.len())?;
+    let body = small_body(rt.alloc())?;
+    println!(rt; "testproto-body: {body} bytes")?;
+    let request = small_request(rt.alloc())?;
+    println!(rt; "testproto-many: {request} bytes")?;
     Ok(())
 }

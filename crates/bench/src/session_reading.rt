@@ -1,5 +1,6 @@
 //! Reading connections: one with much DATA, and many with small calls.
 
+use crate::sizes::{number, number16};
 use anyhow::Result;
 use session::{InCore, InEvent};
 use std::alloc::{AllocError, Global};
@@ -92,13 +93,18 @@ fn small_calls(alloc: Global, calls: u16) -> Result<Vec<u8>, AllocError> {
     Ok(bytes)
 }
 
+/// A connection up to the HEADERS of stream 1.
+fn opening(alloc: Global) -> Result<Vec<u8>, AllocError> {
+    let mut bytes = greeting(alloc)?;
+    add_headers(&mut bytes, 1)?;
+    Ok(bytes)
+}
+
 /// Reads a connection with one stream, on which frames of DATA come so often.
 fn read_data(alloc: Global, frames: &[u8], rounds: usize) -> Result<Count, AllocError> {
     let mut core = InCore::new(alloc);
     let mut count = NOTHING;
-    let mut bytes = greeting(alloc)?;
-    add_headers(&mut bytes, 1)?;
-    feed(&mut core, &bytes, &mut count)?;
+    feed(&mut core, &opening(alloc)?, &mut count)?;
     for _ in 0..rounds {
         feed(&mut core, frames, &mut count)?;
     }
@@ -115,9 +121,10 @@ fn read_calls(alloc: Global, connection: &[u8], times: usize) -> Result<Count, A
     Ok(count)
 }
 
-/// Prints the events, the bytes of data and the nanoseconds of so many mebibytes of DATA.
-pub fn data(rt: &(impl Clock + AllocGlobal + Print), mebibytes: usize) -> Result<()> {
+/// `session-data MEBIBYTES`: prints the events, the bytes of data and the nanoseconds of so much DATA.
+pub fn data(rt: &(impl Clock + AllocGlobal + Print), sizes: &[String]) -> Result<()> {
     let alloc = rt.alloc();
+    let mebibytes = number(sizes, 0)?;
     let frames = long_data(alloc, ROUND)?;
     let start = Instant::now(rt)?;
     let count = read_data(alloc, &frames, mebibytes)?;
@@ -128,10 +135,12 @@ pub fn data(rt: &(impl Clock + AllocGlobal + Print), mebibytes: usize) -> Result
     Ok(())
 }
 
-/// Prints the events, the bytes of data and the nanoseconds of so many connections with so many calls each.
-pub fn calls(rt: &(impl Clock + AllocGlobal + Print), times: usize, calls: u16) -> Result<()> {
+/// `session-calls TIMES CALLS`: prints the events, the bytes of data and the nanoseconds of so many connections with so
+/// many calls each.
+pub fn calls(rt: &(impl Clock + AllocGlobal + Print), sizes: &[String]) -> Result<()> {
     let alloc = rt.alloc();
-    let connection = small_calls(alloc, calls)?;
+    let times = number(sizes, 0)?;
+    let connection = small_calls(alloc, number16(sizes, 1)?)?;
     let start = Instant::now(rt)?;
     let count = read_calls(alloc, &connection, times)?;
     let nanos = start.elapsed(rt)?.as_nanos();
@@ -141,17 +150,18 @@ pub fn calls(rt: &(impl Clock + AllocGlobal + Print), times: usize, calls: u16) 
     Ok(())
 }
 
+fn small_data(alloc: Global) -> Result<Count, AllocError> {
+    read_data(alloc, &long_data(alloc, 2)?, 3)
+}
+
+fn ten_calls(alloc: Global) -> Result<Count, AllocError> {
+    read_calls(alloc, &small_calls(alloc, 10)?, 2)
+}
+
 pub fn small(rt: &(impl AllocGlobal + Print)) -> Result<()> {
-    let alloc = rt.alloc();
-    let frames = long_data(alloc, 2)?;
-    let count = read_data(alloc, &frames, 3)?;
-    let events = count.events;
-    let contents = count.contents;
+    let Count { events, contents } = small_data(rt.alloc())?;
     println!(rt; "session-data: {events} events, {contents} bytes of data")?;
-    let connection = small_calls(alloc, 10)?;
-    let count = read_calls(alloc, &connection, 2)?;
-    let events = count.events;
-    let contents = count.contents;
+    let Count { events, contents } = ten_calls(rt.alloc())?;
     println!(rt; "session-calls: {events} events, {contents} bytes of data")?;
     Ok(())
 }

@@ -1,4 +1,4 @@
--- Want of memory blames nobody.
+-- To be out of memory blames nobody.
 use Rattle.flow.specs.Windows.{Windows}
 use Rattle.outwriter.specs.declared.control.Control.{Control}
 use Rattle.outwriter.specs.declared.control.OutFault.{OutFault}

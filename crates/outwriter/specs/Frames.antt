@@ -8,6 +8,9 @@ use Rattle.h2frame.specs.declared.kind.FrameKind.TheVariants.{Data, Headers, Rst
 use Rattle.h2frame.specs.ErrorCode.{error_number}
 use Rattle.h2frame.specs.Faults.{increment_of}
 use Rattle.h2frame.specs.Kind.{kind_of, code_of}
+use Rattle.flow.specs.declared.TheConstants.{MAX_LIVE}
+use Rattle.h2frame.specs.declared.setting.SettingId.TheVariants.{MaxConcurrentStreams, MaxHeaderListSize}
+use Rattle.h2frame.specs.Setting.{setting_code}
 use Rattle.h2frame.specs.Flags.{is_padded, has_priority, has, ack, end_stream, end_headers}
 
 -- a frame without padding or priority
@@ -20,9 +23,13 @@ frame_with kind bits stream content =
 abbrev pub parameter : ℕ → ℕ → List ℕ
 parameter id value = bytes_high_first 2 id ++ bytes_high_first 4 value
 
--- at most 64 streams at once, and at most 16,384 bytes of fields (section 6.5.2)
+-- the most bytes of fields that a header block may have
+abbrev pub max_field_bytes : ℕ
+max_field_bytes = 16384
+
+-- at most so many streams at once, and so many bytes of fields (section 6.5.2)
 abbrev pub first_settings : Frame
-first_settings = frame_with Settings 0 0 (parameter 3 64 ++ parameter 6 16384)
+first_settings = frame_with Settings 0 0 (parameter (setting_code MaxConcurrentStreams) MAX_LIVE ++ parameter (setting_code MaxHeaderListSize) max_field_bytes)
 
 abbrev pub settings_ack : Frame
 settings_ack = frame_with Settings ack 0 []

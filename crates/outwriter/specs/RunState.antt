@@ -229,7 +229,7 @@ module _ {S : Type 0} where
   HasRoom (control.Settings settings) w = (history : List WindowStep) → Follows history w → All (CanResize history) (window_sizes settings)
   HasRoom _ w = Unit {0}
 
-  -- want of memory, and no fault of the peer
+  -- out of memory, and no fault of the peer
   abbrev pub IsMemory : OutFault S → Type 0
   IsMemory (OutOfMemory back) = Unit {0}
   IsMemory (PeerWindow id) = ⊥

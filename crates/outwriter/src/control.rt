@@ -38,7 +38,7 @@ pub enum Control<S> {
 /// Why the core refuses.
 #[derive(Drop)]
 pub enum OutFault<S> {
-    /// No memory was to be had. The control that was not taken comes back; without one the core is dead.
+    /// Out of memory. The control that was not taken comes back; without one the core is dead.
     OutOfMemory(Option<Control<S>>),
     /// A window would be over 2^31 - 1 bytes, the stream's or, at 0, the connection's or that of SETTINGS. No window
     /// changes; the control counts as taken.

@@ -4,11 +4,33 @@ ghost use Rattle.std.specs.Prelude.{◌≡◌, ◌≤◌, ◌<◌, ◌^◌, leng
 ghost use Rattle.outwriter.specs.Frames.{first_settings, settings_ack, ping_ack, reset_frame, goaway_frame, update_frame, data_frame, headers_frame, continuation_frame, IsSound, block_bits};
 
 use bytes::Bytes;
+use flow::MAX_LIVE;
 use h2frame::{ErrorCode, Flags, Frame, FrameKind, StreamId};
 use std::alloc::{AllocError, Global};
 
-/// SETTINGS_MAX_CONCURRENT_STREAMS is 64, SETTINGS_MAX_HEADER_LIST_SIZE 16,384 (section 6.5.2).
-static FIRST_SETTINGS: [u8; 12] = [0, 3, 0, 0, 0, 64, 0, 6, 0, 0, 64, 0];
+/// The numbers of two parameters (section 6.5.2), which `SettingId::code` has too.
+const MAX_CONCURRENT_STREAMS: u8 = 3;
+
+const MAX_HEADER_LIST_SIZE: u8 = 6;
+
+/// The most bytes of fields that a header block may have.
+const MAX_FIELD_BYTES: u32 = 16_384;
+
+/// The payload of the first SETTINGS: of each parameter its number and its value.
+static FIRST_SETTINGS: [u8; 12] = [
+    0,
+    MAX_CONCURRENT_STREAMS,
+    0,
+    0,
+    0,
+    MAX_LIVE as u8,
+    0,
+    MAX_HEADER_LIST_SIZE,
+    0,
+    0,
+    (MAX_FIELD_BYTES >> 8) as u8,
+    (MAX_FIELD_BYTES & 0xff) as u8,
+];
 
 pub(crate) fn make_first_settings() -> Frame
     ensures { result ≡ first_settings }

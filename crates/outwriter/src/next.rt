@@ -34,7 +34,7 @@ impl<L: Lane<Item = OutItem>> OutCore<L> {
     ghost use Rattle.outwriter.specs.Steps.{Step};
     ghost use Rattle.outwriter.specs.RunState.{Answers, AnswersAll, Reached, SameOwn, IsSpent, Progress, Progresses, Stays, IsBetween, MirrorsOf};
 
-    /// The next frame. After want of memory the core is dead, and answers that again.
+    /// The next frame. Once it was out of memory the core is dead, and answers that again.
     pub fn next_frame(&mut self) -> Result<Next, OutFault<Sender<L>>>
         // A frame that comes next extends a lawful run.
         ensures next { IfOk result (λ next. Answers next self.old.outbound self.new.outbound) }

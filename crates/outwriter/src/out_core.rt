@@ -31,7 +31,7 @@ use std::collections::VecDeque;
 /// What a connection's writer keeps between frames.
 #[derive(Drop)]
 pub struct OutCore<L: Lane<Item = OutItem>> {
-    /// After want of memory in `next_frame`.
+    /// After `next_frame` was out of memory.
     pub(crate) is_dead: bool,
     /// Whether Close was taken.
     pub(crate) closed: bool,
@@ -69,8 +69,9 @@ impl<L: Lane<Item = OutItem>> OutCore<L> {
         }
     }
 
-    /// Takes a control. Want of memory hands it back and changes nothing; a window that would be over 2^31 - 1 bytes
-    /// is a fault of the peer, of which no window changes, and the control counts as taken. A dead core hands each back.
+    /// Takes a control. Out of memory, it hands the control back and changes nothing; a window that would be over
+    /// 2^31 - 1 bytes is a fault of the peer, of which no window changes, and the control counts as taken. A dead core
+    /// hands each back.
     pub fn control(&mut self, control: Control<Sender<L>>) -> Result<(), OutFault<Sender<L>>>
         // The control is the next step of the run, unless it is handed back.
         ensures taken { Takes result control self.old.outbound self.new.outbound }

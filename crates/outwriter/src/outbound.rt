@@ -115,8 +115,8 @@ impl Outbound {
         !is_overflow(credited)
     }
 
-    /// Opens the window of a call's stream, unless it is open or over, and its credit, if the stream is new. Want of memory
-    /// changes nothing.
+    /// Opens the window of a call's stream, unless it is open or over, and its credit, if the stream is new. Out of
+    /// memory, it changes nothing.
     pub(crate) fn take_open(
         &mut self,
         id: StreamId,

@@ -1,92 +1,54 @@
-//! What a writer's core answers, frame by frame.
+//! Each public function of a writer's core once, with ample memory.
 
 use crate::{Control, Next, OutCore, PeerSettings};
-use bytes::Bytes;
 use callbox::{OutItem, Sender, open_out};
-use h2frame::ErrorCode;
+use h2frame::FrameKind;
 use lane::RingLane;
-use lists::{Field, Octets, Sequence};
-use std::alloc::{AllocError, Global};
+use std::alloc::Global;
 use std::process::Abort;
 use std::test::Fail;
 
-mod peer;
-mod rows;
-
-use peer::push_frame;
-
 type Ring = RingLane<OutItem>;
 
-/// One field. Its value is a text of so many bytes, all of them `2`.
-fn fields(alloc: Global, name: &str, len: usize) -> Result<Sequence<Field>, AllocError> {
-    let value = vec![in alloc; b'2'; len]?;
-    let field = Field {
-        name: Octets::from(name.as_bytes().to_vec(alloc)?),
-        value: Octets::from(value),
-    };
-    let mut list = Vec::new(alloc);
-    list.push(field)?;
-    Ok(Sequence::from(list))
+/// Whether the next frame is of this kind.
+fn is_next(core: &mut OutCore<Ring>, kind: FrameKind) -> Result<bool, Fail> {
+    match core.next_frame()? {
+        Next::Frame(frame) => Ok(frame.head.kind == kind),
+        Next::Idle | Next::Over => Ok(false),
+    }
 }
 
-/// The sender of a call that gave a head, messages of these lengths, and trailers where it ended.
-fn sender(alloc: Global, id: u32, messages: &[usize], ended: bool) -> Result<Sender<Ring>, Fail> {
-    let (mut giver, sender) = open_out::<Ring>(alloc, id, 256)?;
-    giver.head(fields(alloc, ":status", 3)?)?;
-    for len in messages {
-        let message = Bytes::from_vec(vec![in alloc; 0; (*len).min(400_000)]?)?;
-        if giver.has_head() {
-            giver.give(message)?;
-        }
-    }
-    if ended {
-        let _shut = giver.trailers(fields(alloc, "grpc-status", 1)?);
-    }
+/// SETTINGS come first, then the acknowledgement of the peer's, then credit.
+fn begin(rt: &impl Abort, alloc: Global, core: &mut OutCore<Ring>) -> Result<(), Fail> {
+    core.control(Control::Settings(PeerSettings::from(Vec::new(alloc))))?;
+    core.grant(0, 7);
+    assert!(rt; is_next(core, FrameKind::Settings)?);
+    assert!(rt; is_next(core, FrameKind::Settings)?);
+    assert!(rt; is_next(core, FrameKind::WindowUpdate)?);
+    Ok(())
+}
+
+/// The sender of a call that gave nothing.
+fn sender(alloc: Global, id: u32) -> Result<Sender<Ring>, Fail> {
+    let (_giver, sender) = open_out::<Ring>(alloc, id, 1)?;
     Ok(sender)
 }
 
-/// The bytes of the next frame.
-fn text(rt: &impl Abort, alloc: Global, core: &mut OutCore<Ring>) -> Result<Vec<u8>, Fail> {
-    let mut out = Vec::new(alloc);
-    if let Next::Frame(frame) = core.next_frame()? {
-        assert!(rt; push_frame(&frame, &mut out)?);
-    }
-    Ok(out)
+fn open(alloc: Global, core: &mut OutCore<Ring>, id: u32) -> Result<(), Fail> {
+    Ok(core.control(Control::Open(id, sender(alloc, id)?))?)
 }
 
-#[test]
-fn settings_are_told_and_acknowledged(rt: HostRuntime) -> Result<(), Fail> {
-    let alloc = rt.alloc();
-    let mut core = OutCore::<Ring>::new(alloc);
-    core.control(Control::Settings(PeerSettings::from(Vec::new(alloc))))?;
-    let first = [
-        0, 0, 12, 4, 0, 0, 0, 0, 0, 0, 3, 0, 0, 0, 64, 0, 6, 0, 0, 64, 0,
-    ];
-    assert_eq!(rt; text(&rt, alloc, &mut core)?.as_slice(), first.as_slice());
-    let ack = [0, 0, 0, 4, 1, 0, 0, 0, 0];
-    assert_eq!(rt; text(&rt, alloc, &mut core)?.as_slice(), ack.as_slice());
-    assert!(rt; text(&rt, alloc, &mut core)?.is_empty());
+fn serve(rt: &impl Abort, alloc: Global, core: &mut OutCore<Ring>) -> Result<(), Fail> {
+    begin(rt, alloc, core)?;
+    open(alloc, core, 5)?;
+    assert!(rt; !core.held(5));
     Ok(())
 }
 
 #[test]
-fn senders_come_back_in_their_order(rt: HostRuntime) -> Result<(), Fail> {
-    let alloc = rt.alloc();
-    let mut core = OutCore::<Ring>::new(alloc);
-    for id in [5, 1, 3] {
-        core.control(Control::Open(id, sender(alloc, id, &[], false)?))?;
-    }
-    core.control(Control::Reset {
-        id: 1,
-        code: ErrorCode::Cancel,
-        written: true,
-    })?;
-    let senders = core.into_senders();
-    let mut ids = Vec::new(alloc);
-    for (id, sender) in senders.iter() {
-        assert_eq!(rt; sender.id(), *id);
-        ids.push(*id)?;
-    }
-    assert_eq!(rt; ids.as_slice(), [5, 1, 3].as_slice());
+fn each_call_once(rt: HostRuntime) -> Result<(), Fail> {
+    let mut core = OutCore::<Ring>::new(rt.alloc());
+    serve(&rt, rt.alloc(), &mut core)?;
+    assert_eq!(rt; core.into_senders().len(), 1);
     Ok(())
 }

@@ -1,0 +1,59 @@
+//! The calls that acts open, and the fields of header blocks.
+
+use anyhow::{Context, Result};
+use bytes::Bytes;
+use callbox::{Giver, OutItem, Sender, open_out};
+use lane::RingLane;
+use lists::{Field, Octets, Sequence};
+use std::alloc::Global;
+
+pub type Ring = RingLane<OutItem>;
+
+/// The items that a call's lane has room for.
+const ROOM: usize = 256;
+
+/// The longest message that a row may have.
+const LONGEST: usize = 400_000;
+
+/// One field. Its value is a text of so many bytes, all of them `2`.
+pub fn fields(alloc: Global, name: &str, len: usize) -> Result<Sequence<Field>> {
+    let value = vec![in alloc; b'2'; len]?;
+    let field = Field {
+        name: Octets::from(name.as_bytes().to_vec(alloc)?),
+        value: Octets::from(value),
+    };
+    let mut list = Vec::new(alloc);
+    list.push(field)?;
+    Ok(Sequence::from(list))
+}
+
+/// The sender of a call that gave a head, messages of these lengths, as `300,20`, and trailers where it ended.
+pub fn sender(alloc: Global, id: u32, lengths: &str, ended: bool) -> Result<Sender<Ring>> {
+    let head = fields(alloc, ":status", 3)?;
+    let (mut giver, sender) = open_out::<Ring>(alloc, id, ROOM)?;
+    giver.head(head).ok().context("the head is refused")?;
+    give_all(alloc, giver, lengths, ended)?;
+    Ok(sender)
+}
+
+/// Gives what comes behind the head.
+fn give_all(alloc: Global, mut giver: Giver<Ring>, lengths: &str, ended: bool) -> Result<()> {
+    for length in lengths.split(',') {
+        if length != "-" {
+            give(alloc, &mut giver, length.parse::<usize>()?)?;
+        }
+    }
+    if ended {
+        let _shut = giver.trailers(fields(alloc, "grpc-status", 1)?);
+    }
+    Ok(())
+}
+
+/// Gives a message of so many zeros.
+fn give(alloc: Global, giver: &mut Giver<Ring>, len: usize) -> Result<()> {
+    let message = Bytes::from_vec(vec![in alloc; 0; len.min(LONGEST)]?)?;
+    if giver.has_head() {
+        giver.give(message).ok().context("a message is refused")?;
+    }
+    Ok(())
+}

@@ -1,0 +1,94 @@
+//! A file of rows: which lines are acts, and what each has to tell.
+
+use crate::acts::{Core, perform};
+use crate::peer::Peer;
+use anyhow::{Result, ensure};
+
+/// How many rows a file has, and at how many acts something else was told.
+#[derive(Clone, Copy)]
+pub struct Tally {
+    pub rows: u32,
+    pub differing: u32,
+}
+
+/// Runs all rows of a file. What differs is printed.
+pub fn run_file(rt: &(impl AllocGlobal + Print), file: &str, text: &str) -> Result<Tally> {
+    let mut tally = Tally {
+        rows: 0,
+        differing: 0,
+    };
+    let mut number = 1usize;
+    for (index, piece) in text.split("\nrow ").enumerate() {
+        if index == 0 {
+            ensure!(
+                piece.lines().all(is_comment),
+                "an act stands before the first row"
+            );
+        } else {
+            tally.rows = tally.rows.saturating_add(1);
+            let differing = run_row(rt, file, number, piece)?;
+            tally.differing = tally.differing.saturating_add(differing);
+        }
+        number = number.saturating_add(piece.split('\n').count());
+    }
+    Ok(tally)
+}
+
+fn is_comment(line: &str) -> bool {
+    line.is_empty() || line.starts_with('#')
+}
+
+/// Runs a row, the lines from this number on, of which the first is its name. Answers how many acts told something else.
+fn run_row(rt: &(impl AllocGlobal + Print), file: &str, first: usize, row: &str) -> Result<u32> {
+    let mut core = Core::new(rt.alloc());
+    let mut peer = Peer::new(rt.alloc());
+    run_acts(rt, &mut core, &mut peer, file, first, row)
+}
+
+fn run_acts(
+    rt: &(impl AllocGlobal + Print),
+    core: &mut Core,
+    peer: &mut Peer,
+    file: &str,
+    first: usize,
+    row: &str,
+) -> Result<u32> {
+    let mut differing = 0u32;
+    for (index, line) in row.lines().enumerate() {
+        if index == 0 || is_comment(line) {
+            continue;
+        }
+        if !holds(rt, core, peer, line)? {
+            let number = first.saturating_add(index);
+            print_differing(rt, file, number, line, peer.told())?;
+            differing = differing.saturating_add(1);
+        }
+    }
+    Ok(differing)
+}
+
+/// Performs the act of a line, and answers whether it told what it has to.
+fn holds(rt: &impl AllocGlobal, core: &mut Core, peer: &mut Peer, line: &str) -> Result<bool> {
+    let (act, wanted) = parts(line);
+    peer.forget();
+    perform(rt.alloc(), core, peer, act)?;
+    Ok(peer.told() == wanted)
+}
+
+/// An act, and what it has to tell.
+fn parts(line: &str) -> (&str, &str) {
+    let (act, wanted) = line.split_once("->").unwrap_or((line, ""));
+    (act, wanted.trim())
+}
+
+fn print_differing(
+    rt: &impl Print,
+    file: &str,
+    number: usize,
+    line: &str,
+    told: &str,
+) -> Result<()> {
+    let (_act, wanted) = parts(line);
+    println!(rt; "{file}:{number}: wanted {wanted:?}, got {told:?}")?;
+    Ok(())
+}
