@@ -6,8 +6,10 @@
 //! there is only one answer; [`Reply::bytes`] is the canonical spelling of the response message; [`Methods::find`]
 //! answers the least index with a path.
 //!
-//! Read [`status`], [`reply`], [`step`] and [`state`] first, the types; then [`method`], the law, and [`uses::whole_call`], a whole
-//! call by it; then the methods.
+//! Read [`status`], [`reply`], [`step`] and [`state`] first, the types; then [`method`], the law, and
+//! [`uses::whole_call`], a whole call by it. Then the methods: [`empty_call`] and [`unary_call`],
+//! [`streaming_output_call`], [`streaming_input_call`], [`full_duplex_call`] and [`half_duplex_call`]; `judge` is how a
+//! request is read and judged, `ending_steps` how a call ends. [`methods`] finds a method by its path.
 #![tactic(auto)]
 
 pub mod empty_call;
@@ -25,6 +27,7 @@ pub mod step;
 pub mod streaming_input_call;
 pub mod streaming_output_call;
 pub mod unary_call;
+pub mod uses;
 
 pub use empty_call::EmptyCall;
 pub use fault::MethodFault;
@@ -33,16 +36,13 @@ pub use half_duplex_call::HalfDuplexCall;
 pub use method::Method;
 pub use methods::Methods;
 pub use reply::{Replies, Reply};
-pub use uses::whole_call::run;
 pub use state::{MessageList, MethodState};
 pub use status::{Refusal, Status};
 pub use step::Step;
 pub use streaming_input_call::StreamingInputCall;
 pub use streaming_output_call::StreamingOutputCall;
 pub use unary_call::{CacheableUnaryCall, UnaryCall};
+pub use uses::whole_call::run;
 
 #[cfg(test)]
-mod sum_tests;
-#[cfg(test)]
 mod tests;
-pub mod uses;

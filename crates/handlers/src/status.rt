@@ -32,6 +32,8 @@ pub enum Refusal {
 }
 
 /// Statuses as gRPC numbers them.
+const OK: u32 = 0;
+
 const INVALID_ARGUMENT: u32 = 3;
 
 const OUT_OF_RANGE: u32 = 11;
@@ -65,7 +67,7 @@ impl Status {
         ensures { result ≡ ok_status }
     {
         Status {
-            code: 0,
+            code: OK,
             text: Text::new(alloc),
         }
     }

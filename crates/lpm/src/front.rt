@@ -10,6 +10,12 @@ use crate::{LpmFault, MAX_MESSAGE_LEN};
 /// The bytes before a message: its flag, and four of its length.
 pub(crate) const PREFIX_LEN: usize = 5;
 
+/// The flag of a message that isn't compressed.
+pub(crate) const UNCOMPRESSED: u8 = 0;
+
+/// The flag of one that is.
+const COMPRESSED: u8 = 1;
+
 /// Whether these bytes are one message with its prefix, and nothing else. It takes constant time.
 pub fn is_frame(bytes: &[u8]) -> bool
     ensures frame { IsTrue result ↔ IsFrame bytes.now }
@@ -32,8 +38,8 @@ pub(crate) fn frame_len(front: &[u8]) -> Result<usize, LpmFault>
         return Ok(PREFIX_LEN);
     }
     match front[0] {
-        0 => {}
-        1 => return Err(LpmFault::Compressed),
+        UNCOMPRESSED => {}
+        COMPRESSED => return Err(LpmFault::Compressed),
         _ => return Err(LpmFault::BadFlag),
     }
     if front.len() < PREFIX_LEN {

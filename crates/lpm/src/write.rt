@@ -4,6 +4,7 @@ ghost use Rattle.std.specs.Prelude.{◌≡◌, ◌++◌, length, IfErr, OnErr, O
 ghost use Rattle.lpm.specs.Messages.{frame, IsMessage};
 ghost use Rattle.lpm.specs.Writes.{RefusesLength};
 
+use crate::front::{PREFIX_LEN, UNCOMPRESSED};
 use crate::{LpmFault, MAX_MESSAGE_LEN};
 
 /// Appends the message with its prefix: the flag 0, four bytes of length, the message.
@@ -19,8 +20,8 @@ pub fn write_message(message: &[u8], out: &mut Vec<u8>) -> Result<(), LpmFault>
         return Err(LpmFault::TooLong);
     }
     let [first, second, third, fourth] = (message.len() as u32).to_be_bytes();
-    out.reserve(5 + message.len())?;
-    out.extend_from_slice(&[0, first, second, third, fourth])?;
+    out.reserve(PREFIX_LEN + message.len())?;
+    out.extend_from_slice(&[UNCOMPRESSED, first, second, third, fourth])?;
     out.extend_from_slice(message)?;
     Ok(())
 }

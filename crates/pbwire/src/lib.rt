@@ -21,11 +21,11 @@ mod tag;
 mod varint;
 mod writing;
 
+pub use all_fields::{AllFields, read_fields};
 pub use fault::WireFault;
 pub use field::{FieldItem, FieldValue};
 pub use reading::Fields;
 pub use varint::read_varint;
-pub use all_fields::{AllFields, read_fields};
 pub use writing::{varint_len, write_field, write_varint};
 
 #[cfg(test)]

@@ -7,6 +7,23 @@ ghost use Rattle.pbwire.specs.Reading.{Gives, type_number, kind_of, type_at, tag
 use crate::fault::WireFault;
 use crate::field::FieldValue;
 
+// The numbers of the wire types (encoding guide, "Message Structure").
+
+const VARINT: u32 = 0;
+
+const EIGHT_BYTES: u32 = 1;
+
+const BYTES: u32 = 2;
+
+const START_GROUP: u32 = 3;
+
+const END_GROUP: u32 = 4;
+
+const FOUR_BYTES: u32 = 5;
+
+/// How many wire types a tag can have: it is a field's number times this, and the number of the wire type.
+const WIRE_TYPES: u32 = 8;
+
 /// How the content of a field is spelled.
 #[derive(Clone, Copy, Debug, PartialEq, Eq)]
 pub(crate) enum WireType {
@@ -18,14 +35,14 @@ pub(crate) enum WireType {
 
 impl WireType {
     /// The number of the wire type, as the low three bits of a tag hold it.
-    fn number(self) -> u64
+    fn number(self) -> u32
         ensures { result ≡ type_number self }
     {
         match self {
-            WireType::Varint => 0,
-            WireType::EightBytes => 1,
-            WireType::Bytes => 2,
-            WireType::FourBytes => 5,
+            WireType::Varint => VARINT,
+            WireType::EightBytes => EIGHT_BYTES,
+            WireType::Bytes => BYTES,
+            WireType::FourBytes => FOUR_BYTES,
         }
     }
 
@@ -34,11 +51,11 @@ impl WireType {
         ensures { Gives (λ kind. kind) result (type_at number) }
     {
         match number {
-            0 => Ok(WireType::Varint),
-            1 => Ok(WireType::EightBytes),
-            2 => Ok(WireType::Bytes),
-            3 | 4 => Err(WireFault::Group),
-            5 => Ok(WireType::FourBytes),
+            VARINT => Ok(WireType::Varint),
+            EIGHT_BYTES => Ok(WireType::EightBytes),
+            BYTES => Ok(WireType::Bytes),
+            START_GROUP | END_GROUP => Err(WireFault::Group),
+            FOUR_BYTES => Ok(WireType::FourBytes),
             _ => Err(WireFault::BadTag),
         }
     }
@@ -53,11 +70,11 @@ pub(crate) fn read_tag(tag: u64) -> Result<(u32, WireType), WireFault>
         return Err(WireFault::BadTag);
     }
     let tag = tag as u32;
-    let number = tag / 8;
+    let number = tag / WIRE_TYPES;
     if number == 0 {
         return Err(WireFault::BadTag);
     }
-    Ok((number, WireType::read(tag % 8)?))
+    Ok((number, WireType::read(tag % WIRE_TYPES)?))
 }
 
 fn wire_type(value: &FieldValue<'_>) -> WireType
@@ -75,5 +92,5 @@ fn wire_type(value: &FieldValue<'_>) -> WireType
 pub(crate) fn tag(number: u32, value: &FieldValue<'_>) -> u64
     ensures { result ≡ tag_of (field_with number (content_of value.now)) }
 {
-    u64::from(number) * 8 + wire_type(value).number()
+    u64::from(number) * u64::from(WIRE_TYPES) + u64::from(wire_type(value).number())
 }

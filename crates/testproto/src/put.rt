@@ -12,18 +12,24 @@ use crate::fault::ProtoFault;
 use crate::message::Message;
 use pbwire::{FieldValue, varint_len, write_field, write_varint};
 
+/// A tag is a field's number times this, and the number of the wire type, which is 0 for a varint.
+const WIRE_TYPES: u64 = 8;
+
+/// The wire type of what is length-delimited.
+const DELIMITED: u64 = 2;
+
 /// Adds the length of a field with a varint.
 fn add_varint(total: usize, number: u32, n: u64) -> Option<usize>
     ensures { IfSome result (λ size. size ≡ total + length (spelling_of (field_with number (varint n)))) }
 {
-    total.checked_add(varint_len(u64::from(number) * 8) + varint_len(n))
+    total.checked_add(varint_len(u64::from(number) * WIRE_TYPES) + varint_len(n))
 }
 
 /// Adds the length of a length-delimited field.
 fn add_delimited(total: usize, number: u32, len: usize) -> Option<usize>
     ensures { IfSome result (λ size. size ≡ total + delimited_len number len) }
 {
-    let head = varint_len(u64::from(number) * 8 + 2) + varint_len(len as u64);
+    let head = varint_len(u64::from(number) * WIRE_TYPES + DELIMITED) + varint_len(len as u64);
     total.checked_add(head)?.checked_add(len)
 }
 
@@ -145,7 +151,7 @@ pub(crate) fn put_one<M: Message>(
     let Some(size) = message.size() else {
         return Err(ProtoFault::OutOfMemory);
     };
-    put_varint(u64::from(number) * 8 + 2, out)?;
+    put_varint(u64::from(number) * WIRE_TYPES + DELIMITED, out)?;
     put_varint(size as u64, out)?;
     message.put(out)
 }

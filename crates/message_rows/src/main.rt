@@ -1,0 +1,90 @@
+//! Worked rows for `lpm`, `pbwire`, `testproto` and `handlers`: bytes and the messages, fields and values that they are,
+//! and the calls of the seven methods with what each is answered.
+//!
+//! The rows lie in `data/`, a line each: what is given, an arrow, and what is wanted. The head of each file says what
+//! its words mean and where its values come from. The program tries all of them, prints each row whose answer is
+//! another, and counts the rows of each file; it fails where one differs.
+//!
+//! To be read in this order: `rows` for what a row is, and `words` for how bytes are written in one; then a module for
+//! each crate, `bodies` (`lpm`), `fields` (`pbwire`), `messages` with `text_form` (`testproto`) and `calls`
+//! (`handlers`); `faults` has the numbers and texts of all their faults.
+#![tactic(auto)]
+
+use anyhow::{Result, ensure};
+use handlers::{
+    CacheableUnaryCall, EmptyCall, FullDuplexCall, HalfDuplexCall, Method, Methods,
+    StreamingInputCall, StreamingOutputCall, UnaryCall,
+};
+use std::rt::Files;
+
+mod bodies;
+mod calls;
+mod faults;
+mod fields;
+mod messages;
+mod rows;
+mod text_form;
+mod words;
+
+/// Length-prefixed messages.
+fn try_bodies(rt: &(impl Files + Print + AllocGlobal)) -> Result<u32> {
+    let bodies = rows::try_file(rt, "bodies.rows", bodies::Bodies)?;
+    let pieces = rows::try_file(rt, "pieces.rows", bodies::Pieces)?;
+    let frames = rows::try_file(rt, "frames.rows", bodies::Frames)?;
+    Ok(bodies.saturating_add(pieces).saturating_add(frames))
+}
+
+/// Varints and fields.
+fn try_fields(rt: &(impl Files + Print + AllocGlobal)) -> Result<u32> {
+    let varints = rows::try_file(rt, "varints.rows", fields::ShortVarints)?;
+    let others = rows::try_file(rt, "varints-read.rows", fields::Varints)?;
+    let fields = rows::try_file(rt, "fields.rows", fields::ShortFields)?;
+    let read = rows::try_file(rt, "fields-read.rows", fields::FieldLists)?;
+    Ok(
+        varints
+            .saturating_add(others)
+            .saturating_add(fields)
+            .saturating_add(read),
+    )
+}
+
+/// The test messages.
+fn try_messages(rt: &(impl Files + Print + AllocGlobal)) -> Result<u32> {
+    let messages = rows::try_file(rt, "messages.rows", messages::Canonical)?;
+    let read = rows::try_file(rt, "messages-read.rows", messages::Read)?;
+    let faults = rows::try_file(rt, "message-faults.rows", messages::Faulty)?;
+    Ok(messages.saturating_add(read).saturating_add(faults))
+}
+
+/// The seven methods.
+fn try_calls(rt: &(impl Files + Print + AllocGlobal)) -> Result<u32> {
+    let alloc = rt.alloc();
+    let mut methods: Vec<Box<dyn Method>> = Vec::new(alloc);
+    methods.push(Box::new(alloc, EmptyCall)?)?;
+    methods.push(Box::new(alloc, UnaryCall)?)?;
+    methods.push(Box::new(alloc, CacheableUnaryCall)?)?;
+    methods.push(Box::new(alloc, StreamingOutputCall)?)?;
+    methods.push(Box::new(alloc, StreamingInputCall)?)?;
+    methods.push(Box::new(alloc, FullDuplexCall)?)?;
+    methods.push(Box::new(alloc, HalfDuplexCall)?)?;
+    let methods = Methods::new(methods);
+    let methods = &methods;
+    let calls = rows::try_file(rt, "calls.rows", calls::Calls { methods })?;
+    let paths = rows::try_file(rt, "paths.rows", calls::Paths { methods })?;
+    Ok(calls.saturating_add(paths))
+}
+
+fn main(rt: HostRuntime) -> Result<()> {
+    let of_bodies = try_bodies(&rt)?;
+    let of_fields = try_fields(&rt)?;
+    let of_messages = try_messages(&rt)?;
+    let of_calls = try_calls(&rt)?;
+    let of_faults = rows::try_file(&rt, "faults.rows", faults::Faults)?;
+    let differing = of_bodies
+        .saturating_add(of_fields)
+        .saturating_add(of_messages)
+        .saturating_add(of_calls)
+        .saturating_add(of_faults);
+    ensure!(differing == 0, "{differing} rows differ");
+    Ok(())
+}
