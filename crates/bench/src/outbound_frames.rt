@@ -1,9 +1,10 @@
 //! Writing the frames of calls: one stream of long replies, and 64 streams of small ones, over windows that don't bind.
 
 use crate::sizes::number;
+use account::OutItem;
 use anyhow::{Context, Result};
 use bytes::Bytes;
-use callbox::{Giver, OutItem, Sender, open_out};
+use callbox::{Giver, Sender, open_out};
 use flow::{INITIAL_WINDOW, MAX_WINDOW};
 use h2frame::{Frame, FrameKind, write_frame};
 use lane::RingLane;

@@ -1,7 +1,7 @@
 //! An account as rows have it: its parts in order, which semicolons part. What is empty or isn't there has no part.
 
+use account::{Account, OutItem};
 use anyhow::Result;
-use callbox::{Account, OutItem};
 use lists::{Field, Sequence};
 use std::alloc::Global;
 

@@ -1,8 +1,8 @@
 //! The events of a row.
 
+use account::{CallEvent, OutItem, Shut};
 use anyhow::{Context, Result, bail};
 use bytes::Bytes;
-use callbox::{CallEvent, OutItem, Shut};
 use lists::{Field, Octets, Sequence};
 use std::alloc::Global;
 

@@ -3,11 +3,10 @@
 ghost use Rattle.std.specs.Prelude.{◌≡◌, IfOk, OnOk};
 ghost use Rattle.lane.specs.End.{of_end};
 
+use account::{CallEvent, Shut, Told};
 use anyhow::{Result, bail, ensure};
 use bytes::Bytes;
-use callbox::{
-    CallEvent, FedShut, Feeder, InAccount, InPiece, Shut, Taken, Taker, Told, open_in, settle_in,
-};
+use callbox::{FedShut, Feeder, InAccount, InPiece, Taken, Taker, open_in, settle_in};
 use lane::{End, Lane};
 use lpm::LpmFault;
 use std::alloc::Global;

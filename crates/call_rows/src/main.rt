@@ -1,15 +1,16 @@
 //! Runs the worked calls of `data/calls.rows`, each in three ways, and prints what differs from the account that is wanted.
 //!
 //! A row is a line `EVENTS => ACCOUNT`, whose words `data/calls.rows` explains. Each is run through the serial core
-//! (`callbox::replay`), and through the four ends of a call, over rings and over rows of cells.
+//! (`account::replay`), and through the four ends of a call, over rings and over rows of cells.
 //!
 //! Read `events` first, which reads the events of a row, and `account_text`, which writes an account as rows have it; then
 //! `in_ends` and `out_ends`, which run the two sides of a call by its ends.
 #![tactic(auto)]
 
+use account::{Account, CallEvent, OutItem, replay};
 use account_text::text_of;
 use anyhow::{Context, Result, ensure};
-use callbox::{Account, CallEvent, InPiece, OutItem, replay};
+use callbox::InPiece;
 use events::events_of;
 use in_ends::run_in;
 use lane::{Lane, RingLane, RowLane};

@@ -3,9 +3,10 @@
 ghost use Rattle.std.specs.Prelude.{◌≡◌, IfOk, OnOk};
 ghost use Rattle.lane.specs.End.{of_end};
 
+use account::{CallEvent, OutItem};
 use anyhow::{Context, Result, ensure};
 use bytes::Bytes;
-use callbox::{CallEvent, GivenShut, Giver, OutItem, Sender, open_out, settle_out};
+use callbox::{GivenShut, Giver, Sender, open_out, settle_out};
 use lane::{End, Lane};
 use lpm::{MAX_MESSAGE_LEN, is_frame};
 use std::alloc::Global;

@@ -13,18 +13,18 @@ use Rattle.lpm.proofs.Readings.{frames-cons}
 use Rattle.std.proofs.lemmas.Grind.{flat_map-append, fold-append}
 use Rattle.callbox.specs.declared.taker.Progress.{Progress}
 use Rattle.callbox.specs.InAccounts.{CountsIn}
-use Rattle.callbox.specs.declared.account.Account.{Account}
-use Rattle.callbox.specs.declared.account.CallEvent.TheVariants as event
-use Rattle.callbox.specs.declared.account.Shut.{Shut}
-use Rattle.callbox.specs.declared.account.Shut.TheVariants as shut
-use Rattle.callbox.specs.declared.account.Told.{Told}
-use Rattle.callbox.specs.declared.account.Told.TheVariants as told
+use Rattle.account.specs.declared.call.Account.{Account}
+use Rattle.account.specs.declared.call.CallEvent.TheVariants as event
+use Rattle.account.specs.declared.call.Shut.{Shut}
+use Rattle.account.specs.declared.call.Shut.TheVariants as shut
+use Rattle.account.specs.declared.call.Told.{Told}
+use Rattle.account.specs.declared.call.Told.TheVariants as told
 use Rattle.callbox.specs.declared.piece.InPiece.{InPiece}
 use Rattle.callbox.specs.declared.piece.InPiece.TheVariants as piece
-use Rattle.callbox.specs.Accounts.{MayTell}
-use Rattle.callbox.specs.Runs.{after, run, opened, telling}
+use Rattle.account.specs.Accounts.{MayTell}
+use Rattle.account.specs.Runs.{after, run, opened, telling}
 use Rattle.callbox.specs.InSides.{pieces_of, bytes_of, shut_of, ends_at_shut, fits_shut, once, in_account, in_events, Took}
-use Rattle.callbox.proofs.SerialLemmas.{MayTell-longer, MayTell-shut, after-feed, after-shut, after-take_message, after-take_more, after-take_fault}
+use Rattle.account.proofs.SerialLemmas.{MayTell-longer, MayTell-shut, after-feed, after-shut, after-take_message, after-take_more, after-take_fault}
 
 -- ---- one item more
 

@@ -1,4 +1,3 @@
-pub mod SerialLemmas
 pub mod InLemmas
 pub mod TakerLemmas
 pub mod OutLemmas

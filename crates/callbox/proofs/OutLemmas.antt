@@ -11,19 +11,19 @@ use Rattle.lane.proofs.Prefixes.{IsPrefix-take}
 use Rattle.lpm.specs.Messages.{frame, IsMessage, IsFrame}
 use Rattle.lpm.specs.Reading.{messages_of}
 use Rattle.lpm.proofs.OneMessage.{is_frame-IsFrame}
-use Rattle.callbox.specs.declared.account.Account.{Account}
-use Rattle.callbox.specs.declared.account.CallEvent.TheVariants as event
-use Rattle.callbox.specs.declared.account.OutItem.{OutItem}
-use Rattle.callbox.specs.declared.account.OutItem.TheVariants.{Head, Message, Trailers}
-use Rattle.callbox.specs.declared.account.Shut.{Shut}
+use Rattle.account.specs.declared.call.Account.{Account}
+use Rattle.account.specs.declared.call.CallEvent.TheVariants as event
+use Rattle.account.specs.declared.call.OutItem.{OutItem}
+use Rattle.account.specs.declared.call.OutItem.TheVariants.{Head, Message, Trailers}
+use Rattle.account.specs.declared.call.Shut.{Shut}
 use Rattle.callbox.specs.declared.piece.InPiece.{InPiece}
 use Rattle.callbox.specs.declared.piece.InPiece.TheVariants as piece
 use Rattle.callbox.specs.InSides.{pieces_of}
-use Rattle.callbox.specs.Accounts.{IsBody, IsResponse}
+use Rattle.account.specs.Accounts.{IsBody, IsResponse}
 use Rattle.callbox.specs.OutAccounts.{CountsOut}
 use Rattle.callbox.specs.OutSides.{answer_items, has_head, has_trailers, message_items, out_account, out_events}
-use Rattle.callbox.specs.Runs.{after, run, opened, may_follow, last_of}
-use Rattle.callbox.proofs.SerialLemmas.{last, last_of-last, slice_get-behind, after-give, after-send}
+use Rattle.account.specs.Runs.{after, run, opened, may_follow, last_of}
+use Rattle.account.proofs.SerialLemmas.{last, last_of-last, slice_get-behind, after-give, after-send}
 
 -- ---- one item more
 

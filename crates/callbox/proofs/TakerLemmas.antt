@@ -6,17 +6,17 @@ use Rattle.lpm.specs.declared.fault.LpmFault.{LpmFault}
 use Rattle.lpm.specs.declared.fault.LpmFault.TheVariants.{Compressed, BadFlag, TooLong, CutAtEnd, OutOfMemory}
 use Rattle.lpm.specs.Messages.{frame, frames, IsMessage, IsUnfinished, IsFaulty}
 use Rattle.lpm.proofs.Readings.{frames-push, IsFaulty-longer}
-use Rattle.callbox.specs.declared.account.Shut.{Shut}
-use Rattle.callbox.specs.declared.account.Told.{Told}
-use Rattle.callbox.specs.declared.account.Told.TheVariants as told
+use Rattle.account.specs.declared.call.Shut.{Shut}
+use Rattle.account.specs.declared.call.Told.{Told}
+use Rattle.account.specs.declared.call.Told.TheVariants as told
 use Rattle.callbox.specs.declared.piece.InPiece.{InPiece}
 use Rattle.callbox.specs.declared.piece.InPiece.TheVariants as piece
 use Rattle.callbox.specs.declared.taker.Progress.{Progress}
 use Rattle.lane.specs.Lawful.{last_of}
-use Rattle.callbox.specs.Accounts.{MayTell}
-use Rattle.callbox.specs.Runs as runs
+use Rattle.account.specs.Accounts.{MayTell}
+use Rattle.account.specs.Runs as runs
 use Rattle.callbox.specs.InSides.{bytes_of, shut_of, Took, IsMissing, TellsFault, length_of}
-use Rattle.callbox.proofs.SerialLemmas.{MayTell-fault, MayTell-more}
+use Rattle.account.proofs.SerialLemmas.{MayTell-fault, MayTell-more}
 use Rattle.callbox.proofs.InLemmas.{bytes_of-bytes, bytes_of-shut, shut_of-push}
 
 -- nothing told is always lawful

@@ -2,11 +2,11 @@
 use Rattle.std.specs.Prelude.{◌≡◌, ℕ, List, Option}
 use Rattle.std.specs.List.{concat}
 use Rattle.lane.specs.Lawful.{count_of}
-use Rattle.callbox.specs.declared.account.Shut.{Shut}
-use Rattle.callbox.specs.declared.account.Told.{Told}
+use Rattle.account.specs.declared.call.Shut.{Shut}
+use Rattle.account.specs.declared.call.Told.{Told}
 use Rattle.callbox.specs.declared.in_side.InAccount.{InAccount}
-use Rattle.callbox.specs.Accounts.{IsLawful}
-use Rattle.callbox.specs.Runs.{run}
+use Rattle.account.specs.Accounts.{IsLawful}
+use Rattle.account.specs.Runs.{run}
 use Rattle.callbox.specs.InSides.{in_account, in_events}
 
 pub record CountsIn (pieces : List (List ℕ)) (closed : Option Shut) (messages : List (List ℕ)) (said : Option Told) (r : InAccount) : Type 0 where

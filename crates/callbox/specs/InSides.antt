@@ -5,12 +5,12 @@ use Rattle.lane.specs.Lawful.{count_of, last_of}
 use Rattle.lpm.specs.declared.fault.LpmFault.{LpmFault}
 use Rattle.lpm.specs.declared.fault.LpmFault.TheVariants.{Compressed, BadFlag, TooLong, CutAtEnd, OutOfMemory}
 use Rattle.lpm.specs.Messages.{frames, IsMessage}
-use Rattle.callbox.specs.declared.account.Account.{Account}
-use Rattle.callbox.specs.declared.account.CallEvent.{CallEvent}
-use Rattle.callbox.specs.declared.account.CallEvent.TheVariants as event
-use Rattle.callbox.specs.declared.account.Shut.{Shut}
-use Rattle.callbox.specs.declared.account.Told.{Told}
-use Rattle.callbox.specs.declared.account.Told.TheVariants as told
+use Rattle.account.specs.declared.call.Account.{Account}
+use Rattle.account.specs.declared.call.CallEvent.{CallEvent}
+use Rattle.account.specs.declared.call.CallEvent.TheVariants as event
+use Rattle.account.specs.declared.call.Shut.{Shut}
+use Rattle.account.specs.declared.call.Told.{Told}
+use Rattle.account.specs.declared.call.Told.TheVariants as told
 use Rattle.callbox.specs.declared.piece.InPiece.{InPiece}
 use Rattle.callbox.specs.declared.piece.InPiece.TheVariants as piece
 use Rattle.callbox.specs.declared.taker.Polled.{Polled}
@@ -18,7 +18,7 @@ use Rattle.callbox.specs.declared.taker.Polled.TheVariants as polled
 use Rattle.callbox.specs.declared.taker.Taken.{Taken}
 use Rattle.callbox.specs.declared.taker.Taken.TheVariants as taken
 use Rattle.callbox.specs.declared.taker.Progress.{Progress}
-use Rattle.callbox.specs.Accounts.{MayTell}
+use Rattle.account.specs.Accounts.{MayTell}
 
 -- the pieces of bytes, in order
 abbrev pub pieces_of : List InPiece → List (List ℕ)

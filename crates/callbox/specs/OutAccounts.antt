@@ -1,10 +1,10 @@
 -- What the two ends of the out side say of a call when they are brought together.
 use Rattle.std.specs.Prelude.{◌≡◌, List}
 use Rattle.lane.specs.Lawful.{count_of}
-use Rattle.callbox.specs.declared.account.OutItem.{OutItem}
+use Rattle.account.specs.declared.call.OutItem.{OutItem}
 use Rattle.callbox.specs.declared.out_side.OutAccount.{OutAccount}
-use Rattle.callbox.specs.Accounts.{IsLawful}
-use Rattle.callbox.specs.Runs.{run}
+use Rattle.account.specs.Accounts.{IsLawful}
+use Rattle.account.specs.Runs.{run}
 use Rattle.callbox.specs.OutSides.{has_trailers, out_account, out_events}
 
 pub record CountsOut (put got : List OutItem) (r : OutAccount) : Type 0 where

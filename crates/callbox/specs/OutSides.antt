@@ -9,12 +9,12 @@ use Rattle.lane.specs.declared.fault.PutFault.TheVariants.{Full, OutOfMemory, No
 use Rattle.lpm.specs.Messages.{frame, IsMessage, IsFrame}
 use Rattle.lpm.specs.Reading.{front_of}
 use Rattle.lpm.proofs.Fronts.{front_of-frame}
-use Rattle.callbox.specs.declared.account.Account.{Account}
-use Rattle.callbox.specs.declared.account.CallEvent.{CallEvent}
-use Rattle.callbox.specs.declared.account.CallEvent.TheVariants as event
-use Rattle.callbox.specs.declared.account.OutItem.{OutItem}
-use Rattle.callbox.specs.declared.account.OutItem.TheVariants.{Head, Message, Trailers}
-use Rattle.callbox.specs.Accounts.{IsBody, IsResponse}
+use Rattle.account.specs.declared.call.Account.{Account}
+use Rattle.account.specs.declared.call.CallEvent.{CallEvent}
+use Rattle.account.specs.declared.call.CallEvent.TheVariants as event
+use Rattle.account.specs.declared.call.OutItem.{OutItem}
+use Rattle.account.specs.declared.call.OutItem.TheVariants.{Head, Message, Trailers}
+use Rattle.account.specs.Accounts.{IsBody, IsResponse}
 
 -- whether a head stands first
 abbrev pub has_head : List OutItem → Bool

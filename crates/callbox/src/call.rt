@@ -4,7 +4,8 @@ ghost use Rattle.std.specs.Prelude.{◌≡◌, [], IfOk};
 ghost use Rattle.callbox.specs.InSides.{Took};
 
 use crate::out_side::open_out;
-use crate::{Feeder, Giver, InPiece, OutItem, Sender, Taker, open_in};
+use crate::{Feeder, Giver, InPiece, Sender, Taker, open_in};
+use account::OutItem;
 use lane::Lane;
 use std::alloc::{AllocError, Global};
 

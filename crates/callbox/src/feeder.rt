@@ -5,9 +5,10 @@ ghost use Rattle.lane.specs.Lawful.{count_of};
 ghost use Rattle.lane.specs.PutFault.{item_of, MayRefuse};
 ghost use Rattle.callbox.specs.InSides.{bytes_of, ends_at_shut, shut_of, fits_shut};
 ghost use Rattle.callbox.specs.declared.piece.InPiece.TheVariants as in_piece;
-ghost use Rattle.callbox.specs.declared.account.Shut.TheVariants as shut;
+ghost use Rattle.account.specs.declared.call.Shut.TheVariants as shut;
 
-use crate::{InPiece, Shut};
+use crate::InPiece;
+use account::Shut;
 use bytes::Bytes;
 use lane::{Lane, PutFault};
 

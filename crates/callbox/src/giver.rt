@@ -3,11 +3,11 @@
 ghost use Rattle.std.specs.Prelude.{◌≡◌, ◌≤◌, true, false, [], ◌∷◌, ◌++◌, length, IfErr, IfOk, OnErr, OnOk, MatchBool};
 ghost use Rattle.lane.specs.PutFault.{item_of, MayRefuse};
 ghost use Rattle.lpm.specs.Messages.{frame};
-ghost use Rattle.callbox.specs.Accounts.{IsResponse};
+ghost use Rattle.account.specs.Accounts.{IsResponse};
 ghost use Rattle.callbox.specs.OutSides.{has_head, has_trailers, is_head, IsResponse-prop, MayRefuseMessage};
-ghost use Rattle.callbox.specs.declared.account.OutItem.TheVariants as out_item;
+ghost use Rattle.account.specs.declared.call.OutItem.TheVariants as out_item;
 
-use crate::OutItem;
+use account::OutItem;
 use bytes::Bytes;
 use lane::{Lane, PutFault};
 use lists::{Field, Sequence};

@@ -5,7 +5,8 @@ ghost use Rattle.lane.specs.End.{of_end};
 ghost use Rattle.callbox.specs.InSides.{Took, pieces_of};
 ghost use Rattle.callbox.specs.InAccounts.{CountsIn};
 
-use crate::{FedShut, Feeder, InPiece, Shut, Taker, Told};
+use crate::{FedShut, Feeder, InPiece, Taker};
+use account::{Shut, Told};
 use lane::{End, Lane};
 use std::alloc::{AllocError, Global};
 

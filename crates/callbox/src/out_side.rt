@@ -4,7 +4,8 @@ ghost use Rattle.std.specs.Prelude.{◌≡◌, [], IfOk};
 ghost use Rattle.lane.specs.End.{of_end};
 ghost use Rattle.callbox.specs.OutAccounts.{CountsOut};
 
-use crate::{GivenShut, Giver, OutItem, Sender};
+use crate::{GivenShut, Giver, Sender};
+use account::OutItem;
 use lane::{End, Lane};
 use std::alloc::{AllocError, Global};
 

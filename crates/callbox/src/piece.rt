@@ -4,7 +4,7 @@ ghost use Rattle.std.specs.Prelude.{◌≡◌, true};
 ghost use Rattle.callbox.specs.InSides.{is_piece};
 ghost use Rattle.callbox.specs.declared.piece.InPiece.TheVariants as in_piece;
 
-use crate::Shut;
+use account::Shut;
 use bytes::Bytes;
 
 /// One item of the in side.

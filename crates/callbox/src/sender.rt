@@ -5,7 +5,7 @@ ghost use Rattle.std.specs.Borrow.{sem};
 ghost use denote.Follow.{follows_so};
 ghost use mathlib.Core.Option.{none};
 
-use crate::OutItem;
+use account::OutItem;
 use lane::Lane;
 
 /// Takes the items of a call's response, in the order in which they were given.

@@ -2,13 +2,14 @@
 
 ghost use Rattle.std.specs.Prelude.{◌≡◌, ℕ, ◌+◌, ◌-◌, min, true, false, None, Some, List, [], ◌∷◌, ◌++◌, length, All, IfNone, IfSome, MatchOption, is_some};
 ghost use Rattle.lpm.specs.Messages.{IsUnfinished};
-ghost use Rattle.callbox.specs.Runs.{telling as what_is_told};
+ghost use Rattle.account.specs.Runs.{telling as what_is_told};
 ghost use Rattle.lane.specs.Lawful.{last_of};
 ghost use Rattle.callbox.specs.InSides.{IsPolled, Took, Tells, bytes_of, grown, length_of, shut_of, telling};
 ghost use Rattle.callbox.specs.declared.piece.InPiece.{InPiece};
 ghost use Rattle.callbox.specs.declared.taker.Taken.TheVariants as taken;
 
-use crate::{InPiece, Shut, Told};
+use crate::InPiece;
+use account::{Shut, Told};
 use bytes::Bytes;
 use lane::Lane;
 use lpm::{LpmFault, Split, Splitter};

@@ -4,4 +4,3 @@
 mod four_threads;
 mod in_side;
 mod out_side;
-mod serial;

@@ -11,11 +11,11 @@ use Rattle.lpm.specs.Messages.{announced}
 use Rattle.lpm.specs.declared.TheConstants.{MAX_MESSAGE_LEN}
 use Rattle.lpm.specs.Reading.{Faulty, Front, Reading, Unfinished, Whole, ended, fault_of, front_of, front_of_length, front_of_message, messages_of, reading_behind, reading_of, reading_within, rest_of}
 use Rattle.lpm.specs.declared.fault.LpmFault.{LpmFault}
-use Rattle.callbox.specs.Runs.{after, run, telling}
-use Rattle.callbox.specs.declared.account.Account.{Account}
-use Rattle.callbox.specs.declared.account.CallEvent.{CallEvent}
-use Rattle.callbox.specs.declared.account.CallEvent.TheVariants as event
-use Rattle.callbox.specs.declared.account.Shut.TheVariants as shut
+use Rattle.account.specs.Runs.{after, run, telling}
+use Rattle.account.specs.declared.call.Account.{Account}
+use Rattle.account.specs.declared.call.CallEvent.{CallEvent}
+use Rattle.account.specs.declared.call.CallEvent.TheVariants as event
+use Rattle.account.specs.declared.call.Shut.TheVariants as shut
 use Rattle.interop.specs.Body.{fault_of_rest}
 use Rattle.interop.specs.Call.{ArePieces, IsWholeCall, account_of, ending_of, told_of}
 

@@ -3,12 +3,12 @@
 use Rattle.std.specs.Prelude.{◌≡◌, ◌≢◌, ℕ, ◌+◌, ◌/◌, List, [], ◌∷◌, ◌++◌, length, take, drop, map, replicate, Option, Some, None}
 use Rattle.lpm.specs.Reading.{messages_of}
 use Rattle.lpm.specs.declared.fault.LpmFault.{LpmFault}
-use Rattle.callbox.specs.declared.account.Account.{Account}
-use Rattle.callbox.specs.declared.account.CallEvent.{CallEvent}
-use Rattle.callbox.specs.declared.account.CallEvent.TheVariants as event
-use Rattle.callbox.specs.declared.account.Shut.TheVariants as shut
-use Rattle.callbox.specs.declared.account.Told.{Told}
-use Rattle.callbox.specs.declared.account.Told.TheVariants as told
+use Rattle.account.specs.declared.call.Account.{Account}
+use Rattle.account.specs.declared.call.CallEvent.{CallEvent}
+use Rattle.account.specs.declared.call.CallEvent.TheVariants as event
+use Rattle.account.specs.declared.call.Shut.TheVariants as shut
+use Rattle.account.specs.declared.call.Told.{Told}
+use Rattle.account.specs.declared.call.Told.TheVariants as told
 use Rattle.interop.specs.Body.{fault_at_end}
 
 -- the bytes in pieces of `cut`, the last of which may be shorter

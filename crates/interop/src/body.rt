@@ -7,7 +7,7 @@ use crate::call::{fault_told, whole_call};
 use crate::device::{ConnRead, ConnWrite, DeviceFault, ReadFault, read_all, write_all};
 use crate::report::report;
 use crate::text::{HexFault, bytes_of};
-use callbox::replay;
+use account::replay;
 use std::alloc::{AllocError, Global};
 
 /// Why a run gave up.

@@ -1,11 +1,11 @@
 //! A call that comes in pieces, ends, and is taken as far as there is something to take.
 ghost use Rattle.std.specs.Prelude.{◌≡◌, ◌++◌, ◌<◌, length, replicate, Option, Some, IfOk, OnOk};
-ghost use Rattle.callbox.specs.declared.account.CallEvent.TheVariants as event;
+ghost use Rattle.account.specs.declared.call.CallEvent.TheVariants as event;
 ghost use Rattle.lpm.specs.declared.fault.LpmFault.{LpmFault};
 ghost use Rattle.interop.specs.Call.{Feeds, IsWholeCall, told_of};
 
+use account::{Account, CallEvent, Shut, Told};
 use bytes::Bytes;
-use callbox::{Account, CallEvent, Shut, Told};
 use lpm::LpmFault;
 use std::alloc::{AllocError, Global};
 

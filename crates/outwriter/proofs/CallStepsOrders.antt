@@ -4,7 +4,7 @@ use Rattle.std.specs.Prelude.{All, ◌&&◌, ◌||◌, not, is_some, if◌then�
 use Rattle.std.specs.Map.{lookup}
 use Rattle.std.proofs.lemmas.Bool.{eq-eqb}
 use Rattle.std.proofs.lemmas.List.Elements.{All-cons, All-nil}
-use Rattle.callbox.specs.declared.account.OutItem.{OutItem}
+use Rattle.account.specs.declared.call.OutItem.{OutItem}
 use Rattle.h2frame.specs.declared.error_code.ErrorCode.{ErrorCode}
 use Rattle.lists.specs.declared.field.Field.{Field}
 use Rattle.outwriter.specs.declared.control.Control.TheVariants as order

@@ -4,7 +4,7 @@ use Rattle.std.specs.Prelude.{flat_map, ◌||◌, ◌&&◌, is_some, if◌then�
 use Rattle.std.specs.List.{list_any}
 use Rattle.std.specs.Map.{lookup}
 use Rattle.std.proofs.lemmas.List.Sums.{sum_by-cons}
-use Rattle.callbox.specs.Accounts.{Begins}
+use Rattle.account.specs.Accounts.{Begins}
 use Rattle.flow.specs.WindowHistory.{Step as WindowStep}
 use Rattle.flow.specs.Windows.{Windows}
 use Rattle.h2frame.specs.declared.error_code.ErrorCode.{ErrorCode}

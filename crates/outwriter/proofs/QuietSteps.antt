@@ -4,7 +4,7 @@ use Rattle.std.specs.Prelude.{All, is_some, IfNone, IfOk, if◌then◌else◌, s
 use Rattle.std.specs.Map.{lookup}
 use Rattle.std.proofs.lemmas.Bool.{eqb-true, eq-eqb}
 use Rattle.std.proofs.lemmas.List.{get_or-map, length-map}
-use Rattle.callbox.specs.declared.account.OutItem.{OutItem}
+use Rattle.account.specs.declared.call.OutItem.{OutItem}
 use Rattle.callbox.specs.declared.sender.Sender.{Sender}
 use Rattle.flow.specs.Windows.{room}
 use Rattle.outwriter.specs.declared.out_core.OutCore.{OutCore}

@@ -1,6 +1,6 @@
 -- The same of a core: one step after another.
 use Rattle.std.proofs.Common.{◌≡◌, sym, subst, ◌∙◌, true, false, List, [], ◌∷◌, ◌++◌, inl, inr, Option, Some, None, true≢false}
-use Rattle.callbox.specs.declared.account.OutItem.{OutItem}
+use Rattle.account.specs.declared.call.OutItem.{OutItem}
 use Rattle.h2frame.specs.declared.frame.Frame.{Frame}
 use Rattle.outwriter.specs.declared.out_core.OutCore.{OutCore}
 use Rattle.outwriter.specs.declared.outbound.Outbound.{Outbound}

@@ -5,7 +5,7 @@ use Rattle.std.specs.Map.{lookup}
 use Rattle.std.proofs.lemmas.Bool.{eqb-true, eq-eqb}
 use Rattle.std.proofs.lemmas.Grind.{flat_map-append}
 use Rattle.std.proofs.lemmas.List.{get_or-set_same, get_or-set_other, length-set, get_or_default}
-use Rattle.callbox.specs.declared.account.OutItem.{OutItem}
+use Rattle.account.specs.declared.call.OutItem.{OutItem}
 use Rattle.outwriter.specs.declared.outbound.Outbound.{Outbound}
 use Rattle.outwriter.specs.declared.stream.OpenStream.{OpenStream}
 use Rattle.outwriter.specs.Calls.{is_fresh, is_served}

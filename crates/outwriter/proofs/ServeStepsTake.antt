@@ -3,8 +3,8 @@ use Rattle.std.proofs.Common.{◌≡◌, ℕ, ◌<◌, sym, ap, subst, ◌∙◌
 use Rattle.std.specs.Prelude.{Result, Ok, Err, OnErr, IfOk, map, get_or, set, ◌≢◌}
 use Rattle.std.proofs.lemmas.List.{map-set, get_or-map, get_or-set_same, get_or-set_other, length-set}
 use Rattle.std.proofs.Math.Seq.{map-set_same}
-use Rattle.callbox.specs.declared.account.OutItem.{OutItem}
-use Rattle.callbox.specs.declared.account.OutItem.TheVariants as item
+use Rattle.account.specs.declared.call.OutItem.{OutItem}
+use Rattle.account.specs.declared.call.OutItem.TheVariants as item
 use Rattle.callbox.specs.declared.sender.Sender.{Sender}
 use Rattle.hpack_codec.specs.Codec.{Encoding}
 use Rattle.outwriter.specs.declared.stream.OpenStream.{OpenStream}

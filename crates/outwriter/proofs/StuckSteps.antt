@@ -4,7 +4,7 @@ use Rattle.h2frame.specs.declared.frame.Frame.{Frame}
 use Rattle.std.specs.Prelude.{IfNone, Result, Ok, get_or, ◌≢◌, ◌&&◌, not, is_some, if◌then◌else◌}
 use Rattle.std.specs.Map.{lookup}
 use Rattle.std.proofs.lemmas.Bool.{eq-eqb, ne_eqb}
-use Rattle.callbox.specs.declared.account.OutItem.{OutItem}
+use Rattle.account.specs.declared.call.OutItem.{OutItem}
 use Rattle.flow.specs.Windows.{Windows, room}
 use Rattle.outwriter.specs.declared.out_core.OutCore.{OutCore}
 use Rattle.outwriter.specs.declared.outbound.Outbound.{Outbound}

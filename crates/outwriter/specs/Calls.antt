@@ -1,6 +1,6 @@
 -- The calls that a writer serves: what their senders gave, and what was told of it; and what was told of other streams.
 use Rattle.std.specs.Prelude.{◌≡◌, ◌⊎◌, ◌||◌, ◌&&◌, not, ℕ, ◌==◌, Bool, true, false, All, List, [], ◌∷◌, if◌then◌else◌}
-use Rattle.callbox.specs.declared.account.OutItem.{OutItem}
+use Rattle.account.specs.declared.call.OutItem.{OutItem}
 use Rattle.lists.specs.declared.field.Field.{Field}
 use Rattle.outwriter.specs.declared.control.Control.TheVariants.{Open, Refuse}
 use Rattle.outwriter.specs.declared.control.Control.TheVariants as order

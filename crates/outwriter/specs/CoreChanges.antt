@@ -1,7 +1,7 @@
 -- What the calls of a writer's core change of what it keeps, where nothing is told.
 use Rattle.std.specs.Prelude.{◌≡◌, ◌==◌, ◌&&◌, ◌||◌, ℕ, Bool, true, false, not, is_some, List, [], ◌++◌, None, Some, is_none, nat_eq, if◌then◌else◌}
 use Rattle.std.specs.Map.{lookup}
-use Rattle.callbox.specs.declared.account.OutItem.{OutItem}
+use Rattle.account.specs.declared.call.OutItem.{OutItem}
 use Rattle.outwriter.specs.declared.out_core.OutCore.{OutCore}
 use Rattle.outwriter.specs.declared.outbound.Outbound.{Outbound}
 use Rattle.outwriter.specs.declared.stream.OpenStream.{OpenStream}

@@ -1,7 +1,7 @@
 -- Worked examples of the definitions, computed.
 use Rattle.std.proofs.Common.{inl}
 use Rattle.std.specs.Prelude.{◌≡◌, false, true, refl, List, [], ◌∷◌, ◌++◌, Some, None}
-use Rattle.callbox.specs.declared.account.OutItem.TheVariants.{Head, Message, Trailers}
+use Rattle.account.specs.declared.call.OutItem.TheVariants.{Head, Message, Trailers}
 use Rattle.flow.specs.WindowHistory.{Spending, Closing}
 use Rattle.h2frame.specs.declared.error_code.ErrorCode.TheVariants.{Cancel, NoError}
 use Rattle.h2frame.specs.Spelling.{spelled as spelling}

@@ -2,7 +2,7 @@
 use Rattle.std.specs.Prelude.{◌≡◌, ◌≢◌, ℕ, ◌+◌, ◌<◌, ◌≤◌, ◌⊎◌, ◌==◌, Bool, true, false, List, [], ◌∷◌, ◌++◌, Option, None, Some, sum_by, if◌then◌else◌}
 use Rattle.std.specs.List.{list_any}
 use Rattle.std.specs.Option.{option_map}
-use Rattle.callbox.specs.Accounts.{Begins}
+use Rattle.account.specs.Accounts.{Begins}
 use Rattle.flow.specs.WindowHistory.{room_after}
 use Rattle.flow.specs.WindowHistory.{Step as WindowStep}
 use Rattle.h2frame.specs.declared.error_code.ErrorCode.{ErrorCode}

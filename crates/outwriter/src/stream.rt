@@ -3,10 +3,11 @@
 ghost use Rattle.std.specs.Prelude.{◌≡◌, [], ◌∷◌, ◌++◌, IfOk, OnErr};
 ghost use Rattle.hpack_codec.specs.Codec.{Writes};
 ghost use Rattle.outwriter.specs.Polls.{Polls};
-ghost use Rattle.callbox.specs.declared.account.OutItem.{OutItem};
+ghost use Rattle.account.specs.declared.call.OutItem.{OutItem};
 
+use account::OutItem;
 use bytes::Bytes;
-use callbox::{OutItem, Sender};
+use callbox::Sender;
 use hpack_codec::Encoder;
 use lane::Lane;
 use lists::Field;

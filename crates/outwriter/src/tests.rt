@@ -1,7 +1,8 @@
 //! Each public function of a writer's core once, with ample memory.
 
 use crate::{Control, Next, OutCore, PeerSettings};
-use callbox::{OutItem, Sender, open_out};
+use account::OutItem;
+use callbox::{Sender, open_out};
 use h2frame::FrameKind;
 use lane::RingLane;
 use std::alloc::Global;

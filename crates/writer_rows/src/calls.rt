@@ -1,8 +1,9 @@
 //! The calls that acts open, and the fields of header blocks.
 
+use account::OutItem;
 use anyhow::{Context, Result};
 use bytes::Bytes;
-use callbox::{Giver, OutItem, Sender, open_out};
+use callbox::{Giver, Sender, open_out};
 use lane::RingLane;
 use lists::{Field, Octets, Sequence};
 use std::alloc::Global;

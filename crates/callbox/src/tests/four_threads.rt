@@ -1,7 +1,8 @@
 //! A call whose four ends are in threads of their own.
 
 use super::out_side::fields;
-use crate::{Answer, InAccount, InPiece, OutAccount, OutItem, Request, Shut, Told, run_call};
+use crate::{Answer, InAccount, InPiece, OutAccount, Request, run_call};
+use account::{OutItem, Shut, Told};
 use bytes::Bytes;
 use lane::RingLane;
 use std::test::Fail;

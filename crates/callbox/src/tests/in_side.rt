@@ -1,7 +1,8 @@
 //! The two ends of the in side, over a ring.
 ghost use Rattle.std.specs.Prelude.{◌≡◌};
 
-use crate::{InAccount, InPiece, Shut, Taken, Taker, Told, open_in, settle_in};
+use crate::{InAccount, InPiece, Taken, Taker, open_in, settle_in};
+use account::{Shut, Told};
 use bytes::Bytes;
 use lane::{End, Lane, RingLane};
 use lpm::LpmFault;

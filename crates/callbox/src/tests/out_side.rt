@@ -1,6 +1,7 @@
 //! The two ends of the out side, over a ring.
 
-use crate::{OutAccount, OutItem, open_out, settle_out};
+use crate::{OutAccount, open_out, settle_out};
+use account::OutItem;
 use bytes::Bytes;
 use lane::{End, RingLane};
 use lists::{Field, Octets, Sequence};

@@ -7,13 +7,11 @@ ghost use Rattle.callbox.specs.InSides.{Took, pieces_of};
 ghost use Rattle.callbox.specs.InAccounts.{CountsIn};
 ghost use Rattle.callbox.specs.OutSides.{answer_items, has_head, message_items};
 ghost use Rattle.callbox.specs.OutAccounts.{CountsOut};
-ghost use Rattle.callbox.specs.declared.account.OutItem.{OutItem};
+ghost use Rattle.account.specs.declared.call.OutItem.{OutItem};
 ghost use Rattle.callbox.specs.declared.piece.InPiece.TheVariants as in_piece;
 
-use crate::{
-    FedShut, Feeder, GivenShut, Giver, InAccount, InPiece, OutAccount, OutItem, Sender, Shut,
-    Taken, Taker, open_call, settle_in, settle_out,
-};
+use crate::{FedShut, Feeder, GivenShut, Giver, InAccount, InPiece, OutAccount, Sender, Taken, Taker, open_call, settle_in, settle_out};
+use account::{OutItem, Shut};
 use bytes::Bytes;
 use lane::{End, Lane};
 use lists::{Field, Sequence};

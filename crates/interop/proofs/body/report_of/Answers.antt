@@ -1,7 +1,7 @@
 use Rattle.std.proofs.Common.{◌≡◌, ◌∙◌, ap, List}
-use Rattle.callbox.specs.Runs.{run}
-use Rattle.callbox.specs.declared.account.Account.{Account}
-use Rattle.callbox.specs.declared.account.CallEvent.{CallEvent}
+use Rattle.account.specs.Runs.{run}
+use Rattle.account.specs.declared.call.Account.{Account}
+use Rattle.account.specs.declared.call.CallEvent.{CallEvent}
 use Rattle.interop.specs.Body.{fault_at_end}
 use Rattle.interop.specs.Call.{account_of}
 use Rattle.interop.proofs.CallLemmas.{run_whole_call}

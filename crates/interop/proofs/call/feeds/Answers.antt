@@ -1,8 +1,8 @@
 use Rattle.std.proofs.Common.{rules, arith, ◌≡◌, ◌∙◌, ◌++◌, ◌∷◌, [], sym, ap, subst, List, ℕ, length, ◌<◌}
 use Rattle.std.proofs.lemmas.Bool.Decides.{nat_tests}
 use Rattle.std.proofs.lemmas.List.{append-nil, map_push, nil_from_length}
-use Rattle.callbox.specs.declared.account.CallEvent.{CallEvent}
-use Rattle.callbox.specs.declared.account.CallEvent.TheVariants as event
+use Rattle.account.specs.declared.call.CallEvent.{CallEvent}
+use Rattle.account.specs.declared.call.CallEvent.TheVariants as event
 use Rattle.interop.specs.Call.{ArePieces}
 use Rattle.interop.proofs.CallLemmas.{pieces_more}
 use Rattle.interop.proofs.call.feeds.Goals as goal

@@ -1,5 +1,5 @@
 use Rattle.std.proofs.Common.{◌≡◌, ◌++◌, List, ℕ, length, map}
-use Rattle.callbox.specs.declared.account.CallEvent.TheVariants as event
+use Rattle.account.specs.declared.call.CallEvent.TheVariants as event
 use Rattle.interop.specs.Call.{ArePieces}
 use Rattle.interop.proofs.call.feeds.Given as goal
 

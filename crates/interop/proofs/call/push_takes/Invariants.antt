@@ -1,5 +1,5 @@
 use Rattle.std.proofs.Common.{◌≡◌, ◌++◌, replicate}
-use Rattle.callbox.specs.declared.account.CallEvent.TheVariants as event
+use Rattle.account.specs.declared.call.CallEvent.TheVariants as event
 use Rattle.interop.proofs.call.push_takes.Given as goal
 
 abbrev pub invariant-loop-i : goal.invariant-loop-i

@@ -1,9 +1,9 @@
 use Rattle.std.proofs.Common.{◌≡◌, ◌++◌, ◌∷◌, [], false, true, List, ℕ, sym, ap, subst, ◌∙◌}
 use Rattle.lpm.specs.Messages.{frame}
-use Rattle.callbox.specs.Accounts.{IsResponse}
+use Rattle.account.specs.Accounts.{IsResponse}
 use Rattle.callbox.specs.OutSides.{has_head, has_trailers}
-use Rattle.callbox.specs.declared.account.OutItem.{OutItem}
-use Rattle.callbox.specs.declared.account.OutItem.TheVariants as out_item
+use Rattle.account.specs.declared.call.OutItem.{OutItem}
+use Rattle.account.specs.declared.call.OutItem.TheVariants as out_item
 use Rattle.callbox.proofs.OutLemmas.{has_head-push, has_trailers-push, put_or_kept, response_message}
 use Rattle.callbox.proofs.giver.Giver.give.Goals as goal
 

@@ -1,6 +1,6 @@
 use Rattle.std.proofs.Common.{refl}
 use Rattle.lpm.specs.Messages.{IsFaulty}
-use Rattle.callbox.proofs.SerialLemmas.{stands_there}
+use Rattle.account.proofs.SerialLemmas.{stands_there}
 use Rattle.callbox.proofs.TakerLemmas.{took_message, took_fault, tells_fault}
 use Rattle.callbox.proofs.taker.Progress.answer.Goals as goal
 

@@ -1,6 +1,6 @@
 use Rattle.std.proofs.Common.{Some, ap, ◌∙◌}
-use Rattle.callbox.specs.declared.account.Shut.{Shut}
-use Rattle.callbox.proofs.SerialLemmas.{telling-ended, telling-cut, nothing_left}
+use Rattle.account.specs.declared.call.Shut.{Shut}
+use Rattle.account.proofs.SerialLemmas.{telling-ended, telling-cut, nothing_left}
 use Rattle.callbox.proofs.taker.Progress.to_tell.Goals as goal
 
 pub returns-in-Ok : goal.returns-in-Ok

@@ -1,7 +1,7 @@
 use Rattle.std.proofs.Common.{ℕ, List, ◌++◌, ◌∷◌, [], subst, ap, ◌∙◌}
 use mathlib.Core.List.{IsPrefix}
-use Rattle.callbox.specs.declared.account.OutItem.{OutItem}
-use Rattle.callbox.specs.declared.account.OutItem.TheVariants.{Head}
+use Rattle.account.specs.declared.call.OutItem.{OutItem}
+use Rattle.account.specs.declared.call.OutItem.TheVariants.{Head}
 use Rattle.callbox.specs.OutSides.{answer_items}
 use Rattle.callbox.proofs.OutLemmas.{front_none, front_some}
 use Rattle.callbox.proofs.uses.four_threads.give_answer.Goals as goal

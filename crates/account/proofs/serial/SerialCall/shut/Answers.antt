@@ -1,8 +1,8 @@
 use Rattle.std.proofs.Common.{◌≡◌, true, false, sym, rules}
 use Rattle.std.specs.Prelude.{is_none}
-use Rattle.callbox.specs.SerialCalls.{account_of}
-use Rattle.callbox.proofs.SerialLemmas.{after-shut, after-shut_shut}
-use Rattle.callbox.proofs.serial.SerialCall.shut.Goals as goal
+use Rattle.account.specs.SerialCalls.{account_of}
+use Rattle.account.proofs.SerialLemmas.{after-shut, after-shut_shut}
+use Rattle.account.proofs.serial.SerialCall.shut.Goals as goal
 
 pub returns-then-is_none-clause-account : goal.returns-then-is_none-clause-account
 returns-then-is_none-clause-account c =

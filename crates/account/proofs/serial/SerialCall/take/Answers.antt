@@ -1,11 +1,11 @@
 use Rattle.std.proofs.Common.{◌≡◌, true, false, ◌++◌, List, ℕ, Option, None, sym, ap, ◌∙◌, rules}
 use Rattle.std.specs.Prelude.{is_some}
 use Rattle.lpm.specs.Messages.{frames, IsFaulty}
-use Rattle.callbox.specs.declared.account.Told.{Told}
-use Rattle.callbox.specs.Runs.{telling}
-use Rattle.callbox.specs.SerialCalls.{account_of}
-use Rattle.callbox.proofs.SerialLemmas.{told_none, after-told_some, after-take_message, after-take_more, after-take_fault, MayTell-fault, stands_there}
-use Rattle.callbox.proofs.serial.SerialCall.take.Goals as goal
+use Rattle.account.specs.declared.call.Told.{Told}
+use Rattle.account.specs.Runs.{telling}
+use Rattle.account.specs.SerialCalls.{account_of}
+use Rattle.account.proofs.SerialLemmas.{told_none, after-told_some, after-take_message, after-take_more, after-take_fault, MayTell-fault, stands_there}
+use Rattle.account.proofs.serial.SerialCall.take.Goals as goal
 
 pub returns-then-is_some-clause-account : goal.returns-then-is_some-clause-account
 returns-then-is_some-clause-account c =

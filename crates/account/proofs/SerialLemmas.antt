@@ -11,18 +11,18 @@ use Rattle.lpm.specs.Reading.{Reading, messages_of, rest_of, fault_of}
 use Rattle.lpm.specs.Splits.{Stands}
 use Rattle.lpm.proofs.Readings.{IsFaultyAfter-longer, Spells-read, IsFaultyAfter-read, never_both}
 use Rattle.lpm.proofs.WholeMessages.{reading_of-frame, reading_of-frames}
-use Rattle.callbox.specs.declared.account.Account.{Account}
-use Rattle.callbox.specs.declared.account.CallEvent.TheVariants as event
-use Rattle.callbox.specs.declared.account.OutItem.{OutItem}
-use Rattle.callbox.specs.declared.account.OutItem.TheVariants.{Head, Message, Trailers}
-use Rattle.callbox.specs.declared.account.Shut.{Shut}
-use Rattle.callbox.specs.declared.account.Shut.TheVariants as shut
-use Rattle.callbox.specs.declared.account.Told.{Told}
-use Rattle.callbox.specs.declared.account.Told.TheVariants as told
-use Rattle.callbox.specs.Accounts.{Begins, IsBody, IsResponse, MayTell, IsLawful}
-use Rattle.callbox.specs.Runs.{telling, after_next, may_follow, last_of, after}
-use Rattle.callbox.specs.declared.serial.SerialCall.{SerialCall}
-use Rattle.callbox.specs.SerialCalls.{account_of, IsConsistent, IsFramed}
+use Rattle.account.specs.declared.call.Account.{Account}
+use Rattle.account.specs.declared.call.CallEvent.TheVariants as event
+use Rattle.account.specs.declared.call.OutItem.{OutItem}
+use Rattle.account.specs.declared.call.OutItem.TheVariants.{Head, Message, Trailers}
+use Rattle.account.specs.declared.call.Shut.{Shut}
+use Rattle.account.specs.declared.call.Shut.TheVariants as shut
+use Rattle.account.specs.declared.call.Told.{Told}
+use Rattle.account.specs.declared.call.Told.TheVariants as told
+use Rattle.account.specs.Accounts.{Begins, IsBody, IsResponse, MayTell, IsLawful}
+use Rattle.account.specs.Runs.{telling, after_next, may_follow, last_of, after}
+use Rattle.account.specs.declared.serial.SerialCall.{SerialCall}
+use Rattle.account.specs.SerialCalls.{account_of, IsConsistent, IsFramed}
 
 -- ---- feeding and shutting
 

@@ -1,10 +1,10 @@
 use Rattle.std.proofs.Common.{◌≡◌, true, false, ◌++◌, [], ◌∷◌, List, Option, sym, ap, refl, subst, ◌∙◌}
-use Rattle.callbox.specs.declared.account.OutItem.{OutItem}
-use Rattle.callbox.specs.Accounts.{Begins, IsResponse}
-use Rattle.callbox.specs.Runs.{may_follow, last_of}
-use Rattle.callbox.specs.SerialCalls.{account_of}
-use Rattle.callbox.proofs.SerialLemmas.{after-give, after-give_not, IsResponse-push, Begins-longer}
-use Rattle.callbox.proofs.serial.SerialCall.give.Goals as goal
+use Rattle.account.specs.declared.call.OutItem.{OutItem}
+use Rattle.account.specs.Accounts.{Begins, IsResponse}
+use Rattle.account.specs.Runs.{may_follow, last_of}
+use Rattle.account.specs.SerialCalls.{account_of}
+use Rattle.account.proofs.SerialLemmas.{after-give, after-give_not, IsResponse-push, Begins-longer}
+use Rattle.account.proofs.serial.SerialCall.give.Goals as goal
 
 pub returns-in_ok-push-clause-account : goal.returns-in_ok-push-clause-account
 returns-in_ok-push-clause-account c =

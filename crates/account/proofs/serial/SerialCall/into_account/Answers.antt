@@ -1,9 +1,9 @@
 use Rattle.std.proofs.Common.{◌≡◌, sym, subst, rules}
-use Rattle.callbox.specs.declared.account.Account.{Account}
-use Rattle.callbox.specs.Accounts.{IsLawful}
-use Rattle.callbox.specs.SerialCalls.{account_of}
-use Rattle.callbox.proofs.SerialLemmas.{consistent_lawful}
-use Rattle.callbox.proofs.serial.SerialCall.into_account.Goals as goal
+use Rattle.account.specs.declared.call.Account.{Account}
+use Rattle.account.specs.Accounts.{IsLawful}
+use Rattle.account.specs.SerialCalls.{account_of}
+use Rattle.account.proofs.SerialLemmas.{consistent_lawful}
+use Rattle.account.proofs.serial.SerialCall.into_account.Goals as goal
 
 pub returns-clause-lawful : goal.returns-clause-lawful
 returns-clause-lawful c =

@@ -1,11 +1,11 @@
 -- What is kept while events are replayed.
 use Rattle.std.specs.Prelude.{◌≡◌, ◌++◌, All}
 use Rattle.lpm.specs.Messages.{frames, IsMessage, IsFrame}
-use Rattle.callbox.specs.declared.account.Account.{Account}
-use Rattle.callbox.specs.declared.account.OutItem.{OutItem}
-use Rattle.callbox.specs.declared.account.OutItem.TheVariants.{Head, Message, Trailers}
-use Rattle.callbox.specs.declared.serial.SerialCall.{SerialCall}
-use Rattle.callbox.specs.Accounts.{Begins, IsResponse, MayTell}
+use Rattle.account.specs.declared.call.Account.{Account}
+use Rattle.account.specs.declared.call.OutItem.{OutItem}
+use Rattle.account.specs.declared.call.OutItem.TheVariants.{Head, Message, Trailers}
+use Rattle.account.specs.declared.serial.SerialCall.{SerialCall}
+use Rattle.account.specs.Accounts.{Begins, IsResponse, MayTell}
 
 abbrev pub account_of : SerialCall → Account
 account_of r = record { fed = r.fed.items; shut = r.shut; taken = r.taken.items; told = r.told; given = r.given.items; sent = r.sent.items }

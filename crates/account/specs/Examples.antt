@@ -2,13 +2,13 @@
 use Rattle.std.specs.Prelude.{◌≡◌, List, [], ◌∷◌, Some, None, refl}
 use Rattle.lpm.specs.Messages.{announced}
 use Rattle.lpm.specs.Reading.{front_of_message, front_of_length, front_of, reading_within, reading_of}
-use Rattle.callbox.specs.declared.account.CallEvent.{CallEvent}
-use Rattle.callbox.specs.declared.account.CallEvent.TheVariants as event
-use Rattle.callbox.specs.declared.account.OutItem.TheVariants.{Head, Message, Trailers}
-use Rattle.callbox.specs.declared.account.Shut.TheVariants as shut
-use Rattle.callbox.specs.declared.account.Told.TheVariants as told
-use Rattle.callbox.specs.Accounts.{IsResponse}
-use Rattle.callbox.specs.Runs.{after, run}
+use Rattle.account.specs.declared.call.CallEvent.{CallEvent}
+use Rattle.account.specs.declared.call.CallEvent.TheVariants as event
+use Rattle.account.specs.declared.call.OutItem.TheVariants.{Head, Message, Trailers}
+use Rattle.account.specs.declared.call.Shut.TheVariants as shut
+use Rattle.account.specs.declared.call.Told.TheVariants as told
+use Rattle.account.specs.Accounts.{IsResponse}
+use Rattle.account.specs.Runs.{after, run}
 
 -- a message in two pieces, an end, and what comes too late
 abbrev pub late : List CallEvent

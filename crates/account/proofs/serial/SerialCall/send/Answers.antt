@@ -1,12 +1,12 @@
 use Rattle.std.proofs.Common.{◌≡◌, ◌++◌, [], ◌∷◌, ℕ, get_or, arith, List, None, Some, length, sym, ap, subst, ◌∙◌, rules}
 use Rattle.std.specs.Prelude.{slice_get}
 use Rattle.std.proofs.lemmas.Option.{slice_get_past}
-use Rattle.callbox.specs.declared.account.OutItem.{OutItem}
-use Rattle.callbox.specs.Accounts.{Begins}
-use Rattle.callbox.specs.SerialCalls.{account_of}
-use Rattle.callbox.proofs.SerialLemmas.{read_at, after-send, after-send_none, Begins-push}
-use Rattle.callbox.proofs.serial.SerialCall.send.Goals as goal
-use Rattle.callbox.proofs.serial.SerialCall.send.Goals.{In_ok-push}
+use Rattle.account.specs.declared.call.OutItem.{OutItem}
+use Rattle.account.specs.Accounts.{Begins}
+use Rattle.account.specs.SerialCalls.{account_of}
+use Rattle.account.proofs.SerialLemmas.{read_at, after-send, after-send_none, Begins-push}
+use Rattle.account.proofs.serial.SerialCall.send.Goals as goal
+use Rattle.account.proofs.serial.SerialCall.send.Goals.{In_ok-push}
 
 -- the item that is sent is the next of those that were given
 is_next : (c : In_ok-push) → slice_get c.args.self.now.given.items (length c.args.self.now.sent.items) ≡ Some c.in-Some.item.now

@@ -2,12 +2,12 @@
 
 ghost use Rattle.std.specs.Prelude.{◌≡◌, [], IfOk, IsTrue, OnOk};
 ghost use Rattle.std.specs.Option.{option_copied};
-ghost use Rattle.callbox.specs.Accounts.{IsLawful};
-ghost use Rattle.callbox.specs.Runs.{after, may_follow, run, telling};
-ghost use Rattle.callbox.specs.declared.account.CallEvent.TheVariants as event;
+ghost use Rattle.account.specs.Accounts.{IsLawful};
+ghost use Rattle.account.specs.Runs.{after, may_follow, run, telling};
+ghost use Rattle.account.specs.declared.call.CallEvent.TheVariants as event;
 ghost use Rattle.lpm.specs.Messages.{IsUnfinished};
 
-use crate::{Account, CallEvent, OutItem, Shut, Told};
+use crate::call::{Account, CallEvent, OutItem, Shut, Told};
 use bytes::Bytes;
 use lists::{Octets, Sequence};
 use lpm::{LpmFault, Split, Splitter, is_frame};
@@ -45,7 +45,7 @@ struct SerialCall {
 }
 
 impl SerialCall {
-    ghost use Rattle.callbox.specs.SerialCalls.{account_of, IsConsistent};
+    ghost use Rattle.account.specs.SerialCalls.{account_of, IsConsistent};
 
     /// A call to which nothing happened yet.
     fn new(alloc: Global) -> SerialCall
@@ -194,7 +194,7 @@ impl SerialCall {
     }
 }
 
-ghost use Rattle.callbox.specs.SerialCalls.{IsFramed};
+ghost use Rattle.account.specs.SerialCalls.{IsFramed};
 
 /// Whether an item may be given behind the last one.
 fn may_follow(last: Option<&OutItem>, item: &OutItem) -> bool

@@ -1,7 +1,7 @@
 use Rattle.std.proofs.Common.{◌≡◌, take}
-use Rattle.callbox.specs.Runs.{run}
-use Rattle.callbox.specs.SerialCalls.{account_of, IsConsistent}
-use Rattle.callbox.proofs.serial.replay.Given as goal
+use Rattle.account.specs.Runs.{run}
+use Rattle.account.specs.SerialCalls.{account_of, IsConsistent}
+use Rattle.account.proofs.serial.replay.Given as goal
 
 -- the call is where the events so far lead
 abbrev pub invariant-loop-event : goal.invariant-loop-event

@@ -1,10 +1,10 @@
 use Rattle.std.proofs.Common.{◌≡◌, true, false, ◌++◌, List, ℕ, sym, ap, subst, ◌∙◌, append_assoc, rules}
 use Rattle.std.specs.Prelude.{is_some}
 use Rattle.lpm.specs.Messages.{frames}
-use Rattle.callbox.specs.Accounts.{MayTell}
-use Rattle.callbox.specs.SerialCalls.{account_of}
-use Rattle.callbox.proofs.SerialLemmas.{after-feed, after-feed_shut, MayTell-longer, none_unless, some_then}
-use Rattle.callbox.proofs.serial.SerialCall.feed.Goals as goal
+use Rattle.account.specs.Accounts.{MayTell}
+use Rattle.account.specs.SerialCalls.{account_of}
+use Rattle.account.proofs.SerialLemmas.{after-feed, after-feed_shut, MayTell-longer, none_unless, some_then}
+use Rattle.account.proofs.serial.SerialCall.feed.Goals as goal
 
 pub returns-then-is_some-clause-account : goal.returns-then-is_some-clause-account
 returns-then-is_some-clause-account c =

@@ -1,0 +1,4 @@
+pub mod Accounts
+pub mod Runs
+pub mod Examples
+pub mod SerialCalls
