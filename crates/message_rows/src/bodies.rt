@@ -112,18 +112,25 @@ impl Subject for Bodies {
     }
 }
 
+/// How many messages are whole with this piece.
+fn more_messages(alloc: Global, splitter: &mut Splitter, piece: &[u8]) -> Result<usize> {
+    splitter.push(piece)?;
+    let (messages, _fault) = drain(alloc, splitter)?;
+    Ok(messages.len())
+}
+
 /// The pieces of a body: how many messages each makes whole.
 #[derive(Drop)]
 pub struct Pieces;
 
 impl Subject for Pieces {
     fn answer(&self, alloc: Global, given: &str) -> Result<String> {
+        let pieces = all_bytes(alloc, given)?;
         let mut splitter = Splitter::new(alloc);
         let mut text = String::new(alloc);
-        for piece in &all_bytes(alloc, given)? {
-            splitter.push(piece.as_slice())?;
-            let (messages, _fault) = drain(alloc, &mut splitter)?;
-            write!(text, "{} ", messages.len())?;
+        for piece in &pieces {
+            let count = more_messages(alloc, &mut splitter, piece.as_slice())?;
+            write!(text, "{count} ")?;
         }
         Ok(text)
     }

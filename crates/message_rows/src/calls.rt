@@ -2,8 +2,11 @@
 
 use crate::rows::Subject;
 use crate::words::{all_bytes, push_bytes};
-use anyhow::{Context, Result, bail};
-use handlers::{Methods, Step, run};
+use anyhow::{Context, Result, bail, ensure};
+use handlers::{
+    CacheableUnaryCall, EmptyCall, FullDuplexCall, HalfDuplexCall, Method, Methods, Step,
+    StreamingInputCall, StreamingOutputCall, UnaryCall, run,
+};
 use std::alloc::Global;
 
 /// What begins the path of each method.
@@ -22,23 +25,34 @@ fn push_answer(text: &mut String, alloc: Global, answer: &Step) -> Result<()> {
     Ok(())
 }
 
-/// What the method of this name answers to these messages, and to their end where that is told.
+/// What a method answers to these messages, and to their end where that is told. Its path has to end with this name.
 fn call_text(
     alloc: Global,
-    methods: &Methods,
+    method: &dyn Method,
     name: &str,
     messages: &[&[u8]],
     ended: bool,
 ) -> Result<String> {
     let path = format!(in alloc; "{SERVICE}{name}")?;
-    let index = methods
-        .find(path.as_str().as_bytes())
-        .context("no method has the name")?;
-    let method = methods.get(index).context("the method is there")?;
-    let answer = run(alloc, &**method, messages, ended)?;
+    ensure!(method.path() == path.as_str(), "another path");
+    let answer = run(alloc, method, messages, ended)?;
     let mut text = String::new(alloc);
     push_answer(&mut text, alloc, &answer)?;
     Ok(text)
+}
+
+/// The same of the method with this name.
+fn named_call(alloc: Global, name: &str, messages: &[&[u8]], ended: bool) -> Result<String> {
+    match name {
+        "EmptyCall" => call_text(alloc, &EmptyCall, name, messages, ended),
+        "UnaryCall" => call_text(alloc, &UnaryCall, name, messages, ended),
+        "CacheableUnaryCall" => call_text(alloc, &CacheableUnaryCall, name, messages, ended),
+        "StreamingOutputCall" => call_text(alloc, &StreamingOutputCall, name, messages, ended),
+        "StreamingInputCall" => call_text(alloc, &StreamingInputCall, name, messages, ended),
+        "FullDuplexCall" => call_text(alloc, &FullDuplexCall, name, messages, ended),
+        "HalfDuplexCall" => call_text(alloc, &HalfDuplexCall, name, messages, ended),
+        _ => bail!("no method {name}"),
+    }
 }
 
 /// Whether the end is told, by the word of a row.
@@ -52,11 +66,9 @@ fn is_ended(word: &str) -> Result<bool> {
 
 /// A call: the name of its method, `ended` or `open`, and its messages.
 #[derive(Drop)]
-pub struct Calls<'a> {
-    pub methods: &'a Methods,
-}
+pub struct Calls;
 
-impl Subject for Calls<'_> {
+impl Subject for Calls {
     fn answer(&self, alloc: Global, given: &str) -> Result<String> {
         let mut words = given.splitn(3, ' ');
         let name = words.next().context("the name of a method")?;
@@ -66,7 +78,7 @@ impl Subject for Calls<'_> {
         for message in &messages {
             slices.push(message.as_slice())?;
         }
-        call_text(alloc, self.methods, name, slices.as_slice(), ended)
+        named_call(alloc, name, slices.as_slice(), ended)
     }
 }
 

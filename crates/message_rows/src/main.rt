@@ -11,10 +11,7 @@
 #![tactic(auto)]
 
 use anyhow::{Result, ensure};
-use handlers::{
-    CacheableUnaryCall, EmptyCall, FullDuplexCall, HalfDuplexCall, Method, Methods,
-    StreamingInputCall, StreamingOutputCall, UnaryCall,
-};
+use handlers::{EmptyCall, Method, Methods, StreamingInputCall};
 use std::rt::Files;
 
 mod bodies;
@@ -61,16 +58,10 @@ fn try_calls(rt: &(impl Files + Print + AllocGlobal)) -> Result<u32> {
     let alloc = rt.alloc();
     let mut methods: Vec<Box<dyn Method>> = Vec::new(alloc);
     methods.push(Box::new(alloc, EmptyCall)?)?;
-    methods.push(Box::new(alloc, UnaryCall)?)?;
-    methods.push(Box::new(alloc, CacheableUnaryCall)?)?;
-    methods.push(Box::new(alloc, StreamingOutputCall)?)?;
     methods.push(Box::new(alloc, StreamingInputCall)?)?;
-    methods.push(Box::new(alloc, FullDuplexCall)?)?;
-    methods.push(Box::new(alloc, HalfDuplexCall)?)?;
     let methods = Methods::new(methods);
-    let methods = &methods;
-    let calls = rows::try_file(rt, "calls.rows", calls::Calls { methods })?;
-    let paths = rows::try_file(rt, "paths.rows", calls::Paths { methods })?;
+    let calls = rows::try_file(rt, "calls.rows", calls::Calls)?;
+    let paths = rows::try_file(rt, "paths.rows", calls::Paths { methods: &methods })?;
     Ok(calls.saturating_add(paths))
 }
 
