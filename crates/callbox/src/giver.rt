@@ -75,11 +75,11 @@ impl<L: Lane<Item = OutItem>> Giver<L> {
                 Ok(())
             }
             Err(PutFault::Full { item, waiting }) => Err(PutFault::Full {
-                item: item.into_head(),
+                item: into_head(item),
                 waiting,
             }),
-            Err(PutFault::OutOfMemory(item)) => Err(PutFault::OutOfMemory(item.into_head())),
-            Err(PutFault::NotTaken(item)) => Err(PutFault::NotTaken(item.into_head())),
+            Err(PutFault::OutOfMemory(item)) => Err(PutFault::OutOfMemory(into_head(item))),
+            Err(PutFault::NotTaken(item)) => Err(PutFault::NotTaken(into_head(item))),
         }
     }
 
@@ -133,16 +133,14 @@ impl<L: Lane<Item = OutItem>> GivenShut<L> {
     }
 }
 
-impl OutItem {
-    /// The fields of a head.
-    fn into_head(self) -> Sequence<Field>
-        requires { is_head self ≡ true }
-        ensures { self ≡ out_item.Head result }
-    {
-        match self {
-            OutItem::Head(fields) => fields,
-            OutItem::Message(_) | OutItem::Trailers(_) => unreachable!(),
-        }
+/// The fields of a head.
+fn into_head(item: OutItem) -> Sequence<Field>
+    requires { is_head item ≡ true }
+    ensures { item ≡ out_item.Head result }
+{
+    match item {
+        OutItem::Head(fields) => fields,
+        OutItem::Message(_) | OutItem::Trailers(_) => unreachable!(),
     }
 }
 

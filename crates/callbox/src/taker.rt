@@ -112,7 +112,7 @@ impl Progress {
         }
         let told = self.to_tell()?;
         self.told = Some(told);
-        Some(told.answer())
+        Some(answer_of(told))
     }
 
     /// What there is to be told where no message is left: how the half was shut, if it was.
@@ -192,16 +192,14 @@ impl Polled {
     }
 }
 
-impl Told {
-    /// The answer that tells it.
-    fn answer(self) -> Taken
-        ensures { result ≡ telling self }
-    {
-        match self {
-            Told::End => Taken::End,
-            Told::Reset(code) => Taken::Reset(code),
-            Told::Fault(fault) => Taken::Fault(fault),
-        }
+/// The answer that tells a thing.
+fn answer_of(told: Told) -> Taken
+    ensures { result ≡ telling told }
+{
+    match told {
+        Told::End => Taken::End,
+        Told::Reset(code) => Taken::Reset(code),
+        Told::Fault(fault) => Taken::Fault(fault),
     }
 }
 
@@ -285,7 +283,7 @@ impl<L: Lane<Item = InPiece>> Taker<L> {
     {
         let _owed = self.progress.owed;
         if let Some(told) = self.progress.told {
-            return told.answer();
+            return answer_of(told);
         }
         if self.progress.unread {
             self.read_again();
