@@ -34,6 +34,3 @@ pub const MAX_LIVE: usize = 64;
 
 /// How many bytes of DATA a book counts on a connection.
 pub const MAX_RECEIVED: u64 = 0x4000_0000_0000_0000;
-
-#[cfg(test)]
-mod tests;

@@ -32,6 +32,3 @@ pub use laws::{goes_on, joins, one_reading};
 pub use reader::FrameReader;
 pub use setting::SettingId;
 pub use writer::write_frame;
-
-#[cfg(test)]
-mod tests;

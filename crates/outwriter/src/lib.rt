@@ -29,6 +29,3 @@ pub use control::{Control, OutFault};
 pub use next::Next;
 pub use out_core::OutCore;
 pub use settings::{PeerSetting, PeerSettings};
-
-#[cfg(test)]
-mod tests;

@@ -27,6 +27,3 @@ pub use field::{FieldItem, FieldValue};
 pub use reading::Fields;
 pub use varint::read_varint;
 pub use writing::{varint_len, write_field, write_varint};
-
-#[cfg(test)]
-mod tests;
