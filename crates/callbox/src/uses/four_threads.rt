@@ -10,7 +10,10 @@ ghost use Rattle.callbox.specs.OutAccounts.{CountsOut};
 ghost use Rattle.account.specs.declared.call.OutItem.{OutItem};
 ghost use Rattle.callbox.specs.declared.piece.InPiece.TheVariants as in_piece;
 
-use crate::{FedShut, Feeder, GivenShut, Giver, InAccount, InPiece, OutAccount, Sender, Taken, Taker, open_call, settle_in, settle_out};
+use crate::{
+    FedShut, Feeder, GivenShut, Giver, InAccount, InPiece, OutAccount, Sender, Taken, Taker,
+    open_call, settle_in, settle_out,
+};
 use account::{OutItem, Shut};
 use bytes::Bytes;
 use lane::{End, Lane};
