@@ -1,4 +1,6 @@
 //! The serial core of a call.
+//!
+//! The module isn't named `replay`, since a module and an item beside it can't have one name.
 
 ghost use Rattle.std.specs.Prelude.{◌≡◌, [], IfOk, IsTrue, OnOk};
 ghost use Rattle.std.specs.Option.{option_copied};

@@ -1,4 +1,10 @@
 //! The end of a call that gives what goes out.
+//!
+//! A giver keeps a message until the lane has taken its frame, so that each refusal hands back the message, also where
+//! there was no memory for the frame. A head is handed back out of the item.
+//!
+//! That what was given is a response is a ghost field and no test: there is at most one proof of it
+//! (`specs/OutSides.antt`), as a struct's facts need.
 
 ghost use Rattle.std.specs.Prelude.{◌≡◌, ◌≤◌, true, false, [], ◌∷◌, ◌++◌, length, IfErr, IfOk, OnErr, OnOk, MatchBool};
 ghost use Rattle.lane.specs.PutFault.{item_of, MayRefuse};

@@ -1,4 +1,15 @@
 //! The end of a call that takes its messages.
+//!
+//! The messages that were taken are stored nowhere: `take` speaks of each list of messages that leads there (`Took`),
+//! and `open_in` starts it with none.
+//!
+//! A piece whose sharing is refused stays unread. A lane lends its item until the next poll, and `Bytes::clone` can be
+//! refused; so the taker counts the piece for `credit` once, marks it unread, still takes the messages and tells the
+//! faults that were whole before it, then answers Fault(OutOfMemory), and reads it again (`Lane::again`) at its next
+//! `take`.
+//!
+//! `Taker::look`: it polls at most 2^64 - 1 times, since it has to return and a writer may put pieces without bytes
+//! for good.
 
 ghost use Rattle.std.specs.Prelude.{◌≡◌, ℕ, ◌+◌, ◌-◌, min, true, false, None, Some, List, [], ◌∷◌, ◌++◌, length, All, IfNone, IfSome, MatchOption, is_some};
 ghost use Rattle.lpm.specs.Messages.{IsUnfinished};

@@ -1,4 +1,6 @@
 //! Binary metadata, in fields whose name ends in `-bin` (gRPC over HTTP/2, "Custom-Metadata"; RFC 4648, section 4).
+//!
+//! `read_bin_values`: A field that carries no values is no fault, it is only not echoed: so the answer is an Option.
 
 ghost use Rattle.std.specs.Prelude.{◌≡◌, ℕ, ◌+◌, ◌^◌, ◌<◌, ◌==◌, ◌↔◌, List, [], ◌∷◌, ◌++◌, take, drop, length, position, Some, IsTrue, IfOk, IfSome, IfNone, string_bytes};
 ghost use Rattle.base64.specs.GeneralPurpose.{encode_of, IsStrict};

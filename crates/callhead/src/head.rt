@@ -1,4 +1,8 @@
 //! The head of a call (gRPC over HTTP/2, "Requests").
+//!
+//! `read`: faults are looked for before memory is taken, so that a fault is answered whether or not there is memory.
+//!
+//! `initial_echoes`: the texts are made by std's lossy reading, which changes nothing of bytes 20 to 7E.
 
 ghost use Rattle.std.specs.Prelude.{◌≡◌, ◌⊎◌, ◌↔◌, ℕ, List, Option, Ok, Err, Some, IfOk, IfErr, IfSome, IsTrue, codes};
 ghost use Rattle.callhead.specs.declared.head.CallHead.{CallHead};

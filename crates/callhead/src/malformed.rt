@@ -1,4 +1,7 @@
 //! Which fields are no request (RFC 9113, sections 8.2 and 8.3).
+//!
+//! Each cause is a test of the whole list of fields, a word of its own. That a pseudo-header is late is said of what
+//! stands behind the longest run of pseudo-headers at the beginning.
 
 ghost use Rattle.std.specs.Prelude.{◌≡◌, ◌==◌, drop, option_copied};
 ghost use Rattle.callhead.specs.MalformedHeads.{is_forbidden_in_names, has_bad_name, is_blank, is_forbidden_in_values, has_bad_value, is_connection_specific, is_other_te, is_pseudo_header, is_unknown, is_empty_path, has_late_pseudo_header, is_repeated, is_missing, is_malformed_field, is_malformed, pseudo_headers, required_headers};

@@ -1,4 +1,6 @@
 //! The text of a status, in `grpc-message` (gRPC over HTTP/2, "Percent-Encoded").
+//!
+//! What is written is a `String`, whose bytes go into a field without memory (`String::into_bytes`, `Octets::from`).
 
 ghost use Rattle.std.specs.Prelude.{◌≡◌, IfOk, string_bytes};
 ghost use Rattle.callhead.specs.StatusTexts.{percent_text, text_of};

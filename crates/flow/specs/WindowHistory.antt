@@ -1,4 +1,6 @@
 -- The windows of what is sent as numbers that follow from all that happened on the connection (RFC 9113, section 6.9).
+-- A history has the latest entry first, so that what came before an entry is the rest of the list. No value stores
+-- one.
 use Rattle.std.specs.Prelude.{◌≡◌, ℕ, ◌<◌, ◌≤◌, min, ℤ, pos, negsuc, ◌+ℤ◌, ◌-ℤ◌, if◌then◌else◌, nat_eq, List, [], ◌∷◌, Option, Some, None, sum_by, IfSome}
 use Rattle.std.specs.Option.{option_map, option_map_or}
 use Rattle.flow.specs.declared.TheConstants.{INITIAL_WINDOW, MAX_WINDOW}

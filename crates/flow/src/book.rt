@@ -1,4 +1,13 @@
 //! The credit book of a connection (RFC 9113, sections 5.2 and 6.9).
+//!
+//! Each call is said by one total function, from the record before to the one behind, for every id: 0 the connection,
+//! else the live call, and nothing where there is none. Each fault has a cause, and one order of the tests (`place`),
+//! so clauses don't repeat what stands before.
+//!
+//! What is loose is computed and not stored: it matters only where bytes of no call are returned, and then at most 64
+//! calls are gone over. Bytes count as `u32`, as a frame's length does; sums are `u64`. A mark that is set twice
+//! changes nothing more; with the second end marked a call goes as one that is cut (`end_remote` and `end_local` call
+//! `cut`).
 
 ghost use Rattle.std.specs.Prelude.{◌≡◌, ◌<◌, ◌^◌, true, OnErr, OnOk, IsSome, nat_eq};
 ghost use Rattle.std.specs.Option.{option_map};

@@ -1,4 +1,11 @@
 //! The receiving halves of streams (RFC 9113, section 5.1).
+//!
+//! Streams are taken in order by the greatest number that was begun: HEADERS on an odd number that isn't greater begin
+//! nothing. There is no state for skipped streams: what isn't in the map is idle or skipped, and there no frame is
+//! lawful but HEADERS on an odd number above the greatest. `Half` is public since contracts see it.
+//!
+//! `cut`: it asks that the stream was begun, dropped ones included: `on` says so of each answer that isn't an error of
+//! the connection (clause `begun`).
 
 ghost use Rattle.std.specs.Prelude.{◌≡◌, ◌<◌, true, false, ◌&&◌, nat_eq, nat_lt, List, [], ◌∷◌, None, Some, IfOk, OnErr, IsSome, IsTrue, MatchOption};
 ghost use Rattle.std.specs.Map.{lookup, set_value};

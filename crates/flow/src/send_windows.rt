@@ -1,4 +1,8 @@
 //! The windows of what is sent (RFC 9113, section 6.9).
+//!
+//! A window is kept as a balance, so that a new initial size writes one number and not every stream's. The windows are
+//! said twice: each call by an equation on the numbers that are kept, and by what follows from the whole list of
+//! openings, credits, spendings, sizes and closings (`Follows`); `room` is tied to that list alone.
 
 ghost use Rattle.std.specs.Prelude.{◌≡◌, ◌+◌, ◌-◌, ◌+ℤ◌, ◌-ℤ◌, ◌<◌, ◌≤◌, pos, List, [], ◌∷◌, None, IfErr, OnErr, OnOk, IsSome, is_some, MatchOption, nat_eq, int_le};
 ghost use Rattle.std.specs.List.{list_all};

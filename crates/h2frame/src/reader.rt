@@ -1,4 +1,9 @@
 //! Reading frames from bytes that come in pieces.
+//!
+//! The reader keeps no mark of a fault: the faulty bytes stay where they are, first, and are judged again at each
+//! call, in constant time. What is fed behind a fault is still kept in memory.
+//!
+//! A ZeroIncrement of a stream is the entry `NoIncrement`; `answered` says which answers are entries.
 
 ghost use Rattle.std.specs.Prelude.{◌≡◌, ◌≢◌, ◌+◌, ◌^◌, ◌<◌, ◌≤◌, ◌↔◌, List, ℕ, [], ◌∷◌, ◌++◌, length, take, drop, Some, Err, IsNone, IfOk, IfErr, IfSome, OnOk, OnErr, IsOkUnless};
 ghost use Rattle.h2frame.specs.FrameList.{Entry, Whole, Joined, IsUnfinished, IsFaulty, IsLawful, answered, HasCause};

@@ -1,4 +1,7 @@
 //! Writing frames.
+//!
+//! It asks that the head isn't padded and has no priority by its kind (`is_padded`, `has_priority`): a frame of an
+//! unknown type may have those bits set, since there they mean nothing.
 
 ghost use Rattle.std.specs.Prelude.{◌≡◌, ◌<◌, ◌^◌, ◌++◌, ◌⊎◌, false, length, Some, Err, IfErr, OnOk, OnErr};
 ghost use Rattle.h2frame.specs.Faults.{frame_fault};

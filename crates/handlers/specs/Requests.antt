@@ -1,4 +1,6 @@
 -- How one request is judged (gRPC's interop-test-descriptions.md; where it is silent, our own rules).
+-- A verdict on bytes is one that follows from a message that they are, or from there being none. A second message of a
+-- method that takes one, and what stands behind a request that ends the call, need no verdict.
 use Rattle.std.specs.Prelude.{◌≡◌, ℕ, ℤ, pos, negsuc, zero, suc, Bool, true, false, if◌then◌else◌, List, [], ◌∷◌, map, length, Option, Some, None, Result, Ok, Err, nat_le}
 use Rattle.pbwire.specs.Fields.{Field}
 use Rattle.testproto.specs.Values.{IsValueOf}

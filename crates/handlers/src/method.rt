@@ -1,4 +1,8 @@
 //! What every method has, and the law that it keeps.
+//!
+//! `answers` is a relation on the bytes of the messages, and no function, since the value of a message is one.
+//! `stands` relates a state to the messages and to what was answered to them so far, so a chain of steps needs no
+//! proof that an answer is the only one; that it is, `one_answer` says.
 
 ghost use Rattle.std.specs.Prelude.{◌≡◌, ◌++◌, ◌∷◌, [], List, ℕ, Bool, true, false, IfOk, OnOk, IsSome};
 ghost use Rattle.handlers.specs.declared.state.MethodState.{MethodState as State};

@@ -1,4 +1,6 @@
 //! The methods of a server.
+//!
+//! `get`: who found an index needs the method.
 
 ghost use Rattle.std.specs.Prelude.{◌≡◌, ◌≢◌, length, IfSome, IfNone, slice_get, option_copied};
 ghost use Rattle.std.specs.List.{HoldsAt, AllWithin};

@@ -1,4 +1,7 @@
 //! What a method replies, and the bytes of the message that says so.
+//!
+//! `Sum` holds an `i32`, the type of the field; the state's sum is a `u32`. The reply to UnaryCall is written as a
+//! StreamingOutputCallResponse: a SimpleResponse with the same payload is spelled the same (`specs/Replies.antt`).
 
 ghost use Rattle.std.specs.Prelude.{◌≡◌, ◌++◌, ◌∷◌, [], IfOk, OnOk};
 ghost use Rattle.pbwire.specs.Spelling.{spelling_of_all};

@@ -1,4 +1,9 @@
 //! What a method keeps of a call between its steps.
+//!
+//! `Sum` holds the one length that UnaryCall needs of its message; EmptyCall keeps an empty list, since it needs to
+//! know only that there was one; StreamingOutputCall keeps its message and judges it again at the end, so that its
+//! replies aren't held twice. A state that a method never makes stands for nothing, and a step from it answers
+//! something harmless.
 
 ghost use Rattle.std.specs.Prelude.{◌≡◌, ◌++◌, ◌∷◌, [], IfOk, OnOk};
 

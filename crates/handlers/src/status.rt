@@ -1,4 +1,6 @@
 //! The statuses that a method gives.
+//!
+//! The text is `testproto`'s `Text`, so that an asked text is moved and not copied.
 
 ghost use Rattle.std.specs.Prelude.{◌≡◌, [], IfOk};
 ghost use Rattle.handlers.specs.Statuses.{status_of, ok_status};

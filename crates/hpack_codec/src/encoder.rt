@@ -1,4 +1,6 @@
 //! Writing a header block (RFC 7541, sections 3.2 and 6).
+//!
+//! `block`: it looks at the lengths of all fields before it takes memory, so `too_large` is exact.
 ghost use Rattle.std.specs.Prelude.{◌≡◌, ◌<◌, ◌^◌, ◌≤◌, ◌⊎◌, ◌↔◌, length, Some, None, Any, IfOk, IfErr, OnOk, OnErr, IsErrOf, IsSome, IsTrue};
 ghost use Rattle.hpack_codec.specs.Codec.{first_encoding, limited, Writes, IsTooLong};
 ghost use Rattle.hpack_codec.specs.Reading.{Appends, SpellsField, SpellsFields, SpellsUpdate};

@@ -1,4 +1,6 @@
 //! `interop body`: the messages of one call, from hexadecimal text to printed lines.
+//!
+//! The whole report is made before any of it is written, so out of memory prints nothing.
 ghost use Rattle.std.specs.Prelude.{◌≡◌, ◌<◌, IfOk, IfErr, OnOk, OnErr};
 ghost use Rattle.interop.specs.declared.body.RunFault.TheVariants.{OutOfMemory, WriteFailed};
 ghost use Rattle.interop.specs.Body.{Leaves, Marks, Reports, fault_of_read, fault_of_text, report_of};

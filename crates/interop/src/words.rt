@@ -1,4 +1,7 @@
 //! The words of the command line.
+//!
+//! The number of `--cut` is read by `get_one::<usize>`; where it gave none, or one out of the range, the words mean
+//! nothing. `clap`'s parser has the same range, so this never decides.
 ghost use Rattle.std.specs.Prelude.{◌≡◌, ◌≢◌, ◌≤◌, false, Some, None, IfOk, IfSome, IsErrOf, map, option_and_then, string_bytes};
 ghost use Rattle.clap.specs.Words.{app_of, found_of, kind_of, one_of, rows_of, rule_of, subcommand_rows_of};
 ghost use Rattle.interop.specs.declared.words.WordsFault.TheVariants.{BadWords, OutOfMemory};

@@ -1,4 +1,8 @@
 //! Waiting for a change that another thread makes.
+//!
+//! Two words, one for rings and one for sleepers, would lose a ring: one who rang before a waiter took its mark could
+//! take back the sign that the waiter sleeps. A wait may end early. There is no contract, since nothing is known of an
+//! atomic word.
 use std::sync::Wait;
 use std::sync::atomic::{AtomicU64, Ordering};
 use std::time::Duration;

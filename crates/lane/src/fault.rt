@@ -1,4 +1,6 @@
 //! Why an item was not put.
+//!
+//! `Display` is written by hand, so that the crate needs no `thiserror`.
 ghost use Rattle.std.specs.Prelude.{◌≡◌};
 
 use std::error::Error;

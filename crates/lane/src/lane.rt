@@ -1,4 +1,10 @@
 //! What a queue from one writer to one reader is.
+//!
+//! Which `open` an end is of is an equation of names, `in_name tx ≡ out_name rx`: each call says that the name stays,
+//! and `settle` requires the equation. The room is a function of the name, so every end knows it.
+//!
+//! `Settled`: `put` and `got` stop at 2^64 - 1, so equal counts there don't say that all was got; `left` is exact, and
+//! `left = 0` gives `got = put`.
 ghost use Rattle.std.specs.Prelude.{◌≡◌, ℕ, ◌+◌, ◌≤◌, ◌<◌, List, [], ◌∷◌, ◌++◌, Bool, length, ⊤, Option, None, Some, IfOk, OnOk, IfErr, OnErr, MatchOption, MatchBool};
 ghost use Rattle.std.specs.Borrow.{sem};
 ghost use denote.Follow.{follows_so};

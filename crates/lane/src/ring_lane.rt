@@ -1,4 +1,9 @@
 //! A lane over a ring, which the reader empties for the writer.
+//!
+//! `meet`: not in the trait, since a `RowLane` can't answer it.
+//!
+//! `polled`: an item has to be moved out before its slot is free, and a reference to it is answered: so it lives here
+//! until the next poll that finds one.
 ghost use Rattle.std.specs.Prelude.{◌≡◌, ℕ, ◌+◌, ◌<◌, ◌≤◌, length};
 ghost use Rattle.rtrb.specs.Ring.{sent, known_free, producer_capacity, received, consumer_capacity};
 ghost use Rattle.lane.specs.Lawful.{count_of};

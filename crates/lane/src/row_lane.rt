@@ -1,4 +1,7 @@
 //! A lane over a row of cells, each of which is set once.
+//!
+//! Notes of cells say that two looks at a cell agree, and not that only the writer sets cells; with the marks no more
+//! is got than was put, without a premise.
 ghost use Rattle.std.specs.Prelude.{◌≡◌, ℕ, ◌+◌, ◌≤◌, length, take, vec_len, vec_capacity};
 ghost use Rattle.std.specs.Arc.{arc_value};
 ghost use Rattle.rtrb.specs.Ring.{sent, known_free, producer_capacity, received};

@@ -1,4 +1,6 @@
 //! The message at the front of some bytes.
+//!
+//! `is_frame`: public, since whoever is handed one message with its length prefix needs the test.
 
 ghost use Rattle.std.specs.Prelude.{◌≡◌, ◌↔◌, IsTrue};
 ghost use Rattle.lpm.specs.Messages.{AreBytes, IsFrame};

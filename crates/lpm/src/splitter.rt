@@ -1,4 +1,10 @@
 //! Messages out of pieces.
+//!
+//! The bytes of an unfinished message are copied out of their pieces when `next` is asked: sharing them would save one
+//! copy, and let one byte hold on to a whole buffer.
+//!
+//! `Splitter::end`: it reads the waiting bytes again, in time linear in the pieces and messages that wait. It is asked
+//! once a call, when little waits.
 
 ghost use Rattle.std.specs.Prelude.{◌≡◌, ℕ, ◌<◌, ◌≤◌, List, [], ◌++◌, length, All, IfErr, IfSome, OnErr, OnOk, IfNone, IfOk};
 ghost use Rattle.lpm.specs.declared.fault.LpmFault.TheVariants.{CutAtEnd, OutOfMemory};

@@ -1,4 +1,7 @@
 -- The calls that a writer serves: what their senders gave, and what was told of it; and what was told of other streams.
+-- What was told of a call is compared with what its sender gave for streams that were opened once and not refused
+-- before, and for senders of which nothing was got before their Open: what the frames of another told belongs to
+-- another. Of a header block nothing is told until its last frame.
 use Rattle.std.specs.Prelude.{◌≡◌, ◌⊎◌, ◌||◌, ◌&&◌, not, ℕ, ◌==◌, Bool, true, false, All, List, [], ◌∷◌, if◌then◌else◌}
 use Rattle.account.specs.declared.call.OutItem.{OutItem}
 use Rattle.lists.specs.declared.field.Field.{Field}

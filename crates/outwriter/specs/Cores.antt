@@ -1,4 +1,6 @@
 -- What callers see of a writer's core: over any list of its calls, what was told of each call begins what its sender gave.
+-- `Reached` (the law of runs) and `Serving` (what was told of each call) are two invariants over the same run. Neither
+-- needs the other, so a caller may use one alone.
 use Rattle.std.specs.Prelude.{◌≡◌, ◌⊎◌, ℕ, true, false, All, List, [], ◌∷◌, map, get_or, Option, None, Some, Result, Ok, Err, nat_eq}
 use Rattle.std.specs.Map.{lookup}
 use Rattle.account.specs.declared.call.OutItem.{OutItem}

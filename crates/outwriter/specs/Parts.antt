@@ -1,4 +1,6 @@
 -- What the frames of one stream tell, and what the items of a response spell (RFC 9113, section 8.1).
+-- The part of a stream is a list of marks: a byte of DATA is one, a whole header block one, END_STREAM and RST_STREAM
+-- one each. So that DATA are joined, and that one part is a prefix of another, is said by plain lists.
 use Rattle.std.specs.Prelude.{◌≡◌, ℕ, ◌==◌, ◌⊎◌, Bool, true, false, List, [], ◌∷◌, ◌++◌, map, filter, flat_map, Option, None, Some, if◌then◌else◌}
 use Rattle.std.specs.Int.{from_be_bytes, w32}
 use Rattle.account.specs.Accounts.{Begins}

@@ -1,4 +1,8 @@
 //! The server's side of a connection, as far as it was written: all that says which frames may come next.
+//!
+//! The connection's state without the calls. Each frame leaves through one call of it, whose clause is the law for
+//! that frame: whatever run led to the state before, the frame might be written behind it, and the run with the frame
+//! leads to the state behind it.
 
 ghost use Rattle.std.specs.Prelude.{Err, ◌==◌, ◌∷◌, if◌then◌else◌, ◌≢◌, ◌≡◌, ◌≤◌, ◌<◌, ◌^◌, ◌&&◌, ◌||◌, true, false, nat_lt, nat_le, ℕ, All, List, [], None, OnOk, OnErr, IfErr, length};
 ghost use Rattle.flow.specs.WindowHistory.{Follows};

@@ -1,4 +1,7 @@
 //! What a peer's SETTINGS tell the side that writes (RFC 9113, section 6.5.2).
+//!
+//! A type of its own, of the same shape as `session`'s, since `session` is to stand on this crate; one of the two goes
+//! when the connection is built.
 
 ghost use Rattle.std.specs.Prelude.{◌≡◌};
 

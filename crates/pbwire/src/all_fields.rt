@@ -1,4 +1,6 @@
 //! All the fields of a message at once.
+//!
+//! The walk to the end as one contract; it takes memory for its list.
 
 ghost use Rattle.std.specs.Prelude.{map, IfOk};
 ghost use Rattle.pbwire.specs.Fields.{field_of, IsReading};

@@ -1,4 +1,7 @@
 //! The fields of a message, one after another.
+//!
+//! `Fields`: it keeps the unread bytes and nothing else: a fault uses up nothing, so the next call finds the same
+//! fault at the same place. What is read as a fault costs at most some twenty bytes each time.
 
 ghost use Rattle.std.specs.Prelude.{◌≡◌, ◌≢◌, ◌↔◌, ◌<◌, ℕ, List, [], length, IsNone, IfNone, IfSome, IfOk, IfErr, OnOk, OnErr, Some, Ok, Err};
 ghost use Rattle.pbwire.specs.declared.fault.WireFault.{WireFault as Fault};

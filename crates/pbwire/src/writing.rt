@@ -1,4 +1,7 @@
 //! Writing varints and fields at the end of a buffer.
+//!
+//! Where the second part of a field finds no room, the buffer is taken back to its old length; the room isn't asked
+//! for first, so a buffer with room is never grown.
 
 ghost use Rattle.std.specs.Prelude.{◌≡◌, ◌+◌, ◌<◌, ◌≤◌, ◌++◌, length, take, vec_len, vec_capacity, OnOk, OnErr, IfErr};
 ghost use Rattle.pbwire.specs.declared.fault.WireFault.TheVariants.{OutOfMemory};

@@ -1,5 +1,10 @@
 -- The events of a connection's bytes (RFC 9113, sections 3.4, 4.3, 5.4 and 6), on the whole list of its frames: behind
 -- the preface it is cut into groups, each of which has its events, and these end with the first that is fatal.
+-- The events are a relation between bytes and a list, and so are its parts: no function is written down that would
+-- compute them a second time. That the relation is no weaker than a function is a law (`one_list`, `goes_on`). Groups
+-- of frames, and not what the core keeps from frame to frame: a header block is one group, whatever it is cut into,
+-- and what stands behind the last whole group is said once, by `Close`. What a fatal event leaves behind is not
+-- pinned, since nothing follows it (`one_outcome`).
 use Rattle.std.specs.Prelude.{◌≡◌, ◌⊎◌, ℕ, Bool, true, false, List, [], ◌∷◌, ◌++◌, map, flat_map, Option, Some}
 use Rattle.std.specs.List.{list_any}
 use Rattle.h2frame.specs.declared.error_code.ErrorCode.{ErrorCode}

@@ -1,4 +1,6 @@
 -- The data of a stream (RFC 9113, sections 5.1, 6.1 and 8.1), on the whole list of frames.
+-- Data and end are defined on the frame list alone, without verdicts: on an open stream DATA are lawful, and HEADERS,
+-- RST_STREAM and a WINDOW_UPDATE without an increment each end it.
 use Rattle.std.specs.Prelude.{ℕ, Bool, true, false, nat_eq, ◌&&◌, if◌then◌else◌, List, [], ◌∷◌, ◌++◌, flat_map}
 use Rattle.h2frame.specs.declared.frame.Frame.{Frame}
 use Rattle.h2frame.specs.declared.kind.FrameKind.{FrameKind}

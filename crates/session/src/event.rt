@@ -2,6 +2,9 @@
 //!
 //! `Control` has what the peer tells or asks of the side that writes, and no ends of calls. A PING's eight bytes share the
 //! frame's memory.
+//!
+//! `Control` has what the peer tells or asks of the side that writes, and no ends of calls. A PING's eight bytes share
+//! the frame's memory.
 
 use crate::settings::PeerSettings;
 use bytes::Bytes;

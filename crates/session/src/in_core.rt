@@ -2,6 +2,9 @@
 //!
 //! `feed` says what a piece leads to, for every list of bytes and events that led to the core before it; the loop that feeds
 //! the pieces names the list, and `laws::answers` then gives the events. After `Fatal` what is fed isn't kept.
+//!
+//! `feed` says what a piece leads to, for every list of bytes and events that led to the core before it; the loop that
+//! feeds the pieces names the list, and `laws::answers` then gives the events. After `Fatal` what is fed isn't kept.
 
 ghost use Rattle.std.specs.Prelude.{◌≡◌, List, ℕ, [], ◌++◌, IfOk, IsOk, OnErr};
 ghost use Rattle.session.specs.declared.event.InEvent.{InEvent as InEventOf};

@@ -1,4 +1,7 @@
 -- What the fields of a message say (Protocol Buffers encoding guide, "Last One Wins", "Optional and Repeated Fields" and "Submessages").
+-- Values are defined over lists of fields and not over bytes: several occurrences of an embedded message are the
+-- message of their joined field lists, each read by itself. The fields of joined well formed bytes are the joined
+-- fields (`fields_join` of `pbwire`).
 use Rattle.std.specs.Prelude.{◌≡◌, ◌≢◌, ℕ, ℤ, ◌%◌, ◌^◌, ◌==◌, ◌⊎◌, Bool, not, if◌then◌else◌, List, [], ◌∷◌, ◌++◌, Option, Some, None, IsUtf8}
 use Rattle.std.specs.List.{flat_map, AllByRecursion}
 use Rattle.std.specs.Int.{w32, cast_signed}

@@ -1,4 +1,6 @@
 //! What every message has, and how it is read.
+//!
+//! `size`: no length where it passes a `usize`; `encode` then answers out of memory.
 
 ghost use Rattle.std.specs.Prelude.{◌≡◌, ◌≢◌, ◌++◌, ◌∷◌, [], List, length, IfOk, IfErr, IfSome, OnOk, MatchResult};
 ghost use Rattle.pbwire.specs.Fields.{Field, field_of};

@@ -1,4 +1,6 @@
 //! The messages.
+//!
+//! Open enums (`kind`, `response_type`) are `i32`.
 
 ghost use Rattle.std.specs.Prelude.{◌≡◌, ◌++◌, ◌∷◌, [], OnOk, OnErr};
 

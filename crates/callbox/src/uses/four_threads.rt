@@ -1,4 +1,6 @@
 //! The four ends of a call, each in a thread of its own.
+//!
+//! It is there to state what four threads do; a server's own loops decide what a refusal means.
 
 ghost use Rattle.std.specs.Prelude.{◌≡◌, ℕ, true, List, [], ◌++◌, Some, ◌≤◌, length, map, take, All, IfOk};
 ghost use mathlib.Core.List.{IsPrefix};

@@ -1,4 +1,6 @@
 //! The bytes of DATA that a credit book counts.
+//!
+//! `Counts` and `Call` are public with public fields, since clauses name them; no call hands one out.
 
 ghost use Rattle.std.specs.Prelude.{◌≡◌, ◌+◌, ◌-◌, ◌<◌, ◌≤◌, ◌^◌, min};
 
