@@ -12,12 +12,12 @@ use std::alloc::{AllocError, Global};
 /// A connection of so many bytes is cut at each place, and a longer one at the last few.
 const CUT_EVERYWHERE: usize = 4_096;
 
-const LAST_PLACES: usize = 40;
+const LAST_PLACES: usize = 12;
 
 /// The sizes of pieces in which a connection is read: each one of a byte at a time, and a longer one of these too.
 const EACH: [usize; 1] = [1];
 
-const LONGER: [usize; 9] = [1, 2, 3, 9, 100, 4_096, 16_384, 16_393, 65_536];
+const LONGER: [usize; 6] = [1, 2, 9, 100, 16_384, 16_393];
 
 /// The events of bytes that come in two pieces.
 fn events_cut_at(alloc: Global, bytes: &[u8], cut: usize) -> Result<Vec<InEvent>, AllocError>
