@@ -1,4 +1,3 @@
 pub mod CallLemmas
-pub mod DeviceLemmas
 pub mod NumberLemmas
 pub mod WordsLemmas

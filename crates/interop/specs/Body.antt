@@ -5,11 +5,11 @@ use Rattle.std.specs.Io.KnownBytes.{Appends, Consumes, IsAtEnd, Keeps}
 use Rattle.lpm.specs.Reading.{fault_of, messages_of, rest_of}
 use Rattle.lpm.specs.declared.fault.LpmFault.{LpmFault}
 use Rattle.lpm.specs.declared.fault.LpmFault.TheVariants.{CutAtEnd}
-use Rattle.interop.specs.Device.{AppendsFront, ConsumesSome}
+use Rattle.device.specs.Bytes.{AppendsPrefix, ConsumesSome}
 use Rattle.interop.specs.Hex.{IsNotHex, SpellsBytes}
 use Rattle.interop.specs.Report.{report}
-use Rattle.interop.specs.declared.device.ReadFault.{ReadFault}
-use Rattle.interop.specs.declared.device.ReadFault.TheVariants as read_fault
+use Rattle.device.specs.declared.whole.ReadFault.{ReadFault}
+use Rattle.device.specs.declared.whole.ReadFault.TheVariants as read_fault
 use Rattle.interop.specs.declared.text.HexFault.{HexFault}
 use Rattle.interop.specs.declared.text.HexFault.TheVariants as hex_fault
 use Rattle.interop.specs.declared.body.RunFault.{RunFault}
@@ -46,7 +46,7 @@ abbrev pub Leaves : RunFault → Option (List ℕ) → Option (List ℕ) → Opt
 Leaves NotHex input rest before after = (text : List ℕ) × ReadsText input rest text × IsNotHex text × Keeps before after
 Leaves ReadFailed input rest before after = ConsumesSome input rest × Keeps before after
 Leaves WriteFailed input rest before after =
-    (text : List ℕ) × (printed : List ℕ) × ReadsText input rest text × Prints text printed × AppendsFront before after printed
+    (text : List ℕ) × (printed : List ℕ) × ReadsText input rest text × Prints text printed × AppendsPrefix before after printed
 Leaves OutOfMemory input rest before after = ConsumesSome input rest × Keeps before after
 
 -- the marks of failure of reader and writer, before and after: each is set by its own fault alone

@@ -1,10 +1,8 @@
 pub mod Body
 pub mod BodyExamples
 pub mod Call
-pub mod Device
 pub mod Hex
 pub mod HexExamples
-pub mod Marked
 pub mod Report
 pub mod Words
 pub mod WordsExamples

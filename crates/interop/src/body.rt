@@ -6,10 +6,10 @@ ghost use Rattle.interop.specs.declared.body.RunFault.TheVariants.{OutOfMemory, 
 ghost use Rattle.interop.specs.Body.{Leaves, Marks, Reports, fault_of_read, fault_of_text, report_of};
 
 use crate::call::{fault_told, whole_call};
-use crate::device::{ConnRead, ConnWrite, DeviceFault, ReadFault, read_all, write_all};
 use crate::report::report;
 use crate::text::{HexFault, bytes_of};
 use account::replay;
+use device::{ConnRead, ConnWrite, DeviceFault, ReadFault, read_all, write_all};
 use std::alloc::{AllocError, Global};
 
 /// Why a run gave up.

@@ -8,8 +8,7 @@
 //! Read in this order:
 //!
 //! - `words`: what the words of the command line mean, by `clap`.
-//! - `body`: the command, over any reader and writer; `specs/Body.antt` says what it prints.
-//! - `device`: readers and writers with a mark of failure.
+//! - `body`: the command, over any device (the crate `device`); `specs/Body.antt` says what it prints.
 //! - `text`: hexadecimal text into bytes.
 //! - `call`: the events of a call whose bytes come in pieces.
 //! - `report`: the lines that tell messages, the end and faults.
@@ -19,10 +18,7 @@ ghost use Rattle.std.specs.Prelude.{◌<◌};
 
 mod body;
 mod call;
-mod device;
 mod report;
-#[cfg(test)]
-mod tests;
 mod text;
 mod words;
 

@@ -25,5 +25,3 @@ pub use in_core::InCore;
 pub use preface::{BadPreface, Preface};
 pub use settings::{Parameter, PeerSetting, PeerSettings, SettingsFault, read_settings};
 
-#[cfg(test)]
-mod tests;

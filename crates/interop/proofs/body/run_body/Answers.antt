@@ -9,5 +9,5 @@ returns-in_err-write_all-clause-err g c =
       c.in_ok-report.report.items,
       (c.in_ok-text.ensures.ok, c.in_ok-text.ensures.end),
       (c.in_ok-bytes.bytes.items, c.in_ok-bytes.ensures.ok, c.in_ok-report.ensures),
-      rw c.as_slice.ensures.value at c.in_err-write_all.ensures.front,
+      rw c.as_slice.ensures.value at c.in_err-write_all.ensures.prefix,
     )
