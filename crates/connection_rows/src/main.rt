@@ -1,71 +1,50 @@
-//! What the bytes of a connection come to, by the rows of the files in `data/` (`data/README.md`): each row has a whole
-//! connection and the events that are wanted of it. Prints a line for each row that differs, and for each file the number
-//! of its rows; where a row differs, the program fails.
+//! What the bytes of connections come to, by the files in `data/`; `data/README.md` says how these are written.
 //!
-//! `rows` reads a file: the rows of its lines, and the names that it gives to what begins many of them. `part` is what
-//! stands on a line: bytes and their events. `feeding` reads the bytes of a row by the reading core, cut in many ways, and
-//! compares their events; `events` writes events as the rows have them.
+//! - `reading`: rows of a connection that a client writes, and the events that the reading core has to give, however the
+//!   bytes are cut.
+//! - `writing`: rows of what a connection's writer is told, and the frames that its peer has to read.
+//! - `recordings`: connections that gRPC clients wrote. Their frames and events are printed; `stdout` has those that
+//!   another implementation of HTTP/2 read in them.
+//!
+//! A row that differs is printed, with the line it stands on, and for each file the number of its rows; where a row
+//! differs, the program fails.
 #![tactic(auto)]
 
-use anyhow::{Context, Result, ensure};
+use anyhow::{Result, ensure};
 use std::fs;
 use std::rt::Files;
 
-mod events;
-mod feeding;
-mod part;
-mod rows;
+mod reading;
+mod recordings;
+mod writing;
 
-const FILES: [&str; 11] = [
-    "preface.rows",
-    "first_frames.rows",
-    "settings.rows",
-    "connection_frames.rows",
-    "frames.rows",
-    "states.rows",
-    "errors.rows",
-    "header_blocks.rows",
-    "malformed_heads.rows",
-    "long_inputs.rows",
-    "clients.rows",
-];
-
-/// How many rows of a file there are, and how many of them differ.
-#[derive(Drop)]
-struct Count {
-    rows: u64,
-    differing: u64,
+/// How many rows a file has, and how many things differ in them.
+#[derive(Clone, Copy)]
+pub struct Tally {
+    pub rows: u64,
+    pub differing: u64,
 }
 
-/// Compares the rows of a file, and prints those that differ.
-fn check_file(rt: &(impl Files + Print + AllocGlobal), name: &str) -> Result<Count> {
-    let alloc = rt.alloc();
-    let text = fs::read_to_string(rt, name).context("a file of rows is not there")?;
-    let mut count = Count {
-        rows: 0,
-        differing: 0,
-    };
-    for row in rows::read(alloc, name, text.as_str())?.as_slice() {
-        count.rows = count.rows.saturating_add(1);
-        if let Some(difference) = feeding::difference(alloc, &row.part)? {
-            count.differing = count.differing.saturating_add(1);
-            let line = row.line;
-            let wanted = row.part.events.as_str();
-            println!(rt; "{name}:{line}: wanted{wanted}")?;
-            println!(rt; "{name}:{line}: {difference}")?;
-        }
-    }
-    Ok(count)
+/// Prints how many rows a file has, and answers how many things differ.
+fn tell(rt: &impl Print, file: &str, tally: Tally) -> Result<u64> {
+    let rows = tally.rows;
+    println!(rt; "{file}: {rows} rows")?;
+    Ok(tally.differing)
 }
 
 fn main(rt: HostRuntime) -> Result<()> {
     let mut differing = 0_u64;
-    for name in FILES {
-        let count = check_file(&rt, name)?;
-        let rows = count.rows;
-        println!(rt; "{name}: {rows} rows")?;
-        differing = differing.saturating_add(count.differing);
+    for file in reading::FILES {
+        let text = fs::read_to_string(&rt, file)?;
+        let tally = reading::run_file(&rt, file, text.as_str())?;
+        differing = differing.saturating_add(tell(&rt, file, tally)?);
     }
-    ensure!(differing == 0, "{differing} rows differ");
+    for file in writing::FILES {
+        let text = fs::read_to_string(&rt, file)?;
+        let tally = writing::run_file(&rt, file, text.as_str())?;
+        differing = differing.saturating_add(tell(&rt, file, tally)?);
+    }
+    recordings::print(&rt)?;
+    ensure!(differing == 0, "{differing} things differ");
     Ok(())
 }

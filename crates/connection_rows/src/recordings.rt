@@ -1,20 +1,23 @@
-//! Prints the frames and the events of recorded connections, as `data/` has them from the preface on: of a frame its type,
-//! flags, stream and payload's length, with the block of HEADERS and the payload of what is neither HEADERS nor DATA; of
-//! the events a line each (`events`). Each connection is read whole and in small pieces, which have to give the same.
-//! `stdout` has the lists that another implementation of HTTP/2 made of the same bytes (`data/README.md`).
-#![tactic(auto)]
+//! The frames and the events of recorded connections, as `data/recordings/` has them from the preface on: of a frame its
+//! type, flags, stream and payload's length, with the block of HEADERS and the payload of what is neither HEADERS nor DATA;
+//! of the events a line each. Each connection is read whole and in small pieces, which have to give the same.
 
+use crate::reading::events::{push_bytes, push_event};
+use crate::reading::feeding::events_in_pieces;
 use anyhow::{Context, Result, ensure};
 use h2frame::{Frame, FrameKind};
-use std::alloc::Global;
+use session::InEvent;
+use std::alloc::{AllocError, Global};
 use std::fs;
 use std::rt::Files;
 
-mod events;
-mod reading;
+mod frames;
 
 /// The bytes of a connection before its frames (RFC 9113, section 3.4).
 const PREFACE_LEN: usize = 24;
+
+/// The sizes of the pieces that a connection is read in.
+const SIZES: [usize; 5] = [1, 2, 9, 1000, 16_384];
 
 const CONNECTIONS: [&str; 26] = [
     "c_core-cancel_after_begin",
@@ -61,7 +64,7 @@ fn name_of(kind: FrameKind) -> &'static str {
     }
 }
 
-fn print_frame(text: &mut String, frame: &Frame) -> Result<()> {
+fn push_frame(text: &mut String, frame: &Frame) -> Result<(), AllocError> {
     let head = &frame.head;
     let name = name_of(head.kind);
     let flags = head.flags.bits;
@@ -74,67 +77,85 @@ fn print_frame(text: &mut String, frame: &Frame) -> Result<()> {
     match head.kind {
         FrameKind::Data => {}
         FrameKind::Headers => {
-            write!(text, "\n  block ")?;
-            print_bytes(text, frame.content.as_slice())?;
+            text.push_str("\n  block ")?;
+            push_bytes(text, frame.content.as_slice())?;
         }
         _ => {
-            write!(text, " payload=")?;
-            print_bytes(text, frame.content.as_slice())?;
+            text.push_str(" payload=")?;
+            push_bytes(text, frame.content.as_slice())?;
         }
     }
-    text.push('\n')?;
-    Ok(())
+    text.push('\n')
 }
 
-fn print_bytes(text: &mut String, bytes: &[u8]) -> Result<()> {
-    for byte in bytes {
-        write!(text, "{byte:02x}")?;
+fn sum_of(bytes: &[u8]) -> u64 {
+    bytes
+        .iter()
+        .fold(0_u64, |sum, byte| sum.wrapping_add(u64::from(*byte)))
+}
+
+/// An event on a line. Of DATA the number of its bytes, their sum, and what flow control counts.
+fn push_line(text: &mut String, event: &InEvent) -> Result<(), AllocError> {
+    text.push_str("event")?;
+    match event {
+        InEvent::Data(id, piece, counted) => {
+            let len = piece.len();
+            let sum = sum_of(piece.as_slice());
+            write!(text, " Data({id}, {len} bytes of sum {sum}, {counted})")?;
+        }
+        other => push_event(text, other)?,
     }
-    Ok(())
+    text.push('\n')
 }
 
-/// The lines of the frames of bytes that come in pieces of a size.
-fn lines_of(alloc: Global, bytes: &[u8], size: usize) -> Result<String> {
+/// The lines of the frames that come in pieces of a size.
+fn push_frames(alloc: Global, text: &mut String, bytes: &[u8], size: usize) -> Result<()> {
     let mut pieces = Vec::new(alloc);
     for piece in bytes.chunks(size.max(1)) {
         pieces.push(Vec::from_slice(alloc, piece)?)?;
     }
+    for frame in frames::read(alloc, pieces.as_slice())?.as_slice() {
+        push_frame(text, frame)?;
+    }
+    Ok(())
+}
+
+/// The lines of a connection's frames and events, where its bytes come in pieces of a size.
+fn lines_of(alloc: Global, bytes: &[u8], size: usize) -> Result<String> {
     let mut text = String::new(alloc);
-    for frame in reading::read(alloc, pieces.as_slice())?.as_slice() {
-        print_frame(&mut text, frame)?;
+    let frames = bytes.get(PREFACE_LEN..).context("the preface is cut")?;
+    push_frames(alloc, &mut text, frames, size)?;
+    for event in events_in_pieces(alloc, bytes, size)?.as_slice() {
+        push_line(&mut text, event)?;
     }
     Ok(text)
 }
 
-fn connection(rt: &(impl Files + AllocGlobal), name: &str) -> Result<(String, String)> {
-    let alloc = rt.alloc();
-    let path = format!(in alloc; "{name}.hex")?;
+/// The bytes of a recorded connection.
+fn bytes_of(rt: &(impl Files + AllocGlobal), name: &str) -> Result<Vec<u8>> {
+    let path = format!(in rt.alloc(); "recordings/{name}.hex")?;
     let digits = fs::read_to_string(rt, path.as_str())?;
-    let bytes = hex::decode(alloc, digits.trim())
+    hex::decode(rt.alloc(), digits.trim())
         .ok()
-        .context("the file is not hexadecimal")?;
-    let bytes = bytes.as_slice();
-    let text = bytes.get(PREFACE_LEN..).context("the preface is cut")?;
-    let frames = lines_of(alloc, text, text.len())?;
-    let events = events::lines_of(alloc, bytes, bytes.len())?;
-    for size in [1, 2, 9, 1000, 16384] {
-        ensure!(
-            lines_of(alloc, text, size)?.as_str() == frames.as_str(),
-            "frames of {name} in pieces of {size}"
-        );
-        ensure!(
-            events::lines_of(alloc, bytes, size)?.as_str() == events.as_str(),
-            "events of {name} in pieces of {size}"
-        );
-    }
-    Ok((frames, events))
+        .context("the file is not hexadecimal")
 }
 
-fn main(rt: HostRuntime) -> Result<()> {
+/// The lines of a connection, the same in pieces of each size.
+fn lines_in_any_pieces(alloc: Global, name: &str, bytes: &[u8]) -> Result<String> {
+    let lines = lines_of(alloc, bytes, bytes.len())?;
+    for size in SIZES {
+        let text = lines_of(alloc, bytes, size)?;
+        ensure!(text == lines, "{name} in pieces of {size}");
+    }
+    Ok(lines)
+}
+
+/// Prints the lines of each recorded connection.
+pub fn print(rt: &(impl Files + Print + AllocGlobal)) -> Result<()> {
     for name in CONNECTIONS {
-        println!(rt; "{name}")?;
-        let (frames, events) = connection(&rt, name)?;
-        print!(rt; "{frames}{events}")?;
+        let bytes = bytes_of(rt, name)?;
+        let lines = lines_in_any_pieces(rt.alloc(), name, bytes.as_slice())?;
+        print!(rt; "{name}\n{lines}")?;
     }
     Ok(())
 }

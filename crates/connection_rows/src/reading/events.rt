@@ -7,7 +7,7 @@ use std::alloc::{AllocError, Global};
 const DIGITS: &[u8; 16] = b"0123456789abcdef";
 
 /// The digits of bytes.
-fn add_bytes(out: &mut String, bytes: &[u8]) -> Result<(), AllocError> {
+pub fn push_bytes(out: &mut String, bytes: &[u8]) -> Result<(), AllocError> {
     for byte in bytes {
         out.push(char::from(DIGITS[usize::from(*byte / 16)]))?;
         out.push(char::from(DIGITS[usize::from(*byte % 16)]))?;
@@ -15,7 +15,7 @@ fn add_bytes(out: &mut String, bytes: &[u8]) -> Result<(), AllocError> {
     Ok(())
 }
 
-fn add_head(out: &mut String, head: &CallHead) -> Result<(), AllocError> {
+fn push_head(out: &mut String, head: &CallHead) -> Result<(), AllocError> {
     for byte in head.path.as_slice() {
         out.push(char::from(*byte))?;
     }
@@ -28,36 +28,37 @@ fn add_head(out: &mut String, head: &CallHead) -> Result<(), AllocError> {
     }
     out.push_str("], [")?;
     for echo in head.echo_trailing.as_slice() {
-        add_bytes(out, echo.as_slice())?;
+        push_bytes(out, echo.as_slice())?;
     }
     out.push(']')
 }
 
-fn add_control(out: &mut String, control: &Control) -> Result<(), AllocError> {
+fn push_control(out: &mut String, control: &Control) -> Result<(), AllocError> {
     match control {
         Control::Settings(settings) => write!(out, " Settings{:?}", settings.as_slice()),
         Control::Window(id, more) => write!(out, " Window({id}, {more})"),
         Control::Ping(bytes) => {
             out.push_str(" Ping(")?;
-            add_bytes(out, bytes.as_slice())?;
+            push_bytes(out, bytes.as_slice())?;
             out.push(')')
         }
     }
 }
 
-fn add_event(out: &mut String, event: &InEvent) -> Result<(), AllocError> {
+/// An event, behind a space.
+pub fn push_event(out: &mut String, event: &InEvent) -> Result<(), AllocError> {
     match event {
         InEvent::Open(id, head) => {
             write!(out, " Open({id}, ")?;
-            add_head(out, head)?;
+            push_head(out, head)?;
             out.push(')')
         }
         InEvent::Data(id, piece, counted) => {
             write!(out, " Data({id}, ")?;
-            add_bytes(out, piece.as_slice())?;
+            push_bytes(out, piece.as_slice())?;
             write!(out, ", {counted})")
         }
-        InEvent::Control(control) => add_control(out, control),
+        InEvent::Control(control) => push_control(out, control),
         other => write!(out, " {other:?}"),
     }
 }
@@ -66,7 +67,7 @@ fn add_event(out: &mut String, event: &InEvent) -> Result<(), AllocError> {
 pub fn text_of(alloc: Global, events: &[InEvent]) -> Result<String, AllocError> {
     let mut out = String::new(alloc);
     for event in events {
-        add_event(&mut out, event)?;
+        push_event(&mut out, event)?;
     }
     Ok(out)
 }

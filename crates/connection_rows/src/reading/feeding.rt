@@ -3,8 +3,8 @@
 ghost use Rattle.std.specs.Prelude.{◌≤◌, length, IfOk};
 ghost use Rattle.session.specs.Events.{Events};
 
-use crate::events::text_of;
-use crate::part::Part;
+use super::events::text_of;
+use super::part::Part;
 use session::InEvent;
 use session::uses::in_pieces::events_of;
 use std::alloc::{AllocError, Global};
@@ -29,7 +29,11 @@ fn events_cut_at(alloc: Global, bytes: &[u8], cut: usize) -> Result<Vec<InEvent>
 }
 
 /// The events of bytes that come in pieces of a size.
-fn events_in_pieces(alloc: Global, bytes: &[u8], size: usize) -> Result<Vec<InEvent>, AllocError> {
+pub fn events_in_pieces(
+    alloc: Global,
+    bytes: &[u8],
+    size: usize,
+) -> Result<Vec<InEvent>, AllocError> {
     let mut pieces = Vec::new(alloc);
     for piece in bytes.chunks(size.max(1)) {
         pieces.push(piece)?;

@@ -1,7 +1,7 @@
 //! The words of an act, and what the act does to a writer's core.
 
-use crate::calls::{Ring, fields, sender};
-use crate::peer::Peer;
+use super::calls::{Ring, fields, sender};
+use super::peer::Peer;
 use anyhow::{Context, Result, bail};
 use callbox::Sender;
 use h2frame::ErrorCode;

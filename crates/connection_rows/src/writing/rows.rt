@@ -1,17 +1,11 @@
 //! A file of rows: which lines are acts, and what each has to tell.
 
-use crate::acts::{Core, perform};
-use crate::peer::Peer;
+use super::acts::{Core, perform};
+use super::peer::Peer;
+use crate::Tally;
 use anyhow::{Result, ensure};
 
-/// How many rows a file has, and at how many acts something else was told.
-#[derive(Clone, Copy)]
-pub struct Tally {
-    pub rows: u32,
-    pub differing: u32,
-}
-
-/// Runs all rows of a file. What differs is printed.
+/// Runs all rows of a file. The acts that tell something else are printed, and counted as differing.
 pub fn run_file(rt: &(impl AllocGlobal + Print), file: &str, text: &str) -> Result<Tally> {
     let mut tally = Tally {
         rows: 0,
@@ -39,7 +33,7 @@ fn is_comment(line: &str) -> bool {
 }
 
 /// Runs a row, the lines from this number on, of which the first is its name. Answers how many acts told something else.
-fn run_row(rt: &(impl AllocGlobal + Print), file: &str, first: usize, row: &str) -> Result<u32> {
+fn run_row(rt: &(impl AllocGlobal + Print), file: &str, first: usize, row: &str) -> Result<u64> {
     let mut core = Core::new(rt.alloc());
     let mut peer = Peer::new(rt.alloc());
     run_acts(rt, &mut core, &mut peer, file, first, row)
@@ -52,8 +46,8 @@ fn run_acts(
     file: &str,
     first: usize,
     row: &str,
-) -> Result<u32> {
-    let mut differing = 0u32;
+) -> Result<u64> {
+    let mut differing = 0_u64;
     for (index, line) in row.lines().enumerate() {
         if index == 0 || is_comment(line) {
             continue;

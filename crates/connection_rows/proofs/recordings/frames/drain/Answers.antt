@@ -1,5 +1,5 @@
 use Rattle.std.proofs.Common.{refl}
-use Rattle.client_frames.proofs.reading.drain.Goals as goal
+use Rattle.connection_rows.proofs.recordings.frames.drain.Goals as goal
 
 -- where nothing is answered, nothing was taken
 pub returns-in-None-clause-unfinished : goal.returns-in-None-clause-unfinished

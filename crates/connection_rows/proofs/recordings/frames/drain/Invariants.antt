@@ -1,6 +1,6 @@
 use Rattle.std.proofs.Common.{List, ℕ, map}
 use Rattle.h2frame.specs.FrameList.{Whole, Joined}
-use Rattle.client_frames.proofs.reading.drain.Given as goal
+use Rattle.connection_rows.proofs.recordings.frames.drain.Given as goal
 
 -- the frames so far are joined where those at first were
 abbrev pub invariant-loop : goal.invariant-loop

@@ -1,7 +1,7 @@
 use Rattle.std.proofs.Common.{List, ℕ, map, take}
 use Rattle.std.specs.Prelude.{flat_map}
 use Rattle.h2frame.specs.FrameList.{Whole, Joined, IsUnfinished}
-use Rattle.client_frames.proofs.reading.read.Given as goal
+use Rattle.connection_rows.proofs.recordings.frames.read.Given as goal
 
 -- the pieces so far are the frames so far and what the reader holds
 abbrev pub invariant-loop-piece : goal.invariant-loop-piece
