@@ -1,9 +1,10 @@
 //! Histories of a credit book: `books.rows`.
 
-use crate::rows::{Subject, number, print_done, words_of};
+use crate::names::push_done;
 use anyhow::{Result, bail, ensure};
 use flow::{Book, BookFault, Marks};
 use h2frame::StreamId;
+use rows::{Given, Subject, number};
 use std::alloc::Global;
 
 /// A credit book, and a call on it, with its answer.
@@ -92,14 +93,14 @@ impl Subject for Books {
         self.book = Book::new(alloc);
     }
 
-    fn answer(&mut self, alloc: Global, given: &str) -> Result<String> {
-        let words = words_of(alloc, given)?;
-        match words.as_slice() {
-            ["announce", id] => Ok(self.book.announce(number(id)?).to_string(alloc)?),
-            ["last"] => Ok(self.book.last().to_string(alloc)?),
-            ["closing"] => Ok(self.book.closing().to_string(alloc)?),
-            ["marks", id] => Ok(String::from_str(alloc, name_of(self.book.marks(number(id)?)))?),
-            words => print_done(alloc, self.change(words)?),
+    fn answer(&mut self, _alloc: Global, given: Given<'_>, answer: &mut String) -> Result<()> {
+        match given.words {
+            ["announce", id] => write!(answer, "{}", self.book.announce(number(id)?))?,
+            ["last"] => write!(answer, "{}", self.book.last())?,
+            ["closing"] => write!(answer, "{}", self.book.closing())?,
+            ["marks", id] => answer.push_str(name_of(self.book.marks(number(id)?)))?,
+            words => push_done(answer, self.change(words)?)?,
         }
+        Ok(())
     }
 }

@@ -1,8 +1,8 @@
 //! The frames of bytes: `frames.rows`, and `faults.rows` for when a fault stands.
 
-use crate::rows::{Subject, bytes_of};
 use anyhow::Result;
 use h2frame::{Frame, FrameFault, FrameReader};
+use rows::{Given, Subject, bytes_of};
 use std::alloc::Global;
 
 /// Of bytes that have no frame and no fault.
@@ -98,20 +98,49 @@ impl Reading {
         }
         Ok(())
     }
+
+    /// Reads bytes that come in two parts, the first of them in pieces of a size.
+    fn parts(&mut self, bytes: &[u8], cut: usize, size: usize) -> Result<()> {
+        let (first, second) = bytes.split_at(cut.min(bytes.len()));
+        for piece in first.chunks(size.max(1)) {
+            self.piece(piece)?;
+        }
+        self.piece(second)?;
+        if self.text.is_empty() {
+            self.text.push_str(NOTHING)?;
+        }
+        Ok(())
+    }
 }
 
 /// What is answered to bytes that come in two parts, the first of them in pieces of a size.
 fn answers(alloc: Global, bytes: &[u8], cut: usize, size: usize) -> Result<String> {
     let mut reading = Reading::new(alloc);
-    let (first, second) = bytes.split_at(cut.min(bytes.len()));
-    for piece in first.chunks(size.max(1)) {
-        reading.piece(piece)?;
-    }
-    reading.piece(second)?;
-    if reading.text.is_empty() {
-        reading.text.push_str(NOTHING)?;
-    }
+    reading.parts(bytes, cut, size)?;
     Ok(reading.text)
+}
+
+/// Whether that is answered to the bytes in such parts and pieces.
+fn is_answered(alloc: Global, bytes: &[u8], cut: usize, size: usize, wanted: &str) -> Result<bool> {
+    Ok(answers(alloc, bytes, cut, size)?.as_str() == wanted)
+}
+
+/// Whether that is answered to the bytes in every two parts, and in pieces of every size. Where it isn't, `answer` says so.
+fn try_cuts(alloc: Global, bytes: &[u8], whole: &str, answer: &mut String) -> Result<()> {
+    let len = bytes.len();
+    for cut in 0..len {
+        if !is_answered(alloc, bytes, cut, len, whole)? {
+            write!(answer, ", but not where {cut} bytes come first")?;
+            return Ok(());
+        }
+    }
+    for size in 1..len {
+        if !is_answered(alloc, bytes, len, size, whole)? {
+            write!(answer, ", but not in pieces of {size} bytes")?;
+            return Ok(());
+        }
+    }
+    Ok(())
 }
 
 /// Bytes, and the list of their frames and of their faults, up to the last.
@@ -122,25 +151,27 @@ impl Subject for Lists {
     fn restart(&mut self, _alloc: Global) {}
 
     /// Reads the bytes whole, in every two parts, and in pieces of every size.
-    fn answer(&mut self, alloc: Global, given: &str) -> Result<String> {
-        let bytes = bytes_of(alloc, given)?;
-        let bytes = bytes.as_slice();
-        let len = bytes.len();
-        let whole = answers(alloc, bytes, len, len)?;
-        for cut in 0..len {
-            let parts = answers(alloc, bytes, cut, len)?;
-            if parts.as_str() != whole.as_str() {
-                return Ok(format!(in alloc; "{parts}, where {cut} bytes come first")?);
-            }
-        }
-        for size in 1..len {
-            let pieces = answers(alloc, bytes, len, size)?;
-            if pieces.as_str() != whole.as_str() {
-                return Ok(format!(in alloc; "{pieces}, in pieces of {size} bytes")?);
-            }
-        }
-        Ok(whole)
+    fn answer(&mut self, alloc: Global, given: Given<'_>, answer: &mut String) -> Result<()> {
+        let bytes = bytes_of(alloc, given.text)?;
+        let whole = answers(alloc, bytes.as_slice(), bytes.len(), bytes.len())?;
+        answer.push_str(whole.as_str())?;
+        try_cuts(alloc, bytes.as_slice(), whole.as_str(), answer)
     }
+}
+
+/// Adds what is answered to these bytes, a byte at a time, if the answer doesn't end with it.
+fn add_news(alloc: Global, bytes: &[u8], answer: &mut String) -> Result<()> {
+    let len = bytes.len();
+    let answered = answers(alloc, bytes, len, 1)?;
+    let answered = answered.as_str();
+    if answered == NOTHING || answer.as_str().ends_with(answered) {
+        return Ok(());
+    }
+    if !answer.is_empty() {
+        answer.push_str(", then ")?;
+    }
+    write!(answer, "{len} {answered}")?;
+    Ok(())
 }
 
 /// Bytes, and how many of them must be there until a fault is answered, and which.
@@ -151,21 +182,11 @@ impl Subject for FirstBytes {
     fn restart(&mut self, _alloc: Global) {}
 
     /// Reads the first bytes, however many, a byte at a time.
-    fn answer(&mut self, alloc: Global, given: &str) -> Result<String> {
-        let bytes = bytes_of(alloc, given)?;
-        let mut text = String::new(alloc);
+    fn answer(&mut self, alloc: Global, given: Given<'_>, answer: &mut String) -> Result<()> {
+        let bytes = bytes_of(alloc, given.text)?;
         for len in 0..=bytes.len() {
-            let first = bytes.as_slice().get(..len).unwrap_or(&[]);
-            let answered = answers(alloc, first, len, 1)?;
-            if answered.as_str() == NOTHING {
-                continue;
-            }
-            if text.is_empty() {
-                write!(text, "{len} {answered}")?;
-            } else if !text.as_str().ends_with(answered.as_str()) {
-                write!(text, ", then {len} {answered}")?;
-            }
+            add_news(alloc, bytes.as_slice().get(..len).unwrap_or(&[]), answer)?;
         }
-        Ok(text)
+        Ok(())
     }
 }

@@ -4,10 +4,10 @@
 ghost use Rattle.std.specs.Prelude.{◌≡◌, ◌<◌, ◌^◌, length};
 ghost use Rattle.h2frame.specs.Kind.{kind_of, code_of};
 
-use crate::rows::{Subject, number, words_of};
 use anyhow::{Context, Result, bail, ensure};
 use bytes::Bytes;
 use h2frame::{Flags, Frame, FrameFault, FrameHead, FrameKind, FrameReader, StreamId, write_frame};
+use rows::{Given, Subject, number};
 use std::alloc::Global;
 
 /// The most bytes that stand before a content: the padding's length, and five of priority.
@@ -21,7 +21,7 @@ const KEPT: &[u8] = b"kept";
 
 /// A frame as a row gives it.
 #[derive(Clone, Copy)]
-struct Given {
+struct Sample {
     /// The type's code.
     code: u8,
     flags: u8,
@@ -31,15 +31,14 @@ struct Given {
     first: u8,
 }
 
-fn given_of(alloc: Global, text: &str) -> Result<Given> {
-    let words = words_of(alloc, text)?;
-    match words.as_slice() {
+fn sample_of(words: &[&str]) -> Result<Sample> {
+    match words {
         [code, flags, stream, length, first] => {
             let stream = number(stream)?;
             let length = number(length)?;
             ensure!(stream < 0x8000_0000, "the stream has 32 bits");
             ensure!(length < 0x0100_0000, "the length has more than 24 bits");
-            Ok(Given {
+            Ok(Sample {
                 code: code.parse::<u8>()?,
                 flags: u8::from_str_radix(flags, 16)?,
                 stream,
@@ -51,7 +50,7 @@ fn given_of(alloc: Global, text: &str) -> Result<Given> {
     }
 }
 
-impl Given {
+impl Sample {
     fn head(&self) -> FrameHead {
         FrameHead {
             kind: FrameKind::from_code(self.code),
@@ -85,13 +84,18 @@ impl Given {
 }
 
 /// The frame that is read of bytes in pieces of a size, which has to come with the last piece and not before.
-fn read_in_pieces(alloc: Global, bytes: &[u8], size: usize) -> Result<Frame> {
-    let mut reader = FrameReader::new(alloc);
+fn next_frame(reader: &mut FrameReader, bytes: &[u8], size: usize) -> Result<Frame> {
     for piece in bytes.chunks(size.max(1)) {
         ensure!(reader.next().is_none(), "there is an answer too early");
         reader.feed(piece)?;
     }
-    let frame = reader.next().context("there is no frame")??;
+    Ok(reader.next().context("there is no frame")??)
+}
+
+/// The one frame that is read of bytes in pieces of a size.
+fn read_in_pieces(alloc: Global, bytes: &[u8], size: usize) -> Result<Frame> {
+    let mut reader = FrameReader::new(alloc);
+    let frame = next_frame(&mut reader, bytes, size)?;
     ensure!(reader.next().is_none(), "there is a second answer");
     Ok(frame)
 }
@@ -114,67 +118,95 @@ fn print_place(text: &mut String, payload: &[u8], content: &[u8]) -> Result<()> 
     Ok(())
 }
 
-/// Writes the frame of a kind whose payload is all content: the bytes, or the fault for which it isn't written. A
-/// frame with padding or priority is none that is written.
-fn write(
-    alloc: Global,
-    given: &Given,
-    content: &[u8],
-) -> Result<Option<Result<Vec<u8>, FrameFault>>> {
+/// What becomes of a frame that is to be written.
+#[derive(Clone, Copy, Debug)]
+enum Writing {
+    Done,
+    Refused(FrameFault),
+    /// It has padding or priority: no such frame is written.
+    Never,
+}
+
+/// Writes the frame of a kind whose payload is all content.
+fn write(alloc: Global, sample: &Sample, content: &[u8], out: &mut Vec<u8>) -> Result<Writing> {
     let content = Bytes::copy_from_slice(alloc, content)?;
     ensure!(content.len() < 0x0100_0000, "the content is too long");
-    ensure!(given.stream < 0x8000_0000, "the stream has 32 bits");
-    let kind = FrameKind::from_code(given.code);
-    let flags = Flags { bits: given.flags };
-    let frame = Frame::new(kind, flags, given.stream, content);
+    ensure!(sample.stream < 0x8000_0000, "the stream has 32 bits");
+    let kind = FrameKind::from_code(sample.code);
+    let flags = Flags { bits: sample.flags };
+    let frame = Frame::new(kind, flags, sample.stream, content);
     if frame.head.is_padded() || frame.head.has_priority() {
-        return Ok(None);
+        return Ok(Writing::Never);
     }
+    Ok(match write_frame(&frame, out) {
+        Ok(()) => Writing::Done,
+        Err(fault) => Writing::Refused(fault),
+    })
+}
+
+/// Writes the frame behind what stands there, which stays. It is written as these bytes, or nothing is.
+fn write_behind(alloc: Global, sample: &Sample, content: &[u8], bytes: &[u8]) -> Result<Writing> {
     let mut out = Vec::from_slice(alloc, KEPT)?;
-    let answer = write_frame(&frame, &mut out);
-    let added = out
-        .as_slice()
-        .strip_prefix(KEPT)
-        .context("what stood before the frame is gone")?;
-    match answer {
-        Ok(()) => Ok(Some(Ok(Vec::from_slice(alloc, added)?))),
-        Err(fault) => {
-            ensure!(added.is_empty(), "a refused frame was written");
-            Ok(Some(Err(fault)))
-        }
+    let writing = write(alloc, sample, content, &mut out)?;
+    let wanted: &[u8] = match writing {
+        Writing::Done => bytes,
+        Writing::Refused(_) | Writing::Never => &[],
+    };
+    ensure!(
+        out.as_slice().strip_prefix(KEPT) == Some(wanted),
+        "other bytes were written"
+    );
+    Ok(writing)
+}
+
+/// Reads the frame in pieces of several sizes, which has to be this one.
+fn try_pieces(alloc: Global, sample: &Sample, bytes: &[u8], whole: &Frame) -> Result<()> {
+    ensure!(
+        whole.head == sample.head(),
+        "another head: {:?}",
+        whole.head
+    );
+    for size in SIZES {
+        let is_same = read_in_pieces(alloc, bytes, size)? == *whole;
+        ensure!(is_same, "another frame in pieces of {size} bytes");
     }
+    Ok(())
 }
 
 /// A frame, and its type with the place of its content in the payload, and whether it was written again.
 #[derive(Drop)]
 pub struct Kinds;
 
+impl Kinds {
+    /// Reads the frame in pieces of several sizes. One without padding and priority is written, too, as the same bytes.
+    fn try_sample(
+        alloc: Global,
+        sample: &Sample,
+        payload: &[u8],
+        bytes: &[u8],
+        answer: &mut String,
+    ) -> Result<()> {
+        let whole = read_in_pieces(alloc, bytes, bytes.len())?;
+        try_pieces(alloc, sample, bytes, &whole)?;
+        write!(answer, "{:?}", whole.head.kind)?;
+        print_place(answer, payload, whole.content.as_slice())?;
+        match write_behind(alloc, sample, payload, bytes)? {
+            Writing::Done => answer.push_str(", written")?,
+            Writing::Refused(fault) => bail!("it isn't written: {fault}"),
+            Writing::Never => {}
+        }
+        Ok(())
+    }
+}
+
 impl Subject for Kinds {
     fn restart(&mut self, _alloc: Global) {}
 
-    /// Reads the frame in pieces of several sizes. One without padding and priority is written, too, as the same bytes.
-    fn answer(&mut self, alloc: Global, given: &str) -> Result<String> {
-        let given = given_of(alloc, given)?;
-        let head = given.head();
-        let payload = given.payload(alloc)?;
-        let bytes = given.bytes(alloc, payload.as_slice())?;
-        let whole = read_in_pieces(alloc, bytes.as_slice(), bytes.len())?;
-        ensure!(whole.head == head, "another head: {:?}", whole.head);
-        for size in SIZES {
-            let frame = read_in_pieces(alloc, bytes.as_slice(), size)?;
-            ensure!(frame == whole, "another frame in pieces of {size} bytes");
-        }
-        let kind = head.kind;
-        let mut text = format!(in alloc; "{kind:?}")?;
-        print_place(&mut text, payload.as_slice(), whole.content.as_slice())?;
-        if let Some(answer) = write(alloc, &given, payload.as_slice())? {
-            ensure!(
-                answer?.as_slice() == bytes.as_slice(),
-                "other bytes were written"
-            );
-            text.push_str(", written")?;
-        }
-        Ok(text)
+    fn answer(&mut self, alloc: Global, given: Given<'_>, answer: &mut String) -> Result<()> {
+        let sample = sample_of(given.words)?;
+        let payload = sample.payload(alloc)?;
+        let bytes = sample.bytes(alloc, payload.as_slice())?;
+        Kinds::try_sample(alloc, &sample, payload.as_slice(), bytes.as_slice(), answer)
     }
 }
 
@@ -185,13 +217,13 @@ pub struct Refused;
 impl Subject for Refused {
     fn restart(&mut self, _alloc: Global) {}
 
-    fn answer(&mut self, alloc: Global, given: &str) -> Result<String> {
-        let given = given_of(alloc, given)?;
-        let zeros = vec![in alloc; 0u8; given.length as usize]?;
-        match write(alloc, &given, zeros.as_slice())? {
-            Some(Err(fault)) => Ok(format!(in alloc; "{fault:?}")?),
-            Some(Ok(_)) => Ok(format!(in alloc; "written")?),
-            None => Ok(format!(in alloc; "none that is written")?),
+    fn answer(&mut self, alloc: Global, given: Given<'_>, answer: &mut String) -> Result<()> {
+        let sample = sample_of(given.words)?;
+        let zeros = vec![in alloc; 0u8; sample.length as usize]?;
+        match write_behind(alloc, &sample, zeros.as_slice(), &[])? {
+            Writing::Refused(fault) => write!(answer, "{fault:?}")?,
+            other => write!(answer, "{other:?}")?,
         }
+        Ok(())
     }
 }

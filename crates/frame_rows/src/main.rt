@@ -5,27 +5,27 @@
 //! its words mean and where its values come from. The program tries all of them, prints each row whose answer is
 //! another, and counts the rows of each file; it fails where one differs.
 //!
-//! To be read in this order: `rows` for what a row is, `frames` and `kinds` for reading and writing frames, `names` for
+//! What a row is, and trying the rows of a file, stands in the crate `rows`. To be read in this order: `frames` and `kinds` for reading and writing frames, `names` for
 //! the numbers of the wire format, then `verdicts`, `windows` and `books` for what stands above frames.
 #![tactic(auto)]
 
 use anyhow::{Result, ensure};
+use rows::try_file;
 use std::rt::Files;
 
 mod books;
 mod frames;
 mod kinds;
 mod names;
-mod rows;
 mod verdicts;
 mod windows;
 
 fn try_frames(rt: &(impl Files + Print + AllocGlobal)) -> Result<u32> {
-    let frames = rows::try_file(rt, "frames.rows", frames::Lists)?;
-    let firsts = rows::try_file(rt, "faults.rows", frames::FirstBytes)?;
-    let kinds = rows::try_file(rt, "kinds.rows", kinds::Kinds)?;
-    let refused = rows::try_file(rt, "refused.rows", kinds::Refused)?;
-    let names = rows::try_file(rt, "names.rows", names::Names)?;
+    let frames = try_file(rt, "frames.rows", &mut frames::Lists)?;
+    let firsts = try_file(rt, "faults.rows", &mut frames::FirstBytes)?;
+    let kinds = try_file(rt, "kinds.rows", &mut kinds::Kinds)?;
+    let refused = try_file(rt, "refused.rows", &mut kinds::Refused)?;
+    let names = try_file(rt, "names.rows", &mut names::Names)?;
     Ok(
         frames
             .saturating_add(firsts)
@@ -35,24 +35,28 @@ fn try_frames(rt: &(impl Files + Print + AllocGlobal)) -> Result<u32> {
     )
 }
 
-fn try_flow(rt: &(impl Files + Print + AllocGlobal)) -> Result<u32> {
-    let alloc = rt.alloc();
-    let verdicts = rows::try_file(rt, "verdicts.rows", verdicts::Table)?;
-    let streams = rows::try_file(rt, "streams.rows", verdicts::Connection::new(alloc))?;
-    let windows = rows::try_file(rt, "windows.rows", windows::Windows::new(alloc))?;
-    let books = rows::try_file(rt, "books.rows", books::Books::new(alloc))?;
-    Ok(
-        verdicts
-            .saturating_add(streams)
-            .saturating_add(windows)
-            .saturating_add(books),
-    )
+fn try_halves(rt: &(impl Files + Print + AllocGlobal)) -> Result<u32> {
+    let mut connection = verdicts::Connection::new(rt.alloc());
+    let verdicts = try_file(rt, "verdicts.rows", &mut verdicts::Table)?;
+    let streams = try_file(rt, "streams.rows", &mut connection)?;
+    Ok(verdicts.saturating_add(streams))
+}
+
+fn try_credit(rt: &(impl Files + Print + AllocGlobal)) -> Result<u32> {
+    let mut windows = windows::Windows::new(rt.alloc());
+    let of_windows = try_file(rt, "windows.rows", &mut windows)?;
+    let mut books = books::Books::new(rt.alloc());
+    let of_books = try_file(rt, "books.rows", &mut books)?;
+    Ok(of_windows.saturating_add(of_books))
 }
 
 fn main(rt: HostRuntime) -> Result<()> {
     let of_frames = try_frames(&rt)?;
-    let of_flow = try_flow(&rt)?;
-    let differing = of_frames.saturating_add(of_flow);
+    let of_halves = try_halves(&rt)?;
+    let of_credit = try_credit(&rt)?;
+    let differing = of_frames
+        .saturating_add(of_halves)
+        .saturating_add(of_credit);
     ensure!(differing == 0, "{differing} rows differ");
     Ok(())
 }

@@ -1,10 +1,11 @@
 //! The numbers of the wire format and of faults, and what the crates call them: `names.rows`.
 
-use crate::rows::{Subject, bytes_of, words_of};
 use anyhow::{Result, bail, ensure};
 use flow::{BookFault, WindowFault};
 use h2frame::{ErrorCode, Flags, FrameFault, FrameKind, SettingId, increment};
+use rows::{Given, Subject};
 use std::alloc::Global;
+use std::fmt::Debug;
 
 const FRAME_FAULTS: [FrameFault; 6] = [
     FrameFault::TooLong,
@@ -32,42 +33,50 @@ const BOOK_FAULTS: [BookFault; 7] = [
     BookFault::OutOfMemory,
 ];
 
+/// Writes the answer of a call that succeeds or is refused.
+pub fn push_done<E: Debug + Drop>(answer: &mut String, done: Result<(), E>) -> Result<()> {
+    match done {
+        Ok(()) => answer.push_str("ok")?,
+        Err(fault) => write!(answer, "{fault:?}")?,
+    }
+    Ok(())
+}
+
 /// The number that digits of base 16 spell.
 fn number(digits: &str) -> Result<u32> {
     Ok(u32::from_str_radix(digits, 16)?)
 }
 
-fn error_name(alloc: Global, digits: &str) -> Result<String> {
+fn name_error(answer: &mut String, digits: &str) -> Result<()> {
     let code = number(digits)?;
     let error = ErrorCode::from_code(code);
     ensure!(error.code() == code, "{error:?} has another number");
-    Ok(format!(in alloc; "{error:?}")?)
+    write!(answer, "{error:?}")?;
+    Ok(())
 }
 
-fn setting_name(alloc: Global, digits: &str) -> Result<String> {
+fn name_setting(answer: &mut String, digits: &str) -> Result<()> {
     let code = u16::from_str_radix(digits, 16)?;
     let setting = SettingId::from_code(code);
     ensure!(setting.code() == code, "{setting:?} has another number");
-    Ok(format!(in alloc; "{setting:?}")?)
+    write!(answer, "{setting:?}")?;
+    Ok(())
 }
 
-fn kind_name(alloc: Global, digits: &str) -> Result<String> {
+fn name_kind(answer: &mut String, digits: &str) -> Result<()> {
     let code = u8::from_str_radix(digits, 16)?;
     let kind = FrameKind::from_code(code);
     ensure!(kind.code() == code, "{kind:?} has another number");
-    Ok(format!(in alloc; "{kind:?}")?)
+    write!(answer, "{kind:?}")?;
+    Ok(())
 }
 
 /// The increment of a WINDOW_UPDATE's four bytes.
-fn increment_name(alloc: Global, digits: &str) -> Result<String> {
-    let bytes = bytes_of(alloc, digits)?;
-    match bytes.as_slice() {
-        [a, b, c, d] => {
-            let increment = increment(&[*a, *b, *c, *d]);
-            Ok(format!(in alloc; "{increment}")?)
-        }
-        _ => bail!("an increment has four bytes"),
-    }
+fn name_increment(answer: &mut String, digits: &str) -> Result<()> {
+    ensure!(digits.len() == 8, "an increment has four bytes");
+    let increment = increment(&number(digits)?.to_be_bytes());
+    write!(answer, "{increment}")?;
+    Ok(())
 }
 
 fn flag_of(name: &str) -> Result<Flags> {
@@ -91,49 +100,62 @@ fn flags_of(names: &[&str]) -> Result<Flags> {
     Ok(flags)
 }
 
-fn flags_name(alloc: Global, names: &[&str]) -> Result<String> {
+fn name_flags(answer: &mut String, names: &[&str]) -> Result<()> {
     let bits = flags_of(names)?.bits;
-    Ok(format!(in alloc; "{bits:02x}")?)
+    write!(answer, "{bits:02x}")?;
+    Ok(())
 }
 
 /// Whether the flags of a byte have all of those that are named.
-fn has_name(alloc: Global, digits: &str, names: &[&str]) -> Result<String> {
+fn tell_whether_all(answer: &mut String, digits: &str, names: &[&str]) -> Result<()> {
     let flags = Flags {
         bits: u8::from_str_radix(digits, 16)?,
     };
     let has = flags.contains(flags_of(names)?);
-    Ok(format!(in alloc; "{has}")?)
+    write!(answer, "{has}")?;
+    Ok(())
+}
+
+/// Whether a fault's name is this one. It is written to an empty text, which is left empty.
+fn is_called<F: Debug>(fault: &F, name: &str, text: &mut String) -> Result<bool> {
+    write!(text, "{fault:?}")?;
+    let is_called = text.as_str() == name;
+    text.clear();
+    Ok(is_called)
 }
 
 /// A frame's fault: its number, the error that the peer is told, and its text.
-fn frame_fault_name(alloc: Global, name: &str) -> Result<String> {
+fn describe_frame_fault(answer: &mut String, name: &str) -> Result<()> {
     for fault in FRAME_FAULTS {
-        if format!(in alloc; "{fault:?}")?.as_str() == name {
+        if is_called(&fault, name, answer)? {
             let code = fault.code();
             let error = fault.error_code();
-            return Ok(format!(in alloc; "{code}, {error:?}: {fault}")?);
+            write!(answer, "{code}, {error:?}: {fault}")?;
+            return Ok(());
         }
     }
     bail!("no fault of a frame is called {name}")
 }
 
 /// A window's fault: its number and its text.
-fn window_fault_name(alloc: Global, name: &str) -> Result<String> {
+fn describe_window_fault(answer: &mut String, name: &str) -> Result<()> {
     for fault in WINDOW_FAULTS {
-        if format!(in alloc; "{fault:?}")?.as_str() == name {
+        if is_called(&fault, name, answer)? {
             let code = fault.code();
-            return Ok(format!(in alloc; "{code}: {fault}")?);
+            write!(answer, "{code}: {fault}")?;
+            return Ok(());
         }
     }
     bail!("no fault of a window is called {name}")
 }
 
 /// A credit book's fault: its number and its text.
-fn book_fault_name(alloc: Global, name: &str) -> Result<String> {
+fn describe_book_fault(answer: &mut String, name: &str) -> Result<()> {
     for fault in BOOK_FAULTS {
-        if format!(in alloc; "{fault:?}")?.as_str() == name {
+        if is_called(&fault, name, answer)? {
             let code = fault.code();
-            return Ok(format!(in alloc; "{code}: {fault}")?);
+            write!(answer, "{code}: {fault}")?;
+            return Ok(());
         }
     }
     bail!("no fault of a credit book is called {name}")
@@ -146,18 +168,17 @@ pub struct Names;
 impl Subject for Names {
     fn restart(&mut self, _alloc: Global) {}
 
-    fn answer(&mut self, alloc: Global, given: &str) -> Result<String> {
-        let words = words_of(alloc, given)?;
-        match words.as_slice() {
-            ["error", digits] => error_name(alloc, digits),
-            ["setting", digits] => setting_name(alloc, digits),
-            ["type", digits] => kind_name(alloc, digits),
-            ["increment", digits] => increment_name(alloc, digits),
-            ["flags", names @ ..] => flags_name(alloc, names),
-            ["has", digits, names @ ..] => has_name(alloc, digits, names),
-            ["FrameFault", name] => frame_fault_name(alloc, name),
-            ["WindowFault", name] => window_fault_name(alloc, name),
-            ["BookFault", name] => book_fault_name(alloc, name),
+    fn answer(&mut self, _alloc: Global, given: Given<'_>, answer: &mut String) -> Result<()> {
+        match given.words {
+            ["error", digits] => name_error(answer, digits),
+            ["setting", digits] => name_setting(answer, digits),
+            ["type", digits] => name_kind(answer, digits),
+            ["increment", digits] => name_increment(answer, digits),
+            ["flags", names @ ..] => name_flags(answer, names),
+            ["has", digits, names @ ..] => tell_whether_all(answer, digits, names),
+            ["FrameFault", name] => describe_frame_fault(answer, name),
+            ["WindowFault", name] => describe_window_fault(answer, name),
+            ["BookFault", name] => describe_book_fault(answer, name),
             _ => bail!("the row says none of what there is to name"),
         }
     }

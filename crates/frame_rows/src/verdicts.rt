@@ -4,10 +4,10 @@
 ghost use Rattle.std.specs.Prelude.{◌≡◌, ◌<◌, IfOk};
 ghost use Rattle.flow.specs.Halves.{IsJudged};
 
-use crate::rows::{Subject, number, words_of};
 use anyhow::{Context, Result, bail, ensure};
 use flow::{HalfVerdict, Halves};
 use h2frame::{ErrorCode, Flags, FrameHead, FrameKind, StreamId};
+use rows::{Given, Subject, number};
 use std::alloc::Global;
 
 /// A frame that is judged, with END_STREAM or without.
@@ -123,9 +123,8 @@ fn judge_each(
 }
 
 /// Takes a step of a connection: a frame on a stream, which the server may reset upon it, or on each of many streams.
-fn step(alloc: Global, halves: &mut Halves, text: &str) -> Result<HalfVerdict> {
-    let words = words_of(alloc, text)?;
-    match words.as_slice() {
+fn step(halves: &mut Halves, words: &[&str]) -> Result<HalfVerdict> {
+    match words {
         [frame, stream] => {
             let stream = stream_of(stream)?;
             Ok(halves.on(&head_of(sent_of(frame)?, stream))?)
@@ -134,20 +133,29 @@ fn step(alloc: Global, halves: &mut Halves, text: &str) -> Result<HalfVerdict> {
         [frame, first, "to", last] => {
             judge_each(halves, sent_of(frame)?, stream_of(first)?, stream_of(last)?)
         }
-        _ => bail!("{text} is no step"),
+        _ => bail!("that is no step"),
     }
 }
 
-/// A connection after the steps that are listed with commas.
-fn after(alloc: Global, steps: &str) -> Result<Halves> {
-    let mut halves = Halves::new(alloc);
+/// Takes the steps that are listed with commas.
+fn take_steps(alloc: Global, halves: &mut Halves, steps: &str) -> Result<()> {
     if steps.trim().is_empty() {
-        return Ok(halves);
+        return Ok(());
     }
     for text in steps.split(',') {
-        step(alloc, &mut halves, text)?;
+        let words: Vec<&str> = text.split_whitespace().collect(alloc)?;
+        step(halves, words.as_slice()).context(format_args!("{text}"))?;
     }
-    Ok(halves)
+    Ok(())
+}
+
+/// The verdict on a frame of a kind, behind those steps.
+fn verdict_after(alloc: Global, steps: &str, sent: Sent, stream: StreamId) -> Result<HalfVerdict>
+    requires { 0 < stream }
+{
+    let mut halves = Halves::new(alloc);
+    take_steps(alloc, &mut halves, steps)?;
+    Ok(halves.on(&head_of(sent, stream))?)
 }
 
 /// What came before, and the verdict of each kind of frame on a stream.
@@ -157,18 +165,16 @@ pub struct Table;
 impl Subject for Table {
     fn restart(&mut self, _alloc: Global) {}
 
-    fn answer(&mut self, alloc: Global, given: &str) -> Result<String> {
-        let (steps, stream) = given.split_once(':').context("the row has no colon")?;
+    fn answer(&mut self, alloc: Global, given: Given<'_>, answer: &mut String) -> Result<()> {
+        let (steps, stream) = given.text.split_once(':').context("the row has no colon")?;
         let stream = stream_of(stream.trim())?;
-        let mut text = String::new(alloc);
         for sent in KINDS {
-            let mut halves = after(alloc, steps)?;
-            if !text.is_empty() {
-                text.push(' ')?;
+            if !answer.is_empty() {
+                answer.push(' ')?;
             }
-            text.push_str(name_of(halves.on(&head_of(sent, stream))?))?;
+            answer.push_str(name_of(verdict_after(alloc, steps, sent, stream)?))?;
         }
-        Ok(text)
+        Ok(())
     }
 }
 
@@ -191,8 +197,8 @@ impl Subject for Connection {
         self.halves = Halves::new(alloc);
     }
 
-    fn answer(&mut self, alloc: Global, given: &str) -> Result<String> {
-        let verdict = step(alloc, &mut self.halves, given)?;
-        Ok(String::from_str(alloc, name_of(verdict))?)
+    fn answer(&mut self, _alloc: Global, given: Given<'_>, answer: &mut String) -> Result<()> {
+        answer.push_str(name_of(step(&mut self.halves, given.words)?))?;
+        Ok(())
     }
 }

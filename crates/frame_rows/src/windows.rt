@@ -1,8 +1,9 @@
 //! Histories of the windows of what is sent: `windows.rows`.
 
-use crate::rows::{Subject, number, print_done, words_of};
+use crate::names::push_done;
 use anyhow::{Result, bail};
-use flow::SendWindows;
+use flow::{SendWindows, WindowFault};
+use rows::{Given, Subject, number};
 use std::alloc::Global;
 
 /// The windows of a connection, and a call on them, with its answer.
@@ -18,12 +19,27 @@ impl Windows {
         }
     }
 
-    fn open(&mut self, alloc: Global, id: &str) -> Result<String> {
+    fn open(&mut self, id: &str) -> Result<Result<(), WindowFault>> {
         let id = number(id)?;
         if id == 0 || self.windows.has(id) {
             bail!("stream {id} can't be opened");
         }
-        print_done(alloc, self.windows.open(id))
+        Ok(self.windows.open(id))
+    }
+
+    /// A call that changes the windows and answers whether it did.
+    fn change(&mut self, words: &[&str]) -> Result<Result<(), WindowFault>> {
+        match words {
+            ["open", id] => self.open(id),
+            ["credit", id, more] => Ok(self.windows.credit(number(id)?, number(more)?)),
+            ["spend", id, len] => Ok(self.windows.spend(number(id)?, number(len)?)),
+            ["initial", size] => Ok(self.windows.initial(number(size)?)),
+            ["close", id] => {
+                self.windows.close(number(id)?);
+                Ok(Ok(()))
+            }
+            _ => bail!("that is no call"),
+        }
     }
 }
 
@@ -32,21 +48,11 @@ impl Subject for Windows {
         self.windows = SendWindows::new(alloc);
     }
 
-    fn answer(&mut self, alloc: Global, given: &str) -> Result<String> {
-        let words = words_of(alloc, given)?;
-        match words.as_slice() {
-            ["open", id] => self.open(alloc, id),
-            ["credit", id, more] => {
-                print_done(alloc, self.windows.credit(number(id)?, number(more)?))
-            }
-            ["spend", id, len] => print_done(alloc, self.windows.spend(number(id)?, number(len)?)),
-            ["initial", size] => print_done(alloc, self.windows.initial(number(size)?)),
-            ["room", id] => Ok(self.windows.room(number(id)?).to_string(alloc)?),
-            ["close", id] => {
-                self.windows.close(number(id)?);
-                Ok(String::from_str(alloc, "ok")?)
-            }
-            _ => bail!("{given} is no call"),
+    fn answer(&mut self, _alloc: Global, given: Given<'_>, answer: &mut String) -> Result<()> {
+        match given.words {
+            ["room", id] => write!(answer, "{}", self.windows.room(number(id)?))?,
+            words => push_done(answer, self.change(words)?)?,
         }
+        Ok(())
     }
 }
