@@ -1,6 +1,7 @@
 //! Reading a header block (RFC 7541, sections 3.2 and 6).
-ghost use Rattle.std.specs.Prelude.{List, Option, MatchResult, ◌≡◌, ◌<◌, ◌≤◌, ◌⊎◌, [], length, Some, None, IfOk, IfErr, OnOk, OnErr, min, true, false};
+ghost use Rattle.std.specs.Prelude.{List, Option, MatchResult, ◌≡◌, ◌≢◌, ◌<◌, ◌≤◌, ◌⊎◌, [], length, Some, None, Err, IfOk, IfErr, OnOk, OnErr, min, true, false};
 ghost use Rattle.lists.specs.declared.field.Field.{Field as FieldOf};
+ghost use Rattle.hpack_codec.specs.declared.fault.HpackFault.{HpackFault};
 ghost use Rattle.hpack_codec.specs.Table.{Table, empty_table, size_of, sizes_of};
 ghost use Rattle.hpack_codec.specs.Block.{AreFields};
 ghost use Rattle.hpack_codec.specs.Faults.{IsIndexedFault, IsLiteralFault, IsNameFault, Begins};
@@ -59,6 +60,10 @@ impl Decoder {
         // What is in the block is read, unless memory runs out.
         ensures only { (fields : List FieldOf) (kept : Option Table) → Reads self.old block.now fields kept
             → MatchResult result (λ read. (read.items ≡ fields) × (self.new ≡ kept)) (λ fault. fault ≡ HpackFault.OutOfMemory) }
+
+        // The first fault of the block is answered, unless memory runs out.
+        ensures first { (fault : HpackFault) → fault ≢ HpackFault.OutOfMemory → IsFirstFault fault self.old block.now
+            → (result ≡ Err fault) ⊎ (result ≡ Err HpackFault.OutOfMemory) }
 
         // After any fault the decoder is dead.
         ensures dead { OnErr result (self.new ≡ None) }
