@@ -1,5 +1,5 @@
 //! Reading a header block (RFC 7541, sections 3.2 and 6).
-ghost use Rattle.std.specs.Prelude.{List, Option, MatchResult, ◌≡◌, ◌≢◌, ◌<◌, ◌≤◌, ◌⊎◌, [], length, Some, None, Err, IfOk, IfErr, OnOk, OnErr, min, true, false};
+ghost use Rattle.std.specs.Prelude.{List, Option, MatchResult, ◌≡◌, ◌≢◌, ◌<◌, ◌≤◌, ◌⊎◌, [], length, Some, None, Err, IfOk, IfErr, OnOk, OnErr, true, false};
 ghost use Rattle.lists.specs.declared.field.Field.{Field as FieldOf};
 ghost use Rattle.hpack_codec.specs.declared.fault.HpackFault.{HpackFault};
 ghost use Rattle.hpack_codec.specs.Table.{Table, empty_table, size_of, sizes_of};
@@ -15,7 +15,7 @@ use crate::representation::{
     SIZE_UPDATE, SIZE_UPDATE_PREFIX,
 };
 use crate::string_literal::string;
-use crate::table::{DynamicTable, MAX_LIMIT, OVERHEAD};
+use crate::table::{DynamicTable, MAX_LIMIT, capped_size};
 use lists::{Field, Octets};
 use std::alloc::{AllocError, Global};
 use std::marker::Model;
@@ -141,17 +141,6 @@ fn fields_of(
     Ok(fields)
 }
 
-/// The size of a field, where that can be counted.
-fn capped_size(field: &Field) -> usize
-    ensures { result ≡ min (size_of field.now) usize.MAX }
-{
-    field
-        .name
-        .len()
-        .saturating_add(field.value.len())
-        .saturating_add(OVERHEAD)
-}
-
 /// Puts a field into the table, if it becomes an entry.
 fn keep(
     table: &mut DynamicTable,
@@ -163,7 +152,7 @@ fn keep(
     ensures { OnOk result (table.new ≡ next_table is_entry table.old field.now) }
 {
     if is_entry {
-        table.insert(field.clone()?, size)?;
+        table.insert(field, size)?;
     }
     Ok(())
 }
