@@ -3,3 +3,4 @@ pub mod TimeoutLemmas
 pub mod Symbols
 pub mod PartLemmas
 pub mod HeadLemmas
+pub mod OneHead

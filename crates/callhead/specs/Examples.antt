@@ -12,7 +12,7 @@ use Rattle.callhead.specs.declared.head.Encoding.TheVariants.{Identity}
 use Rattle.callhead.specs.Fields.{field_of}
 use Rattle.callhead.specs.MalformedHeads.{is_malformed}
 use Rattle.callhead.specs.Heads.{IsHead}
-use Rattle.callhead.specs.StatusFields.{status_fields}
+use Rattle.callhead.specs.StatusFields.{unknown_method}
 
 -- five milliseconds
 pub five_milliseconds : IsTimeout (codes "5m") 5000000
@@ -83,7 +83,7 @@ pub is_malformed-upper_case : is_malformed (request ++ field_of (codes "X-a") (c
 unfolding is_malformed
 is_malformed-upper_case = refl
 
--- the trailers of a call of no method
-pub status_fields-unknown_method : status_fields 12 (codes "unknown method") [] ≡ field_of (codes "grpc-status") (codes "12") ∷ field_of (codes "grpc-message") (codes "unknown method") ∷ []
+-- the answer to a call of no method
+pub unknown_method-fields : unknown_method ≡ field_of (codes ":status") (codes "200") ∷ field_of (codes "content-type") (codes "application/grpc") ∷ field_of (codes "grpc-status") (codes "12") ∷ field_of (codes "grpc-message") (codes "unknown method") ∷ []
 unfolding percent_text digits
-status_fields-unknown_method = refl
+unknown_method-fields = refl

@@ -24,15 +24,19 @@ status_fields code text echoes =
     field_of (codes "grpc-status") (decimal code)
     ∷ (message_fields text ++ map (λ echo. field_of (codes "x-grpc-test-echo-trailing-bin") (unpadded echo)) echoes)
 
--- Trailers-Only without echoes
+-- Trailers-Only, without echoes: a head and trailers in one block
 abbrev pub trailers_only : ℕ → List ℕ → List Field
 trailers_only code text = response_fields [] ++ status_fields code text []
+
+-- the answer to a call of no method: UNIMPLEMENTED, with a text
+abbrev pub unknown_method : List Field
+unknown_method = trailers_only 12 (codes "unknown method")
 
 -- a response of HTTP alone
 abbrev pub status_alone : List ℕ → List Field
 status_alone status = field_of (codes ":status") status ∷ []
 
--- The block that answers fields which are no head; a malformed request has none, nor has want of memory.
+-- The block that answers fields which are no head; a malformed request has none, nor has out of memory.
 abbrev pub refusal_of : HeadFault → Option (List Field)
 refusal_of Malformed = None
 refusal_of NotPost = Some (status_alone (codes "405"))

@@ -2,8 +2,9 @@
 //! (gRPC over HTTP/2, PROTOCOL-HTTP2.md; RFC 9113, sections 8.2 and 8.3; RFC 4648, section 4).
 //!
 //! `CallHead::read` answers the head of a call where the fields are one (`specs/Heads.antt`), else the first of the
-//! faults that stand in them; which fields are malformed says `specs/MalformedHeads.antt`. `response_fields`,
-//! `status_fields` and `HeadFault::refusal` make the fields that answer a call (`specs/StatusFields.antt`).
+//! faults that stand in them; which fields are malformed says `specs/MalformedHeads.antt`; `laws` that there is one
+//! such answer. `response_fields`, `status_fields`, `trailers_only`, `unknown_method` and `HeadFault::refusal` make the
+//! fields that answer a call (`specs/StatusFields.antt`).
 //!
 //! A call carries its timeout in `grpc-timeout`, the text of its status in `grpc-message`, and bytes in fields whose
 //! name ends in `-bin`. `read_timeout` answers a timeout exactly where the text is one (`specs/Timeouts.antt`); what
@@ -18,6 +19,7 @@ pub mod bin;
 pub mod fault;
 mod fields;
 pub mod head;
+pub mod laws;
 mod malformed;
 mod names;
 pub mod percent;
@@ -30,10 +32,7 @@ pub use bin::{bin_value, read_bin_values};
 pub use fault::HeadFault;
 pub use head::{CallHead, Encoding};
 pub use percent::{percent_text, read_percent_text};
-pub use response::{response_fields, status_fields};
+pub use response::{response_fields, status_fields, trailers_only, unknown_method};
 pub use texts::Texts;
 pub use timeout::read_timeout;
 pub use values::Values;
-
-#[cfg(test)]
-mod tests;

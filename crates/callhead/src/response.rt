@@ -2,7 +2,7 @@
 
 ghost use Rattle.std.specs.Prelude.{◌≡◌, ◌++◌, [], ◌∷◌, Some, None, MatchOption, IfOk, OnOk, codes};
 ghost use Rattle.callhead.specs.Fields.{field_of};
-ghost use Rattle.callhead.specs.StatusFields.{response_fields, status_fields, message_fields, refusal_of, status_alone};
+ghost use Rattle.callhead.specs.StatusFields.{response_fields, status_fields, message_fields, trailers_only, unknown_method, refusal_of, status_alone};
 
 use crate::bin::bin_value;
 use crate::fault::HeadFault;
@@ -13,6 +13,9 @@ use crate::texts::Texts;
 use crate::values::Values;
 use lists::Field;
 use std::alloc::{AllocError, Global};
+
+/// UNIMPLEMENTED, as gRPC numbers its statuses.
+const UNIMPLEMENTED: u32 = 12;
 
 /// INTERNAL, as gRPC numbers its statuses.
 const INTERNAL: u32 = 13;
@@ -47,6 +50,23 @@ pub fn status_fields(
     Ok(fields)
 }
 
+/// The fields of a Trailers-Only response, which begins and ends in one block: those that each response begins with,
+/// the status's number, and its text unless that is empty.
+pub fn trailers_only(alloc: Global, code: u32, text: &str) -> Result<Vec<Field>, AllocError>
+    ensures { IfOk result (λ fields. fields.items ≡ trailers_only code text.now) }
+{
+    let mut block = opening_fields(alloc)?;
+    push_status(alloc, &mut block, code, text)?;
+    Ok(block)
+}
+
+/// The fields of the block that answers a call whose path names no method: UNIMPLEMENTED (12), `unknown method`.
+pub fn unknown_method(alloc: Global) -> Result<Vec<Field>, AllocError>
+    ensures { IfOk result (λ fields. fields.items ≡ unknown_method) }
+{
+    trailers_only(alloc, UNIMPLEMENTED, "unknown method")
+}
+
 impl HeadFault {
     /// The fields of the block that answers what is no head of a call. A malformed request is answered by none (its
     /// stream is reset), and that memory ran out isn't the client's fault.
@@ -57,11 +77,7 @@ impl HeadFault {
             HeadFault::Malformed | HeadFault::OutOfMemory => Ok(None),
             HeadFault::NotPost => Ok(Some(status_alone(alloc, b"405")?)),
             HeadFault::NotGrpc => Ok(Some(status_alone(alloc, b"415")?)),
-            HeadFault::BadTimeout => {
-                let mut fields = opening_fields(alloc)?;
-                push_status(alloc, &mut fields, INTERNAL, "bad timeout")?;
-                Ok(Some(fields))
-            }
+            HeadFault::BadTimeout => Ok(Some(trailers_only(alloc, INTERNAL, "bad timeout")?)),
         }
     }
 }

@@ -1,11 +1,12 @@
 //! The fields that answer a call (gRPC over HTTP/2, "Responses"). A row puts in `begin ECHOES`, the echoes for the head of the
-//! response; `end CODE ; TEXT ; ECHOES`, a status and the echoes for the trailers; or `refuse FAULT`. Behind each echo stands `|`.
-//! The answer is the fields, or `none` where a fault is answered by none.
+//! response; `end CODE ; TEXT ; ECHOES`, a status and the echoes for the trailers; `only CODE ; TEXT`, a status alone; `unknown
+//! method`; or `refuse FAULT`. Behind each echo stands `|`. The answer is the fields, or `none` where a fault is answered by none.
 
+use crate::fault_texts::head_fault_of;
 use crate::fields::text_of;
 use crate::text::bytes_of;
 use anyhow::{Context, Result, bail};
-use callhead::{HeadFault, Texts, Values, response_fields, status_fields};
+use callhead::{Texts, Values, response_fields, status_fields, trailers_only, unknown_method};
 use lists::Octets;
 use std::alloc::Global;
 
@@ -16,10 +17,16 @@ pub fn answer(alloc: Global, input: &str) -> Result<String> {
     if let Some(status) = input.strip_prefix("end ") {
         return end(alloc, status);
     }
+    if let Some(status) = input.strip_prefix("only ") {
+        return only(alloc, status);
+    }
+    if input == "unknown method" {
+        return Ok(text_of(alloc, unknown_method(alloc)?.as_slice())?);
+    }
     if let Some(fault) = input.strip_prefix("refuse ") {
         return refuse(alloc, fault.trim());
     }
-    bail!("a row begins with `begin`, `end` or `refuse`")
+    bail!("a row is `unknown method`, or begins with `begin`, `end`, `only` or `refuse`")
 }
 
 fn begin(alloc: Global, echoes: &str) -> Result<String> {
@@ -44,21 +51,17 @@ fn end(alloc: Global, status: &str) -> Result<String> {
     Ok(text_of(alloc, fields.as_slice())?)
 }
 
-fn refuse(alloc: Global, name: &str) -> Result<String> {
-    match fault_of(name)?.refusal(alloc)? {
-        Some(fields) => Ok(text_of(alloc, fields.as_slice())?),
-        None => Ok(String::from_str(alloc, "none")?),
-    }
+fn only(alloc: Global, status: &str) -> Result<String> {
+    let (code, text) = status.split_once(';').context("a status has no text")?;
+    let text = text_from(bytes_of(alloc, text.trim())?)?;
+    let fields = trailers_only(alloc, code.trim().parse::<u32>()?, text.as_str())?;
+    Ok(text_of(alloc, fields.as_slice())?)
 }
 
-fn fault_of(name: &str) -> Result<HeadFault> {
-    match name {
-        "Malformed" => Ok(HeadFault::Malformed),
-        "NotPost" => Ok(HeadFault::NotPost),
-        "NotGrpc" => Ok(HeadFault::NotGrpc),
-        "BadTimeout" => Ok(HeadFault::BadTimeout),
-        "OutOfMemory" => Ok(HeadFault::OutOfMemory),
-        _ => bail!("no fault: {name}"),
+fn refuse(alloc: Global, name: &str) -> Result<String> {
+    match head_fault_of(name)?.refusal(alloc)? {
+        Some(fields) => Ok(text_of(alloc, fields.as_slice())?),
+        None => Ok(String::from_str(alloc, "none")?),
     }
 }
 

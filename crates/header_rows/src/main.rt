@@ -7,10 +7,11 @@
 //!
 //! Read `text`, how bytes stand in a row; `fields`, lists of fields; `rows`, the lines of a file; then the subjects:
 //! `read_blocks` and `written_blocks` (header blocks), `heads` (heads of calls), `values` (timeouts, status texts and binary
-//! metadata), `answers` (the fields that answer a call); and `subject`, which picks one.
+//! metadata), `answers` (the fields that answer a call), `fault_texts`; and `subject`, which picks one.
 #![tactic(auto)]
 
 mod answers;
+mod fault_texts;
 mod fields;
 mod heads;
 mod read_blocks;
@@ -24,7 +25,7 @@ use anyhow::{Result, ensure};
 use subject::Subject;
 
 /// The files, and what the rows of each are.
-static FILES: [(&str, Subject); 12] = [
+static FILES: [(&str, Subject); 13] = [
     ("blocks-standard.rows", Subject::ReadBlocks),
     ("blocks-clients.rows", Subject::ReadBlocks),
     ("blocks-limits.rows", Subject::ReadBlocks),
@@ -37,6 +38,7 @@ static FILES: [(&str, Subject); 12] = [
     ("status-texts.rows", Subject::StatusTexts),
     ("binary-values.rows", Subject::BinaryValues),
     ("answers.rows", Subject::Answers),
+    ("fault-texts.rows", Subject::FaultTexts),
 ];
 
 fn main(rt: HostRuntime) -> Result<()> {

@@ -1,5 +1,6 @@
 //! What the rows of a file are, and what they share.
 
+use crate::fault_texts::fault_text;
 use crate::heads::Heads;
 use crate::read_blocks::{Connection, refusal};
 use crate::written_blocks::Pair;
@@ -18,6 +19,7 @@ pub enum Subject {
     StatusTexts,
     BinaryValues,
     Answers,
+    FaultTexts,
 }
 
 /// Runs the rows of one file.
@@ -66,6 +68,7 @@ impl Runner {
             Subject::StatusTexts => values::status_text(alloc, input),
             Subject::BinaryValues => values::binary_values(alloc, input),
             Subject::Answers => answers::answer(alloc, input),
+            Subject::FaultTexts => fault_text(alloc, input),
         }
     }
 }

@@ -22,7 +22,7 @@ use Rattle.hpack_codec.specs.Codec.{Reads, IsFirstFault}
 heads : (x y : ℕ) (xs ys : List ℕ) → x ∷ xs ≡ y ∷ ys → x ≡ y
 heads x y xs ys e = cc
 
-tails : (x y : ℕ) (xs ys : List ℕ) → x ∷ xs ≡ y ∷ ys → xs ≡ ys
+pub tails : (x y : ℕ) (xs ys : List ℕ) → x ∷ xs ≡ y ∷ ys → xs ≡ ys
 tails x y xs ys e = cc
 
 -- one reading of an integer at the front, with the same flags
@@ -85,7 +85,7 @@ string_one a b x y o p s t e = go s.meaning t.meaning
 some_one : (f g : Field) → Some f ≡ Some g → f ≡ g
 some_one f g e = cc
 
-name_one : (table : Table) (index : ℕ) (a b x y o p : List ℕ) → IsName table index a o → IsName table index b p → a ++ x ≡ b ++ y → (o ≡ p) × (x ≡ y)
+pub name_one : (table : Table) (index : ℕ) (a b x y o p : List ℕ) → IsName table index a o → IsName table index b p → a ++ x ≡ b ++ y → (o ≡ p) × (x ≡ y)
 name_one table zero a b x y o p s t e = string_one a b x y o p s t e
 name_one table (suc place) a b x y o p s t e = (
   s.1.2 ∙ ap (λ (f : Field). f.name) (some_one _ _ (sym s.1.1 ∙ t.1.1)) ∙ sym t.1.2,
@@ -200,7 +200,7 @@ low_7 : (flags m : ℕ) → (flags ≡ 0) ⊎ (flags ≡ 128) → m + 1 < 2 ^ 7 
 low_7 flags m (inl e) h = omega (arith, e, h)
 low_7 flags m (inr e) h = omega (arith, e, h)
 
-no_integer_7 : (fault : HpackFault) (flags n : ℕ) (bytes a x : List ℕ) → (flags ≡ 0) ⊎ (flags ≡ 128) → IsIntegerFault fault 7 bytes → IsInteger 7 flags a n → bytes ≡ a ++ x → ⊥
+pub no_integer_7 : (fault : HpackFault) (flags n : ℕ) (bytes a x : List ℕ) → (flags ≡ 0) ⊎ (flags ≡ 128) → IsIntegerFault fault 7 bytes → IsInteger 7 flags a n → bytes ≡ a ++ x → ⊥
 no_integer_7 fault flags n bytes a x (inl z) f i e = no_integer fault 7 flags n bytes a x f (ap (λ k. (k + (2 ^ 7 - 1)) % 2 ^ 7) z) (λ m h. low_7 flags m (inl z) h) i e
 no_integer_7 fault flags n bytes a x (inr z) f i e = no_integer fault 7 flags n bytes a x f (ap (λ k. (k + (2 ^ 7 - 1)) % 2 ^ 7) z) (λ m h. low_7 flags m (inr z) h) i e
 
@@ -208,14 +208,14 @@ no_integer_7 fault flags n bytes a x (inr z) f i e = no_integer fault 7 flags n 
 string_size : (a o : List ℕ) (s : IsString a o) → (flags : ℕ) × ((flags ≡ 0) ⊎ (flags ≡ 128)) × IsInteger 7 flags s.size (length s.content)
 string_size a o s = elim (s.meaning) [ inl m ↦ (0, inl refl, m.0) | inr m ↦ (128, inr refl, m.0) ]
 
-cut_size : (bytes : List ℕ) (f : IsCutString bytes) → (flags : ℕ) × ((flags ≡ 0) ⊎ (flags ≡ 128)) × IsInteger 7 flags f.size f.len
+pub cut_size : (bytes : List ℕ) (f : IsCutString bytes) → (flags : ℕ) × ((flags ≡ 0) ⊎ (flags ≡ 128)) × IsInteger 7 flags f.size f.len
 cut_size bytes f = elim (f.is_size) [ inl i ↦ (0, inl refl, i) | inr i ↦ (128, inr refl, i) ]
 
 string_spelled : (bytes a x o : List ℕ) (s : IsString a o) → bytes ≡ a ++ x → bytes ≡ s.size ++ (s.content ++ x)
 string_spelled bytes a x o s e = e ∙ ap (λ (z : List ℕ). z ++ x) s.spelling ∙ append_assoc s.size s.content x
 
 -- lengths of strings whose flags may differ
-size_one : (flags flags' : ℕ) (a b x y : List ℕ) (m n : ℕ) → (flags ≡ 0) ⊎ (flags ≡ 128) → (flags' ≡ 0) ⊎ (flags' ≡ 128) → IsInteger 7 flags a m → IsInteger 7 flags' b n → a ++ x ≡ b ++ y → (m ≡ n) × (x ≡ y)
+pub size_one : (flags flags' : ℕ) (a b x y : List ℕ) (m n : ℕ) → (flags ≡ 0) ⊎ (flags ≡ 128) → (flags' ≡ 0) ⊎ (flags' ≡ 128) → IsInteger 7 flags a m → IsInteger 7 flags' b n → a ++ x ≡ b ++ y → (m ≡ n) × (x ≡ y)
 size_one flags flags' a b x y m n (inl z) (inl w) i j e = integer_one 7 0 a b x y m n (subst (λ (k : ℕ). IsInteger 7 k a m) z i) (subst (λ (k : ℕ). IsInteger 7 k b n) w j) e
 size_one flags flags' a b x y m n (inr z) (inr w) i j e = integer_one 7 128 a b x y m n (subst (λ (k : ℕ). IsInteger 7 k a m) z i) (subst (λ (k : ℕ). IsInteger 7 k b n) w j) e
 size_one flags flags' a b x y m n (inl z) (inr w) i j e = absurd (flags_apart 7 flags 7 flags' m n a b x y i j e (omega (arith, z, w)))
@@ -250,7 +250,7 @@ no_string TooLarge bytes a x o f s e = f
 no_none : (table : Table) (index : ℕ) (f : Field) → entry_at table index ≡ None → entry_at table index ≡ Some f → ⊥
 no_none table index f n s = let e : None ≡ Some f = sym n ∙ s in cc
 
-no_name_fault : (fault : HpackFault) (table : Table) (index : ℕ) (bytes a x o : List ℕ) → IsNameFault fault table index bytes → IsName table index a o → bytes ≡ a ++ x → ⊥
+pub no_name_fault : (fault : HpackFault) (table : Table) (index : ℕ) (bytes a x o : List ℕ) → IsNameFault fault table index bytes → IsName table index a o → bytes ≡ a ++ x → ⊥
 no_name_fault fault table zero bytes a x o f s e = no_string fault bytes a x o f s e
 no_name_fault fault table (suc place) bytes a x o f s e = no_none table (suc place) s.1.0 f.1 s.1.1
 
@@ -316,13 +316,13 @@ not_in form table next low high bytes a x f b s e apart =
       | inr above ↦ omega (arith, above, same, first.4, b.3)
     ]
 
-fit_64 : (m : ℕ) → m + 1 < 2 ^ 6 → (64 + m) % 2 ^ 6 ≡ m
+pub fit_64 : (m : ℕ) → m + 1 < 2 ^ 6 → (64 + m) % 2 ^ 6 ≡ m
 fit_64 m h = omega arith
 
-fit_16 : (m : ℕ) → m + 1 < 2 ^ 4 → (16 + m) % 2 ^ 4 ≡ m
+pub fit_16 : (m : ℕ) → m + 1 < 2 ^ 4 → (16 + m) % 2 ^ 4 ≡ m
 fit_16 m h = omega arith
 
-fit_0 : (m : ℕ) → m + 1 < 2 ^ 4 → (0 + m) % 2 ^ 4 ≡ m
+pub fit_0 : (m : ℕ) → m + 1 < 2 ^ 4 → (0 + m) % 2 ^ 4 ≡ m
 fit_0 m h = omega arith
 
 -- where a field is, no fault stands, whatever stood before it
@@ -383,7 +383,7 @@ no_update table next text (f ∷ fields) a b =
     ranged WithoutIndexing = inr (lit≤ tt)
     ranged NeverIndexed = inr (lit≤ tt)
 
-update_begins : (text rest : List ℕ) (limit : ℕ) → IsInteger 5 32 text limit → Begins 32 64 (text ++ rest)
+pub update_begins : (text rest : List ℕ) (limit : ℕ) → IsInteger 5 32 text limit → Begins 32 64 (text ++ rest)
 update_begins text rest limit i =
     let first = first_of_integer 5 32 limit text i in
     (first.0, first.1 ++ rest, ap (λ (z : List ℕ). z ++ rest) first.2, first.3, first.4)
@@ -419,7 +419,7 @@ settled table mid text rest (l ∷ others) a none =
     absurd (none (subst (Begins 32 64) (sym (ap (λ (z : List ℕ). z ++ rest) a.2 ∙ append_assoc a.0 a.1 rest)) (update_begins a.0 (a.1 ++ rest) l a.3)))
 
 -- fields, and then anything, begin with no change
-no_update_behind : (table next : Table) (text rest : List ℕ) (field : Field) (fields : List Field) → AreFields table text (field ∷ fields) next → Begins 32 64 (text ++ rest) → ⊥
+pub no_update_behind : (table next : Table) (text rest : List ℕ) (field : Field) (fields : List Field) → AreFields table text (field ∷ fields) next → Begins 32 64 (text ++ rest) → ⊥
 unfolding AreFields
 no_update_behind table next text rest f fields a b =
     elim (ranged a.4.0) [
@@ -444,15 +444,15 @@ block_one table next other block fields gs a b =
     let end = none_left other next f.0 f.2 in
     (f.1 ∙ ap (λ (z : List Field). gs ++ z) end.0 ∙ append-nil gs, end.1)
 
-apart_begins : (low high low' high' : ℕ) (bytes : List ℕ) → Begins low high bytes → Begins low' high' bytes → (high ≤ low') ⊎ (high' ≤ low) → ⊥
+pub apart_begins : (low high low' high' : ℕ) (bytes : List ℕ) → Begins low high bytes → Begins low' high' bytes → (high ≤ low') ⊎ (high' ≤ low) → ⊥
 apart_begins low high low' high' bytes a b (inl h) = omega (arith, heads a.0 b.0 a.1 b.1 (sym a.2 ∙ b.2), a.3, a.4, b.3, b.4, h)
 apart_begins low high low' high' bytes a b (inr h) = omega (arith, heads a.0 b.0 a.1 b.1 (sym a.2 ∙ b.2), a.3, a.4, b.3, b.4, h)
 
-fit_32 : (m : ℕ) → m + 1 < 2 ^ 5 → (32 + m) % 2 ^ 5 ≡ m
+pub fit_32 : (m : ℕ) → m + 1 < 2 ^ 5 → (32 + m) % 2 ^ 5 ≡ m
 fit_32 m h = omega arith
 
 -- where a change of size is, no fault stands before the first field
-no_change : (fault : HpackFault) (table : Table) (bytes text rest : List ℕ) (limit : ℕ) → IsFaultBehind fault [] table bytes → IsInteger 5 32 text limit → limit ≤ 4096 → bytes ≡ text ++ rest → ⊥
+pub no_change : (fault : HpackFault) (table : Table) (bytes text rest : List ℕ) (limit : ℕ) → IsFaultBehind fault [] table bytes → IsInteger 5 32 text limit → limit ≤ 4096 → bytes ≡ text ++ rest → ⊥
 no_change fault table bytes text rest limit (inl d) i h e = apart_begins 128 256 32 64 bytes d.0 (subst (Begins 32 64) (sym e) (update_begins text rest limit i)) (inr (lit≤ tt))
 no_change fault table bytes text rest limit (inr (inl d)) i h e = apart_begins 64 128 32 64 bytes d.0 (subst (Begins 32 64) (sym e) (update_begins text rest limit i)) (inr (lit≤ tt))
 no_change fault table bytes text rest limit (inr (inr (inl d))) i h e = apart_begins 16 32 32 64 bytes d.0 (subst (Begins 32 64) (sym e) (update_begins text rest limit i)) (inl (lit≤ tt))

@@ -1,6 +1,7 @@
 //! Reading a header block (RFC 7541, sections 3.2 and 6).
-ghost use Rattle.std.specs.Prelude.{List, Option, MatchResult, ◌≡◌, ◌<◌, ◌≤◌, ◌⊎◌, [], length, Some, None, IfOk, IfErr, OnOk, OnErr, min, true, false};
+ghost use Rattle.std.specs.Prelude.{List, Option, MatchResult, ◌≡◌, ◌≢◌, ◌<◌, ◌≤◌, ◌⊎◌, [], length, Some, None, Err, IfOk, IfErr, OnOk, OnErr, true, false};
 ghost use Rattle.lists.specs.declared.field.Field.{Field as FieldOf};
+ghost use Rattle.hpack_codec.specs.declared.fault.HpackFault.{HpackFault};
 ghost use Rattle.hpack_codec.specs.Table.{Table, empty_table, size_of, sizes_of};
 ghost use Rattle.hpack_codec.specs.Block.{AreFields};
 ghost use Rattle.hpack_codec.specs.Faults.{IsIndexedFault, IsLiteralFault, IsNameFault, Begins};
@@ -14,7 +15,7 @@ use crate::representation::{
     SIZE_UPDATE, SIZE_UPDATE_PREFIX,
 };
 use crate::string_literal::string;
-use crate::table::{DynamicTable, MAX_LIMIT, OVERHEAD};
+use crate::table::{DynamicTable, MAX_LIMIT, capped_size};
 use lists::{Field, Octets};
 use std::alloc::{AllocError, Global};
 use std::marker::Model;
@@ -59,6 +60,10 @@ impl Decoder {
         // What is in the block is read, unless memory runs out.
         ensures only { (fields : List FieldOf) (kept : Option Table) → Reads self.old block.now fields kept
             → MatchResult result (λ read. (read.items ≡ fields) × (self.new ≡ kept)) (λ fault. fault ≡ HpackFault.OutOfMemory) }
+
+        // The first fault of the block is answered, unless memory runs out.
+        ensures first { (fault : HpackFault) → fault ≢ HpackFault.OutOfMemory → IsFirstFault fault self.old block.now
+            → (result ≡ Err fault) ⊎ (result ≡ Err HpackFault.OutOfMemory) }
 
         // After any fault the decoder is dead.
         ensures dead { OnErr result (self.new ≡ None) }
@@ -136,17 +141,6 @@ fn fields_of(
     Ok(fields)
 }
 
-/// The size of a field, where that can be counted.
-fn capped_size(field: &Field) -> usize
-    ensures { result ≡ min (size_of field.now) usize.MAX }
-{
-    field
-        .name
-        .len()
-        .saturating_add(field.value.len())
-        .saturating_add(OVERHEAD)
-}
-
 /// Puts a field into the table, if it becomes an entry.
 fn keep(
     table: &mut DynamicTable,
@@ -158,7 +152,7 @@ fn keep(
     ensures { OnOk result (table.new ≡ next_table is_entry table.old field.now) }
 {
     if is_entry {
-        table.insert(field.clone()?, size)?;
+        table.insert(field, size)?;
     }
     Ok(())
 }

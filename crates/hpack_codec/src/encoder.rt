@@ -1,7 +1,8 @@
 //! Writing a header block (RFC 7541, sections 3.2 and 6).
 //!
 //! `block`: it looks at the lengths of all fields before it takes memory, so `too_large` is exact.
-ghost use Rattle.std.specs.Prelude.{◌≡◌, ◌<◌, ◌^◌, ◌≤◌, ◌⊎◌, ◌↔◌, length, Some, None, Any, IfOk, IfErr, OnOk, OnErr, IsErrOf, IsSome, IsTrue};
+ghost use Rattle.std.specs.Prelude.{◌≡◌, ◌<◌, ◌^◌, ◌≤◌, ◌⊎◌, ◌↔◌, ◌+◌, min, length, Some, None, Any, IfOk, IfErr, OnOk, OnErr, IsErrOf, IsSome, IsTrue};
+ghost use Rattle.hpack_codec.specs.Table.{sizes_of};
 ghost use Rattle.hpack_codec.specs.Codec.{first_encoding, limited, Writes, IsTooLong};
 ghost use Rattle.hpack_codec.specs.Reading.{Appends, SpellsField, SpellsFields, SpellsUpdate};
 
@@ -12,10 +13,13 @@ use crate::representation::{
 };
 use crate::static_table::{Found, find};
 use crate::string_literal::push_string;
-use crate::table::MAX_LIMIT;
+use crate::table::{MAX_LIMIT, capped_size};
 use lists::Field;
 use std::alloc::{AllocError, Global};
 use std::marker::Model;
+
+/// How many bytes a change of the table's limit has at most.
+const MOST_UPDATE: usize = 3;
 
 /// The longest name or value that can be written.
 const MAX_LEN: usize = u32::MAX as usize;
@@ -82,7 +86,7 @@ impl Encoder {
         if any_too_long(fields) {
             return Err(HpackFault::TooLarge);
         }
-        let mut out = Vec::new(self.alloc);
+        let mut out = Vec::with_capacity(self.alloc, most_bytes(fields))?;
         push_update(&mut out, self.max_size, self.least)?;
         push_fields(&mut out, fields)?;
         self.max_size = self.least;
@@ -95,6 +99,17 @@ fn any_too_long(fields: &[Field]) -> bool
     ensures { IsTrue result ↔ Any IsTooLong fields.now }
 {
     fields.iter().any(|field| field.name.len() > MAX_LEN || field.value.len() > MAX_LEN)
+}
+
+/// More bytes than the block of these fields has: no field is spelled in more bytes than its size counts.
+fn most_bytes(fields: &[Field]) -> usize
+    ensures { result ≡ min (sizes_of fields.now + 3) usize.MAX }
+{
+    let mut most = MOST_UPDATE;
+    for field in fields {
+        most = most.saturating_add(capped_size(field));
+    }
+    most
 }
 
 /// Writes the change of an empty table's limit, where it is one.

@@ -3,7 +3,8 @@
 //! A `Decoder` reads the blocks of a connection in their order, an `Encoder` writes them. A block is the joined
 //! spellings of representations (section 6), each with its effect on the dynamic table (sections 2.3 and 4): that
 //! is `IsBlock` of `specs/Block.antt`, and both meet it. Where a block is none, the decoder answers the first fault
-//! from the left (`specs/Faults.antt`); after any fault a codec is dead.
+//! from the left (`specs/Faults.antt`); after any fault a codec is dead. `laws` says that a block has one reading or one
+//! first fault.
 //!
 //! Blocks carry a list of `lists::Field`. Read `integer`, `huffman` and `string_literal`, how these are spelled
 //! (section 5, appendix B); `static_table` and `table`, what is named by index (appendix A); `representation`, the first bits
@@ -17,6 +18,7 @@ mod encoder;
 mod fault;
 mod huffman;
 mod integer;
+pub mod laws;
 mod representation;
 mod static_table;
 mod string_literal;
@@ -25,6 +27,3 @@ mod table;
 pub use decoder::Decoder;
 pub use encoder::Encoder;
 pub use fault::HpackFault;
-
-#[cfg(test)]
-mod tests;

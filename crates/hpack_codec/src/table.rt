@@ -1,5 +1,5 @@
 //! The table of entries that blocks name by index (RFC 7541, sections 2.3 and 4).
-ghost use Rattle.std.specs.Prelude.{◌≡◌, ◌<◌, ◌≤◌, ◌^◌, ◌+◌, length, Some, None, MatchOption, OnOk};
+ghost use Rattle.std.specs.Prelude.{◌≡◌, ◌<◌, ◌≤◌, ◌^◌, ◌+◌, length, Some, None, MatchOption, IfOk, OnOk, min};
 ghost use Rattle.hpack_codec.specs.StaticTable.{entry};
 ghost use Rattle.hpack_codec.specs.Table.{size_of, entry_at, insert_entry, resize, empty_table, sizes_of, fitting};
 
@@ -10,7 +10,7 @@ use std::collections::VecDeque;
 use std::marker::Model;
 
 /// What an entry counts beside its bytes.
-pub const OVERHEAD: usize = 32;
+const OVERHEAD: usize = 32;
 
 /// The greatest limit, which a table has before the first block.
 pub const MAX_LIMIT: u32 = 4096;
@@ -64,9 +64,10 @@ impl DynamicTable {
     }
 
     /// Puts an entry first. The oldest go where there is no room, all of them for one larger than the table.
-    pub fn insert(&mut self, field: Field, size: usize) -> Result<(), AllocError>
-        requires { size ≡ size_of field }
-        ensures { OnOk result (self.new ≡ insert_entry self.old field) }
+    /// The field is copied where it becomes an entry.
+    pub fn insert(&mut self, field: &Field, size: usize) -> Result<(), AllocError>
+        requires { size ≡ size_of field.now }
+        ensures { OnOk result (self.new ≡ insert_entry self.old field.now) }
     {
         let limit = self.max_size as usize;
         if size > limit {
@@ -75,7 +76,8 @@ impl DynamicTable {
             return Ok(());
         }
         self.size = evict(&mut self.recent, self.size, limit - size);
-        self.recent.push_front(field)?;
+        let entry = copy_of(field)?;
+        self.recent.push_front(entry)?;
         self.size += size;
         Ok(())
     }
@@ -103,4 +105,21 @@ fn evict(recent: &mut VecDeque<Field>, size: usize, room: usize) -> usize
         }
     }
     size
+}
+
+fn copy_of(field: &Field) -> Result<Field, AllocError>
+    ensures { IfOk result (λ copy. copy ≡ field.now) }
+{
+    field.clone()
+}
+
+/// The size of a field, where that can be counted.
+pub fn capped_size(field: &Field) -> usize
+    ensures { result ≡ min (size_of field.now) usize.MAX }
+{
+    field
+        .name
+        .len()
+        .saturating_add(field.value.len())
+        .saturating_add(OVERHEAD)
 }

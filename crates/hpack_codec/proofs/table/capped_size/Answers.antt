@@ -1,6 +1,6 @@
 use Rattle.std.proofs.Common.{arith, ◌≡◌, ◌+◌, min, ℕ, length, ◌-◌, ◌^◌, ◌∙◌, ap}
 use Rattle.hpack_codec.specs.Table.{size_of}
-use Rattle.hpack_codec.proofs.decoder.capped_size.Goals as goal
+use Rattle.hpack_codec.proofs.table.capped_size.Goals as goal
 
 capped : (a b most : ℕ) → min (min (a + b) most + 32) most ≡ min (a + b + 32) most
 capped a b most = omega arith
