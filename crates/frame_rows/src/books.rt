@@ -43,6 +43,14 @@ fn name_of(marks: Option<Marks>) -> &'static str {
     }
 }
 
+/// The number of a call, where there is one at its place.
+fn print_id(alloc: Global, id: Option<StreamId>) -> Result<String> {
+    match id {
+        Some(id) => Ok(id.to_string(alloc)?),
+        None => Ok(String::from_str(alloc, "none")?),
+    }
+}
+
 impl Books {
     pub fn new(alloc: Global) -> Books {
         Books {
@@ -97,6 +105,10 @@ impl Subject for Books {
         match words.as_slice() {
             ["announce", id] => Ok(self.book.announce(number(id)?).to_string(alloc)?),
             ["last"] => Ok(self.book.last().to_string(alloc)?),
+            ["live"] => Ok(self.book.live().to_string(alloc)?),
+            ["id", place] => print_id(alloc, self.book.live_id(number(place)? as usize)),
+            ["window", id] => Ok(self.book.window(number(id)?).to_string(alloc)?),
+            ["due", id] => Ok(self.book.due(number(id)?).to_string(alloc)?),
             ["closing"] => Ok(self.book.closing().to_string(alloc)?),
             ["marks", id] => Ok(String::from_str(alloc, name_of(self.book.marks(number(id)?)))?),
             words => print_done(alloc, self.change(words)?),
