@@ -12,7 +12,7 @@ use Rattle.std.proofs.lemmas.Map.Entries.{sum_by-set_value, sum_by-remove_entry}
 use Rattle.std.proofs.lemmas.Map.Views.{All-values-set_value, All-map-remove_entry, IfSome-lookup_from_All}
 use Rattle.flow.specs.declared.book.counts.Counts.{Counts}
 use Rattle.flow.specs.declared.book.Call.{Call}
-use Rattle.flow.specs.Books.{Books, IsLawful, IsLive, IsCounted, IsOdd, call_at, with_call, with_received, with_returned, with_announced, after_admit, after_receive_on, after_give_back_on, after_cut_on, local_closed, new_call, unreturned}
+use Rattle.flow.specs.Books.{Books, IsLawful, Moves, no_change, IsLive, IsCounted, IsOdd, call_at, with_call, with_received, with_returned, with_announced, after_admit, after_receive_on, after_give_back_on, after_cut_on, after_cut, after_announce, is_half_closed, after_end_remote, after_end_local, local_closed, new_call, unreturned}
 
 -- a live call
 pub live_at : (b : Books) (id : ℕ) (call : Call) → IsLawful b → call_at b id ≡ Some call → IsLive b.connection.received call
@@ -157,12 +157,33 @@ admit-lawful b id law few odd above =
           (omega (arith, sum_by_push (λ (call : Call). unreturned call.counts) (values_of b.calls) new_call, law.loose_fits));
     }
 
+-- and what ledgers see of it
+pub admit-moves : (b : Books) (id : ℕ) → Moves (record (no_change b) { admitted = 1; last = id }) b (after_admit b id)
+admit-moves b id = record {
+  received = omega arith;
+  announced = omega arith;
+  live = omega (arith, length-append b.calls ((id, new_call) ∷ []));
+  last = refl;
+  closing = refl;
+}
+
 -- a live call hasn't returned more than the connection
-unreturned_at : (b : Books) (id : ℕ) (call : Call) → IsLawful b → call_at b id ≡ Some call
+pub unreturned_at : (b : Books) (id : ℕ) (call : Call) → IsLawful b → call_at b id ≡ Some call
     → unreturned call.counts ≤ unreturned b.connection
 unreturned_at b id call law found =
     let sum = sum_by-remove_entry (λ (c : Call). unreturned c.counts) (nat_eq id) b.calls in
     omega (arith, rw found at sum, law.loose_fits)
+
+-- where the other end is marked, a call that ends is cut
+pub cut-is-end_remote : (b : Books) (id : ℕ) (call : Call) → call_at b id ≡ Some call → call.marks.local ≡ true → after_cut b id ≡ after_end_remote b id
+cut-is-end_remote b id call found over = rw (found, over) refl
+
+pub cut-is-end_local : (b : Books) (id : ℕ) (call : Call) → call_at b id ≡ Some call → call.marks.remote ≡ true → after_cut b id ≡ after_end_local b id
+cut-is-end_local b id call found over = rw (found, over) refl
+
+-- of a call of which an end is marked nothing is announced
+pub announce-half_closed : (b : Books) (id : ℕ) (call : Call) → nat_eq id 0 ≡ false → call_at b id ≡ Some call → is_half_closed call ≡ true → after_announce b id ≡ b
+announce-half_closed b id call other found over = rw (other, found, over) refl
 
 -- bytes came on a call, and on the connection
 pub receive-lawful : (b : Books) (id n : ℕ) (call : Call) → IsLawful b → call_at b id ≡ Some call

@@ -1,6 +1,6 @@
 -- What is kept of the receiving halves, and how one event changes it.
 use Rattle.std.proofs.Common.{◌≡◌, ℕ, ◌+◌, ◌<◌, Bool, true, false, ◌&&◌, ◌||◌, not, true≢false, refl, sym, ap, subst, ◌∙◌, List, [], ◌∷◌, ◌++◌, length, Option, Some, None, arith, nat_eq, length-append, suc}
-use Rattle.std.specs.Prelude.{if◌then◌else◌, nat_lt, nat_le, IsSome, MatchOption}
+use Rattle.std.specs.Prelude.{if◌then◌else◌, nat_lt, IsSome, MatchOption}
 use Rattle.std.specs.List.{list_any}
 use Rattle.std.specs.Map.{lookup, set_value}
 use Rattle.std.proofs.lemmas.Bool.{eqb-true}
@@ -20,35 +20,33 @@ use Rattle.flow.specs.Halves.{Event, Received, Cut, stream_of, is_odd, is_above,
 
 -- ---- a half, and one more event
 
-moved-table : (late reset was_reset last had_last : Bool)
-    → (if late || (reset || was_reset) then Reset else (if last || had_last then Ended else Opened))
-    ≡ moved (if late || was_reset then Reset else (if had_last then Ended else Opened)) reset last
-moved-table true reset was_reset last had_last = refl
-moved-table false true true last had_last = refl
-moved-table false false true last had_last = refl
-moved-table false true false last true = refl
-moved-table false true false last false = refl
-moved-table false false false true true = refl
-moved-table false false false false true = refl
-moved-table false false false true false = refl
-moved-table false false false false false = refl
+moved-table : (reset was_reset last had_last : Bool)
+    → (if reset || was_reset then Reset else (if last || had_last then Ended else Opened))
+    ≡ moved (if was_reset then Reset else (if had_last then Ended else Opened)) reset last
+moved-table true true last had_last = refl
+moved-table false true last had_last = refl
+moved-table true false last true = refl
+moved-table true false last false = refl
+moved-table false false true true = refl
+moved-table false false false true = refl
+moved-table false false true false = refl
+moved-table false false false false = refl
 
 -- an event elsewhere changes nothing
 half-other : (id : ℕ) (e : Event) (c : Course) → nat_eq id (stream_of e) ≡ false → half id (record { since = e ∷ c.since; before = c.before }) ≡ half id c
 half-other id e c other =
-    ap (λ b. if nat_le MAX_STREAMS (length (begun c.before)) || ((b && resets e) || list_any (is_on resets id) c.since) then Reset
+    ap (λ b. if (b && resets e) || list_any (is_on resets id) c.since then Reset
     else (if (b && ends e) || list_any (is_on ends id) c.since then Ended else Opened)) other
 
 half-here : (e : Event) (c : Course) → half (stream_of e) (record { since = e ∷ c.since; before = c.before }) ≡ half_after (half (stream_of e) c) e
 half-here e c =
-    ap (λ b. if nat_le MAX_STREAMS (length (begun c.before)) || ((b && resets e) || list_any (is_on resets (stream_of e)) c.since) then Reset
+    ap (λ b. if (b && resets e) || list_any (is_on resets (stream_of e)) c.since then Reset
     else (if (b && ends e) || list_any (is_on ends (stream_of e)) c.since then Ended else Opened)) (same_number (stream_of e))
-    ∙ moved-table (nat_le MAX_STREAMS (length (begun c.before))) (resets e) (list_any (is_on resets (stream_of e)) c.since) (ends e) (list_any (is_on ends (stream_of e)) c.since)
+    ∙ moved-table (resets e) (list_any (is_on resets (stream_of e)) c.since) (ends e) (list_any (is_on ends (stream_of e)) c.since)
 
-new-table : (late last : Bool) → (if late || (false || false) then Reset else (if last || false then Ended else Opened)) ≡ (if late then Reset else (if last then Ended else Opened))
-new-table true last = refl
-new-table false true = refl
-new-table false false = refl
+new-table : (last : Bool) → (if false || false then Reset else (if last || false then Ended else Opened)) ≡ (if last then Ended else Opened)
+new-table true = refl
+new-table false = refl
 
 headers-no_reset : (kind : FrameKind) → is_headers kind ≡ true → is_reset_kind kind ≡ false
 headers-no_reset Headers h = refl
@@ -67,22 +65,23 @@ second-true true b h = h
 second-true false b h = absurd (true≢false (sym h))
 
 begins-no_reset : (e : Event) (ids : List ℕ) → begins e ids ≡ true → resets e ≡ false
-begins-no_reset (Received head) ids h = headers-no_reset head.kind (first-true (is_headers head.kind) (is_odd head.stream && is_above ids head.stream) h)
+begins-no_reset (Received head) ids h = headers-no_reset head.kind (first-true (is_headers head.kind) (is_odd head.stream && (is_above ids head.stream && nat_lt (length ids) MAX_STREAMS)) h)
 begins-no_reset (Cut id) ids h = absurd (true≢false (sym h))
 
 begins-above : (e : Event) (ids : List ℕ) → begins e ids ≡ true → is_above ids (stream_of e) ≡ true
 begins-above (Received head) ids h =
-    second-true (is_odd head.stream) (is_above ids head.stream) (second-true (is_headers head.kind) (is_odd head.stream && is_above ids head.stream) h)
+    first-true (is_above ids head.stream) (nat_lt (length ids) MAX_STREAMS) (second-true (is_odd head.stream) (is_above ids head.stream && nat_lt (length ids) MAX_STREAMS)
+    (second-true (is_headers head.kind) (is_odd head.stream && (is_above ids head.stream && nat_lt (length ids) MAX_STREAMS)) h))
 begins-above (Cut id) ids h = absurd (true≢false (sym h))
 
 half-new : (e : Event) (before : List Event) → begins e (begun before) ≡ true
-    → half (stream_of e) (record { since = e ∷ []; before = before }) ≡ half_of_new (length (begun before)) e
+    → half (stream_of e) (record { since = e ∷ []; before = before }) ≡ half_of_new e
 half-new e before b =
-    ap (λ here. if nat_le MAX_STREAMS (length (begun before)) || ((here && resets e) || false) then Reset
+    ap (λ here. if (here && resets e) || false then Reset
     else (if (here && ends e) || false then Ended else Opened)) (same_number (stream_of e))
-    ∙ ap (λ r. if nat_le MAX_STREAMS (length (begun before)) || (r || false) then Reset
+    ∙ ap (λ r. if r || false then Reset
     else (if ends e || false then Ended else Opened)) (begins-no_reset e (begun before) b)
-    ∙ new-table (nat_le MAX_STREAMS (length (begun before))) (ends e)
+    ∙ new-table (ends e)
 
 -- ---- what is kept of a stream, and one more event
 
@@ -106,7 +105,7 @@ kept-begun e h c is =
     ap (λ o. kept (state_of (stream_of e) (e ∷ h) (further e h (nat_eq (stream_of e) (stream_of e) && begins e (begun h)) o))) is ∙ ap Some (half-here e c)
 
 pub kept-new : (e : Event) (h : List Event) → course (stream_of e) h ≡ None → begins e (begun h) ≡ true
-    → kept (state (stream_of e) (e ∷ h)) ≡ Some (half_of_new (length (begun h)) e)
+    → kept (state (stream_of e) (e ∷ h)) ≡ Some (half_of_new e)
 kept-new e h is b =
     ap (λ o. kept (state_of (stream_of e) (e ∷ h) (further e h (nat_eq (stream_of e) (stream_of e) && begins e (begun h)) o))) is
     ∙ ap (λ beginning. kept (state_of (stream_of e) (e ∷ h) (further e h (beginning && begins e (begun h)) None))) (same_number (stream_of e))
@@ -208,18 +207,18 @@ module _ (h : List Event) (s : Streams) (stands : Stands h s) where
 
   -- the event that begins a stream
   pub Stands-new : (e : Event) → 0 < stream_of e → half_of s (stream_of e) ≡ None → begins e (begun h) ≡ true
-      → Stands (e ∷ h) (record { greatest = stream_of e; halves = s.halves ++ (stream_of e, half_of_new (length s.halves) e) ∷ [] })
+      → Stands (e ∷ h) (record { greatest = stream_of e; halves = s.halves ++ (stream_of e, half_of_new e) ∷ [] })
   Stands-new e positive none b =
       let more : begun (e ∷ h) ≡ stream_of e ∷ begun h = ap (λ beginning. if beginning then stream_of e ∷ begun h else begun h) b in
       let above : nat_lt s.greatest (stream_of e) ≡ true = sym (stands.greatest (stream_of e) positive) ∙ begins-above e (begun h) b in
       record {
-        count = length-append s.halves ((stream_of e, half_of_new (length s.halves) e) ∷ []) ∙ count_more (length s.halves) (length (begun h)) stands.count ∙ sym (ap length more);
+        count = length-append s.halves ((stream_of e, half_of_new e) ∷ []) ∙ count_more (length s.halves) (length (begun h)) stands.count ∙ sym (ap length more);
         greatest = λ id there. ap (λ ids. is_above ids id) more ∙ ap (λ rest. nat_lt (stream_of e) id && rest) (stands.greatest id there)
             ∙ above_both (stream_of e) s.greatest id above;
-        each = each-from e (s.halves ++ (stream_of e, half_of_new (length s.halves) e) ∷ [])
-            (lookup-pushed (stream_of e) (half_of_new (length s.halves) e) s.halves none
-            ∙ sym (kept-new e h (course-None (stream_of e) none) b ∙ ap (λ n. Some (half_of_new n e)) (sym stands.count)))
-            (λ id p. lookup-push id (stream_of e) (half_of_new (length s.halves) e) s.halves p);
+        each = each-from e (s.halves ++ (stream_of e, half_of_new e) ∷ [])
+            (lookup-pushed (stream_of e) (half_of_new e) s.halves none
+            ∙ sym (kept-new e h (course-None (stream_of e) none) b))
+            (λ id p. lookup-push id (stream_of e) (half_of_new e) s.halves p);
       }
     where
       count_more : (n m : ℕ) → n ≡ m → n + 1 ≡ suc m
@@ -277,6 +276,11 @@ module _ (s : Streams) (after : List (ℕ × Half)) (head : FrameHead) (answer :
       let same : half_after was.0 (Received head) ≡ was.0 = error-kept was.0 head (subst (λ v. is_error v ≡ true) was.2 e) in
       written was.0 was.1 ∙ set_value_same (nat_eq head.stream) s.halves (half_after was.0 (Received head)) (was.1 ∙ ap Some (sym same))
 
+  pub begun-length : length after ≡ length s.halves
+  begun-length =
+      let was = begun-answer (half_of s head.stream) answer head is in
+      ap length (written was.0 was.1) ∙ length-set_value (nat_eq head.stream) s.halves (half_after was.0 (Received head))
+
   pub begun-there : IsSome (lookup (nat_eq head.stream) after)
   begun-there =
       let was = begun-answer (half_of s head.stream) answer head is in
@@ -296,23 +300,28 @@ module _ (s : Streams) (after : List (ℕ × Half)) (head : FrameHead)
   pub unbegun-left : after ≡ s.halves
   unbegun-left = subst (λ o. MatchOption o (after ≡ s.halves) (λ v. after ≡ set_value (nat_eq head.stream) s.halves (half_after v (Received head)))) unbegun left
 
-beginning : (h : List Event) (s : Streams) → Stands h s → (head : FrameHead) → 0 < head.stream → (b : Bool)
-    → b ≡ (is_headers head.kind && (is_odd head.stream && nat_lt s.greatest head.stream)) → begins (Received head) (begun h) ≡ b
-beginning h s stands head positive b is =
-    ap (λ above. is_headers head.kind && (is_odd head.stream && above)) (stands.greatest head.stream positive) ∙ sym is
+-- a frame on it begins it where these hold of what is kept
+abbrev pub begins_by : Streams → FrameHead → Bool
+begins_by s head = is_headers head.kind && (is_odd head.stream && (nat_lt s.greatest head.stream && nat_lt (length s.halves) MAX_STREAMS))
 
-pub unused-follows : (s : Streams) (head : FrameHead) (b : Bool) → 0 < head.stream → half_of s head.stream ≡ None
-    → b ≡ (is_headers head.kind && (is_odd head.stream && nat_lt s.greatest head.stream)) → b ≡ false
-    → (h : List Event) → Stands h s → Stands (Received head ∷ h) s
-unused-follows s head b positive none is unused h stands =
-    Stands-unused h s stands (Received head) none (beginning h s stands head positive b is ∙ unused)
+beginning : (h : List Event) (s : Streams) → Stands h s → (head : FrameHead) → 0 < head.stream → begins (Received head) (begun h) ≡ begins_by s head
+beginning h s stands head positive =
+    ap (λ above. is_headers head.kind && (is_odd head.stream && (above && nat_lt (length (begun h)) MAX_STREAMS))) (stands.greatest head.stream positive)
+    ∙ ap (λ count. is_headers head.kind && (is_odd head.stream && (nat_lt s.greatest head.stream && nat_lt count MAX_STREAMS))) (sym stands.count)
 
-pub new-follows : (s : Streams) (head : FrameHead) (b : Bool) → 0 < head.stream → half_of s head.stream ≡ None
-    → b ≡ (is_headers head.kind && (is_odd head.stream && nat_lt s.greatest head.stream)) → b ≡ true
-    → (after : List (ℕ × Half)) (count : ℕ) (new : Half) → count ≡ length s.halves → new ≡ half_of_new count (Received head)
-    → after ≡ s.halves ++ (head.stream, new) ∷ []
+pub new-follows : (s : Streams) (head : FrameHead) → 0 < head.stream → half_of s head.stream ≡ None → begins_by s head ≡ true
+    → (after : List (ℕ × Half)) (new : Half) → new ≡ half_of_new (Received head) → after ≡ s.halves ++ (head.stream, new) ∷ []
     → (h : List Event) → Stands h s → Stands (Received head ∷ h) (record { greatest = head.stream; halves = after })
-new-follows s head b positive none is begins after count new counted made pushed h stands =
-    let half : new ≡ half_of_new (length s.halves) (Received head) = made ∙ ap (λ n. half_of_new n (Received head)) counted in
-    subst (λ halves. Stands (Received head ∷ h) (record { greatest = head.stream; halves = halves })) (sym (pushed ∙ ap (λ v. s.halves ++ (head.stream, v) ∷ []) half))
-    (Stands-new h s stands (Received head) positive none (beginning h s stands head positive b is ∙ begins))
+new-follows s head positive none begins after new made pushed h stands =
+    subst (λ halves. Stands (Received head ∷ h) (record { greatest = head.stream; halves = halves })) (sym (pushed ∙ ap (λ v. s.halves ++ (head.stream, v) ∷ []) made))
+    (Stands-new h s stands (Received head) positive none (beginning h s stands head positive ∙ begins))
+
+pub is-new : (s : Streams) (head : FrameHead) → is_headers head.kind ≡ true → (is_odd head.stream && nat_lt s.greatest head.stream) ≡ true
+    → nat_lt (length s.halves) MAX_STREAMS ≡ true → begins_by s head ≡ true
+is-new s head headers new few = by (is_headers head.kind) (is_odd head.stream) (nat_lt s.greatest head.stream) (nat_lt (length s.halves) MAX_STREAMS) headers new few
+  where
+    by : (headers odd above few : Bool) → headers ≡ true → (odd && above) ≡ true → few ≡ true → (headers && (odd && (above && few))) ≡ true
+    by false odd above few h n f = h
+    by true false above few h n f = n
+    by true true false few h n f = n
+    by true true true few h n f = f

@@ -6,6 +6,7 @@ use Rattle.std.specs.Map.{lookup, set_value, remove_entry, keys_of, values_of}
 use Rattle.flow.specs.declared.TheConstants.{INITIAL_WINDOW, MAX_LIVE, MAX_RECEIVED}
 use Rattle.flow.specs.declared.book.counts.Counts.{Counts}
 use Rattle.flow.specs.declared.book.Call.{Call}
+use Rattle.flow.specs.declared.book.Marks.{Marks}
 use Rattle.flow.specs.declared.book.fault.BookFault.{BookFault}
 use Rattle.flow.specs.declared.book.fault.BookFault.TheVariants.{TooMany, Draining, CallWindow, ConnectionWindow, Overgiven, Unknown, OutOfMemory}
 
@@ -84,6 +85,31 @@ at_id b id alone change = if nat_eq id 0 then alone else option_map_or change (c
 abbrev pub after_admit : Books → ℕ → Books
 after_admit b id = record b { calls = b.calls ++ (id, new_call) ∷ []; last = id }
 
+-- ---- what ledgers beside the book stand on
+
+-- what a call of the book moves: the bytes that came on the connection and those announced on it, the calls that are admitted
+-- and those no longer live; and the greatest id and whether no more are admitted, as they are then
+pub record Change : Type 0 where
+  pub received : ℕ
+  pub announced : ℕ
+  pub admitted : ℕ
+  pub over : ℕ
+  pub last : ℕ
+  pub closing : Bool
+
+abbrev pub no_change : Books → Change
+no_change b = record { received = 0; announced = 0; admitted = 0; over = 0; last = b.last; closing = b.closing }
+
+-- from the one book to the other there is this change
+pub record Moves (change : Change) (old new : Books) : Type 0 where
+  pub received : new.connection.received ≡ old.connection.received + change.received
+  pub announced : new.connection.announced ≡ old.connection.announced + change.announced
+  pub live : length new.calls + change.over ≡ length old.calls + change.admitted
+  pub last : new.last ≡ change.last
+  pub closing : new.closing ≡ change.closing
+
+-- ---- each call of the book
+
 -- n bytes of DATA came. Those of a call whose local end is marked are returned at once, since nobody will take them.
 abbrev pub after_receive_on : Books → ℕ → ℕ → Call → Books
 after_receive_on b id n call =
@@ -100,6 +126,10 @@ after_give_back_on b id n call =
 abbrev pub after_give_back : Books → ℕ → ℕ → Books
 after_give_back b id n = at_id b id (record b { connection = with_returned b.connection n }) (after_give_back_on b id n)
 
+-- the call is live, and such an end of it is marked
+abbrev pub is_marked : (Marks → Bool) → Books → ℕ → Bool
+is_marked end b id = option_map_or (λ call. end call.marks) (call_at b id) false
+
 -- either end of the call is marked: no more DATA comes, or none is taken
 abbrev pub is_half_closed : Call → Bool
 is_half_closed call = call.marks.remote || call.marks.local
@@ -111,10 +141,11 @@ after_announce b id =
     (λ call. if is_half_closed call then b else with_call b id (record call { counts = with_announced call.counts }))
 
 -- how much of that wasn't announced yet: the increment of a WINDOW_UPDATE that is due (section 6.9)
+abbrev pub due_of : Call → ℕ
+due_of call = if is_half_closed call then 0 else unannounced call.counts
+
 abbrev pub announcement : Books → ℕ → ℕ
-announcement b id =
-    if nat_eq id 0 then unannounced b.connection
-    else option_map_or (λ call. if is_half_closed call then 0 else unannounced call.counts) (call_at b id) 0
+announcement b id = if nat_eq id 0 then unannounced b.connection else option_map_or due_of (call_at b id) 0
 
 -- a call is no longer live: the rest of its bytes is returned on the connection
 abbrev pub after_cut_on : Books → ℕ → Call → Books
@@ -142,6 +173,13 @@ after_end_local_on b id call = if call.marks.remote then after_cut_on b id call 
 
 abbrev pub after_end_local : Books → ℕ → Books
 after_end_local b id = option_map_or (after_end_local_on b id) (call_at b id) b
+
+-- how many bytes the peer may still send (section 6.9.1): on the connection no more than can be counted, and nothing on a
+-- call that isn't live
+abbrev pub window_of : Books → ℕ → ℕ
+window_of b id =
+    if nat_eq id 0 then min (INITIAL_WINDOW + b.connection.announced) MAX_RECEIVED - b.connection.received
+    else option_map_or (λ call. (INITIAL_WINDOW + call.counts.announced) - call.counts.received) (call_at b id) 0
 
 -- n more bytes are over what the peer may send (section 6.9.1)
 abbrev pub IsOver : Counts → ℕ → Type 0

@@ -1,6 +1,6 @@
 -- The receiving halves of streams (RFC 9113, section 5.1): what a frame from the client is answered, given all the
 -- frames before it and the streams that the server reset.
-use Rattle.std.specs.Prelude.{ℕ, ◌%◌, ◌==◌, Bool, true, false, ◌&&◌, ◌||◌, not, if◌then◌else◌, nat_eq, nat_lt, nat_le, List, [], ◌∷◌, length, Option, Some, None, ◌≡◌, ◌<◌}
+use Rattle.std.specs.Prelude.{ℕ, ◌%◌, ◌==◌, Bool, true, false, ◌&&◌, not, if◌then◌else◌, nat_eq, nat_lt, List, [], ◌∷◌, length, Option, Some, None, ◌≡◌, ◌<◌, ◌≤◌}
 use Rattle.std.specs.List.{list_all, list_any}
 use Rattle.std.specs.Map.{lookup}
 use Rattle.h2frame.specs.declared.error_code.ErrorCode.TheVariants.{ProtocolError, StreamClosed}
@@ -46,9 +46,10 @@ abbrev pub is_headers : FrameKind → Bool
 is_headers Headers = true
 is_headers _ = false
 
--- HEADERS begin a stream whose number is odd, and greater than those of all streams that were begun (section 5.1.1)
+-- HEADERS begin a stream whose number is odd, and greater than those of all streams that were begun (section 5.1.1), while
+-- these are fewer than 4,096
 abbrev pub begins : Event → List ℕ → Bool
-begins (Received head) ids = is_headers head.kind && (is_odd head.stream && is_above ids head.stream)
+begins (Received head) ids = is_headers head.kind && (is_odd head.stream && (is_above ids head.stream && nat_lt (length ids) MAX_STREAMS))
 begins (Cut id) ids = false
 
 -- the streams that were begun, the latest first
@@ -94,10 +95,10 @@ resets (Cut id) = true
 abbrev pub is_on : (Event → Bool) → ℕ → Event → Bool
 is_on test id event = nat_eq id (stream_of event) && test event
 
--- a begun stream is reset once it was, and from the beginning where it is one too many; else it has ended once it did
+-- a begun stream is reset once it was; else it has ended once it did
 abbrev pub half : ℕ → Course → Half
 half id course =
-    if nat_le MAX_STREAMS (length (begun course.before)) || list_any (is_on resets id) course.since then Reset
+    if list_any (is_on resets id) course.since then Reset
     else (if list_any (is_on ends id) course.since then Ended
     else Opened)
 
@@ -114,10 +115,10 @@ state_of id history None = if is_odd id && not (is_above (begun history) id) the
 abbrev pub state : ℕ → List Event → State
 state id history = state_of id history (course id history)
 
--- on an idle stream HEADERS alone are lawful, with an odd number; where enough streams were begun they are dropped
-abbrev pub on_idle : Bool → ℕ → HalfVerdict
-on_idle true count = if nat_lt count MAX_STREAMS then Open else Discard
-on_idle false count = ConnectionError ProtocolError
+-- On an idle stream HEADERS alone are lawful, with an odd number. Once 4,096 streams were begun, whatever comes on an odd one
+-- is dropped: its number is above that of the last stream that the server serves (section 6.8).
+abbrev pub on_idle : Bool → Bool → Bool → HalfVerdict
+on_idle odd headers few = if odd then (if few then (if headers then Open else ConnectionError ProtocolError) else Discard) else ConnectionError ProtocolError
 
 -- on an open stream further HEADERS are trailers, which end it (section 8.1)
 abbrev pub on_opened : FrameKind → Bool → HalfVerdict
@@ -136,7 +137,7 @@ on_begun Ended head = on_ended head.kind
 on_begun Reset head = Discard
 
 abbrev pub judged : State → FrameHead → ℕ → HalfVerdict
-judged Idle head count = on_idle (is_headers head.kind && is_odd head.stream) count
+judged Idle head count = on_idle (is_odd head.stream) (is_headers head.kind) (nat_lt count MAX_STREAMS)
 judged Skipped head count = ConnectionError ProtocolError
 judged (Begun half) head count = on_begun half head
 
@@ -157,6 +158,10 @@ kept Idle = None
 kept Skipped = None
 kept (Begun half) = Some half
 
+-- of no more streams than may be begun
+abbrev pub IsSmall : List (ℕ × Half) → Type 0
+IsSmall halves = length halves ≤ MAX_STREAMS
+
 -- what is kept after a history
 pub record Stands (history : List Event) (streams : Streams) : Type 0 where
   pub count : length streams.halves ≡ length (begun history)
@@ -173,6 +178,12 @@ is_error (StreamError code) = true
 is_error (ConnectionError code) = true
 is_error _ = false
 
+-- an answer that a frame on a stream which wasn't begun may have, where it doesn't begin it: the stream is unknown
+abbrev pub may_be_unbegun : HalfVerdict → Bool
+may_be_unbegun Discard = true
+may_be_unbegun (ConnectionError code) = true
+may_be_unbegun _ = false
+
 abbrev pub is_connection_error : HalfVerdict → Bool
 is_connection_error (ConnectionError code) = true
 is_connection_error _ = false
@@ -187,5 +198,5 @@ moved Reset reset last = Reset
 abbrev pub half_after : Half → Event → Half
 half_after before event = moved before (resets event) (ends event)
 
-abbrev pub half_of_new : ℕ → Event → Half
-half_of_new count event = if nat_le MAX_STREAMS count then Reset else (if ends event then Ended else Opened)
+abbrev pub half_of_new : Event → Half
+half_of_new event = if ends event then Ended else Opened

@@ -1,7 +1,7 @@
 -- The windows of what is sent as numbers that follow from all that happened on the connection (RFC 9113, section 6.9).
 -- A history has the latest entry first, so that what came before an entry is the rest of the list. No value stores
 -- one.
-use Rattle.std.specs.Prelude.{◌≡◌, ℕ, ◌<◌, ◌≤◌, min, ℤ, pos, negsuc, ◌+ℤ◌, ◌-ℤ◌, if◌then◌else◌, nat_eq, List, [], ◌∷◌, Option, Some, None, sum_by, IfSome}
+use Rattle.std.specs.Prelude.{◌≡◌, ℕ, ◌<◌, ◌≤◌, min, ℤ, pos, negsuc, ◌+ℤ◌, ◌-ℤ◌, if◌then◌else◌, nat_eq, List, [], ◌∷◌, Option, Some, None, sum_by, IfSome, MatchOption, ◌⊎◌}
 use Rattle.std.specs.Option.{option_map, option_map_or}
 use Rattle.flow.specs.declared.TheConstants.{INITIAL_WINDOW, MAX_WINDOW}
 use Rattle.flow.specs.Windows.{Windows, balance, Fits}
@@ -67,6 +67,11 @@ bytes_of (negsuc n) = 0
 -- how many bytes may be sent on a stream: what both windows have
 abbrev pub room_after : List Step → ℕ → ℕ
 room_after history id = option_map_or (λ size. min (bytes_of (connection_window history)) (bytes_of size)) (stream_window id history) 0
+
+-- with n bytes more on a stream that is open, or on the connection as stream 0, no window is over 2^31 - 1
+abbrev pub CanCredit : List Step → ℕ → ℕ → Type 0
+CanCredit history id n =
+    ((id ≡ 0) × Fits (connection_window history +ℤ pos n)) ⊎ ((0 < id) × MatchOption (stream_window id history) ⊥ (λ size. Fits (size +ℤ pos n)))
 
 -- with the initial size n no window is over 2^31 - 1
 abbrev pub CanResize : List Step → ℕ → Type 0

@@ -95,3 +95,7 @@ pub record IsWithin (connection initial : ℕ) (balances : List (ℕ × ℤ)) : 
   pub initial_fits : initial ≤ MAX_WINDOW
   pub each : All (IsBalance initial) (values_of balances)
   pub apart : is_some (lookup (nat_eq 0) balances) ≡ false
+
+-- The law of the windows, at any time.
+abbrev pub IsLawful : Windows → Type 0
+IsLawful w = IsWithin w.connection w.initial w.balances

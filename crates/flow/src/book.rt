@@ -9,9 +9,9 @@
 //! changes nothing more; with the second end marked a call goes as one that is cut (`end_remote` and `end_local` call
 //! `cut`).
 
-ghost use Rattle.std.specs.Prelude.{◌≡◌, ◌<◌, ◌^◌, true, OnErr, OnOk, IsSome, nat_eq};
+ghost use Rattle.std.specs.Prelude.{◌≡◌, ◌<◌, ◌^◌, true, OnErr, OnOk, nat_eq, length, slice_get, if◌then◌else◌};
 ghost use Rattle.std.specs.Option.{option_map};
-ghost use Rattle.std.specs.Map.{lookup, set_value};
+ghost use Rattle.std.specs.Map.{keys_of};
 ghost use Rattle.flow.specs.Books.{call_at, unreturned_of};
 
 use crate::MAX_LIVE;
@@ -43,6 +43,28 @@ pub struct Call {
     pub counts: Counts,
     /// Which of its ends are over.
     pub marks: Marks,
+}
+
+impl Call {
+    ghost use Rattle.flow.specs.Books.{IsCounted, due_of, is_half_closed};
+
+    /// Whether either end is marked: no more DATA comes, or none is taken.
+    fn is_half_closed(&self) -> bool
+        ensures { result ≡ is_half_closed self.now }
+    {
+        self.marks.remote || self.marks.local
+    }
+
+    /// What was returned and isn't announced yet, and is to be: of a call of which an end is marked, nothing.
+    fn due(&self) -> u32
+        requires { IsCounted self.now.counts }
+        ensures { result ≡ due_of self.now }
+    {
+        if self.is_half_closed() {
+            return 0;
+        }
+        self.counts.unannounced()
+    }
 }
 
 /// A call of which neither end is marked.
@@ -78,11 +100,12 @@ impl Model for Book {
 }
 
 impl Book {
-    ghost use Rattle.flow.specs.Books.{new_book, IsLawful, IsOdd, MeetsOrMemory, Meets, AdmitCause, ReceiveCause, GiveBackCause, EndCause, after_admit, after_receive, after_give_back, after_announce, announcement, after_end_remote, after_end_local, after_cut};
+    ghost use Rattle.flow.specs.Books.{new_book, IsLawful, IsOdd, MeetsOrMemory, Meets, AdmitCause, ReceiveCause, GiveBackCause, EndCause, after_admit, after_receive, after_give_back, after_announce, announcement, after_end_remote, after_end_local, after_cut, window_of, is_marked, no_change, Moves};
 
     /// The book of a new connection, with no calls. It takes no memory yet.
     pub fn new(alloc: Global) -> Book
-        ensures { result ≡ new_book }
+        ensures value { result ≡ new_book }
+        ensures law { IsLawful result }
     {
         Book {
             connection: NO_BYTES,
@@ -102,7 +125,9 @@ impl Book {
 
     /// Lets no more calls be admitted, for good.
     pub fn close(&mut self)
-        ensures { self.new ≡ record self.old { closing = true } }
+        ensures value { self.new ≡ record self.old { closing = true } }
+        ensures moves { Moves (record (no_change self.old) { closing = true }) self.old self.new }
+        ensures law { IsLawful self.new }
     {
         self.closing = true;
     }
@@ -122,6 +147,48 @@ impl Book {
         Some(call.marks)
     }
 
+    /// How many calls are live.
+    pub fn live(&self) -> u32
+        ensures { result ≡ length self.now.calls }
+    {
+        self.calls.len() as u32
+    }
+
+    /// The id of a live call by its place among them, in the order of their admission.
+    pub fn live_id(&self, place: usize) -> Option<StreamId>
+        ensures { result ≡ slice_get (keys_of self.now.calls) place }
+    {
+        let (id, _) = self.calls.get_index(place)?;
+        Some(*id)
+    }
+
+    /// How many bytes the peer may still send on a live call, or on the connection where the id is 0. It is 0 where the call
+    /// isn't live.
+    pub fn window(&self, id: StreamId) -> u32
+        ensures { result ≡ window_of self.now id }
+    {
+        if id == 0 {
+            return self.connection.room() as u32;
+        }
+        match self.calls.get(&id) {
+            Some(call) => call.counts.window() as u32,
+            None => 0,
+        }
+    }
+
+    /// What was returned and not announced yet: what `announce` would answer.
+    pub fn due(&self, id: StreamId) -> u32
+        ensures { result ≡ announcement self.now id }
+    {
+        if id == 0 {
+            return self.connection.unannounced();
+        }
+        match self.calls.get(&id) {
+            Some(call) => call.due(),
+            None => 0,
+        }
+    }
+
     /// Admits a call, of which neither end is marked. Draining is tested before TooMany.
     pub fn admit(&mut self, id: StreamId) -> Result<(), BookFault>
         requires odd { IsOdd id }
@@ -129,6 +196,8 @@ impl Book {
         ensures ok { OnOk result (self.new ≡ after_admit self.old id) }
         ensures unchanged { OnErr result (self.new ≡ self.old) }
         ensures fault { MeetsOrMemory (AdmitCause self.old) result }
+        ensures moves { OnOk result (Moves (record (no_change self.old) { admitted = 1; last = id }) self.old self.new) }
+        ensures law { IsLawful self.new }
     {
         if self.closing {
             return Err(BookFault::Draining);
@@ -147,6 +216,8 @@ impl Book {
         ensures ok { OnOk result (self.new ≡ after_receive self.old id n) }
         ensures unchanged { OnErr result (self.new ≡ self.old) }
         ensures fault { Meets (ReceiveCause self.old id n) result }
+        ensures moves { OnOk result (Moves (record (no_change self.old) { received = n }) self.old self.new) }
+        ensures law { IsLawful self.new }
     {
         let more = u64::from(n);
         if id == 0 {
@@ -156,7 +227,7 @@ impl Book {
             self.connection = self.connection.with_received(more, false);
             return Ok(());
         }
-        let Some(mut call) = self.calls.get(&id).copied() else {
+        let Some(call) = self.calls.get_mut(&id) else {
             return Err(BookFault::Unknown);
         };
         if more > call.counts.window() {
@@ -167,7 +238,6 @@ impl Book {
         }
         let at_once = call.marks.local;
         call.counts = call.counts.with_received(more, at_once);
-        write_call(&mut self.calls, id, call);
         self.connection = self.connection.with_received(more, at_once);
         Ok(())
     }
@@ -178,6 +248,8 @@ impl Book {
         ensures ok { OnOk result (self.new ≡ after_give_back self.old id n) }
         ensures unchanged { OnErr result (self.new ≡ self.old) }
         ensures fault { Meets (GiveBackCause self.old id n) result }
+        ensures moves { OnOk result (Moves (no_change self.old) self.old self.new) }
+        ensures law { IsLawful self.new }
     {
         let more = u64::from(n);
         if id == 0 {
@@ -187,14 +259,13 @@ impl Book {
             self.connection.returned += more;
             return Ok(());
         }
-        let Some(mut call) = self.calls.get(&id).copied() else {
+        let Some(call) = self.calls.get_mut(&id) else {
             return Err(BookFault::Unknown);
         };
         if more > call.counts.unreturned() {
             return Err(BookFault::Overgiven);
         }
         call.counts.returned += more;
-        write_call(&mut self.calls, id, call);
         self.connection.returned += more;
         Ok(())
     }
@@ -204,21 +275,22 @@ impl Book {
     pub fn announce(&mut self, id: StreamId) -> u32
         ensures increment { result ≡ announcement self.old id }
         ensures announced { self.new ≡ after_announce self.old id }
+        ensures moves { Moves (record (no_change self.old) { announced = if nat_eq id 0 then result else 0 }) self.old self.new }
+        ensures law { IsLawful self.new }
     {
         if id == 0 {
             let due = self.connection.unannounced();
             self.connection.announced = self.connection.returned;
             return due;
         }
-        let Some(mut call) = self.calls.get(&id).copied() else {
+        let Some(call) = self.calls.get_mut(&id) else {
             return 0;
         };
-        if call.marks.remote || call.marks.local {
+        if call.is_half_closed() {
             return 0;
         }
         let due = call.counts.unannounced();
         call.counts.announced = call.counts.returned;
-        write_call(&mut self.calls, id, call);
         due
     }
 
@@ -227,15 +299,16 @@ impl Book {
         ensures ok { OnOk result (self.new ≡ after_end_remote self.old id) }
         ensures unchanged { OnErr result (self.new ≡ self.old) }
         ensures fault { Meets (EndCause self.old id) result }
+        ensures moves { OnOk result (Moves (record (no_change self.old) { over = if is_marked (λ marks. marks.local) self.old id then 1 else 0 }) self.old self.new) }
+        ensures law { IsLawful self.new }
     {
-        let Some(mut call) = self.calls.get(&id).copied() else {
+        let Some(call) = self.calls.get_mut(&id) else {
             return Err(BookFault::Unknown);
         };
         if call.marks.local {
             return self.cut(id);
         }
         call.marks.remote = true;
-        write_call(&mut self.calls, id, call);
         Ok(())
     }
 
@@ -245,8 +318,10 @@ impl Book {
         ensures ok { OnOk result (self.new ≡ after_end_local self.old id) }
         ensures unchanged { OnErr result (self.new ≡ self.old) }
         ensures fault { Meets (EndCause self.old id) result }
+        ensures moves { OnOk result (Moves (record (no_change self.old) { over = if is_marked (λ marks. marks.remote) self.old id then 1 else 0 }) self.old self.new) }
+        ensures law { IsLawful self.new }
     {
-        let Some(mut call) = self.calls.get(&id).copied() else {
+        let Some(call) = self.calls.get_mut(&id) else {
             return Err(BookFault::Unknown);
         };
         if call.marks.remote {
@@ -255,7 +330,6 @@ impl Book {
         let rest = call.counts.unreturned();
         call.counts.returned += rest;
         call.marks.local = true;
-        write_call(&mut self.calls, id, call);
         self.connection.returned += rest;
         Ok(())
     }
@@ -265,23 +339,14 @@ impl Book {
         ensures ok { OnOk result (self.new ≡ after_cut self.old id) }
         ensures unchanged { OnErr result (self.new ≡ self.old) }
         ensures fault { Meets (EndCause self.old id) result }
+        ensures moves { OnOk result (Moves (record (no_change self.old) { over = 1 }) self.old self.new) }
+        ensures law { IsLawful self.new }
     {
-        let Some(call) = self.calls.get(&id).copied() else {
+        let Some(call) = self.calls.shift_remove(&id) else {
             return Err(BookFault::Unknown);
         };
         self.connection.returned += call.counts.unreturned();
-        self.calls.shift_remove(&id);
         Ok(())
-    }
-}
-
-/// Gives a live call other counts and marks.
-fn write_call(calls: &mut IndexMap<StreamId, Call>, id: StreamId, call: Call)
-    requires { IsSome (lookup (nat_eq id) calls.old.entries) }
-    ensures { calls.new.entries ≡ set_value (nat_eq id) calls.old.entries call }
-{
-    if let Some(place) = calls.get_mut(&id) {
-        *place = call;
     }
 }
 

@@ -2,14 +2,17 @@
 //!
 //! Streams are taken in order by the greatest number that was begun: HEADERS on an odd number that isn't greater begin
 //! nothing. There is no state for skipped streams: what isn't in the map is idle or skipped, and there no frame is
-//! lawful but HEADERS on an odd number above the greatest. `Half` is public since contracts see it.
+//! lawful but HEADERS on an odd number above the greatest. Once 4,096 streams were begun, what comes on an odd number above
+//! the greatest is dropped, and nothing is kept of it: what is kept is bounded, whatever a client sends. `Half` is public
+//! since contracts see it.
 //!
-//! `cut`: it asks that the stream was begun, dropped ones included: `on` says so of each answer that isn't an error of
-//! the connection (clause `begun`).
+//! `cut`: it asks that the stream was begun: `on` says so of each answer that is neither Discard nor an error of the
+//! connection (clause `begun`).
 
-ghost use Rattle.std.specs.Prelude.{◌≡◌, ◌<◌, true, false, ◌&&◌, nat_eq, nat_lt, List, [], ◌∷◌, None, Some, IfOk, OnErr, IsSome, IsTrue, MatchOption};
+ghost use Rattle.std.specs.Prelude.{◌≡◌, ◌<◌, ◌≤◌, ◌⊎◌, true, false, ◌&&◌, length, nat_eq, nat_lt, List, [], ◌∷◌, None, Some, IfOk, OnErr, IsSome, IsTrue, MatchOption};
 ghost use Rattle.std.specs.Map.{lookup, set_value};
-ghost use Rattle.flow.specs.Halves.{Event, Received, Cut, IsJudged, Stands, begins, begun, ends, half_after, half_of, is_connection_error, is_error, is_headers, is_odd, half_of_new, on_begun, verdict};
+ghost use Rattle.flow.specs.declared.halves.HalfVerdict.TheVariants.{Open};
+ghost use Rattle.flow.specs.Halves.{Event, Received, Cut, IsJudged, Stands, begins, begun, ends, half_after, half_of, is_error, may_be_unbegun, is_headers, is_odd, half_of_new, on_begun, verdict};
 
 use crate::MAX_STREAMS;
 use h2frame::{ErrorCode, Flags, FrameHead, FrameKind, StreamId};
@@ -35,7 +38,7 @@ pub enum HalfVerdict {
     Open,
     /// It is lawful on its stream.
     Accept,
-    /// It came on a stream that is no more, and is dropped.
+    /// It came on a stream that is no more, or behind the last one that is served, and is dropped.
     Discard,
     /// Its stream is to be reset with this code.
     StreamError(ErrorCode),
@@ -51,17 +54,20 @@ pub struct Halves {
 }
 
 impl Model for Halves {
-    ghost use Rattle.flow.specs.Halves.{Streams};
+    ghost use Rattle.flow.specs.Halves.{Streams, IsSmall};
 
     ghost Value = { Streams };
 
     ghost view = { λ s. record { greatest = s.greatest; halves = s.halves.entries } };
+
+    ghost invariant = { λ s. IsSmall s.halves.entries };
 }
 
 impl Halves {
     /// A new connection, on which every stream is idle. It takes no memory yet.
     pub fn new(alloc: Global) -> Halves
-        ensures { Stands [] result }
+        ensures stands { Stands [] result }
+        ensures few { length result.halves ≤ MAX_STREAMS }
     {
         Halves {
             greatest: 0,
@@ -69,36 +75,42 @@ impl Halves {
         }
     }
 
-    /// Judges a frame by what came before it. Only the HEADERS that begin a stream take memory.
+    /// Judges a frame by what came before it. Only the HEADERS that open a stream take memory.
     pub fn on(&mut self, head: &FrameHead) -> Result<HalfVerdict, AllocError>
         requires { IsJudged head.now }
         ensures verdict { IfOk result (λ answer. (history : List Event) → Stands history self.old → answer ≡ verdict history head.now) }
         ensures follows { IfOk result (λ _. (history : List Event) → Stands history self.old → Stands (Received head.now ∷ history) self.new) }
         ensures error { IfOk result (λ answer. is_error answer ≡ true → self.new ≡ self.old) }
-        ensures begun { IfOk result (λ answer. is_connection_error answer ≡ false → IsSome (half_of self.new head.now.stream)) }
+        ensures begun { IfOk result (λ answer. may_be_unbegun answer ≡ false → IsSome (half_of self.new head.now.stream)) }
+
+        // Of a stream that wasn't begun nothing is kept but where it is opened, and no more than 4,096 are ever kept.
+        ensures forgets { IfOk result (λ answer. half_of self.old head.now.stream ≡ None → (answer ≡ Open) ⊎ (self.new ≡ self.old)) }
+        ensures few { length self.new.halves ≤ MAX_STREAMS }
         ensures unchanged { OnErr result (self.new ≡ self.old) }
         ensures memory { OnErr result ((history : List Event) → Stands history self.old → IsTrue (begins (Received head.now) (begun history))) }
     {
         if let Some(verdict) = judge_begun(&mut self.halves, head) {
             return Ok(verdict);
         }
-        if !begins_stream(head, self.greatest) {
+        if !may_begin(head.stream, self.greatest) {
             return Ok(HalfVerdict::ConnectionError(ErrorCode::ProtocolError));
         }
-        let begun = self.halves.len();
-        self.halves.insert(head.stream, new_half(begun, head))?;
+        if self.halves.len() >= MAX_STREAMS {
+            return Ok(HalfVerdict::Discard);
+        }
+        if head.kind != FrameKind::Headers {
+            return Ok(HalfVerdict::ConnectionError(ErrorCode::ProtocolError));
+        }
+        self.halves.insert(head.stream, new_half(head))?;
         self.greatest = head.stream;
-        Ok(if begun < MAX_STREAMS {
-            HalfVerdict::Open
-        } else {
-            HalfVerdict::Discard
-        })
+        Ok(HalfVerdict::Open)
     }
 
     /// Marks a begun stream as reset by the server.
     pub fn cut(&mut self, id: StreamId)
         requires { IsSome (half_of self.old id) }
         ensures follows { (history : List Event) → Stands history self.old → Stands (Cut id ∷ history) self.new }
+        ensures few { length self.new.halves ≤ MAX_STREAMS }
     {
         if let Some(half) = self.halves.get_mut(&id) {
             *half = Half::Reset;
@@ -158,20 +170,18 @@ fn is_last(head: &FrameHead) -> bool
     }
 }
 
-/// Whether the frame begins a stream, where this is the greatest number of those that were begun.
-fn begins_stream(head: &FrameHead, greatest: StreamId) -> bool
-    ensures { result ≡ is_headers head.now.kind && (is_odd head.now.stream && nat_lt greatest head.now.stream) }
+/// Whether HEADERS may begin this stream, where this is the greatest number of those that were begun.
+fn may_begin(id: StreamId, greatest: StreamId) -> bool
+    ensures { result ≡ is_odd id && nat_lt greatest id }
 {
-    head.kind == FrameKind::Headers && head.stream % 2 == 1 && head.stream > greatest
+    id % 2 == 1 && id > greatest
 }
 
-/// What the half of a stream comes to by the HEADERS that begin it, after so many others.
-fn new_half(begun: usize, head: &FrameHead) -> Half
-    ensures { result ≡ half_of_new begun (Received head.now) }
+/// What the half of a stream comes to by the HEADERS that begin it.
+fn new_half(head: &FrameHead) -> Half
+    ensures { result ≡ half_of_new (Received head.now) }
 {
-    if begun >= MAX_STREAMS {
-        Half::Reset
-    } else if is_last(head) {
+    if is_last(head) {
         Half::Ended
     } else {
         Half::Opened

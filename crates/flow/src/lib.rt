@@ -20,7 +20,7 @@ pub use book::{Book, BookFault, Marks};
 pub use halves::{Half, HalfVerdict, Halves};
 pub use send_windows::{SendWindows, WindowFault};
 
-/// How many streams a client may open on a connection; those that it begins after them are dropped.
+/// How many streams a client may open on a connection. What comes on streams behind the last of them is dropped.
 pub const MAX_STREAMS: usize = 4_096;
 
 /// The largest window that RFC 9113, section 6.9.1, allows: 2^31 - 1 bytes.

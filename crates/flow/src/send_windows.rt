@@ -4,13 +4,13 @@
 //! said twice: each call by an equation on the numbers that are kept, and by what follows from the whole list of
 //! openings, credits, spendings, sizes and closings (`Follows`); `room` is tied to that list alone.
 
-ghost use Rattle.std.specs.Prelude.{◌≡◌, ◌+◌, ◌-◌, ◌+ℤ◌, ◌-ℤ◌, ◌<◌, ◌≤◌, pos, List, [], ◌∷◌, None, IfErr, OnErr, OnOk, IsSome, is_some, MatchOption, nat_eq, int_le};
+ghost use Rattle.std.specs.Prelude.{◌≡◌, ◌+◌, ◌-◌, ◌+ℤ◌, ◌-ℤ◌, ◌<◌, ◌≤◌, pos, List, [], ◌∷◌, None, IfErr, OnErr, OnOk, is_some, MatchOption, nat_eq, int_le};
 ghost use Rattle.std.specs.List.{list_all};
-ghost use Rattle.std.specs.Map.{lookup, set_value, values_of};
+ghost use Rattle.std.specs.Map.{values_of};
 ghost use Rattle.indexmap.specs.IndexMap.{IsUnique};
 ghost use Rattle.flow.specs.declared.send_windows.WindowFault.TheVariants.{Overflow, OutOfMemory};
-ghost use Rattle.flow.specs.Windows.{code_of, room, opened, with_balance, closed, balance, Meets, CreditFault, SpendFault, FitsAt, IsBalance, lesser};
-ghost use Rattle.flow.specs.WindowHistory.{Step, Opening, Credit, Spending, Resizing, Closing, Follows, CanResize, room_after};
+ghost use Rattle.flow.specs.Windows.{code_of, room, opened, with_balance, closed, balance, Meets, CreditFault, SpendFault, FitsAt, IsBalance, IsLawful, lesser};
+ghost use Rattle.flow.specs.WindowHistory.{Step, Opening, Credit, Spending, Resizing, Closing, Follows, CanCredit, CanResize, room_after};
 
 use crate::{INITIAL_WINDOW, MAX_WINDOW};
 use h2frame::StreamId;
@@ -86,6 +86,7 @@ impl SendWindows {
     pub fn new(alloc: Global) -> SendWindows
         ensures value { result ≡ new_windows }
         ensures follows { Follows [] result }
+        ensures law { IsLawful result }
     {
         SendWindows {
             connection: INITIAL_WINDOW,
@@ -102,6 +103,7 @@ impl SendWindows {
         ensures follows { OnOk result ((history : List Step) → Follows history self.old → Follows (Opening id ∷ history) self.new) }
         ensures unchanged { OnErr result (self.new ≡ self.old) }
         ensures memory { IfErr result (λ fault. fault ≡ OutOfMemory) }
+        ensures law { IsLawful self.new }
     {
         self.balances.insert(id, 0)?;
         Ok(())
@@ -114,6 +116,9 @@ impl SendWindows {
         ensures unchanged { OnErr result (self.new ≡ self.old) }
         ensures fault { Meets (CreditFault self.old id increment) result }
         ensures follows { OnOk result ((history : List Step) → Follows history self.old → Follows (Credit id increment ∷ history) self.new) }
+        ensures can { OnOk result ((history : List Step) → Follows history self.old → CanCredit history id increment) }
+        ensures cannot { OnErr result ((history : List Step) → Follows history self.old → ¬ CanCredit history id increment) }
+        ensures law { IsLawful self.new }
     {
         if id == 0 {
             if increment > MAX_WINDOW - self.connection {
@@ -122,14 +127,14 @@ impl SendWindows {
             self.connection += increment;
             return Ok(());
         }
-        let Some(balance) = self.balances.get(&id).copied() else {
+        let Some(balance) = self.balances.get_mut(&id) else {
             return Err(WindowFault::Unknown);
         };
-        let raised = balance + i64::from(increment);
+        let raised = *balance + i64::from(increment);
         if raised > i64::from(MAX_WINDOW - self.initial) {
             return Err(WindowFault::Overflow);
         }
-        write_balance(&mut self.balances, id, raised);
+        *balance = raised;
         Ok(())
     }
 
@@ -144,12 +149,14 @@ impl SendWindows {
         ensures overflow { OnErr result (¬ FitsAt self.old size) }
         ensures cannot { OnErr result ((history : List Step) → Follows history self.old → ¬ CanResize history size) }
         ensures fault { IfErr result (λ fault. fault ≡ Overflow) }
+        ensures law { IsLawful self.new }
     {
+        let balances = &self.balances;
         if size > MAX_WINDOW {
             return Err(WindowFault::Overflow);
         }
         let most = i64::from(MAX_WINDOW - size);
-        if !all_at_most(&self.balances, most) {
+        if !all_at_most(balances, most) {
             return Err(WindowFault::Overflow);
         }
         self.initial = size;
@@ -163,14 +170,15 @@ impl SendWindows {
         ensures unchanged { OnErr result (self.new ≡ self.old) }
         ensures fault { Meets (SpendFault self.old id len) result }
         ensures follows { OnOk result ((history : List Step) → Follows history self.old → Follows (Spending id len ∷ history) self.new) }
+        ensures law { IsLawful self.new }
     {
-        let Some(balance) = self.balances.get(&id).copied() else {
+        let Some(balance) = self.balances.get_mut(&id) else {
             return Err(WindowFault::Unknown);
         };
-        if len > least(self.connection, self.initial, balance) {
+        if len > least(self.connection, self.initial, *balance) {
             return Err(WindowFault::NoRoom);
         }
-        write_balance(&mut self.balances, id, balance - i64::from(len));
+        *balance -= i64::from(len);
         self.connection -= len;
         Ok(())
     }
@@ -198,6 +206,7 @@ impl SendWindows {
     pub fn close(&mut self, id: StreamId)
         ensures value { self.new ≡ closed self.old id }
         ensures follows { (history : List Step) → Follows history self.old → Follows (Closing id ∷ history) self.new }
+        ensures law { IsLawful self.new }
     {
         self.balances.shift_remove(&id);
     }
@@ -211,16 +220,6 @@ fn all_at_most(balances: &IndexMap<StreamId, i64>, most: i64) -> bool
     // That no key stands twice is said by `len`.
     let _count = balances.len();
     balances.values().all(|balance| *balance <= most)
-}
-
-/// Gives a stream that is open another balance.
-fn write_balance(balances: &mut IndexMap<StreamId, i64>, id: StreamId, balance: i64)
-    requires { IsSome (lookup (nat_eq id) balances.old.entries) }
-    ensures { balances.new.entries ≡ set_value (nat_eq id) balances.old.entries balance }
-{
-    if let Some(place) = balances.get_mut(&id) {
-        *place = balance;
-    }
 }
 
 /// What both windows let through.

@@ -44,6 +44,15 @@ fn name_of(marks: Option<Marks>) -> &'static str {
     }
 }
 
+/// The number of a call, where there is one at its place.
+fn push_id(answer: &mut String, id: Option<StreamId>) -> Result<()> {
+    match id {
+        Some(id) => write!(answer, "{id}")?,
+        None => answer.push_str("none")?,
+    }
+    Ok(())
+}
+
 impl Books {
     pub fn new(alloc: Global) -> Books {
         Books {
@@ -97,6 +106,10 @@ impl Subject for Books {
         match given.words {
             ["announce", id] => write!(answer, "{}", self.book.announce(number(id)?))?,
             ["last"] => write!(answer, "{}", self.book.last())?,
+            ["live"] => write!(answer, "{}", self.book.live())?,
+            ["id", place] => push_id(answer, self.book.live_id(number(place)? as usize))?,
+            ["window", id] => write!(answer, "{}", self.book.window(number(id)?))?,
+            ["due", id] => write!(answer, "{}", self.book.due(number(id)?))?,
             ["closing"] => write!(answer, "{}", self.book.closing())?,
             ["marks", id] => answer.push_str(name_of(self.book.marks(number(id)?)))?,
             words => push_done(answer, self.change(words)?)?,

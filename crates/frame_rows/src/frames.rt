@@ -50,13 +50,22 @@ impl Reading {
         }
     }
 
-    /// Reads the next piece.
+    /// Reads the next piece. After its last fault a reader takes none, and answers that fault.
     fn piece(&mut self, bytes: &[u8]) -> Result<()> {
-        self.reader.feed(bytes)?;
-        match self.last {
-            None => self.drain(),
-            Some(fault) => self.repeat(fault),
+        let fed = self.reader.feed(bytes);
+        let Some(fault) = self.last else {
+            fed?;
+            return self.drain();
+        };
+        let refused = match fed {
+            Ok(()) => false,
+            Err(other) => other == fault,
+        };
+        if !refused {
+            self.text
+                .push_str(" and a piece behind it that isn't refused")?;
         }
+        self.repeat(fault)
     }
 
     /// Adds what the reader answers, up to where it has nothing or the last fault.

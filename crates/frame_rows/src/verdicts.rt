@@ -97,7 +97,9 @@ fn judge_and_reset(halves: &mut Halves, sent: Sent, stream: StreamId) -> Result<
 {
     let verdict = halves.on(&head_of(sent, stream))?;
     match verdict {
-        HalfVerdict::ConnectionError(_) => bail!("stream {stream} isn't begun"),
+        HalfVerdict::Discard | HalfVerdict::ConnectionError(_) => {
+            bail!("stream {stream} can't be reset")
+        }
         _ => halves.cut(stream),
     }
     Ok(verdict)

@@ -13,7 +13,7 @@ use Rattle.h2frame.specs.Faults.{overhead, head_fault, lacks_increment, frame_fa
 use Rattle.h2frame.specs.Spelling.{Skipped, spelling}
 use Rattle.h2frame.specs.FrameList.{Entry, Whole, NoIncrement, IsSpelling, Spells, Joined, IsUnfinished, IsFaulty, StandsAt, refused, answered, HasCause, IsLawful}
 use Rattle.h2frame.specs.Reading.{frame_in, IsSpelledAt, IsDue, IsStep}
-use Rattle.h2frame.proofs.OneReading.{Less, Stops, Takes, front_of, front_of_entry, front_of_faulty, front_of_unfinished, fault_parts_some, no_increment_fault, same_stream}
+use Rattle.h2frame.proofs.OneReading.{Front, Less, Stops, Takes, front_of, front_of_entry, front_of_faulty, front_of_unfinished, fault_parts_some, no_increment_fault, same_stream}
 use Rattle.h2frame.proofs.Payloads.{reads_parts}
 
 -- ---- what stands is answered
@@ -56,10 +56,10 @@ frame_step span bytes at has = record {
   due = tt;
 }
 
-pub memory_step : (span : Span) (bytes : List ℕ) → IsSpelledAt span bytes → lacks_increment span.head.kind (frame_in span bytes).content ≡ false → IsStep (Some (Err OutOfMemory)) bytes bytes
-memory_step span bytes at has = record {
+pub memory_step : (span : Span) (bytes : List ℕ) → IsSpelledAt span bytes → lacks_increment span.head.kind (frame_in span bytes).content ≡ false → 0 < length (frame_in span bytes).content → IsStep (Some (Err OutOfMemory)) bytes bytes
+memory_step span bytes at has some = record {
   taken = refl;
-  due = (frame_in span bytes, (drop (9 + span.head.length) bytes, (frame_step span bytes at has).taken));
+  due = (frame_in span bytes, (drop (9 + span.head.length) bytes, (frame_step span bytes at has).taken), some);
 }
 
 pub connection_fault : (span : Span) (bytes : List ℕ) → IsSpelledAt span bytes → lacks_increment span.head.kind (frame_in span bytes).content ≡ true → span.head.stream ≡ 0
@@ -108,7 +108,7 @@ seen_cause TooLong bytes h = Stopped (front_of_faulty TooLong bytes h)
 seen_cause BadLength bytes h = Stopped (front_of_faulty BadLength bytes h)
 seen_cause BadPadding bytes h = Stopped (front_of_faulty BadPadding bytes h)
 seen_cause WrongStream bytes h = Stopped (front_of_faulty WrongStream bytes h)
-seen_cause OutOfMemory bytes (frame, stands) = Taken (Whole frame) stands.1.1 (front_of_standing (Whole frame) bytes stands)
+seen_cause OutOfMemory bytes (frame, stands, some) = Taken (Whole frame) stands.1.1 (front_of_standing (Whole frame) bytes stands)
 seen_cause (ZeroIncrement stream) bytes (inl stands) = Taken (NoIncrement stream) stands.1.1 (front_of_standing (NoIncrement stream) bytes stands)
 seen_cause (ZeroIncrement stream) bytes (inr h) = Stopped (front_of_faulty (ZeroIncrement stream) bytes h)
 
@@ -142,6 +142,27 @@ fault_answers_none answer fault bytes e h = ap answered e ∙ faulty_refuses fau
 pub due_none : (answer : Option (Result Frame FrameFault)) (old new : List ℕ) → IsStep answer old new → answer ≡ None → IsUnfinished old
 due_none None old new step e = step.due
 due_none (Some r) old new step e = absurd cc
+
+-- ---- where no fault stands
+
+pub no_fault-unfinished : (bytes : List ℕ) → IsUnfinished bytes → (fault : FrameFault) → IsFaulty fault bytes → ⊥
+no_fault-unfinished bytes less fault stands =
+    let e : ◌≡◌ {A = Front} Less (Stops fault) = sym (front_of_unfinished bytes less) ∙ front_of_faulty fault bytes stands in absurd cc
+
+no_fault-standing : (entry : Entry) (bytes : List ℕ) → StandsAt entry bytes → (fault : FrameFault) → IsFaulty fault bytes → ⊥
+no_fault-standing entry bytes at fault stands =
+    let e : Takes entry at.1.1 ≡ Stops fault = sym (front_of_standing entry bytes at) ∙ front_of_faulty fault bytes stands in absurd cc
+
+pub no_fault-frame : (span : Span) (bytes : List ℕ) → IsSpelledAt span bytes → lacks_increment span.head.kind (frame_in span bytes).content ≡ false
+    → (fault : FrameFault) → IsFaulty fault bytes → ⊥
+no_fault-frame span bytes at has = no_fault-standing (Whole (frame_in span bytes)) bytes (drop (9 + span.head.length) bytes, (frame_step span bytes at has).taken)
+
+pub no_fault-stream : (span : Span) (bytes : List ℕ) → IsSpelledAt span bytes → 0 < span.head.stream → (fault : FrameFault) → IsFaulty fault bytes → ⊥
+no_fault-stream span bytes at some = by (lacks_increment span.head.kind (frame_in span bytes).content) refl
+  where
+    by : (b : Bool) → lacks_increment span.head.kind (frame_in span bytes).content ≡ b → (fault : FrameFault) → IsFaulty fault bytes → ⊥
+    by true lacks = no_fault-standing (NoIncrement span.head.stream) bytes (drop (9 + span.head.length) bytes, stream_entry span bytes at lacks some)
+    by false has = no_fault-frame span bytes at has
 
 -- what the code's test of the content says of the frame
 pub tested : (span : Span) (bytes slice content : List ℕ) (result answer : Bool) → slice ≡ bytes → content ≡ (frame_in span slice).content → result ≡ lacks_increment span.head.kind content → result ≡ answer
@@ -189,3 +210,10 @@ small_stream stream bytes (inl (rest, (text, more, parts, (some, frame, (skipped
 
 pub small_answer : (answer : Option (Result Frame FrameFault)) (stream : ℕ) (old new : List ℕ) → IsStep answer old new → answer ≡ Some (Err (ZeroIncrement stream)) → stream < 2 ^ 31
 small_answer answer stream old new step e = small_stream stream old (subst (λ (a : Option (Result Frame FrameFault)). IsDue a old) e step.due)
+
+-- a content of some bytes isn't empty
+pub filled : (span : Span) (bytes slice content : List ℕ) → slice ≡ bytes → content ≡ (frame_in span slice).content → length content ≡ span.len → 0 < span.len
+    → 0 < length (frame_in span bytes).content
+filled span bytes slice content same value len some =
+    let e : length content ≡ length (frame_in span bytes).content = ap length value ∙ ap (λ (xs : List ℕ). length (take span.len (drop span.start xs))) same in
+    omega (arith, e, len, some)

@@ -85,9 +85,9 @@ answered None = []
 answered (Some (Ok frame)) = Whole frame ∷ []
 answered (Some (Err fault)) = refused fault
 
--- why a fault is answered: it stands in the bytes, or a frame does for which there is no memory
+-- why a fault is answered: it stands in the bytes, or a frame does for whose content, which isn't empty, there is no memory
 abbrev pub HasCause : FrameFault → List ℕ → Type 0
-HasCause OutOfMemory bytes = (frame : Frame) × StandsAt (Whole frame) bytes
+HasCause OutOfMemory bytes = (frame : Frame) × StandsAt (Whole frame) bytes × (0 < length frame.content)
 HasCause (ZeroIncrement stream) bytes = StandsAt (NoIncrement stream) bytes ⊎ IsFaulty (ZeroIncrement stream) bytes
 HasCause TooLong bytes = IsFaulty TooLong bytes
 HasCause BadLength bytes = IsFaulty BadLength bytes

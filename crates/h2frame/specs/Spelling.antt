@@ -43,3 +43,13 @@ pub record Fits (frame : Frame) (skipped : Skipped) : Type 0 where
 -- nothing is skipped: the one spelling that is written
 abbrev pub spelled : Frame → List ℕ
 spelled frame = head_text 0 frame.head ++ frame.content
+
+-- a frame that can be spelled so: its type is that of its code (section 4.1), its stream has 31 bits (section 4.1), all
+-- of its payload is content, and the flags say of no padding (section 6.1) and no priority (section 6.2)
+pub record IsWritable (frame : Frame) : Type 0 where
+  -- an unknown type has no code of a known one
+  pub kind : kind_of (code_of frame.head.kind) ≡ frame.head.kind
+  pub stream : frame.head.stream < 2 ^ 31
+  pub whole : frame.head.length ≡ length frame.content
+  pub not_padded : is_padded frame.head ≡ false
+  pub no_priority : has_priority frame.head ≡ false

@@ -1,11 +1,14 @@
 //! Reading frames from bytes that come in pieces.
 //!
 //! The reader keeps no mark of a fault: the faulty bytes stay where they are, first, and are judged again at each
-//! call, in constant time. What is fed behind a fault is still kept in memory.
+//! call, in constant time. What is fed behind them isn't kept.
+//!
+//! A content shares the block that the reader's bytes stand in, and holds it as long as it is held itself. So one of
+//! few bytes is copied: what waits to be taken holds no more than some times its own bytes.
 //!
 //! A ZeroIncrement of a stream is the entry `NoIncrement`; `answered` says which answers are entries.
 
-ghost use Rattle.std.specs.Prelude.{◌≡◌, ◌≢◌, ◌+◌, ◌^◌, ◌<◌, ◌≤◌, ◌↔◌, List, ℕ, [], ◌∷◌, ◌++◌, length, take, drop, Some, Err, IsNone, IfOk, IfErr, IfSome, OnOk, OnErr, IsOkUnless};
+ghost use Rattle.std.specs.Prelude.{◌≡◌, ◌≢◌, ◌+◌, ◌^◌, ◌<◌, ◌≤◌, ◌↔◌, List, ℕ, [], ◌∷◌, ◌++◌, length, take, drop, Some, Err, IsNone, IfNone, IfOk, IfErr, IfSome, OnOk, OnErr, ◌⊎◌};
 ghost use Rattle.h2frame.specs.FrameList.{Entry, Whole, Joined, IsUnfinished, IsFaulty, IsLawful, answered, HasCause};
 ghost use Rattle.h2frame.specs.Reading.{IsSpelledAt, IsStep};
 
@@ -15,6 +18,9 @@ use crate::{Frame, FrameFault, FrameKind};
 use bytes::{Bytes, BytesMut};
 use std::alloc::{AllocError, Global};
 use std::marker::Model;
+
+/// The least bytes of a content that shares the block it was read into.
+const LEAST_SHARED: usize = 256;
 
 /// The frames of bytes that come in pieces, from the end of the connection's preface on. A clause sees it as the bytes
 /// that were fed and aren't used up.
@@ -41,7 +47,8 @@ impl FrameReader {
         }
     }
 
-    /// Takes the next piece of the bytes, which is copied once.
+    /// Takes the next piece of the bytes, which is copied once. Once a fault stands first, nothing is taken any more:
+    /// the fault is answered.
     pub fn feed(&mut self, piece: &[u8]) -> Result<(), FrameFault>
         ensures ok { OnOk result (self.new ≡ self.old ++ piece.now) }
 
@@ -49,18 +56,23 @@ impl FrameReader {
         ensures list { OnOk result ((bytes : List ℕ) (entries : List Entry) →
             Joined bytes entries self.old → Joined (bytes ++ piece.now) entries self.new) }
 
-        // A fault that stands goes on to stand.
-        ensures faulty { OnOk result ((fault : FrameFault) →
-            IsFaulty fault self.old → IsFaulty fault self.new) }
+        // A fault that stands is answered and goes on to stand, and nothing of the piece is kept.
+        ensures faulty { (fault : FrameFault) →
+            IsFaulty fault self.old → (result ≡ Err fault) × (self.new ≡ self.old) }
         ensures err { OnErr result (self.new ≡ self.old) }
-        ensures memory { IsOkUnless result FrameFault.OutOfMemory }
+        ensures cause { IfErr result
+            (λ fault. (fault ≡ FrameFault.OutOfMemory) ⊎ IsFaulty fault self.old) }
     {
+        if let Some(fault) = standing_fault(self.buffer.as_slice()) {
+            return Err(fault);
+        }
         self.buffer.extend_from_slice(piece)?;
         Ok(())
     }
 
     /// The next frame or fault of the bytes so far, or nothing while none is there. A frame's content shares the
-    /// reader's memory. After `OutOfMemory` it may be called again.
+    /// reader's memory, or is a copy where it has under 256 bytes. After `OutOfMemory`, which only a content that isn't
+    /// empty can meet, it may be called again.
     pub fn next(&mut self) -> Option<Result<Frame, FrameFault>>
         // The answer goes on the list of the entries before it, however the bytes were cut.
         ensures list { (bytes : List ℕ) (entries : List Entry) →
@@ -79,6 +91,24 @@ impl FrameReader {
     {
         step(&mut self.buffer)
     }
+}
+
+/// The fault that stands at the front, behind which nothing can be read.
+fn standing_fault(bytes: &[u8]) -> Option<FrameFault>
+    ensures none { IfNone result ((fault : FrameFault) → ¬ IsFaulty fault bytes.now) }
+    ensures some { IfSome result (λ fault. IsFaulty fault bytes.now) }
+{
+    let span = match span_at(bytes)? {
+        Ok(span) => span,
+        Err(fault) => return Some(fault),
+    };
+    if span.head.stream != 0 {
+        return None;
+    }
+    if lacks_increment(span.head.kind, span.content_of(bytes)) {
+        return Some(FrameFault::ZeroIncrement(span.head.stream));
+    }
+    None
 }
 
 /// Answers what stands at the front, and takes it off where it is an entry.
@@ -113,7 +143,7 @@ fn take_frame(buffer: &mut BytesMut, span: &Span) -> Result<Frame, FrameFault>
     })
 }
 
-/// Cuts the frame off the front, and keeps its content, which shares the buffer's block.
+/// Cuts the frame off the front, and keeps its content: a copy of few bytes, or a part of the buffer's block.
 fn cut(buffer: &mut BytesMut, span: &Span) -> Result<Bytes, AllocError>
     requires within { span.now.start + span.now.len ≤ 9 + span.now.head.length }
     requires whole { 9 + span.now.head.length ≤ length buffer.old.items }
@@ -121,11 +151,18 @@ fn cut(buffer: &mut BytesMut, span: &Span) -> Result<Bytes, AllocError>
         (λ content. content ≡ take span.now.len (drop span.now.start buffer.old.items)) }
     ensures rest { OnOk result (buffer.new.items ≡ drop (9 + span.now.head.length) buffer.old.items) }
     ensures err { OnErr result (buffer.new.items ≡ buffer.old.items) }
+    ensures some { OnErr result (0 < span.now.len) }
 {
     let end = HEAD_LEN + span.head.length as usize;
     if span.len == 0 {
         buffer.advance(end);
         return Ok(Bytes::new());
+    }
+    if span.len < LEAST_SHARED {
+        let alloc = *buffer.allocator();
+        let content = Bytes::copy_from_slice(alloc, span.content_of(buffer.as_slice()))?;
+        buffer.advance(end);
+        return Ok(content);
     }
     let mut text = buffer.freeze_to(end)?;
     text.advance(span.start);

@@ -3,12 +3,10 @@
 //! It asks that the head isn't padded and has no priority by its kind (`is_padded`, `has_priority`): a frame of an
 //! unknown type may have those bits set, since there they mean nothing.
 
-ghost use Rattle.std.specs.Prelude.{◌≡◌, ◌<◌, ◌^◌, ◌++◌, ◌⊎◌, false, length, Some, Err, IfErr, OnOk, OnErr};
+ghost use Rattle.std.specs.Prelude.{◌≡◌, ◌++◌, ◌⊎◌, Some, Err, IfErr, OnOk, OnErr};
 ghost use Rattle.h2frame.specs.Faults.{frame_fault};
-ghost use Rattle.h2frame.specs.Flags.{is_padded, has_priority};
 ghost use Rattle.h2frame.specs.FrameList.{Whole, Spells};
-ghost use Rattle.h2frame.specs.Kind.{kind_of, code_of};
-ghost use Rattle.h2frame.specs.Spelling.{head_text, spelled};
+ghost use Rattle.h2frame.specs.Spelling.{IsWritable, head_text, spelled};
 
 use crate::{Frame, FrameFault, FrameHead};
 
@@ -21,14 +19,9 @@ fn head_text(head: &FrameHead) -> [u8; 9]
     [a, b, c, head.kind.code(), head.flags.bits, s, t, u, v]
 }
 
-/// Appends the frame, which isn't padded and has no priority. It refuses what a reader would.
+/// Appends the frame, which isn't padded and has no priority (`IsWritable`). It refuses what a reader would.
 pub fn write_frame(frame: &Frame, out: &mut Vec<u8>) -> Result<(), FrameFault>
-    // An unknown type has no code of a known one.
-    requires kind { kind_of (code_of frame.now.head.kind) ≡ frame.now.head.kind }
-    requires stream { frame.now.head.stream < 2 ^ 31 }
-    requires whole { frame.now.head.length ≡ length frame.now.content }
-    requires not_padded { is_padded frame.now.head ≡ false }
-    requires no_priority { has_priority frame.now.head ≡ false }
+    requires { IsWritable frame.now }
     ensures ok { OnOk result (out.new.items ≡ out.old.items ++ spelled frame.now) }
 
     // A reader of those bytes has this frame.

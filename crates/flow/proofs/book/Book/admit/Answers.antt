@@ -2,7 +2,7 @@ use Rattle.std.proofs.Common.{◌≡◌, ◌++◌, ◌∷◌, [], ◌∙◌, Non
 use Rattle.std.specs.Map.{lookup}
 use Rattle.indexmap.proofs.CallerLemmas.{insert_entry-new}
 use Rattle.flow.specs.Books.{new_call}
-use Rattle.flow.proofs.BookLemmas.{absent, admit-lawful}
+use Rattle.flow.proofs.BookLemmas.{absent, admit-lawful, admit-moves}
 use Rattle.flow.proofs.book.Book.admit.Goals as goal
 
 pub invariant_of-self-2 : goal.invariant_of-self-2
@@ -18,3 +18,13 @@ returns-clause-ok c =
     let new : c.insert.new.self.entries ≡ c.self.inside.calls.entries ++ (c.args.id, new_call) ∷ [] =
     c.in_ok-insert.ensures.entries ∙ insert_entry-new nat_eq c.self.inside.calls c.args.id new_call none in
     rw (new, ← c.self.view_is) refl
+
+pub returns-clause-law : goal.returns-clause-law
+returns-clause-law c = invariant_of-self-2 c
+
+pub returns-clause-moves : goal.returns-clause-moves
+returns-clause-moves c =
+    let none : lookup (nat_eq c.args.id) c.self.inside.calls.entries ≡ None = absent c.self.inside.calls.entries c.args.id c.self.inside.last c.self.invariant.at_most_last (rw (← c.self.view_is) at c.requires.above) in
+    let new : c.insert.new.self.entries ≡ c.self.inside.calls.entries ++ (c.args.id, new_call) ∷ [] =
+    c.in_ok-insert.ensures.entries ∙ insert_entry-new nat_eq c.self.inside.calls c.args.id new_call none in
+    rw (new, ← c.self.view_is) (admit-moves (record { connection = c.self.inside.connection; calls = c.self.inside.calls.entries; last = c.self.inside.last; closing = c.self.inside.closing }) c.args.id)

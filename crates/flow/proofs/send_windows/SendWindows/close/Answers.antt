@@ -12,3 +12,6 @@ invariant_of-self c = record {
   each = rw c.shift_remove.ensures.entries (all-remove (IsBalance c.self.inside.initial) c.self.inside.balances.entries c.args.id c.self.invariant.each);
   apart = apart-taken (nat_eq c.args.id 0) (lookup (nat_eq 0) c.self.inside.balances.entries) _ (c.shift_remove.ensures.updates.0 0) c.self.invariant.apart;
 }
+
+pub returns-clause-law : goal.returns-clause-law
+returns-clause-law c = invariant_of-self c

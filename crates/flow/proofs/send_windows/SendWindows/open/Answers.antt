@@ -25,3 +25,6 @@ returns-clause-ok c =
     let new : c.insert.new.self.entries ≡ c.self.inside.balances.entries ++ (c.args.id, pos 0) ∷ [] =
     c.in_ok-insert.ensures.entries ∙ insert_entry-new nat_eq c.self.inside.balances c.args.id (pos 0) none in
     rw (new, ← c.self.view_is) refl
+
+pub returns-clause-law : goal.returns-clause-law
+returns-clause-law c = invariant_of-self-2 c
