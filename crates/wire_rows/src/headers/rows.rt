@@ -1,7 +1,7 @@
 //! The lines of a file. `#` at the start of a line, or between two blanks, begins a comment; a line without `->` is a
 //! direction for the rows behind it.
 
-use crate::subject::{Runner, Subject};
+use super::subject::{Runner, Subject};
 use anyhow::{Context, Result};
 use std::fs;
 use std::rt::Files;

@@ -1,10 +1,10 @@
 //! What the rows of a file are, and what they share.
 
-use crate::fault_texts::fault_text;
-use crate::heads::Heads;
-use crate::read_blocks::{Connection, refusal};
-use crate::written_blocks::Pair;
-use crate::{answers, values};
+use super::fault_texts::fault_text;
+use super::heads::Heads;
+use super::read_blocks::{Connection, refusal};
+use super::written_blocks::Pair;
+use super::{answers, values};
 use anyhow::{Result, bail};
 use std::alloc::Global;
 

@@ -1,6 +1,6 @@
 //! Timeouts, texts of statuses and binary values, as they stand in fields (gRPC over HTTP/2).
 
-use crate::text::{bytes_of, push_bytes};
+use super::text::{bytes_of, push_bytes};
 use anyhow::{Context, Result, bail};
 use callhead::{bin_value, percent_text, read_bin_values, read_percent_text, read_timeout};
 use std::alloc::Global;

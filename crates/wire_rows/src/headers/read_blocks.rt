@@ -2,7 +2,7 @@
 //! digits, of which `HEX*N` stands for N times those bytes, and the answer is its fields or `fault FAULT`; or it puts in
 //! `table`, and the answer is the size of the dynamic table.
 
-use crate::fields::text_of;
+use super::fields::text_of;
 use anyhow::{Context, Result, bail};
 use hpack_codec::{Decoder, HpackFault};
 use lists::Field;

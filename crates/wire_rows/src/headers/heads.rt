@@ -3,8 +3,8 @@
 //! nanoseconds, `compressed`, the echoes for the head of the response, and those for the trailers in hexadecimal digits, with `|`
 //! behind each echo.
 
-use crate::fields::{field_of, fields_of};
-use crate::text::push_bytes;
+use super::fields::{field_of, fields_of};
+use super::text::push_bytes;
 use anyhow::{Context, Result};
 use callhead::{CallHead, Encoding, HeadFault};
 use lists::Field;

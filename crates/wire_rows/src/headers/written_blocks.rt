@@ -1,8 +1,8 @@
 //! Header blocks that are written (RFC 7541). `encoder NAME` begins a connection, and `limit N` announces that size of the
 //! peer's table. A row puts in fields, and the answer is their block, which the peer's decoder has to read as those fields.
 
-use crate::fields::{fields_of, text_of};
-use crate::text::push_bytes;
+use super::fields::{fields_of, text_of};
+use super::text::push_bytes;
 use anyhow::{Context, Result};
 use hpack_codec::{Decoder, Encoder};
 use std::alloc::Global;

@@ -2,9 +2,9 @@
 //! response; `end CODE ; TEXT ; ECHOES`, a status and the echoes for the trailers; `only CODE ; TEXT`, a status alone; `unknown
 //! method`; or `refuse FAULT`. Behind each echo stands `|`. The answer is the fields, or `none` where a fault is answered by none.
 
-use crate::fault_texts::head_fault_of;
-use crate::fields::text_of;
-use crate::text::bytes_of;
+use super::fault_texts::head_fault_of;
+use super::fields::text_of;
+use super::text::bytes_of;
 use anyhow::{Context, Result, bail};
 use callhead::{Texts, Values, response_fields, status_fields, trailers_only, unknown_method};
 use lists::Octets;

@@ -1,6 +1,6 @@
 //! Lists of fields in a row: `NAME: VALUE` of each, with ` | ` between them, and `no fields` for none.
 
-use crate::text::{bytes_of, push_bytes, push_name};
+use super::text::{bytes_of, push_bytes, push_name};
 use anyhow::{Context, Result};
 use lists::{Field, Octets};
 use std::alloc::{AllocError, Global};

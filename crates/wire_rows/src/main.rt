@@ -1,12 +1,14 @@
-//! Worked rows for `h2frame` and `flow`: bytes and the frames that they are, frames and the verdicts on them, and
-//! histories of windows and credit books, each with the answer that RFC 9113 demands of it.
+//! Worked rows for the wire: bytes and the frames that they are, frames and the verdicts on them, histories of windows
+//! and credit books, header blocks and heads of calls, each with the answer that RFC 9113, RFC 7541 and gRPC over HTTP/2
+//! demand of it.
 //!
 //! The rows lie in `data/`, a line each: what is given, an arrow, and what is wanted. The head of each file says what
-//! its words mean and where its values come from. The program tries all of them, prints each row whose answer is
-//! another, and counts the rows of each file; it fails where one differs.
+//! its words mean and where its values come from; of the files of `headers`, `data/README.md` does. The program tries
+//! all of them, prints each row whose answer is another, and counts the rows of each file; it fails where one differs.
 //!
-//! What a row is, and trying the rows of a file, stands in the crate `rows`. To be read in this order: `frames` and `kinds` for reading and writing frames, `names` for
-//! the numbers of the wire format, then `verdicts`, `windows` and `books` for what stands above frames.
+//! What a row is, and trying the rows of a file, stands in the crate `rows`. To be read in this order: `frames` and
+//! `kinds` for reading and writing frames, `names` for the numbers of the wire format, `verdicts`, `windows` and `books`
+//! for what stands above frames, and `headers` for header blocks and heads.
 #![tactic(auto)]
 
 use anyhow::{Result, ensure};
@@ -15,6 +17,7 @@ use std::rt::Files;
 
 mod books;
 mod frames;
+mod headers;
 mod kinds;
 mod names;
 mod verdicts;
@@ -54,9 +57,13 @@ fn main(rt: HostRuntime) -> Result<()> {
     let of_frames = try_frames(&rt)?;
     let of_halves = try_halves(&rt)?;
     let of_credit = try_credit(&rt)?;
+    let of_headers = headers::run(&rt)?;
     let differing = of_frames
         .saturating_add(of_halves)
         .saturating_add(of_credit);
-    ensure!(differing == 0, "{differing} rows differ");
+    ensure!(
+        differing == 0 && of_headers == 0,
+        "{differing} rows of frames and {of_headers} of headers differ"
+    );
     Ok(())
 }
