@@ -5,11 +5,11 @@
 ghost use Rattle.std.specs.Prelude.{◌≡◌, [], IfOk, IsTrue, OnOk};
 ghost use Rattle.std.specs.Option.{option_copied};
 ghost use Rattle.account.specs.Accounts.{IsLawful};
-ghost use Rattle.account.specs.Runs.{after, may_follow, run, telling};
+ghost use Rattle.account.specs.Runs.{after, may_follow, run};
 ghost use Rattle.account.specs.declared.call.CallEvent.TheVariants as event;
-ghost use Rattle.lpm.specs.Messages.{IsUnfinished};
 
 use crate::call::{Account, CallEvent, OutItem, Shut, Told};
+use crate::ending::told_behind;
 use bytes::Bytes;
 use lists::{Octets, Sequence};
 use lpm::{LpmFault, Split, Splitter, is_frame};
@@ -121,7 +121,7 @@ impl SerialCall {
                 self.taken.push(message)?;
             }
             Split::More => {
-                self.told = self.ending();
+                self.told = told_behind(&self.splitter, self.shut);
             }
             Split::Fault(fault) => match fault {
                 LpmFault::OutOfMemory => return Err(AllocError),
@@ -129,23 +129,6 @@ impl SerialCall {
             },
         }
         Ok(())
-    }
-
-    /// What is told where no message is left: how the half was shut, if it was.
-    fn ending(&self) -> Option<Told>
-        requires { IsUnfinished self.now.splitter }
-        ensures { result ≡ telling None self.now.splitter self.now.shut }
-    {
-        let Some(shut) = self.shut else {
-            return None;
-        };
-        match shut {
-            Shut::Reset(code) => Some(Told::Reset(code)),
-            Shut::End => match self.splitter.end() {
-                Ok(()) => Some(Told::End),
-                Err(fault) => Some(Told::Fault(fault)),
-            },
-        }
     }
 
     fn give(&mut self, item: &OutItem) -> Result<(), AllocError>

@@ -12,7 +12,8 @@ use Rattle.lpm.proofs.WholeMessages.{reading_of-frames}
 use Rattle.lpm.proofs.Readings.{frames-cons}
 use Rattle.std.proofs.lemmas.Grind.{flat_map-append, fold-append}
 use Rattle.callbox.specs.declared.taker.Progress.{Progress}
-use Rattle.callbox.specs.InAccounts.{CountsIn}
+use Rattle.callbox.specs.InAccounts.{CountsIn, IsFed, RunsIn}
+use Rattle.callbox.specs.declared.in_side.InAccount.{InAccount}
 use Rattle.account.specs.declared.call.Account.{Account}
 use Rattle.account.specs.declared.call.CallEvent.TheVariants as event
 use Rattle.account.specs.declared.call.Shut.{Shut}
@@ -228,4 +229,25 @@ counts_in got put rest progress closed fed messages is last fits counted t =
       shut = refl;
       taken = t.count;
       told = refl;
+    }
+
+-- ---- a call in four threads
+
+whole_end : (pieces : List (List ℕ)) (kind : Shut) (fed : List (List ℕ)) (closed : Option Shut) (messages : List (List ℕ)) → IsFed pieces kind fed closed → MayTell (Some told.End) (concat fed) closed messages
+    → (kind ≡ shut.End) × (concat pieces ≡ frames messages)
+whole_end pieces kind fed None messages asked may = let e = may.0 in absurd cc
+whole_end pieces kind fed (Some closed) messages asked may =
+    let ended = may.0 in
+    let as_kind = asked.1 in
+    (cc, ap concat (sym asked.0) ∙ may.1)
+
+pub runs_in : (pieces : List (List ℕ)) (kind : Shut) (fed : List (List ℕ)) (closed : Option Shut) (messages : List (List ℕ)) (said : Option Told) (r : InAccount) → IsFed pieces kind fed closed → CountsIn fed closed messages said r
+    → RunsIn pieces kind messages r
+runs_in pieces kind fed closed messages said r asked counts =
+    let same = subst (λ (s : Option Told). CountsIn fed closed messages s r) (sym counts.told) counts in
+    record {
+      fed = fed;
+      as_asked = subst (IsFed pieces kind fed) (sym counts.shut) asked;
+      counts = subst (λ (c : Option Shut). CountsIn fed c messages r.told r) (sym counts.shut) same;
+      whole = λ ended. whole_end pieces kind fed closed messages asked (subst (λ (t : Option Told). MayTell t (concat fed) closed messages) (sym counts.told ∙ ended) counts.lawful.told);
     }

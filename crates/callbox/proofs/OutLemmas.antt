@@ -8,7 +8,7 @@ use mathlib.Core.List.{IsPrefix}
 use Rattle.lists.specs.declared.field.Field.{Field}
 use Rattle.lane.specs.Lawful.{count_of}
 use Rattle.lane.proofs.Prefixes.{IsPrefix-take}
-use Rattle.lpm.specs.Messages.{frame, IsMessage, IsFrame}
+use Rattle.lpm.specs.Messages.{frame, IsFrame}
 use Rattle.lpm.specs.Reading.{messages_of}
 use Rattle.lpm.proofs.OneMessage.{is_frame-IsFrame}
 use Rattle.account.specs.declared.call.Account.{Account}
@@ -21,6 +21,7 @@ use Rattle.callbox.specs.declared.piece.InPiece.TheVariants as piece
 use Rattle.callbox.specs.InSides.{pieces_of}
 use Rattle.account.specs.Accounts.{IsBody, IsResponse}
 use Rattle.callbox.specs.OutAccounts.{CountsOut}
+use Rattle.callbox.specs.declared.out_side.OutAccount.{OutAccount}
 use Rattle.callbox.specs.OutSides.{answer_items, has_head, has_trailers, message_items, out_account, out_events}
 use Rattle.account.specs.Runs.{after, run, opened, may_follow, last_of}
 use Rattle.account.proofs.SerialLemmas.{last, last_of-last, slice_get-behind, after-give, after-send}
@@ -53,11 +54,11 @@ body_push (Head fields ∷ items) item body going tail = absurd body
 body_push (Message bytes ∷ items) item body going tail = (body.0, body_push items item body.1 going tail)
 body_push (Trailers fields ∷ items) item body going tail = absurd cc
 
-pub response_message : (items : List OutItem) (message : List ℕ) → IsResponse items → has_head items ≡ true → has_trailers items ≡ false → IsMessage message → IsResponse (items ++ Message (frame message) ∷ [])
-response_message [] message response begun going fits = absurd cc
-response_message (Head fields ∷ items) message response begun going fits = body_push items (Message (frame message)) response going (message, fits, refl)
-response_message (Message bytes ∷ items) message response begun going fits = absurd response
-response_message (Trailers fields ∷ items) message response begun going fits = absurd cc
+pub response_frame : (items : List OutItem) (framed : List ℕ) → IsResponse items → has_head items ≡ true → has_trailers items ≡ false → IsFrame framed → IsResponse (items ++ Message framed ∷ [])
+response_frame [] framed response begun going fits = absurd cc
+response_frame (Head fields ∷ items) framed response begun going fits = body_push items (Message framed) response going fits
+response_frame (Message bytes ∷ items) framed response begun going fits = absurd response
+response_frame (Trailers fields ∷ items) framed response begun going fits = absurd cc
 
 pub response_trailers : (items : List OutItem) (fields : List Field) → IsResponse items → has_trailers items ≡ false → IsResponse (items ++ Trailers fields ∷ [])
 response_trailers [] fields response going = refl
@@ -210,6 +211,9 @@ counts_out given sent put got trailers_given trailers_sent response begins put_i
   trailers_sent = sent_is;
 }
 
+pub counts_same : (given got items : List OutItem) (r : OutAccount) → got ≡ items → CountsOut given got r → CountsOut given items r
+counts_same given got items r same counts = subst (λ (xs : List OutItem). CountsOut given xs r) same counts
+
 -- ---- an answer, as far as it was given
 
 pub pieces_of-map : (pieces : List (List ℕ)) → pieces_of (map piece.Bytes pieces) ≡ pieces
@@ -225,10 +229,11 @@ pieces_shut : (placed : Bool) (put new : List InPiece) (kind : Shut) → MatchBo
 pieces_shut true put new kind is = ap pieces_of is ∙ pieces_of-shut put kind
 pieces_shut false put new kind is = ap pieces_of is
 
-pub fed_front : (placed : Bool) (put new : List InPiece) (kind : Shut) (pieces : List (List ℕ)) (count : ℕ) → MatchBool placed (new ≡ put ++ piece.Shut kind ∷ []) (new ≡ put) → put ≡ map piece.Bytes (take count pieces)
-    → IsPrefix (pieces_of new) pieces
-fed_front placed put new kind pieces count shut fed =
-    IsPrefix-take (pieces_of new) pieces count (pieces_shut placed put new kind shut ∙ ap pieces_of fed ∙ pieces_of-map (take count pieces))
+pub fed_front : (put : List InPiece) (pieces : List (List ℕ)) (count : ℕ) → put ≡ map piece.Bytes (take count pieces) → IsPrefix (pieces_of put) pieces
+fed_front put pieces count fed = IsPrefix-take (pieces_of put) pieces count (ap pieces_of fed ∙ pieces_of-map (take count pieces))
+
+pub fed_all : (placed : Bool) (put new : List InPiece) (kind : Shut) (pieces : List (List ℕ)) → MatchBool placed (new ≡ put ++ piece.Shut kind ∷ []) (new ≡ put) → put ≡ map piece.Bytes pieces → pieces_of new ≡ pieces
+fed_all placed put new kind pieces shut fed = pieces_shut placed put new kind shut ∙ ap pieces_of fed ∙ pieces_of-map pieces
 
 pub front_none : (put : List OutItem) (head trailers : List Field) (messages : List (List ℕ)) → put ≡ [] → IsPrefix put (answer_items head messages trailers)
 front_none put head trailers messages none = (answer_items head messages trailers, ap (λ (items : List OutItem). items ++ answer_items head messages trailers) none)
@@ -251,3 +256,14 @@ front_all true new put old head trailers messages begun given shut =
     ([], append-nil new ∙ shut ∙ ap (λ (items : List OutItem). items ++ Trailers trailers ∷ []) (given ∙ ap (λ (items : List OutItem). items ++ message_items messages) begun))
 front_all false new put old head trailers messages begun given shut =
     (Trailers trailers ∷ [], ap (λ (items : List OutItem). items ++ Trailers trailers ∷ []) (shut ∙ given ∙ ap (λ (items : List OutItem). items ++ message_items messages) begun))
+
+-- ---- what came out of a ring
+
+-- of a list with one item in a ring at most that item is taken
+pub one_taken : {A B : Type 0} (f : A → B) (took ahead put rest : List A) (x : A) (y : B) → took ++ ahead ≡ put → put ++ rest ≡ x ∷ [] → map f took ≡ y ∷ [] → y ≡ f x
+one_taken f [] ahead put rest x y whole all one = absurd cc
+one_taken {A} f (first ∷ took) ahead put rest x y whole all one =
+    let is : first ∷ ((took ++ ahead) ++ rest) ≡ x ∷ [] = ap (λ (xs : List A). xs ++ rest) whole ∙ all in
+    let same : first ≡ x = cc in
+    let shown : f first ≡ y = cc in
+    sym shown ∙ ap f same

@@ -15,7 +15,7 @@ use Rattle.callbox.specs.declared.taker.Progress.{Progress}
 use Rattle.lane.specs.Lawful.{last_of}
 use Rattle.account.specs.Accounts.{MayTell}
 use Rattle.account.specs.Runs as runs
-use Rattle.callbox.specs.InSides.{bytes_of, shut_of, Took, IsMissing, TellsFault, length_of}
+use Rattle.callbox.specs.InSides.{bytes_of, shut_of, Took, IsMissing, NeedsMore, EachNeeded, TellsFault, length_of}
 use Rattle.account.proofs.SerialLemmas.{MayTell-fault, MayTell-more}
 use Rattle.callbox.proofs.InLemmas.{bytes_of-bytes, bytes_of-shut, shut_of-push}
 
@@ -69,6 +69,19 @@ took_telling items p q messages t unfinished read splitter unread closed said co
           (MayTell-more (bytes_of items) messages p.splitter (shut_of items) whole t.each unfinished);
       count = count ∙ t.count;
     }
+
+-- where no message is whole, no fault stands and nothing came behind the pieces, more is needed
+pub needs_more : (items : List InPiece) (p : Progress) (messages : List (List ℕ)) → Took items p messages → IsUnfinished p.splitter → p.shut ≡ None → p.unread ≡ false → NeedsMore items messages
+needs_more items p messages t unfinished unshut read =
+    let whole : bytes_of items ≡ frames messages ++ p.splitter =
+    t.whole ∙ ap (λ (b : List ℕ). frames messages ++ (p.splitter ++ b)) (subst (λ (b : Bool). IsMissing b items t.missing) read t.unread) ∙ ap (λ (b : List ℕ). frames messages ++ b) (append-nil p.splitter) in
+    (p.splitter, record { whole = whole; each = t.each; unfinished = unfinished }, sym t.closed ∙ unshut)
+
+-- an item more was needed
+pub needed_more : (got items now : List InPiece) (item : InPiece) (messages : List (List ℕ)) → EachNeeded got items messages → now ≡ got ++ items → NeedsMore now messages → EachNeeded got (items ++ item ∷ []) messages
+needed_more got [] now item messages each is more = (subst (λ (all : List InPiece). NeedsMore all messages) (is ∙ append-nil got) more, tt)
+needed_more got (first ∷ items) now item messages each is more =
+    (each.0, needed_more (got ++ first ∷ []) items now item messages each.1 (is ∙ sym (append_assoc got (first ∷ []) items)) more)
 
 -- the same, with the same told
 pub took_same : (items : List InPiece) (p q : Progress) (messages : List (List ℕ)) → Took items p messages

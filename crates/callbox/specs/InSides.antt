@@ -4,7 +4,7 @@ use Rattle.std.specs.List.{concat}
 use Rattle.lane.specs.Lawful.{count_of, last_of}
 use Rattle.lpm.specs.declared.fault.LpmFault.{LpmFault}
 use Rattle.lpm.specs.declared.fault.LpmFault.TheVariants.{Compressed, BadFlag, TooLong, CutAtEnd, OutOfMemory}
-use Rattle.lpm.specs.Messages.{frames, IsMessage}
+use Rattle.lpm.specs.Messages.{frames, IsMessage, Spells}
 use Rattle.account.specs.declared.call.Account.{Account}
 use Rattle.account.specs.declared.call.CallEvent.{CallEvent}
 use Rattle.account.specs.declared.call.CallEvent.TheVariants as event
@@ -73,6 +73,16 @@ pub record Took (items : List InPiece) (progress : Progress) (messages : List (L
   pub closed : progress.shut ≡ shut_of items
   pub telling : MayTell progress.told (bytes_of items) (shut_of items) messages
   pub count : progress.taken ≡ count_of messages
+
+-- What was got spells these messages and less than a whole one behind them, and no shut came: so more is needed before
+-- there is anything to take or tell.
+abbrev pub NeedsMore : List InPiece → List (List ℕ) → Type 0
+NeedsMore got messages = (rest : List ℕ) × Spells (bytes_of got) messages rest × (shut_of got ≡ None)
+
+-- each of the items was got only where what had been got before it needed more
+abbrev pub EachNeeded : List InPiece → List InPiece → List (List ℕ) → Type 0
+EachNeeded got [] messages = Unit {0}
+EachNeeded got (item ∷ items) messages = NeedsMore got messages × EachNeeded (got ++ item ∷ []) items messages
 
 -- the messages that were taken, after an answer
 abbrev pub grown : List (List ℕ) → Taken → List (List ℕ)

@@ -4,6 +4,7 @@ use Rattle.std.specs.Coded.{le_prop, coded_list, coded_ℕ, Coded-set, ×_prop, 
 use Rattle.std.proofs.Common.{sym, ap, subst, ◌∙◌}
 use Rattle.std.proofs.Math.Path.{path_j, path_j'}
 use Rattle.lists.specs.declared.field.Field.{Field}
+use Rattle.lane.specs.PutFault.{item_of, MayRefuse}
 use Rattle.lane.specs.declared.fault.PutFault.{PutFault}
 use Rattle.lane.specs.declared.fault.PutFault.TheVariants.{Full, OutOfMemory, NotTaken}
 use Rattle.lpm.specs.Messages.{frame, IsMessage, IsFrame}
@@ -15,6 +16,8 @@ use Rattle.account.specs.declared.call.CallEvent.TheVariants as event
 use Rattle.account.specs.declared.call.OutItem.{OutItem}
 use Rattle.account.specs.declared.call.OutItem.TheVariants.{Head, Message, Trailers}
 use Rattle.account.specs.Accounts.{IsBody, IsResponse}
+use Rattle.callbox.specs.declared.giver.FramedFault.{FramedFault}
+use Rattle.callbox.specs.declared.giver.FramedFault.TheVariants.{NotAFrame, Refused}
 
 -- whether a head stands first
 abbrev pub has_head : List OutItem → Bool
@@ -35,11 +38,21 @@ is_head (Head fields) = true
 is_head (Message bytes) = false
 is_head (Trailers fields) = false
 
+abbrev pub is_message : OutItem → Bool
+is_message (Head fields) = false
+is_message (Message bytes) = true
+is_message (Trailers fields) = false
+
 -- Why a message is handed back: as the lane refuses an item, or for want of memory for the message with its prefix.
 abbrev pub MayRefuseMessage : Bool → ℕ → ℕ → ℕ → PutFault (List ℕ) → Type 0
 MayRefuseMessage only_fills room put seen_taken (Full message waiting) = (waiting + seen_taken ≡ put) × (room ≤ waiting)
 MayRefuseMessage only_fills room put seen_taken (OutOfMemory message) = Unit {0}
 MayRefuseMessage only_fills room put seen_taken (NotTaken message) = only_fills ≡ false
+
+-- Why bytes with their prefix are handed back: they aren't one message, or they are, and the lane refuses them.
+abbrev pub RefusesFramed : Bool → ℕ → ℕ → ℕ → List ℕ → FramedFault → Type 0
+RefusesFramed only_fills room put seen_taken framed (NotAFrame bytes) = (bytes ≡ framed) × (IsFrame framed → ⊥)
+RefusesFramed only_fills room put seen_taken framed (Refused fault) = (item_of fault ≡ framed) × IsFrame framed × MayRefuse only_fills room put seen_taken fault
 
 -- messages with their prefixes
 abbrev pub message_items : List (List ℕ) → List OutItem

@@ -1,27 +1,36 @@
 //! The end of a call that gives what goes out.
 //!
 //! A giver keeps a message until the lane has taken its frame, so that each refusal hands back the message, also where
-//! there was no memory for the frame. A head is handed back out of the item.
+//! there was no memory for the frame. Bytes that have their prefix, and a head, are handed back out of the item.
 //!
 //! That what was given is a response is a ghost field and no test: there is at most one proof of it
 //! (`specs/OutSides.antt`), as a struct's facts need.
 
-ghost use Rattle.std.specs.Prelude.{◌≡◌, ◌≤◌, true, false, [], ◌∷◌, ◌++◌, length, IfErr, IfOk, OnErr, OnOk, MatchBool};
+ghost use Rattle.std.specs.Prelude.{◌≡◌, ◌+◌, ◌<◌, ◌≤◌, true, false, [], ◌∷◌, ◌++◌, length, IfErr, IfOk, OnErr, OnOk, MatchBool};
 ghost use Rattle.lane.specs.PutFault.{item_of, MayRefuse};
-ghost use Rattle.lpm.specs.Messages.{frame};
+ghost use Rattle.lpm.specs.Messages.{frame, IsFrame};
 ghost use Rattle.account.specs.Accounts.{IsResponse};
-ghost use Rattle.callbox.specs.OutSides.{has_head, has_trailers, is_head, IsResponse-prop, MayRefuseMessage};
+ghost use Rattle.callbox.specs.OutSides.{has_head, has_trailers, is_head, is_message, IsResponse-prop, MayRefuseMessage, RefusesFramed};
 ghost use Rattle.account.specs.declared.call.OutItem.TheVariants as out_item;
 
 use account::OutItem;
 use bytes::Bytes;
 use lane::{Lane, PutFault};
 use lists::{Field, Sequence};
-use lpm::write_message;
+use lpm::{is_frame, write_message};
 use std::alloc::{AllocError, Global};
 
 /// Why something was not given: 1 Full, 3 OutOfMemory or 4 NotTaken. What was passed comes back.
 pub type GiveFault<T> = PutFault<T>;
+
+/// Why bytes that have their prefix were not given. They come back.
+#[derive(Debug, Drop)]
+pub enum FramedFault {
+    /// They aren't one message with its prefix.
+    NotAFrame(Bytes),
+    /// They are, and were not given for this.
+    Refused(GiveFault<Bytes>),
+}
 
 /// Gives the items of a call's response, as far as the trailers.
 #[derive(Drop)]
@@ -89,9 +98,22 @@ impl<L: Lane<Item = OutItem>> Giver<L> {
         }
     }
 
+    /// Whether there is room for a head or a message: if not, how many of the items that were given this end had not seen
+    /// sent, in this call. After `Ok` the next `head`, `give` or `give_framed` isn't `Full`. It takes no memory.
+    pub fn check_room(&mut self) -> Result<(), u64>
+        ensures name { L.in_name self.new.tx ≡ L.in_name self.old.tx }
+        ensures seen { L.seen_taken self.old.tx ≤ L.seen_taken self.new.tx }
+        ensures unchanged { L.put_in self.new.tx ≡ L.put_in self.old.tx }
+        ensures room { OnOk result (length (L.put_in self.new.tx) < L.room_of (L.in_name self.new.tx) + L.seen_taken self.new.tx) }
+        ensures full { IfErr result (λ waiting. (waiting + L.seen_taken self.new.tx ≡ length (L.put_in self.new.tx))
+            × (L.room_of (L.in_name self.new.tx) ≤ waiting)) }
+    {
+        L::check_room(&mut self.tx)
+    }
+
     /// Gives a message with its prefix, or hands the message back and changes nothing.
     ///
-    /// The bytes of the message are copied once, behind the prefix.
+    /// The bytes of the message are copied once, behind the prefix, and only where there is room.
     pub fn give(&mut self, message: Bytes) -> Result<(), GiveFault<Bytes>>
         requires head { has_head (L.put_in self.old.tx) ≡ true }
         requires len { length message ≤ 4194304 }
@@ -103,10 +125,16 @@ impl<L: Lane<Item = OutItem>> Giver<L> {
             (MayRefuseMessage L.only_fills (L.room_of (L.in_name self.old.tx))
             (length (L.put_in self.old.tx)) (L.seen_taken self.new.tx)) }
     {
+        if let Err(waiting) = self.check_room() {
+            return Err(PutFault::Full {
+                item: message,
+                waiting,
+            });
+        }
         let Ok(framed) = framed(self.alloc, message.as_slice()) else {
             return Err(PutFault::OutOfMemory(message));
         };
-        match L::put(&mut self.tx, OutItem::Message(framed)) {
+        match self.put_frame(framed) {
             Ok(()) => Ok(()),
             Err(PutFault::Full { item: _, waiting }) => Err(PutFault::Full {
                 item: message,
@@ -114,6 +142,51 @@ impl<L: Lane<Item = OutItem>> Giver<L> {
             }),
             Err(PutFault::OutOfMemory(_)) => Err(PutFault::OutOfMemory(message)),
             Err(PutFault::NotTaken(_)) => Err(PutFault::NotTaken(message)),
+        }
+    }
+
+    /// Gives one message whose prefix stands before it already, or hands the bytes back and changes nothing.
+    ///
+    /// The bytes are shared, and nothing is copied. It takes constant time.
+    pub fn give_framed(&mut self, framed: Bytes) -> Result<(), FramedFault>
+        requires { has_head (L.put_in self.old.tx) ≡ true }
+        ensures name { L.in_name self.new.tx ≡ L.in_name self.old.tx }
+        ensures frame { OnOk result (IsFrame framed) }
+        ensures ok { OnOk result (L.put_in self.new.tx ≡ L.put_in self.old.tx ++ out_item.Message framed ∷ []) }
+        ensures unchanged { OnErr result (L.put_in self.new.tx ≡ L.put_in self.old.tx) }
+        ensures fault { IfErr result
+            (RefusesFramed L.only_fills (L.room_of (L.in_name self.old.tx))
+            (length (L.put_in self.old.tx)) (L.seen_taken self.new.tx) framed) }
+    {
+        if !is_frame(framed.as_slice()) {
+            return Err(FramedFault::NotAFrame(framed));
+        }
+        match self.put_frame(framed) {
+            Ok(()) => Ok(()),
+            Err(fault) => Err(FramedFault::Refused(fault)),
+        }
+    }
+
+    /// Gives one message with its prefix, or hands it back and changes nothing.
+    fn put_frame(&mut self, framed: Bytes) -> Result<(), GiveFault<Bytes>>
+        requires head { has_head (L.put_in self.old.tx) ≡ true }
+        requires frame { IsFrame framed }
+        ensures name { L.in_name self.new.tx ≡ L.in_name self.old.tx }
+        ensures ok { OnOk result (L.put_in self.new.tx ≡ L.put_in self.old.tx ++ out_item.Message framed ∷ []) }
+        ensures unchanged { OnErr result (L.put_in self.new.tx ≡ L.put_in self.old.tx) }
+        ensures handed_back { IfErr result (λ e. item_of e ≡ framed) }
+        ensures fault { IfErr result
+            (MayRefuse L.only_fills (L.room_of (L.in_name self.old.tx))
+            (length (L.put_in self.old.tx)) (L.seen_taken self.new.tx)) }
+    {
+        match L::put(&mut self.tx, OutItem::Message(framed)) {
+            Ok(()) => Ok(()),
+            Err(PutFault::Full { item, waiting }) => Err(PutFault::Full {
+                item: into_frame(item),
+                waiting,
+            }),
+            Err(PutFault::OutOfMemory(item)) => Err(PutFault::OutOfMemory(into_frame(item))),
+            Err(PutFault::NotTaken(item)) => Err(PutFault::NotTaken(into_frame(item))),
         }
     }
 
@@ -147,6 +220,17 @@ fn into_head(item: OutItem) -> Sequence<Field>
     match item {
         OutItem::Head(fields) => fields,
         OutItem::Message(_) | OutItem::Trailers(_) => unreachable!(),
+    }
+}
+
+/// The bytes of a message with its prefix.
+fn into_frame(item: OutItem) -> Bytes
+    requires { is_message item ≡ true }
+    ensures { item ≡ out_item.Message result }
+{
+    match item {
+        OutItem::Message(bytes) => bytes,
+        OutItem::Head(_) | OutItem::Trailers(_) => unreachable!(),
     }
 }
 

@@ -6,7 +6,8 @@
 //! events.
 //!
 //! Read the crate `account` first; then `specs/InSides.antt` with `piece`, `feeder`, `taker` and `in_side`;
-//! `specs/OutSides.antt` with `giver`, `sender` and `out_side`; and `call` and `uses::four_threads` last.
+//! `specs/OutSides.antt` with `giver`, `sender` and `out_side`; and `call`, `uses::four_threads` and `uses::handed_over`
+//! (a sender that goes to another thread) last.
 #![tactic(auto)]
 
 pub mod call;
@@ -21,13 +22,14 @@ pub mod uses;
 
 pub use call::open_call;
 pub use feeder::{FedShut, FeedFault, Feeder};
-pub use giver::{GiveFault, GivenShut, Giver};
+pub use giver::{FramedFault, GiveFault, GivenShut, Giver};
 pub use in_side::{InAccount, open_in, settle_in};
 pub use out_side::{OutAccount, open_out, settle_out};
 pub use piece::InPiece;
 pub use sender::Sender;
 pub use taker::{Taken, Taker};
-pub use uses::four_threads::{Answer, Request, run_call};
+pub use uses::four_threads::{Answer, Ran, Request, run_call};
+pub use uses::handed_over::answer_elsewhere;
 
 #[cfg(test)]
 mod tests;

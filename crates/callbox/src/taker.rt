@@ -13,14 +13,13 @@
 
 ghost use Rattle.std.specs.Prelude.{◌≡◌, ℕ, ◌+◌, ◌-◌, min, true, false, None, Some, List, [], ◌∷◌, ◌++◌, length, All, IfNone, IfSome, MatchOption, is_some};
 ghost use Rattle.lpm.specs.Messages.{IsUnfinished};
-ghost use Rattle.account.specs.Runs.{telling as what_is_told};
 ghost use Rattle.lane.specs.Lawful.{last_of};
-ghost use Rattle.callbox.specs.InSides.{IsPolled, Took, Tells, bytes_of, grown, length_of, shut_of, telling};
+ghost use Rattle.callbox.specs.InSides.{EachNeeded, IsPolled, Took, Tells, bytes_of, grown, length_of, telling};
 ghost use Rattle.callbox.specs.declared.piece.InPiece.{InPiece};
 ghost use Rattle.callbox.specs.declared.taker.Taken.TheVariants as taken;
 
 use crate::InPiece;
-use account::{Shut, Told};
+use account::{Shut, Told, told_behind};
 use bytes::Bytes;
 use lane::Lane;
 use lpm::{LpmFault, Split, Splitter};
@@ -121,26 +120,9 @@ impl Progress {
         if self.unread {
             return Some(Taken::Fault(LpmFault::OutOfMemory));
         }
-        let told = self.to_tell()?;
+        let told = told_behind(&self.splitter, self.shut)?;
         self.told = Some(told);
         Some(answer_of(told))
-    }
-
-    /// What there is to be told where no message is left: how the half was shut, if it was.
-    fn to_tell(&self) -> Option<Told>
-        requires { IsUnfinished self.now.splitter }
-        ensures { result ≡ what_is_told None self.now.splitter self.now.shut }
-    {
-        let Some(shut) = self.shut else {
-            return None;
-        };
-        match shut {
-            Shut::Reset(code) => Some(Told::Reset(code)),
-            Shut::End => match self.splitter.end() {
-                Ok(()) => Some(Told::End),
-                Err(fault) => Some(Told::Fault(fault)),
-            },
-        }
     }
 
     /// Takes in what was polled.
@@ -233,8 +215,8 @@ impl InPiece {
 fn poll<L: Lane<Item = InPiece>>(rx: &mut L::Out) -> Option<Polled>
     ensures name { L.out_name rx.new ≡ L.out_name rx.old }
     ensures got { MatchOption result
-        ((L.got rx.new ≡ L.got rx.old) × (L.held rx.new ≡ L.held rx.old) × (L.ahead rx.new ≡ []))
-        (λ p. (item : InPiece) × (L.got rx.new ≡ L.got rx.old ++ item ∷ []) × (L.held rx.new ≡ Some item) × IsPolled item p) }
+        ((L.got rx.new ≡ L.got rx.old) × (L.ahead rx.new ≡ []))
+        (λ p. (item : InPiece) × (L.got rx.new ≡ L.got rx.old ++ item ∷ []) × IsPolled item p) }
 {
     match L::poll(rx) {
         Some(item) => Some(item.share()),
@@ -242,12 +224,11 @@ fn poll<L: Lane<Item = InPiece>>(rx: &mut L::Out) -> Option<Polled>
     }
 }
 
-/// What the item of the last poll is, once more.
+/// What the item that was got last is, once more.
 fn poll_again<L: Lane<Item = InPiece>>(rx: &mut L::Out) -> Option<Polled>
     ensures name { L.out_name rx.new ≡ L.out_name rx.old }
     ensures got { L.got rx.new ≡ L.got rx.old }
-    ensures held { L.held rx.new ≡ L.held rx.old }
-    ensures item { IfSome result (λ p. (item : InPiece) × (L.held rx.old ≡ Some item) × IsPolled item p) }
+    ensures item { IfSome result (λ p. (item : InPiece) × (last_of (L.got rx.old) ≡ Some item) × IsPolled item p) }
 {
     match L::again(rx) {
         Some(item) => Some(item.share()),
@@ -260,13 +241,12 @@ fn poll_again<L: Lane<Item = InPiece>>(rx: &mut L::Out) -> Option<Polled>
 pub struct Taker<L: Lane<Item = InPiece>> {
     pub(crate) rx: L::Out,
     pub(crate) progress: Progress,
-    ghost held: { L.held rx ≡ last_of (L.got rx) },
 }
 
 impl<L: Lane<Item = InPiece>> Taker<L> {
     /// An end of this lane.
     pub(crate) fn new(alloc: Global, rx: L::Out) -> Taker<L>
-        requires { (L.got rx ≡ []) × (L.held rx ≡ None) }
+        requires { L.got rx ≡ [] }
         ensures rx { result.rx ≡ rx }
         ensures took { Took [] result.progress [] }
         ensures owed { result.progress.owed ≡ 0 }
@@ -277,8 +257,8 @@ impl<L: Lane<Item = InPiece>> Taker<L> {
 
     /// The next message, or what there is to be told.
     ///
-    /// It polls only while what was polled holds no whole message and no fault. Once the end, a reset or a fault
-    /// of the bytes was told it is told again. After `Fault(OutOfMemory)` nothing is lost, and it may be called again.
+    /// Once the end, a reset or a fault of the bytes was told it is told again. After `Fault(OutOfMemory)` nothing is lost,
+    /// and it may be called again.
     pub fn take(&mut self) -> Taken
         ensures name { L.out_name self.new.rx ≡ L.out_name self.old.rx }
         // Of all messages that were taken so far.
@@ -289,6 +269,10 @@ impl<L: Lane<Item = InPiece>> Taker<L> {
             (λ t. (result ≡ telling t) × (self.new.progress ≡ self.old.progress) × (L.got self.new.rx ≡ L.got self.old.rx)) }
         ensures nothing { result ≡ taken.Nothing → IsUnfinished self.new.progress.splitter
             × (self.new.progress.shut ≡ None) × (self.new.progress.unread ≡ false) × (L.ahead self.new.rx ≡ []) }
+        // It polls only where the bytes that are held make no whole message and no fault, and no shut was polled.
+        ensures needed { (messages : List (List ℕ)) → Took (L.got self.old.rx) self.old.progress messages
+            → (items : List InPiece) × (L.got self.new.rx ≡ L.got self.old.rx ++ items)
+            × EachNeeded (L.got self.old.rx) items messages }
         ensures owed { (items : List InPiece) × (L.got self.new.rx ≡ L.got self.old.rx ++ items)
             × (self.new.progress.owed ≡ min (self.old.progress.owed + length (bytes_of items)) 4294967295) }
     {
@@ -327,6 +311,10 @@ impl<L: Lane<Item = InPiece>> Taker<L> {
         ensures tells { Tells result None self.new.progress.told }
         ensures nothing { result ≡ taken.Nothing → IsUnfinished self.new.progress.splitter
             × (self.new.progress.shut ≡ None) × (self.new.progress.unread ≡ false) × (L.ahead self.new.rx ≡ []) }
+        // It polls only where the bytes that are held make no whole message and no fault, and no shut was polled.
+        ensures needed { (messages : List (List ℕ)) → Took (L.got self.old.rx) self.old.progress messages
+            → (items : List InPiece) × (L.got self.new.rx ≡ L.got self.old.rx ++ items)
+            × EachNeeded (L.got self.old.rx) items messages }
         ensures owed { (items : List InPiece) × (L.got self.new.rx ≡ L.got self.old.rx ++ items)
             × (self.new.progress.owed ≡ min (self.old.progress.owed + length (bytes_of items)) 4294967295) }
     {

@@ -2,6 +2,8 @@
 use Rattle.std.proofs.Common.{◌≡◌, ℕ, List, [], ◌∷◌, ◌++◌, length, take, drop, sym, ◌∙◌, ap, refl, true, arith, length-append, Option, None, Some}
 use Rattle.std.proofs.lemmas.List.{take-append-drop}
 use Rattle.std.proofs.lemmas.Grind.{flat_map-append}
+use Rattle.std.specs.Option.{option_copied, MatchOption}
+use denote.Bor.{Bor}
 use mathlib.Core.List.{IsPrefix}
 use Rattle.lane.specs.Notes.{known_item, holds_item}
 use Rattle.lane.specs.KnownCells.{item_of, items_of}
@@ -32,6 +34,17 @@ last_of_push [] item = refl
 last_of_push (first ∷ []) item = refl
 last_of_push (first ∷ next ∷ items) item = last_of_push (next ∷ items) item
 
+-- without a last item there is none
+none_last : {T : Type 0} → (items : List T) → last_of items ≡ None → items ≡ []
+none_last [] e = refl
+none_last (item ∷ []) e = absurd cc
+none_last (item ∷ next ∷ items) e = let none = none_last (next ∷ items) e in absurd cc
+
+-- what is lent of the item that is kept
+pub lent_last : {T : Type 0} → (lent : Option (Bor T)) (kept : Option T) (items : List T) → option_copied lent ≡ kept → kept ≡ last_of items → MatchOption lent (items ≡ []) (λ r. last_of items ≡ Some r.now)
+lent_last None kept items is last = none_last items (sym last ∙ sym is)
+lent_last (Some r) kept items is last = sym last ∙ sym is
+
 items_of_push : {T : Type 0} → (front all : List (Known T)) (last : Known T) (item : T) → all ≡ front ++ last ∷ [] → item_of last ≡ item ∷ [] → items_of all ≡ items_of front ++ item ∷ []
 items_of_push {T} front all last item is has =
     ap (λ (known : List (Known T)). items_of known) is
@@ -40,14 +53,14 @@ items_of_push {T} front all last item is has =
 
 -- an item more
 pub one_more : {T : Type 0} → (front all : List (Known T)) (last same : Known T) (item : T) → all ≡ front ++ last ∷ [] → item_of same ≡ item_of last → item_of same ≡ item ∷ []
-    → (items_of all ≡ items_of front ++ item ∷ []) × (last_of (items_of all) ≡ Some item)
-one_more {T} front all last same item is known has =
-    let more = items_of_push front all last item is (sym known ∙ has) in
-    (more, ap (λ (items : List T). last_of items) more ∙ last_of_push (items_of front) item)
+    → items_of all ≡ items_of front ++ item ∷ []
+one_more front all last same item is known has = items_of_push front all last item is (sym known ∙ has)
 
 -- the last item once more
 pub last_again : {T : Type 0} → (front all put : List (Known T)) (last kept same : Known T) (item : T) → all ≡ front ++ last ∷ [] → put ≡ front ++ kept ∷ [] → item_of kept ≡ item_of last → item_of same ≡ item_of last → item_of same ≡ item ∷ []
     → (items_of put ≡ items_of all) × (last_of (items_of all) ≡ Some item)
 last_again {T} front all put last kept same item is after kept_same known has =
-    let more = one_more front all last same item is known has in
-    (items_of_push front put kept item after (kept_same ∙ sym known ∙ has) ∙ sym more.0, more.1)
+    let more = one_more front all last same item is known has in (
+      items_of_push front put kept item after (kept_same ∙ sym known ∙ has) ∙ sym more,
+      ap (λ (items : List T). last_of items) more ∙ last_of_push (items_of front) item,
+    )

@@ -1,10 +1,9 @@
 -- What the ends of a `RowLane` show.
-use Rattle.std.specs.Prelude.{◌≡◌, ℕ, ◌-◌, Bool, List, Option}
+use Rattle.std.specs.Prelude.{◌≡◌, ℕ, ◌-◌, Bool, List}
 use Rattle.std.proofs.Props.{props}
 use Rattle.std.specs.Arc.{arc_value}
 use Rattle.lane.specs.RingEnds.{RingName, slots_of, producer_name, consumer_name}
 use Rattle.lane.specs.KnownCells.{names_of, items_of}
-use Rattle.lane.specs.Lawful.{last_of}
 use Rattle.lane.specs.declared.row_lane.RowLaneIn.{RowLaneIn}
 use Rattle.lane.specs.declared.row_lane.RowLaneShut.{RowLaneShut}
 use Rattle.lane.specs.declared.row_lane.RowLaneOut.{RowLaneOut}
@@ -41,7 +40,3 @@ module _ {T : Type 0} where
 
   abbrev pub got : RowLaneOut T → List T
   got rx = items_of rx.got.items
-
-  -- the item that was polled last
-  abbrev pub held : RowLaneOut T → Option T
-  held rx = last_of (got rx)

@@ -16,6 +16,9 @@ pub struct Bell {
     //
     // Only who rings takes the 1 back, and then wakes all. So a thread that sleeps without it is woken,
     // and one that was about to sleep finds that the word has changed, and doesn't.
+    //
+    // A wait that timed out leaves the 1, and the next ring wakes nobody with a system call that it could have
+    // saved. Who wakes can't take the 1 back: it stands for all who sleep, and another would sleep on without it.
     word: AtomicU64,
 }
 

@@ -5,12 +5,12 @@
 //!
 //! `Settled`: `put` and `got` stop at 2^64 - 1, so equal counts there don't say that all was got; `left` is exact, and
 //! `left = 0` gives `got = put`.
-ghost use Rattle.std.specs.Prelude.{◌≡◌, ℕ, ◌+◌, ◌≤◌, ◌<◌, List, [], ◌∷◌, ◌++◌, Bool, length, ⊤, Option, None, Some, IfOk, OnOk, IfErr, OnErr, MatchOption, MatchBool};
+ghost use Rattle.std.specs.Prelude.{◌≡◌, ℕ, ◌+◌, ◌≤◌, ◌<◌, List, [], ◌∷◌, ◌++◌, Bool, length, ⊤, Some, IfOk, OnOk, IfErr, OnErr, MatchOption, MatchBool};
 ghost use Rattle.std.specs.Borrow.{sem};
 ghost use denote.Follow.{follows_so};
 ghost use mathlib.Core.Option.{none};
 ghost use Rattle.lane.specs.End.{of_end, has_last};
-ghost use Rattle.lane.specs.Lawful.{IsLawful, count_of};
+ghost use Rattle.lane.specs.Lawful.{IsLawful, count_of, last_of};
 ghost use Rattle.lane.specs.PutFault.{item_of, MayRefuse};
 
 use crate::fault::PutFault;
@@ -85,9 +85,6 @@ pub trait Lane {
     /// What the next polls give for sure.
     ghost ahead: { Self.Out → List Self.Item };
 
-    /// The item that was polled last.
-    ghost held: { Self.Out → Option Self.Item };
-
     /// Whether `put` refuses an item only where the queue is full.
     ghost only_fills: { Bool };
 
@@ -96,8 +93,17 @@ pub trait Lane {
         ensures name { IfOk result (λ r. in_name r.0 ≡ out_name r.1) }
         ensures room { IfOk result (λ r. room_of (in_name r.0) ≡ room) }
         ensures empty { IfOk result (λ r. (put_in r.0 ≡ []) × (got r.1 ≡ [])) }
-        ensures seen { IfOk result (λ r. seen_taken r.0 ≡ 0) }
-        ensures held { IfOk result (λ r. held r.1 ≡ None) };
+        ensures seen { IfOk result (λ r. seen_taken r.0 ≡ 0) };
+
+    /// Whether there is room for an item beside the last one: if not, how many of the items that were
+    /// put this end had not seen taken, in this call. After `Ok` the next `put` isn't `Full`. It takes no memory.
+    fn check_room(tx: &mut Self::In) -> Result<(), u64>
+        ensures name { in_name tx.new ≡ in_name tx.old }
+        ensures seen { seen_taken tx.old ≤ seen_taken tx.new }
+        ensures unchanged { put_in tx.new ≡ put_in tx.old }
+        ensures room { OnOk result (length (put_in tx.new) < room_of (in_name tx.new) + seen_taken tx.new) }
+        ensures full { IfErr result (λ waiting. (waiting + seen_taken tx.new ≡ length (put_in tx.new))
+            × (room_of (in_name tx.new) ≤ waiting)) };
 
     /// Puts the item behind all others, or hands it back.
     fn put(tx: &mut Self::In, item: Self::Item) -> Result<(), PutFault<Self::Item>>
@@ -127,16 +133,16 @@ pub trait Lane {
         ensures* after { sem 𝓛
             (follows_so Self.Out.row Self.Out.row rx.entry.ghost_name none (λ _ _. ⊤)
             (λ n. (out_name n ≡ out_name rx.old) × MatchOption result
-            ((got n ≡ got rx.old) × (held n ≡ held rx.old) × (ahead rx.old ≡ []) × (ahead n ≡ []))
-            (λ r. (got n ≡ got rx.old ++ r.now ∷ []) × (held n ≡ Some r.now)
+            ((got n ≡ got rx.old) × (ahead rx.old ≡ []) × (ahead n ≡ []))
+            (λ r. (got n ≡ got rx.old ++ r.now ∷ [])
             × (0 < length (ahead rx.old) → ahead rx.old ≡ r.now ∷ ahead n)))) };
 
-    /// The item that was polled last, once more, for a caller who could not make use of it. It takes no memory.
+    /// The item that was got last, once more, for a caller who could not make use of it. It takes no memory.
     fn again(rx: &mut Self::Out) -> Option<&Self::Item>
         ensures* after { sem 𝓛
             (follows_so Self.Out.row Self.Out.row rx.entry.ghost_name none (λ _ _. ⊤)
-            (λ n. (out_name n ≡ out_name rx.old) × (got n ≡ got rx.old) × (held n ≡ held rx.old) × (ahead n ≡ ahead rx.old)
-            × MatchOption result (held rx.old ≡ None) (λ r. held rx.old ≡ Some r.now))) };
+            (λ n. (out_name n ≡ out_name rx.old) × (got n ≡ got rx.old) × (ahead n ≡ ahead rx.old)
+            × MatchOption result (got rx.old ≡ []) (λ r. last_of (got rx.old) ≡ Some r.now))) };
 
     /// Brings the two ends of one `open` together.
     fn settle(end: End<Self::In, Self::Shut>, rx: Self::Out) -> Settled

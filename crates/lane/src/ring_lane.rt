@@ -6,7 +6,8 @@
 //! until the next poll that finds one.
 ghost use Rattle.std.specs.Prelude.{◌≡◌, ℕ, ◌+◌, ◌<◌, ◌≤◌, length};
 ghost use Rattle.rtrb.specs.Ring.{sent, known_free, producer_capacity, received, consumer_capacity};
-ghost use Rattle.lane.specs.Lawful.{count_of};
+ghost use Rattle.std.specs.Coded.{Coded-set, coded_option};
+ghost use Rattle.lane.specs.Lawful.{count_of, last_of};
 
 use crate::fault::PutFault;
 use crate::lane::{End, Lane, Settled};
@@ -42,9 +43,10 @@ pub struct RingLaneShut<T> {
 pub struct RingLaneOut<T> {
     consumer: Consumer<T>,
     count: u64,
-    // The item that was polled last, which the caller may still look at.
+    // The item that was got last, which the caller may still look at.
     polled: Option<T>,
     ghost counted: { count ≡ count_of (received consumer) },
+    ghost kept: { polled ≡ last_of (received consumer) } by { Coded-set (coded_option T.code) polled (last_of (received consumer)) },
 }
 
 /// A lane over a ring of `room + 1` slots, which is full until the reader takes an item. `put` takes
@@ -92,8 +94,6 @@ impl<T: Send + Sync + Drop> Lane for RingLane<T> {
 
     ghost ahead = { ahead };
 
-    ghost held = { λ rx. rx.polled };
-
     ghost only_fills = { true };
 
     fn open(alloc: Global, room: usize) -> Result<(RingLaneIn<T>, RingLaneOut<T>), AllocError> {
@@ -112,9 +112,15 @@ impl<T: Send + Sync + Drop> Lane for RingLane<T> {
         Ok((tx, rx))
     }
 
-    fn put(tx: &mut RingLaneIn<T>, item: T) -> Result<(), PutFault<T>> {
+    fn check_room(tx: &mut RingLaneIn<T>) -> Result<(), u64> {
         if tx.producer.cached_slots() < 2 && tx.producer.slots() < 2 {
-            let waiting = tx.room as u64;
+            return Err(tx.room as u64);
+        }
+        Ok(())
+    }
+
+    fn put(tx: &mut RingLaneIn<T>, item: T) -> Result<(), PutFault<T>> {
+        if let Err(waiting) = Self::check_room(tx) {
             return Err(PutFault::Full { item, waiting });
         }
         tx.producer.push_reserved(item);
@@ -195,7 +201,7 @@ impl<T> RingLane<T> {
     ghost use Rattle.lane.specs.RingLane.{in_name, out_name, put_in, seen_taken, got, ahead};
 
     /// What was got, and then as many items as it answers, which `poll` gives from now on, are
-    /// what was put.
+    /// what was put. `again` still lends the item that was got last.
     pub fn meet(tx: &mut RingLaneIn<T>, rx: &mut RingLaneOut<T>) -> u64
         requires { in_name tx.old ≡ out_name rx.old }
         ensures writer { (in_name tx.new ≡ in_name tx.old) × (put_in tx.new ≡ put_in tx.old) }

@@ -77,7 +77,7 @@ impl<T: Send + Sync + Drop> Lane for RowLane<T> {
     ghost use Rattle.std.specs.Prelude.{[], false};
     ghost use Rattle.lane.specs.End.{of_end, has_last};
     ghost use Rattle.lane.specs.Lawful.{IsLawful, count_of};
-    ghost use Rattle.lane.specs.RowLane.{RowName, RowName_set, room_of, in_name, shut_name, out_name, put_in, put_shut, was_placed, got, held};
+    ghost use Rattle.lane.specs.RowLane.{RowName, RowName_set, room_of, in_name, shut_name, out_name, put_in, put_shut, was_placed, got};
 
     type Item = T;
 
@@ -111,8 +111,6 @@ impl<T: Send + Sync + Drop> Lane for RowLane<T> {
 
     ghost ahead = { λ _. [] };
 
-    ghost held = { held };
-
     ghost only_fills = { false };
 
     fn open(alloc: Global, room: usize) -> Result<(RowLaneIn<T>, RowLaneOut<T>), AllocError> {
@@ -138,6 +136,14 @@ impl<T: Send + Sync + Drop> Lane for RowLane<T> {
             marked: 0,
         };
         Ok((tx, rx))
+    }
+
+    fn check_room(tx: &mut RowLaneIn<T>) -> Result<(), u64> {
+        if tx.put.len() < tx.room {
+            Ok(())
+        } else {
+            Err(tx.room as u64)
+        }
     }
 
     fn put(tx: &mut RowLaneIn<T>, item: T) -> Result<(), PutFault<T>> {

@@ -7,12 +7,11 @@ use Rattle.std.proofs.lemmas.List.{append-nil, nil_from_length, length-take, dro
 use Rattle.std.specs.List.{All}
 use Rattle.std.proofs.lemmas.List.Elements.{All-push}
 use Rattle.std.proofs.lemmas.List.Folds.{concat-append}
-use Rattle.lpm.specs.declared.TheConstants.{MAX_MESSAGE_LEN}
 use Rattle.lpm.specs.declared.fault.LpmFault.{LpmFault}
 use Rattle.lpm.specs.declared.fault.LpmFault.TheVariants.{Compressed, BadFlag, TooLong, CutAtEnd, OutOfMemory}
 use Rattle.lpm.specs.declared.splitter.Split.{Split}
 use Rattle.lpm.specs.declared.splitter.Split.TheVariants.{Message, More, Fault}
-use Rattle.lpm.specs.Messages.{frame, frames, announced, IsMessage, IsUnfinished, IsFaulty, IsFaultyAfter, AreBytes}
+use Rattle.lpm.specs.Messages.{max_message_len, frame, frames, announced, IsMessage, IsUnfinished, IsFaulty, IsFaultyAfter, AreBytes}
 use Rattle.lpm.specs.Splits.{Stands, Answers, Continues}
 use Rattle.lpm.specs.Fronts.{extent_of, Extends, IsExtent, TakesFront, waiting}
 use Rattle.lpm.proofs.Fronts.{AreBytes-take, is_framed}
@@ -20,7 +19,7 @@ use Rattle.lpm.proofs.Readings.{IsFaulty-longer, frames-push}
 
 -- ---- what `extent_of` means
 
-extends_whole : (bytes : List ℕ) → AreBytes bytes → announced bytes ≤ MAX_MESSAGE_LEN → 4 + announced bytes ≤ length bytes
+extends_whole : (bytes : List ℕ) → AreBytes bytes → announced bytes ≤ max_message_len → 4 + announced bytes ≤ length bytes
     → IsMessage (drop 5 (take (5 + announced bytes) (0 ∷ bytes))) × (0 ∷ bytes ≡ frame (drop 5 (take (5 + announced bytes) (0 ∷ bytes))) ++ drop (5 + announced bytes) (0 ∷ bytes))
 extends_whole bytes fits lawful long =
     let n = announced bytes in
@@ -28,12 +27,12 @@ extends_whole bytes fits lawful long =
     let rest : drop (5 + n) (0 ∷ bytes) ≡ drop n (drop 4 bytes) = sym (drop-drop n 5 (0 ∷ bytes)) in
     (rw message (omega (arith, length-take n (drop 4 bytes), lawful)), rw (message, rest) (is_framed bytes (AreBytes-take 4 bytes fits) long))
 
-extent_is_length : (flag : ℕ) (bytes : List ℕ) → flag ≡ 0 → AreBytes bytes → IsExtent (flag ∷ bytes) (cond (ltb (length bytes) 4) (Ok 5) (cond (ltb MAX_MESSAGE_LEN (announced bytes)) (Err TooLong) (Ok (5 + announced bytes))))
+extent_is_length : (flag : ℕ) (bytes : List ℕ) → flag ≡ 0 → AreBytes bytes → IsExtent (flag ∷ bytes) (cond (ltb (length bytes) 4) (Ok 5) (cond (ltb max_message_len (announced bytes)) (Err TooLong) (Ok (5 + announced bytes))))
 extent_is_length flag bytes zero_flag fits = elim (cases_lt (length bytes) 4) [
   | inl lt ↦ rw (lt-ltb (length bytes) 4 lt) (record { prefix = omega arith; unfinished = λ _. (zero_flag, λ le. absurd (omega (arith, le, lt))); whole = λ le. absurd (omega (arith, le, lt)) })
-  | inr le ↦ rw (le-ltb (length bytes) 4 le) (elim (cases_lt MAX_MESSAGE_LEN (announced bytes)) [
-    | inl over ↦ rw (lt-ltb MAX_MESSAGE_LEN (announced bytes) over) (zero_flag, le, over)
-    | inr lawful ↦ rw (le-ltb MAX_MESSAGE_LEN (announced bytes) lawful) (record {
+  | inr le ↦ rw (le-ltb (length bytes) 4 le) (elim (cases_lt max_message_len (announced bytes)) [
+    | inl over ↦ rw (lt-ltb max_message_len (announced bytes) over) (zero_flag, le, over)
+    | inr lawful ↦ rw (le-ltb max_message_len (announced bytes) lawful) (record {
       prefix = omega arith;
       unfinished = λ few. (zero_flag, λ _. (lawful, omega (arith, few)));
       whole = λ all. rw zero_flag (extends_whole bytes fits lawful (omega (arith, all)));
@@ -88,17 +87,17 @@ announced-read flag (a ∷ b ∷ c ∷ []) n le e = absurd (omega (arith, le))
 abbrev pub read_len : List ℕ → ℕ
 read_len bytes = from_be_bytes w32 (get_or bytes 1 0 ∷ get_or bytes 2 0 ∷ get_or bytes 3 0 ∷ get_or bytes 4 0 ∷ [])
 
-pub extent_of-too_long : (bytes : List ℕ) (n : ℕ) → get_or bytes 0 0 ≡ 0 → 5 ≤ length bytes → n ≡ read_len bytes → MAX_MESSAGE_LEN < n → extent_of bytes ≡ Err TooLong
+pub extent_of-too_long : (bytes : List ℕ) (n : ℕ) → get_or bytes 0 0 ≡ 0 → 5 ≤ length bytes → n ≡ read_len bytes → max_message_len < n → extent_of bytes ≡ Err TooLong
 unfolding extent_of
 extent_of-too_long [] n e long is over = absurd (omega (arith, long))
 extent_of-too_long (flag ∷ bytes) n e long is over =
-    rw (eq-eqb flag 0 e, le-ltb (length bytes) 4 (omega (arith, long)), announced-read flag bytes n (omega (arith, long)) is, lt-ltb MAX_MESSAGE_LEN n over) refl
+    rw (eq-eqb flag 0 e, le-ltb (length bytes) 4 (omega (arith, long)), announced-read flag bytes n (omega (arith, long)) is, lt-ltb max_message_len n over) refl
 
-pub extent_of-lawful : (bytes : List ℕ) (n : ℕ) → get_or bytes 0 0 ≡ 0 → 5 ≤ length bytes → n ≡ read_len bytes → n ≤ MAX_MESSAGE_LEN → extent_of bytes ≡ Ok (5 + n)
+pub extent_of-lawful : (bytes : List ℕ) (n : ℕ) → get_or bytes 0 0 ≡ 0 → 5 ≤ length bytes → n ≡ read_len bytes → n ≤ max_message_len → extent_of bytes ≡ Ok (5 + n)
 unfolding extent_of
 extent_of-lawful [] n e long is lawful = absurd (omega (arith, long))
 extent_of-lawful (flag ∷ bytes) n e long is lawful =
-    rw (eq-eqb flag 0 e, le-ltb (length bytes) 4 (omega (arith, long)), announced-read flag bytes n (omega (arith, long)) is, le-ltb MAX_MESSAGE_LEN n lawful) refl
+    rw (eq-eqb flag 0 e, le-ltb (length bytes) 4 (omega (arith, long)), announced-read flag bytes n (omega (arith, long)) is, le-ltb max_message_len n lawful) refl
 
 -- ---- answers
 

@@ -4,10 +4,9 @@ use Rattle.std.specs.Int.{w32, from_be_bytes, to_be_bytes}
 use Rattle.std.proofs.lemmas.Bool.{cases_lt, cases_eq, lt-ltb, le-ltb, eq-eqb, ne_eqb}
 use Rattle.std.proofs.lemmas.List.{take_at, drop_at, take-append-drop, length-append, length-take, length-drop, get_or-take, get_or_past}
 use Rattle.std.proofs.lemmas.Nat.{be_bytes_4, from_be_bytes-to_be_bytes_4}
-use Rattle.lpm.specs.declared.TheConstants.{MAX_MESSAGE_LEN}
 use Rattle.lpm.specs.declared.fault.LpmFault.{LpmFault}
 use Rattle.lpm.specs.declared.fault.LpmFault.TheVariants.{Compressed, BadFlag, TooLong, CutAtEnd, OutOfMemory}
-use Rattle.lpm.specs.Messages.{frame, announced, IsMessage, IsUnfinished, IsFaulty, AreBytes}
+use Rattle.lpm.specs.Messages.{max_message_len, frame, announced, IsMessage, IsUnfinished, IsFaulty, AreBytes}
 use Rattle.lpm.specs.Reading.{Front, Whole, Unfinished, Faulty, front_of_message, front_of_length, front_of}
 
 pub length-frame : (message : List ℕ) → length (frame message) ≡ 5 + length message
@@ -40,7 +39,7 @@ front_of_length-header header rest e =
 front_of_message-whole : (message rest : List ℕ) → IsMessage message → front_of_message (length message) (message ++ rest) ≡ Whole message rest
 unfolding front_of_message
 front_of_message-whole message rest fits =
-    let lawful : ltb MAX_MESSAGE_LEN (length message) ≡ false = le-ltb _ _ fits in
+    let lawful : ltb max_message_len (length message) ≡ false = le-ltb _ _ fits in
     let all : ltb (length (message ++ rest)) (length message) ≡ false = le-ltb _ _ (omega (arith, length-append message rest)) in
     rw (lawful, all, take_at message rest (length message) refl, drop_at message rest (length message) refl) refl
 
@@ -52,12 +51,12 @@ front_of-frame message rest fits =
     ∙ ap (λ (n : ℕ). front_of_message n (message ++ rest)) (from_be_bytes-to_be_bytes_4 (length message) (omega (arith, fits)))
     ∙ front_of_message-whole message rest fits
 
-front_of_length-unfinished : (bytes : List ℕ) → (4 ≤ length bytes → (announced bytes ≤ MAX_MESSAGE_LEN) × (length bytes < 4 + announced bytes)) → front_of_length bytes ≡ Unfinished
+front_of_length-unfinished : (bytes : List ℕ) → (4 ≤ length bytes → (announced bytes ≤ max_message_len) × (length bytes < 4 + announced bytes)) → front_of_length bytes ≡ Unfinished
 unfolding front_of_length front_of_message
 front_of_length-unfinished bytes h = elim (cases_lt (length bytes) 4) [
   | inl lt ↦ rw (lt-ltb (length bytes) 4 lt) refl
   | inr le ↦
-      let lawful : ltb MAX_MESSAGE_LEN (announced bytes) ≡ false = le-ltb _ _ (h le).0 in
+      let lawful : ltb max_message_len (announced bytes) ≡ false = le-ltb _ _ (h le).0 in
       let few : ltb (length (drop 4 bytes)) (announced bytes) ≡ true = lt-ltb _ _ (omega (arith, length-drop 4 bytes, (h le).1, le)) in
       rw (le-ltb (length bytes) 4 le, lawful, few) refl
 ]
@@ -72,7 +71,7 @@ unfolding front_of front_of_length front_of_message
 front_of-faulty [] fault h = absurd h
 front_of-faulty (flag ∷ bytes) Compressed h = rw (ne_eqb flag 0 (λ e. omega (arith, e, h)), eq-eqb flag 1 h) refl
 front_of-faulty (flag ∷ bytes) BadFlag h = rw (ne_eqb flag 0 (λ e. omega (arith, e, h)), ne_eqb flag 1 (λ e. omega (arith, e, h))) refl
-front_of-faulty (flag ∷ bytes) TooLong h = rw (eq-eqb flag 0 h.0, le-ltb (length bytes) 4 h.1, lt-ltb MAX_MESSAGE_LEN (announced bytes) h.2) refl
+front_of-faulty (flag ∷ bytes) TooLong h = rw (eq-eqb flag 0 h.0, le-ltb (length bytes) 4 h.1, lt-ltb max_message_len (announced bytes) h.2) refl
 front_of-faulty (flag ∷ bytes) CutAtEnd h = absurd h
 front_of-faulty (flag ∷ bytes) OutOfMemory h = absurd h
 
@@ -103,9 +102,9 @@ front_is_length : (flag : ℕ) (bytes : List ℕ) → flag ≡ 0 → AreBytes by
 unfolding front_of_length front_of_message
 front_is_length flag bytes zero_flag fits = elim (cases_lt (length bytes) 4) [
   | inl lt ↦ rw (lt-ltb (length bytes) 4 lt) (zero_flag, λ le. absurd (omega (arith, le, lt)))
-  | inr le ↦ rw (le-ltb (length bytes) 4 le) (elim (cases_lt MAX_MESSAGE_LEN (announced bytes)) [
-    | inl over ↦ rw (lt-ltb MAX_MESSAGE_LEN (announced bytes) over) (zero_flag, le, over)
-    | inr lawful ↦ rw (le-ltb MAX_MESSAGE_LEN (announced bytes) lawful) (elim (cases_lt (length (drop 4 bytes)) (announced bytes)) [
+  | inr le ↦ rw (le-ltb (length bytes) 4 le) (elim (cases_lt max_message_len (announced bytes)) [
+    | inl over ↦ rw (lt-ltb max_message_len (announced bytes) over) (zero_flag, le, over)
+    | inr lawful ↦ rw (le-ltb max_message_len (announced bytes) lawful) (elim (cases_lt (length (drop 4 bytes)) (announced bytes)) [
       | inl few ↦ rw (lt-ltb (length (drop 4 bytes)) (announced bytes) few) (zero_flag, λ _. (lawful, omega (arith, length-drop 4 bytes, few, le)))
       | inr all ↦ rw (le-ltb (length (drop 4 bytes)) (announced bytes) all)
           (omega (arith, length-take (announced bytes) (drop 4 bytes), lawful), rw zero_flag (is_framed bytes (AreBytes-take 4 bytes fits) (omega (arith, length-drop 4 bytes, all, le))))

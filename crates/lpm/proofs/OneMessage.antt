@@ -5,9 +5,8 @@ use Rattle.std.specs.Prelude.{IsTrue, ◌↔◌}
 use Rattle.std.proofs.lemmas.Bool.{cases_eq, eq-eqb, ne_eqb, le-ltb, false_from_ne_true}
 use Rattle.std.proofs.lemmas.List.{append-nil, take_at, length-append}
 use Rattle.std.proofs.lemmas.Nat.{from_be_bytes-to_be_bytes_4}
-use Rattle.lpm.specs.declared.TheConstants.{MAX_MESSAGE_LEN}
 use Rattle.lpm.specs.declared.fault.LpmFault.{LpmFault}
-use Rattle.lpm.specs.Messages.{frame, announced, IsMessage, IsFrame, AreBytes}
+use Rattle.lpm.specs.Messages.{max_message_len, frame, announced, IsMessage, IsFrame, AreBytes}
 use Rattle.lpm.specs.Reading.{Front, Whole, Unfinished, Faulty, front_of, is_alone, is_frame}
 use Rattle.lpm.specs.Fronts.{extent_of}
 use Rattle.lpm.proofs.Fronts.{AreBytes-take, length-frame, frame-append, IsFront, front_of-frame, front_is}
@@ -23,7 +22,7 @@ unfolding extent_of
 extent_of-frame message fits =
     let behind = to_be_bytes w32 (length message) ++ (message ++ []) in
     let long : ltb (length behind) 4 ≡ false = le-ltb _ _ (omega (arith, length-append (to_be_bytes w32 (length message)) (message ++ []))) in
-    let lawful : ltb MAX_MESSAGE_LEN (length message) ≡ false = le-ltb _ _ fits in
+    let lawful : ltb max_message_len (length message) ≡ false = le-ltb _ _ fits in
     ap extent_of (sym (append-nil (frame message)) ∙ frame-append message []) ∙ rw (long, announced-frame message fits, lawful) refl
 
 pub is_frame-IsFrame : (bytes : List ℕ) → IsFrame bytes → is_frame bytes ≡ true

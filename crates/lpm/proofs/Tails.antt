@@ -5,11 +5,10 @@ use Rattle.std.proofs.lemmas.Bool.{cases_lt, cases_eq, lt-ltb, le-ltb, eq-eqb, n
 use Rattle.std.proofs.lemmas.List.{append-nil, length-append, length-take, length-drop, take_all, take-take, take-append-drop, take-append-le, take_more, drop_all, nil_from_length}
 use Rattle.std.proofs.lemmas.List.Folds.{concat-append}
 use Rattle.std.proofs.lemmas.List.Elements.{All-push}
-use Rattle.lpm.specs.declared.TheConstants.{MAX_MESSAGE_LEN}
 use Rattle.lpm.specs.declared.fault.LpmFault.{LpmFault}
 use Rattle.lpm.specs.declared.fault.LpmFault.TheVariants.{Compressed, BadFlag, TooLong}
 use Rattle.lpm.specs.declared.tail.Tail.{Tail}
-use Rattle.lpm.specs.Messages.{frame, frames, announced, IsMessage, IsUnfinished, IsFaulty, AreBytes, IsCut, IsNotCut}
+use Rattle.lpm.specs.Messages.{max_message_len, frame, frames, announced, IsMessage, IsUnfinished, IsFaulty, AreBytes, IsCut, IsNotCut}
 use Rattle.lpm.specs.Fronts.{extent_of}
 use Rattle.lpm.specs.Tails.{Leaves, IsFaultySomewhere}
 use Rattle.lpm.proofs.Fronts.{is_framed}
@@ -19,15 +18,15 @@ use Rattle.lpm.proofs.Readings.{IsFaulty-longer, IsFaultyAfter-longer, frames-pu
 
 -- why an extent is what it is
 abbrev Because : ℕ → List ℕ → Result ℕ LpmFault → Type 0
-Because flag bytes (Ok n) = (flag ≡ 0) × (((length bytes < 4) × (n ≡ 5)) ⊎ ((4 ≤ length bytes) × (announced bytes ≤ MAX_MESSAGE_LEN) × (n ≡ 5 + announced bytes)))
+Because flag bytes (Ok n) = (flag ≡ 0) × (((length bytes < 4) × (n ≡ 5)) ⊎ ((4 ≤ length bytes) × (announced bytes ≤ max_message_len) × (n ≡ 5 + announced bytes)))
 Because flag bytes (Err fault) = Unit {0}
 
-because_length : (flag : ℕ) (bytes : List ℕ) → flag ≡ 0 → Because flag bytes (cond (ltb (length bytes) 4) (Ok 5) (cond (ltb MAX_MESSAGE_LEN (announced bytes)) (Err TooLong) (Ok (5 + announced bytes))))
+because_length : (flag : ℕ) (bytes : List ℕ) → flag ≡ 0 → Because flag bytes (cond (ltb (length bytes) 4) (Ok 5) (cond (ltb max_message_len (announced bytes)) (Err TooLong) (Ok (5 + announced bytes))))
 because_length flag bytes z = elim (cases_lt (length bytes) 4) [
   | inl lt ↦ rw (lt-ltb (length bytes) 4 lt) (z, inl (lt, refl))
-  | inr le ↦ rw (le-ltb (length bytes) 4 le) (elim (cases_lt MAX_MESSAGE_LEN (announced bytes)) [
-    | inl over ↦ rw (lt-ltb MAX_MESSAGE_LEN (announced bytes) over) tt
-    | inr lawful ↦ rw (le-ltb MAX_MESSAGE_LEN (announced bytes) lawful) (z, inr (le, lawful, refl))
+  | inr le ↦ rw (le-ltb (length bytes) 4 le) (elim (cases_lt max_message_len (announced bytes)) [
+    | inl over ↦ rw (lt-ltb max_message_len (announced bytes) over) tt
+    | inr lawful ↦ rw (le-ltb max_message_len (announced bytes) lawful) (z, inr (le, lawful, refl))
   ])
 ]
 
@@ -72,7 +71,7 @@ unfinished_from (flag ∷ bytes) n e lt =
       ],
     )
 
-whole_behind : (bytes : List ℕ) → AreBytes (take 4 bytes) → announced bytes ≤ MAX_MESSAGE_LEN → length bytes ≡ 4 + announced bytes → IsMessage (drop 4 bytes) × (0 ∷ bytes ≡ frame (drop 4 bytes))
+whole_behind : (bytes : List ℕ) → AreBytes (take 4 bytes) → announced bytes ≤ max_message_len → length bytes ≡ 4 + announced bytes → IsMessage (drop 4 bytes) × (0 ∷ bytes ≡ frame (drop 4 bytes))
 whole_behind bytes fits lawful len =
     let n = announced bytes in
     let message : take n (drop 4 bytes) ≡ drop 4 bytes = take_all n (drop 4 bytes) (omega (arith, length-drop 4 bytes, len)) in

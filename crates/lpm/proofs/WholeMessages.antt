@@ -4,9 +4,8 @@ use Rattle.std.specs.List.{All}
 use Rattle.std.proofs.lemmas.Bool.{cases_lt, cases_eq, lt-ltb, le-ltb, eq-eqb, ne_eqb}
 use Rattle.std.proofs.lemmas.List.{length-append, length-drop}
 use Rattle.std.proofs.lemmas.List.Elements.{All-head, All-tail}
-use Rattle.lpm.specs.declared.TheConstants.{MAX_MESSAGE_LEN}
 use Rattle.lpm.specs.declared.fault.LpmFault.TheVariants.{Compressed, BadFlag}
-use Rattle.lpm.specs.Messages.{frame, frames, announced, IsMessage}
+use Rattle.lpm.specs.Messages.{max_message_len, frame, frames, announced, IsMessage}
 use Rattle.lpm.specs.Reading.{Front, Whole, Unfinished, Faulty, front_of_message, front_of_length, front_of, Reading, ended, with_front, reading_behind, reading_within, reading_of}
 use Rattle.lpm.proofs.Fronts.{front_of-frame}
 use Rattle.lpm.proofs.Readings.{frames-cons}
@@ -19,9 +18,9 @@ IsShorter len (Faulty fault) = Unit {0}
 
 front_shorter_message : (n : ℕ) (bytes : List ℕ) (len : ℕ) → length bytes < len → IsShorter len (front_of_message n bytes)
 unfolding front_of_message
-front_shorter_message n bytes len lt = elim (cases_lt MAX_MESSAGE_LEN n) [
-  | inl over ↦ rw (lt-ltb MAX_MESSAGE_LEN n over) tt
-  | inr lawful ↦ rw (le-ltb MAX_MESSAGE_LEN n lawful) (elim (cases_lt (length bytes) n) [
+front_shorter_message n bytes len lt = elim (cases_lt max_message_len n) [
+  | inl over ↦ rw (lt-ltb max_message_len n over) tt
+  | inr lawful ↦ rw (le-ltb max_message_len n lawful) (elim (cases_lt (length bytes) n) [
     | inl few ↦ rw (lt-ltb (length bytes) n few) tt
     | inr all ↦ rw (le-ltb (length bytes) n all) (omega (arith, length-drop n bytes, lt))
   ])

@@ -1,12 +1,11 @@
 -- How far the message at the front of some bytes goes. The words of the crate's own functions.
 use Rattle.std.specs.Prelude.{◌≡◌, ℕ, ◌+◌, ◌*◌, ◌<◌, ◌≤◌, ◌==◌, nat_lt, if◌then◌else◌, List, [], ◌∷◌, ◌++◌, length, take, drop, Result, Ok, Err}
 use Rattle.std.specs.List.{concat}
-use Rattle.lpm.specs.declared.TheConstants.{MAX_MESSAGE_LEN}
 use Rattle.lpm.specs.declared.fault.LpmFault.{LpmFault}
 use Rattle.lpm.specs.declared.fault.LpmFault.TheVariants.{Compressed, BadFlag, TooLong, OutOfMemory}
 use Rattle.lpm.specs.declared.splitter.Split.{Split}
 use Rattle.lpm.specs.declared.splitter.Split.TheVariants.{Message, More, Fault}
-use Rattle.lpm.specs.Messages.{frame, announced, IsMessage, IsUnfinished, IsFaulty}
+use Rattle.lpm.specs.Messages.{max_message_len, frame, announced, IsMessage, IsUnfinished, IsFaulty}
 
 -- how many bytes the message at the front has with its prefix, as far as these bytes say, or what is wrong with it
 unfoldable pub extent_of : List ℕ → Result ℕ LpmFault
@@ -14,7 +13,7 @@ extent_of [] = Ok 5
 extent_of (flag ∷ bytes) =
     if flag == 0
     then (if nat_lt (length bytes) 4 then Ok 5
-    else (if nat_lt MAX_MESSAGE_LEN (announced bytes) then Err TooLong else Ok (5 + announced bytes)))
+    else (if nat_lt max_message_len (announced bytes) then Err TooLong else Ok (5 + announced bytes)))
     else (if flag == 1 then Err Compressed else Err BadFlag)
 
 -- what a number of bytes says of the message at the front

@@ -4,7 +4,6 @@
 use Rattle.std.specs.Prelude.{◌≡◌, ℕ, ◌+◌, ◌<◌, ◌≤◌, List, [], ◌∷◌, ◌++◌, length, take, slice_index, All, ◌⊎◌}
 use Rattle.std.specs.List.{flat_map}
 use Rattle.std.specs.Int.{w32, to_be_bytes, from_be_bytes}
-use Rattle.lpm.specs.declared.TheConstants.{MAX_MESSAGE_LEN}
 use Rattle.lpm.specs.declared.fault.LpmFault.{LpmFault}
 use Rattle.lpm.specs.declared.fault.LpmFault.TheVariants.{Compressed, BadFlag, TooLong, CutAtEnd, OutOfMemory}
 
@@ -16,9 +15,13 @@ frame message = 0 ∷ to_be_bytes w32 (length message) ++ message
 abbrev pub frames : List (List ℕ) → List ℕ
 frames messages = flat_map frame messages
 
+-- how many bytes a message may have, 4 MiB; a law says that the constant of the program is this number
+abbrev pub max_message_len : ℕ
+max_message_len = 4194304
+
 -- no longer than a message may be
 abbrev pub IsMessage : List ℕ → Type 0
-IsMessage message = length message ≤ MAX_MESSAGE_LEN
+IsMessage message = length message ≤ max_message_len
 
 -- these bytes are one message with its prefix, and nothing else
 abbrev pub IsFrame : List ℕ → Type 0
@@ -32,14 +35,14 @@ announced bytes = from_be_bytes w32 (take 4 bytes)
 abbrev pub IsUnfinished : List ℕ → Type 0
 IsUnfinished [] = Unit {0}
 IsUnfinished (flag ∷ bytes) =
-    (flag ≡ 0) × (4 ≤ length bytes → (announced bytes ≤ MAX_MESSAGE_LEN) × (length bytes < 4 + announced bytes))
+    (flag ≡ 0) × (4 ≤ length bytes → (announced bytes ≤ max_message_len) × (length bytes < 4 + announced bytes))
 
 -- What can't go on as a message: another flag, or the flag 0 and a length over the limit. No other fault is in bytes.
 abbrev pub IsFaulty : List ℕ → LpmFault → Type 0
 IsFaulty [] fault = ⊥
 IsFaulty (flag ∷ bytes) Compressed = flag ≡ 1
 IsFaulty (flag ∷ bytes) BadFlag = 2 ≤ flag
-IsFaulty (flag ∷ bytes) TooLong = (flag ≡ 0) × (4 ≤ length bytes) × (MAX_MESSAGE_LEN < announced bytes)
+IsFaulty (flag ∷ bytes) TooLong = (flag ≡ 0) × (4 ≤ length bytes) × (max_message_len < announced bytes)
 IsFaulty (flag ∷ bytes) CutAtEnd = ⊥
 IsFaulty (flag ∷ bytes) OutOfMemory = ⊥
 

@@ -1,10 +1,9 @@
 -- The one list of messages that bytes spell, computed. What it has to be is said by `Spells` and `IsFaultyAfter`; that
 -- one of them holds of it, and of no other list, is the law of `one_reading`.
 use Rattle.std.specs.Prelude.{ℕ, zero, suc, Bool, true, false, ◌==◌, nat_lt, if◌then◌else◌, List, [], ◌∷◌, length, take, drop, Option, Some, None}
-use Rattle.lpm.specs.declared.TheConstants.{MAX_MESSAGE_LEN}
 use Rattle.lpm.specs.declared.fault.LpmFault.{LpmFault}
 use Rattle.lpm.specs.declared.fault.LpmFault.TheVariants.{Compressed, BadFlag, TooLong}
-use Rattle.lpm.specs.Messages.{announced}
+use Rattle.lpm.specs.Messages.{max_message_len, announced}
 
 -- what stands at the front of some bytes
 pub data Front : Type 0 where
@@ -15,7 +14,7 @@ pub data Front : Type 0 where
 -- behind a lawful header
 unfoldable pub front_of_message : ℕ → List ℕ → Front
 front_of_message len bytes =
-    if nat_lt MAX_MESSAGE_LEN len
+    if nat_lt max_message_len len
     then Faulty TooLong
     else (if nat_lt (length bytes) len then Unfinished else Whole (take len bytes) (drop len bytes))
 

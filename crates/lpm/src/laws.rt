@@ -2,7 +2,8 @@
 
 ghost use Rattle.std.specs.Prelude.{◌≡◌, ℕ, List, ◌++◌, Some, None, MatchOption, All};
 ghost use Rattle.lpm.specs.declared.fault.LpmFault.{LpmFault};
-ghost use Rattle.lpm.specs.Messages.{frames, IsMessage, Spells, IsFaultyAfter, AreBytes};
+ghost use Rattle.lpm.specs.declared.TheConstants.{MAX_MESSAGE_LEN};
+ghost use Rattle.lpm.specs.Messages.{max_message_len, frames, IsMessage, Spells, IsFaultyAfter, AreBytes};
 ghost use Rattle.lpm.specs.Reading.{messages_of, rest_of, fault_of};
 
 /// Of every list of bytes exactly one holds: it spells messages and an unfinished rest, or it is faulty behind
@@ -30,4 +31,9 @@ pub fn longer_reading()
         × (fault_of (frames messages ++ rest) ≡ fault_of rest) }
     ensures fault { (bytes more : List ℕ) (messages : List (List ℕ)) (fault : LpmFault)
         → IsFaultyAfter bytes messages fault → IsFaultyAfter (bytes ++ more) messages fault }
+{}
+
+/// The longest message that the program reads or writes is the longest of the definitions.
+pub fn longest_message()
+    ensures { MAX_MESSAGE_LEN ≡ max_message_len }
 {}

@@ -34,17 +34,27 @@ fn len_of(taken: &Taken) -> Option<usize> {
 #[test]
 fn what_was_polled_is_kept(rt: HostRuntime) -> Result<(), Fail> {
     let alloc = rt.alloc();
-    let (mut feeder, mut taker) = open_in::<RingLane<InPiece>>(alloc, 2)?;
+    let (mut feeder, mut taker) = open_in::<RingLane<InPiece>>(alloc, 3)?;
     assert!(rt; feeder.feed(owned(alloc, &[0, 0, 0])?).is_ok());
-    assert!(rt; feeder.feed(owned(alloc, &[0, 1, 0x41])?).is_ok());
+    assert!(rt;
+        feeder
+            .feed(owned(alloc, &[0, 1, 0x41, 0, 0, 0, 0, 0])?)
+            .is_ok()
+    );
+    assert!(rt; feeder.feed(owned(alloc, &[0, 0, 0, 0, 0])?).is_ok());
     assert_eq!(rt; len_of(&take_patiently(&mut taker)), Some(1));
-    assert_eq!(rt; taker.credit(), 6);
+    assert_eq!(rt; taker.credit(), 11);
+    // The second message came whole with the first, so no other piece is polled for it.
+    assert_eq!(rt; len_of(&take_patiently(&mut taker)), Some(0));
+    assert_eq!(rt; taker.credit(), 0);
+    assert_eq!(rt; len_of(&take_patiently(&mut taker)), Some(0));
+    assert_eq!(rt; taker.credit(), 5);
     let shut = feeder.end();
     assert!(rt; matches!(take_patiently(&mut taker), Taken::End));
     let wanted = InAccount {
-        fed: 6,
+        fed: 16,
         shut: Some(Shut::End),
-        taken: 1,
+        taken: 3,
         told: Some(Told::End),
     };
     assert_eq!(rt; settle_in(End::Shut(shut), taker), wanted);

@@ -22,18 +22,32 @@ fn a_wait_ends_by_an_earlier_ring_or_the_limit(rt: HostRuntime) -> Result<(), Fa
     Ok(())
 }
 
-// Waits at the bell until the count has come to `turn`, in so many rounds of two threads.
+// Waits at the bell until the count has come so far.
+fn wait_until(rt: &impl Wait, bell: &Bell, count: &AtomicU64, least: u64) {
+    for _ in rt.forever() {
+        let mark = bell.mark();
+        if count.load(Ordering::SeqCst) >= least {
+            break;
+        }
+        bell.wait_past(rt, mark, Duration::from_secs(20));
+    }
+}
+
+// Counts in turn with another thread, at one bell.
 fn take_turns(rt: &impl Wait, bell: &Bell, count: &AtomicU64, first: u32, rounds: u32) {
     for round in 0..rounds {
-        for _ in rt.forever() {
-            let mark = bell.mark();
-            if count.load(Ordering::SeqCst) == first as u64 + 2 * round as u64 {
-                break;
-            }
-            bell.wait_past(rt, mark, Duration::from_secs(20));
-        }
+        wait_until(rt, bell, count, first as u64 + 2 * round as u64);
         count.fetch_add(1, Ordering::SeqCst);
         bell.ring();
+    }
+}
+
+// Counts and rings in each round, beside another thread, and waits until two others have done so at their bell.
+fn keep_pace(rt: &impl Wait, ours: (&Bell, &AtomicU64), theirs: (&Bell, &AtomicU64), rounds: u32) {
+    for round in 0..rounds {
+        ours.1.fetch_add(1, Ordering::SeqCst);
+        ours.0.ring();
+        wait_until(rt, theirs.0, theirs.1, 2 * round as u64 + 2);
     }
 }
 
@@ -49,6 +63,36 @@ fn no_ring_is_missed(rt: HostRuntime) -> Result<(), Fail> {
         || take_turns(&rt, &bell, &count, 1, 5_000),
     );
     assert!(rt; count.load(Ordering::SeqCst) == 10_000);
+    assert!(rt; start.elapsed(&rt)? < Duration::from_secs(15));
+    Ok(())
+}
+
+// At each of the bells two ring and two wait.
+#[test]
+fn two_ring_and_two_wait(rt: HostRuntime) -> Result<(), Fail> {
+    let start = Instant::now(&rt)?;
+    let bells = (Bell::new(), Bell::new());
+    let counts = (AtomicU64::new(0), AtomicU64::new(0));
+    let left = (&bells.0, &counts.0);
+    let right = (&bells.1, &counts.1);
+    thread::join(
+        &rt,
+        || {
+            thread::join(
+                &rt,
+                || keep_pace(&rt, left, right, 2_000),
+                || keep_pace(&rt, left, right, 2_000),
+            )
+        },
+        || {
+            thread::join(
+                &rt,
+                || keep_pace(&rt, right, left, 2_000),
+                || keep_pace(&rt, right, left, 2_000),
+            )
+        },
+    );
+    assert!(rt; counts.0.load(Ordering::SeqCst) + counts.1.load(Ordering::SeqCst) == 8_000);
     assert!(rt; start.elapsed(&rt)? < Duration::from_secs(15));
     Ok(())
 }

@@ -28,7 +28,7 @@ returns-in-More-clause-account c =
     let a = account_of old in
     let untold : is_some old.told ≡ false = search rules in
     let answer = c.in-More.ensures.answer in
-    ap (λ (t : Option Told). record a { told = t }) (c.ending-self.ensures ∙ ap (λ (w : List ℕ). telling None w old.shut) answer.1)
+    ap (λ (t : Option Told). record a { told = t }) (c.told_behind-self.ensures ∙ ap (λ (w : List ℕ). telling None w old.shut) answer.1)
     ∙ sym (after-take_more a old.splitter (told_none old.told untold) c.requires.each c.requires.whole answer.0)
 
 pub returns-in_default-clause-account : goal.returns-in_default-clause-account

@@ -1,23 +1,6 @@
-use Rattle.std.proofs.Common.{◌≡◌, ◌++◌, ◌∷◌, [], false, true, List, ℕ, sym, ap, subst, ◌∙◌}
+use Rattle.std.proofs.Common.{ap, ◌∙◌}
 use Rattle.lpm.specs.Messages.{frame}
-use Rattle.account.specs.Accounts.{IsResponse}
-use Rattle.callbox.specs.OutSides.{has_head, has_trailers}
-use Rattle.account.specs.declared.call.OutItem.{OutItem}
-use Rattle.account.specs.declared.call.OutItem.TheVariants as out_item
-use Rattle.callbox.proofs.OutLemmas.{has_head-push, has_trailers-push, put_or_kept, response_message}
 use Rattle.callbox.proofs.giver.Giver.give.Goals as goal
 
-pub invariant_of-self : goal.invariant_of-self
-invariant_of-self g c =
-    let old = c.args.self.now in
-    let put = g.L.Lane.put_in old.tx in
-    let new = g.L.Lane.put_in c.put.new.tx in
-    let item = out_item.Message c.in-Ok.framed in
-    let framed : c.in-Ok.framed ≡ frame c.args.message = c.in-Ok.ensures ∙ ap frame c.as_slice.ensures in
-    let response = subst (λ (bytes : List ℕ). IsResponse (put ++ out_item.Message bytes ∷ [])) (sym framed) (response_message put c.args.message old.response c.requires.head old.unshut c.requires.len) in
-    let begun = old.begins ∙ c.requires.head in
-    record {
-      begins = begun ∙ sym (put_or_kept (λ (items : List OutItem). has_head items ≡ true) c.put.result put new item c.put.ensures.ok c.put.ensures.unchanged c.requires.head (has_head-push put item c.requires.head));
-      response = put_or_kept IsResponse c.put.result put new item c.put.ensures.ok c.put.ensures.unchanged old.response response;
-      unshut = put_or_kept (λ (items : List OutItem). has_trailers items ≡ false) c.put.result put new item c.put.ensures.ok c.put.ensures.unchanged old.unshut (has_trailers-push put item old.unshut);
-    }
+pub put_frame-requires-clause-frame : goal.put_frame-requires-clause-frame
+put_frame-requires-clause-frame g c = λ κs outlive. (c.args.message, c.requires.len, c.in-Ok.ensures ∙ ap frame c.as_slice.ensures)

@@ -1,4 +1,4 @@
-use Rattle.std.proofs.Common.{◌≡◌, ℕ, List}
+use Rattle.std.proofs.Common.{◌≡◌}
 use Rattle.callbox.specs.InSides.{Took}
 use Rattle.callbox.proofs.uses.four_threads.take_all.Given as goal
 
@@ -6,5 +6,5 @@ abbrev pub invariant-loop : goal.invariant-loop
 invariant-loop g l =
     record {
       name : g.L.Lane.out_name l.taker.rx ≡ g.L.Lane.out_name l.fn.taker.rx;
-      took : (messages : List (List ℕ)) × Took (g.L.Lane.got l.taker.rx) l.taker.progress messages;
+      took : Took (g.L.Lane.got l.taker.rx) l.taker.progress l.taken.items;
     }

@@ -1,14 +1,14 @@
 use Rattle.std.proofs.Common.{Some, ap, ◌∙◌}
 use Rattle.account.specs.declared.call.Shut.{Shut}
 use Rattle.account.proofs.SerialLemmas.{telling-ended, telling-cut, nothing_left}
-use Rattle.callbox.proofs.taker.Progress.to_tell.Goals as goal
+use Rattle.account.proofs.ending.told_behind.Goals as goal
 
 pub returns-in-Ok : goal.returns-in-Ok
 returns-in-Ok c =
     let ended = c.in-Some.is ∙ ap (λ (s : Shut). Some s) c.in-End.is in
-    telling-ended c.args.self.now.splitter c.args.self.now.shut ended (nothing_left c.args.self.now.splitter c.requires c.in-Ok.ensures.ok)
+    telling-ended c.args.splitter.now c.args.shut ended (nothing_left c.args.splitter.now c.requires c.in-Ok.ensures.ok)
 
 pub returns-in-Err : goal.returns-in-Err
 returns-in-Err c =
     let ended = c.in-Some.is ∙ ap (λ (s : Shut). Some s) c.in-End.is in
-    telling-cut c.args.self.now.splitter c.args.self.now.shut c.in-Err.fault ended c.in-Err.ensures.cut c.in-Err.ensures.fault
+    telling-cut c.args.splitter.now c.args.shut c.in-Err.fault ended c.in-Err.ensures.cut c.in-Err.ensures.fault

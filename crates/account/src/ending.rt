@@ -1,0 +1,28 @@
+//! What a call's handler is told where no message is left.
+
+ghost use Rattle.std.specs.Prelude.{◌≡◌, None};
+ghost use Rattle.account.specs.Runs.{telling};
+ghost use Rattle.lpm.specs.Messages.{IsUnfinished};
+
+use crate::call::{Shut, Told};
+use lpm::Splitter;
+
+/// What is told where a splitter holds no whole message and no fault: how the half was shut, if it was. An end inside a
+/// message is told as that fault.
+///
+/// It takes no memory, and time linear in the bytes that wait.
+pub fn told_behind(splitter: &Splitter, shut: Option<Shut>) -> Option<Told>
+    requires { IsUnfinished splitter.now }
+    ensures { result ≡ telling None splitter.now shut }
+{
+    let Some(how) = shut else {
+        return None;
+    };
+    match how {
+        Shut::Reset(code) => Some(Told::Reset(code)),
+        Shut::End => match splitter.end() {
+            Ok(()) => Some(Told::End),
+            Err(fault) => Some(Told::Fault(fault)),
+        },
+    }
+}
