@@ -4,7 +4,8 @@
 //! (`account::replay`), and through the four ends of a call, over rings and over rows of cells.
 //!
 //! Read `events` first, which reads the events of a row, and `account_text`, which writes an account as rows have it; then
-//! `in_ends` and `out_ends`, which run the two sides of a call by its ends.
+//! `in_ends` and `out_ends`, which run the two sides of a call by its ends. `runs` tries what has no rows: lists, queues,
+//! bells, devices, and ends in threads.
 #![tactic(auto)]
 
 use account::{Account, CallEvent, OutItem, replay};
@@ -24,6 +25,7 @@ mod account_text;
 mod events;
 mod in_ends;
 mod out_ends;
+mod runs;
 
 const FILES: [&str; 1] = ["calls.rows"];
 
@@ -94,5 +96,5 @@ fn main(rt: HostRuntime) -> Result<()> {
         let differing = run_file(&rt, name)?;
         ensure!(differing == 0, "{differing} rows of {name} differ");
     }
-    Ok(())
+    runs::run_all(&rt)
 }

@@ -31,5 +31,3 @@ pub use taker::{Taken, Taker};
 pub use uses::four_threads::{Answer, Ran, Request, run_call};
 pub use uses::handed_over::answer_elsewhere;
 
-#[cfg(test)]
-mod tests;

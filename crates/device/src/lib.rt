@@ -10,8 +10,6 @@
 
 mod conn;
 mod marked;
-#[cfg(test)]
-mod tests;
 mod whole;
 
 pub use conn::{ConnRead, ConnWrite, DeviceFault};

@@ -15,5 +15,3 @@ pub use field::Field;
 pub use octets::Octets;
 pub use sequence::Sequence;
 
-#[cfg(test)]
-mod tests;

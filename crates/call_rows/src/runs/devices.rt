@@ -1,10 +1,12 @@
-//! What no clause says: that the calls succeed where memory is left, and that a signal doesn't end a read or a write.
+//! Devices that give and take a byte at a call, and fail.
 
-use crate::*;
+use anyhow::Result;
+use device::{DeviceFault, Marked, ReadFault, read_all, write_all};
 use std::alloc::{AllocError, Global};
 use std::io;
 use std::io::{Read, Write};
-use std::test::Fail;
+
+const TEXT: &[u8] = b"all of it";
 
 /// Gives one byte at a call, every other time after a signal, and fails at a place.
 #[derive(Drop)]
@@ -70,35 +72,44 @@ impl Write for Narrow {
     }
 }
 
-#[test]
-fn reads_through_signals(rt: HostRuntime) -> Result<(), Fail> {
-    let mut whole = Marked::new(Trickle::new(rt.alloc(), b"all of it", 99)?);
-    assert_eq!(rt;
-        read_all(rt.alloc(), &mut whole)?.as_slice(),
-        b"all of it".as_slice()
-    );
-    assert!(rt; !whole.has_failed());
-    let mut broken = Marked::new(Trickle::new(rt.alloc(), b"all of it", 4)?);
-    let failed = read_all(rt.alloc(), &mut broken);
-    assert!(rt; matches!(&failed, Err(ReadFault::Device)));
-    assert!(rt; broken.has_failed());
-    Ok(())
+/// What is read of a text by a reader that fails at a place, and whether the reader is marked then.
+fn read_up_to(alloc: Global, fails_at: usize) -> Result<(Option<Vec<u8>>, bool)> {
+    let mut input = Marked::new(Trickle::new(alloc, TEXT, fails_at)?);
+    let all = match read_all(alloc, &mut input) {
+        Ok(all) => Some(all),
+        Err(ReadFault::Device | ReadFault::OutOfMemory) => None,
+    };
+    Ok((all, input.has_failed()))
 }
 
-#[test]
-fn writes_through_signals(rt: HostRuntime) -> Result<(), Fail> {
-    for (room, wanted, written) in [
-        (99, Ok(()), b"all of it".as_slice()),
-        (3, Err(DeviceFault), b"all"),
-    ] {
-        let mut output = Marked::new(Narrow {
-            bytes: Vec::new(rt.alloc()),
-            room,
-            is_interrupted: false,
-        });
-        assert_eq!(rt; write_all(&mut output, b"all of it"), wanted);
-        assert_eq!(rt; output.has_failed(), wanted.is_err());
-        assert_eq!(rt; output.into_inner().bytes.as_slice(), written);
-    }
-    Ok(())
+/// What a text is written as where there is room for so many bytes, and whether that was all.
+fn write_within(alloc: Global, room: usize) -> (Result<(), DeviceFault>, Vec<u8>) {
+    let mut output = Marked::new(Narrow {
+        bytes: Vec::new(alloc),
+        room,
+        is_interrupted: false,
+    });
+    let written = write_all(&mut output, TEXT);
+    (written, output.into_inner().bytes)
+}
+
+pub fn pass_over_signals(alloc: Global) -> Result<bool> {
+    let (all, failed) = read_up_to(alloc, 99)?;
+    let (done, written) = write_within(alloc, 99);
+    let is_read = match all {
+        Some(all) => all.as_slice() == TEXT && !failed,
+        None => false,
+    };
+    Ok(is_read && done == Ok(()) && written.as_slice() == TEXT)
+}
+
+pub fn fail(alloc: Global) -> Result<bool> {
+    let (all, failed) = read_up_to(alloc, 4)?;
+    let (done, written) = write_within(alloc, 3);
+    Ok(
+        all.is_none()
+            && failed
+            && done == Err(DeviceFault)
+            && written.as_slice() == b"all".as_slice(),
+    )
 }

@@ -1,0 +1,46 @@
+//! Lists of bytes, of fields, and of anything.
+
+use anyhow::Result;
+use lists::{Field, Octets, Sequence};
+use std::alloc::Global;
+
+const BYTES: [u8; 3] = [0x61, 0, 0xff];
+
+pub fn octets(alloc: Global) -> Result<bool> {
+    let octets = Octets::from(BYTES.to_vec(alloc)?);
+    let copy = octets.copy()?;
+    let text = format!(in alloc; "{octets:?}")?;
+    let clone = octets.clone()?.into_vec();
+    Ok(
+        octets.as_slice() == BYTES.as_slice()
+            && octets.len() == 3
+            && !octets.is_empty()
+            && copy == octets
+            && clone.as_slice() == BYTES.as_slice()
+            && text.as_str() == "[97, 0, 255]"
+            && Octets::from(Vec::new(alloc)).is_empty(),
+    )
+}
+
+fn field(alloc: Global, value: &[u8]) -> Result<Field> {
+    Ok(Field {
+        name: Octets::from(b":status".to_vec(alloc)?),
+        value: Octets::from(value.to_vec(alloc)?),
+    })
+}
+
+pub fn fields(alloc: Global) -> Result<bool> {
+    let status = field(alloc, b"200")?;
+    let other = field(alloc, b"204")?;
+    let mut items = Vec::new(alloc);
+    items.push(status.clone()?)?;
+    let fields = Sequence::from(items);
+    let copy = fields.copy()?.into_vec();
+    Ok(
+        status != other
+            && fields.len() == 1
+            && !fields.is_empty()
+            && copy.first() == Some(&status)
+            && copy.as_slice() == fields.as_slice(),
+    )
+}

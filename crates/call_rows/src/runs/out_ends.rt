@@ -1,0 +1,85 @@
+//! The two ends of the out side, over a ring.
+ghost use Rattle.std.specs.Prelude.{◌≡◌, []};
+
+use account::OutItem;
+use anyhow::Result;
+use bytes::Bytes;
+use callbox::{FramedFault, Giver, OutAccount, Sender, open_out, settle_out};
+use lane::{End, Lane, RingLane};
+use lists::{Field, Octets, Sequence};
+use std::alloc::{AllocError, Global};
+
+/// The frame of the one byte 0x41.
+pub const FRAMED: &[u8] = &[0, 0, 0, 0, 1, 0x41];
+
+const OTHER_FRAMED: &[u8] = &[0, 0, 0, 0, 1, 0x42];
+
+/// One field, `:status 200`.
+pub fn fields(alloc: Global) -> Result<Sequence<Field>, AllocError> {
+    let field = Field {
+        name: Octets::from(b":status".to_vec(alloc)?),
+        value: Octets::from(b"200".to_vec(alloc)?),
+    };
+    let mut all = Vec::new(alloc);
+    all.push(field)?;
+    Ok(Sequence::from(all))
+}
+
+/// The bytes of a message, or those of the value of the first field.
+pub fn bytes_of(item: &OutItem) -> &[u8] {
+    match item {
+        OutItem::Message(bytes) => bytes.as_slice(),
+        OutItem::Head(fields) | OutItem::Trailers(fields) => match fields.as_slice().first() {
+            Some(field) => field.value.as_slice(),
+            None => &[],
+        },
+    }
+}
+
+/// Gives a head and two messages, and what is refused: what is no frame, and a frame for which there is no room.
+fn gives<L: Lane<Item = OutItem>>(giver: &mut Giver<L>, head: Sequence<Field>) -> bool
+    requires { L.put_in giver.old.tx ≡ [] }
+    ensures { L.in_name giver.new.tx ≡ L.in_name giver.old.tx }
+{
+    let mut holds = giver.head(head).is_ok();
+    if !giver.has_head() {
+        return false;
+    }
+    holds &= giver.give(Bytes::from_static(&[0x41])).is_ok();
+    let unframed = giver.give_framed(Bytes::from_static(&[0x42]));
+    holds &= matches!(&unframed, Err(FramedFault::NotAFrame(bytes)) if bytes.len() == 1);
+    holds &= giver.check_room() == Ok(());
+    holds &= giver.give_framed(Bytes::from_static(OTHER_FRAMED)).is_ok();
+    let refused = giver.give_framed(Bytes::from_static(&[0, 0, 0, 0, 0]));
+    holds &= matches!(refused, Err(FramedFault::Refused(_)));
+    holds && giver.check_room() == Err(3)
+}
+
+/// Whether the next item that is sent has these bytes.
+fn sends<L: Lane<Item = OutItem>>(sender: &mut Sender<L>, bytes: &[u8]) -> bool
+    ensures { L.out_name sender.new.rx ≡ L.out_name sender.old.rx }
+{
+    sender.next().map(bytes_of) == Some(bytes)
+}
+
+pub fn send_what_is_given(alloc: Global) -> Result<bool> {
+    let head = fields(alloc)?;
+    let trailers = fields(alloc)?;
+    let (mut giver, mut sender) = open_out::<RingLane<OutItem>>(alloc, 7, 3)?;
+    let is_given = gives(&mut giver, head);
+    if !giver.has_head() {
+        return Ok(false);
+    }
+    let shut = giver.trailers(trailers);
+    let is_sent = sends(&mut sender, b"200")
+        && sends(&mut sender, FRAMED)
+        && sends(&mut sender, OTHER_FRAMED)
+        && sends(&mut sender, b"200");
+    let wanted = OutAccount {
+        given: 4,
+        sent: 4,
+        trailers_given: true,
+        trailers_sent: true,
+    };
+    Ok(is_given && is_sent && settle_out(End::Shut(shut), sender) == wanted)
+}
