@@ -1,9 +1,12 @@
 //! The numbers of the wire format and of faults, and what the crates call them: `names.rows`.
 
 use crate::rows::{Subject, bytes_of, words_of};
-use anyhow::{Result, bail, ensure};
+use anyhow::{Context, Result, bail, ensure};
 use flow::{BookFault, WindowFault};
-use h2frame::{ErrorCode, Flags, FrameFault, FrameKind, SettingId, increment};
+use h2frame::{
+    ErrorCode, Flags, FrameFault, FrameKind, PeerSetting, PeerSettings, SettingId, increment,
+    ping_bytes,
+};
 use std::alloc::Global;
 
 const FRAME_FAULTS: [FrameFault; 6] = [
@@ -68,6 +71,37 @@ fn increment_name(alloc: Global, digits: &str) -> Result<String> {
         }
         _ => bail!("an increment has four bytes"),
     }
+}
+
+/// What parameters with values tell, each as 'NUMBER=VALUE'.
+fn told_names(alloc: Global, parameters: &[&str]) -> Result<String> {
+    let mut told = Vec::new(alloc);
+    for parameter in parameters {
+        let (id, value) = parameter
+            .split_once('=')
+            .context("a parameter has a value")?;
+        let id = SettingId::from_code(u16::from_str_radix(id, 16)?);
+        if let Some(setting) = PeerSetting::told(id, value.parse::<u32>()?) {
+            told.push(setting)?;
+        }
+    }
+    let settings = PeerSettings::from(told);
+    let mut text = String::from_str(alloc, "told")?;
+    for setting in settings.as_slice() {
+        write!(text, " {setting:?}")?;
+    }
+    Ok(text)
+}
+
+/// The eight bytes of a PING, one after the other.
+fn ping_name(alloc: Global, digits: &str) -> Result<String> {
+    let bytes = bytes_of(alloc, digits)?;
+    ensure!(bytes.len() == 8, "a PING has eight bytes");
+    let mut text = String::new(alloc);
+    for byte in ping_bytes(bytes.as_slice()) {
+        write!(text, "{byte:02x}")?;
+    }
+    Ok(text)
 }
 
 fn flag_of(name: &str) -> Result<Flags> {
@@ -153,6 +187,8 @@ impl Subject for Names {
             ["setting", digits] => setting_name(alloc, digits),
             ["type", digits] => kind_name(alloc, digits),
             ["increment", digits] => increment_name(alloc, digits),
+            ["told", parameters @ ..] => told_names(alloc, parameters),
+            ["ping", digits] => ping_name(alloc, digits),
             ["flags", names @ ..] => flags_name(alloc, names),
             ["has", digits, names @ ..] => has_name(alloc, digits, names),
             ["FrameFault", name] => frame_fault_name(alloc, name),
