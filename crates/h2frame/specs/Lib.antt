@@ -7,3 +7,4 @@ pub mod Spelling
 pub mod FrameList
 pub mod Reading
 pub mod Examples
+pub mod Settings

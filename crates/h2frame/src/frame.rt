@@ -161,6 +161,17 @@ pub fn increment(content: &[u8]) -> u32
     u32::from_be_bytes([content[0], content[1], content[2], content[3]]) & 0x7fff_ffff
 }
 
+/// The eight bytes of a PING's content, which are sent back (RFC 9113, section 6.7).
+pub fn ping_bytes(content: &[u8]) -> [u8; 8]
+    requires { length content.now ≡ 8 }
+    ensures { result ≡ content.now }
+{
+    [
+        content[0], content[1], content[2], content[3], content[4], content[5], content[6],
+        content[7],
+    ]
+}
+
 /// Whether it is a WINDOW_UPDATE of no increment.
 pub(crate) fn lacks_increment(kind: FrameKind, content: &[u8]) -> bool
     requires { kind ≡ FrameKind.WindowUpdate → length content.now ≡ 4 }

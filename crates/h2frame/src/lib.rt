@@ -9,7 +9,8 @@
 //!
 //! To be read in this order: `kind`, `flags`, `frame` and `fault` for the types, `reader` and `writer` for the calls,
 //! `span` for where a frame's content lies. `error_code` and `setting` name the numbers that contents carry, which are
-//! not read here. Worked rows of bytes and their frames are those of the program `frame_rows`.
+//! not read here; `settings` has what a peer's SETTINGS tell, for who reads them and who is told. Worked rows of bytes and
+//! their frames are those of the program `frame_rows`.
 #![tactic(auto)]
 
 mod error_code;
@@ -20,15 +21,17 @@ mod kind;
 mod laws;
 mod reader;
 mod setting;
+mod settings;
 mod span;
 mod writer;
 
 pub use error_code::ErrorCode;
 pub use fault::FrameFault;
 pub use flags::Flags;
-pub use frame::{Frame, FrameHead, MAX_PAYLOAD, StreamId, increment};
+pub use frame::{Frame, FrameHead, MAX_PAYLOAD, StreamId, increment, ping_bytes};
 pub use kind::FrameKind;
 pub use laws::{goes_on, joins, one_reading};
 pub use reader::FrameReader;
 pub use setting::SettingId;
+pub use settings::{PeerSetting, PeerSettings};
 pub use writer::write_frame;

@@ -1,9 +1,12 @@
 //! The numbers of the wire format and of faults, and what the crates call them: `names.rows`.
 
-use anyhow::{Result, bail, ensure};
+use anyhow::{Context, Result, bail, ensure};
 use flow::{BookFault, WindowFault};
-use h2frame::{ErrorCode, Flags, FrameFault, FrameKind, SettingId, increment};
-use rows::{Given, Subject};
+use h2frame::{
+    ErrorCode, Flags, FrameFault, FrameKind, PeerSetting, PeerSettings, SettingId, increment,
+    ping_bytes,
+};
+use rows::{Given, Subject, bytes_of};
 use std::alloc::Global;
 use std::fmt::Debug;
 
@@ -76,6 +79,40 @@ fn name_increment(answer: &mut String, digits: &str) -> Result<()> {
     ensure!(digits.len() == 8, "an increment has four bytes");
     let increment = increment(&number(digits)?.to_be_bytes());
     write!(answer, "{increment}")?;
+    Ok(())
+}
+
+/// What a parameter with a value, as 'NUMBER=VALUE', tells, if it tells something.
+fn setting_of(parameter: &str) -> Result<Option<PeerSetting>> {
+    let (id, value) = parameter
+        .split_once('=')
+        .context("a parameter has a value")?;
+    let id = SettingId::from_code(u16::from_str_radix(id, 16)?);
+    Ok(PeerSetting::told(id, value.parse::<u32>()?))
+}
+
+/// What parameters tell.
+fn name_told(alloc: Global, answer: &mut String, parameters: &[&str]) -> Result<()> {
+    let mut told = Vec::new(alloc);
+    for parameter in parameters {
+        if let Some(setting) = setting_of(parameter)? {
+            told.push(setting)?;
+        }
+    }
+    answer.push_str("told")?;
+    for setting in PeerSettings::from(told).as_slice() {
+        write!(answer, " {setting:?}")?;
+    }
+    Ok(())
+}
+
+/// The eight bytes of a PING, one after the other.
+fn name_ping(alloc: Global, answer: &mut String, digits: &str) -> Result<()> {
+    let bytes = bytes_of(alloc, digits)?;
+    ensure!(bytes.len() == 8, "a PING has eight bytes");
+    for byte in ping_bytes(bytes.as_slice()) {
+        write!(answer, "{byte:02x}")?;
+    }
     Ok(())
 }
 
@@ -168,12 +205,14 @@ pub struct Names;
 impl Subject for Names {
     fn restart(&mut self, _alloc: Global) {}
 
-    fn answer(&mut self, _alloc: Global, given: Given<'_>, answer: &mut String) -> Result<()> {
+    fn answer(&mut self, alloc: Global, given: Given<'_>, answer: &mut String) -> Result<()> {
         match given.words {
             ["error", digits] => name_error(answer, digits),
             ["setting", digits] => name_setting(answer, digits),
             ["type", digits] => name_kind(answer, digits),
             ["increment", digits] => name_increment(answer, digits),
+            ["told", parameters @ ..] => name_told(alloc, answer, parameters),
+            ["ping", digits] => name_ping(alloc, answer, digits),
             ["flags", names @ ..] => name_flags(answer, names),
             ["has", digits, names @ ..] => tell_whether_all(answer, digits, names),
             ["FrameFault", name] => describe_frame_fault(answer, name),
