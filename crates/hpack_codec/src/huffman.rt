@@ -1,5 +1,5 @@
 //! Huffman texts (RFC 7541, section 5.2 and appendix B), read from a register of bits.
-ghost use Rattle.std.specs.Prelude.{◌≡◌, ℕ, ◌<◌, ◌≤◌, ◌^◌, ◌/◌, ◌-◌, IfSome, IfNone, IfOk, IfErr, IsTrue};
+ghost use Rattle.std.specs.Prelude.{◌≡◌, ℕ, ◌<◌, ◌≤◌, ◌^◌, ◌/◌, ◌-◌, ◌*◌, min, IfSome, IfNone, IfOk, IfErr, IsTrue};
 ghost use Rattle.hpack_codec.specs.Huffman.{code_length, code_number, IsHuffman};
 ghost use Rattle.hpack_codec.specs.CodeTable.{is_code_table};
 ghost use Rattle.hpack_codec.specs.Reading.{Drains, IsTextFault};
@@ -217,7 +217,9 @@ fn drain(octets: &mut Vec<u8>, mut register: u64, mut count: u32) -> Result<(u64
 }
 
 /// How many bytes a text of this length stands for at most, and up to eight more: the shortest code has five bits.
-fn most_octets(len: usize) -> usize {
+fn most_octets(len: usize) -> usize
+    ensures { min (8 * len) usize.MAX ≤ 5 * result }
+{
     (len / 5 + 1).saturating_mul(8)
 }
 
