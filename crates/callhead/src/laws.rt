@@ -6,7 +6,7 @@ ghost use Rattle.callhead.specs.declared.head.CallHead.{CallHead};
 ghost use Rattle.callhead.specs.declared.fault.HeadFault.{HeadFault};
 ghost use Rattle.callhead.specs.Heads.{IsHead, IsFirstFault};
 
-/// Fields are one head of a call, or have one first fault, and never both.
+/// Fields are at most one head of a call, have at most one first fault, and never both.
 pub fn one_answer()
     ensures head { (fields : List Field) (call other : CallHead)
         → IsHead fields call → IsHead fields other → call ≡ other }

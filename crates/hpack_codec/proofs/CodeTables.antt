@@ -1,13 +1,11 @@
 -- On the tables that the code is read by: what their test tells, and the codes that a walk through the rows passed.
-use Rattle.std.proofs.Common.{◌≡◌, ℕ, zero, suc, ◌+◌, ◌-◌, ◌*◌, ◌/◌, ◌^◌, ◌<◌, ◌≤◌, ◌⊎◌, Bool, true, false, ◌&&◌, ◌||◌, nat_lt, nat_le, ◌==◌, List, [], ◌∷◌, ◌++◌, length, take, drop, get_or, refl, sym, subst, ◌∙◌, ap, inl, inr, arith}
+use Rattle.std.proofs.Common.{◌≡◌, ℕ, zero, suc, ◌+◌, ◌-◌, ◌/◌, ◌^◌, ◌<◌, ◌≤◌, ◌⊎◌, Bool, true, false, ◌&&◌, ◌||◌, nat_lt, nat_le, ◌==◌, List, [], ◌∷◌, ◌++◌, length, take, drop, get_or, refl, sym, subst, ◌∙◌, ap, inl, inr, arith}
 use Rattle.std.proofs.lemmas.Bool.{cases_lt, ltb-true, leb-true}
 use Rattle.std.proofs.lemmas.Bool.Decides.{eqb_tells}
 use Rattle.std.proofs.lemmas.List.{take_more, take_all, take-append-drop, drop_more}
-use Rattle.std.proofs.lemmas.Nat.{pow_pos, pow-add}
-use Rattle.std.proofs.Math.Nat.{div-div-eq-div-mul, div-lt_iff_lt-mul}
 use Rattle.hpack_codec.specs.declared.huffman.Codes.{Codes}
 use Rattle.hpack_codec.specs.Huffman.{code_length, code_number}
-use Rattle.hpack_codec.specs.CodeTable.{each_below, is_in_row, is_row, are_rows, is_least, are_ascending, is_covered, is_code_table, is_short, is_short_table}
+use Rattle.hpack_codec.specs.CodeTable.{each_below, is_in_row, is_row, are_rows, is_least, are_ascending, is_covered, is_code_table}
 use Rattle.hpack_codec.proofs.HuffmanTable.{and_true}
 
 pub eqb-true : (a b : ℕ) → (a == b) ≡ true → a ≡ b
@@ -134,47 +132,3 @@ missed_all register count symbol rows symbols e m octet le is =
 
 pub misses_whole : (register count i : ℕ) (rows : List Codes) → length rows ≤ i → MissesAll register count (take i rows) → MissesAll register count rows
 misses_whole register count i rows h m = subst (MissesAll register count) (take_all i rows h) m
-
--- ---- short codes
-
--- the symbol that stands at these bits
-pub record IsShort (symbols lens : List ℕ) (top : ℕ) : Type 0 where
-  pub short : get_or lens top 0 ≤ 8
-  pub len : code_length (get_or symbols top 0) ≡ get_or lens top 0
-  pub number_is : code_number (get_or symbols top 0) ≡ top / 2 ^ (8 - get_or lens top 0)
-
-pub short_lengths : (symbols lens : List ℕ) → is_short_table symbols lens ≡ true → (length symbols ≡ 256) × (length lens ≡ 256)
-unfolding is_short_table
-short_lengths symbols lens e =
-    let a = and_true _ _ e in
-    let b = and_true _ _ a.1 in
-    (eqb-true _ _ a.0, eqb-true _ _ b.0)
-
-zero_length : (symbols lens : List ℕ) (top : ℕ) → (get_or lens top 0 == 0) ≡ true → (get_or lens top 0 ≡ 0 → ⊥) → ⊥
-zero_length symbols lens top e some = some (eqb-true _ _ e)
-
-pub short_in : (symbols lens : List ℕ) (top : ℕ) → is_short_table symbols lens ≡ true → top < 256 → (get_or lens top 0 ≡ 0 → ⊥) → IsShort symbols lens top
-unfolding is_short_table
-short_in symbols lens top e h some =
-    let a = and_true _ _ e in
-    let b = and_true _ _ a.1 in
-    let here : is_short symbols lens top ≡ true = each_below_at 256 (is_short symbols lens) top b.1 h in
-    elim (or_true (get_or lens top 0 == 0) (nat_le (get_or lens top 0) 8 && ((code_length (get_or symbols top 0) == get_or lens top 0) && (code_number (get_or symbols top 0) == top / 2 ^ (8 - get_or lens top 0)))) here) [
-      | inl none ↦ absurd (zero_length symbols lens top none some)
-      | inr found ↦
-          (let d = and_true _ _ found in
-          let f = and_true _ _ d.1 in
-          record { short = leb-true _ _ d.0; len = eqb-true _ _ f.0; number_is = eqb-true _ _ f.1 })
-    ]
-
--- the first bits of a register
-pub top_below : (count register : ℕ) → 8 ≤ count → register < 2 ^ count → register / 2 ^ (count - 8) < 256
-top_below count register enough small =
-    let span : 2 ^ count ≡ 256 * 2 ^ (count - 8) =
-    ap (λ n. 2 ^ n) (let e : count ≡ 8 + (count - 8) = omega (arith, enough) in e) ∙ pow-add 2 8 (count - 8) in
-    (div-lt_iff_lt-mul (pow_pos (count - 8))).1 (subst (λ (n : ℕ). register < n) span small)
-
-pub top_number : (count register len : ℕ) → 8 ≤ count → len ≤ 8 → register / 2 ^ (count - 8) / 2 ^ (8 - len) ≡ register / 2 ^ (count - len)
-top_number count register len enough short =
-    div-div-eq-div-mul register (2 ^ (count - 8)) (2 ^ (8 - len))
-    ∙ ap (λ n. register / n) (sym (pow-add 2 (count - 8) (8 - len)) ∙ ap (λ n. 2 ^ n) (let e : (count - 8) + (8 - len) ≡ count - len = omega (arith, enough, short) in e))

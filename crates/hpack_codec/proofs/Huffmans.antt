@@ -185,39 +185,17 @@ begins_none count register small none = λ symbol more octet e.
       | inr le ↦ none symbol octet le (code_front count register symbol [] more octet small le (append-nil (bits count register) ∙ e))
     ]
 
-pub drained : (least : ℕ) (old new : List ℕ) (n r count register : ℕ) → IsDraining old new n r count register → ((symbol : ℕ) → symbol < 256 → code_length symbol ≤ count
-    → register / 2 ^ (count - code_length symbol) ≡ code_number symbol → ⊥) → Drains least old new n r count register
-drained least old new n r count register d none = record {
+pub drained : (old new : List ℕ) (n r count register : ℕ) → IsDraining old new n r count register → ((symbol : ℕ) → symbol < 256 → code_length symbol ≤ count
+    → register / 2 ^ (count - code_length symbol) ≡ code_number symbol → ⊥) → Drains old new n r count register
+drained old new n r count register d none = record {
   moved = d.moved;
   octets = d.octets;
   new_is = d.new_is;
   register_is = d.register_is;
-  none = λ enough. begins_none count register d.bound none;
+  none = begins_none count register d.bound none;
   bound = d.bound;
   shorter = d.shorter;
 }
-
-pub drained_short : (least : ℕ) (old new : List ℕ) (n r count register : ℕ) → IsDraining old new n r count register → count < least → Drains least old new n r count register
-drained_short least old new n r count register d short = record {
-  moved = d.moved;
-  octets = d.octets;
-  new_is = d.new_is;
-  register_is = d.register_is;
-  none = λ enough. absurd (omega (arith, enough, short));
-  bound = d.bound;
-  shorter = d.shorter;
-}
-
-pub register_fits : (count register byte : ℕ) → register < 2 ^ count → byte < 256 → register * 256 + byte < 2 ^ (count + 8)
-register_fits count register byte small octet =
-    let place : register * 256 + byte < 256 * 2 ^ count = mul-add-lt register 256 byte (2 ^ count) small octet in
-    omega (arith, place, pow-add 2 count 8)
-
--- Octets so far, and a register: they have the bits of what was read.
-pub record AreRead (front octets : List ℕ) (count register : ℕ) : Type 0 where
-  pub are_octets : AreOctets octets
-  pub spelling : flat_map (bits 8) front ≡ flat_map code octets ++ bits count register
-  pub bound : register < 2 ^ count
 
 -- Reading a text: octets so far, and a register that no code begins.
 pub record IsReading (front octets : List ℕ) (count register : ℕ) : Type 0 where
@@ -226,62 +204,36 @@ pub record IsReading (front octets : List ℕ) (count register : ℕ) : Type 0 w
   pub none : BeginsNoCode (bits count register)
   pub bound : register < 2 ^ count
 
-pub read_none : AreRead [] [] 0 0
+pub reads_none : IsReading [] [] 0 0
 unfolding AreOctets bits
-read_none = record {
+reads_none = record {
   are_octets = tt;
   spelling = refl;
+  none = λ symbol more octet e. omega (arith, (code_facts symbol octet).low, length-code symbol, ap length e, length-append (code symbol) more);
   bound = lit< tt;
 }
 
--- one byte more in the register
-read_byte : (text octets : List ℕ) (i count register byte : ℕ) → i < length text → byte ≡ get_or text i 0 → byte < 256 → AreRead (take i text) octets count register
-    → AreRead (take (i + 1) text) octets (count + 8) (register * 256 + byte)
-read_byte text octets i count register byte h is octet a = record {
-  are_octets = a.are_octets;
+-- one byte more
+pub reads_more : (text octets new : List ℕ) (i count register byte left_count left : ℕ) → i < length text → byte ≡ get_or text i 0 → byte < 256
+    → IsReading (take i text) octets count register → Drains octets new (count + 8) (register * 256 + byte) left_count left
+    → IsReading (take (i + 1) text) new left_count left
+reads_more text octets new i count register byte left_count left h is octet a d = record {
+  are_octets = subst AreOctets (sym d.new_is) (AreOctets-append octets d.moved a.are_octets d.octets);
   spelling =
       ap (flat_map (bits 8)) (take_more text i 0 h ∙ ap (λ n. take i text ++ n ∷ []) (sym is))
       ∙ flat_map-append (bits 8) (take i text) (byte ∷ [])
       ∙ ap (λ (tail : List ℕ). flat_map (bits 8) (take i text) ++ tail) (append-nil (bits 8 byte))
       ∙ ap (λ (front : List ℕ). front ++ bits 8 byte) a.spelling
       ∙ append_assoc (flat_map code octets) (bits count register) (bits 8 byte)
-      ∙ ap (λ (tail : List ℕ). flat_map code octets ++ tail) (sym (bits_byte count register byte octet));
-  bound = register_fits count register byte a.bound octet;
-}
-
--- octets moved out of it
-read_drained : (least : ℕ) (front octets new : List ℕ) (count register left_count left : ℕ) → AreRead front octets count register → Drains least octets new count register left_count left
-    → AreRead front new left_count left
-read_drained least front octets new count register left_count left a d = record {
-  are_octets = subst AreOctets (sym d.new_is) (AreOctets-append octets d.moved a.are_octets d.octets);
-  spelling =
-      a.spelling ∙ ap (λ (tail : List ℕ). flat_map code octets ++ tail) d.register_is
+      ∙ ap (λ (tail : List ℕ). flat_map code octets ++ tail) (sym (bits_byte count register byte octet) ∙ d.register_is)
       ∙ sym (append_assoc (flat_map code octets) (flat_map code d.moved) (bits left_count left))
       ∙ ap (λ (front : List ℕ). front ++ bits left_count left) (sym (ap (flat_map code) d.new_is ∙ flat_map-append code octets d.moved));
+  none = d.none;
   bound = d.bound;
 }
 
-pub read_more : (least : ℕ) (text octets new : List ℕ) (i count register byte left_count left : ℕ) → i < length text → byte ≡ get_or text i 0 → byte < 256
-    → AreRead (take i text) octets count register → Drains least octets new (count + 8) (register * 256 + byte) left_count left
-    → AreRead (take (i + 1) text) new left_count left
-read_more least text octets new i count register byte left_count left h is octet a d =
-    read_drained least (take (i + 1) text) octets new (count + 8) (register * 256 + byte) left_count left (read_byte text octets i count register byte h is octet a) d
-
--- at a register that no code begins
-reading : (front octets : List ℕ) (count register : ℕ) → AreRead front octets count register → BeginsNoCode (bits count register) → IsReading front octets count register
-reading front octets count register a none = record {
-  are_octets = a.are_octets;
-  spelling = a.spelling;
-  none = none;
-  bound = a.bound;
-}
-
-pub read_all : (front octets new : List ℕ) (count register left_count left : ℕ) → AreRead front octets count register → Drains 0 octets new count register left_count left
-    → IsReading front new left_count left
-read_all front octets new count register left_count left a d = reading front new left_count left (read_drained 0 front octets new count register left_count left a d) (d.none (omega arith))
-
 -- A register of thirty bits that no code begins: no octets have the text.
-no_text_long : (text octets : List ℕ) (i count register : ℕ) → IsReading (take i text) octets count register → 30 ≤ count
+pub no_text_long : (text octets : List ℕ) (i count register : ℕ) → IsReading (take i text) octets count register → 30 ≤ count
     → (others : List ℕ) → IsHuffman text others → ⊥
 no_text_long text octets i count register a long =
     let rest : List ℕ = bits count register ++ flat_map (bits 8) (drop i text) in
@@ -295,12 +247,6 @@ no_text_long text octets i count register a long =
     a.none symbol (bits (count - code_length symbol) register) octet
     (front_code count register symbol le (code_front count register symbol (flat_map (bits 8) (drop i text)) more octet a.bound le e)))
     (λ p. omega (arith, p.short, long, length-bits count register, length-append (bits count register) (flat_map (bits 8) (drop i text))))
-
-pub no_text_behind : (text octets new : List ℕ) (i count register byte left_count left : ℕ) → i < length text → byte ≡ get_or text i 0 → byte < 256
-    → AreRead (take i text) octets count register → Drains 30 octets new (count + 8) (register * 256 + byte) left_count left → 30 ≤ left_count
-    → (others : List ℕ) → IsHuffman text others → ⊥
-no_text_behind text octets new i count register byte left_count left h is octet a d long =
-    no_text_long text new (i + 1) left_count left (reading (take (i + 1) text) new left_count left (read_more 30 text octets new i count register byte left_count left h is octet a d) (d.none long)) long
 
 -- at the end of the text
 pub whole_text : (text octets : List ℕ) (i count register : ℕ) → length text ≤ i → IsReading (take i text) octets count register → count < 8 → register ≡ 2 ^ count - 1
@@ -317,3 +263,8 @@ pub no_padding : (text octets : List ℕ) (i count register : ℕ) → length te
 no_padding text octets i count register h a other =
     no_text text octets (bits count register) a.are_octets (ap (flat_map (bits 8)) (sym (take_all i text h)) ∙ a.spelling) a.none
     (λ p. let both = padding_register count register a.bound p in other both.0 both.1)
+
+pub register_fits : (count register byte : ℕ) → register < 2 ^ count → byte < 256 → register * 256 + byte < 2 ^ (count + 8)
+register_fits count register byte small octet =
+    let place : register * 256 + byte < 256 * 2 ^ count = mul-add-lt register 256 byte (2 ^ count) small octet in
+    omega (arith, place, pow-add 2 count 8)

@@ -1,5 +1,5 @@
--- The tables that the decoder reads Huffman's code by, and that they are that code: tests that are computed.
-use Rattle.std.specs.Prelude.{ℕ, zero, suc, ◌+◌, ◌-◌, ◌/◌, ◌^◌, Bool, true, false, ◌&&◌, ◌||◌, nat_lt, nat_le, ◌==◌, List, [], ◌∷◌, length, slice_index}
+-- The tables that the decoder reads Huffman's code by, and that they are that code: a test that is computed.
+use Rattle.std.specs.Prelude.{ℕ, zero, suc, ◌+◌, ◌-◌, Bool, true, false, ◌&&◌, ◌||◌, nat_lt, nat_le, ◌==◌, List, [], ◌∷◌, length, slice_index}
 use Rattle.hpack_codec.specs.declared.huffman.Codes.{Codes}
 use Rattle.hpack_codec.specs.Huffman.{code_length, code_number}
 
@@ -44,16 +44,3 @@ is_covered (row ∷ rows) symbol =
 unfoldable pub is_code_table : List Codes → List ℕ → Bool
 is_code_table rows symbols =
     are_rows symbols rows && (are_ascending rows && each_below 256 (is_covered rows))
-
--- These eight bits begin with the code of their symbol, which has their length; or their length is 0.
-abbrev pub is_short : List ℕ → List ℕ → ℕ → Bool
-is_short symbols lens top =
-    (slice_index lens top == 0)
-    || (nat_le (slice_index lens top) 8
-    && ((code_length (slice_index symbols top) == slice_index lens top)
-    && (code_number (slice_index symbols top) == top / 2 ^ (8 - slice_index lens top))))
-
--- the symbols and the lengths of short codes, by the next eight bits
-unfoldable pub is_short_table : List ℕ → List ℕ → Bool
-is_short_table symbols lens =
-    (length symbols == 256) && ((length lens == 256) && each_below 256 (is_short symbols lens))

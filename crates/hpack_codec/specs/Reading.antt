@@ -53,13 +53,13 @@ TakesString bytes octets rest = (text : List ℕ) × (bytes ≡ text ++ rest) ×
 abbrev pub BeginsNoCode : List ℕ → Type 0
 BeginsNoCode register = (symbol : ℕ) (more : List ℕ) → symbol < 256 → register ≡ code symbol ++ more → ⊥
 
--- Octets were moved from the front of a register to the end of a list, as long as it had so many bits.
-pub record Drains (least : ℕ) (old new : List ℕ) (count register left_count left : ℕ) : Type 0 where
+-- Octets were moved from the front of a register to the end of a list.
+pub record Drains (old new : List ℕ) (count register left_count left : ℕ) : Type 0 where
   pub moved : List ℕ
   pub octets : AreOctets moved
   pub new_is : new ≡ old ++ moved
   pub register_is : bits count register ≡ flat_map code moved ++ bits left_count left
-  pub none : least ≤ left_count → BeginsNoCode (bits left_count left)
+  pub none : BeginsNoCode (bits left_count left)
   pub bound : left < 2 ^ left_count
   pub shorter : left_count ≤ count
 

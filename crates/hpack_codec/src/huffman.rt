@@ -1,7 +1,7 @@
 //! Huffman texts (RFC 7541, section 5.2 and appendix B), read from a register of bits.
-ghost use Rattle.std.specs.Prelude.{◌≡◌, ℕ, ◌<◌, ◌≤◌, ◌^◌, ◌/◌, ◌-◌, IfSome, IfNone, IfOk, IfErr, IsTrue};
+ghost use Rattle.std.specs.Prelude.{◌≡◌, ℕ, ◌<◌, ◌≤◌, ◌^◌, ◌/◌, ◌-◌, ◌*◌, min, IfSome, IfNone, IfOk, IfErr, IsTrue};
 ghost use Rattle.hpack_codec.specs.Huffman.{code_length, code_number, IsHuffman};
-ghost use Rattle.hpack_codec.specs.CodeTable.{is_code_table, is_short_table};
+ghost use Rattle.hpack_codec.specs.CodeTable.{is_code_table};
 ghost use Rattle.hpack_codec.specs.Reading.{Drains, IsTextFault};
 
 use crate::fault::HpackFault;
@@ -165,72 +165,19 @@ static SYMBOLS: [u8; 256] = [
     29, 30, 31, 127, 220, 249, 10, 13, 22,
 ];
 
-/// Codes of at most this many bits are looked up at once.
-const SHORT_LEN: u32 = 8;
-
-/// By the next eight bits: the byte whose code they begin with, if that code is short.
-static SHORT_SYMBOLS: [u8; 256] = [
-    48, 48, 48, 48, 48, 48, 48, 48, 49, 49, 49, 49, 49, 49, 49, 49, 50, 50, 50, 50, 50, 50, 50, 50,
-    97, 97, 97, 97, 97, 97, 97, 97, 99, 99, 99, 99, 99, 99, 99, 99, 101, 101, 101, 101, 101, 101,
-    101, 101, 105, 105, 105, 105, 105, 105, 105, 105, 111, 111, 111, 111, 111, 111, 111, 111, 115,
-    115, 115, 115, 115, 115, 115, 115, 116, 116, 116, 116, 116, 116, 116, 116, 32, 32, 32, 32, 37,
-    37, 37, 37, 45, 45, 45, 45, 46, 46, 46, 46, 47, 47, 47, 47, 51, 51, 51, 51, 52, 52, 52, 52, 53,
-    53, 53, 53, 54, 54, 54, 54, 55, 55, 55, 55, 56, 56, 56, 56, 57, 57, 57, 57, 61, 61, 61, 61, 65,
-    65, 65, 65, 95, 95, 95, 95, 98, 98, 98, 98, 100, 100, 100, 100, 102, 102, 102, 102, 103, 103,
-    103, 103, 104, 104, 104, 104, 108, 108, 108, 108, 109, 109, 109, 109, 110, 110, 110, 110, 112,
-    112, 112, 112, 114, 114, 114, 114, 117, 117, 117, 117, 58, 58, 66, 66, 67, 67, 68, 68, 69, 69,
-    70, 70, 71, 71, 72, 72, 73, 73, 74, 74, 75, 75, 76, 76, 77, 77, 78, 78, 79, 79, 80, 80, 81, 81,
-    82, 82, 83, 83, 84, 84, 85, 85, 86, 86, 87, 87, 89, 89, 106, 106, 107, 107, 113, 113, 118, 118,
-    119, 119, 120, 120, 121, 121, 122, 122, 38, 42, 44, 59, 88, 90, 0, 0,
-];
-
-/// By the next eight bits: the length of the short code that they begin with, or 0.
-static SHORT_LENS: [u8; 256] = [
-    5, 5, 5, 5, 5, 5, 5, 5, 5, 5, 5, 5, 5, 5, 5, 5, 5, 5, 5, 5, 5, 5, 5, 5, 5, 5, 5, 5, 5, 5, 5, 5,
-    5, 5, 5, 5, 5, 5, 5, 5, 5, 5, 5, 5, 5, 5, 5, 5, 5, 5, 5, 5, 5, 5, 5, 5, 5, 5, 5, 5, 5, 5, 5, 5,
-    5, 5, 5, 5, 5, 5, 5, 5, 5, 5, 5, 5, 5, 5, 5, 5, 6, 6, 6, 6, 6, 6, 6, 6, 6, 6, 6, 6, 6, 6, 6, 6,
-    6, 6, 6, 6, 6, 6, 6, 6, 6, 6, 6, 6, 6, 6, 6, 6, 6, 6, 6, 6, 6, 6, 6, 6, 6, 6, 6, 6, 6, 6, 6, 6,
-    6, 6, 6, 6, 6, 6, 6, 6, 6, 6, 6, 6, 6, 6, 6, 6, 6, 6, 6, 6, 6, 6, 6, 6, 6, 6, 6, 6, 6, 6, 6, 6,
-    6, 6, 6, 6, 6, 6, 6, 6, 6, 6, 6, 6, 6, 6, 6, 6, 6, 6, 6, 6, 6, 6, 6, 6, 7, 7, 7, 7, 7, 7, 7, 7,
-    7, 7, 7, 7, 7, 7, 7, 7, 7, 7, 7, 7, 7, 7, 7, 7, 7, 7, 7, 7, 7, 7, 7, 7, 7, 7, 7, 7, 7, 7, 7, 7,
-    7, 7, 7, 7, 7, 7, 7, 7, 7, 7, 7, 7, 7, 7, 7, 7, 7, 7, 7, 7, 7, 7, 7, 7, 8, 8, 8, 8, 8, 8, 0, 0,
-];
-
 /// The longest code.
 const MAX_LEN: u32 = 30;
 
 /// The byte whose code the register begins with, and the length of that code. The register has this many bits.
 fn symbol_at(register: u64, count: u32) -> Option<(u8, u32)>
-    requires count { count < 64 }
-    requires register { register < 2 ^ count }
+    requires { count < 64 }
     ensures octet { IfSome result (λ found. found.0 < 256) }
     ensures len { IfSome result (λ found. (found.1 ≤ count) × (code_length found.0 ≡ found.1)) }
     ensures number { IfSome result (λ found. register / 2 ^ (count - found.1) ≡ code_number found.0) }
     ensures none { IfNone result ((symbol : ℕ) → symbol < 256 → code_length symbol ≤ count
         → register / 2 ^ (count - code_length symbol) ≡ code_number symbol → ⊥) }
 {
-    if count >= SHORT_LEN {
-        let top = (register >> (count - SHORT_LEN)) as usize;
-        if let Some(found) = short_symbol(&SHORT_SYMBOLS, &SHORT_LENS, top) {
-            return Some(found);
-        }
-    }
     symbol_by(&CODES, &SYMBOLS, register, count)
-}
-
-/// The byte whose short code these eight bits begin with, and the length of that code.
-fn short_symbol(symbols: &[u8], lens: &[u8], top: usize) -> Option<(u8, u32)>
-    requires table { IsTrue (is_short_table symbols.now lens.now) }
-    requires top { top < 256 }
-    ensures octet { IfSome result (λ found. found.0 < 256) }
-    ensures len { IfSome result (λ found. (found.1 ≤ 8) × (code_length found.0 ≡ found.1)) }
-    ensures number { IfSome result (λ found. top / 2 ^ (8 - found.1) ≡ code_number found.0) }
-{
-    let len = u32::from(lens[top]);
-    if len == 0 {
-        return None;
-    }
-    Some((symbols[top], len))
 }
 
 fn symbol_by(codes: &[Codes], symbols: &[u8], register: u64, count: u32) -> Option<(u8, u32)>
@@ -255,22 +202,13 @@ fn symbol_by(codes: &[Codes], symbols: &[u8], register: u64, count: u32) -> Opti
     None
 }
 
-/// Moves the bytes whose codes stand at the front of the register to the end of the list, as long as it has this many
-/// bits. Answers what is left of it.
-fn drain(
-    octets: &mut Vec<u8>,
-    mut register: u64,
-    mut count: u32,
-    least: u32,
-) -> Result<(u64, u32), AllocError>
+/// Moves the bytes whose codes stand at the front of the register to the end of the list, and answers what is left.
+fn drain(octets: &mut Vec<u8>, mut register: u64, mut count: u32) -> Result<(u64, u32), AllocError>
     requires count { count < 64 }
     requires register { register < 2 ^ count }
-    ensures { IfOk result (λ left. Drains least octets.old.items octets.new.items count register left.1 left.0) }
+    ensures { IfOk result (λ left. Drains octets.old.items octets.new.items count register left.1 left.0) }
 {
-    while count >= least {
-        let Some((symbol, len)) = symbol_at(register, count) else {
-            return Ok((register, count));
-        };
+    while let Some((symbol, len)) = symbol_at(register, count) {
         octets.push(symbol)?;
         count -= len;
         register %= 1 << count;
@@ -278,13 +216,14 @@ fn drain(
     Ok((register, count))
 }
 
-/// How many bytes a text of this length stands for at most: the shortest code has five bits.
-fn most_octets(len: usize) -> usize {
+/// How many bytes a text of this length stands for at most, and up to eight more: the shortest code has five bits.
+fn most_octets(len: usize) -> usize
+    ensures { min (8 * len) usize.MAX ≤ 5 * result }
+{
     (len / 5 + 1).saturating_mul(8)
 }
 
-/// The bytes that a text stands for. A code is looked up once the register has the bits of the longest one, so that one
-/// is found wherever the text has one.
+/// The bytes that a text stands for.
 pub fn decode(alloc: Global, text: &[u8]) -> Result<Vec<u8>, HpackFault>
     ensures ok { IfOk result (λ octets. IsHuffman text.now octets.items) }
     ensures err { IfErr result (λ fault. IsTextFault fault text.now) }
@@ -293,13 +232,11 @@ pub fn decode(alloc: Global, text: &[u8]) -> Result<Vec<u8>, HpackFault>
     let mut register = 0u64;
     let mut count = 0u32;
     for byte in text {
-        let more = register * 256 + u64::from(*byte);
-        (register, count) = drain(&mut octets, more, count + 8, MAX_LEN)?;
+        (register, count) = drain(&mut octets, register * 256 + u64::from(*byte), count + 8)?;
         if count >= MAX_LEN {
             return Err(HpackFault::Huffman);
         }
     }
-    (register, count) = drain(&mut octets, register, count, 0)?;
     if count < 8 && register == (1 << count) - 1 {
         Ok(octets)
     } else {

@@ -8,8 +8,8 @@ ghost use Rattle.hpack_codec.specs.Table.{Table};
 ghost use Rattle.hpack_codec.specs.Block.{IsBlock};
 ghost use Rattle.hpack_codec.specs.Codec.{Reads, IsFirstFault};
 
-/// A block has one reading over what a decoder kept, or one first fault, and never both. That memory runs out is no
-/// fault of a block, and is left aside.
+/// A block has at most one reading over what a decoder kept, at most one first fault, and never both. That memory runs
+/// out is no fault of a block, and is left aside.
 pub fn one_answer()
     // A block spells one list of fields over a table, and leads to one table, whatever its fields' sizes.
     ensures block { (table next other : Table) (block : List ℕ) (fields others : List Field)

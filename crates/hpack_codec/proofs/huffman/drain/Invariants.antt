@@ -1,8 +1,8 @@
 use Rattle.hpack_codec.proofs.Huffmans.{IsDraining}
 use Rattle.hpack_codec.proofs.huffman.drain.Given as goal
 
-abbrev pub invariant-loop-count : goal.invariant-loop-count
-invariant-loop-count l = IsDraining l.fn.octets.items l.octets.items l.fn.count l.fn.register l.count l.register
+abbrev pub invariant-loop-symbol : goal.invariant-loop-symbol
+invariant-loop-symbol l = IsDraining l.fn.octets.items l.octets.items l.fn.count l.fn.register l.count l.register
 
-abbrev pub decreases-loop-count : goal.decreases-loop-count
-decreases-loop-count l = l.count
+abbrev pub decreases-loop-symbol : goal.decreases-loop-symbol
+decreases-loop-symbol l = l.count
