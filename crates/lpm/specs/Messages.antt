@@ -7,9 +7,13 @@ use Rattle.std.specs.Int.{w32, to_be_bytes, from_be_bytes}
 use Rattle.lpm.specs.declared.fault.LpmFault.{LpmFault}
 use Rattle.lpm.specs.declared.fault.LpmFault.TheVariants.{Compressed, BadFlag, TooLong, CutAtEnd, OutOfMemory}
 
--- one message: the flag 0, as it isn't compressed; its length, big-endian; the message
+-- what stands before a message of so many bytes: the flag 0, as it isn't compressed; the length, big-endian
+abbrev pub prefix_of : ℕ → List ℕ
+prefix_of len = 0 ∷ to_be_bytes w32 len
+
+-- one message, behind its prefix
 unfoldable pub frame : List ℕ → List ℕ
-frame message = 0 ∷ to_be_bytes w32 (length message) ++ message
+frame message = prefix_of (length message) ++ message
 
 -- messages, one after another
 abbrev pub frames : List (List ℕ) → List ℕ

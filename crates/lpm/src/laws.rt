@@ -1,9 +1,9 @@
 //! Laws of the definitions, for whoever builds on them: functions that do nothing, and whose contracts are the laws.
 
-ghost use Rattle.std.specs.Prelude.{◌≡◌, ℕ, List, ◌++◌, Some, None, MatchOption, All};
+ghost use Rattle.std.specs.Prelude.{◌≡◌, ℕ, List, ◌++◌, length, Some, None, MatchOption, All};
 ghost use Rattle.lpm.specs.declared.fault.LpmFault.{LpmFault};
 ghost use Rattle.lpm.specs.declared.TheConstants.{MAX_MESSAGE_LEN};
-ghost use Rattle.lpm.specs.Messages.{max_message_len, frames, IsMessage, Spells, IsFaultyAfter, AreBytes};
+ghost use Rattle.lpm.specs.Messages.{frame, frames, max_message_len, prefix_of, IsMessage, Spells, IsFaultyAfter, AreBytes};
 ghost use Rattle.lpm.specs.Reading.{messages_of, rest_of, fault_of};
 
 /// Of every list of bytes exactly one holds: it spells messages and an unfinished rest, or it is faulty behind
@@ -31,6 +31,11 @@ pub fn longer_reading()
         × (fault_of (frames messages ++ rest) ≡ fault_of rest) }
     ensures fault { (bytes more : List ℕ) (messages : List (List ℕ)) (fault : LpmFault)
         → IsFaultyAfter bytes messages fault → IsFaultyAfter (bytes ++ more) messages fault }
+{}
+
+/// The prefix of a message, and the message right behind it, are its spelling.
+pub fn prefix_and_message()
+    ensures { (message : List ℕ) → prefix_of (length message) ++ message ≡ frame message }
 {}
 
 /// The longest message that the program reads or writes is the longest of the definitions.

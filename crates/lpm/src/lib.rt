@@ -3,7 +3,8 @@
 //! A message is one flag byte (0, as it isn't compressed), its length in four bytes, big-endian, and that many
 //! bytes (gRPC over HTTP/2, PROTOCOL-HTTP2.md, "Length-Prefixed-Message"). `specs/Messages.antt` says which messages
 //! a list of bytes spells, and how far; `laws` that there is one such reading of every list. `Splitter` answers
-//! that reading, in whatever pieces the bytes come, and `write_message` spells one message.
+//! that reading, in whatever pieces the bytes come, and `write_message` spells one message; `write_prefix` what stands
+//! before one.
 //!
 //! Read `fault`, `laws`, `write`, `front` (the message at the front of some bytes), then `splitter`, and `tail` (where
 //! bytes end) last.
@@ -19,7 +20,7 @@ pub mod write;
 pub use fault::LpmFault;
 pub use front::is_frame;
 pub use splitter::{Split, Splitter};
-pub use write::write_message;
+pub use write::{write_message, write_prefix};
 
 /// The longest message that is read or written, in bytes.
 pub const MAX_MESSAGE_LEN: usize = 4_194_304;

@@ -17,6 +17,9 @@ fn the_longest_message(rt: HostRuntime) -> Result<(), Fail> {
     assert_eq!(rt; out.len(), MAX_MESSAGE_LEN + 5);
     assert!(rt; out.starts_with(&LONGEST_PREFIX));
     assert!(rt; is_frame(&out));
+    let mut prefix = Vec::new(alloc);
+    write_prefix(MAX_MESSAGE_LEN, &mut prefix)?;
+    assert_eq!(rt; prefix.as_slice(), LONGEST_PREFIX.as_slice());
     let mut splitter = Splitter::new(alloc);
     splitter.push(&LONGEST_PREFIX)?;
     for piece in longest.chunks(16_384) {

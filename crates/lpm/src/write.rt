@@ -1,7 +1,7 @@
 //! Writing one message.
 
-ghost use Rattle.std.specs.Prelude.{◌≡◌, ◌++◌, length, IfErr, OnErr, OnOk};
-ghost use Rattle.lpm.specs.Messages.{frame, IsMessage};
+ghost use Rattle.std.specs.Prelude.{◌≡◌, ◌≤◌, ◌++◌, length, IfErr, OnErr, OnOk};
+ghost use Rattle.lpm.specs.Messages.{frame, max_message_len, prefix_of, IsMessage};
 ghost use Rattle.lpm.specs.Writes.{RefusesLength};
 
 use crate::front::{PREFIX_LEN, UNCOMPRESSED};
@@ -19,9 +19,34 @@ pub fn write_message(message: &[u8], out: &mut Vec<u8>) -> Result<(), LpmFault>
     if message.len() > MAX_MESSAGE_LEN {
         return Err(LpmFault::TooLong);
     }
-    let [first, second, third, fourth] = (message.len() as u32).to_be_bytes();
     out.reserve(PREFIX_LEN + message.len())?;
-    out.extend_from_slice(&[UNCOMPRESSED, first, second, third, fourth])?;
+    out.extend_from_slice(&prefix(message.len()))?;
     out.extend_from_slice(message)?;
     Ok(())
+}
+
+/// Appends the prefix of a message of `len` bytes, for whoever writes the message itself right behind it, so that message
+/// and prefix lie in one buffer.
+///
+/// Refuses a message of more than `MAX_MESSAGE_LEN` bytes. The memory for the message is the caller's to reserve.
+pub fn write_prefix(len: usize, out: &mut Vec<u8>) -> Result<(), LpmFault>
+    ensures ok { OnOk result (out.new.items ≡ out.old.items ++ prefix_of len) }
+    ensures within { OnOk result (len ≤ max_message_len) }
+    ensures fault { IfErr result (RefusesLength len) }
+    ensures unchanged { OnErr result (out.new.items ≡ out.old.items) }
+{
+    if len > MAX_MESSAGE_LEN {
+        return Err(LpmFault::TooLong);
+    }
+    out.extend_from_slice(&prefix(len))?;
+    Ok(())
+}
+
+/// The prefix of a message of `len` bytes.
+fn prefix(len: usize) -> [u8; PREFIX_LEN]
+    requires { len ≤ max_message_len }
+    ensures { result ≡ prefix_of len }
+{
+    let [first, second, third, fourth] = (len as u32).to_be_bytes();
+    [UNCOMPRESSED, first, second, third, fourth]
 }
