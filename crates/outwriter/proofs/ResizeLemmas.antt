@@ -10,8 +10,8 @@ use Rattle.std.proofs.lemmas.List.Sums.{sum_by-cons}
 use Rattle.indexmap.proofs.ReorderLemmas.{map-reverse}
 use Rattle.flow.specs.Windows.{Windows, Fits, FitsAt}
 use Rattle.flow.specs.WindowHistory.{Step, Resizing, credit_to, spending, since_opening, balance_of, Follows}
-use Rattle.outwriter.specs.declared.settings.PeerSetting.{PeerSetting}
-use Rattle.outwriter.specs.declared.settings.PeerSetting.TheVariants.{TableSize, WindowSize}
+use Rattle.h2frame.specs.declared.settings.PeerSetting.{PeerSetting}
+use Rattle.h2frame.specs.declared.settings.PeerSetting.TheVariants.{TableSize, WindowSize}
 use Rattle.outwriter.specs.Histories.{window_size, window_sizes, CanResize}
 use Rattle.outwriter.specs.Resizes.{IsSeen}
 

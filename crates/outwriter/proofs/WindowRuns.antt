@@ -12,7 +12,7 @@ use Rattle.flow.specs.WindowHistory.{Opening, Credit, Resizing, connection_windo
 use Rattle.flow.specs.WindowHistory.{Step as WindowStep}
 use Rattle.flow.specs.Windows.{Windows, Fits, window, balance, opened, closed, CreditFault, Meets}
 use Rattle.outwriter.specs.declared.control.Control.TheVariants.{Window, Settings, Open}
-use Rattle.outwriter.specs.declared.settings.PeerSetting.{PeerSetting}
+use Rattle.h2frame.specs.declared.settings.PeerSetting.{PeerSetting}
 use Rattle.outwriter.specs.Histories.{CanCredit, CanResize, Takes, opens, window_sizes}
 use Rattle.outwriter.specs.RunState.{HasWindows}
 use Rattle.outwriter.specs.Steps.{Step, Order, Taken}

@@ -8,7 +8,7 @@ use Rattle.h2frame.specs.Spelling.{spelled as spelling}
 use Rattle.lists.specs.declared.field.Field.{Field}
 use Rattle.outwriter.specs.declared.control.Control.TheVariants.{Settings, Ping, Goaway}
 use Rattle.outwriter.specs.declared.control.Control.TheVariants as order
-use Rattle.outwriter.specs.declared.settings.PeerSetting.TheVariants.{TableSize, WindowSize}
+use Rattle.h2frame.specs.declared.settings.PeerSetting.TheVariants.{TableSize, WindowSize}
 use Rattle.outwriter.specs.Calls.{is_called_off}
 use Rattle.outwriter.specs.Frames.{first_settings, settings_ack, reset_frame, goaway_frame, update_frame, data_frame, headers_frame, continuation_frame, is_last}
 use Rattle.outwriter.specs.Histories.{window_sizes, spending_of, closing_of, is_over}

@@ -7,8 +7,8 @@ use Rattle.flow.specs.WindowHistory.{Step as WindowStep}
 use Rattle.flow.specs.Windows.{Fits}
 use Rattle.h2frame.specs.declared.frame.Frame.{Frame}
 use Rattle.outwriter.specs.declared.control.Control.TheVariants.{Settings, Ping, Window, Open, Refuse, Reset, Goaway, InputEnded, Close}
-use Rattle.outwriter.specs.declared.settings.PeerSetting.{PeerSetting}
-use Rattle.outwriter.specs.declared.settings.PeerSetting.TheVariants.{TableSize, WindowSize}
+use Rattle.h2frame.specs.declared.settings.PeerSetting.{PeerSetting}
+use Rattle.h2frame.specs.declared.settings.PeerSetting.TheVariants.{TableSize, WindowSize}
 use Rattle.outwriter.specs.Frames.{is_data, ends_stream, is_reset, resets, ends}
 use Rattle.outwriter.specs.Steps.{Step, Order, Taken, Granted, Written, frames_of}
 

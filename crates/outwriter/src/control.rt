@@ -1,7 +1,6 @@
 //! What the writer's core is told, and why it refuses.
 
-use crate::settings::PeerSettings;
-use h2frame::{ErrorCode, StreamId};
+use h2frame::{ErrorCode, PeerSettings, StreamId};
 use lists::{Field, Sequence};
 use std::fmt;
 

@@ -8,7 +8,7 @@
 //! Which runs are lawful is said in `specs/Runs.antt`: windows, acknowledgements in their order, resets that were asked
 //! for, whole header blocks, nothing behind a stream's end. `specs/Parts.antt` says what the frames of one stream tell, and what items spell.
 //!
-//! Read `settings` and `control` for what goes in; `frames` and `blocks` for the frames that come out; `stream`, `due`,
+//! Read `control` for what goes in; `frames` and `blocks` for the frames that come out; `stream`, `due`,
 //! `resize` and `credit` for what is kept; `out_core` for what a control does, and `next` for the choice of a frame.
 #![tactic(auto)]
 
@@ -21,11 +21,9 @@ pub mod next;
 pub mod out_core;
 mod outbound;
 mod resize;
-mod settings;
 mod stream;
 mod writing;
 
 pub use control::{Control, OutFault};
 pub use next::Next;
 pub use out_core::OutCore;
-pub use settings::{PeerSetting, PeerSettings};

@@ -5,8 +5,8 @@ ghost use Rattle.flow.specs.WindowHistory.{Step, Resizing, Follows};
 ghost use Rattle.outwriter.specs.Histories.{window_sizes, CanResize};
 ghost use Rattle.outwriter.specs.Resizes.{IsSeen};
 
-use crate::settings::PeerSetting;
 use flow::{SendWindows, WindowFault};
+use h2frame::PeerSetting;
 
 /// Sets the initial windows of SETTINGS, of which the last one counts. All of them have to fit, so the greatest is tried
 /// first.

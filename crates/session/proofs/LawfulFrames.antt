@@ -8,7 +8,7 @@ use Rattle.h2frame.specs.declared.fault.FrameFault.{FrameFault}
 use Rattle.h2frame.specs.declared.fault.FrameFault.TheVariants.{TooLong, BadLength, WrongStream}
 use Rattle.h2frame.specs.declared.frame.Frame.{Frame}
 use Rattle.h2frame.specs.declared.kind.FrameKind.{FrameKind}
-use Rattle.h2frame.specs.declared.kind.FrameKind.TheVariants.{Data, RstStream, Settings, WindowUpdate}
+use Rattle.h2frame.specs.declared.kind.FrameKind.TheVariants.{Data, Ping, RstStream, Settings, WindowUpdate}
 use Rattle.h2frame.specs.Flags.{has, ack, is_padded_kind, has_priority_kind}
 use Rattle.h2frame.specs.Faults.{may_be_on, may_have_length, head_fault}
 use Rattle.h2frame.specs.FrameList.{IsLawful}
@@ -48,6 +48,9 @@ length_of frame is k kind = subst (λ (j : FrameKind). may_have_length j frame.h
 
 pub reset_length : (frame : Frame) → IsLawful frame → frame.head.kind ≡ RstStream → length frame.content ≡ 4
 reset_length frame is kind = all_content frame is RstStream kind refl refl ∙ eqb-true frame.head.length 4 (length_of frame is RstStream kind)
+
+pub ping_length : (frame : Frame) → IsLawful frame → frame.head.kind ≡ Ping → length frame.content ≡ 8
+ping_length frame is kind = all_content frame is Ping kind refl refl ∙ eqb-true frame.head.length 8 (length_of frame is Ping kind)
 
 pub window_length : (frame : Frame) → IsLawful frame → frame.head.kind ≡ WindowUpdate → length frame.content ≡ 4
 window_length frame is kind = all_content frame is WindowUpdate kind refl refl ∙ eqb-true frame.head.length 4 (length_of frame is WindowUpdate kind)

@@ -20,8 +20,6 @@ pub mod StreamEnds
 pub mod OpenStreamEnds
 pub mod NewStreamEnds
 pub mod OneSettings
-pub mod OneHead
-pub mod OneBlock
 pub mod OneGroup
 pub mod OneHeaderBlock
 pub mod OnePiece

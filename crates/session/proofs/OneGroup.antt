@@ -13,20 +13,20 @@ use Rattle.hpack_codec.specs.Table.{Table}
 use Rattle.hpack_codec.proofs.Unique.{only_fields, only_memory}
 use Rattle.callhead.specs.declared.head.CallHead.{CallHead}
 use Rattle.callhead.specs.declared.fault.HeadFault.{HeadFault}
+use Rattle.hpack_codec.proofs.OneBlock.{fault_one}
+use Rattle.callhead.proofs.OneHead.{head_one, head_or_fault, head_fault_one}
 use Rattle.flow.specs.declared.halves.HalfVerdict.{HalfVerdict}
 use Rattle.flow.specs.declared.halves.HalfVerdict.TheVariants.{Open, Accept, Discard, StreamError, ConnectionError}
 use Rattle.flow.specs.Halves.{Event, verdict}
 use Rattle.session.specs.declared.event.Control.TheVariants as controls
 use Rattle.session.specs.declared.event.InEvent.{InEvent}
 use Rattle.session.specs.declared.event.InEvent.TheVariants as events
-use Rattle.session.specs.declared.settings.PeerSetting.{PeerSetting}
+use Rattle.h2frame.specs.declared.settings.PeerSetting.{PeerSetting}
 use Rattle.session.specs.Streams.{after_frame, end_of}
 use Rattle.session.specs.Frames.{fatal, SettingsGive, WindowGives, KindGives}
 use Rattle.session.specs.Blocks.{bad_head_events, after_bad_head, block_error, HeadGives, FieldsGive, BlockGives}
 use Rattle.session.specs.Events.{Situation, Group, Single, Credit, Block, GroupGives, IsCalm}
 use Rattle.session.proofs.OneSettings.{tells_one, refused_one, told_or_refused}
-use Rattle.session.proofs.OneHead.{head_one, head_or_fault, head_fault_one}
-use Rattle.session.proofs.OneBlock.{block_error_one}
 
 both : {X Y : Type 0} (a b due : X) (x y to : Y) → (a ≡ due) × (x ≡ to) → (b ≡ due) × (y ≡ to) → (a ≡ b) × (x ≡ y)
 both a b due x y to (e, f) (g, h) = (e ∙ sym g, f ∙ sym h)
@@ -96,7 +96,7 @@ block_one kept kept_next kept_last head judged block history next last given oth
 block_one kept kept_next kept_last head judged block history next last given other (inr (fault, first, live, e, f)) (inl (fields, reads, gives)) =
     absurd (live (only_memory fault kept kept_last block fields reads first))
 block_one kept kept_next kept_last head judged block history next last given other (inr (fault, first, live, e, f)) (inr (fault', first', live', e', f')) = (
-  e ∙ ap (λ (c : ErrorCode). fatal c) (block_error_one fault fault' kept block first first' live live') ∙ sym e',
+  e ∙ ap (λ (c : ErrorCode). fatal c) (ap block_error (fault_one fault fault' kept block first first' live live')) ∙ sym e',
   λ calm. absurd (not_calm_end given (block_error fault) e calm),
 )
 

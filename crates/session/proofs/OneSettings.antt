@@ -9,7 +9,7 @@ use Rattle.h2frame.specs.declared.setting.SettingId.{SettingId}
 use Rattle.h2frame.specs.Setting.{setting_of, setting_code}
 use Rattle.hpack_codec.proofs.Bits.{fronts_one}
 use Rattle.session.specs.declared.settings.Parameter.{Parameter}
-use Rattle.session.specs.declared.settings.PeerSetting.{PeerSetting}
+use Rattle.h2frame.specs.declared.settings.PeerSetting.{PeerSetting}
 use Rattle.session.specs.Settings.{parameter_text, IsParameter, AreLawful, parameter_fault, parameter_told, Tells, IsRefused}
 
 abbrev parameter_of : SettingId → ℕ → Parameter

@@ -6,7 +6,7 @@ use Rattle.std.proofs.lemmas.List.{append-nil, flat_map_more, nil_from_length, t
 use Rattle.std.proofs.lemmas.List.Elements.{filter_map-append}
 use Rattle.h2frame.specs.declared.error_code.ErrorCode.{ErrorCode}
 use Rattle.session.specs.declared.settings.Parameter.{Parameter}
-use Rattle.session.specs.declared.settings.PeerSetting.{PeerSetting}
+use Rattle.h2frame.specs.declared.settings.PeerSetting.{PeerSetting}
 use Rattle.session.specs.Settings.{parameter_text, IsParameter, AreLawful, parameter_fault, parameter_told, Tells, IsRefused}
 
 -- the parameters up to the rest are lawful, and tell these

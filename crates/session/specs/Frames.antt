@@ -11,7 +11,7 @@ use Rattle.flow.specs.Halves.{Event, verdict}
 use Rattle.session.specs.declared.event.Control.TheVariants as controls
 use Rattle.session.specs.declared.event.InEvent.{InEvent}
 use Rattle.session.specs.declared.event.InEvent.TheVariants as events
-use Rattle.session.specs.declared.settings.PeerSetting.{PeerSetting}
+use Rattle.h2frame.specs.declared.settings.PeerSetting.{PeerSetting}
 use Rattle.session.specs.Settings.{Tells, IsRefused}
 use Rattle.session.specs.Streams.{after_frame, data_events, reset_events, window_event, window_events}
 

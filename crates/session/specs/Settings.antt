@@ -5,11 +5,11 @@ use Rattle.std.specs.Int.{w16, w32, to_be_bytes}
 use Rattle.h2frame.specs.declared.error_code.ErrorCode.{ErrorCode}
 use Rattle.h2frame.specs.declared.error_code.ErrorCode.TheVariants.{ProtocolError, FlowControlError}
 use Rattle.h2frame.specs.declared.setting.SettingId.{SettingId}
-use Rattle.h2frame.specs.declared.setting.SettingId.TheVariants.{HeaderTableSize, EnablePush, InitialWindowSize, MaxFrameSize}
+use Rattle.h2frame.specs.declared.setting.SettingId.TheVariants.{EnablePush, InitialWindowSize, MaxFrameSize}
+use Rattle.h2frame.specs.declared.settings.PeerSetting.{PeerSetting}
 use Rattle.h2frame.specs.Setting.{setting_of, setting_code}
+use Rattle.h2frame.specs.Settings.{told}
 use Rattle.session.specs.declared.settings.Parameter.{Parameter}
-use Rattle.session.specs.declared.settings.PeerSetting.{PeerSetting}
-use Rattle.session.specs.declared.settings.PeerSetting.TheVariants.{TableSize, WindowSize}
 use Rattle.session.specs.declared.settings.SettingsFault.{SettingsFault}
 use Rattle.session.specs.declared.settings.SettingsFault.TheVariants.{Refused, OutOfMemory}
 
@@ -44,12 +44,7 @@ parameter_fault parameter = value_fault parameter.id parameter.value
 abbrev pub AreLawful : List Parameter → Type 0
 AreLawful parameters = AllByRecursion (λ parameter. parameter_fault parameter ≡ None) parameters
 
--- what a parameter tells a server that keeps no dynamic table larger, and pushes nothing
-abbrev pub told : SettingId → ℕ → Option PeerSetting
-told HeaderTableSize value = Some (TableSize value)
-told InitialWindowSize value = Some (WindowSize value)
-told _ value = None
-
+-- what a parameter tells a server
 abbrev pub parameter_told : Parameter → Option PeerSetting
 parameter_told parameter = told parameter.id parameter.value
 

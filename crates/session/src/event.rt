@@ -1,15 +1,10 @@
 //! What the bytes of a connection come to, one event after another.
 //!
-//! `Control` has what the peer tells or asks of the side that writes, and no ends of calls. A PING's eight bytes share the
-//! frame's memory.
-//!
-//! `Control` has what the peer tells or asks of the side that writes, and no ends of calls. A PING's eight bytes share
-//! the frame's memory.
+//! `Control` has what the peer tells or asks of the side that writes, and no ends of calls.
 
-use crate::settings::PeerSettings;
 use bytes::Bytes;
 use callhead::{CallHead, HeadFault};
-use h2frame::{ErrorCode, StreamId};
+use h2frame::{ErrorCode, PeerSettings, StreamId};
 
 /// What the peer tells or asks of the side that writes.
 #[derive(Debug, Drop)]
@@ -17,7 +12,7 @@ pub enum Control {
     /// SETTINGS, which are to be acknowledged.
     Settings(PeerSettings),
     /// PING with these eight bytes, which are to be sent back.
-    Ping(Bytes),
+    Ping([u8; 8]),
     /// So many bytes more may be sent on a stream, or on the connection where it is 0.
     Window(StreamId, u32),
 }

@@ -5,7 +5,7 @@ ghost use Rattle.std.specs.Int.{w32, from_be_bytes};
 ghost use Rattle.h2frame.specs.ErrorCode.{error_of};
 ghost use Rattle.h2frame.specs.Flags.{has, ack};
 ghost use Rattle.h2frame.specs.FrameList.{IsLawful};
-ghost use Rattle.h2frame.specs.declared.kind.FrameKind.TheVariants.{Data, Headers, RstStream, Settings, WindowUpdate};
+ghost use Rattle.h2frame.specs.declared.kind.FrameKind.TheVariants.{Data, Headers, Ping, RstStream, Settings, WindowUpdate};
 ghost use Rattle.flow.specs.declared.halves.HalfVerdict.TheVariants.{Open};
 ghost use Rattle.flow.specs.Halves.{Event, IsJudged, Stands, half_of, verdict};
 ghost use Rattle.session.specs.declared.event.InEvent.{InEvent};
@@ -15,7 +15,7 @@ ghost use Rattle.session.specs.Frames.{Gives, SettingsGive, WindowGives, ping_ev
 use crate::event::{Control, InEvent};
 use crate::settings::{SettingsFault, read_settings};
 use flow::{HalfVerdict, Halves};
-use h2frame::{ErrorCode, Flags, Frame, FrameHead, FrameKind, StreamId, increment};
+use h2frame::{ErrorCode, Flags, Frame, FrameHead, FrameKind, StreamId, increment, ping_bytes};
 use std::alloc::{AllocError, Global};
 
 /// Judges a frame of a stream. An error of the stream resets it.
@@ -252,11 +252,15 @@ fn settings_events(alloc: Global, frame: Frame, events: &mut Vec<InEvent>) -> Re
     Ok(())
 }
 
+#[tactic(auto, using(crate::proofs::LawfulFrames::ping_length))]
 fn ping_events(frame: Frame, events: &mut Vec<InEvent>) -> Result<(), AllocError>
+    requires lawful { IsLawful frame }
+    requires kind { frame.head.kind ≡ Ping }
     ensures { OnOk result (events.new.items ≡ events.old.items ++ ping_events (has ack frame.head.flags) frame.content) }
 {
     if !frame.head.flags.contains(Flags::ACK) {
-        events.push(InEvent::Control(Control::Ping(frame.content)))?;
+        let bytes = ping_bytes(frame.content.as_slice());
+        events.push(InEvent::Control(Control::Ping(bytes)))?;
     }
     Ok(())
 }

@@ -23,5 +23,4 @@ pub use event::{Control, InEvent};
 pub use header_block::{FragmentFault, HeaderBlock, MAX_BLOCK};
 pub use in_core::InCore;
 pub use preface::{BadPreface, Preface};
-pub use settings::{Parameter, PeerSetting, PeerSettings, SettingsFault, read_settings};
-
+pub use settings::{Parameter, SettingsFault, read_settings};

@@ -4,9 +4,8 @@ ghost use Rattle.std.specs.Prelude.{◌≡◌, ◌%◌, length, IfOk, IfErr};
 ghost use Rattle.session.specs.declared.settings.SettingsFault.TheVariants.{OutOfMemory};
 ghost use Rattle.session.specs.Settings.{IsParameter, parameter_text, parameter_fault, parameter_told, IsSettingsFault, Tells};
 
-use h2frame::{ErrorCode, SettingId};
+use h2frame::{ErrorCode, PeerSetting, PeerSettings, SettingId};
 use std::alloc::{AllocError, AllocFailed, Global};
-use std::marker::Model;
 use thiserror::Error;
 
 /// The bytes of a parameter in a frame.
@@ -25,38 +24,6 @@ const MOST_PAYLOAD: u32 = 16_777_215;
 pub struct Parameter {
     pub id: SettingId,
     pub value: u32,
-}
-
-/// What the peer's SETTINGS tell a server that writes header blocks and DATA.
-#[derive(Clone, Copy, Debug, PartialEq, Eq)]
-pub enum PeerSetting {
-    /// The largest dynamic table that its decoder keeps.
-    TableSize(u32),
-    /// The window of each stream, at first.
-    WindowSize(u32),
-}
-
-/// What SETTINGS tell, in their order. A clause sees the list of them.
-#[derive(Debug, Drop)]
-pub struct PeerSettings {
-    items: Vec<PeerSetting>,
-}
-
-impl Model for PeerSettings {
-    ghost use Rattle.std.specs.Prelude.{List};
-    ghost use Rattle.session.specs.declared.settings.PeerSetting.{PeerSetting};
-
-    ghost Value = { List PeerSetting };
-
-    ghost view = { λ settings. settings.items.items };
-}
-
-impl PeerSettings {
-    pub fn as_slice(&self) -> &[PeerSetting]
-        ensures { result.now ≡ self.now }
-    {
-        self.items.as_slice()
-    }
 }
 
 /// Why the content of a SETTINGS frame is not taken.
@@ -120,11 +87,7 @@ impl Parameter {
     pub fn told(&self) -> Option<PeerSetting>
         ensures { result ≡ parameter_told self.now }
     {
-        match self.id {
-            SettingId::HeaderTableSize => Some(PeerSetting::TableSize(self.value)),
-            SettingId::InitialWindowSize => Some(PeerSetting::WindowSize(self.value)),
-            _ => None,
-        }
+        PeerSetting::told(self.id, self.value)
     }
 }
 
@@ -147,5 +110,5 @@ pub fn read_settings(alloc: Global, content: &[u8]) -> Result<PeerSettings, Sett
         }
         rest = behind;
     }
-    Ok(PeerSettings { items: settings })
+    Ok(PeerSettings::from(settings))
 }

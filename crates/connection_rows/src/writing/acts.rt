@@ -4,8 +4,8 @@ use super::calls::{Ring, fields, sender};
 use super::peer::Peer;
 use anyhow::{Context, Result, bail};
 use callbox::Sender;
-use h2frame::ErrorCode;
-use outwriter::{Control, Next, OutCore, PeerSetting, PeerSettings};
+use h2frame::{ErrorCode, PeerSetting, PeerSettings};
+use outwriter::{Control, Next, OutCore};
 use std::alloc::Global;
 use std::mem;
 

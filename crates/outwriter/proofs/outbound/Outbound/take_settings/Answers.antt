@@ -3,7 +3,7 @@ use Rattle.std.proofs.Common.{sym, refl, subst, List, ◌∷◌}
 use Rattle.std.proofs.lemmas.List.Elements.{All-nil}
 use Rattle.outwriter.specs.declared.control.Control.TheVariants.{Settings}
 use Rattle.outwriter.specs.declared.due.Due.TheVariants.{SettingsAck}
-use Rattle.outwriter.specs.declared.settings.PeerSetting.{PeerSetting}
+use Rattle.h2frame.specs.declared.settings.PeerSetting.{PeerSetting}
 use Rattle.outwriter.specs.RunState.{HasWindows, HasDue}
 use Rattle.outwriter.specs.Steps.{Taken}
 use Rattle.outwriter.proofs.RunStateSteps.{taken, more-due}
