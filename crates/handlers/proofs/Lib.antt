@@ -3,3 +3,6 @@ pub mod ManyMessageSteps
 pub mod OneAnswer
 pub mod OneSum
 pub mod LastStatus
+pub mod Growing
+pub mod SomeAnswer
+pub mod ShortReplies
