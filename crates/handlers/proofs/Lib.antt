@@ -6,3 +6,4 @@ pub mod LastStatus
 pub mod Growing
 pub mod SomeAnswer
 pub mod ShortReplies
+pub mod AtIndex

@@ -111,6 +111,14 @@ HasGrowingReplies answers = (messages more : List (List ℕ)) (ended : Bool) (an
 abbrev pub HasShortReplies : (List (List ℕ) → Bool → Step → Type 0) → Type 0
 HasShortReplies answers = (messages : List (List ℕ)) (ended : Bool) (answer : Step) → answers messages ended answer → AllByRecursion IsShort answer.replies
 
+-- the law of a method's answers
+pub record IsLawful (answers : List (List ℕ) → Bool → Step → Type 0) : Type 0 where
+  pub some : HasAnswer answers
+  pub one : HasOneAnswer answers
+  pub grows : HasGrowingReplies answers
+  pub short : HasShortReplies answers
+  pub status : HasStatusAtEnd answers
+
 -- ---- what a state stands for: the messages of the call so far, to which this was answered
 
 -- the call has its status

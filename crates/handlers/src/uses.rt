@@ -1,3 +1,4 @@
 //! What is written over the public calls alone, to show that they suffice.
 
+pub mod by_index;
 pub mod whole_call;
