@@ -7,3 +7,4 @@ pub mod Growing
 pub mod SomeAnswer
 pub mod ShortReplies
 pub mod AtIndex
+pub mod ReplyLengths
