@@ -202,7 +202,8 @@ impl Replies {
     }
 
     pub fn push(&mut self, reply: Reply) -> Result<(), AllocError>
-        ensures { OnOk result (self.new ≡ self.old ++ reply ∷ []) }
+        ensures ok { OnOk result (self.new ≡ self.old ++ reply ∷ []) }
+        ensures err { OnErr result (self.new ≡ self.old) }
     {
         self.items.push(reply)?;
         Ok(())

@@ -62,8 +62,8 @@ decide_fields : (accepts : Field → Type 0) (refuses : Field → ProtoFault →
 decide_fields accepts refuses decided input [] rest starts = inl tt
 decide_fields accepts refuses decided input (field ∷ fields) rest starts =
     elim (decided field) [
-      inl good ↦ elim (decide_fields accepts refuses decided starts.0 fields rest starts.2) [
-        inl all ↦ inl (good, all)
+      | inl good ↦ elim (decide_fields accepts refuses decided starts.0 fields rest starts.2) [
+        | inl all ↦ inl (good, all)
         | inr stop ↦ inr (stops_later accepts refuses input field starts.0 starts.1 good stop)
       ]
       | inr bad ↦ inr (record {
@@ -86,12 +86,12 @@ by_stop : (accepts : Field → Type 0) (refuses : Field → ProtoFault → Type 
     → IsReading input fields stop → IsWellFormed accepts input ⊎ ((fault : ProtoFault) × HasFault accepts refuses input fault)
 by_stop accepts refuses decided input fields None reading =
     elim (decide_fields accepts refuses decided input fields [] reading) [
-      inl all ↦ inl (fields, reading, all)
+      | inl all ↦ inl (fields, reading, all)
       | inr stop ↦ inr (fault_of accepts refuses input stop)
     ]
 by_stop accepts refuses decided input fields (Some wire) reading =
     elim (decide_fields accepts refuses decided input fields reading.0 reading.1) [
-      inl all ↦ inr (Wire wire, (fields, reading.0, reading.1, all, inl (wire, reading.2, refl)))
+      | inl all ↦ inr (Wire wire, (fields, reading.0, reading.1, all, inl (wire, reading.2, refl)))
       | inr stop ↦ inr (fault_of accepts refuses input stop)
     ]
 
@@ -149,7 +149,7 @@ text_or_not text = elim (utf8_by_test text (is_utf8 text) refl) [ inl good ↦ i
 pub decided_text : (number : ℕ) → AreDecided (AcceptsText number) (RefusesText number)
 decided_text number field =
     elim (good_or_bad IsUtf8 IsNoText text_or_not (content_in number field) (none_or_one number field)) [
-      inl good ↦ inl good
+      | inl good ↦ inl good
       | inr bad ↦ inr (bad.0, (bad.1, bad.2, bad.3.0, bad.3.1))
     ]
 
@@ -157,7 +157,7 @@ pub decided_message : (accepts : Field → Type 0) (refuses : Field → ProtoFau
     → AreDecided (AcceptsMessage accepts number) (RefusesMessage (HasFault accepts refuses) number)
 decided_message accepts refuses decided number field =
     elim (good_or_bad (IsWellFormed accepts) (HasFault accepts refuses) (well_formed_or_fault accepts refuses decided) (content_in number field) (none_or_one number field)) [
-      inl good ↦ inl good
+      | inl good ↦ inl good
       | inr bad ↦ inr (bad.0, (bad.1, bad.2, bad.3))
     ]
 
@@ -207,6 +207,6 @@ pub value_or_fault : {M : Type 0} (accepts : Field → Type 0) (refuses : Field 
     → HasValueOrFault accepts refuses is_value
 value_or_fault accepts refuses is_value decided has input =
     elim (well_formed_or_fault accepts refuses decided input) [
-      inl good ↦ (let value = has good.0 good.2 in inl (value.0, (good.0, good.1, good.2, value.1)))
+      | inl good ↦ (let value = has good.0 good.2 in inl (value.0, (good.0, good.1, good.2, value.1)))
       | inr bad ↦ inr bad
     ]

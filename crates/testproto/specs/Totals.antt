@@ -15,21 +15,19 @@ pub total_empty : HasValueOrFault AcceptsAll RefusesNone IsEmpty
 total_empty = value_or_fault AcceptsAll RefusesNone IsEmpty decided_all has_empty
 
 has_payload : HaveValues AcceptsAll IsPayload
-has_payload fields all =
-    (
-      record { kind = int32 1 fields; body = byte_string 2 fields },
-      record { kind = refl; body = refl },
-    )
+has_payload fields all = (
+  record { kind = int32 1 fields; body = byte_string 2 fields },
+  record { kind = refl; body = refl },
+)
 
 pub total_payload : HasValueOrFault AcceptsAll RefusesNone IsPayload
 total_payload = value_or_fault AcceptsAll RefusesNone IsPayload decided_all has_payload
 
 has_bool_value : HaveValues AcceptsAll IsBoolValue
-has_bool_value fields all =
-    (
-      record { value = boolean 1 fields },
-      record { value = refl },
-    )
+has_bool_value fields all = (
+  record { value = boolean 1 fields },
+  record { value = refl },
+)
 
 pub total_bool_value : HasValueOrFault AcceptsAll RefusesNone IsBoolValue
 total_bool_value = value_or_fault AcceptsAll RefusesNone IsBoolValue decided_all has_bool_value
@@ -38,11 +36,10 @@ decided_echo_status : AreDecided AcceptsEchoStatus RefusesEchoStatus
 decided_echo_status = decided_text 2
 
 has_echo_status : HaveValues AcceptsEchoStatus IsEchoStatus
-has_echo_status fields all =
-    (
-      record { code = int32 1 fields; message = byte_string 2 fields },
-      record { code = refl; message = refl },
-    )
+has_echo_status fields all = (
+  record { code = int32 1 fields; message = byte_string 2 fields },
+  record { code = refl; message = refl },
+)
 
 pub total_echo_status : HasValueOrFault AcceptsEchoStatus RefusesEchoStatus IsEchoStatus
 total_echo_status = value_or_fault AcceptsEchoStatus RefusesEchoStatus IsEchoStatus decided_echo_status has_echo_status
@@ -50,20 +47,20 @@ total_echo_status = value_or_fault AcceptsEchoStatus RefusesEchoStatus IsEchoSta
 decided_simple_request : AreDecided AcceptsSimpleRequest RefusesSimpleRequest
 decided_simple_request field =
     elim (decided_message AcceptsAll RefusesNone decided_all 3 field) [
-      inr bad ↦ inr (bad.0, inl bad.1)
+      | inr bad ↦ inr (bad.0, inl bad.1)
       | inl payload ↦
-        elim (decided_message AcceptsAll RefusesNone decided_all 6 field) [
-          inr bad ↦ inr (bad.0, inr (inl bad.1))
-          | inl response_compressed ↦
-            elim (decided_message AcceptsEchoStatus RefusesEchoStatus decided_echo_status 7 field) [
-              inr bad ↦ inr (bad.0, inr (inr (inl bad.1)))
-              | inl response_status ↦
-                elim (decided_message AcceptsAll RefusesNone decided_all 8 field) [
-                  inr bad ↦ inr (bad.0, inr (inr (inr bad.1)))
-                  | inl expect_compressed ↦ inl (record { payload = payload; response_compressed = response_compressed; response_status = response_status; expect_compressed = expect_compressed })
+          elim (decided_message AcceptsAll RefusesNone decided_all 6 field) [
+            | inr bad ↦ inr (bad.0, inr (inl bad.1))
+            | inl response_compressed ↦
+                elim (decided_message AcceptsEchoStatus RefusesEchoStatus decided_echo_status 7 field) [
+                  | inr bad ↦ inr (bad.0, inr (inr (inl bad.1)))
+                  | inl response_status ↦
+                      elim (decided_message AcceptsAll RefusesNone decided_all 8 field) [
+                        | inr bad ↦ inr (bad.0, inr (inr (inr bad.1)))
+                        | inl expect_compressed ↦ inl (record { payload = payload; response_compressed = response_compressed; response_status = response_status; expect_compressed = expect_compressed })
+                      ]
                 ]
-            ]
-        ]
+          ]
     ]
 
 has_simple_request : HaveValues AcceptsSimpleRequest IsSimpleRequest
@@ -71,8 +68,7 @@ has_simple_request fields all =
     let payload = held AcceptsAll IsPayload has_payload 3 fields (all_map AcceptsSimpleRequest (AcceptsMessage AcceptsAll 3) (λ field good. good.payload) fields all) in
     let response_compressed = held AcceptsAll IsBoolValue has_bool_value 6 fields (all_map AcceptsSimpleRequest (AcceptsMessage AcceptsAll 6) (λ field good. good.response_compressed) fields all) in
     let response_status = held AcceptsEchoStatus IsEchoStatus has_echo_status 7 fields (all_map AcceptsSimpleRequest (AcceptsMessage AcceptsEchoStatus 7) (λ field good. good.response_status) fields all) in
-    let expect_compressed = held AcceptsAll IsBoolValue has_bool_value 8 fields (all_map AcceptsSimpleRequest (AcceptsMessage AcceptsAll 8) (λ field good. good.expect_compressed) fields all) in
-    (
+    let expect_compressed = held AcceptsAll IsBoolValue has_bool_value 8 fields (all_map AcceptsSimpleRequest (AcceptsMessage AcceptsAll 8) (λ field good. good.expect_compressed) fields all) in (
       record { response_type = int32 1 fields; response_size = int32 2 fields; payload = payload.0; fill_username = boolean 4 fields; fill_oauth_scope = boolean 5 fields; response_compressed = response_compressed.0; response_status = response_status.0; expect_compressed = expect_compressed.0 },
       record { response_type = refl; response_size = refl; payload = payload.1; fill_username = refl; fill_oauth_scope = refl; response_compressed = response_compressed.1; response_status = response_status.1; expect_compressed = expect_compressed.1 },
     )
@@ -83,22 +79,21 @@ total_simple_request = value_or_fault AcceptsSimpleRequest RefusesSimpleRequest 
 decided_simple_response : AreDecided AcceptsSimpleResponse RefusesSimpleResponse
 decided_simple_response field =
     elim (decided_message AcceptsAll RefusesNone decided_all 1 field) [
-      inr bad ↦ inr (bad.0, inl bad.1)
+      | inr bad ↦ inr (bad.0, inl bad.1)
       | inl payload ↦
-        elim (decided_text 2 field) [
-          inr bad ↦ inr (bad.0, inr (inl bad.1))
-          | inl username ↦
-            elim (decided_text 3 field) [
-              inr bad ↦ inr (bad.0, inr (inr bad.1))
-              | inl oauth_scope ↦ inl (record { payload = payload; username = username; oauth_scope = oauth_scope })
-            ]
-        ]
+          elim (decided_text 2 field) [
+            | inr bad ↦ inr (bad.0, inr (inl bad.1))
+            | inl username ↦
+                elim (decided_text 3 field) [
+                  | inr bad ↦ inr (bad.0, inr (inr bad.1))
+                  | inl oauth_scope ↦ inl (record { payload = payload; username = username; oauth_scope = oauth_scope })
+                ]
+          ]
     ]
 
 has_simple_response : HaveValues AcceptsSimpleResponse IsSimpleResponse
 has_simple_response fields all =
-    let payload = held AcceptsAll IsPayload has_payload 1 fields (all_map AcceptsSimpleResponse (AcceptsMessage AcceptsAll 1) (λ field good. good.payload) fields all) in
-    (
+    let payload = held AcceptsAll IsPayload has_payload 1 fields (all_map AcceptsSimpleResponse (AcceptsMessage AcceptsAll 1) (λ field good. good.payload) fields all) in (
       record { payload = payload.0; username = byte_string 2 fields; oauth_scope = byte_string 3 fields },
       record { payload = payload.1; username = refl; oauth_scope = refl },
     )
@@ -109,19 +104,18 @@ total_simple_response = value_or_fault AcceptsSimpleResponse RefusesSimpleRespon
 decided_streaming_input_call_request : AreDecided AcceptsStreamingInputCallRequest RefusesStreamingInputCallRequest
 decided_streaming_input_call_request field =
     elim (decided_message AcceptsAll RefusesNone decided_all 1 field) [
-      inr bad ↦ inr (bad.0, inl bad.1)
+      | inr bad ↦ inr (bad.0, inl bad.1)
       | inl payload ↦
-        elim (decided_message AcceptsAll RefusesNone decided_all 2 field) [
-          inr bad ↦ inr (bad.0, inr bad.1)
-          | inl expect_compressed ↦ inl (record { payload = payload; expect_compressed = expect_compressed })
-        ]
+          elim (decided_message AcceptsAll RefusesNone decided_all 2 field) [
+            | inr bad ↦ inr (bad.0, inr bad.1)
+            | inl expect_compressed ↦ inl (record { payload = payload; expect_compressed = expect_compressed })
+          ]
     ]
 
 has_streaming_input_call_request : HaveValues AcceptsStreamingInputCallRequest IsStreamingInputCallRequest
 has_streaming_input_call_request fields all =
     let payload = held AcceptsAll IsPayload has_payload 1 fields (all_map AcceptsStreamingInputCallRequest (AcceptsMessage AcceptsAll 1) (λ field good. good.payload) fields all) in
-    let expect_compressed = held AcceptsAll IsBoolValue has_bool_value 2 fields (all_map AcceptsStreamingInputCallRequest (AcceptsMessage AcceptsAll 2) (λ field good. good.expect_compressed) fields all) in
-    (
+    let expect_compressed = held AcceptsAll IsBoolValue has_bool_value 2 fields (all_map AcceptsStreamingInputCallRequest (AcceptsMessage AcceptsAll 2) (λ field good. good.expect_compressed) fields all) in (
       record { payload = payload.0; expect_compressed = expect_compressed.0 },
       record { payload = payload.1; expect_compressed = expect_compressed.1 },
     )
@@ -130,11 +124,10 @@ pub total_streaming_input_call_request : HasValueOrFault AcceptsStreamingInputCa
 total_streaming_input_call_request = value_or_fault AcceptsStreamingInputCallRequest RefusesStreamingInputCallRequest IsStreamingInputCallRequest decided_streaming_input_call_request has_streaming_input_call_request
 
 has_streaming_input_call_response : HaveValues AcceptsAll IsStreamingInputCallResponse
-has_streaming_input_call_response fields all =
-    (
-      record { aggregated_payload_size = int32 1 fields },
-      record { aggregated_payload_size = refl },
-    )
+has_streaming_input_call_response fields all = (
+  record { aggregated_payload_size = int32 1 fields },
+  record { aggregated_payload_size = refl },
+)
 
 pub total_streaming_input_call_response : HasValueOrFault AcceptsAll RefusesNone IsStreamingInputCallResponse
 total_streaming_input_call_response = value_or_fault AcceptsAll RefusesNone IsStreamingInputCallResponse decided_all has_streaming_input_call_response
@@ -144,8 +137,7 @@ decided_response_parameters = decided_message AcceptsAll RefusesNone decided_all
 
 has_response_parameters : HaveValues AcceptsResponseParameters IsResponseParameters
 has_response_parameters fields all =
-    let compressed = held AcceptsAll IsBoolValue has_bool_value 3 fields all in
-    (
+    let compressed = held AcceptsAll IsBoolValue has_bool_value 3 fields all in (
       record { size = int32 1 fields; interval_us = int32 2 fields; compressed = compressed.0 },
       record { size = refl; interval_us = refl; compressed = compressed.1 },
     )
@@ -156,24 +148,23 @@ total_response_parameters = value_or_fault AcceptsResponseParameters RefusesResp
 decided_streaming_output_call_request : AreDecided AcceptsStreamingOutputCallRequest RefusesStreamingOutputCallRequest
 decided_streaming_output_call_request field =
     elim (decided_message AcceptsResponseParameters RefusesResponseParameters decided_response_parameters 2 field) [
-      inr bad ↦ inr (bad.0, inl bad.1)
+      | inr bad ↦ inr (bad.0, inl bad.1)
       | inl response_parameters ↦
-        elim (decided_message AcceptsAll RefusesNone decided_all 3 field) [
-          inr bad ↦ inr (bad.0, inr (inl bad.1))
-          | inl payload ↦
-            elim (decided_message AcceptsEchoStatus RefusesEchoStatus decided_echo_status 7 field) [
-              inr bad ↦ inr (bad.0, inr (inr bad.1))
-              | inl response_status ↦ inl (record { response_parameters = response_parameters; payload = payload; response_status = response_status })
-            ]
-        ]
+          elim (decided_message AcceptsAll RefusesNone decided_all 3 field) [
+            | inr bad ↦ inr (bad.0, inr (inl bad.1))
+            | inl payload ↦
+                elim (decided_message AcceptsEchoStatus RefusesEchoStatus decided_echo_status 7 field) [
+                  | inr bad ↦ inr (bad.0, inr (inr bad.1))
+                  | inl response_status ↦ inl (record { response_parameters = response_parameters; payload = payload; response_status = response_status })
+                ]
+          ]
     ]
 
 has_streaming_output_call_request : HaveValues AcceptsStreamingOutputCallRequest IsStreamingOutputCallRequest
 has_streaming_output_call_request fields all =
     let response_parameters = all_held AcceptsResponseParameters IsResponseParameters has_response_parameters 2 fields (all_map AcceptsStreamingOutputCallRequest (AcceptsMessage AcceptsResponseParameters 2) (λ field good. good.response_parameters) fields all) in
     let payload = held AcceptsAll IsPayload has_payload 3 fields (all_map AcceptsStreamingOutputCallRequest (AcceptsMessage AcceptsAll 3) (λ field good. good.payload) fields all) in
-    let response_status = held AcceptsEchoStatus IsEchoStatus has_echo_status 7 fields (all_map AcceptsStreamingOutputCallRequest (AcceptsMessage AcceptsEchoStatus 7) (λ field good. good.response_status) fields all) in
-    (
+    let response_status = held AcceptsEchoStatus IsEchoStatus has_echo_status 7 fields (all_map AcceptsStreamingOutputCallRequest (AcceptsMessage AcceptsEchoStatus 7) (λ field good. good.response_status) fields all) in (
       record { response_type = int32 1 fields; response_parameters = response_parameters.0; payload = payload.0; response_status = response_status.0 },
       record { response_type = refl; response_parameters = response_parameters.1; payload = payload.1; response_status = response_status.1 },
     )
@@ -186,8 +177,7 @@ decided_streaming_output_call_response = decided_message AcceptsAll RefusesNone 
 
 has_streaming_output_call_response : HaveValues AcceptsStreamingOutputCallResponse IsStreamingOutputCallResponse
 has_streaming_output_call_response fields all =
-    let payload = held AcceptsAll IsPayload has_payload 1 fields all in
-    (
+    let payload = held AcceptsAll IsPayload has_payload 1 fields all in (
       record { payload = payload.0 },
       record { payload = payload.1 },
     )
