@@ -3,3 +3,8 @@ pub mod ManyMessageSteps
 pub mod OneAnswer
 pub mod OneSum
 pub mod LastStatus
+pub mod Growing
+pub mod SomeAnswer
+pub mod ShortReplies
+pub mod AtIndex
+pub mod ReplyLengths

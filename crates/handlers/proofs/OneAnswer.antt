@@ -27,7 +27,7 @@ pub one_verdict : {M A : Type 0} (accepts : Field → Type 0) (is_value : List F
 one_verdict {M} accepts is_value judge single = λ message first other is also.
     is.2 ∙ ap (λ (read : Option M). verdict judge read) (one_read accepts is_value single message is.0 also.0 is.1 also.1) ∙ sym also.2
 
-one_output : IsOneVerdict OutputVerdict
+pub one_output : IsOneVerdict OutputVerdict
 one_output = one_verdict AcceptsStreamingOutputCallRequest IsStreamingOutputCallRequest judge_output one_streaming_output_call_request
 
 -- ---- one message
@@ -66,7 +66,7 @@ one_taken {A} judged one (message ∷ messages) (a ∷ xs) (b ∷ ys) is also =
     ap (λ (x : A). x ∷ xs) first ∙ ap (λ (l : List A). b ∷ l) (one_taken judged one messages xs ys is.1 also.1)
 
 -- messages that are all taken have none among them that ends the call
-all_taken : {A : Type 0} (judged : List ℕ → Result A Status → Type 0) → IsOneVerdict judged → (before : List (List ℕ)) (last : List ℕ) (after : List (List ℕ)) (asked : List A) (status : Status)
+pub all_taken : {A : Type 0} (judged : List ℕ → Result A Status → Type 0) → IsOneVerdict judged → (before : List (List ℕ)) (last : List ℕ) (after : List (List ℕ)) (asked : List A) (status : Status)
     → AreTaken judged (before ++ last ∷ after) asked → judged last (Err status) → ⊥
 all_taken judged one [] last after [] status taken ends = taken
 all_taken judged one [] last after (a ∷ xs) status taken ends = not_both judged one last a status taken.0 ends
@@ -74,7 +74,7 @@ all_taken judged one (message ∷ before) last after [] status taken ends = take
 all_taken judged one (message ∷ before) last after (a ∷ xs) status taken ends = all_taken judged one before last after xs status taken.1 ends
 
 -- the first message that ends the call is one place
-one_place : {A : Type 0} (judged : List ℕ → Result A Status → Type 0) → IsOneVerdict judged → (before others : List (List ℕ)) (last other : List ℕ) (after more : List (List ℕ)) (asked also_asked : List A) (status also_status : Status)
+pub one_place : {A : Type 0} (judged : List ℕ → Result A Status → Type 0) → IsOneVerdict judged → (before others : List (List ℕ)) (last other : List ℕ) (after more : List (List ℕ)) (asked also_asked : List A) (status also_status : Status)
     → AreTaken judged before asked → AreTaken judged others also_asked → judged last (Err status) → judged other (Err also_status)
     → before ++ last ∷ after ≡ others ++ other ∷ more → (before ≡ others) × (last ≡ other)
 one_place judged one [] [] last other after more asked also_asked status also_status taken also ends also_ends same = (refl, head_same last other after more same)

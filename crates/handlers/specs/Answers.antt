@@ -1,6 +1,6 @@
 -- What each method answers to a list of messages, where the end was told and where it wasn't (gRPC's interop-test-descriptions.md, "Server").
 use Rattle.std.specs.Prelude.{◌≡◌, ◌≢◌, IsSome, ℕ, ◌+◌, ◌<◌, ◌≤◌, ◌⊎◌, pos, Bool, true, false, if◌then◌else◌, List, [], ◌∷◌, ◌++◌, sum, Result, Ok, Err}
-use Rattle.std.specs.List.{flat_map}
+use Rattle.std.specs.List.{flat_map, AllByRecursion}
 use Rattle.handlers.specs.declared.status.Status.{Status}
 use Rattle.handlers.specs.declared.status.Refusal.TheVariants.{SumOutOfRange, WrongNumber}
 use Rattle.handlers.specs.declared.reply.Reply.{Reply}
@@ -10,6 +10,7 @@ use Rattle.handlers.specs.declared.state.MethodState.TheVariants.{Fresh, Sum, Ke
 use Rattle.handlers.specs.Requests.{EmptyVerdict, SimpleVerdict, InputVerdict, OutputVerdict}
 use Rattle.handlers.specs.declared.step.Step.{Step}
 use Rattle.handlers.specs.Statuses.{status_of}
+use Rattle.handlers.specs.Replies.{IsShort}
 use Rattle.handlers.specs.Steps.{nothing, replying, ending, done}
 
 -- replies that several requests asked for, in their order
@@ -96,6 +97,27 @@ HasOneAnswer answers = (messages : List (List ℕ)) (ended : Bool) (answer other
 -- Where the end was told, an answer has a status.
 abbrev pub HasStatusAtEnd : (List (List ℕ) → Bool → Step → Type 0) → Type 0
 HasStatusAtEnd answers = (messages : List (List ℕ)) (answer : Step) → answers messages true answer → IsSome answer.ends
+
+-- Whether or not the end was told, a list of messages has an answer.
+abbrev pub HasAnswer : (List (List ℕ) → Bool → Step → Type 0) → Type 0
+HasAnswer answers = (messages : List (List ℕ)) (ended : Bool) → (answer : Step) × answers messages ended answer
+
+-- What was replied to some messages whose end wasn't told begins what is replied to them and more, whether or not the end is told.
+abbrev pub HasGrowingReplies : (List (List ℕ) → Bool → Step → Type 0) → Type 0
+HasGrowingReplies answers = (messages more : List (List ℕ)) (ended : Bool) (answer later : Step) → answers messages false answer → answers (messages ++ more) ended later
+    → (rest : List Reply) × (later.replies ≡ answer.replies ++ rest)
+
+-- Each reply fits into a message of a call.
+abbrev pub HasShortReplies : (List (List ℕ) → Bool → Step → Type 0) → Type 0
+HasShortReplies answers = (messages : List (List ℕ)) (ended : Bool) (answer : Step) → answers messages ended answer → AllByRecursion IsShort answer.replies
+
+-- the law of a method's answers
+pub record IsLawful (answers : List (List ℕ) → Bool → Step → Type 0) : Type 0 where
+  pub some : HasAnswer answers
+  pub one : HasOneAnswer answers
+  pub grows : HasGrowingReplies answers
+  pub short : HasShortReplies answers
+  pub status : HasStatusAtEnd answers
 
 -- ---- what a state stands for: the messages of the call so far, to which this was answered
 

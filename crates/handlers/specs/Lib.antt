@@ -3,4 +3,5 @@ pub mod Replies
 pub mod Steps
 pub mod Requests
 pub mod Answers
+pub mod Listed
 pub mod Examples

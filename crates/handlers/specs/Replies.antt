@@ -1,5 +1,5 @@
 -- The bytes of a reply: the canonical spelling of the response message (messages.proto and empty.proto of grpc.testing).
-use Rattle.std.specs.Prelude.{◌≡◌, ℕ, ℤ, pos, List, [], replicate, Some, refl}
+use Rattle.std.specs.Prelude.{◌≡◌, ◌≤◌, length, ℕ, ℤ, pos, List, [], replicate, Some, refl}
 use Rattle.pbwire.specs.Spelling.{spelling_of_all}
 use Rattle.testproto.specs.declared.messages.Payload.{Payload}
 use Rattle.testproto.specs.declared.messages.SimpleResponse.{SimpleResponse}
@@ -23,6 +23,10 @@ abbrev pub reply_bytes : Reply → List ℕ
 reply_bytes Empty = []
 reply_bytes (Zeros size) = spelling_of_all (streaming_output_call_response_fields (output_response size))
 reply_bytes (Sum value) = spelling_of_all (streaming_input_call_response_fields (input_response value))
+
+-- a reply that fits into a message of a call, which has at most 4 MiB (the default limit of gRPC)
+abbrev pub IsShort : Reply → Type 0
+IsShort reply = length (reply_bytes reply) ≤ 4194304
 
 -- a SimpleResponse with that payload and neither name nor scope is spelled the same
 abbrev pub simple_response : ℕ → SimpleResponse

@@ -43,6 +43,3 @@ pub use streaming_input_call::StreamingInputCall;
 pub use streaming_output_call::StreamingOutputCall;
 pub use unary_call::{CacheableUnaryCall, UnaryCall};
 pub use uses::whole_call::run;
-
-#[cfg(test)]
-mod tests;

@@ -9,7 +9,7 @@ ghost use Rattle.handlers.specs.declared.state.MethodState.{MethodState as State
 ghost use Rattle.handlers.specs.declared.state.MethodState.TheVariants.{Ended};
 ghost use Rattle.handlers.specs.declared.step.Step.{Step as Given};
 ghost use Rattle.handlers.specs.Steps.{nothing, joined};
-ghost use Rattle.handlers.specs.Answers.{HasOneAnswer, HasStatusAtEnd};
+ghost use Rattle.handlers.specs.Answers.{HasAnswer, HasOneAnswer, HasGrowingReplies, HasShortReplies, HasStatusAtEnd};
 
 use crate::fault::MethodFault;
 use crate::state::MethodState;
@@ -20,7 +20,7 @@ use std::alloc::Global;
 ///
 /// The law: `first` stands for no message, to which nothing was answered. After a step that answered Ok the state stands
 /// for the longer list, and what the steps gave, joined, is the method's answer to it. After a `MethodFault` the state
-/// stands for nothing.
+/// stands for nothing; the messages have their answer all the same.
 pub trait Method: Send + Sync + Drop {
     /// The path by which a call names the method.
     ghost name: { Self → List ℕ };
@@ -39,8 +39,12 @@ pub trait Method: Send + Sync + Drop {
     fn first(&self) -> MethodState
         ensures stands { stands self.now result [] nothing }
         ensures answers { answers self.now [] false nothing }
-        // No list of messages has two answers.
+        // Every list of messages has an answer, and none has two.
+        ensures some_answer { HasAnswer (answers self.now) }
         ensures one_answer { HasOneAnswer (answers self.now) }
+        // What was replied stays, and each reply fits into a message of a call.
+        ensures grows { HasGrowingReplies (answers self.now) }
+        ensures short { HasShortReplies (answers self.now) }
         // A call whose end was told has a status.
         ensures status { HasStatusAtEnd (answers self.now) };
 

@@ -3,16 +3,16 @@
 //! `Sum` holds an `i32`, the type of the field; the state's sum is a `u32`. The reply to UnaryCall is written as a
 //! StreamingOutputCallResponse: a SimpleResponse with the same payload is spelled the same (`specs/Replies.antt`).
 
-ghost use Rattle.std.specs.Prelude.{◌≡◌, ◌++◌, ◌∷◌, [], IfOk, OnOk};
-ghost use Rattle.pbwire.specs.Spelling.{spelling_of_all};
-ghost use Rattle.handlers.specs.Replies.{reply_bytes};
+ghost use Rattle.std.specs.Prelude.{◌≡◌, ◌+◌, ◌<◌, ◌≤◌, ◌++◌, ◌∷◌, [], length, replicate, vec_len, vec_capacity, IfOk, OnOk, OnErr};
+ghost use Rattle.pbwire.specs.Spelling.{varint_spelling, spelling_of_all};
+ghost use Rattle.testproto.specs.Canonical.{payload_fields};
+ghost use Rattle.handlers.specs.declared.reply.Reply.TheVariants.{Zeros as ZerosReply, Sum as SumReply};
+ghost use Rattle.handlers.specs.Replies.{reply_bytes, zero_payload};
 
 use crate::fault::MethodFault;
+use pbwire::{varint_len, write_varint};
 use std::alloc::{AllocError, Global};
 use std::marker::Model;
-use testproto::{
-    ByteList, Message, Payload, StreamingInputCallResponse, StreamingOutputCallResponse,
-};
 
 /// One response message.
 #[derive(Clone, Copy, Debug, PartialEq, Eq)]
@@ -25,42 +25,134 @@ pub enum Reply {
     Sum(i32),
 }
 
+/// Tags: the number of a field times 8, and 2 for what has a length or 0 for a varint.
+const PAYLOAD_TAG: u64 = 10;
+
+const BODY_TAG: u64 = 18;
+
+const SUM_TAG: u64 = 8;
+
+/// How many bytes a tag of these takes.
+const TAG_LEN: usize = 1;
+
 impl Reply {
-    /// The bytes of the response message, in their canonical spelling. The payload is always present, its type is left
-    /// out.
+    /// How many bytes the response message has.
+    pub fn len(&self) -> usize
+        ensures { result ≡ length (reply_bytes self.now) }
+    {
+        match *self {
+            Reply::Empty => 0,
+            Reply::Zeros(size) => {
+                let payload = payload_len(size);
+                TAG_LEN + varint_len(payload as u64) + payload
+            }
+            Reply::Sum(value) => sum_len(value),
+        }
+    }
+
+    /// Appends the bytes of the response message, in their canonical spelling. The payload is always present, its type is
+    /// left out.
+    ///
+    /// It takes memory at most once, and none where the buffer has room.
+    pub fn write(&self, out: &mut Vec<u8>) -> Result<(), AllocError>
+        ensures ok { OnOk result (out.new.items ≡ out.old.items ++ reply_bytes self.now) }
+        ensures err { OnErr result (out.new.items ≡ out.old.items) }
+        ensures full { OnErr result (vec_capacity out.old < vec_len out.old + length (reply_bytes self.now)) }
+    {
+        out.reserve(self.len())?;
+        match *self {
+            Reply::Empty => {}
+            Reply::Zeros(size) => put_payload(size, out),
+            Reply::Sum(value) => put_sum(value, out),
+        }
+        Ok(())
+    }
+
+    /// The bytes of the response message by themselves.
     pub fn bytes(&self, alloc: Global) -> Result<Vec<u8>, MethodFault>
         ensures { IfOk result (λ bytes. bytes.items ≡ reply_bytes self.now) }
     {
-        match *self {
-            Reply::Empty => Ok(Vec::new(alloc)),
-            Reply::Zeros(size) => {
-                let body = vec![in alloc; 0u8; size as usize]?;
-                let response = StreamingOutputCallResponse {
-                    payload: Some(Payload {
-                        kind: 0,
-                        body: ByteList::from_vec(body),
-                    }),
-                };
-                written(alloc, &response)
-            }
-            Reply::Sum(value) => {
-                let response = StreamingInputCallResponse {
-                    aggregated_payload_size: value,
-                };
-                written(alloc, &response)
-            }
-        }
+        let mut bytes = Vec::with_capacity(alloc, self.len())?;
+        self.write(&mut bytes)?;
+        Ok(bytes)
     }
 }
 
-/// The bytes of a message.
-fn written<M: Message>(alloc: Global, message: &M) -> Result<Vec<u8>, MethodFault>
-    ensures { IfOk result (λ bytes. bytes.items ≡ spelling_of_all (M.fields_of message.now)) }
+/// How many bytes a payload of that many zeros has.
+fn payload_len(size: u32) -> usize
+    ensures len { result ≡ length (spelling_of_all (payload_fields (zero_payload size))) }
+    ensures short { result ≤ size + 11 }
 {
-    match message.encode(alloc) {
-        Ok(bytes) => Ok(bytes),
-        Err(_) => Err(MethodFault::OutOfMemory),
+    if size == 0 {
+        return 0;
     }
+    TAG_LEN + varint_len(u64::from(size)) + size as usize
+}
+
+/// How many bytes a response with that sum has.
+fn sum_len(value: i32) -> usize
+    ensures { result ≡ length (reply_bytes (SumReply value)) }
+{
+    if value == 0 {
+        return 0;
+    }
+    TAG_LEN + varint_len(i64::from(value).cast_unsigned())
+}
+
+/// Appends a varint, for which there is room.
+fn put_varint(number: u64, out: &mut Vec<u8>)
+    requires { vec_len out.old + length (varint_spelling number) ≤ vec_capacity out.old }
+    ensures items { out.new.items ≡ out.old.items ++ varint_spelling number }
+    ensures capacity { vec_capacity out.old ≤ vec_capacity out.new }
+{
+    let _ = write_varint(number, out);
+}
+
+/// Appends zeros, for which there is room.
+fn put_zeros(size: u32, out: &mut Vec<u8>)
+    requires { vec_len out.old + size ≤ vec_capacity out.old }
+    ensures items { out.new.items ≡ out.old.items ++ replicate size 0 }
+    ensures capacity { vec_capacity out.old ≤ vec_capacity out.new }
+{
+    let _room = out.capacity();
+    let filled = out.len() + size as usize;
+    let _ = out.resize(filled, 0);
+}
+
+/// Appends a payload of that many zeros, for which there is room.
+fn put_body(size: u32, out: &mut Vec<u8>)
+    requires { vec_len out.old + length (spelling_of_all (payload_fields (zero_payload size))) ≤ vec_capacity out.old }
+    ensures items { out.new.items ≡ out.old.items ++ spelling_of_all (payload_fields (zero_payload size)) }
+    ensures capacity { vec_capacity out.old ≤ vec_capacity out.new }
+{
+    if size == 0 {
+        return;
+    }
+    put_varint(BODY_TAG, out);
+    put_varint(u64::from(size), out);
+    put_zeros(size, out);
+}
+
+/// Appends a response with that payload, for which there is room.
+fn put_payload(size: u32, out: &mut Vec<u8>)
+    requires { vec_len out.old + length (reply_bytes (ZerosReply size)) ≤ vec_capacity out.old }
+    ensures { out.new.items ≡ out.old.items ++ reply_bytes (ZerosReply size) }
+{
+    put_varint(PAYLOAD_TAG, out);
+    put_varint(payload_len(size) as u64, out);
+    put_body(size, out);
+}
+
+/// Appends a response with that sum, for which there is room.
+fn put_sum(value: i32, out: &mut Vec<u8>)
+    requires { vec_len out.old + length (reply_bytes (SumReply value)) ≤ vec_capacity out.old }
+    ensures { out.new.items ≡ out.old.items ++ reply_bytes (SumReply value) }
+{
+    if value == 0 {
+        return;
+    }
+    put_varint(SUM_TAG, out);
+    put_varint(i64::from(value).cast_unsigned(), out);
 }
 
 /// Replies in order. In a contract they are their list.
@@ -110,7 +202,8 @@ impl Replies {
     }
 
     pub fn push(&mut self, reply: Reply) -> Result<(), AllocError>
-        ensures { OnOk result (self.new ≡ self.old ++ reply ∷ []) }
+        ensures ok { OnOk result (self.new ≡ self.old ++ reply ∷ []) }
+        ensures err { OnErr result (self.new ≡ self.old) }
     {
         self.items.push(reply)?;
         Ok(())

@@ -5,7 +5,7 @@
 //! replies aren't held twice. A state that a method never makes stands for nothing, and a step from it answers
 //! something harmless.
 
-ghost use Rattle.std.specs.Prelude.{◌≡◌, ◌++◌, ◌∷◌, [], IfOk, OnOk};
+ghost use Rattle.std.specs.Prelude.{◌≡◌, ◌++◌, ◌∷◌, [], IfOk, OnOk, OnErr};
 
 use std::alloc::{AllocError, Global};
 use std::marker::Model;
@@ -73,7 +73,8 @@ impl MessageList {
 
     /// Appends a copy of the message.
     pub fn push(&mut self, alloc: Global, message: &[u8]) -> Result<(), AllocError>
-        ensures { OnOk result (self.new ≡ self.old ++ message.now ∷ []) }
+        ensures ok { OnOk result (self.new ≡ self.old ++ message.now ∷ []) }
+        ensures err { OnErr result (self.new ≡ self.old) }
     {
         let mut copy = ByteList::new(alloc);
         copy.set(message)?;

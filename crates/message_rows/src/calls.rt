@@ -1,11 +1,11 @@
 //! Rows of `handlers`: whole calls of the seven methods, and the paths that name methods.
 
 use crate::rows::Subject;
-use crate::words::{all_bytes, push_bytes};
+use crate::words::{all_bytes, bytes_of, push_bytes};
 use anyhow::{Context, Result, bail, ensure};
 use handlers::{
-    CacheableUnaryCall, EmptyCall, FullDuplexCall, HalfDuplexCall, Method, Methods, Step,
-    StreamingInputCall, StreamingOutputCall, UnaryCall, run,
+    CacheableUnaryCall, EmptyCall, FullDuplexCall, HalfDuplexCall, Method, MethodState, Methods,
+    Step, StreamingInputCall, StreamingOutputCall, UnaryCall, run,
 };
 use std::alloc::Global;
 
@@ -79,6 +79,27 @@ impl Subject for Calls {
             slices.push(message.as_slice())?;
         }
         named_call(alloc, name, slices.as_slice(), ended)
+    }
+}
+
+/// What StreamingInputCall answers to this message behind others with this sum.
+fn sum_text(alloc: Global, sum: u32, message: &[u8]) -> Result<String> {
+    let mut state = MethodState::Sum(sum);
+    let step = StreamingInputCall.message(alloc, &mut state, message)?;
+    let mut text = String::new(alloc);
+    push_answer(&mut text, alloc, &step)?;
+    Ok(text)
+}
+
+/// A sum so far, and a request that is added to it.
+#[derive(Drop)]
+pub struct Sums;
+
+impl Subject for Sums {
+    fn answer(&self, alloc: Global, given: &str) -> Result<String> {
+        let (sum, word) = given.split_once(' ').context("a sum and a message")?;
+        let sum = sum.parse::<u32>()?;
+        sum_text(alloc, sum, bytes_of(alloc, word)?.as_slice())
     }
 }
 

@@ -61,8 +61,9 @@ fn try_calls(rt: &(impl Files + Print + AllocGlobal)) -> Result<u32> {
     methods.push(Box::new(alloc, StreamingInputCall)?)?;
     let methods = Methods::new(methods);
     let calls = rows::try_file(rt, "calls.rows", calls::Calls)?;
+    let sums = rows::try_file(rt, "sums.rows", calls::Sums)?;
     let paths = rows::try_file(rt, "paths.rows", calls::Paths { methods: &methods })?;
-    Ok(calls.saturating_add(paths))
+    Ok(calls.saturating_add(sums).saturating_add(paths))
 }
 
 fn main(rt: HostRuntime) -> Result<()> {

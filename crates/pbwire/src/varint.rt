@@ -10,6 +10,12 @@ use crate::fault::WireFault;
 /// The most bytes that a varint has.
 const MAX_LEN: usize = 10;
 
+/// The top bit of a byte: another byte of the varint follows.
+const TOP_BIT: u8 = 0x80;
+
+/// The bits of a byte that count.
+const GROUP: u8 = 0x7f;
+
 /// Reads the varint at the front: its number, and how many bytes it takes. Bytes may follow it.
 ///
 /// Every spelling is read, the shortest or not; bits over 64 are dropped.
@@ -27,9 +33,9 @@ pub fn read_varint(bytes: &[u8]) -> Result<(u64, usize), WireFault>
     let mut number = 0u64;
     let front = &bytes[..bytes.len().min(MAX_LEN)];
     for (i, byte) in front.iter().enumerate() {
-        let group = u64::from(*byte & 0x7f);
+        let group = u64::from(*byte & GROUP);
         number = number.wrapping_add(group << (7 * i));
-        if *byte < 0x80 {
+        if *byte < TOP_BIT {
             return Ok((number, i + 1));
         }
     }

@@ -13,6 +13,10 @@ use crate::field::FieldValue;
 use crate::tag::tag;
 use std::alloc::AllocError;
 
+/// How many values the seven bits of a byte have that count; the top bit, which says that another byte follows, is worth
+/// as much.
+const GROUPS: u64 = 0x80;
+
 /// Appends a varint. Where that fails, a part of it may have been appended.
 fn push_varint(number: u64, out: &mut Vec<u8>) -> Result<(), AllocError>
     ensures ok { OnOk result (out.new.items ≡ out.old.items ++ varint_spelling number) }
@@ -21,9 +25,9 @@ fn push_varint(number: u64, out: &mut Vec<u8>) -> Result<(), AllocError>
     ensures full { OnErr result (vec_capacity out.old < vec_len out.old + length (varint_spelling number)) }
 {
     let mut rest = number;
-    while rest >= 0x80 {
-        out.push((rest % 0x80 + 0x80) as u8)?;
-        rest /= 0x80;
+    while rest >= GROUPS {
+        out.push((rest % GROUPS + GROUPS) as u8)?;
+        rest /= GROUPS;
     }
     out.push(rest as u8)?;
     Ok(())
@@ -33,6 +37,7 @@ fn push_varint(number: u64, out: &mut Vec<u8>) -> Result<(), AllocError>
 fn push_content(value: &FieldValue<'_>, out: &mut Vec<u8>) -> Result<(), AllocError>
     ensures ok { OnOk result (out.new.items ≡ out.old.items ++ content_spelling (content_of value.now)) }
     ensures err { OnErr result (take (vec_len out.old) out.new.items ≡ out.old.items) }
+    ensures capacity { vec_capacity out.old ≤ vec_capacity out.new }
     ensures full { OnErr result (vec_capacity out.old
         < vec_len out.old + length (content_spelling (content_of value.now))) }
 {
@@ -52,6 +57,7 @@ fn push_field(number: u32, value: &FieldValue<'_>, out: &mut Vec<u8>) -> Result<
     ensures ok { OnOk result (out.new.items
         ≡ out.old.items ++ spelling_of (field_with number (content_of value.now))) }
     ensures err { OnErr result (take (vec_len out.old) out.new.items ≡ out.old.items) }
+    ensures capacity { vec_capacity out.old ≤ vec_capacity out.new }
     ensures full { OnErr result (vec_capacity out.old
         < vec_len out.old + length (spelling_of (field_with number (content_of value.now)))) }
 {
@@ -66,9 +72,9 @@ pub fn varint_len(number: u64) -> usize
 {
     let mut rest = number;
     let mut len = 1;
-    while rest >= 0x80 {
+    while rest >= GROUPS {
         len += 1;
-        rest /= 0x80;
+        rest /= GROUPS;
     }
     len
 }
@@ -80,6 +86,7 @@ pub fn write_varint(number: u64, out: &mut Vec<u8>) -> Result<(), WireFault>
     ensures ok { OnOk result (out.new.items ≡ out.old.items ++ varint_spelling number) }
     ensures err { OnErr result (out.new.items ≡ out.old.items) }
     ensures memory { IfErr result (λ fault. fault ≡ OutOfMemory) }
+    ensures capacity { vec_capacity out.old ≤ vec_capacity out.new }
     ensures full { OnErr result (vec_capacity out.old < vec_len out.old + length (varint_spelling number)) }
 {
     let len = out.len();
@@ -99,6 +106,7 @@ pub fn write_field(number: u32, value: &FieldValue<'_>, out: &mut Vec<u8>) -> Re
         ≡ out.old.items ++ spelling_of (field_with number (content_of value.now))) }
     ensures err { OnErr result (out.new.items ≡ out.old.items) }
     ensures memory { IfErr result (λ fault. fault ≡ OutOfMemory) }
+    ensures capacity { vec_capacity out.old ≤ vec_capacity out.new }
     ensures full { OnErr result (vec_capacity out.old
         < vec_len out.old + length (spelling_of (field_with number (content_of value.now)))) }
 {

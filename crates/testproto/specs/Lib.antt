@@ -8,3 +8,5 @@ pub mod Sizes
 pub mod Fits
 pub mod Parts
 pub mod Written
+pub mod Total
+pub mod Totals

@@ -1,6 +1,6 @@
 //! Byte lists and texts as contracts see them: as the list.
 
-ghost use Rattle.std.specs.Prelude.{◌≡◌, List, ℕ, [], IfOk, OnOk, IsUtf8, string_bytes};
+ghost use Rattle.std.specs.Prelude.{◌≡◌, List, ℕ, [], IfOk, OnOk, OnErr, IsUtf8, string_bytes};
 
 use std::alloc::{AllocError, Global};
 use std::marker::Model;
@@ -47,7 +47,8 @@ impl ByteList {
 
     /// Holds a copy of these bytes from now on. Where memory runs out it holds nothing.
     pub fn set(&mut self, bytes: &[u8]) -> Result<(), AllocError>
-        ensures { OnOk result (self.new ≡ bytes.now) }
+        ensures ok { OnOk result (self.new ≡ bytes.now) }
+        ensures err { OnErr result (self.new ≡ []) }
     {
         self.bytes.clear();
         self.bytes.extend_from_slice(bytes)
@@ -90,7 +91,8 @@ impl Text {
 
     /// Holds a copy of this text from now on. Where memory runs out it holds nothing.
     pub fn set(&mut self, text: &str) -> Result<(), AllocError>
-        ensures { OnOk result (self.new ≡ text.now) }
+        ensures ok { OnOk result (self.new ≡ text.now) }
+        ensures err { OnErr result (self.new ≡ []) }
     {
         self.text.clear();
         self.text.push_str(text)

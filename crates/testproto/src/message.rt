@@ -10,6 +10,7 @@ ghost use Rattle.testproto.specs.declared.fault.ProtoFault.TheVariants.{OutOfMem
 ghost use Rattle.testproto.specs.Values.{IsValueOf, Adds, HasFault};
 ghost use Rattle.testproto.specs.Unique.{IsSingle, AreApart};
 ghost use Rattle.testproto.specs.Canonical.{IsReadBack};
+ghost use Rattle.testproto.specs.Total.{HasValueOrFault};
 
 use crate::fault::ProtoFault;
 use pbwire::{FieldItem, Fields};
@@ -58,6 +59,9 @@ pub trait Message: Drop {
 
     /// No field is both accepted and refused.
     ghost apart: { AreApart accepts refuses };
+
+    /// A byte list has a value, or a fault stands in it.
+    ghost value_or_fault: { HasValueOrFault accepts refuses is_value };
 
     /// The value of what is written of a message is that message.
     ghost read_back: { IsReadBack fits fields_of accepts is_value };

@@ -13,6 +13,7 @@ ghost use Rattle.testproto.specs.Canonical.{empty_fields, payload_fields, bool_v
 ghost use Rattle.testproto.specs.Laws.{apart_none, one_empty, one_payload, one_bool_value, one_echo_status, one_simple_request, one_simple_response, one_streaming_input_call_request, one_streaming_input_call_response, one_response_parameters, one_streaming_output_call_request, one_streaming_output_call_response, apart_echo_status, apart_simple_request, apart_simple_response, apart_streaming_input_call_request, apart_response_parameters, apart_streaming_output_call_request, apart_streaming_output_call_response};
 ghost use Rattle.testproto.specs.Fits.{FitsAlways, FitsPayload, FitsEchoStatus, FitsSimpleRequest, FitsSimpleResponse, FitsStreamingInputCallRequest, FitsStreamingInputCallResponse, FitsResponseParameters, FitsStreamingOutputCallRequest, FitsStreamingOutputCallResponse};
 ghost use Rattle.testproto.specs.Written.{read_empty, read_payload, read_bool_value, read_echo_status, read_simple_request, read_simple_response, read_streaming_input_call_request, read_streaming_input_call_response, read_response_parameters, read_streaming_output_call_request, read_streaming_output_call_response};
+ghost use Rattle.testproto.specs.Totals.{total_empty, total_payload, total_bool_value, total_echo_status, total_simple_request, total_simple_response, total_streaming_input_call_request, total_streaming_input_call_response, total_response_parameters, total_streaming_output_call_request, total_streaming_output_call_response};
 ghost use Rattle.std.specs.List.{AllByRecursion};
 
 use crate::fault::ProtoFault;
@@ -45,6 +46,8 @@ impl Message for Empty {
     ghost one_value = { one_empty };
 
     ghost apart = { apart_none };
+
+    ghost value_or_fault = { total_empty };
 
     ghost read_back = { read_empty };
 
@@ -80,6 +83,8 @@ impl Message for Payload {
     ghost one_value = { one_payload };
 
     ghost apart = { apart_none };
+
+    ghost value_or_fault = { total_payload };
 
     ghost read_back = { read_payload };
 
@@ -125,6 +130,8 @@ impl Message for BoolValue {
 
     ghost apart = { apart_none };
 
+    ghost value_or_fault = { total_bool_value };
+
     ghost read_back = { read_bool_value };
 
     #[tactic(auto, unfolding(crate::specs::Values::int32, crate::specs::Values::boolean, crate::specs::Values::byte_string))]
@@ -162,6 +169,8 @@ impl Message for EchoStatus {
     ghost one_value = { one_echo_status };
 
     ghost apart = { apart_echo_status };
+
+    ghost value_or_fault = { total_echo_status };
 
     ghost read_back = { read_echo_status };
 
@@ -206,6 +215,8 @@ impl Message for SimpleRequest {
     ghost one_value = { one_simple_request };
 
     ghost apart = { apart_simple_request };
+
+    ghost value_or_fault = { total_simple_request };
 
     ghost read_back = { read_simple_request };
 
@@ -275,6 +286,8 @@ impl Message for SimpleResponse {
 
     ghost apart = { apart_simple_response };
 
+    ghost value_or_fault = { total_simple_response };
+
     ghost read_back = { read_simple_response };
 
     #[tactic(auto, unfolding(crate::specs::Values::int32, crate::specs::Values::boolean, crate::specs::Values::byte_string))]
@@ -323,6 +336,8 @@ impl Message for StreamingInputCallRequest {
 
     ghost apart = { apart_streaming_input_call_request };
 
+    ghost value_or_fault = { total_streaming_input_call_request };
+
     ghost read_back = { read_streaming_input_call_request };
 
     #[tactic(auto, unfolding(crate::specs::Values::int32, crate::specs::Values::boolean, crate::specs::Values::byte_string))]
@@ -367,6 +382,8 @@ impl Message for StreamingInputCallResponse {
 
     ghost apart = { apart_none };
 
+    ghost value_or_fault = { total_streaming_input_call_response };
+
     ghost read_back = { read_streaming_input_call_response };
 
     #[tactic(auto, unfolding(crate::specs::Values::int32, crate::specs::Values::boolean, crate::specs::Values::byte_string))]
@@ -406,6 +423,8 @@ impl Message for ResponseParameters {
     ghost one_value = { one_response_parameters };
 
     ghost apart = { apart_response_parameters };
+
+    ghost value_or_fault = { total_response_parameters };
 
     ghost read_back = { read_response_parameters };
 
@@ -454,6 +473,8 @@ impl Message for StreamingOutputCallRequest {
     ghost one_value = { one_streaming_output_call_request };
 
     ghost apart = { apart_streaming_output_call_request };
+
+    ghost value_or_fault = { total_streaming_output_call_request };
 
     ghost read_back = { read_streaming_output_call_request };
 
@@ -506,6 +527,8 @@ impl Message for StreamingOutputCallResponse {
     ghost one_value = { one_streaming_output_call_response };
 
     ghost apart = { apart_streaming_output_call_response };
+
+    ghost value_or_fault = { total_streaming_output_call_response };
 
     ghost read_back = { read_streaming_output_call_response };
 

@@ -8,26 +8,26 @@ pub loop-i-preserved : goal.loop-i-preserved
 loop-i-preserved c =
     let front = take c.min.result c.args.bytes.now in
     record {
-      high = goes_on front c.loop-i.i c.loop-i-test.true c.if-byte-lt128.false c.loop-i.invariant.high;
+      high = goes_on front c.loop-i.i c.loop-i-test.true c.if-byte-lt-TOP_BIT.false c.loop-i.invariant.high;
       sum = more_groups front c.loop-i.i c.from-group.result c.loop-i.number c.loop-i-test.true c.from-group.ensures c.loop-i.invariant.sum;
     }
 
 -- a byte without the top bit
 
-pub returns-then-byte-lt128-clause-ok : goal.returns-then-byte-lt128-clause-ok
-returns-then-byte-lt128-clause-ok c =
+pub returns-then-byte-lt-TOP_BIT-clause-ok : goal.returns-then-byte-lt-TOP_BIT-clause-ok
+returns-then-byte-lt-TOP_BIT-clause-ok c =
     let front = take c.min.result c.args.bytes.now in
     let number_is = more_groups front c.loop-i.i c.from-group.result c.loop-i.number c.loop-i-test.true c.from-group.ensures c.loop-i.invariant.sum in
-    ends c.args.bytes.now c.min.result c.loop-i.i _ (omega arith) (omega arith) (omega (arith, length-take c.min.result c.args.bytes.now)) c.if-byte-lt128.true c.loop-i.invariant.high number_is
+    ends c.args.bytes.now c.min.result c.loop-i.i _ (omega arith) (omega arith) (omega (arith, length-take c.min.result c.args.bytes.now)) c.if-byte-lt-TOP_BIT.true c.loop-i.invariant.high number_is
 
-pub returns-then-byte-lt128-clause-every_varint : goal.returns-then-byte-lt128-clause-every_varint
-returns-then-byte-lt128-clause-every_varint c n l within spelled =
-    let same = one_varint c.args.bytes.now _ (c.loop-i.i + 1) (omega (arith, length-take c.min.result c.args.bytes.now)) (returns-then-byte-lt128-clause-ok c) n l within spelled in
+pub returns-then-byte-lt-TOP_BIT-clause-every_varint : goal.returns-then-byte-lt-TOP_BIT-clause-every_varint
+returns-then-byte-lt-TOP_BIT-clause-every_varint c n l within spelled =
+    let same = one_varint c.args.bytes.now _ (c.loop-i.i + 1) (omega (arith, length-take c.min.result c.args.bytes.now)) (returns-then-byte-lt-TOP_BIT-clause-ok c) n l within spelled in
     cc
 
-pub returns-then-byte-lt128-clause-every_fault : goal.returns-then-byte-lt128-clause-every_fault
-returns-then-byte-lt128-clause-every_fault c fault there =
-    absurd (no_fault c.args.bytes.now _ (c.loop-i.i + 1) (returns-then-byte-lt128-clause-ok c) fault there)
+pub returns-then-byte-lt-TOP_BIT-clause-every_fault : goal.returns-then-byte-lt-TOP_BIT-clause-every_fault
+returns-then-byte-lt-TOP_BIT-clause-every_fault c fault there =
+    absurd (no_fault c.args.bytes.now _ (c.loop-i.i + 1) (returns-then-byte-lt-TOP_BIT-clause-ok c) fault there)
 
 -- every byte has the top bit, and they are fewer than ten
 

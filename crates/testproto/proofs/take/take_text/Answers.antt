@@ -9,4 +9,4 @@ returns-in_default-clause-value c before had =
 
 pub returns-in_ok-set-clause-value : goal.returns-in_ok-set-clause-value
 returns-in_ok-set-clause-value c before had =
-    c.in_ok-set.ensures ∙ c.in-Ok.ensures.cases.0 ∙ sym (byte_string-last c.args.number before (field_of c.args.item.now) c.in-Some.content.now c.in-Some.ensures)
+    c.in_ok-set.ensures.ok ∙ c.in-Ok.ensures.cases.0 ∙ sym (byte_string-last c.args.number before (field_of c.args.item.now) c.in-Some.content.now c.in-Some.ensures)

@@ -1,5 +1,8 @@
 use Rattle.handlers.specs.Requests.{SimpleVerdict}
 use Rattle.handlers.proofs.OneAnswer.{one_unary_call}
+use Rattle.handlers.proofs.Growing.{single_grows}
+use Rattle.handlers.proofs.SomeAnswer.{some_unary_call}
+use Rattle.handlers.proofs.ShortReplies.{short_unary_call}
 use Rattle.handlers.proofs.LastStatus.{single_status}
 use Rattle.handlers.proofs.unary_call.UnaryCallMethod.first.Goals as goal
 
@@ -8,3 +11,12 @@ returns-clause-one_answer c = one_unary_call
 
 pub returns-clause-status : goal.returns-clause-status
 returns-clause-status c = single_status SimpleVerdict
+
+pub returns-clause-some_answer : goal.returns-clause-some_answer
+returns-clause-some_answer c = some_unary_call
+
+pub returns-clause-grows : goal.returns-clause-grows
+returns-clause-grows c = single_grows SimpleVerdict
+
+pub returns-clause-short : goal.returns-clause-short
+returns-clause-short c = short_unary_call
