@@ -1,6 +1,6 @@
 -- What a group comes to for the data of a stream that wasn't begun.
-use Rattle.std.proofs.Common.{◌≡◌, ◌≢◌, ℕ, ◌⊎◌, inl, inr, Bool, true, false, ◌&&◌, ◌||◌, nat_eq, List, [], ◌∷◌, ◌++◌, length, map, refl, sym, ap, subst, ◌∙◌}
-use Rattle.std.specs.Prelude.{Some, None, ◌==◌, nat_le, if◌then◌else◌}
+use Rattle.std.proofs.Common.{◌≡◌, ℕ, ◌⊎◌, inl, inr, Bool, true, false, ◌&&◌, ◌||◌, nat_eq, List, [], ◌∷◌, ◌++◌, map, refl, sym, ap, subst, ◌∙◌}
+use Rattle.std.specs.Prelude.{Some, None, ◌==◌, if◌then◌else◌}
 use Rattle.std.specs.List.{list_any}
 use Rattle.std.proofs.lemmas.Bool.{cases_Bool}
 use Rattle.h2frame.specs.declared.error_code.ErrorCode.{ErrorCode}
@@ -13,12 +13,11 @@ use Rattle.h2frame.specs.Flags.{has, end_stream}
 use Rattle.h2frame.specs.FrameList.{Entry, Whole}
 use Rattle.lists.specs.declared.field.Field.{Field}
 use Rattle.callhead.specs.declared.fault.HeadFault.TheVariants.{Malformed}
-use Rattle.flow.specs.declared.TheConstants.{MAX_STREAMS}
 use Rattle.flow.specs.declared.halves.Half.{Half}
 use Rattle.flow.specs.declared.halves.Half.TheVariants.{Opened, Ended, Reset}
 use Rattle.flow.specs.declared.halves.HalfVerdict.{HalfVerdict}
-use Rattle.flow.specs.declared.halves.HalfVerdict.TheVariants.{Open, Discard, ConnectionError}
-use Rattle.flow.specs.Halves.{Event, Received, Cut, is_headers, begun, verdict, half_after, half_of_new, ends, is_last_of_kind}
+use Rattle.flow.specs.declared.halves.HalfVerdict.TheVariants.{Open, ConnectionError}
+use Rattle.flow.specs.Halves.{Event, Received, Cut, is_headers, verdict, half_after, half_of_new, is_last_of_kind}
 use Rattle.session.specs.declared.event.InEvent.{InEvent}
 use Rattle.session.specs.declared.event.InEvent.TheVariants as events
 use Rattle.session.specs.Streams.{after_frame, refusal, data_events, reset_events, window_events, credit_head, credit_verdict, without_increment}
@@ -27,13 +26,14 @@ use Rattle.session.specs.HeaderBlocks.{Pending, Collects}
 use Rattle.session.specs.Blocks.{HeadGives, BlockGives}
 use Rattle.session.specs.Events.{Situation, Group, Single, Credit, Block, entries_of, GroupGives, is_fatal, IsCalm}
 use Rattle.session.specs.StreamData.{data_behind, data_of, pieces, is_opening}
-use Rattle.session.proofs.HalfSteps.{half_at, IsClosed, step_begun, step_new, verdict_unbegun, headers_open}
-use Rattle.session.proofs.StreamPieces.{IsSilent, kind_silent, head_pieces, block_silent}
+use Rattle.session.proofs.HalfSteps.{half_at, IsClosed, step_begun, step_new, IsFew, verdict_unbegun, headers_open}
+use Rattle.session.proofs.StreamPieces.{IsSilent, kind_silent, head_pieces}
 use Rattle.session.proofs.StreamGroups.{stream_at, group_elsewhere, elsewhere_silent, block_of, elsewhere_of}
 
 -- ---- where the stream wasn't begun
 
--- it isn't yet; it is open; or it is closed, and was not told of or has no data
+-- it isn't yet; it is open; or it is closed, and was not told of or has no data. So it is while fewer streams were begun than
+-- may be.
 abbrev pub UnbegunNext : ℕ → Situation → Group → List InEvent → Type 0
 UnbegunNext id new group given =
     ((half_at new.history id ≡ None) × IsSilent id given × ((more : List Entry) → data_of id (entries_of group ++ more) ≡ data_of id more))
@@ -62,35 +62,35 @@ window_unbegun true id old new frame given (e, same) calm judged = same
 window_unbegun false id old new frame given (e, same) calm judged = absurd (not_calm_end ProtocolError given (e ∙ ap (λ (v : HalfVerdict). window_events v frame) judged) calm)
 
 single_unbegun : (kind : FrameKind) (id : ℕ) (old new : Situation) (frame : Frame) (given : List InEvent) → frame.head.kind ≡ kind → KindGives kind old.history frame given new.history → IsCalm given
-    → nat_eq id frame.head.stream ≡ true → half_at old.history id ≡ None → UnbegunNext id new (Single frame) given
-single_unbegun Headers id old new frame given is gives calm on none = absurd gives
-single_unbegun Data id old new frame given is gives calm on none =
-    let judged : verdict old.history frame.head ≡ ConnectionError ProtocolError = verdict_unbegun id old.history frame.head on none (ap is_headers is) in
+    → nat_eq id frame.head.stream ≡ true → half_at old.history id ≡ None → IsFew old.history → UnbegunNext id new (Single frame) given
+single_unbegun Headers id old new frame given is gives calm on none few = absurd gives
+single_unbegun Data id old new frame given is gives calm on none few =
+    let judged : verdict old.history frame.head ≡ ConnectionError ProtocolError = verdict_unbegun id old.history frame.head on none few (ap is_headers is) in
     absurd (not_calm_end ProtocolError given (gives.0 ∙ ap (λ (v : HalfVerdict). data_events v frame) judged) calm)
-single_unbegun RstStream id old new frame given is gives calm on none =
-    let judged : verdict old.history frame.head ≡ ConnectionError ProtocolError = verdict_unbegun id old.history frame.head on none (ap is_headers is) in
+single_unbegun RstStream id old new frame given is gives calm on none few =
+    let judged : verdict old.history frame.head ≡ ConnectionError ProtocolError = verdict_unbegun id old.history frame.head on none few (ap is_headers is) in
     absurd (not_calm_end ProtocolError given (gives.0 ∙ ap (λ (v : HalfVerdict). reset_events v frame) judged) calm)
-single_unbegun WindowUpdate id old new frame given is gives calm on none =
+single_unbegun WindowUpdate id old new frame given is gives calm on none few =
     stays_unbegun id old new frame given (kind_silent id WindowUpdate old.history new.history frame given (λ (e : WindowUpdate ≡ Data). cc) gives)
-    (window_unbegun (frame.head.stream == 0) id old new frame given gives calm (verdict_unbegun id old.history frame.head on none (ap is_headers is))) none (ap is_headers is)
-single_unbegun Settings id old new frame given is gives calm on none =
+    (window_unbegun (frame.head.stream == 0) id old new frame given gives calm (verdict_unbegun id old.history frame.head on none few (ap is_headers is))) none (ap is_headers is)
+single_unbegun Settings id old new frame given is gives calm on none few =
     stays_unbegun id old new frame given (kind_silent id Settings old.history new.history frame given (λ (e : Settings ≡ Data). cc) gives) gives.1 none (ap is_headers is)
-single_unbegun Ping id old new frame given is gives calm on none =
+single_unbegun Ping id old new frame given is gives calm on none few =
     stays_unbegun id old new frame given (kind_silent id Ping old.history new.history frame given (λ (e : Ping ≡ Data). cc) gives) gives.1 none (ap is_headers is)
-single_unbegun GoAway id old new frame given is gives calm on none =
+single_unbegun GoAway id old new frame given is gives calm on none few =
     stays_unbegun id old new frame given (kind_silent id GoAway old.history new.history frame given (λ (e : GoAway ≡ Data). cc) gives) gives.1 none (ap is_headers is)
-single_unbegun PushPromise id old new frame given is gives calm on none =
+single_unbegun PushPromise id old new frame given is gives calm on none few =
     stays_unbegun id old new frame given (kind_silent id PushPromise old.history new.history frame given (λ (e : PushPromise ≡ Data). cc) gives) gives.1 none (ap is_headers is)
-single_unbegun Continuation id old new frame given is gives calm on none =
+single_unbegun Continuation id old new frame given is gives calm on none few =
     stays_unbegun id old new frame given (kind_silent id Continuation old.history new.history frame given (λ (e : Continuation ≡ Data). cc) gives) gives.1 none (ap is_headers is)
-single_unbegun Priority id old new frame given is gives calm on none =
+single_unbegun Priority id old new frame given is gives calm on none few =
     stays_unbegun id old new frame given (kind_silent id Priority old.history new.history frame given (λ (e : Priority ≡ Data). cc) gives) gives.1 none (ap is_headers is)
-single_unbegun (Unknown code) id old new frame given is gives calm on none =
+single_unbegun (Unknown code) id old new frame given is gives calm on none few =
     stays_unbegun id old new frame given (kind_silent id (Unknown code) old.history new.history frame given (λ (e : Unknown code ≡ Data). cc) gives) gives.1 none (ap is_headers is)
 
-credit_unbegun : (id : ℕ) (old new : Situation) (stream : ℕ) (given : List InEvent) → GroupGives old (Credit stream) given new → IsCalm given → nat_eq id stream ≡ true → half_at old.history id ≡ None → UnbegunNext id new (Credit stream) given
-credit_unbegun id old new stream given (e, next, same) calm on none =
-    let judged : credit_verdict old.history stream ≡ ConnectionError ProtocolError = ap without_increment (verdict_unbegun id old.history (credit_head stream) on none refl) in
+credit_unbegun : (id : ℕ) (old new : Situation) (stream : ℕ) (given : List InEvent) → GroupGives old (Credit stream) given new → IsCalm given → nat_eq id stream ≡ true → half_at old.history id ≡ None → IsFew old.history → UnbegunNext id new (Credit stream) given
+credit_unbegun id old new stream given (e, next, same) calm on none few =
+    let judged : credit_verdict old.history stream ≡ ConnectionError ProtocolError = ap without_increment (verdict_unbegun id old.history (credit_head stream) on none few refl) in
     absurd (not_calm_end ProtocolError given (e ∙ ap (λ (v : HalfVerdict). refusal v stream) judged) calm)
 
 -- a head that isn't malformed leaves the history as it is
@@ -100,13 +100,8 @@ head_cases head fields history next given (inl (call, is, e, same)) = inl same
 head_cases head fields history next given (inr (Malformed, first, e, same)) = inr (same, e)
 head_cases head fields history next given (inr (_, first, e, same)) = inl same
 
-pub new_half : (head : FrameHead) (count : ℕ) → head.kind ≡ Headers → nat_le MAX_STREAMS count ≡ false → half_of_new count (Received head) ≡ (if has end_stream head.flags then Ended else Opened)
-new_half head count kind few =
-    ap (λ (b : Bool). if b then Reset else (if ends (Received head) then Ended else Opened)) few
-    ∙ ap (λ (k : FrameKind). if is_last_of_kind k (has end_stream head.flags) then Ended else Opened) kind
-
-pub late_half : (head : FrameHead) (count : ℕ) → nat_le MAX_STREAMS count ≡ true → half_of_new count (Received head) ≡ Reset
-late_half head count many = ap (λ (b : Bool). if b then Reset else (if ends (Received head) then Ended else Opened)) many
+pub new_half : (head : FrameHead) → head.kind ≡ Headers → half_of_new (Received head) ≡ (if has end_stream head.flags then Ended else Opened)
+new_half head kind = ap (λ (k : FrameKind). if is_last_of_kind k (has end_stream head.flags) then Ended else Opened) kind
 
 -- a stream begins whose head isn't malformed
 opens_well : (id : ℕ) (old new : Situation) (frames : List Frame) (block : Pending) (given : List InEvent) → Collects frames block → nat_eq id block.head.stream ≡ true
@@ -156,30 +151,22 @@ open_unbegun : (id : ℕ) (old new : Situation) (frames : List Frame) (block : P
 open_unbegun id old new frames block given collects on calm (inl (fields, reads, gives)) half = fields_unbegun id old new frames block given fields collects on gives half
 open_unbegun id old new frames block given collects on calm (inr (fault, first, memory, e, same)) half = absurd (not_calm_end _ given e calm)
 
-block_unbegun : (id : ℕ) (old new : Situation) (frames : List Frame) (block : Pending) (given : List InEvent) → GroupGives old (Block frames block) given new → IsCalm given → nat_eq id block.head.stream ≡ true → half_at old.history id ≡ None → UnbegunNext id new (Block frames block) given
-block_unbegun id old new frames block given (is_begun, whole, gives) calm on none =
-    let opens = headers_open id old.history block.head on none (ap is_headers is_begun.collects.kind) is_begun.lawful in
-    let half = step_new id (Received block.head) old.history on none opens.begins in
-    elim opens.verdict [
-      | inl (judged, few) ↦
-          open_unbegun id old new frames block given is_begun.collects on calm
-          (subst (λ (v : HalfVerdict). BlockGives old.kept block.head v block.block (after_frame v block.head old.history) given new.history new.kept) judged gives)
-          (half ∙ ap Some (new_half block.head (length (begun old.history)) is_begun.collects.kind few))
-      | inr (judged, many) ↦
-          let not : verdict old.history block.head ≢ Open = λ (e : verdict old.history block.head ≡ Open). let wrong : Discard ≡ Open = sym judged ∙ e in cc in
-          let told = block_silent id old.kept new.kept block.head (verdict old.history block.head) block.block _ new.history given not gives in
-          let after : new.history ≡ Received block.head ∷ old.history = told.1 ∙ ap (λ (v : HalfVerdict). after_frame v block.head old.history) judged in
-          inr (inr (inr (ap (λ (h : List Event). half_at h id) after ∙ half ∙ ap Some (late_half block.head (length (begun old.history)) many)), told.0.0, inl told.0.1))
-    ]
+block_unbegun : (id : ℕ) (old new : Situation) (frames : List Frame) (block : Pending) (given : List InEvent) → GroupGives old (Block frames block) given new → IsCalm given → nat_eq id block.head.stream ≡ true → half_at old.history id ≡ None → IsFew old.history
+    → UnbegunNext id new (Block frames block) given
+block_unbegun id old new frames block given (is_begun, whole, gives) calm on none few =
+    let opens = headers_open id old.history block.head on none few (ap is_headers is_begun.collects.kind) is_begun.lawful in
+    open_unbegun id old new frames block given is_begun.collects on calm
+    (subst (λ (v : HalfVerdict). BlockGives old.kept block.head v block.block (after_frame v block.head old.history) given new.history new.kept) opens.verdict gives)
+    (step_new id (Received block.head) old.history on none opens.begins ∙ ap Some (new_half block.head is_begun.collects.kind))
 
-unbegun_here : (id : ℕ) (old new : Situation) (group : Group) (given : List InEvent) → GroupGives old group given new → IsCalm given → nat_eq id (stream_at group) ≡ true → half_at old.history id ≡ None → UnbegunNext id new group given
-unbegun_here id old new (Single frame) given gives calm on none = single_unbegun frame.head.kind id old new frame given refl gives.0 calm on none
-unbegun_here id old new (Credit stream) given gives calm on none = credit_unbegun id old new stream given gives calm on none
-unbegun_here id old new (Block frames block) given gives calm on none = block_unbegun id old new frames block given gives calm on none
+unbegun_here : (id : ℕ) (old new : Situation) (group : Group) (given : List InEvent) → GroupGives old group given new → IsCalm given → nat_eq id (stream_at group) ≡ true → half_at old.history id ≡ None → IsFew old.history → UnbegunNext id new group given
+unbegun_here id old new (Single frame) given gives calm on none few = single_unbegun frame.head.kind id old new frame given refl gives.0 calm on none few
+unbegun_here id old new (Credit stream) given gives calm on none few = credit_unbegun id old new stream given gives calm on none few
+unbegun_here id old new (Block frames block) given gives calm on none few = block_unbegun id old new frames block given gives calm on none few
 
-pub group_unbegun : (id : ℕ) (old new : Situation) (group : Group) (given : List InEvent) → GroupGives old group given new → IsCalm given → half_at old.history id ≡ None → UnbegunNext id new group given
-group_unbegun id old new group given gives calm none =
+pub group_unbegun : (id : ℕ) (old new : Situation) (group : Group) (given : List InEvent) → GroupGives old group given new → IsCalm given → half_at old.history id ≡ None → IsFew old.history → UnbegunNext id new group given
+group_unbegun id old new group given gives calm none few =
     elim (cases_Bool (nat_eq id (stream_at group))) [
-      | inl on ↦ unbegun_here id old new group given gives calm on none
+      | inl on ↦ unbegun_here id old new group given gives calm on none few
       | inr other ↦ inl (group_elsewhere id old new group given gives other ∙ none, elsewhere_silent id old new group given gives other, λ more. elsewhere_of id old new group given more gives other)
     ]

@@ -1,5 +1,5 @@
 -- What a group comes to for the end of a stream that wasn't begun.
-use Rattle.std.proofs.Common.{◌≡◌, ◌≢◌, ℕ, inl, inr, Bool, true, false, ◌&&◌, nat_eq, List, [], ◌∷◌, ◌++◌, length, map, refl, sym, ap, subst, ◌∙◌}
+use Rattle.std.proofs.Common.{◌≡◌, ℕ, inl, inr, Bool, true, false, ◌&&◌, nat_eq, List, [], ◌∷◌, ◌++◌, map, refl, ap, subst, ◌∙◌}
 use Rattle.std.specs.Prelude.{Some, None, ◌==◌, if◌then◌else◌}
 use Rattle.std.specs.List.{list_any}
 use Rattle.std.proofs.lemmas.Bool.{cases_Bool}
@@ -14,8 +14,8 @@ use Rattle.callhead.specs.declared.fault.HeadFault.TheVariants.{Malformed}
 use Rattle.flow.specs.declared.halves.Half.{Half}
 use Rattle.flow.specs.declared.halves.Half.TheVariants.{Opened, Ended, Reset}
 use Rattle.flow.specs.declared.halves.HalfVerdict.{HalfVerdict}
-use Rattle.flow.specs.declared.halves.HalfVerdict.TheVariants.{Open, Discard, ConnectionError}
-use Rattle.flow.specs.Halves.{Event, Received, Cut, is_headers, begun, verdict, half_after}
+use Rattle.flow.specs.declared.halves.HalfVerdict.TheVariants.{Open, ConnectionError}
+use Rattle.flow.specs.Halves.{Event, Received, Cut, is_headers, verdict, half_after}
 use Rattle.session.specs.declared.event.InEvent.{InEvent}
 use Rattle.session.specs.declared.event.InEvent.TheVariants as events
 use Rattle.session.specs.Streams.{after_frame, refusal, data_events, reset_events, window_events, credit_head, without_increment}
@@ -24,14 +24,15 @@ use Rattle.session.specs.HeaderBlocks.{Pending, Collects}
 use Rattle.session.specs.Blocks.{bad_head_events, after_bad_head, BlockGives}
 use Rattle.session.specs.Events.{Situation, Group, Single, Credit, Block, entries_of, GroupGives, IsCalm}
 use Rattle.session.specs.StreamData.{is_opening, Unended, Finished, ending_behind, ending_of, ending_told}
-use Rattle.session.proofs.HalfSteps.{half_at, IsClosed, step_begun, step_new, verdict_unbegun, headers_open}
-use Rattle.session.proofs.StreamPieces.{block_silent, kind_silent}
+use Rattle.session.proofs.HalfSteps.{half_at, IsClosed, step_begun, step_new, IsFew, verdict_unbegun, headers_open}
+use Rattle.session.proofs.StreamPieces.{kind_silent}
 use Rattle.session.proofs.StreamGroups.{stream_at, group_elsewhere, elsewhere_silent}
-use Rattle.session.proofs.NewStreamData.{not_calm_end, window_unbegun, new_half, late_half}
+use Rattle.session.proofs.NewStreamData.{not_calm_end, window_unbegun, new_half}
 use Rattle.session.proofs.StreamEnds.{elsewhere_quiet, settings_quiet, ping_quiet}
 use Rattle.session.proofs.OpenStreamEnds.{block_of, elsewhere_of, end_here}
 
--- it isn't begun yet; it is open; it has ended with its first frame; or it is closed, and was not told of
+-- it isn't begun yet; it is open; it has ended with its first frame; or it is closed, and was not told of. So it is while
+-- fewer streams were begun than may be.
 pub data NewEnd (id : ℕ) (new : Situation) (group : Group) (given : List InEvent) : Type 0 where
   Still : half_at new.history id ≡ None → ending_told id given ≡ Unended → list_any (is_opening id) given ≡ false → ((more : List Entry) → ending_of id (entries_of group ++ more) ≡ ending_of id more) → NewEnd id new group given
   Begins : half_at new.history id ≡ Some Opened → ending_told id given ≡ Unended → ((more : List Entry) → ending_of id (entries_of group ++ more) ≡ ending_behind id more) → NewEnd id new group given
@@ -53,25 +54,25 @@ window_told true id history next frame given judged (e, same) = ap (ending_told 
 window_told false id history next frame given judged (e, same) = ap (ending_told id) (e ∙ ap (λ (v : HalfVerdict). window_events v frame) judged)
 
 single_new : (kind : FrameKind) (id : ℕ) (old new : Situation) (frame : Frame) (given : List InEvent) → frame.head.kind ≡ kind → KindGives kind old.history frame given new.history → IsCalm given
-    → nat_eq id frame.head.stream ≡ true → half_at old.history id ≡ None → NewEnd id new (Single frame) given
-single_new Headers id old new frame given is gives calm on none = absurd gives
-single_new Data id old new frame given is gives calm on none =
-    absurd (not_calm_end ProtocolError given (gives.0 ∙ ap (λ (v : HalfVerdict). data_events v frame) (verdict_unbegun id old.history frame.head on none (ap is_headers is))) calm)
-single_new RstStream id old new frame given is gives calm on none =
-    absurd (not_calm_end ProtocolError given (gives.0 ∙ ap (λ (v : HalfVerdict). reset_events v frame) (verdict_unbegun id old.history frame.head on none (ap is_headers is))) calm)
-single_new WindowUpdate id old new frame given is gives calm on none =
-    let judged : verdict old.history frame.head ≡ ConnectionError ProtocolError = verdict_unbegun id old.history frame.head on none (ap is_headers is) in
+    → nat_eq id frame.head.stream ≡ true → half_at old.history id ≡ None → IsFew old.history → NewEnd id new (Single frame) given
+single_new Headers id old new frame given is gives calm on none few = absurd gives
+single_new Data id old new frame given is gives calm on none few =
+    absurd (not_calm_end ProtocolError given (gives.0 ∙ ap (λ (v : HalfVerdict). data_events v frame) (verdict_unbegun id old.history frame.head on none few (ap is_headers is))) calm)
+single_new RstStream id old new frame given is gives calm on none few =
+    absurd (not_calm_end ProtocolError given (gives.0 ∙ ap (λ (v : HalfVerdict). reset_events v frame) (verdict_unbegun id old.history frame.head on none few (ap is_headers is))) calm)
+single_new WindowUpdate id old new frame given is gives calm on none few =
+    let judged : verdict old.history frame.head ≡ ConnectionError ProtocolError = verdict_unbegun id old.history frame.head on none few (ap is_headers is) in
     stays_new id old new frame given (window_told (frame.head.stream == 0) id old.history new.history frame given judged gives)
     (kind_silent id WindowUpdate old.history new.history frame given (λ (e : WindowUpdate ≡ Data). cc) gives).1 (window_unbegun (frame.head.stream == 0) id old new frame given gives calm judged) none (ap is_headers is)
-single_new Settings id old new frame given is gives calm on none =
+single_new Settings id old new frame given is gives calm on none few =
     stays_new id old new frame given (settings_quiet id (has ack frame.head.flags) frame.content given gives.0) (kind_silent id Settings old.history new.history frame given (λ (e : Settings ≡ Data). cc) gives).1 gives.1 none (ap is_headers is)
-single_new Ping id old new frame given is gives calm on none =
+single_new Ping id old new frame given is gives calm on none few =
     stays_new id old new frame given (ap (ending_told id) gives.0 ∙ ping_quiet id (has ack frame.head.flags) frame.content) (kind_silent id Ping old.history new.history frame given (λ (e : Ping ≡ Data). cc) gives).1 gives.1 none (ap is_headers is)
-single_new GoAway id old new frame given is gives calm on none = stays_new id old new frame given (ap (ending_told id) gives.0) (ap (list_any (is_opening id)) gives.0) gives.1 none (ap is_headers is)
-single_new PushPromise id old new frame given is gives calm on none = stays_new id old new frame given (ap (ending_told id) gives.0) (ap (list_any (is_opening id)) gives.0) gives.1 none (ap is_headers is)
-single_new Continuation id old new frame given is gives calm on none = stays_new id old new frame given (ap (ending_told id) gives.0) (ap (list_any (is_opening id)) gives.0) gives.1 none (ap is_headers is)
-single_new Priority id old new frame given is gives calm on none = stays_new id old new frame given (ap (ending_told id) gives.0) (ap (list_any (is_opening id)) gives.0) gives.1 none (ap is_headers is)
-single_new (Unknown code) id old new frame given is gives calm on none = stays_new id old new frame given (ap (ending_told id) gives.0) (ap (list_any (is_opening id)) gives.0) gives.1 none (ap is_headers is)
+single_new GoAway id old new frame given is gives calm on none few = stays_new id old new frame given (ap (ending_told id) gives.0) (ap (list_any (is_opening id)) gives.0) gives.1 none (ap is_headers is)
+single_new PushPromise id old new frame given is gives calm on none few = stays_new id old new frame given (ap (ending_told id) gives.0) (ap (list_any (is_opening id)) gives.0) gives.1 none (ap is_headers is)
+single_new Continuation id old new frame given is gives calm on none few = stays_new id old new frame given (ap (ending_told id) gives.0) (ap (list_any (is_opening id)) gives.0) gives.1 none (ap is_headers is)
+single_new Priority id old new frame given is gives calm on none few = stays_new id old new frame given (ap (ending_told id) gives.0) (ap (list_any (is_opening id)) gives.0) gives.1 none (ap is_headers is)
+single_new (Unknown code) id old new frame given is gives calm on none few = stays_new id old new frame given (ap (ending_told id) gives.0) (ap (list_any (is_opening id)) gives.0) gives.1 none (ap is_headers is)
 
 opens_well : (id : ℕ) (new : Situation) (frames : List Frame) (block : Pending) (given : List InEvent) → Collects frames block → nat_eq id block.head.stream ≡ true
     → half_at new.history id ≡ Some (if has end_stream block.head.flags then Ended else Opened) → ending_told id given ≡ (if has end_stream block.head.flags then Finished else Unended) → NewEnd id new (Block frames block) given
@@ -114,32 +115,24 @@ open_new id old new frames block given collects on calm (inl (fields, reads, inl
 open_new id old new frames block given collects on calm (inl (fields, reads, inr (fault, first, e, same))) half = fault_new id old new frames block given fault collects on half e same
 open_new id old new frames block given collects on calm (inr (fault, first, memory, e, same)) half = absurd (not_calm_end _ given e calm)
 
-block_new : (id : ℕ) (old new : Situation) (frames : List Frame) (block : Pending) (given : List InEvent) → GroupGives old (Block frames block) given new → IsCalm given → nat_eq id block.head.stream ≡ true → half_at old.history id ≡ None → NewEnd id new (Block frames block) given
-block_new id old new frames block given (is_begun, whole, gives) calm on none =
-    let opens = headers_open id old.history block.head on none (ap is_headers is_begun.collects.kind) is_begun.lawful in
-    let half = step_new id (Received block.head) old.history on none opens.begins in
-    elim opens.verdict [
-      | inl (judged, few) ↦
-          open_new id old new frames block given is_begun.collects on calm
-          (subst (λ (v : HalfVerdict). BlockGives old.kept block.head v block.block (after_frame v block.head old.history) given new.history new.kept) judged gives)
-          (half ∙ ap Some (new_half block.head (length (begun old.history)) is_begun.collects.kind few))
-      | inr (judged, many) ↦
-          let not : verdict old.history block.head ≢ Open = λ (e : verdict old.history block.head ≡ Open). let wrong : Discard ≡ Open = sym judged ∙ e in cc in
-          let told = block_silent id old.kept new.kept block.head (verdict old.history block.head) block.block _ new.history given not gives in
-          let after : new.history ≡ Received block.head ∷ old.history = told.1 ∙ ap (λ (v : HalfVerdict). after_frame v block.head old.history) judged in
-          Untold (inr (ap (λ (h : List Event). half_at h id) after ∙ half ∙ ap Some (late_half block.head (length (begun old.history)) many))) told.0.1
-    ]
+block_new : (id : ℕ) (old new : Situation) (frames : List Frame) (block : Pending) (given : List InEvent) → GroupGives old (Block frames block) given new → IsCalm given → nat_eq id block.head.stream ≡ true → half_at old.history id ≡ None → IsFew old.history
+    → NewEnd id new (Block frames block) given
+block_new id old new frames block given (is_begun, whole, gives) calm on none few =
+    let opens = headers_open id old.history block.head on none few (ap is_headers is_begun.collects.kind) is_begun.lawful in
+    open_new id old new frames block given is_begun.collects on calm
+    (subst (λ (v : HalfVerdict). BlockGives old.kept block.head v block.block (after_frame v block.head old.history) given new.history new.kept) opens.verdict gives)
+    (step_new id (Received block.head) old.history on none opens.begins ∙ ap Some (new_half block.head is_begun.collects.kind))
 
-new_here : (id : ℕ) (old new : Situation) (group : Group) (given : List InEvent) → GroupGives old group given new → IsCalm given → nat_eq id (stream_at group) ≡ true → half_at old.history id ≡ None → NewEnd id new group given
-new_here id old new (Single frame) given gives calm on none = single_new frame.head.kind id old new frame given refl gives.0 calm on none
-new_here id old new (Credit stream) given gives calm on none =
-    absurd (not_calm_end ProtocolError given (gives.0 ∙ ap (λ (v : HalfVerdict). refusal (without_increment v) stream) (verdict_unbegun id old.history (credit_head stream) on none refl)) calm)
-new_here id old new (Block frames block) given gives calm on none = block_new id old new frames block given gives calm on none
+new_here : (id : ℕ) (old new : Situation) (group : Group) (given : List InEvent) → GroupGives old group given new → IsCalm given → nat_eq id (stream_at group) ≡ true → half_at old.history id ≡ None → IsFew old.history → NewEnd id new group given
+new_here id old new (Single frame) given gives calm on none few = single_new frame.head.kind id old new frame given refl gives.0 calm on none few
+new_here id old new (Credit stream) given gives calm on none few =
+    absurd (not_calm_end ProtocolError given (gives.0 ∙ ap (λ (v : HalfVerdict). refusal (without_increment v) stream) (verdict_unbegun id old.history (credit_head stream) on none few refl)) calm)
+new_here id old new (Block frames block) given gives calm on none few = block_new id old new frames block given gives calm on none few
 
-pub group_new_end : (id : ℕ) (old new : Situation) (group : Group) (given : List InEvent) → GroupGives old group given new → IsCalm given → half_at old.history id ≡ None → NewEnd id new group given
-group_new_end id old new group given gives calm none =
+pub group_new_end : (id : ℕ) (old new : Situation) (group : Group) (given : List InEvent) → GroupGives old group given new → IsCalm given → half_at old.history id ≡ None → IsFew old.history → NewEnd id new group given
+group_new_end id old new group given gives calm none few =
     elim (cases_Bool (nat_eq id (stream_at group))) [
-      | inl on ↦ new_here id old new group given gives calm on none
+      | inl on ↦ new_here id old new group given gives calm on none few
       | inr other ↦ Still (group_elsewhere id old new group given gives other ∙ none) (elsewhere_quiet id old new group given gives other) (elsewhere_silent id old new group given gives other).1
           (λ more. elsewhere_of id old new group given more gives other)
     ]

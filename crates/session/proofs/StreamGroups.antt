@@ -22,8 +22,8 @@ use Rattle.session.specs.HeaderBlocks.{Pending, Collects, IsContinuation}
 use Rattle.session.specs.Blocks.{HeadGives, FieldsGive, BlockGives}
 use Rattle.session.specs.Events.{Situation, Group, Single, Credit, Block, entries_of, GroupGives}
 use Rattle.session.specs.StreamData.{data_with, data_behind, data_of, is_opening}
-use Rattle.session.proofs.HalfSteps.{half_at, IsClosed, closed_stays, closed_after, other_after, step_other}
-use Rattle.session.proofs.StreamPieces.{IsSilent, silent_same, end_silent, refusal_silent, data_elsewhere, kind_silent, block_pieces, block_silent, bad_head_elsewhere}
+use Rattle.session.proofs.HalfSteps.{half_at, IsClosed, closed_stays, closed_after, other_after, step_other, IsFull, full_stays, full_after, full_verdict}
+use Rattle.session.proofs.StreamPieces.{IsSilent, silent_same, end_silent, refusal_silent, data_untold, data_elsewhere, kind_silent, block_pieces, block_silent, bad_head_elsewhere}
 
 -- ---- the history behind a group
 
@@ -155,6 +155,39 @@ elsewhere_silent id old new (Single frame) given (gives, same) other =
 elsewhere_silent id old new (Credit stream) given (e, next, same) other = silent_same id given _ e (refusal_silent id (credit_verdict old.history stream) stream)
 elsewhere_silent id old new (Block frames block) given (begun, whole, gives) other =
     block_elsewhere id old.kept new.kept block.head (verdict old.history block.head) block.block _ new.history given other gives
+
+-- ---- once so many streams were begun as may be
+
+full_next : (next history : List Event) → next ≡ history → IsFull history → IsFull next
+full_next next history e full = subst IsFull (sym e) full
+
+-- no group changes that
+pub group_full : (old new : Situation) (group : Group) (given : List InEvent) → GroupGives old group given new → IsFull old.history → IsFull new.history
+group_full old new (Single frame) given (gives, same) full =
+    elim (single_next frame.head.kind old.history new.history frame given gives) [
+      | inl e ↦ full_next new.history old.history e full
+      | inr e ↦ full_next new.history (after_frame (verdict old.history frame.head) frame.head old.history) e (full_after (verdict old.history frame.head) frame.head old.history full)
+    ]
+group_full old new (Credit stream) given (g, e, same) full =
+    full_next new.history (after_frame (credit_verdict old.history stream) (credit_head stream) old.history) e (full_after (credit_verdict old.history stream) (credit_head stream) old.history full)
+group_full old new (Block frames block) given (begun, whole, gives) full =
+    let judged : HalfVerdict = verdict old.history block.head in
+    let after : IsFull (after_frame judged block.head old.history) = full_after judged block.head old.history full in
+    elim (block_next old.kept new.kept block.head judged block.block (after_frame judged block.head old.history) new.history given gives) [
+      | inl e ↦ full_next new.history (after_frame judged block.head old.history) e after
+      | inr e ↦ full_next new.history (Cut block.head.stream ∷ after_frame judged block.head old.history) e (full_stays (Cut block.head.stream) (after_frame judged block.head old.history) after)
+    ]
+
+-- and none tells that a stream begins
+pub group_untold : (id : ℕ) (old new : Situation) (group : Group) (given : List InEvent) → GroupGives old group given new → IsFull old.history → list_any (is_opening id) given ≡ false
+group_untold id old new (Single frame) given (gives, same) full =
+    elim (data_or_not frame.head.kind) [
+      | inl is ↦ ap (list_any (is_opening id)) (data_gives frame.head.kind old.history new.history frame given is gives).0 ∙ data_untold id (verdict old.history frame.head) frame
+      | inr not ↦ (kind_silent id frame.head.kind old.history new.history frame given not gives).1
+    ]
+group_untold id old new (Credit stream) given (e, next, same) full = (silent_same id given _ e (refusal_silent id (credit_verdict old.history stream) stream)).1
+group_untold id old new (Block frames block) given (begun, whole, gives) full =
+    (block_silent id old.kept new.kept block.head (verdict old.history block.head) block.block _ new.history given (full_verdict old.history block.head full) gives).0.1
 
 -- ---- the entries of a group, for the data of a stream
 

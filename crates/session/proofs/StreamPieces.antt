@@ -59,6 +59,18 @@ data_silent id Discard frame not = silent_join id (counted frame.head.length (ev
 data_silent id (StreamError error) frame not =
     silent_join id (counted frame.head.length (events.Loose frame.head.length)) (events.StreamError frame.head.stream error ∷ []) (loose_silent id frame.head.length) (refl, refl)
 
+-- DATA open no stream
+pub data_untold : (id : ℕ) (judged : HalfVerdict) (frame : Frame) → list_any (is_opening id) (data_events judged frame) ≡ false
+data_untold id Accept frame =
+    list_any-append (is_opening id) (counted frame.head.length (events.Data frame.head.stream frame.content frame.head.length)) (end_of frame.head)
+    ∙ ap (λ (b : Bool). b || list_any (is_opening id) (end_of frame.head))
+    (elim (frame.head.length == 0) as (λ (b : Bool). list_any (is_opening id) (if b then [] else events.Data frame.head.stream frame.content frame.head.length ∷ []) ≡ false) [ true ↦ refl | false ↦ refl ])
+    ∙ (end_silent id frame.head).1
+data_untold id Open frame = (data_silent id Open frame (λ (e : Open ≡ Accept). cc)).1
+data_untold id Discard frame = (data_silent id Discard frame (λ (e : Discard ≡ Accept). cc)).1
+data_untold id (StreamError error) frame = (data_silent id (StreamError error) frame (λ (e : StreamError error ≡ Accept). cc)).1
+data_untold id (ConnectionError error) frame = (data_silent id (ConnectionError error) frame (λ (e : ConnectionError error ≡ Accept). cc)).1
+
 piece_silent : (id : ℕ) (frame : Frame) (b : Bool) → nat_eq id frame.head.stream ≡ b → b ≡ false → IsSilent id (events.Data frame.head.stream frame.content frame.head.length ∷ [])
 piece_silent id frame true on other = absurd cc
 piece_silent id frame false on other = (ap (λ (b : Bool). (if b then frame.content else []) ++ []) on, refl)

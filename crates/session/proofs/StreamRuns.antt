@@ -1,21 +1,24 @@
 -- The data that a run of groups tells of a stream, and those of its frames.
 use Rattle.std.proofs.Common.{◌≡◌, ◌≤◌, ℕ, inl, inr, Bool, true, false, ◌||◌, List, [], ◌∷◌, ◌++◌, length, refl, sym, ap, subst, ◌∙◌, arith}
-use Rattle.std.specs.Prelude.{Some, None, if◌then◌else◌, flat_map}
+use Rattle.std.specs.Prelude.{Some, None, nat_lt, if◌then◌else◌, flat_map}
 use Rattle.std.specs.List.{list_any, AllByRecursion}
+use Rattle.std.proofs.lemmas.Bool.{cases_Bool}
 use Rattle.std.proofs.lemmas.List.{append-nil, length-append}
 use Rattle.std.proofs.lemmas.List.Folds.{list_any-append}
 use Rattle.std.proofs.lemmas.List.Concat.{flat_map-cons}
 use Rattle.h2frame.specs.FrameList.{Entry, Whole, NoIncrement, Spells, Joined}
 use Rattle.h2frame.specs.Flags.{is_padded}
 use Rattle.h2frame.specs.Spelling.{payload_text}
+use Rattle.flow.specs.declared.TheConstants.{MAX_STREAMS}
 use Rattle.flow.specs.declared.halves.Half.TheVariants.{Opened}
+use Rattle.flow.specs.Halves.{begun}
 use Rattle.flow.proofs.HalfLemmas.{kept-None}
 use Rattle.session.specs.declared.event.InEvent.{InEvent}
 use Rattle.session.specs.Events.{Situation, start, Group, entries_of, Runs, Passes}
 use Rattle.session.specs.StreamData.{data_behind, data_of, pieces, is_opening, Ending, first_end, ending_behind, ending_of, ending_told}
-use Rattle.session.proofs.HalfSteps.{half_at, IsClosed}
+use Rattle.session.proofs.HalfSteps.{half_at, IsClosed, IsFew, IsFull}
 use Rattle.session.proofs.StreamPieces.{IsSilent, pieces_append, silent_join, silent_same}
-use Rattle.session.proofs.StreamGroups.{group_closed}
+use Rattle.session.proofs.StreamGroups.{group_closed, group_full, group_untold}
 use Rattle.session.proofs.OpenStreamData.{IsCounted, closed_silent, group_open}
 use Rattle.session.proofs.NewStreamData.{group_unbegun}
 use Rattle.session.proofs.StreamEnds.{told_append}
@@ -61,12 +64,27 @@ never : (b : Bool) → b ≡ true → b ≡ false → ⊥
 never true e f = absurd cc
 never false e f = absurd cc
 
+full_runs : (id : ℕ) (old new : Situation) (groups : List Group) (given : List InEvent) → Runs old groups given new → IsFull old.history → list_any (is_opening id) given ≡ false
+full_runs id old new [] given (e, same) full = ap (list_any (is_opening id)) e
+full_runs id old new (group ∷ groups) given (first, others, next, gives, calm, runs, e) full =
+    ap (list_any (is_opening id)) e ∙ list_any-append (is_opening id) first others
+    ∙ ap (λ (b : Bool). b || list_any (is_opening id) others) (group_untold id old next group first gives full)
+    ∙ full_runs id next new groups others runs (group_full old next group first gives full)
+
+-- where a stream is told to begin, fewer were begun before than may be
+few_before : (id : ℕ) (old new : Situation) (groups : List Group) (given : List InEvent) → Runs old groups given new → list_any (is_opening id) given ≡ true → IsFew old.history
+few_before id old new groups given runs opens =
+    elim (cases_Bool (nat_lt (length (begun old.history)) MAX_STREAMS)) [
+      | inl few ↦ few
+      | inr full ↦ absurd (never (list_any (is_opening id) given) opens (full_runs id old new groups given runs full))
+    ]
+
 unbegun_runs : (id : ℕ) (old new : Situation) (groups : List Group) (given : List InEvent) → Runs old groups given new → AllByRecursion IsCounted (front_of groups) → half_at old.history id ≡ None → list_any (is_opening id) given ≡ true
     → pieces id given ≡ data_of id (front_of groups)
 unbegun_runs id old new [] given (e, same) counts none opens = absurd (never (list_any (is_opening id) given) opens (ap (list_any (is_opening id)) e))
 unbegun_runs id old new (group ∷ groups) given (first, others, next, gives, calm, runs, e) counts none opens =
     ap (pieces id) e ∙ pieces_append id first others
-    ∙ elim (group_unbegun id old next group first gives calm none) [
+    ∙ elim (group_unbegun id old next group first gives calm none (few_before id old new (group ∷ groups) given (first, others, next, gives, calm, runs, e) opens)) [
       | inl (still, silent, due) ↦
           ap (λ (b : List ℕ). b ++ pieces id others) silent.0
           ∙ unbegun_runs id next new groups others runs (all_back (entries_of group) (front_of groups) counts) still (later id first others given e opens silent.1)
@@ -116,7 +134,7 @@ new_ends : (id : ℕ) (old new : Situation) (groups : List Group) (given : List 
 new_ends id old new [] given (e, same) none opens = absurd (never (list_any (is_opening id) given) opens (ap (list_any (is_opening id)) e))
 new_ends id old new (group ∷ groups) given (first, others, next, gives, calm, runs, e) none opens =
     ap (ending_told id) e ∙ told_append id first others
-    ∙ elim (group_new_end id old next group first gives calm none) [
+    ∙ elim (group_new_end id old next group first gives calm none (few_before id old new (group ∷ groups) given (first, others, next, gives, calm, runs, e) opens)) [
       | Still still quiet untold due ↦
           ap (λ (b : Ending). first_end b (ending_told id others)) quiet ∙ new_ends id next new groups others runs still (later id first others given e opens untold) ∙ sym (due (front_of groups))
       | Begins half quiet due ↦ ap (λ (b : Ending). first_end b (ending_told id others)) quiet ∙ open_ends id next new groups others runs half ∙ sym (due (front_of groups))
