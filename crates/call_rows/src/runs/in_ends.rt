@@ -1,5 +1,5 @@
 //! The two ends of the in side, over a ring.
-ghost use Rattle.std.specs.Prelude.{◌≡◌};
+ghost use Rattle.std.specs.Prelude.{◌≡◌, OnOk};
 
 use account::{Shut, Told};
 use anyhow::Result;
@@ -24,7 +24,7 @@ fn take_patiently<L: Lane<Item = InPiece>>(taker: &mut Taker<L>) -> Taken
 
 /// Feeds the pieces, and answers whether none was refused.
 fn feed_all<L: Lane<Item = InPiece>>(alloc: Global, feeder: &mut Feeder<L>) -> Result<bool>
-    ensures { L.in_name feeder.new.tx ≡ L.in_name feeder.old.tx }
+    ensures { OnOk result (L.in_name feeder.new.tx ≡ L.in_name feeder.old.tx) }
 {
     let mut are_fed = true;
     for piece in PIECES {

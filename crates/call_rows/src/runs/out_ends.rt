@@ -36,23 +36,56 @@ pub fn bytes_of(item: &OutItem) -> &[u8] {
     }
 }
 
-/// Gives a head and two messages, and what is refused: what is no frame, and a frame for which there is no room.
-fn gives<L: Lane<Item = OutItem>>(giver: &mut Giver<L>, head: Sequence<Field>) -> bool
+/// What became of bytes that were given as a frame.
+#[derive(Clone, Copy, PartialEq, Eq)]
+enum Framed {
+    Given,
+    NotAFrame,
+    Refused,
+    /// No head was given, so nothing may be.
+    Headless,
+}
+
+/// Gives bytes as a frame.
+fn give_framed<L: Lane<Item = OutItem>>(giver: &mut Giver<L>, bytes: &'static [u8]) -> Framed
+    ensures { L.in_name giver.new.tx ≡ L.in_name giver.old.tx }
+{
+    if !giver.has_head() {
+        return Framed::Headless;
+    }
+    match giver.give_framed(Bytes::from_static(bytes)) {
+        Ok(()) => Framed::Given,
+        Err(FramedFault::NotAFrame(_)) => Framed::NotAFrame,
+        Err(FramedFault::Refused(_)) => Framed::Refused,
+    }
+}
+
+/// Gives a head and a message.
+fn begins<L: Lane<Item = OutItem>>(giver: &mut Giver<L>, head: Sequence<Field>) -> bool
     requires { L.put_in giver.old.tx ≡ [] }
     ensures { L.in_name giver.new.tx ≡ L.in_name giver.old.tx }
 {
-    let mut holds = giver.head(head).is_ok();
+    let is_begun = giver.head(head).is_ok();
     if !giver.has_head() {
         return false;
     }
-    holds &= giver.give(Bytes::from_static(&[0x41])).is_ok();
-    let unframed = giver.give_framed(Bytes::from_static(&[0x42]));
-    holds &= matches!(&unframed, Err(FramedFault::NotAFrame(bytes)) if bytes.len() == 1);
-    holds &= giver.check_room() == Ok(());
-    holds &= giver.give_framed(Bytes::from_static(OTHER_FRAMED)).is_ok();
-    let refused = giver.give_framed(Bytes::from_static(&[0, 0, 0, 0, 0]));
-    holds &= matches!(refused, Err(FramedFault::Refused(_)));
-    holds && giver.check_room() == Err(3)
+    giver.give(Bytes::from_static(&[0x41])).is_ok() && is_begun
+}
+
+/// Gives another message, and what is refused: what is no frame, and a frame for which there is no room.
+fn goes_on<L: Lane<Item = OutItem>>(giver: &mut Giver<L>) -> bool
+    ensures { L.in_name giver.new.tx ≡ L.in_name giver.old.tx }
+{
+    let unframed = give_framed(giver, &[0x42]);
+    let has_room = giver.check_room() == Ok(());
+    let framed = give_framed(giver, OTHER_FRAMED);
+    let refused = give_framed(giver, &[0, 0, 0, 0, 0]);
+    let is_full = giver.check_room() == Err(3);
+    unframed == Framed::NotAFrame
+        && has_room
+        && framed == Framed::Given
+        && refused == Framed::Refused
+        && is_full
 }
 
 /// Whether the next item that is sent has these bytes.
@@ -66,7 +99,7 @@ pub fn send_what_is_given(alloc: Global) -> Result<bool> {
     let head = fields(alloc)?;
     let trailers = fields(alloc)?;
     let (mut giver, mut sender) = open_out::<RingLane<OutItem>>(alloc, 7, 3)?;
-    let is_given = gives(&mut giver, head);
+    let is_given = begins(&mut giver, head) && goes_on(&mut giver);
     if !giver.has_head() {
         return Ok(false);
     }
