@@ -24,4 +24,3 @@ pub use header_block::{FragmentFault, HeaderBlock, MAX_BLOCK};
 pub use in_core::InCore;
 pub use preface::{BadPreface, Preface};
 pub use settings::{Parameter, PeerSetting, PeerSettings, SettingsFault, read_settings};
-
