@@ -38,14 +38,14 @@ pub fn stream_end()
         Framed bytes given entries → list_any (is_opening id) given ≡ true → ending_told id given ≡ ending_of id entries }
 {}
 
-/// The same of whole groups, whatever stands behind them: the data of a stream,
+/// The data of a stream by whole groups of frames, whatever stands behind them.
 pub fn group_data()
     ensures { (text : List ℕ) (entries behind : List Entry) (rest : List ℕ) (given : List InEventOf) (now : Situation) (id : ℕ) →
         Joined text entries rest → Passes entries behind given now → list_any (is_opening id) given ≡ true →
         (front : List Entry) × (entries ≡ front ++ behind) × (pieces id given ≡ data_of id front) }
 {}
 
-/// and its end.
+/// The end of a stream by whole groups of frames, whether bytes spell them or not.
 pub fn group_end()
     ensures { (entries behind : List Entry) (given : List InEventOf) (now : Situation) (id : ℕ) →
         Passes entries behind given now → list_any (is_opening id) given ≡ true →
