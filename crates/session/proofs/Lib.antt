@@ -26,3 +26,4 @@ pub mod OnePiece
 pub mod OneText
 pub mod OneRun
 pub mod OneEvents
+pub mod StreamFrames

@@ -9,3 +9,5 @@ pub mod CoreStates
 pub mod StreamData
 pub mod Examples
 pub mod EventExamples
+pub mod Framings
+pub mod FramingExamples

@@ -1,8 +1,5 @@
 //! The reading core of a connection: its bytes go in, in any pieces, and their events come out.
 //!
-//! `feed` says what a piece leads to, for every list of bytes and events that led to the core before it; the loop that feeds
-//! the pieces names the list, and `laws::answers` then gives the events. After `Fatal` what is fed isn't kept.
-//!
 //! `feed` says what a piece leads to, for every list of bytes and events that led to the core before it; the loop that
 //! feeds the pieces names the list, and `laws::answers` then gives the events. After `Fatal` what is fed isn't kept.
 

@@ -5,6 +5,7 @@ ghost use Rattle.std.specs.List.{list_any};
 ghost use Rattle.session.specs.declared.event.InEvent.{InEvent as InEventOf};
 ghost use Rattle.h2frame.specs.FrameList.{Entry, Joined};
 ghost use Rattle.session.specs.Events.{Events, Group, GroupGives, IsCalm, Passes, Situation, is_fatal};
+ghost use Rattle.session.specs.Framings.{Framed};
 ghost use Rattle.session.specs.StreamData.{data_of, ending_of, ending_told, is_opening, pieces};
 ghost use Rattle.session.specs.CoreStates.{Core, Reached};
 
@@ -19,16 +20,33 @@ pub fn ends()
         Events bytes given → list_any is_fatal given ≡ true → Events (bytes ++ more) given }
 {}
 
-/// The pieces of data that are told of a stream whose head isn't malformed are, joined, its data by the frame list, as
-/// far as header blocks are whole.
+/// One list of frames counts for all streams of a connection: those of the whole groups behind its preface. What else the
+/// bytes hold is a header block that isn't whole, a fault, or what ends the connection.
+pub fn one_frame_list()
+    ensures { (bytes : List ℕ) (given : List InEventOf) → Events bytes given → (entries : List Entry) × Framed bytes given entries }
+{}
+
+/// The pieces of data that are told of a stream whose head isn't malformed are, joined, its data by the frames that count.
 pub fn stream_data()
+    ensures { (bytes : List ℕ) (given : List InEventOf) (entries : List Entry) (id : ℕ) →
+        Framed bytes given entries → list_any (is_opening id) given ≡ true → pieces id given ≡ data_of id entries }
+{}
+
+/// The first end that is told of such a stream is the one by the frames that count.
+pub fn stream_end()
+    ensures { (bytes : List ℕ) (given : List InEventOf) (entries : List Entry) (id : ℕ) →
+        Framed bytes given entries → list_any (is_opening id) given ≡ true → ending_told id given ≡ ending_of id entries }
+{}
+
+/// The data of a stream by whole groups of frames, whatever stands behind them.
+pub fn group_data()
     ensures { (text : List ℕ) (entries behind : List Entry) (rest : List ℕ) (given : List InEventOf) (now : Situation) (id : ℕ) →
         Joined text entries rest → Passes entries behind given now → list_any (is_opening id) given ≡ true →
         (front : List Entry) × (entries ≡ front ++ behind) × (pieces id given ≡ data_of id front) }
 {}
 
-/// The first end that is told of such a stream is the one by the frame list, as far as header blocks are whole.
-pub fn stream_end()
+/// The end of a stream by whole groups of frames, whether bytes spell them or not.
+pub fn group_end()
     ensures { (entries behind : List Entry) (given : List InEventOf) (now : Situation) (id : ℕ) →
         Passes entries behind given now → list_any (is_opening id) given ≡ true →
         (front : List Entry) × (entries ≡ front ++ behind) × (ending_told id given ≡ ending_of id front) }

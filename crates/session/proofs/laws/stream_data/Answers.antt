@@ -1,5 +1,5 @@
-use Rattle.session.proofs.StreamRuns.{data_told}
+use Rattle.session.proofs.StreamFrames.{framed_data}
 use Rattle.session.proofs.laws.stream_data.Goals as goal
 
 pub returns : goal.returns
-returns c = data_told
+returns c = framed_data

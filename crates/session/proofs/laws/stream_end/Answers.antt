@@ -1,5 +1,5 @@
-use Rattle.session.proofs.StreamRuns.{end_told_of}
+use Rattle.session.proofs.StreamFrames.{framed_end}
 use Rattle.session.proofs.laws.stream_end.Goals as goal
 
 pub returns : goal.returns
-returns c = end_told_of
+returns c = framed_end

@@ -1,0 +1,111 @@
+-- The frames that count, and what the events of a connection tell of its streams.
+use Rattle.std.proofs.Common.{◌≡◌, ℕ, inl, inr, Bool, true, false, ◌||◌, List, [], ◌∷◌, ◌++◌, refl, sym, ap, subst, ◌∙◌}
+use Rattle.std.specs.Prelude.{◌⊎◌, flat_map}
+use Rattle.std.specs.List.{list_any}
+use Rattle.std.proofs.lemmas.List.{append-nil, append_cancel_right}
+use Rattle.std.proofs.lemmas.List.Folds.{list_any-append}
+use Rattle.h2frame.specs.declared.error_code.ErrorCode.{ErrorCode}
+use Rattle.h2frame.specs.declared.error_code.ErrorCode.TheVariants.{ProtocolError}
+use Rattle.h2frame.specs.Faults.{fault_error}
+use Rattle.h2frame.specs.FrameList.{Entry, Joined}
+use Rattle.session.specs.declared.event.InEvent.{InEvent}
+use Rattle.session.specs.Frames.{fatal}
+use Rattle.session.specs.HeaderBlocks.{fragment_error}
+use Rattle.session.specs.Events.{Situation, entries_of, Passes, Close, Unfinished, Faulty, Refused, Broken, Ended, Closes, Events, Greeted, Departed, Unsettled, Read}
+use Rattle.session.specs.Framings.{IsUnread, Framed}
+use Rattle.session.specs.StreamData.{Ending, Unended, Finished, Aborted, data_of, pieces, is_opening, ending_of, ending_told, first_end}
+use Rattle.session.proofs.StreamPieces.{IsSilent, pieces_append, silent_same}
+use Rattle.session.proofs.StreamEnds.{IsQuiet, told_append, quiet_same}
+use Rattle.session.proofs.StreamRuns.{data_told, end_told_of}
+
+-- ---- the list
+
+pub frames_of : (bytes : List ℕ) (given : List InEvent) → Events bytes given → (entries : List Entry) × Framed bytes given entries
+frames_of bytes given (Greeted due e silent) = ([], inl (inl (due, e, silent), refl))
+frames_of bytes given (Departed departs e) = ([], inl (inr (inl (departs, e)), refl))
+frames_of bytes given (Unsettled text entries rest e joined unsettled g) = ([], inl (inr (inr (text, entries, rest, e, joined, unsettled, g)), refl))
+frames_of bytes given (Read text entries rest close e joined follows) = (
+  flat_map entries_of follows.passes.groups,
+  inr (record {
+    text = text;
+    behind = follows.behind;
+    rest = rest;
+    before = follows.before;
+    last = follows.last;
+    now = follows.now;
+    close = close;
+    greeted = e;
+    joined = subst (λ (es : List Entry). Joined text es rest) follows.passes.parts joined;
+    passes = subst (λ (es : List Entry). Passes es follows.behind follows.before follows.now) follows.passes.parts follows.passes;
+    closes = follows.closes;
+    all = follows.all;
+  }),
+)
+
+-- ---- the events that end a connection tell nothing of a stream
+
+abbrev IsLast : List InEvent → Type 0
+IsLast given = (given ≡ []) ⊎ ((error : ErrorCode) × (given ≡ fatal error))
+
+close_last : (close : Close) (now : Situation) (behind : List Entry) (rest : List ℕ) (last : List InEvent) → Closes close now behind rest last → IsLast last
+close_last Unfinished now behind rest last (partial, ends, e) = inl e
+close_last (Faulty fault) now behind rest last (partial, faulty, e) = inr (fault_error fault, e)
+close_last (Refused frame error) now behind rest last (is, kind, judged, e) = inr (error, e)
+close_last (Broken frames block entry fault) now behind rest last (begun, partial, is, breaks, e) = inr (fragment_error fault, e)
+close_last (Ended group next error) now behind rest last (is, gives, e) = inr (error, e)
+
+unread_last : (bytes : List ℕ) (given : List InEvent) → IsUnread bytes given → IsLast given
+unread_last bytes given (inl (due, e, silent)) = inl silent
+unread_last bytes given (inr (inl (departs, e))) = inr (ProtocolError, e)
+unread_last bytes given (inr (inr (text, entries, rest, e, joined, unsettled, g))) = inr (ProtocolError, g)
+
+last_silent : (id : ℕ) (given : List InEvent) → IsLast given → IsSilent id given
+last_silent id given (inl e) = silent_same id given [] e (refl, refl)
+last_silent id given (inr (error, e)) = silent_same id given (fatal error) e (refl, refl)
+
+last_quiet : (id : ℕ) (given : List InEvent) → IsLast given → IsQuiet id given
+last_quiet id given (inl e) = quiet_same id given [] e refl
+last_quiet id given (inr (error, e)) = quiet_same id given (fatal error) e refl
+
+-- ---- so an opening is among those before
+
+never : (b : Bool) → b ≡ true → b ≡ false → ⊥
+never true e f = absurd cc
+never false e f = absurd cc
+
+or_before : (a b : Bool) → b ≡ false → (a || b) ≡ true → a ≡ true
+or_before true b none some = refl
+or_before false b none some = absurd (never b some none)
+
+opens_before : (id : ℕ) (given before last : List InEvent) → given ≡ before ++ last → IsLast last → list_any (is_opening id) given ≡ true → list_any (is_opening id) before ≡ true
+opens_before id given before last e is opens =
+    or_before (list_any (is_opening id) before) (list_any (is_opening id) last) (last_silent id last is).1
+    (sym (list_any-append (is_opening id) before last) ∙ ap (list_any (is_opening id)) (sym e) ∙ opens)
+
+not_unread : (id : ℕ) (bytes : List ℕ) (given : List InEvent) → IsUnread bytes given → list_any (is_opening id) given ≡ true → ⊥
+not_unread id bytes given unread opens = never (list_any (is_opening id) given) opens (last_silent id given (unread_last bytes given unread)).1
+
+-- ---- the data and the end of a stream
+
+pub framed_data : (bytes : List ℕ) (given : List InEvent) (entries : List Entry) (id : ℕ) → Framed bytes given entries → list_any (is_opening id) given ≡ true → pieces id given ≡ data_of id entries
+framed_data bytes given entries id (inl (unread, none)) opens = absurd (not_unread id bytes given unread opens)
+framed_data bytes given entries id (inr so) opens =
+    let is : IsLast so.last = close_last so.close so.now so.behind so.rest so.last so.closes in
+    let told = data_told so.text (entries ++ so.behind) so.behind so.rest so.before so.now id so.joined so.passes (opens_before id given so.before so.last so.all is opens) in
+    let same : entries ≡ told.0 = append_cancel_right entries told.0 so.behind told.1 in
+    ap (pieces id) so.all ∙ pieces_append id so.before so.last ∙ ap (λ (b : List ℕ). pieces id so.before ++ b) (last_silent id so.last is).0
+    ∙ append-nil (pieces id so.before) ∙ told.2 ∙ ap (data_of id) (sym same)
+
+end_unended : (a : Ending) → first_end a Unended ≡ a
+end_unended Unended = refl
+end_unended Finished = refl
+end_unended Aborted = refl
+
+pub framed_end : (bytes : List ℕ) (given : List InEvent) (entries : List Entry) (id : ℕ) → Framed bytes given entries → list_any (is_opening id) given ≡ true → ending_told id given ≡ ending_of id entries
+framed_end bytes given entries id (inl (unread, none)) opens = absurd (not_unread id bytes given unread opens)
+framed_end bytes given entries id (inr so) opens =
+    let is : IsLast so.last = close_last so.close so.now so.behind so.rest so.last so.closes in
+    let told = end_told_of (entries ++ so.behind) so.behind so.before so.now id so.passes (opens_before id given so.before so.last so.all is opens) in
+    let same : entries ≡ told.0 = append_cancel_right entries told.0 so.behind told.1 in
+    ap (ending_told id) so.all ∙ told_append id so.before so.last ∙ ap (first_end (ending_told id so.before)) (last_quiet id so.last is)
+    ∙ end_unended (ending_told id so.before) ∙ told.2 ∙ ap (ending_of id) (sym same)
