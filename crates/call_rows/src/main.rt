@@ -1,10 +1,11 @@
-//! Runs the worked calls of `data/calls.rows`, each in three ways, and prints what differs from the account that is wanted.
+//! Worked calls and their messages: rows in the files of `data/`, and runs that have no rows. What differs is printed.
 //!
-//! A row is a line `EVENTS => ACCOUNT`, whose words `data/calls.rows` explains. Each is run through the serial core
+//! A row of `data/ends.rows` is a line `EVENTS => ACCOUNT`, whose words that file explains. It is run through the serial core
 //! (`account::replay`), and through the four ends of a call, over rings and over rows of cells.
 //!
 //! Read `events` first, which reads the events of a row, and `account_text`, which writes an account as rows have it; then
-//! `in_ends` and `out_ends`, which run the two sides of a call by its ends. `runs` tries what has no rows: lists, queues,
+//! `in_ends` and `out_ends`, which run the two sides of a call by its ends. `messages` has the rows of messages, fields and
+//! methods; `runs` tries what has no rows: lists, queues,
 //! bells, devices, and ends in threads.
 #![tactic(auto)]
 
@@ -24,10 +25,11 @@ use std::rt::Files;
 mod account_text;
 mod events;
 mod in_ends;
+mod messages;
 mod out_ends;
 mod runs;
 
-const FILES: [&str; 1] = ["calls.rows"];
+const FILES: [&str; 1] = ["ends.rows"];
 
 /// What the ends of a call did and told, over such lanes.
 fn account_of_ends<I: Lane<Item = InPiece>, O: Lane<Item = OutItem>>(
@@ -96,5 +98,7 @@ fn main(rt: HostRuntime) -> Result<()> {
         let differing = run_file(&rt, name)?;
         ensure!(differing == 0, "{differing} rows of {name} differ");
     }
+    let differing = messages::try_all(&rt)?;
+    ensure!(differing == 0, "{differing} rows of messages differ");
     runs::run_all(&rt)
 }

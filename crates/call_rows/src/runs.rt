@@ -11,6 +11,7 @@ mod devices;
 mod in_ends;
 mod lanes;
 mod lists;
+mod messages;
 mod out_ends;
 mod rings;
 mod threads;
@@ -37,6 +38,16 @@ fn run_lists<R: Print + AllocGlobal>(rt: &R) -> Result<()> {
         rt,
         "fields and sequences are copied whole",
         lists::fields(alloc)?,
+    )?;
+    tell(
+        rt,
+        "the longest message is written and split",
+        messages::the_longest(alloc)?,
+    )?;
+    tell(
+        rt,
+        "a message that is too long is refused",
+        messages::too_long(alloc)?,
     )?;
     tell(
         rt,

@@ -24,6 +24,3 @@ pub use write::{write_message, write_prefix};
 
 /// The longest message that is read or written, in bytes.
 pub const MAX_MESSAGE_LEN: usize = 4_194_304;
-
-#[cfg(test)]
-mod tests;

@@ -9,9 +9,6 @@ use lane::{End, Lane, RingLane};
 use lpm::LpmFault;
 use std::alloc::Global;
 
-/// A message's first bytes; its last one, with an empty message and the first bytes of another; and that one's last.
-const PIECES: [&[u8]; 3] = [&[0, 0, 0], &[0, 1, 0x41, 0, 0, 0, 0, 0], &[0, 0, 0, 0, 0]];
-
 /// Takes, and takes once more where memory ran out: what was polled is there then.
 fn take_patiently<L: Lane<Item = InPiece>>(taker: &mut Taker<L>) -> Taken
     ensures { L.out_name taker.new.rx ≡ L.out_name taker.old.rx }
@@ -22,15 +19,15 @@ fn take_patiently<L: Lane<Item = InPiece>>(taker: &mut Taker<L>) -> Taken
     }
 }
 
-/// Feeds the pieces, and answers whether none was refused.
-fn feed_all<L: Lane<Item = InPiece>>(alloc: Global, feeder: &mut Feeder<L>) -> Result<bool>
+/// Feeds a piece, and answers whether it is taken.
+fn feeds<L: Lane<Item = InPiece>>(
+    alloc: Global,
+    feeder: &mut Feeder<L>,
+    piece: &[u8],
+) -> Result<bool>
     ensures { OnOk result (L.in_name feeder.new.tx ≡ L.in_name feeder.old.tx) }
 {
-    let mut are_fed = true;
-    for piece in PIECES {
-        are_fed &= feeder.feed(Bytes::copy_from_slice(alloc, piece)?).is_ok();
-    }
-    Ok(are_fed)
+    Ok(feeder.feed(Bytes::copy_from_slice(alloc, piece)?).is_ok())
 }
 
 /// Whether the next message has so many bytes, and so much credit returns with it.
@@ -45,7 +42,10 @@ fn takes<L: Lane<Item = InPiece>>(taker: &mut Taker<L>, len: usize, credit: u32)
 
 pub fn keep_what_was_polled(alloc: Global) -> Result<bool> {
     let (mut feeder, mut taker) = open_in::<RingLane<InPiece>>(alloc, 3)?;
-    let are_fed = feed_all(alloc, &mut feeder)?;
+    // A message's first bytes; its last one, with an empty message and the first bytes of another; and that one's last.
+    let are_fed = feeds(alloc, &mut feeder, &[0, 0, 0])?
+        && feeds(alloc, &mut feeder, &[0, 1, 0x41, 0, 0, 0, 0, 0])?
+        && feeds(alloc, &mut feeder, &[0, 0, 0, 0, 0])?;
     let is_first = takes(&mut taker, 1, 11);
     // The second message came whole with the first, so no other piece is polled for it.
     let is_second = takes(&mut taker, 0, 0);

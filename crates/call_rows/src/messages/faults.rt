@@ -1,6 +1,6 @@
 //! Rows of the faults of all four crates: their numbers, names and texts.
 
-use crate::rows::Subject;
+use super::rows::Subject;
 use anyhow::{Context, Result, bail};
 use handlers::MethodFault;
 use lpm::LpmFault;

@@ -1,7 +1,7 @@
 //! Rows of `lpm`: the bytes of a call, and the messages that they spell however they are cut.
 
-use crate::rows::Subject;
-use crate::words::{all_bytes, joined_bytes, push_bytes};
+use super::rows::Subject;
+use super::words::{all_bytes, joined_bytes, push_bytes};
 use anyhow::{Result, ensure};
 use bytes::Bytes;
 use lpm::{LpmFault, Split, Splitter, is_frame, write_message};

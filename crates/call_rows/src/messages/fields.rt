@@ -1,7 +1,7 @@
 //! Rows of `pbwire`: varints and fields, as they are read and written.
 
-use crate::rows::Subject;
-use crate::words::{joined_bytes, push_bytes};
+use super::rows::Subject;
+use super::words::{joined_bytes, push_bytes};
 use anyhow::{Result, bail, ensure};
 use pbwire::{
     FieldItem, FieldValue, Fields, WireFault, read_fields, read_varint, varint_len, write_field,

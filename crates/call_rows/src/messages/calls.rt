@@ -1,7 +1,7 @@
 //! Rows of `handlers`: whole calls of the seven methods, and the paths that name methods.
 
-use crate::rows::Subject;
-use crate::words::{all_bytes, bytes_of, push_bytes};
+use super::rows::Subject;
+use super::words::{all_bytes, bytes_of, push_bytes};
 use anyhow::{Context, Result, bail, ensure};
 use handlers::{
     CacheableUnaryCall, EmptyCall, FullDuplexCall, HalfDuplexCall, Method, MethodState, Methods,

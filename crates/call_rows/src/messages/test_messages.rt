@@ -1,8 +1,8 @@
 //! Rows of `testproto`: test messages, as they are read and written, and the faults of bytes that are none.
 
-use crate::rows::Subject;
-use crate::text_form::{Shown, TextForm};
-use crate::words::joined_bytes;
+use super::rows::Subject;
+use super::text_form::{Shown, TextForm};
+use super::words::joined_bytes;
 use anyhow::{Context, Result, bail, ensure};
 use std::alloc::Global;
 use testproto::{

@@ -1,16 +1,11 @@
-//! Worked rows for `lpm`, `pbwire`, `testproto` and `handlers`: bytes and the messages, fields and values that they are,
-//! and the calls of the seven methods with what each is answered.
-//!
-//! The rows lie in `data/`, a line each: what is given, an arrow, and what is wanted. The head of each file says what
-//! its words mean and where its values come from. The program tries all of them, prints each row whose answer is
-//! another, and counts the rows of each file; it fails where one differs.
+//! Rows for `lpm`, `pbwire`, `testproto` and `handlers`: bytes and the messages, fields and values that they are, and the
+//! calls of the seven methods with what each is answered. A row is what is given, an arrow, and what is wanted.
 //!
 //! To be read in this order: `rows` for what a row is, and `words` for how bytes are written in one; then a module for
-//! each crate, `bodies` (`lpm`), `fields` (`pbwire`), `messages` with `text_form` (`testproto`) and `calls`
+//! each crate, `bodies` (`lpm`), `fields` (`pbwire`), `test_messages` with `text_form` (`testproto`) and `calls`
 //! (`handlers`); `faults` has the numbers and texts of all their faults.
-#![tactic(auto)]
 
-use anyhow::{Result, ensure};
+use anyhow::Result;
 use handlers::{EmptyCall, Method, Methods, StreamingInputCall};
 use std::rt::Files;
 
@@ -18,8 +13,8 @@ mod bodies;
 mod calls;
 mod faults;
 mod fields;
-mod messages;
 mod rows;
+mod test_messages;
 mod text_form;
 mod words;
 
@@ -47,9 +42,9 @@ fn try_fields(rt: &(impl Files + Print + AllocGlobal)) -> Result<u32> {
 
 /// The test messages.
 fn try_messages(rt: &(impl Files + Print + AllocGlobal)) -> Result<u32> {
-    let messages = rows::try_file(rt, "messages.rows", messages::Canonical)?;
-    let read = rows::try_file(rt, "messages-read.rows", messages::Read)?;
-    let faults = rows::try_file(rt, "message-faults.rows", messages::Faulty)?;
+    let messages = rows::try_file(rt, "messages.rows", test_messages::Canonical)?;
+    let read = rows::try_file(rt, "messages-read.rows", test_messages::Read)?;
+    let faults = rows::try_file(rt, "message-faults.rows", test_messages::Faulty)?;
     Ok(messages.saturating_add(read).saturating_add(faults))
 }
 
@@ -66,17 +61,18 @@ fn try_calls(rt: &(impl Files + Print + AllocGlobal)) -> Result<u32> {
     Ok(calls.saturating_add(sums).saturating_add(paths))
 }
 
-fn main(rt: HostRuntime) -> Result<()> {
-    let of_bodies = try_bodies(&rt)?;
-    let of_fields = try_fields(&rt)?;
-    let of_messages = try_messages(&rt)?;
-    let of_calls = try_calls(&rt)?;
-    let of_faults = rows::try_file(&rt, "faults.rows", faults::Faults)?;
-    let differing = of_bodies
-        .saturating_add(of_fields)
-        .saturating_add(of_messages)
-        .saturating_add(of_calls)
-        .saturating_add(of_faults);
-    ensure!(differing == 0, "{differing} rows differ");
-    Ok(())
+/// Tries the rows of all files; answers how many differ.
+pub fn try_all(rt: &(impl Files + Print + AllocGlobal)) -> Result<u32> {
+    let of_bodies = try_bodies(rt)?;
+    let of_fields = try_fields(rt)?;
+    let of_messages = try_messages(rt)?;
+    let of_calls = try_calls(rt)?;
+    let of_faults = rows::try_file(rt, "faults.rows", faults::Faults)?;
+    Ok(
+        of_bodies
+            .saturating_add(of_fields)
+            .saturating_add(of_messages)
+            .saturating_add(of_calls)
+            .saturating_add(of_faults),
+    )
 }
