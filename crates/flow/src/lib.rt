@@ -9,7 +9,7 @@
 //! connection and on each live call.
 //!
 //! Nothing here reads or writes frames: the numbers come from frames that `h2frame` has read. Worked histories of all
-//! three, with the answers that RFC 9113 demands, are the rows of the program `frame_rows`.
+//! three, with the answers that RFC 9113 demands, are the rows of the program `wire_rows`.
 #![tactic(auto)]
 
 pub mod book;

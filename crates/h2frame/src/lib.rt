@@ -10,7 +10,7 @@
 //! To be read in this order: `kind`, `flags`, `frame` and `fault` for the types, `reader` and `writer` for the calls,
 //! `span` for where a frame's content lies. `error_code` and `setting` name the numbers that contents carry, which are
 //! not read here; `settings` has what a peer's SETTINGS tell, for who reads them and who is told. Worked rows of bytes and
-//! their frames are those of the program `frame_rows`.
+//! their frames are those of the program `wire_rows`.
 #![tactic(auto)]
 
 mod error_code;

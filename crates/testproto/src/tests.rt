@@ -1,5 +1,5 @@
 //! What no clause says: that the calls succeed where memory is left, and how often memory is taken. Worked rows are in
-//! the program `message_rows`.
+//! the program `call_rows`.
 
 ghost use Rattle.std.specs.Prelude.{◌≡◌, MatchResult};
 ghost use Rattle.testproto.specs.declared.fault.ProtoFault.TheVariants.{OutOfMemory};
