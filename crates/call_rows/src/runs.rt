@@ -10,11 +10,11 @@ mod bells;
 mod devices;
 mod in_ends;
 mod lanes;
-mod lists;
 mod messages;
 mod out_ends;
 mod rings;
 mod threads;
+mod values;
 
 /// Prints what holds, and fails where it doesn't.
 fn tell(rt: &impl Print, what: &str, holds: bool) -> Result<()> {
@@ -33,11 +33,11 @@ pub fn run_all<R: Threads + Wait + Sync + Clock + Print + AllocGlobal>(rt: &R) -
 
 fn run_lists<R: Print + AllocGlobal>(rt: &R) -> Result<()> {
     let alloc = rt.alloc();
-    tell(rt, "octets are their bytes", lists::octets(alloc)?)?;
+    tell(rt, "octets are their bytes", values::octets(alloc)?)?;
     tell(
         rt,
         "fields and sequences are copied whole",
-        lists::fields(alloc)?,
+        values::fields(alloc)?,
     )?;
     tell(
         rt,

@@ -30,4 +30,3 @@ pub use sender::Sender;
 pub use taker::{Taken, Taker};
 pub use uses::four_threads::{Answer, Ran, Request, run_call};
 pub use uses::handed_over::answer_elsewhere;
-

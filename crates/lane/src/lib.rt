@@ -33,4 +33,3 @@ pub use ring::{Ring, RingIn, RingOut};
 pub use ring_lane::{RingLane, RingLaneIn, RingLaneOut, RingLaneShut};
 pub use row_lane::{RowLane, RowLaneIn, RowLaneOut, RowLaneShut};
 pub use uses::two_threads::{poll_copy, put_waiting, relay};
-

@@ -14,4 +14,3 @@ mod sequence;
 pub use field::Field;
 pub use octets::Octets;
 pub use sequence::Sequence;
-

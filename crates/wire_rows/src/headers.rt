@@ -1,7 +1,7 @@
 //! Rows of header blocks, of heads of calls, and of what answers them: each row is a line `INPUT -> ANSWER`, run through
 //! `hpack_codec` or `callhead`.
 //!
-//! Read `text`, how bytes stand in a row; `fields`, lists of fields; `rows`, the lines of a file; then the subjects:
+//! Read `text`, how bytes stand in a row; `fields`, lists of fields; `lines`, the lines of a file; then the subjects:
 //! `read_blocks` and `written_blocks` (header blocks), `heads` (heads of calls), `values` (timeouts, status texts and binary
 //! metadata), `answers` (the fields that answer a call), `fault_texts`; and `subject`, which picks one.
 
@@ -9,8 +9,8 @@ mod answers;
 mod fault_texts;
 mod fields;
 mod heads;
+mod lines;
 mod read_blocks;
-mod rows;
 mod subject;
 mod text;
 mod values;
@@ -41,7 +41,7 @@ static FILES: [(&str, Subject); 13] = [
 pub fn run(rt: &(impl Files + Print + AllocGlobal)) -> Result<u64> {
     let mut differing = 0u64;
     for (file, subject) in &FILES {
-        differing = differing.saturating_add(rows::run(rt, *file, *subject)?);
+        differing = differing.saturating_add(lines::run(rt, *file, *subject)?);
     }
     Ok(differing)
 }
