@@ -1,14 +1,14 @@
 -- What the steps of a method that takes any number of messages add to its answer.
-use Rattle.std.proofs.Common.{◌≡◌, ℕ, false, List, [], ◌∷◌, ◌++◌, Result, Ok, Err, refl, sym, ap, subst, sum, ◌+◌, ◌<◌, ◌≤◌, arith, length, get_or, take, drop, ◌∙◌, inr, append-nil, append_assoc}
-use Rattle.std.proofs.lemmas.List.{take_more, drop_more, take-append-drop}
+use Rattle.std.proofs.Common.{◌≡◌, ℕ, Bool, true, false, List, [], ◌∷◌, ◌++◌, Option, Some, None, Result, Ok, Err, refl, sym, ap, subst, sum, ◌+◌, ◌<◌, ◌≤◌, arith, ◌∙◌, inl, inr, append-nil, append_assoc}
+use Rattle.std.specs.Prelude.{is_some}
 use Rattle.std.proofs.lemmas.List.Sums.{fold-append}
 use Rattle.handlers.specs.declared.status.Status.{Status}
 use Rattle.handlers.specs.declared.reply.Reply.{Reply}
 use Rattle.handlers.specs.declared.step.Step.{Step}
 use Rattle.handlers.specs.declared.status.Refusal.TheVariants.{SumOutOfRange}
 use Rattle.handlers.specs.Statuses.{status_of}
-use Rattle.handlers.specs.Steps.{nothing, replying, ending, joined}
-use Rattle.handlers.specs.Answers.{AreTaken, AllAnswered, EndedByOne, AllAdded, EndedBySum, flatten}
+use Rattle.handlers.specs.Steps.{nothing, replying, ending, finished, joined}
+use Rattle.handlers.specs.Answers.{AreTaken, AllAnswered, EndedByOne, AnswersFull, AnswersHalf, AllAdded, EndedBySum, flatten}
 
 pub taken_push : {A : Type 0} (judged : List ℕ → Result A Status → Type 0) (messages : List (List ℕ)) (asked : List A) (message : List ℕ) (a : A)
     → AreTaken judged messages asked → judged message (Ok a) → AreTaken judged (messages ++ message ∷ []) (asked ++ a ∷ [])
@@ -89,33 +89,70 @@ stays_by_sum judged messages given message ended = (
 
 -- ---- all at the end
 
-split_at : (messages : List (List ℕ)) (i : ℕ) (message : List ℕ) → i < length messages → message ≡ get_or messages i message
-    → messages ≡ take i messages ++ message ∷ drop (i + 1) messages
-split_at messages i message below is =
-    sym (take-append-drop i messages) ∙ ap (λ (t : List (List ℕ)). take i messages ++ t) (drop_more messages i message below ∙ ap (λ (m : List ℕ). m ∷ drop (i + 1) messages) (sym is))
+step_is : (step : Step) (replies : List Reply) → step.replies ≡ replies → step.ends ≡ None → step ≡ replying replies
+step_is step replies same none =
+    ap (λ (r : List Reply). let s : Step = record { replies = r; ends = step.ends } in s) same ∙ ap (λ (e : Option Status). let s : Step = record { replies = replies; ends = e } in s) none
 
-pub all_ended : (judged : List ℕ → Result (List Reply) Status → Type 0) (messages : List (List ℕ)) (i : ℕ) (message : List ℕ) (replies : List Reply) (status : Status)
-    → i < length messages → message ≡ get_or messages i message
-    → ((asked : List (List Reply)) × AreTaken judged (take i messages) asked × (replies ≡ flatten asked)) → judged message (Err status)
-    → EndedByOne judged messages (ending replies status)
-all_ended judged messages i message replies status below item so_far is = (
-  take i messages,
-  message,
-  drop (i + 1) messages,
-  split_at messages i message below item,
-  so_far.0,
-  so_far.1,
-  status,
-  is,
-  ap (λ (t : List Reply). ending t status) so_far.2,
+ended_is : (step : Step) (replies : List Reply) (status : Status) → step.replies ≡ replies → step.ends ≡ Some status → step ≡ ending replies status
+ended_is step replies status same ends =
+    ap (λ (r : List Reply). let s : Step = record { replies = r; ends = step.ends } in s) same ∙ ap (λ (e : Option Status). let s : Step = record { replies = replies; ends = e } in s) ends
+
+-- what one request is answered
+pub one_asks : (judged : List ℕ → Result (List Reply) Status → Type 0) (message : List ℕ) (replies : List Reply) → judged message (Ok replies) → AnswersFull judged (message ∷ []) false (replying replies)
+one_asks judged message replies is = inl (replies ∷ [], (is, tt), ap (λ (t : List Reply). replying t) (sym (append-nil replies)))
+
+pub one_ends : (judged : List ℕ → Result (List Reply) Status → Type 0) (message : List ℕ) (status : Status) → judged message (Err status) → AnswersFull judged (message ∷ []) false (ending [] status)
+one_ends judged message status is = inr ([], message, [], refl, [], tt, status, is, refl)
+
+some_is_not : (status : Status) → ◌≡◌ {A = Option Status} (Some status) None → ⊥
+some_is_not status same = cc
+
+true_is_not : ◌≡◌ {A = Bool} true false → ⊥
+true_is_not same = cc
+
+none_is : (ends : Option Status) → is_some ends ≡ false → ends ≡ None
+none_is None is = refl
+none_is (Some status) is = cc
+
+-- nothing ended the call yet
+goes_on : (judged : List ℕ → Result (List Reply) Status → Type 0) (messages : List (List ℕ)) (held : Step) → held.ends ≡ None → AnswersFull judged messages false held → AllAnswered judged messages false held
+goes_on judged messages held none (inl all) = all
+goes_on judged messages held none (inr by) = let wrong : ◌≡◌ {A = Option Status} (Some by.6) None = sym (ap (λ (s : Step). s.ends) by.8) ∙ none in absurd (some_is_not by.6 wrong)
+
+pub hold_asked : (judged : List ℕ → Result (List Reply) Status → Type 0) (messages : List (List ℕ)) (held new : Step) (message : List ℕ) (more : List Reply)
+    → is_some held.ends ≡ false → new.replies ≡ held.replies ++ more → new.ends ≡ held.ends → judged message (Ok more)
+    → AnswersFull judged messages false held → AnswersFull judged (messages ++ message ∷ []) false new
+hold_asked judged messages held new message more none replies ends is answer =
+    let all = goes_on judged messages held (none_is held.ends none) answer in
+    let same : new ≡ replying (flatten all.0 ++ more) = step_is new (flatten all.0 ++ more) (replies ∙ ap (λ (s : Step). s.replies ++ more) all.2) (ends ∙ none_is held.ends none) in
+    inl (all.0 ++ more ∷ [], taken_push judged messages all.0 message more all.1 is, same ∙ ap (λ (t : List Reply). replying t) (sym (flatten_push all.0 more)))
+
+pub hold_ended : (judged : List ℕ → Result (List Reply) Status → Type 0) (messages : List (List ℕ)) (held new : Step) (message : List ℕ) (status : Status)
+    → is_some held.ends ≡ false → new.replies ≡ held.replies → new.ends ≡ Some status → judged message (Err status)
+    → AnswersFull judged messages false held → AnswersFull judged (messages ++ message ∷ []) false new
+hold_ended judged messages held new message status none replies ends is answer =
+    let all = goes_on judged messages held (none_is held.ends none) answer in
+    inr (messages, message, [], refl, all.0, all.1, status, is, ended_is new (flatten all.0) status (replies ∙ ap (λ (s : Step). s.replies) all.2) ends)
+
+pub hold_same : (judged : List ℕ → Result (List Reply) Status → Type 0) (messages : List (List ℕ)) (held : Step) (message : List ℕ)
+    → is_some held.ends ≡ true → AnswersFull judged messages false held → AnswersFull judged (messages ++ message ∷ []) false held
+hold_same judged messages held message ended (inl all) = absurd (true_is_not (sym ended ∙ ap (λ (s : Step). is_some s.ends) all.2))
+hold_same judged messages held message ended (inr by) = inr (
+  by.0,
+  by.1,
+  by.2 ++ message ∷ [],
+  ap (λ (t : List (List ℕ)). t ++ message ∷ []) by.3 ∙ append_assoc by.0 (by.1 ∷ by.2) (message ∷ []),
+  by.4,
+  by.5,
+  by.6,
+  by.7,
+  by.8,
 )
 
-pub all_more : (judged : List ℕ → Result (List Reply) Status → Type 0) (messages : List (List ℕ)) (i : ℕ) (message : List ℕ) (replies more : List Reply)
-    → i < length messages → message ≡ get_or messages i message
-    → ((asked : List (List Reply)) × AreTaken judged (take i messages) asked × (replies ≡ flatten asked)) → judged message (Ok more)
-    → (asked : List (List Reply)) × AreTaken judged (take (i + 1) messages) asked × (replies ++ more ≡ flatten asked)
-all_more judged messages i message replies more below item so_far is = (
-  so_far.0 ++ more ∷ [],
-  subst (λ (t : List (List ℕ)). AreTaken judged t (so_far.0 ++ more ∷ [])) (sym (take_more messages i message below ∙ ap (λ (m : List ℕ). take i messages ++ m ∷ []) (sym item))) (taken_push judged (take i messages) so_far.0 message more so_far.1 is),
-  ap (λ (t : List Reply). t ++ more) so_far.2 ∙ sym (flatten_push so_far.0 more),
-)
+pub all_finished : (judged : List ℕ → Result (List Reply) Status → Type 0) (messages : List (List ℕ)) (held : Step) → AnswersFull judged messages false held → AnswersFull judged messages true (finished held)
+all_finished judged messages held (inl all) = inl (all.0, all.1, ap (λ (s : Step). finished s) all.2)
+all_finished judged messages held (inr by) = inr (by.0, by.1, by.2, by.3, by.4, by.5, by.6, by.7, ap (λ (s : Step). finished s) by.8)
+
+pub half_end : (judged : List ℕ → Result (List Reply) Status → Type 0) (messages : List (List ℕ)) (given held : Step) → AnswersFull judged messages false held × (given ≡ nothing) → AnswersHalf judged messages true (joined given (finished held))
+half_end judged messages given held stands =
+    subst (λ (s : Step). AnswersFull judged messages true (joined s (finished held))) (sym stands.1) (all_finished judged messages held stands.0)

@@ -6,7 +6,7 @@ use Rattle.handlers.specs.declared.status.Refusal.TheVariants.{SumOutOfRange, Wr
 use Rattle.handlers.specs.declared.reply.Reply.{Reply}
 use Rattle.handlers.specs.declared.reply.Reply.TheVariants.{Empty, Zeros, Sum as SumReply}
 use Rattle.handlers.specs.declared.state.MethodState.{MethodState}
-use Rattle.handlers.specs.declared.state.MethodState.TheVariants.{Fresh, Sum, Kept, Ended}
+use Rattle.handlers.specs.declared.state.MethodState.TheVariants.{Fresh, Sum, Kept, Held, Ended}
 use Rattle.handlers.specs.Requests.{EmptyVerdict, SimpleVerdict, InputVerdict, OutputVerdict}
 use Rattle.handlers.specs.declared.step.Step.{Step}
 use Rattle.handlers.specs.Statuses.{status_of}
@@ -130,6 +130,7 @@ abbrev pub StandsEmpty : MethodState → List (List ℕ) → Step → Type 0
 StandsEmpty Fresh messages given = (messages ≡ []) × (given ≡ nothing)
 StandsEmpty (Kept kept) messages given = (message : List ℕ) × (messages ≡ message ∷ []) × EmptyVerdict message (Ok (Empty ∷ [])) × (given ≡ nothing)
 StandsEmpty (Sum number) messages given = ⊥
+StandsEmpty (Held held) messages given = ⊥
 StandsEmpty Ended messages given = StandsEnded (AnswersSingle EmptyVerdict) messages given
 
 -- UnaryCall keeps the length that its message asks for.
@@ -137,12 +138,14 @@ abbrev pub StandsUnary : MethodState → List (List ℕ) → Step → Type 0
 StandsUnary Fresh messages given = (messages ≡ []) × (given ≡ nothing)
 StandsUnary (Sum size) messages given = (message : List ℕ) × (messages ≡ message ∷ []) × SimpleVerdict message (Ok (Zeros size ∷ [])) × (given ≡ nothing)
 StandsUnary (Kept kept) messages given = ⊥
+StandsUnary (Held held) messages given = ⊥
 StandsUnary Ended messages given = StandsEnded (AnswersSingle SimpleVerdict) messages given
 
--- StreamingOutputCall keeps its message.
+-- StreamingOutputCall holds the replies that its message asks for.
 abbrev pub StandsOutput : MethodState → List (List ℕ) → Step → Type 0
 StandsOutput Fresh messages given = (messages ≡ []) × (given ≡ nothing)
-StandsOutput (Kept kept) messages given = (message : List ℕ) × (messages ≡ message ∷ []) × (kept ≡ message ∷ []) × ((replies : List Reply) × OutputVerdict message (Ok replies)) × (given ≡ nothing)
+StandsOutput (Held held) messages given = (message : List ℕ) × (messages ≡ message ∷ []) × (replies : List Reply) × OutputVerdict message (Ok replies) × (held ≡ replying replies) × (given ≡ nothing)
+StandsOutput (Kept kept) messages given = ⊥
 StandsOutput (Sum number) messages given = ⊥
 StandsOutput Ended messages given = StandsEnded (AnswersSingle OutputVerdict) messages given
 
@@ -151,6 +154,7 @@ abbrev pub StandsFull : MethodState → List (List ℕ) → Step → Type 0
 StandsFull Fresh messages given = AllAnswered OutputVerdict messages false given
 StandsFull (Sum number) messages given = ⊥
 StandsFull (Kept kept) messages given = ⊥
+StandsFull (Held held) messages given = ⊥
 StandsFull Ended messages given = EndedByOne OutputVerdict messages given
 
 -- StreamingInputCall keeps the sum.
@@ -158,11 +162,13 @@ abbrev pub StandsSum : MethodState → List (List ℕ) → Step → Type 0
 StandsSum Fresh messages given = ⊥
 StandsSum (Sum total) messages given = AllAdded InputVerdict messages total × (given ≡ nothing)
 StandsSum (Kept kept) messages given = ⊥
+StandsSum (Held held) messages given = ⊥
 StandsSum Ended messages given = EndedBySum InputVerdict messages given
 
--- HalfDuplexCall keeps the messages.
+-- HalfDuplexCall holds what FullDuplexCall would have answered.
 abbrev pub StandsHalf : MethodState → List (List ℕ) → Step → Type 0
 StandsHalf Fresh messages given = (messages ≡ []) × (given ≡ nothing)
 StandsHalf (Sum number) messages given = ⊥
-StandsHalf (Kept kept) messages given = (messages ≡ kept) × (given ≡ nothing)
+StandsHalf (Kept kept) messages given = ⊥
+StandsHalf (Held held) messages given = AnswersFull OutputVerdict messages false held × (given ≡ nothing)
 StandsHalf Ended messages given = ⊥

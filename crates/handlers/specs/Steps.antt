@@ -18,6 +18,14 @@ ending replies status = record { replies = replies; ends = Some status }
 abbrev pub done : List Reply → Step
 done replies = ending replies ok_status
 
+abbrev pub status_or_ok : Option Status → Status
+status_or_ok None = ok_status
+status_or_ok (Some status) = status
+
+-- an answer whose end was told has a status: the one that there is, or OK
+abbrev pub finished : Step → Step
+finished step = ending step.replies (status_or_ok step.ends)
+
 -- a status once there stays
 abbrev pub first_status : Option Status → Option Status → Option Status
 first_status None later = later

@@ -50,6 +50,7 @@ impl Method for EmptyCall {
             MethodState::Ended => Ok(Step::nothing(alloc)),
             MethodState::Kept(_) => refuse(alloc, state, Refusal::WrongNumber),
             MethodState::Sum(_) => refuse(alloc, state, Refusal::WrongNumber),
+            MethodState::Held(_) => refuse(alloc, state, Refusal::WrongNumber),
         }
     }
 
@@ -59,6 +60,7 @@ impl Method for EmptyCall {
             MethodState::Ended => Ok(Step::nothing(alloc)),
             MethodState::Kept(_) => reply_and_end(alloc, state, Reply::Empty),
             MethodState::Sum(_) => refuse(alloc, state, Refusal::WrongNumber),
+            MethodState::Held(_) => refuse(alloc, state, Refusal::WrongNumber),
         }
     }
 }

@@ -1,9 +1,10 @@
 //! Steps that end a call.
 
 ghost use Rattle.std.specs.Prelude.{◌≡◌, ◌∷◌, [], IfOk, OnOk};
-ghost use Rattle.handlers.specs.declared.state.MethodState.TheVariants.{Ended};
+ghost use Rattle.handlers.specs.declared.state.MethodState.TheVariants.{Ended, Held};
+ghost use Rattle.handlers.specs.declared.step.Step.{Step as Given};
 ghost use Rattle.handlers.specs.Statuses.{status_of};
-ghost use Rattle.handlers.specs.Steps.{ending, done};
+ghost use Rattle.handlers.specs.Steps.{ending, done, finished};
 
 use crate::fault::MethodFault;
 use crate::reply::{Replies, Reply};
@@ -32,6 +33,17 @@ pub(crate) fn refuse(
 {
     let status = refusal.status(alloc)?;
     Ok(end_with(alloc, state, status))
+}
+
+/// Ends the call with what was held back.
+pub(crate) fn release(alloc: Global, state: &mut MethodState) -> Step
+    ensures step { (held : Given) → state.old ≡ Held held → result ≡ finished held }
+    ensures state { state.new ≡ Ended }
+{
+    match std::mem::replace(state, MethodState::Ended) {
+        MethodState::Held(held) => held.finished(alloc),
+        _ => Step::nothing(alloc),
+    }
 }
 
 /// Gives the one reply of a call that went well, and ends it.

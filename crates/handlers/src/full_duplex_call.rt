@@ -45,6 +45,7 @@ impl Method for FullDuplexCall {
             },
             MethodState::Ended => Ok(Step::nothing(alloc)),
             MethodState::Kept(_) => Ok(Step::nothing(alloc)),
+            MethodState::Held(_) => Ok(Step::nothing(alloc)),
             MethodState::Sum(_) => Ok(Step::nothing(alloc)),
         }
     }
@@ -61,6 +62,10 @@ impl Method for FullDuplexCall {
                 Ok(Step::nothing(alloc))
             }
             MethodState::Sum(_) => {
+                state.set(MethodState::Ended);
+                Ok(Step::nothing(alloc))
+            }
+            MethodState::Held(_) => {
                 state.set(MethodState::Ended);
                 Ok(Step::nothing(alloc))
             }

@@ -1,17 +1,17 @@
-//! HalfDuplexCall: all requests are judged and answered when their end was told.
+//! HalfDuplexCall: each request is judged as it is taken, and all are answered when their end was told.
 
-ghost use Rattle.std.specs.Prelude.{◌≡◌, ◌++◌, ◌∷◌, [], true, IfOk, codes};
+ghost use Rattle.std.specs.Prelude.{◌≡◌, ◌++◌, ◌∷◌, [], List, ℕ, false, IfOk, OnOk, codes};
 ghost use Rattle.handlers.specs.Requests.{OutputVerdict};
 ghost use Rattle.handlers.specs.Answers.{AnswersFull, AnswersHalf, StandsHalf};
 
+use crate::ending_steps::release;
 use crate::fault::MethodFault;
 use crate::judge::judge_output_call;
 use crate::method::Method;
 use crate::reply::Replies;
-use crate::state::{MessageList, MethodState};
+use crate::state::MethodState;
 use crate::step::Step;
 use std::alloc::Global;
-use testproto::ByteList;
 
 /// Answers as `FullDuplexCall`, all at the end.
 #[derive(Clone, Copy, Debug)]
@@ -39,32 +39,33 @@ impl Method for HalfDuplexCall {
         message: &[u8],
     ) -> Result<Step, MethodFault> {
         match state {
-            MethodState::Kept(kept) => {
-                kept.push(alloc, message)?;
+            MethodState::Held(held) => {
+                hold_more(alloc, held, message)?;
                 Ok(Step::nothing(alloc))
             }
             MethodState::Fresh => {
-                let kept = MessageList::one(alloc, message)?;
-                state.set(MethodState::Kept(kept));
+                let held = answer_one(alloc, message)?;
+                state.set(MethodState::Held(held));
                 Ok(Step::nothing(alloc))
             }
             MethodState::Ended => Ok(Step::nothing(alloc)),
+            MethodState::Kept(_) => Ok(Step::nothing(alloc)),
             MethodState::Sum(_) => Ok(Step::nothing(alloc)),
         }
     }
 
     fn end(&self, alloc: Global, state: &mut MethodState) -> Result<Step, MethodFault> {
         match state {
-            MethodState::Kept(kept) => {
-                let step = answer_all(alloc, kept.as_slice())?;
-                state.set(MethodState::Ended);
-                Ok(step)
-            }
+            MethodState::Held(_) => Ok(release(alloc, state)),
             MethodState::Fresh => {
                 state.set(MethodState::Ended);
                 Ok(Step::done(alloc, Replies::new(alloc)))
             }
             MethodState::Ended => Ok(Step::nothing(alloc)),
+            MethodState::Kept(_) => {
+                state.set(MethodState::Ended);
+                Ok(Step::nothing(alloc))
+            }
             MethodState::Sum(_) => {
                 state.set(MethodState::Ended);
                 Ok(Step::nothing(alloc))
@@ -73,21 +74,27 @@ impl Method for HalfDuplexCall {
     }
 }
 
-/// What all these requests are answered.
-fn answer_all(alloc: Global, messages: &[ByteList]) -> Result<Step, MethodFault>
-    ensures { IfOk result (λ step. AnswersFull OutputVerdict messages.now true step) }
+/// What one request is answered: its replies, or the status that ends the call.
+fn answer_one(alloc: Global, message: &[u8]) -> Result<Step, MethodFault>
+    ensures { IfOk result (λ step. AnswersFull OutputVerdict (message.now ∷ []) false step) }
 {
-    let mut replies = Replies::new(alloc);
-    for message in messages {
-        match judge_output_call(alloc, message.as_slice())? {
-            Ok(more) => replies.append(&more)?,
-            Err(status) => {
-                return Ok(Step {
-                    replies,
-                    ends: Some(status),
-                });
-            }
+    match judge_output_call(alloc, message)? {
+        Ok(replies) => Ok(Step::replying(replies)),
+        Err(status) => Ok(Step::ending(alloc, status)),
+    }
+}
+
+/// Holds what one more request is answered, unless one before it ends the call. Where memory runs out, what is held is of
+/// no more use.
+fn hold_more(alloc: Global, held: &mut Step, message: &[u8]) -> Result<(), MethodFault>
+    ensures { OnOk result ((messages : List (List ℕ)) → AnswersFull OutputVerdict messages false held.old
+        → AnswersFull OutputVerdict (messages ++ message.now ∷ []) false held.new) }
+{
+    if held.ends.is_none() {
+        match judge_output_call(alloc, message)? {
+            Ok(more) => held.replies.append(&more)?,
+            Err(status) => held.ends = Some(status),
         }
     }
-    Ok(Step::done(alloc, replies))
+    Ok(())
 }

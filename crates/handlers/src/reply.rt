@@ -211,7 +211,8 @@ impl Replies {
 
     /// Appends these replies.
     pub(crate) fn append(&mut self, more: &Replies) -> Result<(), AllocError>
-        ensures { OnOk result (self.new ≡ self.old ++ more.now) }
+        ensures ok { OnOk result (self.new ≡ self.old ++ more.now) }
+        ensures err { OnErr result (self.new ≡ self.old) }
     {
         self.items.extend_from_slice(&more.items)?;
         Ok(())

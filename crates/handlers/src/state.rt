@@ -1,12 +1,12 @@
 //! What a method keeps of a call between its steps.
 //!
 //! `Sum` holds the one length that UnaryCall needs of its message; EmptyCall keeps an empty list, since it needs to
-//! know only that there was one; StreamingOutputCall keeps its message and judges it again at the end, so that its
-//! replies aren't held twice. A state that a method never makes stands for nothing, and a step from it answers
-//! something harmless.
+//! know only that there was one; StreamingOutputCall and HalfDuplexCall hold what they are to answer at the end, and no
+//! message. A state that a method never makes stands for nothing, and a step from it answers something harmless.
 
 ghost use Rattle.std.specs.Prelude.{◌≡◌, ◌++◌, ◌∷◌, [], IfOk, OnOk, OnErr};
 
+use crate::step::Step;
 use std::alloc::{AllocError, Global};
 use std::marker::Model;
 use testproto::ByteList;
@@ -20,6 +20,8 @@ pub enum MethodState {
     Sum(u32),
     /// Messages, in order.
     Kept(MessageList),
+    /// What is answered at the end.
+    Held(Step),
     /// The call has its status.
     Ended,
 }

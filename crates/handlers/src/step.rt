@@ -1,7 +1,7 @@
 //! What one step of a method gives.
 
 ghost use Rattle.std.specs.Prelude.{◌≡◌, ◌∷◌, [], OnOk};
-ghost use Rattle.handlers.specs.Steps.{nothing, replying, ending, done, joined};
+ghost use Rattle.handlers.specs.Steps.{nothing, replying, ending, done, finished, joined};
 
 use crate::reply::Replies;
 use crate::status::Status;
@@ -52,6 +52,25 @@ impl Step {
         Step {
             replies,
             ends: Some(Status::ok(alloc)),
+        }
+    }
+
+    /// The end of a call: the status that there is, or that of a call that went well.
+    pub(crate) fn finished(self, alloc: Global) -> Step
+        ensures { result ≡ finished self }
+    {
+        match self {
+            Step {
+                replies,
+                ends: Some(status),
+            } => Step {
+                replies,
+                ends: Some(status),
+            },
+            Step {
+                replies,
+                ends: None,
+            } => Step::done(alloc, replies),
         }
     }
 

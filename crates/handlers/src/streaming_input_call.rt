@@ -59,6 +59,7 @@ impl Method for StreamingInputCall {
             MethodState::Ended => Ok(Step::nothing(alloc)),
             MethodState::Fresh => Ok(Step::nothing(alloc)),
             MethodState::Kept(_) => Ok(Step::nothing(alloc)),
+            MethodState::Held(_) => Ok(Step::nothing(alloc)),
         }
     }
 
@@ -75,6 +76,7 @@ impl Method for StreamingInputCall {
             MethodState::Ended => Ok(Step::nothing(alloc)),
             MethodState::Fresh => refuse(alloc, state, Refusal::WrongNumber),
             MethodState::Kept(_) => refuse(alloc, state, Refusal::WrongNumber),
+            MethodState::Held(_) => refuse(alloc, state, Refusal::WrongNumber),
         }
     }
 }

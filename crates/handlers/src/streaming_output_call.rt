@@ -4,11 +4,11 @@ ghost use Rattle.std.specs.Prelude.{◌≡◌, ◌++◌, ◌∷◌, [], codes};
 ghost use Rattle.handlers.specs.Requests.{OutputVerdict};
 ghost use Rattle.handlers.specs.Answers.{AnswersSingle, StandsOutput};
 
-use crate::ending_steps::{end_with, refuse};
+use crate::ending_steps::{end_with, refuse, release};
 use crate::fault::MethodFault;
 use crate::judge::judge_output_call;
 use crate::method::Method;
-use crate::state::{MessageList, MethodState};
+use crate::state::MethodState;
 use crate::status::Refusal;
 use crate::step::Step;
 use std::alloc::Global;
@@ -40,14 +40,14 @@ impl Method for StreamingOutputCall {
     ) -> Result<Step, MethodFault> {
         match state {
             MethodState::Fresh => match judge_output_call(alloc, message)? {
-                Ok(_) => {
-                    let kept = MessageList::one(alloc, message)?;
-                    state.set(MethodState::Kept(kept));
+                Ok(replies) => {
+                    state.set(MethodState::Held(Step::replying(replies)));
                     Ok(Step::nothing(alloc))
                 }
                 Err(status) => Ok(end_with(alloc, state, status)),
             },
             MethodState::Ended => Ok(Step::nothing(alloc)),
+            MethodState::Held(_) => refuse(alloc, state, Refusal::WrongNumber),
             MethodState::Kept(_) => refuse(alloc, state, Refusal::WrongNumber),
             MethodState::Sum(_) => refuse(alloc, state, Refusal::WrongNumber),
         }
@@ -57,18 +57,8 @@ impl Method for StreamingOutputCall {
         match state {
             MethodState::Fresh => refuse(alloc, state, Refusal::WrongNumber),
             MethodState::Ended => Ok(Step::nothing(alloc)),
-            MethodState::Kept(kept) => {
-                let Some(message) = kept.as_slice().first() else {
-                    return refuse(alloc, state, Refusal::WrongNumber);
-                };
-                match judge_output_call(alloc, message.as_slice())? {
-                    Ok(replies) => {
-                        state.set(MethodState::Ended);
-                        Ok(Step::done(alloc, replies))
-                    }
-                    Err(status) => Ok(end_with(alloc, state, status)),
-                }
-            }
+            MethodState::Held(_) => Ok(release(alloc, state)),
+            MethodState::Kept(_) => refuse(alloc, state, Refusal::WrongNumber),
             MethodState::Sum(_) => refuse(alloc, state, Refusal::WrongNumber),
         }
     }

@@ -103,6 +103,7 @@ fn take_request(alloc: Global, state: &mut MethodState, message: &[u8]) -> Resul
         MethodState::Ended => Ok(Step::nothing(alloc)),
         MethodState::Sum(_) => refuse(alloc, state, Refusal::WrongNumber),
         MethodState::Kept(_) => refuse(alloc, state, Refusal::WrongNumber),
+        MethodState::Held(_) => refuse(alloc, state, Refusal::WrongNumber),
     }
 }
 
@@ -121,5 +122,6 @@ fn answer_request(alloc: Global, state: &mut MethodState) -> Result<Step, Method
             reply_and_end(alloc, state, Reply::Zeros(size))
         }
         MethodState::Kept(_) => refuse(alloc, state, Refusal::WrongNumber),
+        MethodState::Held(_) => refuse(alloc, state, Refusal::WrongNumber),
     }
 }
