@@ -1,0 +1,58 @@
+//! The codes of gRPC statuses (gRPC, "Status codes and their use in gRPC").
+//!
+//! How a call ended is told in the field `grpc-status` of its trailers, by the number of its code. The texts beside
+//! them are whoever's who ends the call.
+#![tactic(auto)]
+
+ghost use Rattle.std.specs.Prelude.{◌≡◌, ◌≤◌};
+ghost use Rattle.grpc_status.specs.StatusCode.{status_number};
+
+/// How a call ended.
+#[derive(Clone, Copy, Debug, PartialEq, Eq)]
+pub enum StatusCode {
+    Ok,
+    Cancelled,
+    Unknown,
+    InvalidArgument,
+    DeadlineExceeded,
+    NotFound,
+    AlreadyExists,
+    PermissionDenied,
+    ResourceExhausted,
+    FailedPrecondition,
+    Aborted,
+    OutOfRange,
+    Unimplemented,
+    Internal,
+    Unavailable,
+    DataLoss,
+    Unauthenticated,
+}
+
+impl StatusCode {
+    /// The number that stands for the code in `grpc-status`: 0 to 16.
+    pub fn number(self) -> u32
+        ensures number { result ≡ status_number self }
+        ensures within { result ≤ 16 }
+    {
+        match self {
+            StatusCode::Ok => 0,
+            StatusCode::Cancelled => 1,
+            StatusCode::Unknown => 2,
+            StatusCode::InvalidArgument => 3,
+            StatusCode::DeadlineExceeded => 4,
+            StatusCode::NotFound => 5,
+            StatusCode::AlreadyExists => 6,
+            StatusCode::PermissionDenied => 7,
+            StatusCode::ResourceExhausted => 8,
+            StatusCode::FailedPrecondition => 9,
+            StatusCode::Aborted => 10,
+            StatusCode::OutOfRange => 11,
+            StatusCode::Unimplemented => 12,
+            StatusCode::Internal => 13,
+            StatusCode::Unavailable => 14,
+            StatusCode::DataLoss => 15,
+            StatusCode::Unauthenticated => 16,
+        }
+    }
+}
