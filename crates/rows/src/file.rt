@@ -32,9 +32,20 @@ enum Line<'a> {
     Row { given: &'a str, wanted: &'a str },
 }
 
+/// The line without its comment: all of one that begins with `#`, or what stands behind ` # `.
+fn without_comment(line: &str) -> &str {
+    if line.starts_with('#') {
+        return "";
+    }
+    match line.split_once(" # ") {
+        Some((row, _)) => row.trim(),
+        None => line.trim(),
+    }
+}
+
 fn read_line(line: &str) -> Result<Line<'_>> {
-    let line = line.trim();
-    if line.is_empty() || line.starts_with('#') {
+    let line = without_comment(line);
+    if line.is_empty() {
         return Ok(Line::Blank);
     }
     if line.starts_with('[') {

@@ -1,7 +1,7 @@
 //! Rows of header blocks, of heads of calls, and of what answers them: each row is a line `INPUT -> ANSWER`, run through
 //! `hpack_codec` or `callhead`.
 //!
-//! Read `text`, how bytes stand in a row; `fields`, lists of fields; `lines`, the lines of a file; then the subjects:
+//! Read `text`, how bytes stand in a row; `fields`, lists of fields; then what rows are about:
 //! `read_blocks` and `written_blocks` (header blocks), `heads` (heads of calls), `values` (timeouts, status texts and binary
 //! metadata), `answers` (the fields that answer a call), `fault_texts`; and `subject`, which picks one.
 
@@ -9,7 +9,6 @@ mod answers;
 mod fault_texts;
 mod fields;
 mod heads;
-mod lines;
 mod read_blocks;
 mod subject;
 mod text;
@@ -17,31 +16,33 @@ mod values;
 mod written_blocks;
 
 use anyhow::Result;
+use rows::try_file;
 use std::rt::Files;
-use subject::Subject;
+use subject::{Runner, Topic};
 
-/// The files, and what the rows of each are.
-static FILES: [(&str, Subject); 13] = [
-    ("blocks-standard.rows", Subject::ReadBlocks),
-    ("blocks-clients.rows", Subject::ReadBlocks),
-    ("blocks-limits.rows", Subject::ReadBlocks),
-    ("blocks-refused.rows", Subject::RefusedBlocks),
-    ("blocks-written.rows", Subject::WrittenBlocks),
-    ("heads-clients.rows", Subject::Heads),
-    ("heads-malformed.rows", Subject::Heads),
-    ("heads-read.rows", Subject::Heads),
-    ("timeouts.rows", Subject::Timeouts),
-    ("status-texts.rows", Subject::StatusTexts),
-    ("binary-values.rows", Subject::BinaryValues),
-    ("answers.rows", Subject::Answers),
-    ("fault-texts.rows", Subject::FaultTexts),
+/// The files, and what the rows of each are about.
+static FILES: [(&str, Topic); 13] = [
+    ("blocks-standard.rows", Topic::ReadBlocks),
+    ("blocks-clients.rows", Topic::ReadBlocks),
+    ("blocks-limits.rows", Topic::ReadBlocks),
+    ("blocks-refused.rows", Topic::RefusedBlocks),
+    ("blocks-written.rows", Topic::WrittenBlocks),
+    ("heads-clients.rows", Topic::Heads),
+    ("heads-malformed.rows", Topic::Heads),
+    ("heads-read.rows", Topic::Heads),
+    ("timeouts.rows", Topic::Timeouts),
+    ("status-texts.rows", Topic::StatusTexts),
+    ("binary-values.rows", Topic::BinaryValues),
+    ("answers.rows", Topic::Answers),
+    ("fault-texts.rows", Topic::FaultTexts),
 ];
 
-/// Runs the rows of all files; answers how many differ.
-pub fn run(rt: &(impl Files + Print + AllocGlobal)) -> Result<u64> {
-    let mut differing = 0u64;
-    for (file, subject) in &FILES {
-        differing = differing.saturating_add(lines::run(rt, *file, *subject)?);
+/// Tries the rows of all files; answers how many differ.
+pub fn try_all(rt: &(impl Files + Print + AllocGlobal)) -> Result<u32> {
+    let mut differing = 0u32;
+    for (file, topic) in &FILES {
+        let mut runner = Runner::new(rt.alloc(), *topic);
+        differing = differing.saturating_add(try_file(rt, *file, &mut runner)?);
     }
     Ok(differing)
 }

@@ -57,13 +57,11 @@ fn main(rt: HostRuntime) -> Result<()> {
     let of_frames = try_frames(&rt)?;
     let of_halves = try_halves(&rt)?;
     let of_credit = try_credit(&rt)?;
-    let of_headers = headers::run(&rt)?;
+    let of_headers = headers::try_all(&rt)?;
     let differing = of_frames
         .saturating_add(of_halves)
-        .saturating_add(of_credit);
-    ensure!(
-        differing == 0 && of_headers == 0,
-        "{differing} rows of frames and {of_headers} of headers differ"
-    );
+        .saturating_add(of_credit)
+        .saturating_add(of_headers);
+    ensure!(differing == 0, "{differing} rows differ");
     Ok(())
 }

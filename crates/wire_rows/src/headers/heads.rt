@@ -1,11 +1,11 @@
-//! Heads of calls (gRPC over HTTP/2, "Requests"). `plain = FIELDS` sets what a part `plain` of a row stands for. A row puts
-//! in fields, and the answer is `fault FAULT` or what the head says: its path, and where it has them its timeout in
+//! Heads of calls (gRPC over HTTP/2, "Requests"). A row `plain = FIELDS` sets what a part `plain` stands for, and is answered
+//! `set`. Each other row puts in fields, and the answer is `fault FAULT` or what the head says: its path, and where it has them its timeout in
 //! nanoseconds, `compressed`, the echoes for the head of the response, and those for the trailers in hexadecimal digits, with `|`
 //! behind each echo.
 
 use super::fields::{field_of, fields_of};
 use super::text::push_bytes;
-use anyhow::{Context, Result};
+use anyhow::Result;
 use callhead::{CallHead, Encoding, HeadFault};
 use lists::Field;
 use std::alloc::{AllocError, Global};
@@ -25,15 +25,11 @@ impl Heads {
         }
     }
 
-    pub fn direct(&mut self, alloc: Global, direction: &str) -> Result<()> {
-        let fields = direction
-            .strip_prefix("plain = ")
-            .context(format_args!("no row: {direction}"))?;
-        self.plain = fields_of(alloc, fields)?;
-        Ok(())
-    }
-
-    pub fn answer(&self, alloc: Global, input: &str) -> Result<String> {
+    pub fn answer(&mut self, alloc: Global, input: &str) -> Result<String> {
+        if let Some(fields) = input.strip_prefix("plain = ") {
+            self.plain = fields_of(alloc, fields)?;
+            return Ok(String::from_str(alloc, "set")?);
+        }
         let fields = self.fields_of(alloc, input)?;
         match CallHead::read(alloc, fields.as_slice()) {
             Ok(head) => Ok(text_of(alloc, &head)?),

@@ -1,4 +1,4 @@
-//! Header blocks that are read (RFC 7541). `connection NAME` begins a connection. A row puts in a block in hexadecimal
+//! Header blocks that are read (RFC 7541). A heading begins a connection. A row puts in a block in hexadecimal
 //! digits, of which `HEX*N` stands for N times those bytes, and the answer is its fields or `fault FAULT`; or it puts in
 //! `table`, and the answer is the size of the dynamic table.
 
@@ -34,14 +34,6 @@ impl Connection {
             decoder: Decoder::new(alloc),
             blocks: Vec::new(alloc),
         }
-    }
-
-    /// The connection that `connection NAME` begins.
-    pub fn directed(alloc: Global, direction: &str) -> Result<Connection> {
-        if !direction.starts_with("connection ") {
-            bail!("no row: {direction}");
-        }
-        Ok(Connection::new(alloc))
     }
 
     pub fn answer(&mut self, alloc: Global, input: &str) -> Result<String> {

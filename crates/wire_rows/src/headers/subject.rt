@@ -1,16 +1,17 @@
-//! What the rows of a file are, and what they share.
+//! What the rows of a file are about, and what they share.
 
 use super::fault_texts::fault_text;
 use super::heads::Heads;
 use super::read_blocks::{Connection, refusal};
 use super::written_blocks::Pair;
 use super::{answers, values};
-use anyhow::{Result, bail};
+use anyhow::Result;
+use rows::{Given, Subject};
 use std::alloc::Global;
 
-/// What the rows of a file are.
+/// What the rows of a file are about.
 #[derive(Clone, Copy)]
-pub enum Subject {
+pub enum Topic {
     ReadBlocks,
     RefusedBlocks,
     WrittenBlocks,
@@ -22,53 +23,48 @@ pub enum Subject {
     FaultTexts,
 }
 
-/// Runs the rows of one file.
+/// Answers the rows of one file.
 #[derive(Drop)]
 pub struct Runner {
-    alloc: Global,
-    subject: Subject,
+    topic: Topic,
     connection: Connection,
     pair: Pair,
     heads: Heads,
 }
 
 impl Runner {
-    pub fn new(alloc: Global, subject: Subject) -> Runner {
+    pub fn new(alloc: Global, topic: Topic) -> Runner {
         Runner {
-            alloc,
-            subject,
+            topic,
             connection: Connection::new(alloc),
             pair: Pair::new(alloc),
             heads: Heads::new(alloc),
         }
     }
 
-    /// Does what a line that is no row says.
-    pub fn direct(&mut self, direction: &str) -> Result<()> {
-        match self.subject {
-            Subject::ReadBlocks => {
-                self.connection = Connection::directed(self.alloc, direction)?;
-                Ok(())
-            }
-            Subject::WrittenBlocks => self.pair.direct(self.alloc, direction),
-            Subject::Heads => self.heads.direct(self.alloc, direction),
-            _ => bail!("no row: {direction}"),
+    fn answer_to(&mut self, alloc: Global, input: &str) -> Result<String> {
+        match self.topic {
+            Topic::ReadBlocks => self.connection.answer(alloc, input),
+            Topic::RefusedBlocks => refusal(alloc, input),
+            Topic::WrittenBlocks => self.pair.answer(alloc, input),
+            Topic::Heads => self.heads.answer(alloc, input),
+            Topic::Timeouts => values::timeout(alloc, input),
+            Topic::StatusTexts => values::status_text(alloc, input),
+            Topic::BinaryValues => values::binary_values(alloc, input),
+            Topic::Answers => answers::answer(alloc, input),
+            Topic::FaultTexts => fault_text(alloc, input),
         }
     }
+}
 
-    /// The answer to what is put in.
-    pub fn answer(&mut self, input: &str) -> Result<String> {
-        let alloc = self.alloc;
-        match self.subject {
-            Subject::ReadBlocks => self.connection.answer(alloc, input),
-            Subject::RefusedBlocks => refusal(alloc, input),
-            Subject::WrittenBlocks => self.pair.answer(alloc, input),
-            Subject::Heads => self.heads.answer(alloc, input),
-            Subject::Timeouts => values::timeout(alloc, input),
-            Subject::StatusTexts => values::status_text(alloc, input),
-            Subject::BinaryValues => values::binary_values(alloc, input),
-            Subject::Answers => answers::answer(alloc, input),
-            Subject::FaultTexts => fault_text(alloc, input),
-        }
+impl Subject for Runner {
+    fn restart(&mut self, alloc: Global) {
+        self.connection = Connection::new(alloc);
+        self.pair = Pair::new(alloc);
+    }
+
+    fn answer(&mut self, alloc: Global, given: Given<'_>, answer: &mut String) -> Result<()> {
+        answer.push_str(self.answer_to(alloc, given.text)?.as_str())?;
+        Ok(())
     }
 }

@@ -1,10 +1,12 @@
-//! Header blocks that are written (RFC 7541). `encoder NAME` begins a connection, and `limit N` announces that size of the
-//! peer's table. A row puts in fields, and the answer is their block, which the peer's decoder has to read as those fields.
+//! Header blocks that are written (RFC 7541). A heading begins a connection. A row `limit N` announces that size of the peer's
+//! table, and is answered `taken`. Each other row puts in fields, and the answer is their block, which the peer's decoder has
+//! to read as those fields.
 
 use super::fields::{fields_of, text_of};
 use super::text::push_bytes;
-use anyhow::{Context, Result};
+use anyhow::Result;
 use hpack_codec::{Decoder, Encoder};
+use rows::number;
 use std::alloc::Global;
 
 /// The encoder of a connection, and the decoder of its peer.
@@ -22,19 +24,11 @@ impl Pair {
         }
     }
 
-    pub fn direct(&mut self, alloc: Global, direction: &str) -> Result<()> {
-        if direction.starts_with("encoder ") {
-            *self = Pair::new(alloc);
-            return Ok(());
-        }
-        let limit = direction
-            .strip_prefix("limit ")
-            .context(format_args!("no row: {direction}"))?;
-        self.encoder.limit(limit.parse::<u32>()?);
-        Ok(())
-    }
-
     pub fn answer(&mut self, alloc: Global, input: &str) -> Result<String> {
+        if let Some(limit) = input.strip_prefix("limit ") {
+            self.encoder.limit(number(limit)?);
+            return Ok(String::from_str(alloc, "taken")?);
+        }
         let fields = fields_of(alloc, input)?;
         let block = self.encoder.block(fields.as_slice())?;
         let mut answer = String::new(alloc);

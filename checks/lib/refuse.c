@@ -1,0 +1,62 @@
+// Loaded before the C library (LD_PRELOAD): refuses one allocation of a program, the one whose number stands in the
+// environment as REFUSE, counted from 1. Where there is none it refuses nothing, and writes at the program's end how
+// many there were to the file that is named there as COUNT.
+#include <errno.h>
+#include <stdatomic.h>
+#include <stddef.h>
+#include <stdio.h>
+#include <stdlib.h>
+
+extern void *__libc_malloc(size_t size);
+extern void *__libc_calloc(size_t count, size_t size);
+extern void *__libc_realloc(void *old, size_t size);
+extern void *__libc_memalign(size_t alignment, size_t size);
+
+static atomic_ulong seen;
+static unsigned long refused;
+
+__attribute__((constructor)) static void begin(void) {
+  const char *number = getenv("REFUSE");
+  refused = number ? strtoul(number, NULL, 10) : 0;
+  atomic_store(&seen, 0);
+}
+
+__attribute__((destructor)) static void end(void) {
+  const unsigned long all = atomic_load(&seen);
+  const char *name = getenv("COUNT");
+  FILE *file = name ? fopen(name, "w") : NULL;
+  if (file) {
+    fprintf(file, "%lu\n", all);
+    fclose(file);
+  }
+}
+
+static int is_refused(void) {
+  if (atomic_fetch_add(&seen, 1) + 1 != refused) {
+    return 0;
+  }
+  errno = ENOMEM;
+  return 1;
+}
+
+void *malloc(size_t size) { return is_refused() ? NULL : __libc_malloc(size); }
+
+void *calloc(size_t count, size_t size) { return is_refused() ? NULL : __libc_calloc(count, size); }
+
+void *realloc(void *old, size_t size) { return is_refused() ? NULL : __libc_realloc(old, size); }
+
+void *aligned_alloc(size_t alignment, size_t size) {
+  return is_refused() ? NULL : __libc_memalign(alignment, size);
+}
+
+int posix_memalign(void **place, size_t alignment, size_t size) {
+  if (is_refused()) {
+    return ENOMEM;
+  }
+  void *memory = __libc_memalign(alignment, size);
+  if (!memory) {
+    return ENOMEM;
+  }
+  *place = memory;
+  return 0;
+}
