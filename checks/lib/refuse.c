@@ -6,6 +6,8 @@
 #include <stddef.h>
 #include <stdio.h>
 #include <stdlib.h>
+#include <sys/syscall.h>
+#include <unistd.h>
 
 extern void *__libc_malloc(size_t size);
 extern void *__libc_calloc(size_t count, size_t size);
@@ -21,13 +23,21 @@ __attribute__((constructor)) static void begin(void) {
   atomic_store(&seen, 0);
 }
 
-__attribute__((destructor)) static void end(void) {
+static void tell(void) {
   const unsigned long all = atomic_load(&seen);
   const char *name = getenv("COUNT");
   FILE *file = name ? fopen(name, "w") : NULL;
   if (file) {
     fprintf(file, "%lu\n", all);
     fclose(file);
+  }
+}
+
+// (A Rattle program ends by this call, which runs no destructor.)
+void _exit(int status) {
+  tell();
+  for (;;) {
+    syscall(SYS_exit_group, status);
   }
 }
 

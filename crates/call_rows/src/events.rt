@@ -19,9 +19,7 @@ fn bytes_of(alloc: Global, word: &str) -> Result<Bytes> {
     if word == "empty" {
         return Ok(Bytes::new());
     }
-    let bytes = hex::decode(alloc, word)
-        .ok()
-        .context("bytes that aren't hexadecimal")?;
+    let bytes = hex::decode(alloc, word).context("bytes in hexadecimal digits")?;
     Ok(Bytes::from_vec(bytes)?)
 }
 

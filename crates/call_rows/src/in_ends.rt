@@ -4,7 +4,7 @@ ghost use Rattle.std.specs.Prelude.{◌≡◌, IfOk, OnOk};
 ghost use Rattle.lane.specs.End.{of_end};
 
 use account::{CallEvent, Shut, Told};
-use anyhow::{Result, bail, ensure};
+use anyhow::{Context, Result, bail, ensure};
 use bytes::Bytes;
 use callbox::{FedShut, Feeder, InAccount, InPiece, Taken, Taker, open_in, settle_in};
 use lane::{End, Lane};
@@ -35,7 +35,7 @@ fn feed<L: Lane<Item = InPiece>>(
     match end {
         End::Open(mut feeder) => {
             fed.extend_from_slice(piece.as_slice())?;
-            ensure!(feeder.feed(piece.clone()?).is_ok(), "a piece is refused");
+            feeder.feed(piece.clone()?).context("a piece is refused")?;
             Ok(End::Open(feeder))
         }
         End::Shut(shut) => Ok(End::Shut(shut)),

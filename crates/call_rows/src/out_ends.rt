@@ -33,7 +33,7 @@ fn give_open<L: Lane<Item = OutItem>>(
         OutItem::Head(fields) => {
             if !giver.has_head() {
                 given.push(item.copy()?)?;
-                ensure!(giver.head(fields.copy()?).is_ok(), "a head is refused");
+                giver.head(fields.copy()?).context("a head is refused")?;
             }
         }
         OutItem::Message(bytes) => {
@@ -42,7 +42,7 @@ fn give_open<L: Lane<Item = OutItem>>(
                 ensure!(message.len() <= MAX_MESSAGE_LEN, "a message is too long");
                 let message = Bytes::copy_from_slice(alloc, message)?;
                 given.push(item.copy()?)?;
-                ensure!(giver.give(message).is_ok(), "a message is refused");
+                giver.give(message).context("a message is refused")?;
             }
         }
         OutItem::Trailers(fields) => {

@@ -2,7 +2,7 @@
 
 use super::rows::Subject;
 use super::words::{all_bytes, joined_bytes, push_bytes};
-use anyhow::{Result, ensure};
+use anyhow::{Result, bail, ensure};
 use bytes::Bytes;
 use lpm::{LpmFault, Split, Splitter, is_frame, write_message};
 use std::alloc::Global;
@@ -44,6 +44,7 @@ fn drain(alloc: Global, splitter: &mut Splitter) -> Result<(Vec<Bytes>, Option<L
         match splitter.next() {
             Split::Message(message) => messages.push(message)?,
             Split::More => return Ok((messages, None)),
+            Split::Fault(LpmFault::OutOfMemory) => bail!("out of memory"),
             Split::Fault(fault) => return Ok((messages, Some(fault))),
         }
     }
