@@ -4,3 +4,5 @@ pub mod Symbols
 pub mod PartLemmas
 pub mod HeadLemmas
 pub mod OneHead
+pub mod RequestLemmas
+pub mod StatusLemmas
