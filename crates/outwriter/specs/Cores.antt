@@ -21,6 +21,12 @@ use Rattle.outwriter.specs.Parts.{Mark}
 use Rattle.outwriter.specs.CallState.{Serves, Heeds}
 use Rattle.outwriter.specs.Steps.{Step, Taken, Written, order_of}
 
+-- nothing more comes where a Close was taken, and nothing now where none was: that the peer's side has ended is no Close
+abbrev pub ClosedNext : List Step → Next → Type 0
+ClosedNext run (next.Frame frame) = Unit {0}
+ClosedNext run next.Idle = is_closed run ≡ false
+ClosedNext run next.Over = is_closed run ≡ true
+
 -- nothing is ahead of a sender, or what is in hand has no room
 abbrev pub IsStuck : ℕ → Option (List ℕ) → List OutItem → Type 0
 IsStuck room_now None ahead = ahead ≡ []
@@ -116,9 +122,3 @@ module _ {L In Out Shut : Type 0} where
   EndedNext run (next.Frame frame) core = Unit {0}
   EndedNext run next.Idle core = (core.outbound.gone ≡ true) ⊎ TellEnds run
   EndedNext run next.Over core = (core.outbound.gone ≡ true) ⊎ TellEnds run
-
-  -- nothing more comes where a Close was taken, and nothing now where none was: that the peer's side has ended is no Close
-  abbrev pub ClosedNext : List Step → Next → Type 0
-  ClosedNext run (next.Frame frame) = Unit {0}
-  ClosedNext run next.Idle = is_closed run ≡ false
-  ClosedNext run next.Over = is_closed run ≡ true
