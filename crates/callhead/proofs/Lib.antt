@@ -6,3 +6,4 @@ pub mod HeadLemmas
 pub mod OneHead
 pub mod RequestLemmas
 pub mod StatusLemmas
+pub mod Existence
