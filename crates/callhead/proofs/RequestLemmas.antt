@@ -59,7 +59,7 @@ three_none a b c e f g = rw (e, f, g) refl
 visible_is_lawful : (name value : List ℕ) → is_visible value ≡ true → has_bad_value (field_of name value) ≡ false
 visible_is_lawful name value is =
     three_none (list_any is_forbidden_in_values value) (is_blank (slice_get value 0)) (is_blank (slice_get value (length value - 1)))
-        (printable_ends_no_line value (visible_printable value is)) (visible_no_blanks value 0 is) (visible_no_blanks value (length value - 1) is)
+    (printable_ends_no_line value (visible_printable value is)) (visible_no_blanks value 0 is) (visible_no_blanks value (length value - 1) is)
 
 not_false : (b : Bool) → not b ≡ true → b ≡ false
 not_false true e = absurd (cc)
@@ -70,9 +70,11 @@ text_parts value is =
     let front = is_printable value && not (is_blank (slice_get value 0)) in
     let last = not (is_blank (slice_get value (length value - 1))) in
     let outer = and_parts front last is in
-    let inner = and_parts (is_printable value) (not (is_blank (slice_get value 0))) outer.0 in
-    (inner.0, three_none (list_any is_forbidden_in_values value) (is_blank (slice_get value 0)) (is_blank (slice_get value (length value - 1)))
-        (printable_ends_no_line value inner.0) (not_false (is_blank (slice_get value 0)) inner.1) (not_false (is_blank (slice_get value (length value - 1))) outer.1))
+    let inner = and_parts (is_printable value) (not (is_blank (slice_get value 0))) outer.0 in (
+      inner.0,
+      three_none (list_any is_forbidden_in_values value) (is_blank (slice_get value 0)) (is_blank (slice_get value (length value - 1)))
+          (printable_ends_no_line value inner.0) (not_false (is_blank (slice_get value 0)) inner.1) (not_false (is_blank (slice_get value (length value - 1))) outer.1),
+    )
 
 -- ---- base64
 
@@ -245,8 +247,8 @@ timeouts_lawful (Some text) is = timeout_lawful text (visible_is_lawful [] text 
 tail_lawful : (timeout : Option (List ℕ)) (initial trailing : List (List ℕ)) → IsTimeoutText timeout → Each (λ (value : List ℕ). IsTrue (is_text_value value)) initial → Each AreBytes trailing → Each (λ (field : Field). is_malformed_field field ≡ false) (tail_of timeout initial trailing)
 tail_lawful timeout initial trailing t i b =
     tail_all (λ field. is_malformed_field field ≡ false) timeout initial trailing (timeouts_lawful timeout t)
-        (weaker (λ value. IsTrue (is_text_value value)) (λ value. is_malformed_field (initial_field value) ≡ false) (λ value is. initial_lawful value ((text_parts value is).1)) initial i)
-        (weaker AreBytes (λ value. is_malformed_field (trailing_field value) ≡ false) (λ value are. trailing_lawful value (visible_is_lawful [] (unpadded value) (unpadded_visible value are))) trailing b)
+    (weaker (λ value. IsTrue (is_text_value value)) (λ value. is_malformed_field (initial_field value) ≡ false) (λ value is. initial_lawful value ((text_parts value is).1)) initial i)
+    (weaker AreBytes (λ value. is_malformed_field (trailing_field value) ≡ false) (λ value are. trailing_lawful value (visible_is_lawful [] (unpadded value) (unpadded_visible value are))) trailing b)
 
 four_none : (a b c d : Bool) → a ≡ false → b ≡ false → c ≡ false → d ≡ false → (a || b || c || d) ≡ false
 four_none a b c d e f g h = rw (e, f, g, h) refl
@@ -275,11 +277,11 @@ well_formed path tail is lawful plain method scheme path_once authority =
     let none : list_any is_malformed_field fields ≡ false = any_none is_malformed_field fields (refl, (refl, (path_lawful path is, (refl, (refl, (refl, lawful)))))) in
     let late : has_late_pseudo_header fields ≡ false = any_none is_pseudo_header (te ∷ content ∷ tail) (refl, (refl, plain)) in
     let repeated : list_any (is_repeated fields) pseudo_headers ≡ false =
-        any_four (is_repeated fields (codes ":method")) (is_repeated fields (codes ":scheme")) (is_repeated fields (codes ":path")) (is_repeated fields (codes ":authority"))
-            (once fields (codes ":method") (count_both (is_named (codes ":method")) (opening_fields path) tail refl (count_none (is_named (codes ":method")) tail method)))
-            (once fields (codes ":scheme") (count_both (is_named (codes ":scheme")) (opening_fields path) tail refl (count_none (is_named (codes ":scheme")) tail scheme)))
-            (once fields (codes ":path") (count_both (is_named (codes ":path")) (opening_fields path) tail refl (count_none (is_named (codes ":path")) tail path_once)))
-            (once fields (codes ":authority") (count_both (is_named (codes ":authority")) (opening_fields path) tail refl (count_none (is_named (codes ":authority")) tail authority))) in
+    any_four (is_repeated fields (codes ":method")) (is_repeated fields (codes ":scheme")) (is_repeated fields (codes ":path")) (is_repeated fields (codes ":authority"))
+    (once fields (codes ":method") (count_both (is_named (codes ":method")) (opening_fields path) tail refl (count_none (is_named (codes ":method")) tail method)))
+    (once fields (codes ":scheme") (count_both (is_named (codes ":scheme")) (opening_fields path) tail refl (count_none (is_named (codes ":scheme")) tail scheme)))
+    (once fields (codes ":path") (count_both (is_named (codes ":path")) (opening_fields path) tail refl (count_none (is_named (codes ":path")) tail path_once)))
+    (once fields (codes ":authority") (count_both (is_named (codes ":authority")) (opening_fields path) tail refl (count_none (is_named (codes ":authority")) tail authority))) in
     let missing : list_any (is_missing fields) required_headers ≡ false = refl in
     four_none (list_any is_malformed_field fields) (has_late_pseudo_header fields) (list_any (is_repeated fields) pseudo_headers) (list_any (is_missing fields) required_headers) none late repeated missing
 
@@ -290,9 +292,9 @@ unfolding tail_of
 timeout_found None initial trailing =
     let name = codes "grpc-timeout" in
     let none : find (is_named name) (echo_fields initial trailing) ≡ None =
-        find_none (is_named name) (echo_fields initial trailing) (each-append (λ (field : Field). is_named name field ≡ false) (map initial_field initial) (map trailing_field trailing)
-            (map_all (λ field. is_named name field ≡ false) initial_field initial (always (λ value. is_named name (initial_field value) ≡ false) (λ value. refl) initial))
-            (map_all (λ field. is_named name field ≡ false) trailing_field trailing (always (λ value. is_named name (trailing_field value) ≡ false) (λ value. refl) trailing))) in
+    find_none (is_named name) (echo_fields initial trailing) (each-append (λ (field : Field). is_named name field ≡ false) (map initial_field initial) (map trailing_field trailing)
+    (map_all (λ field. is_named name field ≡ false) initial_field initial (always (λ value. is_named name (initial_field value) ≡ false) (λ value. refl) initial))
+    (map_all (λ field. is_named name field ≡ false) trailing_field trailing (always (λ value. is_named name (trailing_field value) ≡ false) (λ value. refl) trailing))) in
     rw none refl
 timeout_found (Some text) initial trailing = refl
 
@@ -300,7 +302,7 @@ no_encoding : (timeout : Option (List ℕ)) (initial trailing : List (List ℕ))
 no_encoding timeout initial trailing =
     let name = codes "grpc-encoding" in
     let none : find (is_named name) (tail_of timeout initial trailing) ≡ None =
-        find_none (is_named name) (tail_of timeout initial trailing) (tail_always (λ field. is_named name field ≡ false) timeout initial trailing (λ text. refl) (λ value. refl) (λ value. refl)) in
+    find_none (is_named name) (tail_of timeout initial trailing) (tail_always (λ field. is_named name field ≡ false) timeout initial trailing (λ text. refl) (λ value. refl) (λ value. refl)) in
     rw none refl
 
 no_initial : (trailing : List (List ℕ)) → values_of (codes "x-grpc-test-echo-initial") (map trailing_field trailing) ≡ []

@@ -64,11 +64,7 @@ fn push_timeout(
     Ok(())
 }
 
-fn push_initial(
-    alloc: Global,
-    fields: &mut Vec<Field>,
-    values: &[&str],
-) -> Result<(), AllocError>
+fn push_initial(alloc: Global, fields: &mut Vec<Field>, values: &[&str]) -> Result<(), AllocError>
     ensures { OnOk result (fields.new.items ≡ fields.old.items ++ map (field_of (codes "x-grpc-test-echo-initial")) (map (λ value. value.now) values.now)) }
 {
     for value in values {
@@ -77,11 +73,7 @@ fn push_initial(
     Ok(())
 }
 
-fn push_trailing(
-    alloc: Global,
-    fields: &mut Vec<Field>,
-    values: &[&[u8]],
-) -> Result<(), AllocError>
+fn push_trailing(alloc: Global, fields: &mut Vec<Field>, values: &[&[u8]]) -> Result<(), AllocError>
     ensures fields { OnOk result (fields.new.items ≡ fields.old.items ++ map (λ value. field_of (codes "x-grpc-test-echo-trailing-bin") (unpadded value)) (map (λ value. value.now) values.now)) }
     ensures bytes { OnOk result (All (λ value. AreBytes value.now) values.now) }
 {
