@@ -1,11 +1,10 @@
 -- No fault stands in the way of a step, and what a step leaves.
 use Rattle.std.proofs.Common.{◌≡◌, ℕ, ◌+◌, ◌-◌, ◌<◌, ◌≤◌, List, [], ◌∷◌, length, Bool, true, false, true≢false, Some, None, Option, Result, Ok, Err, sym, ap, ◌∙◌, subst, refl, arith, nat_eq, eq-eqb, add-zero, min, inl, inr, suc}
-use Rattle.std.specs.Prelude.{All, IsTrue, IsSome, MatchOption, OnOk, sum_by, slice_get, if◌then◌else◌, nat_lt}
+use Rattle.std.specs.Prelude.{All, IsSome, MatchOption, OnOk, slice_get, if◌then◌else◌, nat_lt}
 use Rattle.std.specs.Option.{option_map_or}
-use Rattle.std.specs.Map.{lookup, set_value, remove_entry, keys_of, values_of}
+use Rattle.std.specs.Map.{lookup, keys_of, values_of}
 use Rattle.std.proofs.lemmas.Bool.Decides.{nat_tests}
 use Rattle.std.proofs.lemmas.List.Sums.{sum_by-cons}
-use Rattle.flow.specs.declared.book.counts.Counts.{Counts}
 use Rattle.flow.specs.declared.book.Call.{Call}
 use Rattle.flow.specs.declared.book.fault.BookFault.{BookFault}
 use Rattle.flow.specs.declared.book.fault.BookFault.TheVariants as faults

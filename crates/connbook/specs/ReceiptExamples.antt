@@ -1,6 +1,6 @@
 -- Worked histories of a shared credit book.
-use Rattle.std.specs.Prelude.{◌≡◌, true, false, [], refl}
-use Rattle.flow.specs.Books.{new_book, after_admit, after_give_back, after_end_local, window_of, no_bytes}
+use Rattle.std.specs.Prelude.{◌≡◌, true, [], refl}
+use Rattle.flow.specs.Books.{new_book, after_admit, after_end_local}
 use Rattle.connbook.specs.declared.answers.Receipt.TheVariants.{Feed, Discard, CallWindow, Overrun}
 use Rattle.connbook.specs.Receipts.{receipt_of, after_receipt, after_admission, credit_of, after_credit, after_stop}
 

@@ -1,7 +1,7 @@
 -- What the calls of a shared credit book answer, and what they leave of it (RFC 9113, sections 5.2 and 6.9).
-use Rattle.std.specs.Prelude.{◌≡◌, ℕ, ◌+◌, ◌<◌, ◌≤◌, Bool, true, false, if◌then◌else◌, List, [], Option, Result, Ok, Err, nat_le, nat_lt, length}
+use Rattle.std.specs.Prelude.{◌≡◌, ℕ, ◌<◌, ◌≤◌, Bool, true, false, if◌then◌else◌, [], Result, Ok, Err, nat_le, nat_lt, length}
 use Rattle.std.specs.Option.{option_map_or}
-use Rattle.flow.specs.declared.TheConstants.{INITIAL_WINDOW, MAX_LIVE}
+use Rattle.flow.specs.declared.TheConstants.{MAX_LIVE}
 use Rattle.flow.specs.declared.book.Call.{Call}
 use Rattle.flow.specs.Books.{Books, IsOdd, call_at, window_of, announcement, with_received, with_returned, unreturned_of, after_admit, after_receive, after_give_back, after_announce, after_cut}
 use Rattle.connbook.specs.declared.answers.Receipt.{Receipt}

@@ -1,7 +1,7 @@
 //! The value under the lock of a connection.
 
 ghost use Rattle.std.specs.Prelude.{◌≡◌, ◌≢◌, ℕ, ◌+◌, ◌<◌, ◌≤◌, true, false, length, nat_eq, if◌then◌else◌, IsSome, IsTrue, ◌↔◌, OnOk, OnErr};
-ghost use Rattle.flow.specs.Books.{new_book, IsLawful, call_at, Meets, GiveBackCause, after_give_back, after_cut, after_end_remote, after_end_local};
+ghost use Rattle.flow.specs.Books.{new_book, call_at, Meets, GiveBackCause, after_give_back, after_cut, after_end_remote, after_end_local};
 ghost use Rattle.connbook.specs.Receipts.{receipt_of, after_receipt, counted_of, Admits, after_admission, credit_of, after_credit, after_stop};
 ghost use Rattle.connbook.specs.Ledgers.{IsKept};
 ghost use Rattle.connbook.specs.declared.answers.Receipt.TheVariants as receipt;
@@ -69,10 +69,11 @@ impl<A: Ledger, B: Ledger, C: Ledger> ConnBook<A, B, C> {
         self.stopped
     }
 
-    /// The greatest id that was admitted, 0 for none: what a GOAWAY names (RFC 9113, section 6.8).
+    /// The greatest id that was admitted, 0 for none: what a GOAWAY names (RFC 9113, section 6.8). Its contract says what is
+    /// true of each book.
     pub fn last(&self) -> StreamId
         ensures last { result ≡ self.now.book.last }
-        ensures law { IsLawful self.now.book }
+        ensures kept { IsKept self.now.book self.now.stopped self.now.received.total self.now.admitted.total self.now.announced.total }
     {
         self.book.last()
     }
@@ -126,13 +127,7 @@ impl<A: Ledger, B: Ledger, C: Ledger> ConnBook<A, B, C> {
 
     /// Counts DATA of so many bytes that came on a stream, `padding` of them no data (RFC 9113, section 6.9.1), and says what
     /// becomes of them. Bytes of no call have the id 0.
-    pub fn receive(
-        &mut self,
-        id: StreamId,
-        flow: u32,
-        padding: u32,
-        mine: &mut Share<A>,
-    ) -> Receipt
+    pub fn receive(&mut self, id: StreamId, flow: u32, padding: u32, mine: &mut Share<A>) -> Receipt
         requires whole { mine.old.parts ≡ A.parts }
         requires some { 0 < mine.old.parts }
         requires padding { padding ≤ flow }
@@ -239,12 +234,7 @@ impl<A: Ledger, B: Ledger, C: Ledger> ConnBook<A, B, C> {
 
     /// Changes nothing, and tells how the shares of those who count stand to the book, where reader and writer meet again: no
     /// more was announced on the connection than came on it.
-    pub fn audit(
-        &mut self,
-        came: &mut Share<A>,
-        calls: &mut Share<B>,
-        told: &mut Share<C>,
-    )
+    pub fn audit(&mut self, came: &mut Share<A>, calls: &mut Share<B>, told: &mut Share<C>)
         requires came { came.old.parts ≡ A.parts }
         requires calls { calls.old.parts ≡ B.parts }
         requires told { told.old.parts ≡ C.parts }

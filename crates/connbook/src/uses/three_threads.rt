@@ -79,13 +79,7 @@ fn run_over<
     B: Ledger + Send + Sync,
     C: Ledger + Send + Sync,
     R: Threads + Wait + Sync,
->(
-    rt: &R,
-    alloc: Global,
-    blanks: (Blank, Blank, Blank),
-    pieces: &[u32],
-    times: u32,
-) -> u64
+>(rt: &R, alloc: Global, blanks: (Blank, Blank, Blank), pieces: &[u32], times: u32) -> u64
     requires received { (blanks.0.name ≡ A.name) × (blanks.0.parts ≡ A.parts) × (0 < A.parts) }
     requires admitted { (blanks.1.name ≡ B.name) × (blanks.1.parts ≡ B.parts) × (0 < B.parts) }
     requires announced { (blanks.2.name ≡ C.name) × (blanks.2.parts ≡ C.parts) × (0 < C.parts) }

@@ -1,4 +1,4 @@
-use Rattle.std.proofs.Common.{◌∙◌, sym, ap, subst, arith, length, ◌<◌}
+use Rattle.std.proofs.Common.{◌∙◌, sym, ap, subst, length, ◌<◌}
 use Rattle.flow.specs.Books.{Books}
 use Rattle.connbook.specs.Receipts.{after_stop}
 use Rattle.connbook.proofs.StepLemmas.{cut_first}
