@@ -1,0 +1,20 @@
+use Rattle.callbox.specs.InSides.{Took}
+use Rattle.callrun.proofs.Taking.{if_is, kept_run, step_run}
+use Rattle.callrun.proofs.call_run.CallRun.turn.Goals as goal
+
+pub returns-then-not-is_open-clause-run : goal.returns-then-not-is_open-clause-run
+returns-then-not-is_open-clause-run g c = if_is _ _ _ c.in-Some.ensures (λ messages took run.
+    kept_run (λ ms. Took (g.I.Lane.got c.args.self.now.taker.rx) c.args.self.now.taker.progress ms) _ messages _ _ took run)
+
+pub returns-in-Some-first-clause-run : goal.returns-in-Some-first-clause-run
+returns-in-Some-first-clause-run g c = if_is _ _ _ c.in-Some.ensures (λ messages took run.
+    kept_run (λ ms. Took (g.I.Lane.got c.args.self.now.taker.rx) c.args.self.now.taker.progress ms) _ messages _ _ took
+    (step_run _ messages _ _ _ _ c.give.ensures.run (step_run _ messages _ _ _ _ (c.look_at.ensures.run _) run)))
+
+pub returns-then-is_some-clause-run : goal.returns-then-is_some-clause-run
+returns-then-is_some-clause-run g c = if_is _ _ _ c.in-Some.ensures (λ messages took run.
+    kept_run (λ ms. Took (g.I.Lane.got c.args.self.now.taker.rx) c.args.self.now.taker.progress ms) _ messages _ _ took
+    (step_run _ messages _ _ _ _ c.finish.ensures.run (step_run _ messages _ _ _ _ (c.look_at.ensures.run _) run)))
+
+pub returns-clause-run : goal.returns-clause-run
+returns-clause-run g c = if_is _ _ _ c.in-Some.ensures (λ messages took run. c.take.ensures.run messages took (step_run _ messages _ _ _ _ (c.look_at.ensures.run _) run))
