@@ -73,7 +73,7 @@ impl Call {
     }
 
     /// Has the method answer what was taken, or ends the call by it.
-    pub(crate) fn answer(&mut self, method: &Box<dyn Method>, taken: Taken)
+    pub(crate) fn answer(&mut self, method: &dyn Method, taken: Taken)
         requires { IsReady self.old.handling }
         ensures run { (said : Option ToldOf) (next : Option ToldOf) (messages : List (List ℕ)) (given : List Item) → Tells taken said next
             → HasRun (answers method.now) (stands method.now) said messages self.old (record { is_live = true; given = given; code = None })

@@ -49,7 +49,7 @@ impl<I: Lane<Item = InPiece>, O: Lane<Item = OutItem>> CallRun<I, O> {
         requires index { index < length (listed methods.now) }
         // Where nothing was taken and nothing given before, no message leads to it.
         ensures run { IfSome (slice_get (listed methods.now) index) (λ method. taker.progress.told ≡ None → O.put_in giver.tx ≡ []
-            → HasRun (answers method) (stands method) None [] result.call (shown (λ g. O.put_in g.tx) (λ s. O.put_shut s.shut) (λ s. O.was_placed s.shut) result.response)) }
+            → HasRun ((⟦<dyn Method as Method>⟧ method.vtable).answers method.value) ((⟦<dyn Method as Method>⟧ method.vtable).stands method.value) None [] result.call (shown (λ g. O.put_in g.tx) (λ s. O.put_shut s.shut) (λ s. O.was_placed s.shut) result.response)) }
         ensures taker { result.taker ≡ taker }
         ensures name { name_by (λ g. O.in_name g.tx) (λ s. O.shut_name s.shut) result.response ≡ Some (O.in_name giver.tx) }
         ensures index_is { result.index ≡ index }
@@ -59,7 +59,7 @@ impl<I: Lane<Item = InPiece>, O: Lane<Item = OutItem>> CallRun<I, O> {
         ensures open { is_open result.response ≡ true }
     {
         let handling = match methods.get(index) {
-            Some(method) => Handling::new(alloc, method),
+            Some(method) => Handling::new(alloc, &**method),
             None => unreachable!(),
         };
         let deadline = match head.timeout {
@@ -86,9 +86,9 @@ impl<I: Lane<Item = InPiece>, O: Lane<Item = OutItem>> CallRun<I, O> {
         // Whatever messages led to the call before, they and those that were taken lead to the call after.
         ensures run { IfSome (slice_get (listed methods.now) self.old.index) (λ method. (messages : List (List ℕ))
             → Took (I.got self.old.taker.rx) self.old.taker.progress messages
-            → HasRun (answers method) (stands method) self.old.taker.progress.told messages self.old.call (shown (λ g. O.put_in g.tx) (λ s. O.put_shut s.shut) (λ s. O.was_placed s.shut) self.old.response)
+            → HasRun ((⟦<dyn Method as Method>⟧ method.vtable).answers method.value) ((⟦<dyn Method as Method>⟧ method.vtable).stands method.value) self.old.taker.progress.told messages self.old.call (shown (λ g. O.put_in g.tx) (λ s. O.put_shut s.shut) (λ s. O.was_placed s.shut) self.old.response)
             → (more : List (List ℕ)) × Took (I.got self.new.taker.rx) self.new.taker.progress (messages ++ more)
-            × HasRun (answers method) (stands method) self.new.taker.progress.told (messages ++ more) self.new.call (shown (λ g. O.put_in g.tx) (λ s. O.put_shut s.shut) (λ s. O.was_placed s.shut) self.new.response)) }
+            × HasRun ((⟦<dyn Method as Method>⟧ method.vtable).answers method.value) ((⟦<dyn Method as Method>⟧ method.vtable).stands method.value) self.new.taker.progress.told (messages ++ more) self.new.call (shown (λ g. O.put_in g.tx) (λ s. O.put_shut s.shut) (λ s. O.was_placed s.shut) self.new.response)) }
         ensures in_name { I.out_name self.new.taker.rx ≡ I.out_name self.old.taker.rx }
         ensures name { name_by (λ g. O.in_name g.tx) (λ s. O.shut_name s.shut) self.new.response ≡ name_by (λ g. O.in_name g.tx) (λ s. O.shut_name s.shut) self.old.response }
         ensures same { (self.new.index ≡ self.old.index) × (self.new.call.head ≡ self.old.call.head) × (self.new.call.deadline ≡ self.old.call.deadline) }
@@ -119,7 +119,7 @@ impl<I: Lane<Item = InPiece>, O: Lane<Item = OutItem>> CallRun<I, O> {
         if self.call.handling.ending.is_some() {
             return self.call.finish(&mut self.response);
         }
-        self.take(method)
+        self.take(&**method)
     }
 
     /// Gives nothing more, as where the call is no longer live. Each turn answers `Over` from then on.
@@ -176,7 +176,7 @@ impl<I: Lane<Item = InPiece>, O: Lane<Item = OutItem>> CallRun<I, O> {
     }
 
     /// Takes once, and has the method answer.
-    fn take(&mut self, method: &Box<dyn Method>) -> Turn
+    fn take(&mut self, method: &dyn Method) -> Turn
         requires ready { IsReady self.old.call.handling }
         requires open { is_open self.old.response ≡ true }
         ensures run { (messages : List (List ℕ)) → Took (I.got self.old.taker.rx) self.old.taker.progress messages

@@ -24,7 +24,7 @@ impl Handling {
     ghost use Rattle.callrun.specs.Handlings.{Accepts, Answers, EndsBy, IsReady, IsStanding, lacks_memory};
 
     /// No message was taken yet.
-    pub(crate) fn new(alloc: Global, method: &Box<dyn Method>) -> Handling
+    pub(crate) fn new(alloc: Global, method: &dyn Method) -> Handling
         ensures lawful { IsLawful (answers method.now) }
         ensures standing { IsStanding (answers method.now) (stands method.now) None [] result.state }
         ensures none { answers method.now [] false nothing }
@@ -38,7 +38,7 @@ impl Handling {
     }
 
     /// A message was taken.
-    pub(crate) fn message(&mut self, alloc: Global, method: &Box<dyn Method>, message: &[u8])
+    pub(crate) fn message(&mut self, alloc: Global, method: &dyn Method, message: &[u8])
         ensures answers { (messages : List (List ℕ)) → IsLawful (answers method.now) → IsStanding (answers method.now) (stands method.now) None messages self.old.state
             → Answers (answers method.now) (stands method.now) None messages (messages ++ message.now ∷ []) self.new }
     {
@@ -47,7 +47,7 @@ impl Handling {
     }
 
     /// The end was told.
-    pub(crate) fn end(&mut self, alloc: Global, method: &Box<dyn Method>)
+    pub(crate) fn end(&mut self, alloc: Global, method: &dyn Method)
         ensures answers { (messages : List (List ℕ)) → IsLawful (answers method.now) → IsStanding (answers method.now) (stands method.now) None messages self.old.state
             → Answers (answers method.now) (stands method.now) (Some told_kind.End) messages messages self.new }
     {
