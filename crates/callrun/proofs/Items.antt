@@ -1,8 +1,7 @@
 -- What giving an item keeps.
 use Rattle.std.proofs.Common.{◌≡◌, ◌≢◌, ◌⊎◌, inl, inr, refl, sym, ap, subst, ◌∙◌, ℕ, Bool, true, false, if◌then◌else◌, List, [], ◌∷◌, ◌++◌, Option, None, Some, append-nil, append_assoc}
-use Rattle.std.specs.Prelude.{map, IsSome}
+use Rattle.std.specs.Prelude.{map}
 use Rattle.std.proofs.lemmas.List.{map-append}
-use Rattle.account.specs.Accounts.{Begins}
 use Rattle.account.specs.declared.call.OutItem.{OutItem}
 use Rattle.account.specs.declared.call.OutItem.TheVariants.{Trailers}
 use Rattle.account.specs.declared.call.Told.{Told}
@@ -13,21 +12,17 @@ use Rattle.handlers.specs.declared.reply.Reply.{Reply}
 use Rattle.handlers.specs.declared.status.Status.{Status}
 use Rattle.handlers.specs.declared.step.Step.{Step}
 use Rattle.callrun.specs.declared.call.Call.{Call}
-use Rattle.callrun.specs.declared.cause.Cause.{Cause}
-use Rattle.callrun.specs.declared.cause.Cause.TheVariants.{Cancelled, DeadlineExceeded, MessageTooLong, OutOfMemory, UnsupportedEncoding, CompressedWithoutEncoding, BadFlag, CutAtEnd}
 use Rattle.callrun.specs.declared.ending.Ending.{Ending}
 use Rattle.callrun.specs.declared.ending.Ending.TheVariants as ending
-use Rattle.callrun.specs.declared.handling.Handling.{Handling}
-use Rattle.callrun.specs.Endings.{ends_with}
 use Rattle.callrun.specs.Statuses.{status_of}
 use Rattle.callrun.specs.Responses.{head_item, reply_item, trailing_fields, full_response, short_response, is_short, response}
-use Rattle.callrun.specs.Outcomes.{is_end, Stood, IsBegun, IsOutcome}
-use Rattle.callrun.specs.Handlings.{EndsSo, HeadIsDue, LastsLong, EndsBy}
+use Rattle.callrun.specs.Outcomes.{IsBegun, IsOutcome}
+use Rattle.callrun.specs.Handlings.{EndsSo, HeadIsDue, LastsLong}
 use Rattle.callrun.specs.Sides.{Shown}
 use Rattle.callrun.specs.declared.giving.Refused.{Refused}
 use Rattle.callrun.specs.declared.giving.Refused.TheVariants as refused
 use Rattle.callrun.specs.Giving.{Refuses}
-use Rattle.callrun.specs.Runs.{IsGoing, GivesOf, RunsOn, EndsWith, IsEnding, ends_short, trailers_of, HasTrailers}
+use Rattle.callrun.specs.Runs.{GivesOf, RunsOn, EndsWith, IsEnding, ends_short, trailers_of, HasTrailers}
 use Rattle.callrun.proofs.Steps.{live, reached, runs_same, true_false}
 
 some_none : {A : Type 0} (x : A) (xs : List A) → x ∷ xs ≡ [] → ⊥

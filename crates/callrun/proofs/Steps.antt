@@ -1,16 +1,10 @@
 -- What each step of a call keeps, in which nothing is given.
-use Rattle.std.proofs.Common.{◌≡◌, ◌≢◌, ◌⊎◌, inl, inr, refl, sym, ap, subst, ◌∙◌, ℕ, Bool, true, false, if◌then◌else◌, List, [], ◌∷◌, ◌++◌, Option, None, Some, append-nil, append_assoc}
-use Rattle.std.specs.Prelude.{map, IsSome}
-use Rattle.std.proofs.lemmas.List.{map-append}
+use Rattle.std.proofs.Common.{◌≡◌, inr, refl, sym, subst, ◌∙◌, ℕ, Bool, true, false, List, [], Option, None, Some}
 use Rattle.account.specs.Accounts.{Begins}
 use Rattle.account.specs.declared.call.OutItem.{OutItem}
-use Rattle.account.specs.declared.call.OutItem.TheVariants.{Trailers}
 use Rattle.account.specs.declared.call.Told.{Told}
-use Rattle.callbox.specs.OutSides.{has_head}
 use Rattle.callhead.specs.declared.head.CallHead.{CallHead}
-use Rattle.lists.specs.declared.field.Field.{Field}
 use Rattle.handlers.specs.declared.reply.Reply.{Reply}
-use Rattle.handlers.specs.declared.status.Status.{Status}
 use Rattle.handlers.specs.declared.step.Step.{Step}
 use Rattle.callrun.specs.declared.call.Call.{Call}
 use Rattle.callrun.specs.declared.cause.Cause.{Cause}
@@ -18,11 +12,9 @@ use Rattle.callrun.specs.declared.cause.Cause.TheVariants.{Cancelled, DeadlineEx
 use Rattle.callrun.specs.declared.ending.Ending.{Ending}
 use Rattle.callrun.specs.declared.ending.Ending.TheVariants as ending
 use Rattle.callrun.specs.declared.handling.Handling.{Handling}
-use Rattle.callrun.specs.Endings.{ends_with}
-use Rattle.callrun.specs.Statuses.{status_of}
-use Rattle.callrun.specs.Responses.{head_item, reply_item, trailing_fields, full_response, short_response, is_short, response}
-use Rattle.callrun.specs.Outcomes.{is_end, Stood, IsBegun, IsOutcome}
-use Rattle.callrun.specs.Handlings.{EndsSo, HeadIsDue, LastsLong, EndsBy}
+use Rattle.callrun.specs.Responses.{response}
+use Rattle.callrun.specs.Outcomes.{Stood, IsBegun, IsOutcome}
+use Rattle.callrun.specs.Handlings.{EndsSo, LastsLong, EndsBy}
 use Rattle.callrun.specs.Sides.{IsOpenTo, Shown, if_placed, left, shown}
 use Rattle.callrun.specs.declared.response.Response.{Response}
 use Rattle.callrun.specs.declared.response.Response.TheVariants.{Open, Left, Shut, Gone}

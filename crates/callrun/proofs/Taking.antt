@@ -31,7 +31,7 @@ use Rattle.callrun.specs.Handlings.{EndsSo, LastsLong, IsStanding, IsReady, Acce
 use Rattle.callrun.specs.Sides.{Shown, is_open, shown}
 use Rattle.callrun.specs.declared.response.Response.{Response}
 use Rattle.callrun.specs.declared.response.Response.TheVariants as response
-use Rattle.callrun.specs.Runs.{IsGoing, GivesOf, HasRun, RunsOn}
+use Rattle.callrun.specs.Runs.{HasRun, RunsOn}
 use Rattle.callrun.proofs.Steps.{front_of, going_cut, live, reached}
 
 -- no reason for a head

@@ -1,6 +1,6 @@
 -- Worked examples of responses, causes and deadlines.
-use Rattle.std.specs.Prelude.{◌≡◌, refl, false, true, List, [], ◌∷◌, Option, None, Some, codes}
-use Rattle.account.specs.declared.call.OutItem.TheVariants.{Head, Message, Trailers}
+use Rattle.std.specs.Prelude.{◌≡◌, refl, false, true, [], ◌∷◌, Option, None, Some, codes}
+use Rattle.account.specs.declared.call.OutItem.TheVariants.{Head, Trailers}
 use Rattle.account.specs.declared.call.Told.{Told}
 use Rattle.callhead.specs.declared.head.CallHead.{CallHead}
 use Rattle.callhead.specs.declared.head.Encoding.TheVariants.{Identity}

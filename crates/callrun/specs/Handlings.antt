@@ -8,7 +8,6 @@ use Rattle.handlers.specs.declared.reply.Reply.{Reply}
 use Rattle.handlers.specs.declared.state.MethodState.{MethodState}
 use Rattle.handlers.specs.declared.status.Status.{Status}
 use Rattle.handlers.specs.declared.step.Step.{Step}
-use Rattle.handlers.specs.Answers.{IsLawful}
 use Rattle.callrun.specs.declared.cause.Cause.{Cause}
 use Rattle.callrun.specs.declared.cause.Cause.TheVariants.{Cancelled, DeadlineExceeded, MessageTooLong, OutOfMemory, UnsupportedEncoding, CompressedWithoutEncoding, BadFlag, CutAtEnd}
 use Rattle.callrun.specs.declared.ending.Ending.{Ending}

@@ -1,5 +1,5 @@
 -- The items of a whole response: gRPC over HTTP/2, "Responses".
-use Rattle.std.specs.Prelude.{ℕ, ◌==◌, ◌&&◌, not, Bool, true, false, if◌then◌else◌, List, [], ◌∷◌, ◌++◌, map}
+use Rattle.std.specs.Prelude.{◌==◌, ◌&&◌, not, Bool, true, false, if◌then◌else◌, List, [], ◌∷◌, ◌++◌, map}
 use Rattle.lists.specs.declared.field.Field.{Field}
 use Rattle.lpm.specs.Messages.{frame}
 use Rattle.account.specs.declared.call.OutItem.{OutItem}

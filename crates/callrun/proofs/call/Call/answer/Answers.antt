@@ -1,9 +1,8 @@
-use Rattle.std.proofs.Common.{◌≡◌, refl, sym, ap, subst, ◌∙◌, List, ℕ}
-use Rattle.callbox.specs.declared.taker.Taken.{Taken}
+use Rattle.std.proofs.Common.{refl, sym, ap, subst, ◌∙◌, List, ℕ}
 use Rattle.callbox.specs.declared.taker.Taken.TheVariants as taken
 use Rattle.callrun.specs.declared.cause.Cause.{Cause}
 use Rattle.callrun.specs.Handlings.{EndsBy}
-use Rattle.callrun.proofs.Taking.{by_message, by_nothing, by_end, by_reset, by_fault}
+use Rattle.callrun.proofs.Taking.{by_message, by_end, by_reset, by_fault}
 use Rattle.callrun.proofs.call.Call.answer.Goals as goal
 
 pub returns-in-Message-clause-run : goal.returns-in-Message-clause-run

@@ -1,5 +1,4 @@
-use Rattle.std.proofs.Common.{◌≡◌, refl, sym, ◌∙◌, true, false, Bool}
-use Rattle.callrun.specs.Runs.{ends_short}
+use Rattle.std.proofs.Common.{refl, sym, ◌∙◌}
 use Rattle.callrun.proofs.Steps.{open_runs, true_false}
 use Rattle.callrun.proofs.Items.{runs_shut}
 use Rattle.callrun.proofs.call.Call.finish.Goals.{else-not-has_head-via-then-not-has_head+else-not-is_short, else-not-has_head-via-else-not-has_head}

@@ -1,4 +1,4 @@
-use Rattle.std.proofs.Common.{◌≡◌, refl, sym, ap, List}
+use Rattle.std.proofs.Common.{◌≡◌, sym, ap, List}
 use Rattle.handlers.specs.declared.reply.Reply.{Reply}
 use Rattle.callrun.specs.declared.call.Call.{Call}
 use Rattle.callrun.proofs.Steps.{open_runs, runs_on}

@@ -1,4 +1,4 @@
-use Rattle.std.proofs.Common.{◌≡◌, sym, ap, ◌∙◌, Bool}
+use Rattle.std.proofs.Common.{sym, ap, ◌∙◌, Bool}
 use Rattle.callrun.specs.Sides.{if_placed}
 use Rattle.callrun.proofs.Steps.{gives_at, placed_outcome}
 use Rattle.callrun.proofs.call_run.CallRun.into_ends.Goals.{then-placed, else-placed}

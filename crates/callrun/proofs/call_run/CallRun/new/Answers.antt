@@ -1,7 +1,6 @@
-use Rattle.std.proofs.Common.{◌≡◌, subst, None, [], false}
+use Rattle.std.proofs.Common.{subst, None, [], false}
 use Rattle.callrun.specs.Runs.{HasRun}
 use Rattle.callrun.specs.declared.call.Call.{Call}
-use Rattle.callrun.specs.Sides.{Shown}
 use Rattle.callrun.proofs.Steps.{live}
 use Rattle.callrun.proofs.Taking.{if_is, fresh_run}
 use Rattle.callrun.proofs.call_run.CallRun.new.Goals as goal

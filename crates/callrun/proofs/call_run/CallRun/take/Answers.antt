@@ -1,4 +1,4 @@
-use Rattle.std.proofs.Common.{◌≡◌, List, ℕ, refl, inl}
+use Rattle.std.proofs.Common.{refl, inl}
 use Rattle.callbox.specs.InSides.{Took}
 use Rattle.callrun.proofs.Taking.{taken_run, opened_run, by_nothing}
 use Rattle.callrun.proofs.call_run.CallRun.take.Goals as goal

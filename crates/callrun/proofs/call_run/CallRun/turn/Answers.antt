@@ -1,4 +1,4 @@
-use Rattle.std.proofs.Common.{◌≡◌, ◌++◌, List, ℕ, subst}
+use Rattle.std.proofs.Common.{◌++◌, List, ℕ, subst}
 use Rattle.callbox.specs.InSides.{Took}
 use Rattle.callrun.specs.Runs.{HasRun}
 use Rattle.callrun.specs.Sides.{shown}

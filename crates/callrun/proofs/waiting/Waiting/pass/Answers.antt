@@ -1,4 +1,4 @@
-use Rattle.std.proofs.Common.{◌≡◌, ◌∷◌, ◌<◌, ◌+◌, ◌∙◌, sym, ap, subst, List, ℕ, get_or, drop, length}
+use Rattle.std.proofs.Common.{◌≡◌, ◌∷◌, ◌<◌, ◌+◌, ◌∙◌, sym, subst, List, ℕ, drop, length}
 use Rattle.std.proofs.lemmas.List.{drop_more}
 use Rattle.handlers.specs.declared.reply.Reply.{Reply}
 use Rattle.callrun.proofs.waiting.Waiting.pass.Goals as goal
