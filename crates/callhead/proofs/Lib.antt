@@ -4,3 +4,4 @@ pub mod Symbols
 pub mod PartLemmas
 pub mod HeadLemmas
 pub mod OneHead
+pub mod Existence

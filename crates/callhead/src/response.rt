@@ -11,14 +11,9 @@ use crate::names::{CONTENT_TYPE, ECHO_INITIAL, ECHO_TRAILING, GRPC_TYPE};
 use crate::percent::percent_text;
 use crate::texts::Texts;
 use crate::values::Values;
+use grpc_status::StatusCode;
 use lists::Field;
 use std::alloc::{AllocError, Global};
-
-/// UNIMPLEMENTED, as gRPC numbers its statuses.
-const UNIMPLEMENTED: u32 = 12;
-
-/// INTERNAL, as gRPC numbers its statuses.
-const INTERNAL: u32 = 13;
 
 /// The fields that begin the response to a call, with one for each echo.
 pub fn response_fields(alloc: Global, echo_initial: &Texts) -> Result<Vec<Field>, AllocError>
@@ -64,7 +59,7 @@ pub fn trailers_only(alloc: Global, code: u32, text: &str) -> Result<Vec<Field>,
 pub fn unknown_method(alloc: Global) -> Result<Vec<Field>, AllocError>
     ensures { IfOk result (λ fields. fields.items ≡ unknown_method) }
 {
-    trailers_only(alloc, UNIMPLEMENTED, "unknown method")
+    trailers_only(alloc, StatusCode::Unimplemented.number(), "unknown method")
 }
 
 impl HeadFault {
@@ -77,7 +72,10 @@ impl HeadFault {
             HeadFault::Malformed | HeadFault::OutOfMemory => Ok(None),
             HeadFault::NotPost => Ok(Some(status_alone(alloc, b"405")?)),
             HeadFault::NotGrpc => Ok(Some(status_alone(alloc, b"415")?)),
-            HeadFault::BadTimeout => Ok(Some(trailers_only(alloc, INTERNAL, "bad timeout")?)),
+            HeadFault::BadTimeout => {
+                let code = StatusCode::Internal.number();
+                Ok(Some(trailers_only(alloc, code, "bad timeout")?))
+            }
         }
     }
 }
