@@ -1,9 +1,9 @@
 -- The fields that open a call are a head that asks for what was asked.
-use Rattle.std.proofs.Common.{◌≡◌, ◌≢◌, ℕ, zero, suc, ◌+◌, ◌*◌, ◌/◌, ◌%◌, ◌-◌, ◌<◌, ◌≤◌, ◌⊎◌, Bool, true, false, not, ◌&&◌, ◌||◌, cond, ◌==◌, leb, Option, Some, None, List, [], ◌∷◌, ◌++◌, map, filter, length, All, IsTrue, MatchOption, codes, refl, sym, ap, subst, ◌∙◌, arith, inl, inr, Bor}
-use Rattle.std.specs.Prelude.{slice_get, slice_index, count_by, bytes_eq, find, IfSome, nat_lt}
-use Rattle.std.specs.List.{list_any, list_all}
+use Rattle.std.proofs.Common.{◌≡◌, ℕ, zero, suc, ◌+◌, ◌*◌, ◌/◌, ◌%◌, ◌-◌, ◌<◌, ◌⊎◌, Bool, true, false, not, ◌&&◌, ◌||◌, cond, ◌==◌, leb, Option, Some, None, List, [], ◌∷◌, ◌++◌, map, filter, length, All, IsTrue, MatchOption, codes, refl, sym, ap, subst, ◌∙◌, arith, inl, inr, Bor}
+use Rattle.std.specs.Prelude.{slice_get, slice_index, count_by, bytes_eq, find, nat_lt}
+use Rattle.std.specs.List.{list_any}
 use Rattle.std.specs.Str.Parse.{AllDigits}
-use Rattle.std.proofs.lemmas.Bool.{and_parts, leb-true, cases_lt}
+use Rattle.std.proofs.lemmas.Bool.{and_parts}
 use Rattle.std.proofs.lemmas.Bool.Decides.{nat_tests}
 use Rattle.std.proofs.lemmas.List.Elements.{All-map}
 use Rattle.std.proofs.lemmas.List.Sums.{sum_by-append}
@@ -12,13 +12,12 @@ use Rattle.base64.specs.Tables.{all_below}
 use Rattle.base64.proofs.Tables.{all_below_at}
 use Rattle.base64.specs.Rfc4648.{encode_symbols}
 use Rattle.lists.specs.declared.field.Field.{Field}
-use Rattle.callhead.specs.declared.head.Encoding.TheVariants.{Identity}
 use Rattle.callhead.specs.declared.head.CallHead.{CallHead}
 use Rattle.callhead.specs.Fields.{field_of, is_named, first_of, values_of}
 use Rattle.callhead.specs.MalformedHeads.{is_blank, is_forbidden_in_values, has_bad_value, is_malformed_field, is_pseudo_header, is_malformed, has_late_pseudo_header, is_repeated, is_missing, pseudo_headers, required_headers}
 use Rattle.callhead.specs.Timeouts.{nanoseconds_in, IsTimeout}
 use Rattle.callhead.specs.BinValues.{alphabet, unpadded, AreBytes}
-use Rattle.callhead.specs.Heads.{is_printable, initial_echoes, HasTimeout, AreEchoes, AreTrailingEchoes, IsHead}
+use Rattle.callhead.specs.Heads.{is_printable, AreEchoes, IsHead}
 use Rattle.callhead.specs.RequestFields.{is_visible, IsPathText, is_text_value, IsTimeoutText, timeout_fields, echo_fields, opening_fields, request_fields, AsksFor}
 
 -- ---- values

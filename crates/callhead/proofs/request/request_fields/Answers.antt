@@ -1,7 +1,6 @@
-use Rattle.std.proofs.Common.{rules, ◌≡◌, ◌++◌, List, ℕ, map, All, IsTrue, sym, ap, ◌∙◌, subst, append_assoc, option_copied, Bor}
-use Rattle.callhead.specs.Heads.{IsHead}
+use Rattle.std.proofs.Common.{List, ℕ, map, IsTrue, append_assoc, option_copied, Bor}
 use Rattle.callhead.specs.BinValues.{AreBytes}
-use Rattle.callhead.specs.RequestFields.{is_text_value, request_fields}
+use Rattle.callhead.specs.RequestFields.{is_text_value}
 use Rattle.callhead.proofs.RequestLemmas.{is_head, all_now}
 use Rattle.callhead.proofs.request.request_fields.Goals as goal
 

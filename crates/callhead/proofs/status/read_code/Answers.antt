@@ -1,10 +1,9 @@
-use Rattle.std.proofs.Common.{◌≡◌, ℕ, ◌+◌, ◌*◌, ◌<◌, ◌≤◌, Some, length, get_or, take, arith}
+use Rattle.std.proofs.Common.{◌≡◌, ◌+◌, ◌*◌, ◌<◌, length, get_or, take, arith}
 use Rattle.std.specs.Char.{digit_value}
 use Rattle.std.specs.Str.Parse.{digits_value}
 use Rattle.std.proofs.lemmas.Int.Digits.{digits_more, digits_value_more}
 use Rattle.callhead.proofs.TimeoutLemmas.{digit_of}
 use Rattle.callhead.proofs.StatusLemmas.{value_of_first}
-use Rattle.callhead.specs.Statuses.{IsStatusCode}
 use Rattle.callhead.proofs.status.read_code.Goals as goal
 
 pub returns-in_err-code : goal.returns-in_err-code

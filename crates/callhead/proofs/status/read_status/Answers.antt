@@ -1,5 +1,5 @@
-use Rattle.std.proofs.Common.{◌≡◌, Some, None, sym, subst, refl}
-use Rattle.callhead.specs.Statuses.{IsStatusCode, TellsStatus}
+use Rattle.std.proofs.Common.{◌≡◌, Some, sym, subst, refl}
+use Rattle.callhead.specs.Statuses.{IsStatusCode}
 use Rattle.callhead.proofs.StatusLemmas.{empty_text}
 use Rattle.callhead.proofs.status.read_status.Goals as goal
 use Rattle.callhead.proofs.status.read_status.Goals.{in-Some-first_value+in_ok-text-in-Some-first_value, in-None}
