@@ -1,12 +1,11 @@
 //! The fields that answer a call (gRPC over HTTP/2, "Responses").
 
 ghost use Rattle.std.specs.Prelude.{◌≡◌, ◌++◌, [], ◌∷◌, Some, None, MatchOption, IfOk, OnOk, codes};
-ghost use Rattle.callhead.specs.Fields.{field_of};
 ghost use Rattle.callhead.specs.StatusFields.{response_fields, status_fields, message_fields, trailers_only, unknown_method, refusal_of, status_alone};
 
 use crate::bin::bin_value;
 use crate::fault::HeadFault;
-use crate::fields::field;
+use crate::fields::{field, push_known};
 use crate::names::{CONTENT_TYPE, ECHO_INITIAL, ECHO_TRAILING, GRPC_TYPE};
 use crate::percent::percent_text;
 use crate::texts::Texts;
@@ -121,18 +120,5 @@ fn push_message(alloc: Global, fields: &mut Vec<Field>, text: &str) -> Result<()
         let value = percent_text(alloc, text)?;
         fields.push(field(alloc, b"grpc-message", value.into_bytes())?)?;
     }
-    Ok(())
-}
-
-/// Appends a field with a copy of this value.
-fn push_known(
-    alloc: Global,
-    fields: &mut Vec<Field>,
-    name: &[u8],
-    value: &[u8],
-) -> Result<(), AllocError>
-    ensures { OnOk result (fields.new.items ≡ fields.old.items ++ field_of name.now value.now ∷ []) }
-{
-    fields.push(field(alloc, name, Vec::from_slice(alloc, value)?)?)?;
     Ok(())
 }
