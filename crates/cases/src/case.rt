@@ -1,0 +1,70 @@
+//! The cases by their names.
+
+ghost use Rattle.std.specs.Prelude.{◌≡◌, Some};
+ghost use Rattle.cases.specs.Names.{name_of};
+
+/// A case.
+#[derive(Clone, Copy, Debug, PartialEq, Eq)]
+pub enum Case {
+    EmptyUnary,
+    LargeUnary,
+    ClientStreaming,
+    ServerStreaming,
+    PingPong,
+    EmptyStream,
+    CustomMetadata,
+    StatusCodeAndMessage,
+    SpecialStatusMessage,
+    UnimplementedMethod,
+    UnimplementedService,
+    CancelAfterBegin,
+    CancelAfterFirstResponse,
+    TimeoutOnSleepingServer,
+}
+
+impl Case {
+    /// All cases, in the order in which they are run.
+    pub const ALL: [Case; 14] = [
+        Case::EmptyUnary,
+        Case::LargeUnary,
+        Case::ClientStreaming,
+        Case::ServerStreaming,
+        Case::PingPong,
+        Case::EmptyStream,
+        Case::CustomMetadata,
+        Case::StatusCodeAndMessage,
+        Case::SpecialStatusMessage,
+        Case::UnimplementedMethod,
+        Case::UnimplementedService,
+        Case::CancelAfterBegin,
+        Case::CancelAfterFirstResponse,
+        Case::TimeoutOnSleepingServer,
+    ];
+
+    /// Its name, as the descriptions of the cases have it.
+    pub fn name(self) -> &'static str
+        ensures { result.now ≡ name_of self }
+    {
+        match self {
+            Case::EmptyUnary => "empty_unary",
+            Case::LargeUnary => "large_unary",
+            Case::ClientStreaming => "client_streaming",
+            Case::ServerStreaming => "server_streaming",
+            Case::PingPong => "ping_pong",
+            Case::EmptyStream => "empty_stream",
+            Case::CustomMetadata => "custom_metadata",
+            Case::StatusCodeAndMessage => "status_code_and_message",
+            Case::SpecialStatusMessage => "special_status_message",
+            Case::UnimplementedMethod => "unimplemented_method",
+            Case::UnimplementedService => "unimplemented_service",
+            Case::CancelAfterBegin => "cancel_after_begin",
+            Case::CancelAfterFirstResponse => "cancel_after_first_response",
+            Case::TimeoutOnSleepingServer => "timeout_on_sleeping_server",
+        }
+    }
+
+    /// The case with this name.
+    pub fn named(name: &str) -> Option<Case> {
+        Case::ALL.iter().find(|case| case.name() == name).copied()
+    }
+}
