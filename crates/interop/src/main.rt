@@ -18,17 +18,24 @@ ghost use Rattle.std.specs.Prelude.{◌<◌};
 
 mod body;
 mod call;
+mod client;
 mod report;
+mod target;
 mod text;
 mod words;
 
 use body::{RunFault, run_body};
+use client::run_cases;
 use device::Marked;
 use std::io::ErrorKind;
+use std::net::Net;
 use std::process::ExitCode;
 use std::rt::Env;
 use std::{env, io};
+use target::read_case_words;
 use words::{Words, WordsFault};
+
+const CASE_FAILED: u8 = 1;
 
 const BAD_WORDS: u8 = 2;
 
@@ -40,14 +47,18 @@ const HELP: &str = "\
 The gRPC interop test server's program.
 
 Usage: interop [body --cut N]
+       interop case NAME --port P [--host H]
 
   body --cut N   read the joined DATA bytes of one call as hexadecimal text, in pieces
                  of N bytes (1 to 65536), and print its messages; this with N = 3 is
                  what no words at all mean
+  case NAME      run the test case of this name as a client against the server at
+                 H:P (127.0.0.1 if no host is given), or all of them where NAME is
+                 all, and print a line of each; what differed is told on standard error
   -h, --help     print this text
   --version      print the version
 
-Exit status: 0 done, 2 bad arguments or input, 3 input, output or memory failed.";
+Exit status: 0 done, 1 a case failed, 2 bad arguments or input, 3 input, output or memory failed.";
 
 // What is said to a lone word about the program itself.
 fn self_description(words: &[String]) -> Option<&'static str> {
@@ -74,8 +85,25 @@ fn print_body<R: Input + Print + Eprint + AllocGlobal>(rt: &R, cut: usize) -> u8
     }
 }
 
+// Runs the cases that the words behind `case` name, and answers the exit status.
+fn obey_case<R: Net + Print + Eprint + AllocGlobal>(rt: &R, words: &[String]) -> u8 {
+    let Some(words) = read_case_words(words) else {
+        return complain(rt, "bad arguments");
+    };
+    match run_cases(rt, words) {
+        Ok(true) => 0,
+        Ok(false) => CASE_FAILED,
+        Err(_) => FAILED,
+    }
+}
+
 // Does what the words after the program's name say, and answers the exit status.
-fn obey<R: Input + Print + Eprint + AllocGlobal>(rt: &R, words: &[String]) -> u8 {
+fn obey<R: Input + Net + Print + Eprint + AllocGlobal>(rt: &R, words: &[String]) -> u8 {
+    if let Some((command, behind)) = words.split_first() {
+        if command.as_str() == "case" {
+            return obey_case(rt, behind);
+        }
+    }
     if let Some(text) = self_description(words) {
         return match println!(rt; "{text}") {
             Ok(()) => 0,
