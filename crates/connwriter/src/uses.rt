@@ -1,0 +1,3 @@
+//! What is written over the public calls alone.
+
+pub mod serial;
