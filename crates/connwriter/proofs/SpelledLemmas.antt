@@ -1,5 +1,5 @@
 -- What a frame more, and a write, do to the bytes of frames.
-use Rattle.std.proofs.Common.{◌≡◌, ◌≢◌, ◌∙◌, ℕ, List, [], ◌∷◌, ◌++◌, Option, ap, append_assoc, sym, refl, flat_map, map, filter, reverse, subst}
+use Rattle.std.proofs.Common.{◌≡◌, ◌≢◌, ◌≤◌, ◌∙◌, ℕ, Bool, true, false, length, None, Some, nat_lt, arith, List, [], ◌∷◌, ◌++◌, Option, ap, append_assoc, sym, refl, flat_map, map, filter, reverse, subst}
 use Rattle.std.proofs.lemmas.List.{append-nil, reverse-append, map-append}
 use Rattle.std.proofs.lemmas.List.Elements.{filter-append}
 use Rattle.std.proofs.lemmas.Grind.{flat_map-append}
@@ -7,7 +7,13 @@ use Rattle.std.specs.Io.KnownBytes.{Appends}
 use Rattle.device.proofs.BytesLemmas.{Appends-twice}
 use Rattle.device.specs.Bytes.{AppendsPrefix}
 use Rattle.h2frame.specs.declared.frame.Frame.{Frame}
+use Rattle.h2frame.specs.Faults.{frame_fault, may_be_on, may_have_length, lacks_increment}
+use Rattle.h2frame.specs.declared.fault.FrameFault.{FrameFault}
+use Rattle.h2frame.specs.declared.fault.FrameFault.TheVariants.{TooLong, BadLength, WrongStream, ZeroIncrement}
 use Rattle.h2frame.specs.Spelling.{spelled}
+use Rattle.std.proofs.lemmas.Bool.{ltb-false}
+use Rattle.std.specs.Option.{option_or}
+use Rattle.std.specs.Prelude.{if◌then◌else◌}
 use Rattle.outwriter.specs.Frames.{ends_stream}
 use Rattle.connwriter.specs.declared.standing.Standing.{Standing}
 use Rattle.connwriter.specs.declared.standing.Standing.TheVariants.{Going, OutOfMemory, Broken}
@@ -106,3 +112,22 @@ pub holds-all : (frames : List Frame) (before now : Option (List ℕ)) (buffer e
 holds-all frames before now buffer ended p empty =
     subst (λ (bytes : List ℕ). Appends before now bytes)
     (sym (parted-spelled frames before now buffer ended p ∙ (ap (λ (bytes : List ℕ). spelled_all p.written ++ bytes) empty ∙ append-nil (spelled_all p.written)))) p.device
+
+-- ---- how long a frame is
+
+unfaulty : (long on fits : Bool) (other : Option FrameFault)
+    → option_or (if long then Some TooLong else (if on then (if fits then None else Some BadLength) else Some WrongStream)) other ≡ None → long ≡ false
+unfaulty true on fits other e = cc
+unfaulty false on fits other e = refl
+
+-- a frame that isn't faulty has at most 16,393 bytes
+pub spelled-short : (frame : Frame) → frame.head.length ≡ length frame.content → frame_fault frame ≡ None → length (spelled frame) ≤ 16393
+spelled-short frame whole e =
+    let fits : frame.head.length ≤ 16384 = ltb-false 16384 frame.head.length
+        (unfaulty (nat_lt 16384 frame.head.length) (may_be_on frame.head.kind frame.head.stream) (may_have_length frame.head.kind frame.head)
+        (if lacks_increment frame.head.kind frame.content then Some (ZeroIncrement frame.head.stream) else None) e) in
+    omega arith
+
+-- and at least 9
+pub spelled-long : (frame : Frame) → 9 ≤ length (spelled frame)
+spelled-long frame = omega arith

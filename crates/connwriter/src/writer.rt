@@ -146,6 +146,7 @@ impl<L: Lane<Item = OutItem>, W: ConnWrite> ConnWriter<L, W> {
         ensures room { length self.old.buffer.items ≤ 65536 → length self.new.buffer.items ≤ 65536 }
         ensures device { self.new.device ≡ self.old.device }
         ensures left { self.new.left ≡ self.old.left }
+        ensures goes { result ≢ filled.Stopped → self.new.standing ≡ stands.Going }
         ensures stopped { self.old.standing ≢ stands.Going → (result ≡ filled.Stopped) × (self.new ≡ self.old) }
     {
         match self.standing {
@@ -229,6 +230,7 @@ impl<L: Lane<Item = OutItem>, W: ConnWrite> ConnWriter<L, W> {
     fn stop(&mut self)
         ensures wrote { WritesOn L.got W.contents W.failed [] self.old self.new }
         ensures stops { self.new.standing ≢ stands.Going }
+        ensures dead { self.old.standing ≡ stands.Going → self.new.standing ≡ stands.OutOfMemory }
         ensures rest { self.new ≡ record self.old { standing = self.new.standing } }
     {
         if let Standing::Going = self.standing {
@@ -243,6 +245,7 @@ impl<L: Lane<Item = OutItem>, W: ConnWrite> ConnWriter<L, W> {
         ensures room { length self.old.buffer.items ≤ 65536 → length self.new.buffer.items ≤ 65536 }
         ensures device { self.new.device ≡ self.old.device }
         ensures left { self.new.left ≡ self.old.left }
+        ensures goes { result ≢ filled.Stopped → self.new.standing ≡ stands.Going }
     {
         'frames: while self.buffer.len() <= BUFFER - LONGEST_FRAME {
             if let Some(filled) = self.add_frame() {
@@ -258,7 +261,7 @@ impl<L: Lane<Item = OutItem>, W: ConnWrite> ConnWriter<L, W> {
         ensures wrote { Fills L.got L.ahead W.contents W.failed result self.old self.new }
         ensures grows { IfNone result (length self.old.buffer.items < length self.new.buffer.items) }
         ensures fits { length self.new.buffer.items ≤ length self.old.buffer.items + 16393 }
-        ensures goes { IfNone result (self.new.standing ≡ stands.Going) }
+        ensures goes { result ≢ Some filled.Stopped → self.new.standing ≡ stands.Going }
         ensures device { self.new.device ≡ self.old.device }
         ensures left { self.new.left ≡ self.old.left }
     {

@@ -1,3 +1,0 @@
-//! What is written over the public calls alone.
-
-pub mod serial;
