@@ -14,10 +14,12 @@ use Rattle.h2frame.specs.declared.error_code.ErrorCode.TheVariants.{FlowControlE
 use Rattle.h2frame.specs.declared.frame.Frame.{Frame}
 use Rattle.outwriter.specs.declared.control.Control.{Control}
 use Rattle.outwriter.specs.declared.control.Control.TheVariants.{Reset, Goaway}
+use Rattle.outwriter.specs.declared.control.OutFault.{OutFault}
+use Rattle.outwriter.specs.declared.control.OutFault.TheVariants as out_fault
 use Rattle.outwriter.specs.declared.control.OutFault.TheVariants.{PeerWindow}
 use Rattle.outwriter.specs.declared.out_core.OutCore.{OutCore}
-use Rattle.outwriter.specs.Cores.{IsUnused, Serving, ServesOn, ServesStill}
-use Rattle.outwriter.specs.RunState.{Blames, Reached, GoesOn, Remains}
+use Rattle.outwriter.specs.Cores.{IsUnused, Serving, ServesControl, ServesOn, ServesStill}
+use Rattle.outwriter.specs.RunState.{Blames, Reached, GoesOn, Remains, Takes}
 use Rattle.outwriter.specs.Steps.{Step, Order, Taken, Granted, Written, frames_of, order_of}
 use Rattle.outwriter.specs.declared.next.Next.{Next}
 use Rattle.connwriter.specs.declared.filled.Filled.{Filled}
@@ -288,3 +290,23 @@ module _ {L In Out Shut W : Type 0} (got : Out → List OutItem) (contents : W �
     buffer = ap (λ (w : ConnWriter L W In Out Shut). w.buffer.items) rest ∙ buffer;
     ended = ap (λ (w : ConnWriter L W In Out Shut). w.ended.items) rest ∙ ended;
   }
+
+  -- ---- a control is refused
+
+  -- out of memory
+  pub handed-on : (fault : OutFault (Sender L In Out Shut)) (back : Option (Control (Sender L In Out Shut))) (control : Control (Sender L In Out Shut))
+      (old : ConnWriter L W In Out Shut) (core : OutCore L In Out Shut) → fault ≡ out_fault.OutOfMemory back → Takes (Err fault) control old.core.outbound core.outbound
+      → ServesControl got (Err fault) control old.core core → core.is_dead ≡ old.core.is_dead → WritesOn got contents failed [] old (record old { core = core })
+  handed-on fault back control old core is takes serves dead =
+      let taken = subst (λ (f : OutFault (Sender L In Out Shut)). Takes (Err f) control old.core.outbound core.outbound) is takes in
+      let served = subst (λ (f : OutFault (Sender L In Out Shut)). ServesControl got (Err f) control old.core core) is serves in
+      still-on old core (λ alive. (sym dead ∙ alive, taken.1)) served
+
+  -- the peer's window overflows
+  pub overflow-on : (fault : OutFault (Sender L In Out Shut)) (id : ℕ) (control : Control (Sender L In Out Shut))
+      (old : ConnWriter L W In Out Shut) (core : OutCore L In Out Shut) → fault ≡ PeerWindow id → Takes (Err fault) control old.core.outbound core.outbound
+      → ServesControl got (Err fault) control old.core core → core.is_dead ≡ old.core.is_dead → WritesOn got contents failed (Taken (order_of control) ∷ []) old (record old { core = core })
+  overflow-on fault id control old core is takes serves dead =
+      let taken = subst (λ (f : OutFault (Sender L In Out Shut)). Takes (Err f) control old.core.outbound core.outbound) is takes in
+      let served = subst (λ (f : OutFault (Sender L In Out Shut)). ServesControl got (Err f) control old.core core) is serves in
+      taken-on (order_of control) old core taken served dead

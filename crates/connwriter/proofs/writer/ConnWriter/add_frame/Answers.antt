@@ -50,6 +50,6 @@ returns-in-Ok-Over-clause-wrote g c = λ before run w.
 pub returns-in-Err-clause-wrote : goal.returns-in-Err-clause-wrote
 returns-in-Err-clause-wrote g c = λ before run w. (
   [],
-  c.stop.ensures.wrote before run (dead-on g.L.Lane.got g.W.ConnWrite.contents g.W.ConnWrite.failed c.args.self.now (record c.args.self.now { core = c.next_frame.new.self; ended = c.reserve.new.self }) c.in-Err.ensures.dies.1 c.in-Err.ensures.served refl refl refl c.reserve.ensures.items before run w),
-  c.stop.ensures.stops,
+  c.stop-in-Err.ensures.wrote before run (dead-on g.L.Lane.got g.W.ConnWrite.contents g.W.ConnWrite.failed c.args.self.now (record c.args.self.now { core = c.next_frame.new.self; ended = c.reserve.new.self }) c.in-Err.ensures.dies.1 c.in-Err.ensures.served refl refl refl c.reserve.ensures.items before run w),
+  c.stop-in-Err.ensures.stops,
 )
