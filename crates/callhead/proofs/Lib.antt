@@ -4,3 +4,6 @@ pub mod Symbols
 pub mod PartLemmas
 pub mod HeadLemmas
 pub mod OneHead
+pub mod RequestLemmas
+pub mod StatusLemmas
+pub mod Existence

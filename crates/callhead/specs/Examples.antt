@@ -1,5 +1,5 @@
 -- Worked examples of the definitions.
-use Rattle.std.specs.Prelude.{◌≡◌, true, Some, List, [], ◌∷◌, ◌++◌, codes, refl}
+use Rattle.std.specs.Prelude.{◌≡◌, ◌<◌, true, Some, List, [], ◌∷◌, ◌++◌, codes, refl}
 use Rattle.std.specs.Fmt.{digits}
 use Rattle.std.proofs.Common.{arith}
 use Rattle.base64.specs.Rfc4648.{encode_symbols}
@@ -11,7 +11,10 @@ use Rattle.callhead.specs.declared.head.CallHead.{CallHead}
 use Rattle.callhead.specs.declared.head.Encoding.TheVariants.{Identity}
 use Rattle.callhead.specs.Fields.{field_of}
 use Rattle.callhead.specs.MalformedHeads.{is_malformed}
-use Rattle.callhead.specs.Heads.{IsHead}
+use Rattle.callhead.specs.declared.fault.HeadFault.{HeadFault}
+use Rattle.callhead.specs.declared.fault.HeadFault.TheVariants.{Malformed, NotPost, NotGrpc, BadTimeout, OutOfMemory}
+use Rattle.callhead.specs.Faults.{code_of}
+use Rattle.callhead.specs.Heads.{IsHead, IsFirstFault}
 use Rattle.callhead.specs.StatusFields.{unknown_method}
 
 -- five milliseconds
@@ -87,3 +90,15 @@ is_malformed-upper_case = refl
 pub unknown_method-fields : unknown_method ≡ field_of (codes ":status") (codes "200") ∷ field_of (codes "content-type") (codes "application/grpc") ∷ field_of (codes "grpc-status") (codes "12") ∷ field_of (codes "grpc-message") (codes "unknown method") ∷ []
 unfolding percent_text digits
 unknown_method-fields = refl
+
+-- no fields at all: the first fault is that they are no request
+pub no-fields : IsFirstFault [] Malformed
+unfolding is_malformed
+no-fields = record { stands = refl; first = λ other less stands. absurd (least other less) }
+  where
+    least : (other : HeadFault) → code_of other < 1 → ⊥
+    least Malformed less = omega arith
+    least NotPost less = omega arith
+    least NotGrpc less = omega arith
+    least BadTimeout less = omega arith
+    least OutOfMemory less = omega arith

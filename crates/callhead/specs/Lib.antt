@@ -8,4 +8,6 @@ pub mod MalformedHeads
 pub mod Heads
 pub mod Requests
 pub mod StatusFields
+pub mod RequestFields
+pub mod Statuses
 pub mod Examples

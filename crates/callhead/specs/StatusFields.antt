@@ -1,5 +1,7 @@
 -- The fields that answer a call: gRPC over HTTP/2, "Responses"; RFC 9110, sections 15.5.6 and 15.5.16.
 use Rattle.std.specs.Prelude.{ℕ, List, [], ◌∷◌, ◌++◌, map, Option, Some, None, decimal, codes}
+use Rattle.grpc_status.specs.StatusCode.{status_number}
+use Rattle.grpc_status.specs.declared.StatusCode.TheVariants.{Unimplemented, Internal}
 use Rattle.lists.specs.declared.field.Field.{Field}
 use Rattle.callhead.specs.declared.fault.HeadFault.{HeadFault}
 use Rattle.callhead.specs.declared.fault.HeadFault.TheVariants.{Malformed, NotPost, NotGrpc, BadTimeout, OutOfMemory}
@@ -30,7 +32,7 @@ trailers_only code text = response_fields [] ++ status_fields code text []
 
 -- the answer to a call of no method: UNIMPLEMENTED, with a text
 abbrev pub unknown_method : List Field
-unknown_method = trailers_only 12 (codes "unknown method")
+unknown_method = trailers_only (status_number Unimplemented) (codes "unknown method")
 
 -- a response of HTTP alone
 abbrev pub status_alone : List ℕ → List Field
@@ -41,5 +43,5 @@ abbrev pub refusal_of : HeadFault → Option (List Field)
 refusal_of Malformed = None
 refusal_of NotPost = Some (status_alone (codes "405"))
 refusal_of NotGrpc = Some (status_alone (codes "415"))
-refusal_of BadTimeout = Some (trailers_only 13 (codes "bad timeout"))
+refusal_of BadTimeout = Some (trailers_only (status_number Internal) (codes "bad timeout"))
 refusal_of OutOfMemory = None

@@ -1,6 +1,6 @@
 //! Fields by their names.
 
-ghost use Rattle.std.specs.Prelude.{◌≡◌, count_by, option_copied, IfOk};
+ghost use Rattle.std.specs.Prelude.{◌≡◌, ◌++◌, [], ◌∷◌, count_by, option_copied, IfOk, OnOk};
 ghost use Rattle.callhead.specs.Fields.{field_of, is_named, first_of};
 
 use lists::{Field, Octets};
@@ -36,4 +36,17 @@ pub fn field(alloc: Global, name: &[u8], value: Vec<u8>) -> Result<Field, AllocE
         name: Octets::from(Vec::from_slice(alloc, name)?),
         value: Octets::from(value),
     })
+}
+
+/// Appends a field with a copy of this value.
+pub fn push_known(
+    alloc: Global,
+    fields: &mut Vec<Field>,
+    name: &[u8],
+    value: &[u8],
+) -> Result<(), AllocError>
+    ensures { OnOk result (fields.new.items ≡ fields.old.items ++ field_of name.now value.now ∷ []) }
+{
+    fields.push(field(alloc, name, Vec::from_slice(alloc, value)?)?)?;
+    Ok(())
 }

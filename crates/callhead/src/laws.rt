@@ -1,6 +1,6 @@
 //! Laws of the definitions, for whoever builds on them: functions that do nothing, and whose contracts are the laws.
 
-ghost use Rattle.std.specs.Prelude.{◌≡◌, List};
+ghost use Rattle.std.specs.Prelude.{◌≡◌, ◌⊎◌, List};
 ghost use Rattle.lists.specs.declared.field.Field.{Field};
 ghost use Rattle.callhead.specs.declared.head.CallHead.{CallHead};
 ghost use Rattle.callhead.specs.declared.fault.HeadFault.{HeadFault};
@@ -14,4 +14,10 @@ pub fn one_answer()
         → IsFirstFault fields fault → IsFirstFault fields other → fault ≡ other }
     ensures never_both { (fields : List Field) (call : CallHead) (fault : HeadFault)
         → IsHead fields call → IsFirstFault fields fault → ⊥ }
+{}
+
+/// Each list of fields is a head of a call, or has a first fault.
+pub fn some_answer()
+    ensures { (fields : List Field) →
+        ((head : CallHead) × IsHead fields head) ⊎ ((fault : HeadFault) × IsFirstFault fields fault) }
 {}

@@ -6,13 +6,16 @@
 //! such answer. `response_fields`, `status_fields`, `trailers_only`, `unknown_method` and `HeadFault::refusal` make the
 //! fields that answer a call (`specs/StatusFields.antt`).
 //!
+//! For a client `request_fields` makes the fields that open a call, which are the head that asks for what it was given
+//! (`specs/RequestFields.antt`), and `read_status` reads the status in trailers (`specs/Statuses.antt`).
+//!
 //! A call carries its timeout in `grpc-timeout`, the text of its status in `grpc-message`, and bytes in fields whose
 //! name ends in `-bin`. `read_timeout` answers a timeout exactly where the text is one (`specs/Timeouts.antt`); what
 //! `percent_text` and `bin_value` write is read again as it was (`specs/StatusTexts.antt`, `specs/BinValues.antt`);
 //! `read_bin_values` answers the one list of values that there is.
 //!
 //! Read `fault`, `timeout`, `percent`, `values`, `texts` and `bin`; then `fields`, `malformed` and `head`; then
-//! `response`.
+//! `response`, `request` and `status`.
 #![tactic(auto)]
 
 pub mod bin;
@@ -23,7 +26,9 @@ pub mod laws;
 mod malformed;
 mod names;
 pub mod percent;
+pub mod request;
 pub mod response;
+pub mod status;
 pub mod texts;
 pub mod timeout;
 pub mod values;
@@ -32,7 +37,9 @@ pub use bin::{bin_value, read_bin_values};
 pub use fault::HeadFault;
 pub use head::{CallHead, Encoding};
 pub use percent::{percent_text, read_percent_text};
+pub use request::request_fields;
 pub use response::{response_fields, status_fields, trailers_only, unknown_method};
+pub use status::read_status;
 pub use texts::Texts;
 pub use timeout::read_timeout;
 pub use values::Values;

@@ -1,24 +1,18 @@
 //! The fields that answer a call (gRPC over HTTP/2, "Responses").
 
 ghost use Rattle.std.specs.Prelude.{◌≡◌, ◌++◌, [], ◌∷◌, Some, None, MatchOption, IfOk, OnOk, codes};
-ghost use Rattle.callhead.specs.Fields.{field_of};
 ghost use Rattle.callhead.specs.StatusFields.{response_fields, status_fields, message_fields, trailers_only, unknown_method, refusal_of, status_alone};
 
 use crate::bin::bin_value;
 use crate::fault::HeadFault;
-use crate::fields::field;
+use crate::fields::{field, push_known};
 use crate::names::{CONTENT_TYPE, ECHO_INITIAL, ECHO_TRAILING, GRPC_TYPE};
 use crate::percent::percent_text;
 use crate::texts::Texts;
 use crate::values::Values;
+use grpc_status::StatusCode;
 use lists::Field;
 use std::alloc::{AllocError, Global};
-
-/// UNIMPLEMENTED, as gRPC numbers its statuses.
-const UNIMPLEMENTED: u32 = 12;
-
-/// INTERNAL, as gRPC numbers its statuses.
-const INTERNAL: u32 = 13;
 
 /// The fields that begin the response to a call, with one for each echo.
 pub fn response_fields(alloc: Global, echo_initial: &Texts) -> Result<Vec<Field>, AllocError>
@@ -64,7 +58,7 @@ pub fn trailers_only(alloc: Global, code: u32, text: &str) -> Result<Vec<Field>,
 pub fn unknown_method(alloc: Global) -> Result<Vec<Field>, AllocError>
     ensures { IfOk result (λ fields. fields.items ≡ unknown_method) }
 {
-    trailers_only(alloc, UNIMPLEMENTED, "unknown method")
+    trailers_only(alloc, StatusCode::Unimplemented.number(), "unknown method")
 }
 
 impl HeadFault {
@@ -77,7 +71,10 @@ impl HeadFault {
             HeadFault::Malformed | HeadFault::OutOfMemory => Ok(None),
             HeadFault::NotPost => Ok(Some(status_alone(alloc, b"405")?)),
             HeadFault::NotGrpc => Ok(Some(status_alone(alloc, b"415")?)),
-            HeadFault::BadTimeout => Ok(Some(trailers_only(alloc, INTERNAL, "bad timeout")?)),
+            HeadFault::BadTimeout => {
+                let code = StatusCode::Internal.number();
+                Ok(Some(trailers_only(alloc, code, "bad timeout")?))
+            }
         }
     }
 }
@@ -123,18 +120,5 @@ fn push_message(alloc: Global, fields: &mut Vec<Field>, text: &str) -> Result<()
         let value = percent_text(alloc, text)?;
         fields.push(field(alloc, b"grpc-message", value.into_bytes())?)?;
     }
-    Ok(())
-}
-
-/// Appends a field with a copy of this value.
-fn push_known(
-    alloc: Global,
-    fields: &mut Vec<Field>,
-    name: &[u8],
-    value: &[u8],
-) -> Result<(), AllocError>
-    ensures { OnOk result (fields.new.items ≡ fields.old.items ++ field_of name.now value.now ∷ []) }
-{
-    fields.push(field(alloc, name, Vec::from_slice(alloc, value)?)?)?;
     Ok(())
 }

@@ -124,8 +124,8 @@ unfaulty false on fits other e = refl
 pub spelled-short : (frame : Frame) → frame.head.length ≡ length frame.content → frame_fault frame ≡ None → length (spelled frame) ≤ 16393
 spelled-short frame whole e =
     let fits : frame.head.length ≤ 16384 = ltb-false 16384 frame.head.length
-        (unfaulty (nat_lt 16384 frame.head.length) (may_be_on frame.head.kind frame.head.stream) (may_have_length frame.head.kind frame.head)
-        (if lacks_increment frame.head.kind frame.content then Some (ZeroIncrement frame.head.stream) else None) e) in
+    (unfaulty (nat_lt 16384 frame.head.length) (may_be_on frame.head.kind frame.head.stream) (may_have_length frame.head.kind frame.head)
+    (if lacks_increment frame.head.kind frame.content then Some (ZeroIncrement frame.head.stream) else None) e) in
     omega arith
 
 -- and at least 9

@@ -157,8 +157,7 @@ module _ {L In Out Shut W : Type 0} (got : Out → List OutItem) (contents : W �
       let p = first before run w in
       let q = second before (map Written p.0 ++ run) p.1 in
       let same : map Written q.0 ++ (map Written p.0 ++ run) ≡ map Written (q.0 ++ p.0) ++ run =
-          sym (append_assoc (map Written q.0) (map Written p.0) run) ∙ ap (λ (steps : List Step). steps ++ run) (sym (map-append Written q.0 p.0)) in
-      (
+      sym (append_assoc (map Written q.0) (map Written p.0) run) ∙ ap (λ (steps : List Step). steps ++ run) (sym (map-append Written q.0 p.0)) in (
         q.0 ++ p.0,
         subst (λ (steps : List Step). Wrote got contents failed before steps new) same q.1,
         subst (λ (steps : List Step). RestsIf ahead filled steps new) same q.2,
@@ -252,8 +251,7 @@ module _ {L In Out Shut W : Type 0} (got : Out → List OutItem) (contents : W �
       → ((run : List Step) → Reached run old.core.outbound → Serving got run old.core → (mid.core.outbound.gone ≡ true) ⊎ TellEnds run)
       → (before : Option (List ℕ)) (run : List Step) → Wrote got contents failed before run old → Wrote got contents failed before run mid × IsAtRest ahead run mid
   idle-on ahead old mid alive remains serves standing device buffer ended answered spent no_frame ends before run w =
-      let reached = remains run (w.reached alive) in
-      (
+      let reached = remains run (w.reached alive) in (
         record {
           lawful = w.lawful;
           reached = λ alive_still. reached;

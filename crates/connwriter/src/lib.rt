@@ -14,7 +14,6 @@
 mod filled;
 mod standing;
 mod taking;
-
 pub mod writer;
 
 pub use filled::Filled;

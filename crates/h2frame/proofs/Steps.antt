@@ -192,7 +192,7 @@ all_content p q o head skipped content e size none whole =
     let read = reads_parts p q skipped.priority content skipped.padding [] size none in
     ((λ a b. no_overhead p q (length content) (length skipped.padding) head.length a b (ap length (none a)) (omega (arith, whole, read.whole))), omega (arith, whole, read.whole, e))
 
-lawful_since : (text : List ℕ) (frame : Frame) → Spells text (Whole frame) → IsLawful frame
+pub lawful_since : (text : List ℕ) (frame : Frame) → Spells text (Whole frame) → IsLawful frame
 lawful_since text frame (skipped, fits, spells, fine) =
     let parts = all_content (is_padded frame.head) (has_priority frame.head) (overhead frame.head) frame.head skipped frame.content refl fits.priority fits.padding fits.payload in
     record { head = fits.head; fault = fine; whole = parts.0; within = parts.1 }

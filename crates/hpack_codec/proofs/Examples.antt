@@ -1,6 +1,11 @@
 -- Worked examples of RFC 7541, and the checks of its Huffman code, by computation.
 use Rattle.std.proofs.Common.{◌≡◌, ◌-◌, ◌^◌, [], ◌∷◌, map, replicate, sum_by, refl, inl, inr, lit<, lit≤}
 use Rattle.hpack_codec.specs.Integer.{base_128, IsUnfinished, IsInteger}
+use Rattle.std.specs.Prelude.{Some}
+use Rattle.hpack_codec.specs.declared.fault.HpackFault.TheVariants.{Index}
+use Rattle.hpack_codec.specs.Table.{empty_table, sizes_of, entry_at}
+use Rattle.hpack_codec.specs.Block.{AreFields, AreUpdates}
+use Rattle.hpack_codec.specs.Codec.{IsFirstFault}
 use Rattle.hpack_codec.specs.Huffman.{code_lengths, code_length, codes_of_length, first_code, code_number, bits, code}
 
 -- the sum of 2 ^ (30 - length) over all symbols: the code is complete
@@ -50,3 +55,25 @@ large = inr (record {
   sum = refl;
   below = lit< tt;
 })
+
+-- an indexed field without an index: a block of one byte whose first fault is that
+no_index : IsFirstFault Index (Some empty_table) (128 ∷ [])
+unfolding AreFields AreUpdates sizes_of entry_at
+no_index = record {
+  front = [];
+  rest = 128 ∷ [];
+  fields = [];
+  mid = empty_table;
+  spelling = refl;
+  is_block = record {
+    limits = [];
+    updates = [];
+    rest = [];
+    mid = empty_table;
+    spelling = refl;
+    are_updates = (refl, refl);
+    are_fields = (refl, refl);
+  };
+  lawful = lit≤ tt;
+  is_fault = inl ((128, [], refl, lit≤ tt, lit< tt), inr (0, 128 ∷ [], [], refl, inl (record { small = lit< tt; spelling = refl }), refl, refl));
+}

@@ -12,4 +12,6 @@ pub mod Unique
 pub mod OneBlock
 pub mod Strings
 pub mod StaticEntries
+pub mod HuffmanExistence
+pub mod Existence
 pub mod Examples

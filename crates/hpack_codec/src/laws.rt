@@ -1,6 +1,6 @@
 //! Laws of the definitions, for whoever builds on them: functions that do nothing, and whose contracts are the laws.
 
-ghost use Rattle.std.specs.Prelude.{◌≡◌, ◌≢◌, ℕ, List, Option};
+ghost use Rattle.std.specs.Prelude.{◌≡◌, ◌≢◌, ◌<◌, ◌⊎◌, ℕ, List, All, Option};
 ghost use Rattle.hpack_codec.specs.declared.fault.HpackFault.{HpackFault};
 ghost use Rattle.hpack_codec.specs.declared.fault.HpackFault.TheVariants.{OutOfMemory};
 ghost use Rattle.lists.specs.declared.field.Field.{Field};
@@ -21,4 +21,11 @@ pub fn one_answer()
         → IsFirstFault fault kept block → IsFirstFault other kept block → fault ≡ other }
     ensures never_both { (kept next : Option Table) (block : List ℕ) (fields : List Field) (fault : HpackFault)
         → fault ≢ OutOfMemory → Reads kept block fields next → IsFirstFault fault kept block → ⊥ }
+{}
+
+/// Each block of bytes has a reading over what a decoder kept, or a first fault. That memory runs out is none.
+pub fn some_answer()
+    ensures { (kept : Option Table) (block : List ℕ) → All (λ byte. byte < 256) block →
+        ((fields : List Field) × (next : Option Table) × Reads kept block fields next)
+        ⊎ ((fault : HpackFault) × (fault ≢ OutOfMemory) × IsFirstFault fault kept block) }
 {}

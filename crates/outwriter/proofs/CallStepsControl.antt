@@ -1,6 +1,6 @@
 -- What a core keeps of its calls after a control, as callers see it.
 use Rattle.std.proofs.Common.{◌≡◌, ℕ, sym, ap, subst, ◌∙◌, Bool, false, List, [], ◌∷◌, Result, Ok, Err}
-use Rattle.std.specs.Prelude.{All, OnOk, OnErr, IfErr, if◌then◌else◌}
+use Rattle.std.specs.Prelude.{All, OnOk, OnErr, IfErr, if◌then◌else◌, ◌||◌}
 use Rattle.std.proofs.lemmas.List.Elements.{All-cons, All-nil, All-weaker}
 use Rattle.account.specs.declared.call.OutItem.{OutItem}
 use Rattle.callbox.specs.declared.sender.Sender.{Sender}
@@ -12,7 +12,7 @@ use Rattle.outwriter.specs.declared.due.Due.TheVariants as due_kind
 use Rattle.outwriter.specs.declared.out_core.OutCore.{OutCore}
 use Rattle.outwriter.specs.declared.outbound.Outbound.{Outbound}
 use Rattle.outwriter.specs.declared.stream.OpenStream.{OpenStream}
-use Rattle.outwriter.specs.Calls.{is_fresh, is_served, calls_off, opens_stream, refuses_stream}
+use Rattle.outwriter.specs.Calls.{is_closed, closes, is_fresh, is_served, calls_off, opens_stream, refuses_stream}
 use Rattle.outwriter.specs.Cores.{ServesControl, ServesOn, ServesStill, IsUnused, calls}
 use Rattle.outwriter.specs.CoreChanges.{KeepsServing, KeepsHeeds}
 use Rattle.outwriter.specs.RunState.{IsMemory}
@@ -61,16 +61,16 @@ module _ {L In Out Shut : Type 0} (got : Out → List OutItem) (old : OutCore L 
   heeds-room made takes run marks s heeds = heeds-kept run old.outbound made (takes-ends [] none_is_new old.outbound made takes) heeds
 
   pub serving-room : (made : Outbound) → Takes [] none_is_new old.outbound made → ServesStill got old (record old { outbound = made })
-  serving-room made takes = serving-on got old (record old { outbound = made }) [] alive (keeps-room made takes) (heeds-room made takes)
+  serving-room made takes = serving-on got old (record old { outbound = made }) [] alive (λ run e. e) (keeps-room made takes) (heeds-room made takes)
 
   -- a control that is none of a stream
   pub serving-plain : (new : OutCore L In Out Shut) (made : Outbound) (control given : Control (Sender L In Out Shut)) (more : List Due)
       → control ≡ given → ((id : ℕ) → opens_stream id (order_of given) ≡ false) → ((id : ℕ) → refuses_stream id (order_of given) ≡ false) → ((id : ℕ) (opened : Bool) → calls_off id opened (order_of given) ≡ false) → All IsPlainDue more
-      → new.streams ≡ old.streams → new.others ≡ old.others → new.senders ≡ old.senders
+      → (closes (order_of given) || old.closed) ≡ new.closed → new.streams ≡ old.streams → new.others ≡ old.others → new.senders ≡ old.senders
       → Takes [] none_is_new old.outbound made → Takes more none_is_new made new.outbound → ServesOn got (Taken (order_of control)) old new
-  serving-plain new made control given more is opens refuses calm plain streams others senders room takes =
+  serving-plain new made control given more is opens refuses calm plain closed streams others senders room takes =
       subst (λ (c : Control (Sender L In Out Shut)). ServesOn got (Taken (order_of c)) old new) (sym is)
-      (serving-on got old new (Taken (order_of given) ∷ []) alive (λ run marks s.
+      (serving-on got old new (Taken (order_of given) ∷ []) alive (λ run e. ap (λ b. closes (order_of given) || b) e ∙ closed) (λ run marks s.
       serves-equal (Taken (order_of given) ∷ run) new.outbound old.streams.entries new.streams.entries old.others.entries new.others.entries
       (calls got old.senders.items) (calls got new.senders.items) marks
       (ap (λ map. map.entries) streams) (ap (λ map. map.entries) others) (ap (λ list. calls got list.items) senders)
@@ -86,17 +86,17 @@ module _ {L In Out Shut : Type 0} (got : Out → List OutItem) (old : OutCore L 
 
   -- one that is, as it is answered
   pub serving-answered : (new : OutCore L In Out Shut) (made : Outbound) (result : Result (Unit {0}) (OutFault (Sender L In Out Shut)))
-      (control given : Control (Sender L In Out Shut)) → control ≡ given → Takes [] none_is_new old.outbound made
+      (control given : Control (Sender L In Out Shut)) → control ≡ given → closes (order_of given) ≡ false → new.closed ≡ old.closed → Takes [] none_is_new old.outbound made
       → OnOk result (IsUnused got given → KeepsServing got (Taken (order_of given) ∷ []) (record old { outbound = made }) new)
       → OnErr result (KeepsServing got [] (record old { outbound = made }) new)
       → OnOk result (KeepsHeeds got (Taken (order_of given) ∷ []) (record old { outbound = made }) new) → OnErr result (KeepsHeeds got [] (record old { outbound = made }) new)
       → IfErr result IsMemory → ServesControl got result control old new
-  serving-answered new made (Ok done) control given is room served still ends ends_still memory = λ unused.
+  serving-answered new made (Ok done) control given is calm closed room served still ends ends_still memory = λ unused.
       subst (λ (c : Control (Sender L In Out Shut)). ServesOn got (Taken (order_of c)) old new) (sym is)
-      (serving-on got old new (Taken (order_of given) ∷ []) alive
+      (serving-on got old new (Taken (order_of given) ∷ []) alive (λ run e. ap (λ b. b || is_closed run) calm ∙ e ∙ sym closed)
       (λ run marks s. served (subst (IsUnused got) is unused) run marks (keeps-room made room run marks s))
       (λ run marks s heeds. ends run marks (keeps-room made room run marks s) (heeds-room made room run marks s heeds)))
-  serving-answered new made (Err (OutOfMemory back)) control given is room served still ends ends_still memory =
-      serving-on got old new [] alive (λ run marks s. still run marks (keeps-room made room run marks s))
+  serving-answered new made (Err (OutOfMemory back)) control given is calm closed room served still ends ends_still memory =
+      serving-on got old new [] alive (λ run e. e ∙ sym closed) (λ run marks s. still run marks (keeps-room made room run marks s))
       (λ run marks s heeds. ends_still run marks (keeps-room made room run marks s) (heeds-room made room run marks s heeds))
-  serving-answered new made (Err (PeerWindow id)) control given is room served still ends ends_still memory = absurd memory
+  serving-answered new made (Err (PeerWindow id)) control given is calm closed room served still ends ends_still memory = absurd memory

@@ -7,7 +7,7 @@ use Rattle.outwriter.specs.declared.control.Control.TheVariants as order
 use Rattle.outwriter.specs.declared.out_core.OutCore.{OutCore}
 use Rattle.outwriter.specs.declared.outbound.Outbound.{Outbound}
 use Rattle.outwriter.specs.declared.stream.OpenStream.{OpenStream}
-use Rattle.outwriter.specs.Calls.{TellFronts}
+use Rattle.outwriter.specs.Calls.{TellFronts, is_closed}
 use Rattle.outwriter.specs.Cores.{Serving, calls, ServesOn}
 use Rattle.outwriter.specs.Credits.{nothing_owed}
 use Rattle.outwriter.specs.CoreChanges.{KeepsServing, KeepsHeeds, Prepares}
@@ -21,36 +21,40 @@ use Rattle.outwriter.proofs.Fronts.{fronts_of, others_of}
 
 module _ {L In Out Shut : Type 0} (got : Out → List OutItem) (old new : OutCore L In Out Shut) where
   -- as long as the core lives, what was told follows from what is kept
-  pub serving-on : (more : List Step) → old.is_dead ≡ false → KeepsServing got more old new → KeepsHeeds got more old new → (run : List Step) → Serving got run old → Serving got (more ++ run) new
-  serving-on more alive keeps heeds run s =
+  pub serving-on : (more : List Step) → old.is_dead ≡ false → ((run : List Step) → is_closed run ≡ old.closed → is_closed (more ++ run) ≡ new.closed)
+      → KeepsServing got more old new → KeepsHeeds got more old new → (run : List Step) → Serving got run old → Serving got (more ++ run) new
+  serving-on more alive closed keeps heeds run s =
       let m = s.serves alive in
       let after = keeps run m.0 m.1 in
       record {
         fronts = fronts_of (more ++ run) new.outbound new.streams.entries new.others.entries (calls got new.senders.items) m.0 after;
         others = others_of (more ++ run) new.outbound new.streams.entries new.others.entries (calls got new.senders.items) m.0 after;
+        closed = closed run s.closed;
         serves = λ still. (m.0, after, heeds run m.0 m.1 m.2);
       }
 
   -- credit tells nothing, of a dead core as well
-  pub serving-granted : (id n : ℕ) → new.is_dead ≡ old.is_dead → calls got new.senders.items ≡ calls got old.senders.items
+  pub serving-granted : (id n : ℕ) → new.is_dead ≡ old.is_dead → new.closed ≡ old.closed → calls got new.senders.items ≡ calls got old.senders.items
       → KeepsServing got (Granted id n ∷ []) old new → KeepsHeeds got (Granted id n ∷ []) old new → ServesOn got (Granted id n) old new
-  serving-granted id n same senders keeps heeds run s = record {
+  serving-granted id n same closed senders keeps heeds run s = record {
     fronts = subst (λ (l : List (ℕ × List OutItem)). TellFronts (Granted id n ∷ run) l) (sym senders) s.fronts;
     others = s.others;
+    closed = s.closed ∙ sym closed;
     serves = λ alive. let m = s.serves (sym same ∙ alive) in (m.0, keeps run m.0 m.1, heeds run m.0 m.1 m.2);
   }
 
 -- a core of which nothing is kept
 module _ {L In Out Shut : Type 0} (got : Out → List OutItem) (core : OutCore L In Out Shut) where
-  pub serving-nothing : core.senders.items ≡ [] → core.streams.entries ≡ [] → core.others.entries ≡ []
+  pub serving-nothing : core.closed ≡ false → core.senders.items ≡ [] → core.streams.entries ≡ [] → core.others.entries ≡ []
       → SpellsOf [] core.outbound [] → core.outbound.due.items ≡ [] → core.outbound.credit ≡ nothing_owed → core.outbound.over.entries ≡ []
       → Serving got [] core
-  serving-nothing senders streams others spells due credit over =
+  serving-nothing closed senders streams others spells due credit over =
       let none : calls got core.senders.items ≡ [] = ap (calls got) senders in
       let serves = serves-nothing core.outbound core.streams.entries core.others.entries (calls got core.senders.items) spells due credit over streams others none in
       record {
         fronts = fronts_of [] core.outbound core.streams.entries core.others.entries (calls got core.senders.items) [] serves;
         others = others_of [] core.outbound core.streams.entries core.others.entries (calls got core.senders.items) [] serves;
+        closed = sym closed;
         serves = λ still. ([], serves, λ id there e. absurd (true≢false (sym e)));
       }
 

@@ -10,7 +10,7 @@ use Rattle.flow.specs.Windows.{room}
 use Rattle.outwriter.specs.declared.out_core.OutCore.{OutCore}
 use Rattle.outwriter.specs.declared.stream.OpenStream.{OpenStream}
 use Rattle.h2frame.specs.declared.frame.Frame.{Frame}
-use Rattle.outwriter.specs.Cores.{calls, AreStuck, IsStuck, IsQuiet, HasNoFrame, Ended, WasReset, Stuck, HaveNoFrame}
+use Rattle.outwriter.specs.Cores.{calls, lanes, AreStuck, IsStuck, IsQuiet, HasNoFrame, Ended, WasReset, Stuck, HaveNoFrame}
 use Rattle.outwriter.specs.Calls.{is_served, was_reset}
 use Rattle.outwriter.specs.Histories.{is_stream}
 use Rattle.outwriter.specs.Parts.{Mark}
@@ -83,22 +83,23 @@ key-at (x ∷ xs) zero e is = sym (first is)
     first f = cc
 key-at (x ∷ xs) (suc n) e is = key-at xs n e is
 
-module _ {L In Out Shut : Type 0} (got ahead : Out → List OutItem) where
+module _ {L In Out Shut Name : Type 0} (got ahead : Out → List OutItem) (name : Out → Name) where
   -- what holds of the loop over all streams
   abbrev pub Looked : ℕ → OutCore L In Out Shut → OutCore L In Out Shut → Type 0
   Looked n old now = IsBetween now.outbound × SameOwn old.outbound now.outbound × Stays old.outbound now.outbound × (now.closed ≡ old.closed)
-      × HoldsOn got None old now × KeepsFronts got old now × (now.is_dead ≡ old.is_dead) × StuckBelow got ahead n old now
+      × HoldsOn got None old now × KeepsFronts got old now × (now.is_dead ≡ old.is_dead)
+      × (lanes name now.senders.items ≡ lanes name old.senders.items) × StuckBelow got ahead n old now
 
   -- after a stream that has no frame
   pub looked-more : (n : ℕ) (old mid new : OutCore L In Out Shut) (id : ℕ) (o : Option Frame) → o ≡ None → Looked n old mid → get_or (ids mid.streams.entries) n 0 ≡ id
       → Progress o mid.outbound new.outbound → IfNone o (SameOwn mid.outbound new.outbound) → new.closed ≡ mid.closed → HoldsOn got o mid new
-      → KeepsFronts got mid new → new.is_dead ≡ mid.is_dead → IfNone o (ids new.streams.entries ≡ ids mid.streams.entries)
+      → KeepsFronts got mid new → new.is_dead ≡ mid.is_dead → lanes name new.senders.items ≡ lanes name mid.senders.items → IfNone o (ids new.streams.entries ≡ ids mid.streams.entries)
       → IfNone o (GetsStuck got ahead id mid new) → Looked (n + 1) old new
-  looked-more n old mid new id (Some frame) e l at progress own closed served fronts dead same gets = absurd (some-is e)
+  looked-more n old mid new id (Some frame) e l at progress own closed served fronts dead senders same gets = absurd (some-is e)
     where
       some-is : Some frame ≡ None → ⊥
       some-is f = cc
-  looked-more n old mid new id None e l at progress own closed served fronts dead same gets = (
+  looked-more n old mid new id None e l at progress own closed served fronts dead senders same gets = (
     progress.1,
     (own.0 ∙ l.1.0, own.1 ∙ l.1.1, own.2 ∙ l.1.2),
     λ run m. progress.0 run (l.2 run m),
@@ -106,7 +107,8 @@ module _ {L In Out Shut : Type 0} (got ahead : Out → List OutItem) where
     λ run h. served run (l.4 run h),
     λ run f. fronts run (l.5 run f),
     dead ∙ l.6,
-    stuck-below-more got ahead n old mid new id l.7 at served same gets,
+    senders ∙ l.7,
+    stuck-below-more got ahead n old mid new id l.8 at served same gets,
   )
 
 -- what is stuck behind a step that writes nothing

@@ -58,18 +58,21 @@ module _ {L In Out Shut : Type 0} where
 
   -- ---- what callers see
 
-  pub serving-on : (got : Out → List OutItem) (frame : Frame) (old new : OutCore L In Out Shut) → old.is_dead ≡ false → HoldsOn got (Some frame) old new
+  pub serving-on : (got : Out → List OutItem) (frame : Frame) (old new : OutCore L In Out Shut) → old.is_dead ≡ false → new.closed ≡ old.closed → HoldsOn got (Some frame) old new
       → ServesOn got (Written frame) old new
-  serving-on got frame old new alive holds run s =
+  serving-on got frame old new alive closed holds run s =
       let h = holds run (s.serves alive) in record {
         fronts = fronts_of (Written frame ∷ run) new.outbound new.streams.entries new.others.entries (calls got new.senders.items) h.0 h.1;
         others = others_of (Written frame ∷ run) new.outbound new.streams.entries new.others.entries (calls got new.senders.items) h.0 h.1;
+        closed = s.closed ∙ sym closed;
         serves = λ e. h;
       }
 
-  pub serving-still : (got : Out → List OutItem) (old new : OutCore L In Out Shut) → old.is_dead ≡ false → HoldsOn got None old new → KeepsFronts got old new
+  pub serving-still : (got : Out → List OutItem) (old new : OutCore L In Out Shut) → old.is_dead ≡ false → new.closed ≡ old.closed → HoldsOn got None old new → KeepsFronts got old new
       → ServesStill got old new
-  serving-still got old new alive holds fronts run s = record { fronts = fronts run s.fronts; others = s.others; serves = λ e. holds run (s.serves alive) }
+  serving-still got old new alive closed holds fronts run s =
+      record { fronts = fronts run s.fronts; others = s.others; closed = s.closed ∙ sym closed; serves = λ e. holds run (s.serves alive) }
 
-  pub serving-dead : (got : Out → List OutItem) (old new : OutCore L In Out Shut) → new.is_dead ≡ true → KeepsFronts got old new → ServesStill got old new
-  serving-dead got old new dead fronts run s = record { fronts = fronts run s.fronts; others = s.others; serves = λ e. absurd (true≢false (sym dead ∙ e)) }
+  pub serving-dead : (got : Out → List OutItem) (old new : OutCore L In Out Shut) → new.is_dead ≡ true → new.closed ≡ old.closed → KeepsFronts got old new → ServesStill got old new
+  serving-dead got old new dead closed fronts run s =
+      record { fronts = fronts run s.fronts; others = s.others; closed = s.closed ∙ sym closed; serves = λ e. absurd (true≢false (sym dead ∙ e)) }

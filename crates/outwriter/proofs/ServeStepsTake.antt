@@ -10,7 +10,7 @@ use Rattle.hpack_codec.specs.Codec.{Encoding}
 use Rattle.outwriter.specs.declared.stream.OpenStream.{OpenStream}
 use Rattle.outwriter.specs.declared.stream.Polled.{Polled}
 use Rattle.outwriter.specs.declared.stream.Polled.TheVariants as polled
-use Rattle.outwriter.specs.Cores.{calls}
+use Rattle.outwriter.specs.Cores.{calls, lanes}
 use Rattle.outwriter.specs.StreamLooks.{Shown, shown, with_item, one_more, TakesHand, TakesAt, SameAhead, aheads}
 use Rattle.outwriter.specs.Polls.{Polls, block_item}
 
@@ -48,6 +48,15 @@ module _ {L In Out Shut : Type 0} where
   ahead-elsewhere ahead senders place call k ne =
       ap (λ (l : List (List OutItem)). get_or l k []) (map-set (λ (c : ℕ × Sender L In Out Shut). ahead c.1.rx) senders place call)
       ∙ get_or-set_other (map (λ (c : ℕ × Sender L In Out Shut). ahead c.1.rx) senders) place k (ahead call.1.rx) [] ne
+
+module _ {L In Out Shut Name : Type 0} where
+  -- the senders are ends of the same lanes
+  pub lanes-same : (name : Out → Name) (senders : List (ℕ × Sender L In Out Shut)) (place : ℕ) (entry : ℕ × Sender L In Out Shut) (new : Sender L In Out Shut)
+      → entry ≡ get_or senders place entry → new.id ≡ entry.1.id → name new.rx ≡ name entry.1.rx
+      → lanes name (set senders place (entry.0, new)) ≡ lanes name senders
+  lanes-same name senders place entry new is id same =
+      map-set_same (λ (call : ℕ × Sender L In Out Shut). (call.0, call.1.id, name call.1.rx)) senders place (entry.0, new) entry
+      (ap (λ (n : ℕ). (entry.0, n, name new.rx)) id ∙ ap (λ (n : Name). (entry.0, entry.1.id, n)) same ∙ ap (λ (call : ℕ × Sender L In Out Shut). (call.0, call.1.id, name call.1.rx)) is)
 
 pub shows-is : (o : Option OpenStream) (stream : OpenStream) → Some stream ≡ o → stream.in_hand ≡ None → shown o ≡ Some (stream.place, None)
 shows-is o stream e none = ap shown (sym e) ∙ ap (λ (h : Option (List ℕ)). Some (stream.place, h)) none

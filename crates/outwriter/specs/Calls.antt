@@ -79,6 +79,19 @@ IsOther id run part = (part ≡ [])
 abbrev pub TellOthers : List Step → Type 0
 TellOthers run = (id : ℕ) → is_opened id run ≡ false → (part : List Mark) × IsPart id run part × IsOther id run part
 
+-- ---- the end of the controls
+
+abbrev pub closes : Order → Bool
+closes order.Close = true
+closes _ = false
+
+-- a Close was taken
+abbrev pub is_closed : List Step → Bool
+is_closed [] = false
+is_closed (Taken order ∷ before) = closes order || is_closed before
+is_closed (Granted stream n ∷ before) = is_closed before
+is_closed (Written frame ∷ before) = is_closed before
+
 -- ---- streams that are called off
 
 -- a control that calls a stream off: a Reset of it that is to be written, or a Refuse of it while no Open of it was taken

@@ -1,7 +1,7 @@
 -- What callers see of a writer's core: over any list of its calls, what was told of each call begins what its sender gave.
 -- `Reached` (the law of runs) and `Serving` (what was told of each call) are two invariants over the same run. Neither
 -- needs the other, so a caller may use one alone.
-use Rattle.std.specs.Prelude.{◌≡◌, ◌⊎◌, ℕ, true, false, All, List, [], ◌∷◌, map, get_or, Option, None, Some, Result, Ok, Err, nat_eq}
+use Rattle.std.specs.Prelude.{◌≡◌, ◌⊎◌, ℕ, true, false, All, List, [], ◌∷◌, ◌++◌, map, get_or, Option, None, Some, Result, Ok, Err, nat_eq}
 use Rattle.std.specs.Map.{lookup}
 use Rattle.account.specs.declared.call.OutItem.{OutItem}
 use Rattle.callbox.specs.declared.sender.Sender.{Sender}
@@ -15,11 +15,17 @@ use Rattle.outwriter.specs.declared.next.Next.TheVariants as next
 use Rattle.outwriter.specs.declared.out_core.OutCore.{OutCore}
 use Rattle.outwriter.specs.declared.outbound.Outbound.{Outbound}
 use Rattle.outwriter.specs.declared.stream.OpenStream.{OpenStream}
-use Rattle.outwriter.specs.Calls.{TellEnds, TellFronts, TellOthers, is_served, was_reset}
+use Rattle.outwriter.specs.Calls.{TellEnds, TellFronts, TellOthers, is_closed, is_served, was_reset}
 use Rattle.outwriter.specs.Histories.{is_stream, is_over}
 use Rattle.outwriter.specs.Parts.{Mark}
 use Rattle.outwriter.specs.CallState.{Serves, Heeds}
 use Rattle.outwriter.specs.Steps.{Step, Taken, Written, order_of}
+
+-- nothing more comes where a Close was taken, and nothing now where none was: that the peer's side has ended is no Close
+abbrev pub ClosedNext : List Step → Next → Type 0
+ClosedNext run (next.Frame frame) = Unit {0}
+ClosedNext run next.Idle = is_closed run ≡ false
+ClosedNext run next.Over = is_closed run ≡ true
 
 -- nothing is ahead of a sender, or what is in hand has no room
 abbrev pub IsStuck : ℕ → Option (List ℕ) → List OutItem → Type 0
@@ -36,11 +42,23 @@ module _ {L In Out Shut : Type 0} where
   abbrev pub calls : (Out → List OutItem) → List (ℕ × Sender L In Out Shut) → List (ℕ × List OutItem)
   calls got senders = map (λ call. (call.0, got call.1.rx)) senders
 
+  -- each call's stream, the number that its sender has, and the lane of which that is an end
+  abbrev pub lanes : {Name : Type 0} → (Out → Name) → List (ℕ × Sender L In Out Shut) → List (ℕ × ℕ × Name)
+  lanes name senders = map (λ call. (call.0, call.1.id, name call.1.rx)) senders
+
+  -- the sender that an Open brings stands behind the others; nothing else changes them
+  abbrev pub Brings : Result (Unit {0}) (OutFault (Sender L In Out Shut)) → Control (Sender L In Out Shut) → List (ℕ × Sender L In Out Shut)
+      → List (ℕ × Sender L In Out Shut) → Type 0
+  Brings (Ok done) (Open id sender) old new = new ≡ old ++ (id, sender) ∷ []
+  Brings (Ok done) _ old new = new ≡ old
+  Brings (Err fault) control old new = new ≡ old
+
   -- What was told of each call is a front of what its sender gave, and of other streams what is to be told of them; and as long as the core lives, all that it keeps of the calls
   -- follows from the run.
   pub record Serving (got : Out → List OutItem) (run : List Step) (core : OutCore L In Out Shut) : Type 0 where
     pub fronts : TellFronts run (calls got core.senders.items)
     pub others : TellOthers run
+    pub closed : is_closed run ≡ core.closed
     pub serves : core.is_dead ≡ false
         → (marks : List (ℕ × Mark)) × Serves run core.outbound core.streams.entries core.others.entries (calls got core.senders.items) marks × Heeds run core.outbound
 

@@ -33,7 +33,7 @@ impl<L: Lane<Item = OutItem>> OutCore<L> {
     ghost use Rattle.outwriter.specs.declared.next.Next.TheVariants as next_kind;
     ghost use Rattle.h2frame.specs.declared.frame.Frame.{Frame as FrameOf};
     ghost use Rattle.outwriter.specs.Frames.{IsSound};
-    ghost use Rattle.outwriter.specs.Cores.{Serving, ServesNext, QuietNext, NoFrameNext, EndedNext, calls};
+    ghost use Rattle.outwriter.specs.Cores.{Serving, ServesNext, QuietNext, NoFrameNext, EndedNext, ClosedNext, calls, lanes};
     ghost use Rattle.outwriter.specs.StreamLooks.{shows, SameHands, HandIs, HandKeeps, Removes, ids, TakesAt, SameAhead, aheads, HoldsOn, KeepsFronts, TellsData, GetsStuck, AllStuck, GetsQuiet};
     ghost use Rattle.outwriter.specs.Steps.{Step};
     ghost use Rattle.outwriter.specs.RunState.{Answers, AnswersAll, Reached, SameOwn, IsSpent, Progress, Progresses, Stays, IsBetween, MirrorsOf};
@@ -52,6 +52,12 @@ impl<L: Lane<Item = OutItem>> OutCore<L> {
         ensures dead { self.old.is_dead ≡ true → result ≡ Err (out_fault.OutOfMemory None) }
         ensures dies { IfErr result (λ fault. (fault ≡ out_fault.OutOfMemory None) × (self.new.is_dead ≡ true)) }
         ensures over { IfOk result (λ next. next ≡ next_kind.Over → self.new.closed ≡ true) }
+
+        // It is over exactly where a Close was taken: that no more comes from the peer is none.
+        ensures closed { IfOk result (λ next. (run : List Step) → Serving L.got run self.old → ClosedNext run next) }
+
+        // Each sender stays at its place, an end of the same lane.
+        ensures senders { lanes L.out_name self.new.senders.items ≡ lanes L.out_name self.old.senders.items }
 
         // Where none comes, a GOAWAY with an error was written, or no header block is unfinished, nothing is due and no credit is owed.
         ensures idle { IfOk result (λ next. next ≡ next_kind.Idle → IsSpent self.new.outbound) }
@@ -92,6 +98,7 @@ impl<L: Lane<Item = OutItem>> OutCore<L> {
         ensures closed { self.new.closed ≡ self.old.closed }
         ensures served { IfOk result (λ o. HoldsOn L.got o self.old self.new) }
         ensures fronts { KeepsFronts L.got self.old self.new }
+        ensures senders { lanes L.out_name self.new.senders.items ≡ lanes L.out_name self.old.senders.items }
         ensures alive { self.new.is_dead ≡ self.old.is_dead }
         ensures quiet { IfOk result (λ o. IfNone o (GetsQuiet L.got L.ahead self.old self.new)) }
     {
@@ -117,6 +124,7 @@ impl<L: Lane<Item = OutItem>> OutCore<L> {
         ensures closed { self.new.closed ≡ self.old.closed }
         ensures served { IfOk result (λ o. HoldsOn L.got o self.old self.new) }
         ensures fronts { KeepsFronts L.got self.old self.new }
+        ensures senders { lanes L.out_name self.new.senders.items ≡ lanes L.out_name self.old.senders.items }
         ensures alive { self.new.is_dead ≡ self.old.is_dead }
         ensures quiet { IfOk result (λ o. IfNone o (AllStuck L.got L.ahead self.old self.new)) }
     {
@@ -139,6 +147,7 @@ impl<L: Lane<Item = OutItem>> OutCore<L> {
         ensures closed { self.new.closed ≡ self.old.closed }
         ensures served { IfOk result (λ o. HoldsOn L.got o self.old self.new) }
         ensures fronts { KeepsFronts L.got self.old self.new }
+        ensures senders { lanes L.out_name self.new.senders.items ≡ lanes L.out_name self.old.senders.items }
         ensures alive { self.new.is_dead ≡ self.old.is_dead }
     {
         let next = if self.cursor < self.streams.len() {
@@ -164,6 +173,7 @@ impl<L: Lane<Item = OutItem>> OutCore<L> {
         ensures closed { self.new.closed ≡ self.old.closed }
         ensures served { IfOk result (λ o. HoldsOn L.got o self.old self.new) }
         ensures fronts { KeepsFronts L.got self.old self.new }
+        ensures senders { lanes L.out_name self.new.senders.items ≡ lanes L.out_name self.old.senders.items }
         ensures alive { self.new.is_dead ≡ self.old.is_dead }
     {
         for _ in 0..self.ready.len() {
@@ -188,6 +198,7 @@ impl<L: Lane<Item = OutItem>> OutCore<L> {
         ensures closed { self.new.closed ≡ self.old.closed }
         ensures served { IfOk result (λ o. HoldsOn L.got o self.old self.new) }
         ensures fronts { KeepsFronts L.got self.old self.new }
+        ensures senders { lanes L.out_name self.new.senders.items ≡ lanes L.out_name self.old.senders.items }
         ensures alive { self.new.is_dead ≡ self.old.is_dead }
         ensures quiet { IfOk result (λ o. IfNone o (AllStuck L.got L.ahead self.old self.new)) }
     {
@@ -213,6 +224,7 @@ impl<L: Lane<Item = OutItem>> OutCore<L> {
         ensures closed { self.new.closed ≡ self.old.closed }
         ensures served { IfOk result (λ o. HoldsOn L.got o self.old self.new) }
         ensures fronts { KeepsFronts L.got self.old self.new }
+        ensures senders { lanes L.out_name self.new.senders.items ≡ lanes L.out_name self.old.senders.items }
         ensures alive { self.new.is_dead ≡ self.old.is_dead }
         ensures ids { IfOk result (λ o. IfNone o (ids self.new.streams.entries ≡ ids self.old.streams.entries)) }
         ensures quiet { IfOk result (λ o. IfNone o (GetsStuck L.got L.ahead id self.old self.new)) }
@@ -265,6 +277,7 @@ impl<L: Lane<Item = OutItem>> OutCore<L> {
         ensures closed { self.new.closed ≡ self.old.closed }
         ensures served { IfOk result (λ o. HoldsOn L.got o self.old self.new) }
         ensures fronts { KeepsFronts L.got self.old self.new }
+        ensures senders { lanes L.out_name self.new.senders.items ≡ lanes L.out_name self.old.senders.items }
         ensures alive { self.new.is_dead ≡ self.old.is_dead }
         ensures ids { IfOk result (λ o. IfNone o (ids self.new.streams.entries ≡ ids self.old.streams.entries)) }
         ensures quiet { IfOk result (λ o. IfNone o (GetsStuck L.got L.ahead id self.old self.new)) }
@@ -289,6 +302,7 @@ impl<L: Lane<Item = OutItem>> OutCore<L> {
         ensures hands { HandIs id None self.old.streams.entries self.new.streams.entries }
         ensures takes { TakesAt (shows self.old.streams.entries id) (calls L.got self.old.senders.items) (calls L.got self.new.senders.items) (aheads L.ahead self.new.senders.items) self.old.outbound.encoder self.new.outbound.encoder result }
         ensures ahead { SameAhead (shows self.old.streams.entries id) (aheads L.ahead self.old.senders.items) (aheads L.ahead self.new.senders.items) }
+        ensures senders { lanes L.out_name self.new.senders.items ≡ lanes L.out_name self.old.senders.items }
         ensures ids { ids self.new.streams.entries ≡ ids self.old.streams.entries }
         ensures others { self.new.others ≡ self.old.others }
         ensures alive { self.new.is_dead ≡ self.old.is_dead }
@@ -363,7 +377,7 @@ impl<L: Lane<Item = OutItem>> OutCore<L> {
     }
 }
 
-ghost use Rattle.outwriter.specs.Cores.{calls as calls_of};
+ghost use Rattle.outwriter.specs.Cores.{calls as calls_of, lanes as lanes_of};
 ghost use Rattle.outwriter.specs.StreamLooks.{aheads as aheads_of, TakesHand, SameElsewhere};
 
 /// The next item of the sender at a place, if there is one.
@@ -374,6 +388,7 @@ fn poll_at<L: Lane<Item = OutItem>>(
 ) -> Result<Polled, AllocError>
     ensures takes { TakesHand None place (calls_of L.got senders.old.items) (calls_of L.got senders.new.items) (aheads_of L.ahead senders.new.items) encoder.old encoder.new result }
     ensures ahead { SameElsewhere place (aheads_of L.ahead senders.old.items) (aheads_of L.ahead senders.new.items) }
+    ensures senders { lanes_of L.out_name senders.new.items ≡ lanes_of L.out_name senders.old.items }
 {
     match senders.get_mut(place) {
         Some(call) => poll(&mut call.1, encoder),

@@ -7,10 +7,10 @@
 //! `control`: A dead core hands each control back, since nothing that it keeps is known to follow from its run; what
 //! was told of each call stays a prefix, so its senders can be brought back.
 
-ghost use Rattle.std.specs.Prelude.{◌≡◌, ◌<◌, Bool, List, [], ◌∷◌, Some, Err, false, true, OnOk, OnErr, IfOk, IfErr, nat_eq, map, length};
+ghost use Rattle.std.specs.Prelude.{◌≡◌, ◌<◌, ◌++◌, Bool, List, [], ◌∷◌, Some, Err, false, true, OnOk, OnErr, IfOk, IfErr, nat_eq, map, length};
 ghost use Rattle.std.specs.VecDeque.{deque_len, deque_capacity};
 ghost use Rattle.std.specs.Prelude.{vec_len, vec_capacity};
-ghost use Rattle.outwriter.specs.Cores.{calls, Serving, ServesOn, ServesControl};
+ghost use Rattle.outwriter.specs.Cores.{calls, Serving, ServesOn, ServesControl, Brings};
 ghost use Rattle.outwriter.specs.declared.control.OutFault.TheVariants as out_fault;
 ghost use Rattle.outwriter.specs.RunState.{Reached, GoesOn, Takes, Leads, Stays, Blames, HasRoom, IsMemory, is_held};
 ghost use Rattle.std.specs.Map.{lookup};
@@ -86,6 +86,9 @@ impl<L: Lane<Item = OutItem>> OutCore<L> {
 
         // So it is for what was told of each call, where an Open brings a sender of which nothing was got.
         ensures served { ServesControl L.got result control self.old self.new }
+
+        // The sender of an Open that is taken stands behind the others, and nothing else changes them.
+        ensures brings { Brings result control self.old.senders.items self.new.senders.items }
 
         // A fault of the peer is answered exactly where it stands.
         ensures fault { IfErr result (λ fault. Blames fault control self.old.outbound.windows) }
@@ -177,6 +180,9 @@ impl<L: Lane<Item = OutItem>> OutCore<L> {
         ensures heeds { OnOk result (KeepsHeeds L.got (Taken (order.Open id tt) ∷ []) self.old self.new) }
         ensures heeds_still { OnErr result (KeepsHeeds L.got [] self.old self.new) }
         ensures memory { IfErr result IsMemory }
+        ensures brings { OnOk result (self.new.senders.items ≡ self.old.senders.items ++ (id, sender) ∷ []) }
+        ensures senders { OnErr result (self.new.senders.items ≡ self.old.senders.items) }
+        ensures closed { self.new.closed ≡ self.old.closed }
         ensures alive { self.new.is_dead ≡ self.old.is_dead }
     {
         match self.prepare(id) {
@@ -198,6 +204,7 @@ impl<L: Lane<Item = OutItem>> OutCore<L> {
         ensures streams { OnErr result (self.new.streams.entries ≡ self.old.streams.entries) }
         ensures others { self.new.others.entries ≡ self.old.others.entries }
         ensures senders { self.new.senders.items ≡ self.old.senders.items }
+        ensures closed { self.new.closed ≡ self.old.closed }
         ensures alive { self.new.is_dead ≡ self.old.is_dead }
     {
         self.senders.reserve(1)?;
@@ -226,6 +233,8 @@ impl<L: Lane<Item = OutItem>> OutCore<L> {
         ensures heeds { OnOk result (KeepsHeeds L.got (Taken (order.Refuse id fields) ∷ []) self.old self.new) }
         ensures heeds_still { OnErr result (KeepsHeeds L.got [] self.old self.new) }
         ensures memory { IfErr result IsMemory }
+        ensures senders { self.new.senders.items ≡ self.old.senders.items }
+        ensures closed { self.new.closed ≡ self.old.closed }
         ensures alive { self.new.is_dead ≡ self.old.is_dead }
     {
         if !is_stream(id) || self.outbound.credit.has(id) || self.others.contains_key(&id) {
@@ -252,6 +261,8 @@ impl<L: Lane<Item = OutItem>> OutCore<L> {
         ensures heeds { OnOk result (KeepsHeeds L.got (Taken (order.Reset id code written) ∷ []) self.old self.new) }
         ensures heeds_still { OnErr result (KeepsHeeds L.got [] self.old self.new) }
         ensures memory { IfErr result IsMemory }
+        ensures senders { self.new.senders.items ≡ self.old.senders.items }
+        ensures closed { self.new.closed ≡ self.old.closed }
         ensures alive { self.new.is_dead ≡ self.old.is_dead }
     {
         match self.ends(id) {
@@ -272,6 +283,8 @@ impl<L: Lane<Item = OutItem>> OutCore<L> {
         ensures still { OnErr result (KeepsServing L.got [] self.old self.new) }
         ensures was_open { IfOk result (λ was_open. MayReset L.got id was_open self.new) }
         ensures was_closed { IfOk result (λ was_open. WasClosed L.got id was_open self.old) }
+        ensures senders { self.new.senders.items ≡ self.old.senders.items }
+        ensures closed { self.new.closed ≡ self.old.closed }
         ensures alive { self.new.is_dead ≡ self.old.is_dead }
     {
         if !is_stream(id) {

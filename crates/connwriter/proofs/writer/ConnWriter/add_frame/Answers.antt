@@ -21,14 +21,14 @@ returns-in-Ok-Idle-clause-wrote g c = λ before run w.
     let after = c.next_frame.new.self in
     let alive = alive-of core.is_dead c.in-Ok-Idle.field-0 _ c.in-Ok-Idle.ensures.dead in
     let r = idle-on g.L.Lane.got g.W.ConnWrite.contents g.W.ConnWrite.failed g.L.Lane.ahead c.args.self.now (record c.args.self.now { core = c.next_frame.new.self; ended = c.reserve.new.self }) alive
-        (subst (λ (next : Next). Answers next core.outbound after.outbound) c.in-Ok-Idle.field-0-is c.in-Ok-Idle.ensures.next)
-        (subst (λ (next : Next). ServesNext g.L.Lane.got (Ok next) core after) c.in-Ok-Idle.field-0-is c.in-Ok-Idle.ensures.served)
-        refl refl refl c.reserve.ensures.items
-        (subst (λ (next : Next). AnswersAll next after.outbound) c.in-Ok-Idle.field-0-is c.in-Ok-Idle.ensures.answered)
-        (c.in-Ok-Idle.ensures.idle c.in-Ok-Idle.field-0-is)
-        (λ steps reached serving. subst (λ (next : Next). NoFrameNext g.L.Lane.ahead steps next after) c.in-Ok-Idle.field-0-is (c.in-Ok-Idle.ensures.no_frame steps reached serving alive))
-        (λ steps reached serving. subst (λ (next : Next). EndedNext steps next after) c.in-Ok-Idle.field-0-is (c.in-Ok-Idle.ensures.ended steps reached serving alive))
-        before run w in
+    (subst (λ (next : Next). Answers next core.outbound after.outbound) c.in-Ok-Idle.field-0-is c.in-Ok-Idle.ensures.next)
+    (subst (λ (next : Next). ServesNext g.L.Lane.got (Ok next) core after) c.in-Ok-Idle.field-0-is c.in-Ok-Idle.ensures.served)
+    refl refl refl c.reserve.ensures.items
+    (subst (λ (next : Next). AnswersAll next after.outbound) c.in-Ok-Idle.field-0-is c.in-Ok-Idle.ensures.answered)
+    (c.in-Ok-Idle.ensures.idle c.in-Ok-Idle.field-0-is)
+    (λ steps reached serving. subst (λ (next : Next). NoFrameNext g.L.Lane.ahead steps next after) c.in-Ok-Idle.field-0-is (c.in-Ok-Idle.ensures.no_frame steps reached serving alive))
+    (λ steps reached serving. subst (λ (next : Next). EndedNext steps next after) c.in-Ok-Idle.field-0-is (c.in-Ok-Idle.ensures.ended steps reached serving alive))
+    before run w in
     ([], r.0, r.1)
 
 pub returns-in-Ok-Over-clause-wrote : goal.returns-in-Ok-Over-clause-wrote
@@ -37,14 +37,14 @@ returns-in-Ok-Over-clause-wrote g c = λ before run w.
     let after = c.next_frame.new.self in
     let alive = alive-of core.is_dead c.in-Ok-Over.field-0 _ c.in-Ok-Over.ensures.dead in
     let r = idle-on g.L.Lane.got g.W.ConnWrite.contents g.W.ConnWrite.failed g.L.Lane.ahead c.args.self.now (record c.args.self.now { core = c.next_frame.new.self; ended = c.reserve.new.self }) alive
-        (subst (λ (next : Next). Answers next core.outbound after.outbound) c.in-Ok-Over.field-0-is c.in-Ok-Over.ensures.next)
-        (subst (λ (next : Next). ServesNext g.L.Lane.got (Ok next) core after) c.in-Ok-Over.field-0-is c.in-Ok-Over.ensures.served)
-        refl refl refl c.reserve.ensures.items
-        (subst (λ (next : Next). AnswersAll next after.outbound) c.in-Ok-Over.field-0-is c.in-Ok-Over.ensures.answered)
-        (c.in-Ok-Over.ensures.over_spent c.in-Ok-Over.field-0-is)
-        (λ steps reached serving. subst (λ (next : Next). NoFrameNext g.L.Lane.ahead steps next after) c.in-Ok-Over.field-0-is (c.in-Ok-Over.ensures.no_frame steps reached serving alive))
-        (λ steps reached serving. subst (λ (next : Next). EndedNext steps next after) c.in-Ok-Over.field-0-is (c.in-Ok-Over.ensures.ended steps reached serving alive))
-        before run w in
+    (subst (λ (next : Next). Answers next core.outbound after.outbound) c.in-Ok-Over.field-0-is c.in-Ok-Over.ensures.next)
+    (subst (λ (next : Next). ServesNext g.L.Lane.got (Ok next) core after) c.in-Ok-Over.field-0-is c.in-Ok-Over.ensures.served)
+    refl refl refl c.reserve.ensures.items
+    (subst (λ (next : Next). AnswersAll next after.outbound) c.in-Ok-Over.field-0-is c.in-Ok-Over.ensures.answered)
+    (c.in-Ok-Over.ensures.over_spent c.in-Ok-Over.field-0-is)
+    (λ steps reached serving. subst (λ (next : Next). NoFrameNext g.L.Lane.ahead steps next after) c.in-Ok-Over.field-0-is (c.in-Ok-Over.ensures.no_frame steps reached serving alive))
+    (λ steps reached serving. subst (λ (next : Next). EndedNext steps next after) c.in-Ok-Over.field-0-is (c.in-Ok-Over.ensures.ended steps reached serving alive))
+    before run w in
     ([], r.0, (r.1, c.in-Ok-Over.ensures.over c.in-Ok-Over.field-0-is))
 
 pub returns-in-Err-clause-wrote : goal.returns-in-Err-clause-wrote

@@ -18,4 +18,5 @@ loop-preserved g c = (
   fronts-still g.L.Lane.got c.args.self.now c.frame_of.new.self c.leave_turns.new.self
       (fronts-then g.L.Lane.got c.args.self.now (record c.loop.self { ready = c.pop_front.new.self }) c.frame_of.new.self c.loop.invariant.5 c.frame_of.ensures.fronts) c.leave_turns.ensures.senders,
   search rules,
+  search rules,
 )

@@ -12,7 +12,7 @@ use Rattle.outwriter.proofs.out_core.OutCore.grant.Goals as goal
 
 pub returns-clause-served : goal.returns-clause-served
 returns-clause-served g c =
-    serving-granted g.L.Lane.got c.args.self.now (record c.args.self.now { outbound = c.grant.new.self }) c.args.id c.args.n refl refl
+    serving-granted g.L.Lane.got c.args.self.now (record c.args.self.now { outbound = c.grant.new.self }) c.args.id c.args.n refl refl refl
     (λ run marks s. serves-same run (Granted c.args.id c.args.n ∷ run) c.args.self.now.outbound c.grant.new.self c.args.self.now.streams.entries c.args.self.now.others.entries
     (calls g.L.Lane.got c.args.self.now.senders.items) marks [] c.grant.ensures.takes
     (granted-tells [] none_is_new c.args.self.now.outbound c.grant.new.self c.args.id c.args.n c.grant.ensures.takes run marks s.spells)

@@ -11,7 +11,7 @@ use Rattle.outwriter.proofs.out_core.OutCore.next_frame.Goals as goal
 
 pub returns-in-Ok-Some-clause-served : goal.returns-in-Ok-Some-clause-served
 returns-in-Ok-Some-clause-served g c =
-    serving-on g.L.Lane.got c.in-Ok-Some.frame c.args.self.now c.choose.new.self c.if-self.false
+    serving-on g.L.Lane.got c.in-Ok-Some.frame c.args.self.now c.choose.new.self c.if-self.false c.choose.ensures.closed
     (subst (λ (o : Option Frame). HoldsOn g.L.Lane.got o c.args.self.now c.choose.new.self) c.in-Ok-Some.field-0-is c.in-Ok-Some.ensures.served)
 
 pub returns-in-Ok-None-clause-quiet : goal.returns-in-Ok-None-clause-quiet

@@ -1,0 +1,48 @@
+-- Worked examples of responses, causes and deadlines.
+use Rattle.std.specs.Prelude.{◌≡◌, refl, false, true, [], ◌∷◌, Option, None, Some, codes}
+use Rattle.account.specs.declared.call.OutItem.TheVariants.{Head, Trailers}
+use Rattle.account.specs.declared.call.Told.{Told}
+use Rattle.callhead.specs.declared.head.CallHead.{CallHead}
+use Rattle.callhead.specs.declared.head.Encoding.TheVariants.{Identity}
+use Rattle.callhead.specs.StatusFields.{response_fields, status_fields, trailers_only}
+use Rattle.handlers.specs.declared.reply.Reply.TheVariants.{Zeros}
+use Rattle.handlers.specs.Statuses.{ok_status}
+use Rattle.callrun.specs.declared.cause.Cause.TheVariants.{Cancelled, DeadlineExceeded}
+use Rattle.callrun.specs.Outcomes.{Stood}
+use Rattle.callrun.specs.Responses.{reply_item, response}
+use Rattle.callrun.specs.Runs.{deadline_of}
+use Rattle.callrun.specs.Statuses.{status_of}
+
+-- a head that wants nothing echoed, and has no timeout
+abbrev plain : CallHead
+plain = record { path = []; timeout = None; encoding = Identity; echo_initial = []; echo_trailing = [] }
+
+-- a head that wants `a` echoed before the replies
+abbrev echoing : CallHead
+echoing = record { path = []; timeout = None; encoding = Identity; echo_initial = codes "a" ∷ []; echo_trailing = [] }
+
+-- a call that is cancelled before its first reply is answered by one block
+cancelled_alone : response plain [] (status_of Cancelled) ≡ Trailers (trailers_only 1 (codes "cancelled")) ∷ []
+cancelled_alone = refl
+
+-- behind a reply the trailers stand by themselves
+cancelled_behind : response plain (Zeros 1 ∷ []) (status_of Cancelled)
+    ≡ Head (response_fields []) ∷ reply_item (Zeros 1) ∷ Trailers (status_fields 1 (codes "cancelled") []) ∷ []
+cancelled_behind = refl
+
+-- a call that went well has a head, also without a reply
+well_alone : response plain [] ok_status ≡ Head (response_fields []) ∷ Trailers (status_fields 0 [] []) ∷ []
+well_alone = refl
+
+-- and so has one whose head wants something echoed there
+echoed_alone : response echoing [] (status_of Cancelled)
+    ≡ Head (response_fields (codes "a" ∷ [])) ∷ Trailers (status_fields 1 (codes "cancelled") []) ∷ []
+echoed_alone = refl
+
+-- a timeout of 5 ms in a call that was opened at 1,000 ns
+five_milliseconds : deadline_of (Some 5000000) 1000 ≡ Some 5001000
+five_milliseconds = refl
+
+-- before the deadline no call ends by it
+not_before : (said : Option Told) → Stood DeadlineExceeded plain false said → false ≡ true
+not_before said stood = stood

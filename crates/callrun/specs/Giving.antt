@@ -1,0 +1,27 @@
+-- What comes of giving an item.
+use Rattle.std.specs.Prelude.{◌≡◌, Bool, false, ℕ, ◌+◌, ◌≤◌, List, [], ◌∷◌, ◌++◌, length, Result, Ok, Err}
+use Rattle.lane.specs.declared.fault.PutFault.{PutFault}
+use Rattle.lane.specs.declared.fault.PutFault.TheVariants as put_fault
+use Rattle.account.specs.declared.call.OutItem.{OutItem}
+use Rattle.callrun.specs.declared.giving.Refused.{Refused}
+use Rattle.callrun.specs.declared.giving.Refused.TheVariants.{Full, OutOfMemory, NotTaken}
+
+abbrev pub without_item : {T : Type 0} → Result (Unit {0}) (PutFault T) → Result (Unit {0}) Refused
+without_item (Ok done) = Ok done
+without_item (Err (put_fault.Full item waiting)) = Err Full
+without_item (Err (put_fault.OutOfMemory item)) = Err OutOfMemory
+without_item (Err (put_fault.NotTaken item)) = Err NotTaken
+
+-- as many items of those that were given wait as there is room for, or more
+abbrev pub IsFull : ℕ → ℕ → ℕ → Type 0
+IsFull room given seen_taken = (waiting : ℕ) × (waiting + seen_taken ≡ given) × (room ≤ waiting)
+
+-- Nothing was given. A place is taken only in a lane that has other faults than that it is full.
+abbrev pub Refuses : Refused → Bool → ℕ → ℕ → List OutItem → List OutItem → Type 0
+Refuses Full only_fills room seen_taken old new = (new ≡ old) × IsFull room (length old) seen_taken
+Refuses OutOfMemory only_fills room seen_taken old new = new ≡ old
+Refuses NotTaken only_fills room seen_taken old new = (new ≡ old) × (only_fills ≡ false)
+
+abbrev pub Gives : Result (Unit {0}) Refused → Bool → ℕ → ℕ → List OutItem → OutItem → List OutItem → Type 0
+Gives (Ok done) only_fills room seen_taken old item new = new ≡ old ++ item ∷ []
+Gives (Err refused) only_fills room seen_taken old item new = Refuses refused only_fills room seen_taken old new

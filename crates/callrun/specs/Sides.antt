@@ -1,0 +1,63 @@
+-- What the giving end of a call shows.
+use Rattle.std.specs.Prelude.{ℕ, Bool, true, false, List, [], Option, None, Some}
+use Rattle.account.specs.declared.call.OutItem.{OutItem}
+use Rattle.callrun.specs.declared.response.Response.{Response}
+use Rattle.callrun.specs.declared.response.Response.TheVariants.{Open, Left, Shut, Gone}
+
+-- whether more may be given, what was given, and the status of the trailers among it
+pub record Shown : Type 0 where
+  pub is_live : Bool
+  pub given : List OutItem
+  pub code : Option ℕ
+
+abbrev pub if_placed : Bool → ℕ → Option ℕ
+if_placed true code = Some code
+if_placed false code = None
+
+module _ {G S : Type 0} where
+  abbrev pub is_gone : Response G S → Bool
+  is_gone (Open giver) = false
+  is_gone (Left giver) = false
+  is_gone (Shut end code) = false
+  is_gone Gone = true
+
+  -- more may be given
+  abbrev pub is_open : Response G S → Bool
+  is_open (Open giver) = true
+  is_open (Left giver) = false
+  is_open (Shut end code) = false
+  is_open Gone = false
+
+  -- nothing more is given, and no trailers were
+  abbrev pub is_left : Response G S → Bool
+  is_left (Open giver) = false
+  is_left (Left giver) = true
+  is_left (Shut end code) = false
+  is_left Gone = false
+
+  -- nothing more is given
+  abbrev pub left : Response G S → Response G S
+  left (Open giver) = Left giver
+  left (Left giver) = Left giver
+  left (Shut end code) = Shut end code
+  left Gone = Gone
+
+  abbrev pub shown : (G → List OutItem) → (S → List OutItem) → (S → Bool) → Response G S → Shown
+  shown of_open of_shut was_placed (Open giver) = record { is_live = true; given = of_open giver; code = None }
+  shown of_open of_shut was_placed (Left giver) = record { is_live = false; given = of_open giver; code = None }
+  shown of_open of_shut was_placed (Shut end code) = record { is_live = false; given = of_shut end; code = if_placed (was_placed end) code }
+  shown of_open of_shut was_placed Gone = record { is_live = false; given = []; code = None }
+
+  -- which lane it is an end of
+  abbrev pub name_by : {X : Type 0} → (G → X) → (S → X) → Response G S → Option X
+  name_by of_open of_shut (Open giver) = Some (of_open giver)
+  name_by of_open of_shut (Left giver) = Some (of_open giver)
+  name_by of_open of_shut (Shut end code) = Some (of_shut end)
+  name_by of_open of_shut Gone = None
+
+  -- more may be given, by an end of which this holds
+  abbrev pub IsOpenTo : (G → Type 0) → Response G S → Type 0
+  IsOpenTo P (Open giver) = P giver
+  IsOpenTo P (Left giver) = ⊥
+  IsOpenTo P (Shut end code) = ⊥
+  IsOpenTo P Gone = ⊥

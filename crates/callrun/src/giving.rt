@@ -1,0 +1,106 @@
+//! What comes of giving an item.
+//!
+//! The bytes of an item are made only where there is room for it, so each is made once, and a turn that finds the lane
+//! full takes no memory.
+
+ghost use Rattle.std.specs.Prelude.{◌≡◌, ◌+◌, ◌≤◌, ◌<◌, [], true, length, IfErr, IfOk, OnOk, MatchResult};
+ghost use Rattle.callbox.specs.OutSides.{has_head};
+ghost use Rattle.lpm.specs.Messages.{frame, IsFrame};
+ghost use Rattle.handlers.specs.Replies.{reply_bytes};
+ghost use Rattle.callrun.specs.Responses.{head_item, reply_item};
+ghost use Rattle.callrun.specs.Giving.{Gives, without_item};
+
+use account::OutItem;
+use bytes::Bytes;
+use callbox::{FramedFault, GiveFault, Giver};
+use callhead::{CallHead, response_fields};
+use handlers::Reply;
+use lane::{Lane, PutFault};
+use lists::Sequence;
+use lpm::{MAX_MESSAGE_LEN, write_prefix};
+use std::alloc::{AllocError, Global};
+
+/// Why an item was not given.
+#[derive(Clone, Copy, Debug, PartialEq, Eq)]
+pub(crate) enum Refused {
+    /// There is no room for it now.
+    Full,
+    /// Memory for it was wanting.
+    OutOfMemory,
+    /// Its place was taken.
+    NotTaken,
+}
+
+/// How many bytes stand before a message: a flag and four bytes of length.
+const PREFIX_LEN: usize = 5;
+
+/// What came of it, without what was handed back.
+fn without_item<T: Drop>(given: Result<(), GiveFault<T>>) -> Result<(), Refused>
+    ensures { result ≡ without_item given }
+{
+    match given {
+        Ok(()) => Ok(()),
+        Err(PutFault::Full { .. }) => Err(Refused::Full),
+        Err(PutFault::OutOfMemory(_)) => Err(Refused::OutOfMemory),
+        Err(PutFault::NotTaken(_)) => Err(Refused::NotTaken),
+    }
+}
+
+/// Gives the head of the response.
+pub(crate) fn give_head<O: Lane<Item = OutItem>>(
+    giver: &mut Giver<O>,
+    alloc: Global,
+    head: &CallHead,
+) -> Result<(), Refused>
+    requires { O.put_in giver.old.tx ≡ [] }
+    ensures name { O.in_name giver.new.tx ≡ O.in_name giver.old.tx }
+    ensures gives { Gives result O.only_fills (O.room_of (O.in_name giver.old.tx)) (O.seen_taken giver.new.tx) (O.put_in giver.old.tx) (head_item head.now) (O.put_in giver.new.tx) }
+{
+    if let Err(_waiting) = giver.check_room() {
+        return Err(Refused::Full);
+    }
+    let Ok(fields) = response_fields(alloc, &head.echo_initial) else {
+        return Err(Refused::OutOfMemory);
+    };
+    without_item(giver.head(Sequence::from(fields)))
+}
+
+/// Gives a reply. One that is too long for a message counts as one for which memory is wanting: no method has such a
+/// reply.
+pub(crate) fn give_reply<O: Lane<Item = OutItem>>(
+    giver: &mut Giver<O>,
+    alloc: Global,
+    reply: Reply,
+) -> Result<(), Refused>
+    requires { has_head (O.put_in giver.old.tx) ≡ true }
+    ensures name { O.in_name giver.new.tx ≡ O.in_name giver.old.tx }
+    ensures gives { Gives result O.only_fills (O.room_of (O.in_name giver.old.tx)) (O.seen_taken giver.new.tx) (O.put_in giver.old.tx) (reply_item reply) (O.put_in giver.new.tx) }
+{
+    if let Err(_waiting) = giver.check_room() {
+        return Err(Refused::Full);
+    }
+    let Ok(framed) = framed(alloc, reply) else {
+        return Err(Refused::OutOfMemory);
+    };
+    match giver.give_framed(framed) {
+        Ok(()) => Ok(()),
+        Err(FramedFault::Refused(fault)) => without_item(Err(fault)),
+        Err(FramedFault::NotAFrame(_)) => Err(Refused::OutOfMemory),
+    }
+}
+
+/// A reply with its prefix, in one piece of memory, which is filled once.
+fn framed(alloc: Global, reply: Reply) -> Result<Bytes, AllocError>
+    ensures { IfOk result (λ bytes. bytes ≡ frame (reply_bytes reply)) }
+{
+    let len = reply.len();
+    if len > MAX_MESSAGE_LEN {
+        return Err(AllocError);
+    }
+    let mut bytes = Vec::with_capacity(alloc, PREFIX_LEN + len)?;
+    if let Err(_fault) = write_prefix(len, &mut bytes) {
+        return Err(AllocError);
+    }
+    reply.write(&mut bytes)?;
+    Ok(Bytes::from_vec(bytes)?)
+}

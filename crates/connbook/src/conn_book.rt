@@ -1,0 +1,252 @@
+//! The value under the lock of a connection.
+
+ghost use Rattle.std.specs.Prelude.{◌≡◌, ◌≢◌, ℕ, ◌+◌, ◌<◌, ◌≤◌, true, false, length, nat_eq, if◌then◌else◌, IsSome, IsTrue, ◌↔◌, OnOk, OnErr};
+ghost use Rattle.flow.specs.Books.{new_book, call_at, Meets, GiveBackCause, after_give_back, after_cut, after_end_remote, after_end_local};
+ghost use Rattle.connbook.specs.Receipts.{receipt_of, after_receipt, counted_of, Admits, after_admission, credit_of, after_credit, after_stop};
+ghost use Rattle.connbook.specs.Ledgers.{IsKept};
+ghost use Rattle.connbook.specs.declared.answers.Receipt.TheVariants as receipt;
+ghost use Rattle.connbook.specs.declared.answers.AdmitFault.TheVariants as refused;
+
+use crate::answers::{AdmitFault, Receipt};
+use crate::steps;
+use flow::{Book, BookFault};
+use h2frame::StreamId;
+use std::alloc::Global;
+use std::sync::ledger;
+use std::sync::ledger::{Ledger, Share};
+
+/// The credit book that the threads of a connection share.
+///
+/// The ledger `A` counts the bytes of DATA that came, `B` the calls that were admitted, and `C` the bytes that were
+/// announced on the connection. The connection's reader holds the shares of the first two, its writer that of the third.
+///
+/// What is always true of it is `IsKept`: so it holds whenever the lock is free.
+#[derive(Drop)]
+pub struct ConnBook<A: Ledger, B: Ledger, C: Ledger> {
+    book: Book,
+    received: ledger::Book<A>,
+    admitted: ledger::Book<B>,
+    announced: ledger::Book<C>,
+    stopped: bool,
+    ghost kept: { IsKept book stopped received.total admitted.total announced.total },
+}
+
+impl<A: Ledger, B: Ledger, C: Ledger> ConnBook<A, B, C> {
+    /// The book of a new connection, with no calls, over three new ledgers.
+    pub fn new(
+        alloc: Global,
+        received: ledger::Book<A>,
+        admitted: ledger::Book<B>,
+        announced: ledger::Book<C>,
+    ) -> ConnBook<A, B, C>
+        requires received { received.total ≡ 0 }
+        requires admitted { admitted.total ≡ 0 }
+        requires announced { announced.total ≡ 0 }
+        ensures book { result.book ≡ new_book }
+        ensures running { result.stopped ≡ false }
+    {
+        ConnBook {
+            book: Book::new(alloc),
+            received,
+            admitted,
+            announced,
+            stopped: false,
+        }
+    }
+
+    /// Whether a call is live.
+    pub fn is_live(&self, id: StreamId) -> bool
+        ensures { IsTrue result ↔ IsSome (call_at self.now.book id) }
+    {
+        self.book.marks(id).is_some()
+    }
+
+    /// Whether the writer has stopped: nothing is written any more, and no call is live.
+    pub fn has_stopped(&self) -> bool
+        ensures stopped { result ≡ self.now.stopped }
+        ensures over { result ≡ true → length self.now.book.calls ≡ 0 }
+    {
+        self.stopped
+    }
+
+    /// The greatest id that was admitted, 0 for none: what a GOAWAY names (RFC 9113, section 6.8). Its contract says what is
+    /// true of each book.
+    pub fn last(&self) -> StreamId
+        ensures last { result ≡ self.now.book.last }
+        ensures kept { IsKept self.now.book self.now.stopped self.now.received.total self.now.admitted.total self.now.announced.total }
+    {
+        self.book.last()
+    }
+
+    /// Lets no more calls be admitted, for good.
+    pub fn close(&mut self)
+        ensures book { self.new.book ≡ record self.old.book { closing = true } }
+        ensures stopped { self.new.stopped ≡ self.old.stopped }
+    {
+        self.book.close();
+    }
+
+    /// Whether no more calls are admitted.
+    pub fn closing(&self) -> bool
+        ensures { result ≡ self.now.book.closing }
+    {
+        self.book.closing()
+    }
+
+    /// Admits a call, of which neither end is marked, and counts it in the share. Where the writer has stopped, the call is
+    /// admitted and cut in one.
+    ///
+    /// The id is tested first, then whether calls are admitted, then how many are live.
+    pub fn admit(&mut self, id: StreamId, mine: &mut Share<B>) -> Result<(), AdmitFault>
+        requires whole { mine.old.parts ≡ B.parts }
+        requires some { 0 < mine.old.parts }
+        ensures cause { Admits self.old.book id result }
+        ensures book { OnOk result (self.new.book ≡ after_admission self.old.stopped self.old.book id) }
+        ensures unchanged { OnErr result (self.new.book ≡ self.old.book) }
+        ensures counted { OnOk result (mine.new.amount ≡ mine.old.amount + 1) }
+        ensures uncounted { OnErr result (mine.new.amount ≡ mine.old.amount) }
+        ensures many { result ≡ Err refused.TooMany → 64 ≤ mine.old.amount }
+        ensures stopped { self.new.stopped ≡ self.old.stopped }
+        ensures parts { mine.new.parts ≡ mine.old.parts }
+    {
+        let ConnBook {
+            book,
+            received: _,
+            admitted,
+            announced: _,
+            stopped,
+        } = self;
+        admitted.audit(mine);
+        steps::admit(book, id)?;
+        admitted.add(mine, 1);
+        if *stopped {
+            steps::cut(book, id);
+        }
+        Ok(())
+    }
+
+    /// Counts DATA of so many bytes that came on a stream, `padding` of them no data (RFC 9113, section 6.9.1), and says what
+    /// becomes of them. Bytes of no call have the id 0.
+    pub fn receive(&mut self, id: StreamId, flow: u32, padding: u32, mine: &mut Share<A>) -> Receipt
+        requires whole { mine.old.parts ≡ A.parts }
+        requires some { 0 < mine.old.parts }
+        requires padding { padding ≤ flow }
+        ensures cause { result ≡ receipt_of self.old.book id flow }
+        ensures book { self.new.book ≡ after_receipt self.old.book id flow padding result }
+        ensures counted { mine.new.amount ≡ mine.old.amount + counted_of flow result }
+        ensures over_call { result ≡ receipt.CallWindow → 65535 < mine.new.amount }
+        ensures over { result ≡ receipt.Overrun → 65535 < mine.old.amount + flow }
+        ensures stopped { self.new.stopped ≡ self.old.stopped }
+        ensures parts { mine.new.parts ≡ mine.old.parts }
+    {
+        let receipt = steps::judge(&self.book, id, flow);
+        let ConnBook {
+            book,
+            received,
+            admitted: _,
+            announced: _,
+            stopped: _,
+        } = self;
+        received.audit(mine);
+        steps::count(book, id, flow, padding, receipt);
+        if receipt != Receipt::Overrun {
+            received.add(mine, u64::from(flow));
+        }
+        receipt
+    }
+
+    /// Counts bytes that were returned, for a live call and the connection, or for the connection alone where the id is 0.
+    pub fn give_back(&mut self, id: StreamId, n: u32) -> Result<(), BookFault>
+        ensures book { OnOk result (self.new.book ≡ after_give_back self.old.book id n) }
+        ensures unchanged { OnErr result (self.new.book ≡ self.old.book) }
+        ensures cause { Meets (GiveBackCause self.old.book id n) result }
+        ensures stopped { self.new.stopped ≡ self.old.stopped }
+    {
+        self.book.give_back(id, n)
+    }
+
+    /// Announces all that was returned on an id, 0 for the connection, and answers how much of it wasn't yet: the increment
+    /// of a WINDOW_UPDATE (RFC 9113, section 6.9), or 0. It is due only where it is at least what the peer may still send.
+    pub fn announce(&mut self, id: StreamId, mine: &mut Share<C>) -> u32
+        requires { 0 < mine.old.parts }
+        ensures increment { result ≡ credit_of self.old.book id }
+        ensures book { self.new.book ≡ after_credit self.old.book id }
+        ensures counted { mine.new.amount ≡ mine.old.amount + (if nat_eq id 0 then result else 0) }
+        ensures stopped { self.new.stopped ≡ self.old.stopped }
+        ensures parts { mine.new.parts ≡ mine.old.parts }
+    {
+        let ConnBook {
+            book,
+            received: _,
+            admitted: _,
+            announced,
+            stopped: _,
+        } = self;
+        let increment = steps::announce(book, id);
+        if id == 0 {
+            announced.add(mine, u64::from(increment));
+        }
+        increment
+    }
+
+    /// Marks the remote end of a call: no more DATA comes. With both ends marked it is no longer live. Nothing changes where
+    /// it isn't.
+    pub fn end_remote(&mut self, id: StreamId)
+        ensures book { self.new.book ≡ after_end_remote self.old.book id }
+        ensures stopped { self.new.stopped ≡ self.old.stopped }
+    {
+        steps::end_remote(&mut self.book, id);
+    }
+
+    /// Marks the local end of a call: nobody takes its DATA any more. With both ends marked it is no longer live. Nothing
+    /// changes where it isn't.
+    pub fn end_local(&mut self, id: StreamId)
+        ensures book { self.new.book ≡ after_end_local self.old.book id }
+        ensures stopped { self.new.stopped ≡ self.old.stopped }
+    {
+        steps::end_local(&mut self.book, id);
+    }
+
+    /// Makes a call no longer live, and returns the rest of its bytes on the connection. Nothing changes where it isn't live.
+    pub fn cut(&mut self, id: StreamId)
+        ensures book { self.new.book ≡ after_cut self.old.book id }
+        ensures stopped { self.new.stopped ≡ self.old.stopped }
+    {
+        steps::cut(&mut self.book, id);
+    }
+
+    /// The writer stops: no call is live any more, nor is any that is admitted later. It takes a step for each live call, at
+    /// most 64.
+    pub fn stop(&mut self)
+        ensures book { self.new.book ≡ after_stop self.old.book }
+        ensures stopped { self.new.stopped ≡ true }
+    {
+        let ConnBook {
+            book,
+            received: _,
+            admitted: _,
+            announced: _,
+            stopped,
+        } = self;
+        steps::cut_all(book);
+        *stopped = true;
+    }
+
+    /// Changes nothing, and tells how the shares of those who count stand to the book, where reader and writer meet again: no
+    /// more was announced on the connection than came on it.
+    pub fn audit(&mut self, came: &mut Share<A>, calls: &mut Share<B>, told: &mut Share<C>)
+        requires came { came.old.parts ≡ A.parts }
+        requires calls { calls.old.parts ≡ B.parts }
+        requires told { told.old.parts ≡ C.parts }
+        ensures within { told.new.amount ≤ came.new.amount }
+        ensures came { (came.new.amount ≡ came.old.amount) × (self.new.book.connection.received ≡ came.new.amount) }
+        ensures told { (told.new.amount ≡ told.old.amount) × (self.new.book.connection.announced ≡ told.new.amount) }
+        ensures calls { (calls.new.amount ≡ calls.old.amount) × (length self.new.book.calls ≤ calls.new.amount) }
+        ensures book { self.new.book ≡ self.old.book }
+        ensures stopped { self.new.stopped ≡ self.old.stopped }
+    {
+        self.received.audit(came);
+        self.admitted.audit(calls);
+        self.announced.audit(told);
+    }
+}
