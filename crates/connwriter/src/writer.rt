@@ -1,7 +1,7 @@
 //! The writer of a connection.
 //!
-//! `fill` stops where a frame of the greatest length might not fit, so the buffer never has more than 64 KiB, and is
-//! never made again.
+//! `fill` stops where a frame of the greatest length might not fit, so the buffer never has more than 64 KiB, and it is
+//! used again for the next frames.
 
 ghost use Rattle.std.specs.Prelude.{◌≡◌, ◌≢◌, ◌≤◌, ◌<◌, ◌+◌, ℕ, true, List, [], ◌∷◌, Option, Some, IsErr, OnOk, OnErr, IfNone, length, nat_eq, vec_len, vec_capacity};
 ghost use Rattle.std.specs.Map.{lookup};
