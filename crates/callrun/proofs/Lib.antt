@@ -1,3 +1,4 @@
 pub mod Steps
 pub mod Items
 pub mod Taking
+pub mod Ahead

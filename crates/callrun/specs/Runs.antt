@@ -15,7 +15,9 @@ use Rattle.callrun.specs.declared.call.Call.{Call}
 use Rattle.callrun.specs.declared.handling.Handling.{Handling}
 use Rattle.callhead.specs.declared.head.CallHead.{CallHead}
 use Rattle.handlers.specs.Answers.{IsLawful}
-use Rattle.callrun.specs.Handlings.{EndsSo, HeadIsDue, IsStanding}
+use Rattle.callbox.specs.InSides.{Tells, grown}
+use Rattle.callbox.specs.declared.taker.Taken.{Taken}
+use Rattle.callrun.specs.Handlings.{EndsSo, HeadIsDue, IsReady, IsStanding}
 use Rattle.callrun.specs.Outcomes.{IsBegun, IsOutcome, is_end}
 use Rattle.callrun.specs.Sides.{Shown}
 
@@ -38,6 +40,29 @@ pub record HasRun (answers : List (List ℕ) → Bool → Step → Type 0) (stan
   pub lawful : IsLawful answers
   pub each : (answer : Step) → answers messages (is_end said) answer → GivesOf said answer call shown
   pub standing : call.handling.ending ≡ None → IsStanding answers stands said messages call.handling.state
+
+-- what was given answers the messages before what is in hand
+abbrev pub ComesTo : (List (List ℕ) → Bool → Step → Type 0) → (MethodState → List (List ℕ) → Step → Type 0)
+    → Option Told → List (List ℕ) → Call → Shown → Option Taken → Type 0
+ComesTo answers stands said messages call shown None = HasRun answers stands said messages call shown
+ComesTo answers stands said messages call shown (Some taken) =
+    (before : Option Told) × (handled : List (List ℕ)) × Tells taken before said × (messages ≡ grown handled taken)
+    × IsReady call.handling × (shown.is_live ≡ true) × HasRun answers stands before handled call shown
+
+-- These messages lead to the call, of which the last thing that was taken may be in hand: the method has not been asked about it yet.
+pub record HasCome (answers : List (List ℕ) → Bool → Step → Type 0) (stands : MethodState → List (List ℕ) → Step → Type 0)
+    (said : Option Told) (messages : List (List ℕ)) (call : Call) (hand : Option Taken) (shown : Shown) : Type 0 where
+  pub come : ComesTo answers stands said messages call shown hand
+
+-- Nothing is in hand, and what comes next may be taken.
+abbrev pub MayTake : Option Taken → Call → Shown → Type 0
+MayTake hand call shown = (hand ≡ None) × IsReady call.handling × (shown.is_live ≡ true)
+
+-- What a look at a call comes to: nothing was taken, or one thing, which is in hand then.
+abbrev pub TakesAhead : (List (List ℕ) → Type 0) → List (List ℕ) → Option Taken → Option Told → Option Taken → Option Told → Type 0
+TakesAhead Holds messages old_hand old_said new_hand new_said =
+    ((new_hand ≡ old_hand) × (new_said ≡ old_said) × Holds messages)
+    ⊎ ((taken : Taken) × (new_hand ≡ Some taken) × Tells taken old_said new_said × Holds (grown messages taken))
 
 -- a step in which nothing is taken: of the same answer
 pub record RunsOn (old : Call) (before : Shown) (new : Call) (after : Shown) : Type 0 where

@@ -49,7 +49,7 @@ impl Call {
     ghost use Rattle.callrun.specs.declared.giving.Refused.TheVariants as refused_kind;
     ghost use Rattle.callrun.specs.Giving.{IsFull};
     ghost use Rattle.callrun.specs.Handlings.{HeadIsDue, IsReady, lacks_memory};
-    ghost use Rattle.callrun.specs.Runs.{HasRun, RunsOn, SameCall, IsDueReply, IsEnding, HasTrailers, ends_short};
+    ghost use Rattle.callrun.specs.Runs.{HasCome, HasRun, RunsOn, SameCall, IsDueReply, IsEnding, HasTrailers, ends_short};
     ghost use Rattle.callrun.specs.Sides.{IsOpenTo, is_gone, is_left, is_open, left, name_by, shown, Shown};
 
     /// Ends the call where the deadline has come.
@@ -90,6 +90,26 @@ impl Call {
                 let cause = Cause::of_fault(fault, self.head.encoding);
                 self.handling.end_by(alloc, cause);
             }
+        }
+    }
+
+    /// Has the method answer what is in hand, if anything is.
+    pub(crate) fn hand_over<G: Drop, S: Drop>(
+        &mut self,
+        method: &dyn Method,
+        in_hand: Option<Taken>,
+        response: &Response<G, S>,
+    )
+        ensures run { (of_open : G → List Item) (of_shut : S → List Item) (was_placed : S → Bool) (said : Option ToldOf) (messages : List (List ℕ))
+            → HasCome (answers method.now) (stands method.now) said messages self.old in_hand (shown of_open of_shut was_placed response.now)
+            → HasRun (answers method.now) (stands method.now) said messages self.new (shown of_open of_shut was_placed response.now) }
+        ensures same { SameCall self.old self.new }
+    {
+        let Some(taken) = in_hand else {
+            return;
+        };
+        if response.is_open() && self.handling.is_ready() {
+            self.answer(method, taken);
         }
     }
 

@@ -10,7 +10,7 @@ ghost use Rattle.callrun.specs.declared.call.Turn.TheVariants as turn;
 ghost use Rattle.callrun.specs.Giving.{IsFull};
 ghost use Rattle.callrun.specs.Outcomes.{IsOutcome};
 ghost use Rattle.callrun.specs.Handlings.{IsReady, lacks_memory};
-ghost use Rattle.callrun.specs.Runs.{GivesOf, HasRun, Leaves, RunsOn, SameCall, deadline_of};
+ghost use Rattle.callrun.specs.Runs.{GivesOf, HasCome, HasRun, Leaves, MayTake, SameCall, TakesAhead, deadline_of};
 ghost use Rattle.callrun.specs.Sides.{IsOpenTo, is_gone, is_left, is_open, name_by, shown};
 
 use crate::call::{Call, Turn};
@@ -30,6 +30,8 @@ pub struct CallRun<I: Lane<Item = InPiece>, O: Lane<Item = OutItem>> {
     pub(crate) index: usize,
     pub(crate) call: Call,
     pub(crate) taker: Taker<I>,
+    /// What was taken ahead, and is still to be handed to the method.
+    pub(crate) in_hand: Option<Taken>,
     pub(crate) response: Response<Giver<O>, GivenShut<O>>,
     ghost there: { is_gone response ≡ false },
 }
@@ -53,6 +55,7 @@ impl<I: Lane<Item = InPiece>, O: Lane<Item = OutItem>> CallRun<I, O> {
         ensures taker { result.taker ≡ taker }
         ensures name { name_by (λ g. O.in_name g.tx) (λ s. O.shut_name s.shut) result.response ≡ Some (O.in_name giver.tx) }
         ensures index_is { result.index ≡ index }
+        ensures hand { result.in_hand ≡ None }
         ensures head { result.call.head ≡ head }
         ensures deadline { result.call.deadline ≡ deadline_of head.timeout opened }
         ensures early { result.call.overdue ≡ false }
@@ -76,6 +79,7 @@ impl<I: Lane<Item = InPiece>, O: Lane<Item = OutItem>> CallRun<I, O> {
                 handling,
             },
             taker,
+            in_hand: None,
             response: Response::Open(giver),
         }
     }
@@ -86,9 +90,9 @@ impl<I: Lane<Item = InPiece>, O: Lane<Item = OutItem>> CallRun<I, O> {
         // Whatever messages led to the call before, they and those that were taken lead to the call after.
         ensures run { IfSome (slice_get (listed methods.now) self.old.index) (λ method. (messages : List (List ℕ))
             → Took (I.got self.old.taker.rx) self.old.taker.progress messages
-            → HasRun ((⟦<dyn Method as Method>⟧ method.vtable).answers method.value) ((⟦<dyn Method as Method>⟧ method.vtable).stands method.value) self.old.taker.progress.told messages self.old.call (shown (λ g. O.put_in g.tx) (λ s. O.put_shut s.shut) (λ s. O.was_placed s.shut) self.old.response)
+            → HasCome ((⟦<dyn Method as Method>⟧ method.vtable).answers method.value) ((⟦<dyn Method as Method>⟧ method.vtable).stands method.value) self.old.taker.progress.told messages self.old.call self.old.in_hand (shown (λ g. O.put_in g.tx) (λ s. O.put_shut s.shut) (λ s. O.was_placed s.shut) self.old.response)
             → (more : List (List ℕ)) × Took (I.got self.new.taker.rx) self.new.taker.progress (messages ++ more)
-            × HasRun ((⟦<dyn Method as Method>⟧ method.vtable).answers method.value) ((⟦<dyn Method as Method>⟧ method.vtable).stands method.value) self.new.taker.progress.told (messages ++ more) self.new.call (shown (λ g. O.put_in g.tx) (λ s. O.put_shut s.shut) (λ s. O.was_placed s.shut) self.new.response)) }
+            × HasCome ((⟦<dyn Method as Method>⟧ method.vtable).answers method.value) ((⟦<dyn Method as Method>⟧ method.vtable).stands method.value) self.new.taker.progress.told (messages ++ more) self.new.call self.new.in_hand (shown (λ g. O.put_in g.tx) (λ s. O.put_shut s.shut) (λ s. O.was_placed s.shut) self.new.response)) }
         ensures in_name { I.out_name self.new.taker.rx ≡ I.out_name self.old.taker.rx }
         ensures name { name_by (λ g. O.in_name g.tx) (λ s. O.shut_name s.shut) self.new.response ≡ name_by (λ g. O.in_name g.tx) (λ s. O.shut_name s.shut) self.old.response }
         ensures same { (self.new.index ≡ self.old.index) × (self.new.call.head ≡ self.old.call.head) × (self.new.call.deadline ≡ self.old.call.deadline) }
@@ -112,6 +116,8 @@ impl<I: Lane<Item = InPiece>, O: Lane<Item = OutItem>> CallRun<I, O> {
         if !self.response.is_open() {
             return Turn::Over;
         }
+        let in_hand = self.in_hand.take();
+        self.call.hand_over(&**method, in_hand, &self.response);
         self.call.look_at(now);
         if let Some(reply) = self.call.handling.waiting.first() {
             return self.call.give(&mut self.response, reply);
@@ -122,15 +128,55 @@ impl<I: Lane<Item = InPiece>, O: Lane<Item = OutItem>> CallRun<I, O> {
         self.take(&**method)
     }
 
+    /// Whether a message, the end, a reset or a fault is at hand, for the next turn to have the method answer. It is taken
+    /// ahead, where no item waits to be given and nothing was taken ahead before.
+    pub fn is_ready(&mut self) -> bool
+        ensures ready { IsTrue result ↔ IsSome self.new.in_hand }
+        ensures ahead { (messages : List (List ℕ)) → Took (I.got self.old.taker.rx) self.old.taker.progress messages
+            → TakesAhead (λ all. Took (I.got self.new.taker.rx) self.new.taker.progress all) messages
+            self.old.in_hand self.old.taker.progress.told self.new.in_hand self.new.taker.progress.told }
+        ensures may { (self.new.in_hand ≡ self.old.in_hand) ⊎ MayTake self.old.in_hand self.new.call (shown (λ g. O.put_in g.tx) (λ s. O.put_shut s.shut) (λ s. O.was_placed s.shut) self.new.response) }
+        ensures in_name { I.out_name self.new.taker.rx ≡ I.out_name self.old.taker.rx }
+        ensures same { (self.new.index ≡ self.old.index) × (self.new.call ≡ self.old.call) × (self.new.response ≡ self.old.response) }
+    {
+        if self.in_hand.is_none() && self.response.is_open() && self.call.handling.is_ready() {
+            self.look_ahead();
+        }
+        self.in_hand.is_some()
+    }
+
+    /// Takes ahead what there is to take.
+    fn look_ahead(&mut self)
+        requires { self.old.in_hand ≡ None }
+        ensures ahead { (messages : List (List ℕ)) → Took (I.got self.old.taker.rx) self.old.taker.progress messages
+            → TakesAhead (λ all. Took (I.got self.new.taker.rx) self.new.taker.progress all) messages
+            self.old.in_hand self.old.taker.progress.told self.new.in_hand self.new.taker.progress.told }
+        ensures in_name { I.out_name self.new.taker.rx ≡ I.out_name self.old.taker.rx }
+        ensures same { (self.new.index ≡ self.old.index) × (self.new.call ≡ self.old.call) × (self.new.response ≡ self.old.response) }
+    {
+        match self.taker.take() {
+            Taken::Nothing => {}
+            taken => self.in_hand = Some(taken),
+        }
+    }
+
     /// Gives nothing more, as where the call is no longer live. Each turn answers `Over` from then on.
-    pub fn leave(&mut self)
-        ensures run { RunsOn self.old.call (shown (λ g. O.put_in g.tx) (λ s. O.put_shut s.shut) (λ s. O.was_placed s.shut) self.old.response) self.new.call (shown (λ g. O.put_in g.tx) (λ s. O.put_shut s.shut) (λ s. O.was_placed s.shut) self.new.response) }
+    pub fn leave(&mut self, methods: &Methods)
+        requires index { self.old.index < length (listed methods.now) }
+        ensures run { IfSome (slice_get (listed methods.now) self.old.index) (λ method. (messages : List (List ℕ))
+            → HasCome ((⟦<dyn Method as Method>⟧ method.vtable).answers method.value) ((⟦<dyn Method as Method>⟧ method.vtable).stands method.value) self.old.taker.progress.told messages self.old.call self.old.in_hand (shown (λ g. O.put_in g.tx) (λ s. O.put_shut s.shut) (λ s. O.was_placed s.shut) self.old.response)
+            → HasCome ((⟦<dyn Method as Method>⟧ method.vtable).answers method.value) ((⟦<dyn Method as Method>⟧ method.vtable).stands method.value) self.new.taker.progress.told messages self.new.call self.new.in_hand (shown (λ g. O.put_in g.tx) (λ s. O.put_shut s.shut) (λ s. O.was_placed s.shut) self.new.response)) }
         // What was given stays.
         ensures leaves { Leaves (shown (λ g. O.put_in g.tx) (λ s. O.put_shut s.shut) (λ s. O.was_placed s.shut) self.old.response) (shown (λ g. O.put_in g.tx) (λ s. O.put_shut s.shut) (λ s. O.was_placed s.shut) self.new.response) }
         ensures name { name_by (λ g. O.in_name g.tx) (λ s. O.shut_name s.shut) self.new.response ≡ name_by (λ g. O.in_name g.tx) (λ s. O.shut_name s.shut) self.old.response }
         ensures over { is_open self.new.response ≡ false }
-        ensures same { (self.new.index ≡ self.old.index) × (self.new.call ≡ self.old.call) × (self.new.taker ≡ self.old.taker) }
+        ensures same { (self.new.index ≡ self.old.index) × (self.new.taker ≡ self.old.taker) × SameCall self.old.call self.new.call }
     {
+        let Some(method) = methods.get(self.index) else {
+            unreachable!()
+        };
+        let in_hand = self.in_hand.take();
+        self.call.hand_over(&**method, in_hand, &self.response);
         self.response.leave();
     }
 
@@ -139,7 +185,7 @@ impl<I: Lane<Item = InPiece>, O: Lane<Item = OutItem>> CallRun<I, O> {
         ensures owed { result ≡ self.old.taker.progress.owed }
         ensures none { self.new.taker.progress ≡ record self.old.taker.progress { owed = 0 } }
         ensures rx { self.new.taker.rx ≡ self.old.taker.rx }
-        ensures same { (self.new.index ≡ self.old.index) × (self.new.call ≡ self.old.call) × (self.new.response ≡ self.old.response) }
+        ensures same { (self.new.index ≡ self.old.index) × (self.new.call ≡ self.old.call) × (self.new.in_hand ≡ self.old.in_hand) × (self.new.response ≡ self.old.response) }
     {
         self.taker.credit()
     }
@@ -184,7 +230,7 @@ impl<I: Lane<Item = InPiece>, O: Lane<Item = OutItem>> CallRun<I, O> {
             → (more : List (List ℕ)) × Took (I.got self.new.taker.rx) self.new.taker.progress (messages ++ more)
             × HasRun (answers method.now) (stands method.now) self.new.taker.progress.told (messages ++ more) self.new.call (shown (λ g. O.put_in g.tx) (λ s. O.put_shut s.shut) (λ s. O.was_placed s.shut) self.new.response) }
         ensures in_name { I.out_name self.new.taker.rx ≡ I.out_name self.old.taker.rx }
-        ensures same { (self.new.index ≡ self.old.index) × (self.new.response ≡ self.old.response) × SameCall self.old.call self.new.call }
+        ensures same { (self.new.index ≡ self.old.index) × (self.new.in_hand ≡ self.old.in_hand) × (self.new.response ≡ self.old.response) × SameCall self.old.call self.new.call }
         ensures turn { (result ≡ turn.Went) ⊎ (result ≡ turn.Nothing) }
         ensures nothing { result ≡ turn.Nothing → IsUnfinished self.new.taker.progress.splitter
             × (self.new.taker.progress.shut ≡ None) × (self.new.taker.progress.unread ≡ false) × (I.ahead self.new.taker.rx ≡ []) }

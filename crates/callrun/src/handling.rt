@@ -1,6 +1,6 @@
 //! What the method of a call has made of what was taken.
 
-ghost use Rattle.std.specs.Prelude.{◌≡◌, ◌++◌, ◌∷◌, [], List, ℕ, false, None, Some};
+ghost use Rattle.std.specs.Prelude.{◌≡◌, ◌↔◌, IsTrue, ◌++◌, ◌∷◌, [], List, ℕ, false, None, Some};
 ghost use Rattle.account.specs.declared.call.Told.TheVariants as told_kind;
 ghost use Rattle.handlers.specs.Answers.{IsLawful};
 ghost use Rattle.handlers.specs.Steps.{nothing};
@@ -77,6 +77,13 @@ impl Handling {
     {
         self.waiting = Waiting::none(alloc);
         self.ending = Some(Ending::Cause(cause));
+    }
+
+    /// Whether nothing waits and the call goes on, so that more may be taken.
+    pub(crate) fn is_ready(&self) -> bool
+        ensures { IsTrue result ↔ IsReady self.now }
+    {
+        self.waiting.is_empty() && self.ending.is_none()
     }
 
     /// Whether the call ends for want of memory.

@@ -1,6 +1,6 @@
 //! The replies that a call has still to give.
 
-ghost use Rattle.std.specs.Prelude.{◌≡◌, [], ◌∷◌, MatchOption, List};
+ghost use Rattle.std.specs.Prelude.{◌≡◌, ◌↔◌, IsTrue, [], ◌∷◌, MatchOption, List};
 ghost use Rattle.handlers.specs.declared.reply.Reply.{Reply as ReplyOf};
 
 use handlers::{Replies, Reply};
@@ -42,6 +42,13 @@ impl Waiting {
     {
         let reply = self.replies.as_slice().get(self.given)?;
         Some(*reply)
+    }
+
+    /// Whether all were given.
+    pub(crate) fn is_empty(&self) -> bool
+        ensures { IsTrue result ↔ (self.now ≡ []) }
+    {
+        self.first().is_none()
     }
 
     /// The next reply was given.

@@ -16,7 +16,7 @@ returns-in_default g c = record {
       (opened_run _ _ _ _ _ _ _ _ _ _ _ _ c.requires.open
       (λ given before. c.answer.ensures.run _ _ messages given c.take.ensures.tells before) run);
   in_name = c.take.ensures.name;
-  same = (refl, refl, c.answer.ensures.same);
+  same = (refl, refl, refl, c.answer.ensures.same);
   turn = inl refl;
   nothing = λ same. absurd (cc);
 }

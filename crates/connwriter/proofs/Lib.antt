@@ -1,0 +1,2 @@
+pub mod SpelledLemmas
+pub mod WroteSteps

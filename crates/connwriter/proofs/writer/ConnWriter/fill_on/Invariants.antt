@@ -1,0 +1,17 @@
+use Rattle.std.proofs.Common.{◌≡◌, ◌≤◌, ◌-◌, length, None}
+use Rattle.connwriter.specs.Wrote.{Fills}
+use Rattle.connwriter.specs.declared.standing.Standing.TheVariants.{Going}
+use Rattle.connwriter.proofs.writer.ConnWriter.fill_on.Given as goal
+
+-- frames lead from the writer as it was to the writer as it is
+abbrev pub invariant-frames : goal.invariant-frames
+invariant-frames g l = record {
+  fills : Fills g.L.Lane.got g.L.Lane.ahead g.W.ConnWrite.contents g.W.ConnWrite.failed None l.fn.self l.self;
+  room : length l.fn.self.buffer.items ≤ 65536 → length l.self.buffer.items ≤ 65536;
+  going : l.self.standing ≡ Going;
+  device : l.self.device ≡ l.fn.self.device;
+  left : l.self.left ≡ l.fn.self.left;
+}
+
+abbrev pub decreases-frames : goal.decreases-frames
+decreases-frames g l = 49144 - length l.self.buffer.items

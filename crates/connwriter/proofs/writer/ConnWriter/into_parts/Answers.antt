@@ -1,0 +1,5 @@
+use Rattle.connwriter.proofs.WroteSteps.{wrote-front}
+use Rattle.connwriter.proofs.writer.ConnWriter.into_parts.Goals as goal
+
+pub returns-clause-prefix : goal.returns-clause-prefix
+returns-clause-prefix g c = λ before run w. wrote-front g.L.Lane.got g.W.ConnWrite.contents g.W.ConnWrite.failed before run c.args.self w

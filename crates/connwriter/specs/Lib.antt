@@ -1,0 +1,3 @@
+pub mod Orders
+pub mod Spelled
+pub mod Wrote

@@ -1,0 +1,40 @@
+-- The orders that a writer makes by itself: the peer's window overflows (RFC 9113, sections 6.9.1 and 6.9.2).
+use Rattle.std.specs.Prelude.{◌≡◌, ◌≢◌, ℕ, ◌==◌, true, List, [], ◌∷◌, if◌then◌else◌}
+use Rattle.flow.specs.Windows.{Windows}
+use Rattle.h2frame.specs.declared.error_code.ErrorCode.TheVariants.{FlowControlError}
+use Rattle.outwriter.specs.declared.control.Control.{Control}
+use Rattle.outwriter.specs.declared.control.Control.TheVariants.{Reset, Goaway}
+use Rattle.outwriter.specs.declared.control.OutFault.TheVariants.{PeerWindow}
+use Rattle.outwriter.specs.RunState.{Blames, HasRoom}
+use Rattle.outwriter.specs.Steps.{Order, Step, Taken}
+use Rattle.connwriter.specs.declared.standing.Standing.{Standing}
+use Rattle.connwriter.specs.declared.standing.Standing.TheVariants.{Going}
+use Rattle.connwriter.specs.declared.taking.Taking.{Taking}
+use Rattle.connwriter.specs.declared.taking.Taking.TheVariants.{Done, Ended, Unanswered, HandedBack}
+
+-- what ends a stream, or the connection as stream 0: an error of flow control
+abbrev pub own_control : {S : Type 0} → ℕ → ℕ → Control S
+own_control last id = if id == 0 then Goaway last FlowControlError else Reset id FlowControlError true
+
+abbrev pub own_order : ℕ → ℕ → Order
+own_order last id = own_control last id
+
+module _ {S : Type 0} where
+  -- the steps that an order leads to, the latest first
+  abbrev pub steps_of : Order → ℕ → Taking S → List Step
+  steps_of order last Done = Taken order ∷ []
+  steps_of order last (Ended id) = Taken (own_order last id) ∷ Taken order ∷ []
+  steps_of order last (Unanswered id) = Taken order ∷ []
+  steps_of order last (HandedBack control) = []
+
+  -- why: with the order a window would be over 2^31 - 1 bytes, or there is room for it
+  abbrev pub Blamed : Taking S → Control S → Windows → Type 0
+  Blamed Done control windows = HasRoom control windows
+  Blamed (Ended id) control windows = Blames (PeerWindow id) control windows
+  Blamed (Unanswered id) control windows = Blames (PeerWindow id) control windows
+  Blamed (HandedBack back) control windows = back ≡ control
+
+  -- a writer whose own order found no memory goes on no more
+  abbrev pub Stops : Taking S → Standing → Standing → Type 0
+  Stops (Unanswered id) old new = new ≢ Going
+  Stops _ old new = new ≡ old

@@ -1,0 +1,18 @@
+//! What became of an order.
+
+use h2frame::StreamId;
+use outwriter::Control;
+
+/// What became of an order that a writer was given. `S` is the sender of a call.
+#[derive(Drop)]
+pub enum Taking<S> {
+    /// It was taken.
+    Done,
+    /// It was taken, and with it a window would be over 2^31 - 1 bytes. The writer ended the stream by RST_STREAM, or
+    /// at 0 the connection by GOAWAY, with FLOW_CONTROL_ERROR (RFC 9113, sections 6.9.1 and 6.9.2).
+    Ended(StreamId),
+    /// The same, but out of memory: nothing tells it to the peer, and the writer stops.
+    Unanswered(StreamId),
+    /// Out of memory: it comes back, and nothing changed.
+    HandedBack(Control<S>),
+}

@@ -1,0 +1,326 @@
+//! The writer of a connection.
+//!
+//! `fill` stops where a frame of the greatest length might not fit, so the buffer never has more than 64 KiB, and it is
+//! used again for the next frames.
+
+ghost use Rattle.std.specs.Prelude.{◌≡◌, ◌≢◌, ◌≤◌, ◌<◌, ◌+◌, ℕ, true, List, [], ◌∷◌, Option, Some, IsErr, OnOk, OnErr, IfNone, length, nat_eq, vec_len, vec_capacity};
+ghost use Rattle.std.specs.Map.{lookup};
+ghost use Rattle.std.specs.Io.KnownBytes.{Appends};
+ghost use Rattle.device.specs.Bytes.{AppendsPrefix};
+ghost use Rattle.flow.specs.Windows.{room};
+ghost use Rattle.outwriter.specs.Calls.{TellFronts, TellOthers};
+ghost use Rattle.outwriter.specs.Cores.{calls, IsUnused};
+ghost use Rattle.outwriter.specs.Credits.{Grants};
+ghost use Rattle.h2frame.specs.Spelling.{IsWritable};
+ghost use Rattle.outwriter.specs.Frames.{ends_stream};
+ghost use Rattle.outwriter.specs.RunState.{is_held};
+ghost use Rattle.outwriter.specs.Steps.{Step, Taken, Granted, order_of, frames_of};
+ghost use Rattle.connwriter.specs.declared.standing.Standing.TheVariants as stands;
+ghost use Rattle.connwriter.specs.declared.filled.Filled.TheVariants as filled;
+ghost use Rattle.connwriter.specs.Orders.{own_control, own_order, steps_of, Blamed, Stops};
+ghost use Rattle.connwriter.specs.Spelled.{IsFront, IsAll};
+ghost use Rattle.connwriter.specs.Wrote.{Wrote, WritesOn, Fills, PutsOr};
+
+use crate::filled::Filled;
+use crate::standing::Standing;
+use crate::taking::Taking;
+use account::OutItem;
+use callbox::Sender;
+use device::{ConnWrite, DeviceFault, write_all};
+use h2frame::{ErrorCode, Flags, Frame, FrameKind, StreamId, write_frame};
+use lane::Lane;
+use outwriter::{Control, Next, OutCore, OutFault};
+use std::alloc::{AllocError, Global};
+use std::mem;
+
+/// The most bytes that the buffer has.
+const BUFFER: usize = 65_536;
+
+/// The bytes of the longest frame, its head included (RFC 9113, sections 4.1 and 4.2).
+const LONGEST_FRAME: usize = 16_393;
+
+/// The writer of a connection.
+#[derive(Drop)]
+pub struct ConnWriter<L: Lane<Item = OutItem>, W: ConnWrite> {
+    pub(crate) core: OutCore<L>,
+    /// The bytes of frames that weren't written yet.
+    pub(crate) buffer: Vec<u8>,
+    /// The streams whose END_STREAM is in the buffer.
+    pub(crate) ended: Vec<StreamId>,
+    /// Those whose END_STREAM was written by the last flush.
+    pub(crate) left: Vec<StreamId>,
+    pub(crate) standing: Standing,
+    pub(crate) device: W,
+}
+
+impl<L: Lane<Item = OutItem>, W: ConnWrite> ConnWriter<L, W> {
+    /// The writer of a connection on which nothing was written. It takes no memory yet.
+    pub fn new(alloc: Global, device: W) -> ConnWriter<L, W>
+        ensures wrote { Wrote L.got W.contents W.failed (W.contents device) [] result }
+        ensures going { result.standing ≡ stands.Going }
+        ensures empty { result.buffer.items ≡ [] }
+        ensures ended { result.ended.items ≡ [] }
+        ensures senders { result.core.senders.items ≡ [] }
+    {
+        ConnWriter {
+            core: OutCore::new(alloc),
+            buffer: Vec::new(alloc),
+            ended: Vec::new(alloc),
+            left: Vec::new(alloc),
+            standing: Standing::Going,
+            device,
+        }
+    }
+
+    /// How it stands.
+    pub fn standing(&self) -> Standing
+        ensures { result ≡ self.now.standing }
+    {
+        self.standing
+    }
+
+    /// The streams whose END_STREAM is in the buffer: from the next flush on they may have left.
+    pub fn ended(&self) -> &[StreamId]
+        ensures { result.now ≡ self.now.ended.items }
+    {
+        self.ended.as_slice()
+    }
+
+    /// The streams whose END_STREAM the last flush wrote.
+    pub fn left(&self) -> &[StreamId]
+        ensures { result.now ≡ self.now.left.items }
+    {
+        self.left.as_slice()
+    }
+
+    /// Whether nothing is in the buffer.
+    pub fn is_flushed(&self) -> bool
+        ensures some { result ≡ true → self.now.buffer.items ≡ [] }
+    {
+        self.buffer.is_empty()
+    }
+
+    /// Whether an item of the stream is in hand that a window keeps back.
+    pub fn held(&self, id: StreamId) -> bool
+        ensures { result ≡ is_held (lookup (nat_eq id) self.now.core.streams.entries) (room self.now.core.outbound.windows id) }
+    {
+        self.core.held(id)
+    }
+
+    /// Takes an order. Where the peer's window overflows by it, the writer ends the stream or the connection by an order
+    /// of its own; `last` is the greatest stream that was looked at, which a GOAWAY then tells.
+    pub fn take(&mut self, control: Control<Sender<L>>, last: StreamId) -> Taking<Sender<L>>
+        // The order is the next step of the run, unless it is handed back, and behind it the writer's own is.
+        ensures wrote { IsUnused L.got control → WritesOn L.got W.contents W.failed (steps_of (order_of control) last result) self.old self.new }
+
+        // The writer ends a stream or the connection exactly where a window would be over 2^31 - 1 bytes.
+        ensures blamed { Blamed result control self.old.core.outbound.windows }
+        ensures stands { Stops result self.old.standing self.new.standing }
+        ensures rest { self.new ≡ record self.old { core = self.new.core; standing = self.new.standing } }
+    {
+        match self.core.control(control) {
+            Ok(()) => Taking::Done,
+            Err(OutFault::OutOfMemory(Some(back))) => Taking::HandedBack(back),
+            Err(OutFault::OutOfMemory(None)) => unreachable!(),
+            Err(OutFault::PeerWindow(id)) => match self.end(id, last) {
+                Ok(()) => Taking::Ended(id),
+                Err(_e) => Taking::Unanswered(id),
+            },
+        }
+    }
+
+    /// Owes n bytes more of credit, on a stream, or on the connection where it is 0.
+    pub fn grant(&mut self, id: StreamId, n: u32)
+        ensures wrote { WritesOn L.got W.contents W.failed (Granted id n ∷ []) self.old self.new }
+        ensures owed { Grants self.old.core.outbound.credit id n self.new.core.outbound.credit }
+        ensures rest { self.new ≡ record self.old { core = self.new.core } }
+    {
+        self.core.grant(id, n);
+    }
+
+    /// Puts frames into the buffer, until none comes or the longest might not fit. The buffer never has more than
+    /// 65,536 bytes by it.
+    pub fn fill(&mut self) -> Filled
+        // Frames are the next steps of the run. Where none comes, all is written that can be.
+        ensures wrote { Fills L.got L.ahead W.contents W.failed (Some result) self.old self.new }
+        ensures room { length self.old.buffer.items ≤ 65536 → length self.new.buffer.items ≤ 65536 }
+        ensures device { self.new.device ≡ self.old.device }
+        ensures left { self.new.left ≡ self.old.left }
+        ensures goes { result ≢ filled.Stopped → self.new.standing ≡ stands.Going }
+        ensures stopped { self.old.standing ≢ stands.Going → (result ≡ filled.Stopped) × (self.new ≡ self.old) }
+    {
+        match self.standing {
+            Standing::Going => self.fill_on(),
+            Standing::OutOfMemory | Standing::Broken => Filled::Stopped,
+        }
+    }
+
+    /// Writes the buffer to the device, all of it. After a fault a prefix of it was written, and the writer is broken: it
+    /// answers a fault again, and writes nothing.
+    pub fn flush(&mut self) -> Result<(), DeviceFault>
+        ensures wrote { WritesOn L.got W.contents W.failed [] self.old self.new }
+        ensures ok { OnOk result (Appends (W.contents self.old.device) (W.contents self.new.device) self.old.buffer.items) }
+        ensures prefix { OnErr result (self.old.standing ≢ stands.Broken → AppendsPrefix (W.contents self.old.device) (W.contents self.new.device) self.old.buffer.items) }
+        ensures empty { OnOk result (self.new.buffer.items ≡ []) }
+        ensures ended { OnOk result ((self.new.ended.items ≡ []) × (self.new.left.items ≡ self.old.ended.items)) }
+        ensures stands { OnOk result (self.new.standing ≡ self.old.standing) }
+        ensures broken { OnErr result (self.new.standing ≡ stands.Broken) }
+        ensures unmarked { OnOk result (W.failed self.new.device ≡ W.failed self.old.device) }
+        ensures marked { OnErr result (self.old.standing ≢ stands.Broken → W.failed self.new.device ≡ true) }
+        ensures core { self.new.core ≡ self.old.core }
+
+        // What is broken stays as it is, its device too.
+        ensures never_again { self.old.standing ≡ stands.Broken → (self.new ≡ self.old) × IsErr result }
+    {
+        if let Standing::Broken = self.standing {
+            return Err(DeviceFault);
+        }
+        match write_all(&mut self.device, self.buffer.as_slice()) {
+            Ok(()) => {
+                self.buffer.clear();
+                self.left.clear();
+                mem::swap(&mut self.left, &mut self.ended);
+                Ok(())
+            }
+            Err(fault) => {
+                self.standing = Standing::Broken;
+                Err(fault)
+            }
+        }
+    }
+
+    /// The senders of all calls, in the order of their Opens, and the device.
+    pub fn into_parts(self) -> (Vec<(StreamId, Sender<L>)>, W)
+        ensures senders { result.0 ≡ self.core.senders }
+        ensures device { result.1 ≡ self.device }
+
+        // What was told of each call begins what the items that were got of its sender spell; of a stream that was never opened nothing was
+        // told, a reset, or what a Refuse asked for.
+        ensures fronts { (before : Option (List ℕ)) (run : List Step) → Wrote L.got W.contents W.failed before run self → TellFronts run (calls L.got result.0.items) }
+        ensures others { (before : Option (List ℕ)) (run : List Step) → Wrote L.got W.contents W.failed before run self → TellOthers run }
+
+        // The device got a prefix of the spelled frames of the run, and all of them where no write failed and nothing is left.
+        ensures prefix { (before : Option (List ℕ)) (run : List Step) → Wrote L.got W.contents W.failed before run self → IsFront (frames_of run) before (W.contents result.1) }
+        ensures all { self.standing ≡ stands.Going → self.buffer.items ≡ [] → (before : Option (List ℕ)) (run : List Step)
+            → Wrote L.got W.contents W.failed before run self → IsAll (frames_of run) before (W.contents result.1) }
+    {
+        let ConnWriter { core, device, .. } = self;
+        (core.into_senders(), device)
+    }
+
+    /// Ends the stream whose window overflowed, or at 0 the connection. Out of memory, the writer stops.
+    fn end(&mut self, id: StreamId, last: StreamId) -> Result<(), AllocError>
+        ensures wrote { OnOk result (WritesOn L.got W.contents W.failed (Taken (own_order last id) ∷ []) self.old self.new) }
+        ensures still { OnErr result (WritesOn L.got W.contents W.failed [] self.old self.new) }
+        ensures stands { OnOk result (self.new.standing ≡ self.old.standing) }
+        ensures stops { OnErr result (self.new.standing ≢ stands.Going) }
+        ensures rest { self.new ≡ record self.old { core = self.new.core; standing = self.new.standing } }
+    {
+        match self.core.control(own_order(id, last)) {
+            Ok(()) => Ok(()),
+            Err(OutFault::OutOfMemory(_)) => {
+                self.stop();
+                Err(AllocError)
+            }
+            Err(OutFault::PeerWindow(_)) => unreachable!(),
+        }
+    }
+
+    /// Makes no more frames.
+    fn stop(&mut self)
+        ensures wrote { WritesOn L.got W.contents W.failed [] self.old self.new }
+        ensures stops { self.new.standing ≢ stands.Going }
+        ensures dead { self.old.standing ≡ stands.Going → self.new.standing ≡ stands.OutOfMemory }
+        ensures rest { self.new ≡ record self.old { standing = self.new.standing } }
+    {
+        if let Standing::Going = self.standing {
+            self.standing = Standing::OutOfMemory;
+        }
+    }
+
+    /// Puts frames into the buffer.
+    fn fill_on(&mut self) -> Filled
+        requires { self.old.standing ≡ stands.Going }
+        ensures wrote { Fills L.got L.ahead W.contents W.failed (Some result) self.old self.new }
+        ensures room { length self.old.buffer.items ≤ 65536 → length self.new.buffer.items ≤ 65536 }
+        ensures device { self.new.device ≡ self.old.device }
+        ensures left { self.new.left ≡ self.old.left }
+        ensures goes { result ≢ filled.Stopped → self.new.standing ≡ stands.Going }
+    {
+        'frames: while self.buffer.len() <= BUFFER - LONGEST_FRAME {
+            if let Some(filled) = self.add_frame() {
+                return filled;
+            }
+        }
+        Filled::Full
+    }
+
+    /// Puts the next frame into the buffer. Where there is none it says why.
+    fn add_frame(&mut self) -> Option<Filled>
+        requires { self.old.standing ≡ stands.Going }
+        ensures wrote { Fills L.got L.ahead W.contents W.failed result self.old self.new }
+        ensures grows { IfNone result (length self.old.buffer.items < length self.new.buffer.items) }
+        ensures fits { length self.new.buffer.items ≤ length self.old.buffer.items + 16393 }
+        ensures goes { result ≢ Some filled.Stopped → self.new.standing ≡ stands.Going }
+        ensures device { self.new.device ≡ self.old.device }
+        ensures left { self.new.left ≡ self.old.left }
+    {
+        let Ok(()) = self.ended.reserve(1) else {
+            self.stop();
+            return Some(Filled::Stopped);
+        };
+        match self.core.next_frame() {
+            Ok(Next::Frame(frame)) => self.put(frame),
+            Ok(Next::Idle) => Some(Filled::Idle),
+            Ok(Next::Over) => Some(Filled::Over),
+            Err(_fault) => {
+                self.stop();
+                Some(Filled::Stopped)
+            }
+        }
+    }
+
+    /// Puts a frame into the buffer.
+    fn put(&mut self, frame: Frame) -> Option<Filled>
+        requires writable { IsWritable frame }
+        requires going { self.old.standing ≡ stands.Going }
+        requires room { vec_len self.old.ended < vec_capacity self.old.ended }
+        ensures puts { PutsOr frame result self.old self.new }
+        ensures fits { length self.new.buffer.items ≤ length self.old.buffer.items + 16393 }
+        ensures left { self.new.left ≡ self.old.left }
+    {
+        let Ok(()) = write_frame(&frame, &mut self.buffer) else {
+            self.stop();
+            return Some(Filled::Stopped);
+        };
+        if ends_stream(&frame) {
+            self.ended.push_reserved(frame.head.stream);
+        }
+        None
+    }
+}
+
+/// The order that ends a stream, or at 0 the connection.
+fn own_order<S>(id: StreamId, last: StreamId) -> Control<S>
+    ensures { result ≡ own_control last id }
+{
+    let code = ErrorCode::FlowControlError;
+    if id == 0 {
+        return Control::Goaway { last, code };
+    }
+    Control::Reset {
+        id,
+        code,
+        written: true,
+    }
+}
+
+/// Whether a frame ends its stream (RFC 9113, sections 6.1 and 6.2).
+fn ends_stream(frame: &Frame) -> bool
+    ensures { result ≡ ends_stream frame.now }
+{
+    match frame.head.kind {
+        FrameKind::Data | FrameKind::Headers => frame.head.flags.contains(Flags::END_STREAM),
+        _ => false,
+    }
+}
