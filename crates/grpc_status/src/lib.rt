@@ -5,7 +5,7 @@
 #![tactic(auto)]
 
 ghost use Rattle.std.specs.Prelude.{◌≡◌, ◌≤◌};
-ghost use Rattle.grpc_status.specs.StatusCode.{status_number};
+ghost use Rattle.grpc_status.specs.StatusCode.{status_number, code_with};
 
 /// How a call ended.
 #[derive(Clone, Copy, Debug, PartialEq, Eq)]
@@ -53,6 +53,32 @@ impl StatusCode {
             StatusCode::Unavailable => 14,
             StatusCode::DataLoss => 15,
             StatusCode::Unauthenticated => 16,
+        }
+    }
+
+    /// The code that a number stands for, and none where it is over 16.
+    pub fn from_number(number: u32) -> Option<StatusCode>
+        ensures { result ≡ code_with number }
+    {
+        match number {
+            0 => Some(StatusCode::Ok),
+            1 => Some(StatusCode::Cancelled),
+            2 => Some(StatusCode::Unknown),
+            3 => Some(StatusCode::InvalidArgument),
+            4 => Some(StatusCode::DeadlineExceeded),
+            5 => Some(StatusCode::NotFound),
+            6 => Some(StatusCode::AlreadyExists),
+            7 => Some(StatusCode::PermissionDenied),
+            8 => Some(StatusCode::ResourceExhausted),
+            9 => Some(StatusCode::FailedPrecondition),
+            10 => Some(StatusCode::Aborted),
+            11 => Some(StatusCode::OutOfRange),
+            12 => Some(StatusCode::Unimplemented),
+            13 => Some(StatusCode::Internal),
+            14 => Some(StatusCode::Unavailable),
+            15 => Some(StatusCode::DataLoss),
+            16 => Some(StatusCode::Unauthenticated),
+            _ => None,
         }
     }
 }
