@@ -14,7 +14,7 @@ use Rattle.lpm.proofs.WholeMessages.{reading_of-frame, reading_of-frames}
 use Rattle.account.specs.declared.call.Account.{Account}
 use Rattle.account.specs.declared.call.CallEvent.TheVariants as event
 use Rattle.account.specs.declared.call.OutItem.{OutItem}
-use Rattle.account.specs.declared.call.OutItem.TheVariants.{Head, Message, Trailers}
+use Rattle.account.specs.declared.call.OutItem.TheVariants.{Head, Message, Trailers, Left}
 use Rattle.account.specs.declared.call.Shut.{Shut}
 use Rattle.account.specs.declared.call.Shut.TheVariants as shut
 use Rattle.account.specs.declared.call.Told.{Told}
@@ -178,24 +178,35 @@ after_trailers : (previous item : OutItem) (items : List OutItem) → items ≡ 
 after_trailers previous item [] none fields e h = let f = ap (λ (p : OutItem). may_follow (Some p) item) e in cc
 after_trailers previous item (next ∷ items) none fields e h = cc
 
+-- nor behind the word that the call was left
+after_left : (previous item : OutItem) (items : List OutItem) → items ≡ [] → previous ≡ Left → may_follow (Some (last previous items)) item ≡ true → ⊥
+after_left previous item [] none e h = let f = ap (λ (p : OutItem). may_follow (Some p) item) e in cc
+after_left previous item (next ∷ items) none e h = cc
+
 body_push : (previous : OutItem) (items : List OutItem) (item : OutItem) → IsBody items → may_follow (Some (last previous items)) item ≡ true → IsFramed item → IsBody (items ++ item ∷ [])
 body_push previous [] (Message bytes) body follows framed = (framed, tt)
 body_push previous [] (Trailers fields) body follows framed = refl
+body_push previous [] Left body follows framed = refl
 body_push (Head first) [] (Head fields) body follows framed = absurd cc
 body_push (Message first) [] (Head fields) body follows framed = absurd cc
 body_push (Trailers first) [] (Head fields) body follows framed = absurd cc
+body_push Left [] (Head fields) body follows framed = absurd cc
 body_push previous (Head fields ∷ items) item body follows framed = absurd body
 body_push previous (Message bytes ∷ items) item body follows framed = (body.0, body_push (Message bytes) items item body.1 follows framed)
 body_push previous (Trailers fields ∷ items) item body follows framed = absurd (after_trailers (Trailers fields) item items body fields refl follows)
+body_push previous (Left ∷ items) item body follows framed = absurd (after_left Left item items body refl follows)
 
 response_push : (given : List OutItem) (item : OutItem) → IsResponse given → may_follow (last_of given) item ≡ true → IsFramed item → IsResponse (given ++ item ∷ [])
 response_push [] (Head fields) response follows framed = tt
 response_push [] (Message bytes) response follows framed = absurd cc
 response_push [] (Trailers fields) response follows framed = refl
+response_push [] Left response follows framed = refl
 response_push (Head fields ∷ items) item response follows framed = body_push (Head fields) items item response (ap (λ (o : Option OutItem). may_follow o item) (sym (last_of-last (Head fields) items)) ∙ follows) framed
 response_push (Message bytes ∷ items) item response follows framed = absurd response
 response_push (Trailers fields ∷ items) item response follows framed =
     absurd (after_trailers (Trailers fields) item items response fields refl (ap (λ (o : Option OutItem). may_follow o item) (sym (last_of-last (Trailers fields) items)) ∙ follows))
+response_push (Left ∷ items) item response follows framed =
+    absurd (after_left Left item items response refl (ap (λ (o : Option OutItem). may_follow o item) (sym (last_of-last Left items)) ∙ follows))
 
 pub IsResponse-push : (given : List OutItem) (item : OutItem) → IsResponse given → may_follow (last_of given) item ≡ true → IsFramed item → IsResponse (given ++ item ∷ [])
 IsResponse-push = response_push

@@ -6,7 +6,7 @@ use Rattle.lpm.specs.Messages.{frames, IsFrame, Spells, IsFaultyAfter}
 use Rattle.lpm.specs.Reading.{messages_of}
 use Rattle.account.specs.declared.call.Account.{Account}
 use Rattle.account.specs.declared.call.OutItem.{OutItem}
-use Rattle.account.specs.declared.call.OutItem.TheVariants.{Head, Message, Trailers}
+use Rattle.account.specs.declared.call.OutItem.TheVariants.{Head, Message, Trailers, Left}
 use Rattle.account.specs.declared.call.Shut.{Shut}
 use Rattle.account.specs.declared.call.Shut.TheVariants as shut
 use Rattle.account.specs.declared.call.Told.{Told}
@@ -16,20 +16,22 @@ use Rattle.account.specs.declared.call.Told.TheVariants as told
 abbrev pub Begins : {A : Type 0} → List A → List A → Type 0
 Begins {A} front all = (rest : List A) × (all ≡ front ++ rest)
 
--- messages, and trailers at most at the end
+-- messages, and at most at the end trailers, or that the call was left
 abbrev pub IsBody : List OutItem → Type 0
 IsBody [] = Unit {0}
 IsBody (Head fields ∷ items) = ⊥
 IsBody (Message bytes ∷ items) = IsFrame bytes × IsBody items
 IsBody (Trailers fields ∷ items) = items ≡ []
+IsBody (Left ∷ items) = items ≡ []
 
 -- What a handler may give: nothing, trailers alone, or a head, messages, and trailers at most at the end
--- (gRPC over HTTP/2, "Responses").
+-- (gRPC over HTTP/2, "Responses"); and in place of the trailers, that it left the call without them.
 abbrev pub IsResponse : List OutItem → Type 0
 IsResponse [] = Unit {0}
 IsResponse (Head fields ∷ items) = IsBody items
 IsResponse (Message bytes ∷ items) = ⊥
 IsResponse (Trailers fields ∷ items) = items ≡ []
+IsResponse (Left ∷ items) = items ≡ []
 
 -- A fault may be told only where it stands behind the messages that were taken: one of the bytes themselves, or that
 -- they ended inside a message. Want of memory is never told.
@@ -54,5 +56,5 @@ pub record IsLawful (account : Account) : Type 0 where
   pub told : MayTell account.told account.fed account.shut account.taken
   -- each item once and in order, and none that wasn't given
   pub sent : Begins account.sent account.given
-  -- a head first, trailers last
+  -- a head first; trailers, or that the call was left, last
   pub given : IsResponse account.given

@@ -4,7 +4,7 @@ use Rattle.lpm.specs.Messages.{announced}
 use Rattle.lpm.specs.Reading.{front_of_message, front_of_length, front_of, reading_within, reading_of}
 use Rattle.account.specs.declared.call.CallEvent.{CallEvent}
 use Rattle.account.specs.declared.call.CallEvent.TheVariants as event
-use Rattle.account.specs.declared.call.OutItem.TheVariants.{Head, Message, Trailers}
+use Rattle.account.specs.declared.call.OutItem.TheVariants.{Head, Message, Trailers, Left}
 use Rattle.account.specs.declared.call.Shut.TheVariants as shut
 use Rattle.account.specs.declared.call.Told.TheVariants as told
 use Rattle.account.specs.Accounts.{IsResponse}
@@ -27,6 +27,14 @@ out_of_place =
 pub run-out_of_place : run out_of_place ≡ record { fed = []; shut = None; taken = []; told = None; given = Trailers [] ∷ []; sent = Trailers [] ∷ [] }
 unfolding after announced front_of_message front_of_length front_of
 run-out_of_place = refl
+
+-- behind the word that the call was left nothing is given
+abbrev pub left : List CallEvent
+left = event.Give (Head []) ∷ event.Give Left ∷ event.Give (Trailers []) ∷ event.Send ∷ []
+
+pub run-left : run left ≡ record { fed = []; shut = None; taken = []; told = None; given = Head [] ∷ Left ∷ []; sent = Head [] ∷ [] }
+unfolding after announced front_of_message front_of_length front_of
+run-left = refl
 
 -- trailers alone are an answer
 pub trailers_alone : IsResponse (Trailers [] ∷ [])

@@ -7,7 +7,7 @@ use Rattle.account.specs.declared.call.Account.{Account}
 use Rattle.account.specs.declared.call.CallEvent.{CallEvent}
 use Rattle.account.specs.declared.call.CallEvent.TheVariants as event
 use Rattle.account.specs.declared.call.OutItem.{OutItem}
-use Rattle.account.specs.declared.call.OutItem.TheVariants.{Head, Message, Trailers}
+use Rattle.account.specs.declared.call.OutItem.TheVariants.{Head, Message, Trailers, Left}
 use Rattle.account.specs.declared.call.Shut.{Shut}
 use Rattle.account.specs.declared.call.Shut.TheVariants as shut
 use Rattle.account.specs.declared.call.Told.{Told}
@@ -39,13 +39,17 @@ abbrev pub may_follow : Option OutItem → OutItem → Bool
 may_follow None (Head fields) = true
 may_follow None (Message bytes) = false
 may_follow None (Trailers fields) = true
+may_follow None Left = true
 may_follow (Some (Trailers last)) item = false
+may_follow (Some Left) item = false
 may_follow (Some (Head last)) (Head fields) = false
 may_follow (Some (Head last)) (Message bytes) = is_frame bytes
 may_follow (Some (Head last)) (Trailers fields) = true
+may_follow (Some (Head last)) Left = true
 may_follow (Some (Message last)) (Head fields) = false
 may_follow (Some (Message last)) (Message bytes) = is_frame bytes
 may_follow (Some (Message last)) (Trailers fields) = true
+may_follow (Some (Message last)) Left = true
 
 abbrev pub last_of : List OutItem → Option OutItem
 last_of items = slice_get items (length items - 1)

@@ -3,7 +3,7 @@ use Rattle.std.specs.Prelude.{◌≡◌, ◌++◌, All}
 use Rattle.lpm.specs.Messages.{frames, IsMessage, IsFrame}
 use Rattle.account.specs.declared.call.Account.{Account}
 use Rattle.account.specs.declared.call.OutItem.{OutItem}
-use Rattle.account.specs.declared.call.OutItem.TheVariants.{Head, Message, Trailers}
+use Rattle.account.specs.declared.call.OutItem.TheVariants.{Head, Message, Trailers, Left}
 use Rattle.account.specs.declared.serial.SerialCall.{SerialCall}
 use Rattle.account.specs.Accounts.{Begins, IsResponse, MayTell}
 
@@ -23,3 +23,4 @@ abbrev pub IsFramed : OutItem → Type 0
 IsFramed (Head fields) = Unit {0}
 IsFramed (Message bytes) = IsFrame bytes
 IsFramed (Trailers fields) = Unit {0}
+IsFramed Left = Unit {0}

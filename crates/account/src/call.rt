@@ -36,6 +36,8 @@ pub enum OutItem {
     Message(Bytes),
     /// The trailers, or the one block of an answer that has no headers of its own.
     Trailers(Sequence<Field>),
+    /// The call was left without trailers: nothing is to be sent for it, and no item follows.
+    Left,
 }
 
 impl OutItem {
@@ -47,6 +49,7 @@ impl OutItem {
             OutItem::Head(fields) => Ok(OutItem::Head(fields.copy()?)),
             OutItem::Message(bytes) => Ok(OutItem::Message(bytes.clone()?)),
             OutItem::Trailers(fields) => Ok(OutItem::Trailers(fields.copy()?)),
+            OutItem::Left => Ok(OutItem::Left),
         }
     }
 }

@@ -19,7 +19,7 @@ use std::alloc::{AllocError, Global};
 ///
 /// Some events change nothing: a Feed or Shut once the half was shut; a Take once something was told, or while there is
 /// nothing to take or tell; a Give that is out of place (a Head that isn't first, a Message with no Head before it or
-/// that isn't one message with its prefix, anything behind Trailers); a Send with nothing left to send.
+/// that isn't one message with its prefix, anything behind Trailers or Left); a Send with nothing left to send.
 /// It takes time linear in the events and their bytes.
 pub fn replay(alloc: Global, events: &[CallEvent]) -> Result<Account, AllocError>
     ensures run { IfOk result (λ account. account ≡ run events.now) }
@@ -187,11 +187,11 @@ fn may_follow(last: Option<&OutItem>, item: &OutItem) -> bool
     ensures framed { IsTrue result → IsFramed item.now }
 {
     match (last, item) {
-        (None, OutItem::Head(_) | OutItem::Trailers(_)) => true,
+        (None, OutItem::Head(_) | OutItem::Trailers(_) | OutItem::Left) => true,
         (None, OutItem::Message(_))
-        | (Some(OutItem::Trailers(_)), _)
+        | (Some(OutItem::Trailers(_) | OutItem::Left), _)
         | (Some(_), OutItem::Head(_)) => false,
         (Some(_), OutItem::Message(bytes)) => is_frame(bytes.as_slice()),
-        (Some(_), OutItem::Trailers(_)) => true,
+        (Some(_), OutItem::Trailers(_) | OutItem::Left) => true,
     }
 }

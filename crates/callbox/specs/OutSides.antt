@@ -14,7 +14,7 @@ use Rattle.account.specs.declared.call.Account.{Account}
 use Rattle.account.specs.declared.call.CallEvent.{CallEvent}
 use Rattle.account.specs.declared.call.CallEvent.TheVariants as event
 use Rattle.account.specs.declared.call.OutItem.{OutItem}
-use Rattle.account.specs.declared.call.OutItem.TheVariants.{Head, Message, Trailers}
+use Rattle.account.specs.declared.call.OutItem.TheVariants.{Head, Message, Trailers, Left}
 use Rattle.account.specs.Accounts.{IsBody, IsResponse}
 use Rattle.callbox.specs.declared.giver.FramedFault.{FramedFault}
 use Rattle.callbox.specs.declared.giver.FramedFault.TheVariants.{NotAFrame, Refused}
@@ -25,6 +25,7 @@ has_head [] = false
 has_head (Head fields ∷ items) = true
 has_head (Message bytes ∷ items) = false
 has_head (Trailers fields ∷ items) = false
+has_head (Left ∷ items) = false
 
 -- whether trailers stand among the items
 abbrev pub has_trailers : List OutItem → Bool
@@ -32,16 +33,27 @@ has_trailers [] = false
 has_trailers (Head fields ∷ items) = has_trailers items
 has_trailers (Message bytes ∷ items) = has_trailers items
 has_trailers (Trailers fields ∷ items) = true
+has_trailers (Left ∷ items) = has_trailers items
+
+-- whether the last item that a call gives stands among the items: trailers, or that it was left
+abbrev pub has_end : List OutItem → Bool
+has_end [] = false
+has_end (Head fields ∷ items) = has_end items
+has_end (Message bytes ∷ items) = has_end items
+has_end (Trailers fields ∷ items) = true
+has_end (Left ∷ items) = true
 
 abbrev pub is_head : OutItem → Bool
 is_head (Head fields) = true
 is_head (Message bytes) = false
 is_head (Trailers fields) = false
+is_head Left = false
 
 abbrev pub is_message : OutItem → Bool
 is_message (Head fields) = false
 is_message (Message bytes) = true
 is_message (Trailers fields) = false
+is_message Left = false
 
 -- Why a message is handed back: as the lane refuses an item, or for want of memory for the message with its prefix.
 abbrev pub MayRefuseMessage : Bool → ℕ → ℕ → ℕ → PutFault (List ℕ) → Type 0
@@ -123,9 +135,11 @@ IsBody-prop [] = Unit-prop
 IsBody-prop (Head fields ∷ items) = λ p q. absurd p
 IsBody-prop (Message bytes ∷ items) = ×_prop (IsFrame-prop bytes) (IsBody-prop items)
 IsBody-prop (Trailers fields ∷ items) = IsEmpty-prop items
+IsBody-prop (Left ∷ items) = IsEmpty-prop items
 
 pub IsResponse-prop : (items : List OutItem) → IsProp (IsResponse items)
 IsResponse-prop [] = Unit-prop
 IsResponse-prop (Head fields ∷ items) = IsBody-prop items
 IsResponse-prop (Message bytes ∷ items) = λ p q. absurd p
 IsResponse-prop (Trailers fields ∷ items) = IsEmpty-prop items
+IsResponse-prop (Left ∷ items) = IsEmpty-prop items

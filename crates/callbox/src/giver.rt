@@ -6,11 +6,11 @@
 //! That what was given is a response is a ghost field and no test: there is at most one proof of it
 //! (`specs/OutSides.antt`), as a struct's facts need.
 
-ghost use Rattle.std.specs.Prelude.{◌≡◌, ◌+◌, ◌<◌, ◌≤◌, true, false, [], ◌∷◌, ◌++◌, length, IfErr, IfOk, OnErr, OnOk, MatchBool};
+ghost use Rattle.std.specs.Prelude.{◌≡◌, ◌+◌, ◌<◌, ◌≤◌, ◌&&◌, true, false, [], ◌∷◌, ◌++◌, length, IfErr, IfOk, OnErr, OnOk, MatchBool};
 ghost use Rattle.lane.specs.PutFault.{item_of, MayRefuse};
 ghost use Rattle.lpm.specs.Messages.{frame, IsFrame};
 ghost use Rattle.account.specs.Accounts.{IsResponse};
-ghost use Rattle.callbox.specs.OutSides.{has_head, has_trailers, is_head, is_message, IsResponse-prop, MayRefuseMessage, RefusesFramed};
+ghost use Rattle.callbox.specs.OutSides.{has_end, has_head, has_trailers, is_head, is_message, IsResponse-prop, MayRefuseMessage, RefusesFramed};
 ghost use Rattle.account.specs.declared.call.OutItem.TheVariants as out_item;
 
 use account::OutItem;
@@ -32,7 +32,7 @@ pub enum FramedFault {
     Refused(GiveFault<Bytes>),
 }
 
-/// Gives the items of a call's response, as far as the trailers.
+/// Gives the items of a call's response, as far as the trailers, or until the call is left without them.
 #[derive(Drop)]
 pub struct Giver<L: Lane<Item = OutItem>> {
     pub(crate) tx: L::In,
@@ -41,15 +41,17 @@ pub struct Giver<L: Lane<Item = OutItem>> {
     pub(crate) alloc: Global,
     ghost begins: { begun ≡ has_head (L.put_in tx) },
     ghost response: { IsResponse (L.put_in tx) } by { IsResponse-prop (L.put_in tx) },
-    ghost unshut: { has_trailers (L.put_in tx) ≡ false },
+    ghost unshut: { has_end (L.put_in tx) ≡ false },
 }
 
-/// What is left of a `Giver` once the trailers were given.
+/// What is left of a `Giver` once the trailers were given, or the call was left.
 #[derive(Drop)]
 pub struct GivenShut<L: Lane<Item = OutItem>> {
     pub(crate) shut: L::Shut,
+    /// Whether the last item is the trailers.
+    pub(crate) answered: bool,
     ghost response: { IsResponse (L.put_shut shut) } by { IsResponse-prop (L.put_shut shut) },
-    ghost closed: { has_trailers (L.put_shut shut) ≡ L.was_placed shut },
+    ghost closed: { has_trailers (L.put_shut shut) ≡ (answered && L.was_placed shut) },
 }
 
 impl<L: Lane<Item = OutItem>> Giver<L> {
@@ -199,16 +201,42 @@ impl<L: Lane<Item = OutItem>> Giver<L> {
     {
         let Giver { tx, .. } = self;
         let shut = L::last(tx, OutItem::Trailers(fields));
-        GivenShut { shut }
+        GivenShut {
+            shut,
+            answered: true,
+        }
+    }
+
+    /// Leaves the call without trailers, where `placed` then says so. It takes no memory.
+    ///
+    /// Nothing is sent for it. It is for a call that needs no answer any more, as one that was reset.
+    pub fn leave(self) -> GivenShut<L>
+        ensures name { L.shut_name result.shut ≡ L.in_name self.tx }
+        ensures put { MatchBool (L.was_placed result.shut)
+            (L.put_shut result.shut ≡ L.put_in self.tx ++ out_item.Left ∷ [])
+            (L.put_shut result.shut ≡ L.put_in self.tx) }
+    {
+        let shut = L::last(self.tx, OutItem::Left);
+        GivenShut {
+            shut,
+            answered: false,
+        }
     }
 }
 
 impl<L: Lane<Item = OutItem>> GivenShut<L> {
-    /// Whether the trailers were put behind the other items.
+    /// Whether the trailers, or that the call was left, were put behind the other items.
     pub fn placed(&self) -> bool
         ensures { result ≡ L.was_placed self.now.shut }
     {
         L::placed(&self.shut)
+    }
+
+    /// Whether trailers were given.
+    pub fn has_trailers(&self) -> bool
+        ensures { result ≡ has_trailers (L.put_shut self.now.shut) }
+    {
+        self.answered && self.placed()
     }
 }
 
@@ -219,7 +247,7 @@ fn into_head(item: OutItem) -> Sequence<Field>
 {
     match item {
         OutItem::Head(fields) => fields,
-        OutItem::Message(_) | OutItem::Trailers(_) => unreachable!(),
+        OutItem::Message(_) | OutItem::Trailers(_) | OutItem::Left => unreachable!(),
     }
 }
 
@@ -230,7 +258,7 @@ fn into_frame(item: OutItem) -> Bytes
 {
     match item {
         OutItem::Message(bytes) => bytes,
-        OutItem::Head(_) | OutItem::Trailers(_) => unreachable!(),
+        OutItem::Head(_) | OutItem::Trailers(_) | OutItem::Left => unreachable!(),
     }
 }
 

@@ -56,13 +56,13 @@ fn settle_shut<L: Lane<Item = OutItem>>(shut: GivenShut<L>, sender: Sender<L>) -
     requires one_call { L.shut_name shut.shut ≡ L.out_name sender.rx }
     ensures account { CountsOut (L.put_shut shut.shut) (L.got sender.rx) result }
 {
-    let placed = shut.placed();
+    let trailers_given = shut.has_trailers();
     let settled = L::settle(End::Shut(shut.shut), sender.rx);
     OutAccount {
         given: settled.put,
         sent: settled.got,
-        trailers_given: placed,
-        trailers_sent: placed && settled.left == 0,
+        trailers_given,
+        trailers_sent: trailers_given && settled.left == 0,
     }
 }
 

@@ -1,9 +1,9 @@
 use Rattle.std.proofs.Common.{◌≡◌, true, false, List, sym, ◌∙◌}
 use Rattle.account.specs.Accounts.{IsResponse}
-use Rattle.callbox.specs.OutSides.{has_head, has_trailers}
+use Rattle.callbox.specs.OutSides.{has_end, has_head}
 use Rattle.account.specs.declared.call.OutItem.{OutItem}
 use Rattle.account.specs.declared.call.OutItem.TheVariants as out_item
-use Rattle.callbox.proofs.OutLemmas.{has_head-push, has_trailers-push, put_or_kept, response_frame}
+use Rattle.callbox.proofs.OutLemmas.{has_end-push, has_head-push, put_or_kept, response_frame}
 use Rattle.callbox.proofs.giver.Giver.put_frame.Goals as goal
 
 pub invariant_of-self : goal.invariant_of-self
@@ -17,5 +17,5 @@ invariant_of-self g c =
     record {
       begins = begun ∙ sym (put_or_kept (λ (items : List OutItem). has_head items ≡ true) c.put.result put new item c.put.ensures.ok c.put.ensures.unchanged c.requires.head (has_head-push put item c.requires.head));
       response = put_or_kept IsResponse c.put.result put new item c.put.ensures.ok c.put.ensures.unchanged old.response response;
-      unshut = put_or_kept (λ (items : List OutItem). has_trailers items ≡ false) c.put.result put new item c.put.ensures.ok c.put.ensures.unchanged old.unshut (has_trailers-push put item old.unshut);
+      unshut = put_or_kept (λ (items : List OutItem). has_end items ≡ false) c.put.result put new item c.put.ensures.ok c.put.ensures.unchanged old.unshut (has_end-push put item old.unshut);
     }

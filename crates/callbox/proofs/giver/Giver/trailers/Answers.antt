@@ -1,4 +1,4 @@
-use Rattle.callbox.proofs.OutLemmas.{placed_response, placed_closed}
+use Rattle.callbox.proofs.OutLemmas.{no_trailers, placed_response, placed_closed}
 use Rattle.callbox.proofs.giver.Giver.trailers.Goals as goal
 
 pub invariant_of-result : goal.invariant_of-result
@@ -8,5 +8,5 @@ invariant_of-result g c =
     let placed = g.L.Lane.was_placed c.last-shut.result in
     record {
       response = placed_response placed put new c.args.fields c.args.self.response c.args.self.unshut c.last-shut.ensures.put;
-      closed = placed_closed placed put new c.args.fields c.args.self.unshut c.last-shut.ensures.put;
+      closed = placed_closed placed put new c.args.fields (no_trailers put c.args.self.unshut) c.last-shut.ensures.put;
     }
