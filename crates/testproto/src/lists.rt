@@ -1,83 +1,63 @@
-//! Byte lists and texts as contracts see them: as the list.
+//! Byte lists and texts as contracts see them: as the list. Both are borrowed: a message that was read points into the
+//! bytes that it was read from, and takes no memory for them.
 
-ghost use Rattle.std.specs.Prelude.{◌≡◌, List, ℕ, [], IfOk, OnOk, OnErr, IsUtf8, string_bytes};
+ghost use Rattle.std.specs.Prelude.{◌≡◌, List, ℕ, [], IsUtf8};
 
-use std::alloc::{AllocError, Global};
 use std::marker::Model;
 
-/// Bytes that a message holds.
+/// Bytes that a message has.
 #[derive(Debug, Drop)]
-pub struct ByteList {
-    bytes: Vec<u8>,
+pub struct ByteList<'a> {
+    bytes: &'a [u8],
 }
 
-impl Model for ByteList {
+impl<'a> Model for ByteList<'a> {
     ghost Value = { List ℕ };
 
-    ghost view = { λ list. list.bytes.items };
+    ghost view = { λ list. list.bytes.now };
 }
 
-impl ByteList {
-    pub fn new(alloc: Global) -> ByteList
+impl<'a> ByteList<'a> {
+    pub fn new() -> ByteList<'a>
         ensures { result ≡ [] }
     {
-        ByteList {
-            bytes: Vec::new(alloc),
-        }
+        ByteList { bytes: &[] }
     }
 
-    pub fn from_vec(bytes: Vec<u8>) -> ByteList
-        ensures { result ≡ bytes.items }
+    pub fn from_slice(bytes: &'a [u8]) -> ByteList<'a>
+        ensures { result ≡ bytes.now }
     {
         ByteList { bytes }
-    }
-
-    pub fn into_vec(self) -> Vec<u8>
-        ensures { result.items ≡ self }
-    {
-        let ByteList { bytes } = self;
-        bytes
     }
 
     pub fn as_slice(&self) -> &[u8]
         ensures { result.now ≡ self.now }
     {
-        &self.bytes
-    }
-
-    /// Holds a copy of these bytes from now on. Where memory runs out it holds nothing.
-    pub fn set(&mut self, bytes: &[u8]) -> Result<(), AllocError>
-        ensures ok { OnOk result (self.new ≡ bytes.now) }
-        ensures err { OnErr result (self.new ≡ []) }
-    {
-        self.bytes.clear();
-        self.bytes.extend_from_slice(bytes)
+        self.bytes
     }
 }
 
-/// A string that a message holds. In a contract it is its bytes, which are UTF-8.
+/// A string that a message has. In a contract it is its bytes, which are UTF-8.
 #[derive(Debug, Drop)]
-pub struct Text {
-    text: String,
+pub struct Text<'a> {
+    text: &'a str,
 }
 
-impl Model for Text {
+impl<'a> Model for Text<'a> {
     ghost Value = { List ℕ };
 
-    ghost view = { λ text. string_bytes text.text };
+    ghost view = { λ text. text.text.now };
 }
 
-impl Text {
-    pub fn new(alloc: Global) -> Text
+impl<'a> Text<'a> {
+    pub fn new() -> Text<'a>
         ensures { result ≡ [] }
     {
-        Text {
-            text: String::new(alloc),
-        }
+        Text { text: "" }
     }
 
-    pub fn from_string(text: String) -> Text
-        ensures { result ≡ string_bytes text }
+    pub fn from_text(text: &'a str) -> Text<'a>
+        ensures { result ≡ text.now }
     {
         Text { text }
     }
@@ -86,15 +66,6 @@ impl Text {
         ensures text { result.now ≡ self.now }
         ensures utf8 { IsUtf8 self.now }
     {
-        self.text.as_str()
-    }
-
-    /// Holds a copy of this text from now on. Where memory runs out it holds nothing.
-    pub fn set(&mut self, text: &str) -> Result<(), AllocError>
-        ensures ok { OnOk result (self.new ≡ text.now) }
-        ensures err { OnErr result (self.new ≡ []) }
-    {
-        self.text.clear();
-        self.text.push_str(text)
+        self.text
     }
 }

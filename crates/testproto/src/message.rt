@@ -16,8 +16,8 @@ use crate::fault::ProtoFault;
 use pbwire::{FieldItem, Fields};
 use std::alloc::Global;
 
-/// A message of the schema.
-pub trait Message: Drop {
+/// A message of the schema, which may point into bytes that live as long as `'a`.
+pub trait Message<'a>: Drop {
     /// The message is the value of these fields, in the order in which they stand.
     ghost is_value: { List Field → Self → Type 0 };
 
@@ -38,7 +38,7 @@ pub trait Message: Drop {
         ensures { is_value [] result };
 
     /// Takes one more field. Where that fails, the message is of no more use.
-    fn take(&mut self, alloc: Global, item: &FieldItem<'_>) -> Result<(), ProtoFault>
+    fn take(&mut self, alloc: Global, item: &FieldItem<'a>) -> Result<(), ProtoFault>
         ensures value { OnOk result ((before : List Field) → is_value before self.old
             → is_value (before ++ field_of item.now ∷ []) self.new) }
         ensures accepted { OnOk result (accepts (field_of item.now)) }
@@ -67,7 +67,9 @@ pub trait Message: Drop {
     ghost read_back: { IsReadBack fits fields_of accepts is_value };
 
     /// The message that the bytes, all of them, are.
-    final fn decode(alloc: Global, bytes: &[u8]) -> Result<Self, ProtoFault>
+    ///
+    /// What has bytes or a text points into these; memory is taken for repeated messages alone.
+    final fn decode(alloc: Global, bytes: &'a [u8]) -> Result<Self, ProtoFault>
         // What is answered is the value of the bytes, or the fault that stands in them.
         ensures ok { IfOk result (λ message. IsValueOf accepts is_value bytes.now message) }
         ensures err { IfErr result (λ fault. fault ≢ OutOfMemory → HasFault accepts refuses bytes.now fault) }
@@ -93,10 +95,10 @@ pub trait Message: Drop {
 }
 
 /// Reads the fields of these bytes into a message that has read others before.
-pub(crate) fn merge<M: Message>(
+pub(crate) fn merge<'a, M: Message<'a>>(
     message: &mut M,
     alloc: Global,
-    bytes: &[u8],
+    bytes: &'a [u8],
 ) -> Result<(), ProtoFault>
     ensures ok { OnOk result (Adds M.accepts M.is_value bytes.now message.old message.new) }
     ensures err { IfErr result (λ fault. fault ≢ OutOfMemory → HasFault M.accepts M.refuses bytes.now fault) }
@@ -112,7 +114,10 @@ pub(crate) fn merge<M: Message>(
 }
 
 /// The message that the bytes, all of them, are.
-pub(crate) fn decode_message<M: Message>(alloc: Global, bytes: &[u8]) -> Result<M, ProtoFault>
+pub(crate) fn decode_message<'a, M: Message<'a>>(
+    alloc: Global,
+    bytes: &'a [u8],
+) -> Result<M, ProtoFault>
     // What is answered is the value of the bytes, or a fault that stands in them.
     ensures ok { IfOk result (λ message. IsValueOf M.accepts M.is_value bytes.now message) }
     ensures err { IfErr result (λ fault. fault ≢ OutOfMemory → HasFault M.accepts M.refuses bytes.now fault) }
@@ -129,7 +134,10 @@ pub(crate) fn decode_message<M: Message>(alloc: Global, bytes: &[u8]) -> Result<
 /// The bytes of the message: its fields by ascending number, defaults left out.
 ///
 /// It sets aside the room once and fills it, so a large body is copied once.
-pub(crate) fn encode_message<M: Message>(alloc: Global, message: &M) -> Result<Vec<u8>, ProtoFault>
+pub(crate) fn encode_message<'a, M: Message<'a>>(
+    alloc: Global,
+    message: &M,
+) -> Result<Vec<u8>, ProtoFault>
     ensures ok { IfOk result (λ bytes. bytes.items ≡ spelling_of_all (M.fields_of message.now)) }
     // So they are read as this message again.
     ensures read_back { IfOk result (λ bytes. IsValueOf M.accepts M.is_value bytes.items message.now) }

@@ -1,4 +1,4 @@
-//! The messages.
+//! The messages. One with bytes or a text borrows them for `'a`.
 //!
 //! Open enums (`kind`, `response_type`) are `i32`.
 
@@ -14,10 +14,10 @@ pub struct Empty {}
 
 /// A block of data.
 #[derive(Debug, Drop)]
-pub struct Payload {
+pub struct Payload<'a> {
     /// The type of the data: 0 where nothing is said.
     pub kind: i32,
-    pub body: ByteList,
+    pub body: ByteList<'a>,
 }
 
 #[derive(Debug, Drop)]
@@ -27,33 +27,33 @@ pub struct BoolValue {
 
 /// A status that the server is to answer.
 #[derive(Debug, Drop)]
-pub struct EchoStatus {
+pub struct EchoStatus<'a> {
     pub code: i32,
-    pub message: Text,
+    pub message: Text<'a>,
 }
 
 #[derive(Debug, Drop)]
-pub struct SimpleRequest {
+pub struct SimpleRequest<'a> {
     pub response_type: i32,
     pub response_size: i32,
-    pub payload: Option<Payload>,
+    pub payload: Option<Payload<'a>>,
     pub fill_username: bool,
     pub fill_oauth_scope: bool,
     pub response_compressed: Option<BoolValue>,
-    pub response_status: Option<EchoStatus>,
+    pub response_status: Option<EchoStatus<'a>>,
     pub expect_compressed: Option<BoolValue>,
 }
 
 #[derive(Debug, Drop)]
-pub struct SimpleResponse {
-    pub payload: Option<Payload>,
-    pub username: Text,
-    pub oauth_scope: Text,
+pub struct SimpleResponse<'a> {
+    pub payload: Option<Payload<'a>>,
+    pub username: Text<'a>,
+    pub oauth_scope: Text<'a>,
 }
 
 #[derive(Debug, Drop)]
-pub struct StreamingInputCallRequest {
-    pub payload: Option<Payload>,
+pub struct StreamingInputCallRequest<'a> {
+    pub payload: Option<Payload<'a>>,
     pub expect_compressed: Option<BoolValue>,
 }
 
@@ -74,16 +74,16 @@ pub struct ResponseParameters {
 }
 
 #[derive(Debug, Drop)]
-pub struct StreamingOutputCallRequest {
+pub struct StreamingOutputCallRequest<'a> {
     pub response_type: i32,
     pub response_parameters: ParameterList,
-    pub payload: Option<Payload>,
-    pub response_status: Option<EchoStatus>,
+    pub payload: Option<Payload<'a>>,
+    pub response_status: Option<EchoStatus<'a>>,
 }
 
 #[derive(Debug, Drop)]
-pub struct StreamingOutputCallResponse {
-    pub payload: Option<Payload>,
+pub struct StreamingOutputCallResponse<'a> {
+    pub payload: Option<Payload<'a>>,
 }
 
 /// Responses that are asked for, in order. In a contract it is their list.

@@ -61,7 +61,7 @@ pub(crate) fn add_bytes(total: usize, number: u32, bytes: &[u8]) -> Option<usize
     add_delimited(total, number, bytes.len())
 }
 
-pub(crate) fn add_one<M: Message>(total: usize, number: u32, message: &M) -> Option<usize>
+pub(crate) fn add_one<'a, M: Message<'a>>(total: usize, number: u32, message: &M) -> Option<usize>
     ensures len { IfSome result (λ size. size ≡ total + length (spelling_of (message_field M.fields_of number message.now))) }
     ensures fits { IfSome result (λ size. M.fits message.now) }
 {
@@ -69,7 +69,11 @@ pub(crate) fn add_one<M: Message>(total: usize, number: u32, message: &M) -> Opt
     add_delimited(total, number, size)
 }
 
-pub(crate) fn add_message<M: Message>(total: usize, number: u32, held: &Option<M>) -> Option<usize>
+pub(crate) fn add_message<'a, M: Message<'a>>(
+    total: usize,
+    number: u32,
+    held: &Option<M>,
+) -> Option<usize>
     ensures len { IfSome result (λ size. size ≡ total + length (spelling_of_all (message_fields M.fields_of number held.now))) }
     ensures fits { IfSome result (λ size. IfSome held.now M.fits) }
 {
@@ -139,7 +143,7 @@ pub(crate) fn put_bytes(number: u32, bytes: &[u8], out: &mut Vec<u8>) -> Result<
 }
 
 /// A message in a message: its length, and then its fields in place.
-pub(crate) fn put_one<M: Message>(
+pub(crate) fn put_one<'a, M: Message<'a>>(
     number: u32,
     message: &M,
     out: &mut Vec<u8>,
@@ -156,7 +160,7 @@ pub(crate) fn put_one<M: Message>(
     message.put(out)
 }
 
-pub(crate) fn put_message<M: Message>(
+pub(crate) fn put_message<'a, M: Message<'a>>(
     number: u32,
     held: &Option<M>,
     out: &mut Vec<u8>,

@@ -32,7 +32,7 @@ use crate::take::{read_message, take_bool, take_bytes, take_int32, take_message,
 use pbwire::FieldItem;
 use std::alloc::Global;
 
-impl Message for Empty {
+impl<'a> Message<'a> for Empty {
     ghost is_value = { IsEmpty };
 
     ghost fits = { FitsAlways };
@@ -56,7 +56,7 @@ impl Message for Empty {
         Empty {}
     }
 
-    fn take(&mut self, _alloc: Global, _item: &FieldItem<'_>) -> Result<(), ProtoFault> {
+    fn take(&mut self, _alloc: Global, _item: &FieldItem<'a>) -> Result<(), ProtoFault> {
         Ok(())
     }
 
@@ -69,7 +69,7 @@ impl Message for Empty {
     }
 }
 
-impl Message for Payload {
+impl<'a> Message<'a> for Payload<'a> {
     ghost is_value = { IsPayload };
 
     ghost fits = { FitsPayload };
@@ -89,16 +89,16 @@ impl Message for Payload {
     ghost read_back = { read_payload };
 
     #[tactic(auto, unfolding(crate::specs::Values::int32, crate::specs::Values::boolean, crate::specs::Values::byte_string))]
-    fn empty(alloc: Global) -> Payload {
+    fn empty(_alloc: Global) -> Payload<'a> {
         Payload {
             kind: 0,
-            body: ByteList::new(alloc),
+            body: ByteList::new(),
         }
     }
 
-    fn take(&mut self, _alloc: Global, item: &FieldItem<'_>) -> Result<(), ProtoFault> {
+    fn take(&mut self, _alloc: Global, item: &FieldItem<'a>) -> Result<(), ProtoFault> {
         take_int32(&mut self.kind, 1, item);
-        take_bytes(&mut self.body, 2, item)?;
+        take_bytes(&mut self.body, 2, item);
         Ok(())
     }
 
@@ -115,7 +115,7 @@ impl Message for Payload {
     }
 }
 
-impl Message for BoolValue {
+impl<'a> Message<'a> for BoolValue {
     ghost is_value = { IsBoolValue };
 
     ghost fits = { FitsAlways };
@@ -139,7 +139,7 @@ impl Message for BoolValue {
         BoolValue { value: false }
     }
 
-    fn take(&mut self, _alloc: Global, item: &FieldItem<'_>) -> Result<(), ProtoFault> {
+    fn take(&mut self, _alloc: Global, item: &FieldItem<'a>) -> Result<(), ProtoFault> {
         take_bool(&mut self.value, 1, item);
         Ok(())
     }
@@ -155,7 +155,7 @@ impl Message for BoolValue {
     }
 }
 
-impl Message for EchoStatus {
+impl<'a> Message<'a> for EchoStatus<'a> {
     ghost is_value = { IsEchoStatus };
 
     ghost fits = { FitsEchoStatus };
@@ -175,14 +175,14 @@ impl Message for EchoStatus {
     ghost read_back = { read_echo_status };
 
     #[tactic(auto, unfolding(crate::specs::Values::int32, crate::specs::Values::boolean, crate::specs::Values::byte_string))]
-    fn empty(alloc: Global) -> EchoStatus {
+    fn empty(_alloc: Global) -> EchoStatus<'a> {
         EchoStatus {
             code: 0,
-            message: Text::new(alloc),
+            message: Text::new(),
         }
     }
 
-    fn take(&mut self, _alloc: Global, item: &FieldItem<'_>) -> Result<(), ProtoFault> {
+    fn take(&mut self, _alloc: Global, item: &FieldItem<'a>) -> Result<(), ProtoFault> {
         take_int32(&mut self.code, 1, item);
         take_text(&mut self.message, 2, item)?;
         Ok(())
@@ -201,7 +201,7 @@ impl Message for EchoStatus {
     }
 }
 
-impl Message for SimpleRequest {
+impl<'a> Message<'a> for SimpleRequest<'a> {
     ghost is_value = { IsSimpleRequest };
 
     ghost fits = { FitsSimpleRequest };
@@ -221,7 +221,7 @@ impl Message for SimpleRequest {
     ghost read_back = { read_simple_request };
 
     #[tactic(auto, unfolding(crate::specs::Values::int32, crate::specs::Values::boolean, crate::specs::Values::byte_string))]
-    fn empty(_alloc: Global) -> SimpleRequest {
+    fn empty(_alloc: Global) -> SimpleRequest<'a> {
         SimpleRequest {
             response_type: 0,
             response_size: 0,
@@ -234,7 +234,7 @@ impl Message for SimpleRequest {
         }
     }
 
-    fn take(&mut self, alloc: Global, item: &FieldItem<'_>) -> Result<(), ProtoFault> {
+    fn take(&mut self, alloc: Global, item: &FieldItem<'a>) -> Result<(), ProtoFault> {
         take_int32(&mut self.response_type, 1, item);
         take_int32(&mut self.response_size, 2, item);
         take_message(&mut self.payload, alloc, 3, item)?;
@@ -271,7 +271,7 @@ impl Message for SimpleRequest {
     }
 }
 
-impl Message for SimpleResponse {
+impl<'a> Message<'a> for SimpleResponse<'a> {
     ghost is_value = { IsSimpleResponse };
 
     ghost fits = { FitsSimpleResponse };
@@ -291,15 +291,15 @@ impl Message for SimpleResponse {
     ghost read_back = { read_simple_response };
 
     #[tactic(auto, unfolding(crate::specs::Values::int32, crate::specs::Values::boolean, crate::specs::Values::byte_string))]
-    fn empty(alloc: Global) -> SimpleResponse {
+    fn empty(_alloc: Global) -> SimpleResponse<'a> {
         SimpleResponse {
             payload: None,
-            username: Text::new(alloc),
-            oauth_scope: Text::new(alloc),
+            username: Text::new(),
+            oauth_scope: Text::new(),
         }
     }
 
-    fn take(&mut self, alloc: Global, item: &FieldItem<'_>) -> Result<(), ProtoFault> {
+    fn take(&mut self, alloc: Global, item: &FieldItem<'a>) -> Result<(), ProtoFault> {
         take_message(&mut self.payload, alloc, 1, item)?;
         take_text(&mut self.username, 2, item)?;
         take_text(&mut self.oauth_scope, 3, item)?;
@@ -321,7 +321,7 @@ impl Message for SimpleResponse {
     }
 }
 
-impl Message for StreamingInputCallRequest {
+impl<'a> Message<'a> for StreamingInputCallRequest<'a> {
     ghost is_value = { IsStreamingInputCallRequest };
 
     ghost fits = { FitsStreamingInputCallRequest };
@@ -341,14 +341,14 @@ impl Message for StreamingInputCallRequest {
     ghost read_back = { read_streaming_input_call_request };
 
     #[tactic(auto, unfolding(crate::specs::Values::int32, crate::specs::Values::boolean, crate::specs::Values::byte_string))]
-    fn empty(_alloc: Global) -> StreamingInputCallRequest {
+    fn empty(_alloc: Global) -> StreamingInputCallRequest<'a> {
         StreamingInputCallRequest {
             payload: None,
             expect_compressed: None,
         }
     }
 
-    fn take(&mut self, alloc: Global, item: &FieldItem<'_>) -> Result<(), ProtoFault> {
+    fn take(&mut self, alloc: Global, item: &FieldItem<'a>) -> Result<(), ProtoFault> {
         take_message(&mut self.payload, alloc, 1, item)?;
         take_message(&mut self.expect_compressed, alloc, 2, item)?;
         Ok(())
@@ -367,7 +367,7 @@ impl Message for StreamingInputCallRequest {
     }
 }
 
-impl Message for StreamingInputCallResponse {
+impl<'a> Message<'a> for StreamingInputCallResponse {
     ghost is_value = { IsStreamingInputCallResponse };
 
     ghost fits = { FitsStreamingInputCallResponse };
@@ -393,7 +393,7 @@ impl Message for StreamingInputCallResponse {
         }
     }
 
-    fn take(&mut self, _alloc: Global, item: &FieldItem<'_>) -> Result<(), ProtoFault> {
+    fn take(&mut self, _alloc: Global, item: &FieldItem<'a>) -> Result<(), ProtoFault> {
         take_int32(&mut self.aggregated_payload_size, 1, item);
         Ok(())
     }
@@ -409,7 +409,7 @@ impl Message for StreamingInputCallResponse {
     }
 }
 
-impl Message for ResponseParameters {
+impl<'a> Message<'a> for ResponseParameters {
     ghost is_value = { IsResponseParameters };
 
     ghost fits = { FitsResponseParameters };
@@ -437,7 +437,7 @@ impl Message for ResponseParameters {
         }
     }
 
-    fn take(&mut self, alloc: Global, item: &FieldItem<'_>) -> Result<(), ProtoFault> {
+    fn take(&mut self, alloc: Global, item: &FieldItem<'a>) -> Result<(), ProtoFault> {
         take_int32(&mut self.size, 1, item);
         take_int32(&mut self.interval_us, 2, item);
         take_message(&mut self.compressed, alloc, 3, item)?;
@@ -459,7 +459,7 @@ impl Message for ResponseParameters {
     }
 }
 
-impl Message for StreamingOutputCallRequest {
+impl<'a> Message<'a> for StreamingOutputCallRequest<'a> {
     ghost is_value = { IsStreamingOutputCallRequest };
 
     ghost fits = { FitsStreamingOutputCallRequest };
@@ -479,7 +479,7 @@ impl Message for StreamingOutputCallRequest {
     ghost read_back = { read_streaming_output_call_request };
 
     #[tactic(auto, unfolding(crate::specs::Values::int32, crate::specs::Values::boolean, crate::specs::Values::byte_string))]
-    fn empty(alloc: Global) -> StreamingOutputCallRequest {
+    fn empty(alloc: Global) -> StreamingOutputCallRequest<'a> {
         StreamingOutputCallRequest {
             response_type: 0,
             response_parameters: ParameterList::new(alloc),
@@ -488,7 +488,7 @@ impl Message for StreamingOutputCallRequest {
         }
     }
 
-    fn take(&mut self, alloc: Global, item: &FieldItem<'_>) -> Result<(), ProtoFault> {
+    fn take(&mut self, alloc: Global, item: &FieldItem<'a>) -> Result<(), ProtoFault> {
         take_int32(&mut self.response_type, 1, item);
         take_parameters(&mut self.response_parameters, alloc, 2, item)?;
         take_message(&mut self.payload, alloc, 3, item)?;
@@ -513,7 +513,7 @@ impl Message for StreamingOutputCallRequest {
     }
 }
 
-impl Message for StreamingOutputCallResponse {
+impl<'a> Message<'a> for StreamingOutputCallResponse<'a> {
     ghost is_value = { IsStreamingOutputCallResponse };
 
     ghost fits = { FitsStreamingOutputCallResponse };
@@ -533,11 +533,11 @@ impl Message for StreamingOutputCallResponse {
     ghost read_back = { read_streaming_output_call_response };
 
     #[tactic(auto, unfolding(crate::specs::Values::int32, crate::specs::Values::boolean, crate::specs::Values::byte_string))]
-    fn empty(_alloc: Global) -> StreamingOutputCallResponse {
+    fn empty(_alloc: Global) -> StreamingOutputCallResponse<'a> {
         StreamingOutputCallResponse { payload: None }
     }
 
-    fn take(&mut self, alloc: Global, item: &FieldItem<'_>) -> Result<(), ProtoFault> {
+    fn take(&mut self, alloc: Global, item: &FieldItem<'a>) -> Result<(), ProtoFault> {
         take_message(&mut self.payload, alloc, 1, item)?;
         Ok(())
     }

@@ -55,43 +55,37 @@ pub(crate) fn take_bool(held: &mut bool, number: u32, item: &FieldItem<'_>)
 }
 
 /// Bytes.
-pub(crate) fn take_bytes(
-    held: &mut ByteList,
-    number: u32,
-    item: &FieldItem<'_>,
-) -> Result<(), ProtoFault>
-    ensures value { OnOk result ((before : List Field) → held.old ≡ byte_string number before
-        → held.new ≡ byte_string number (before ++ field_of item.now ∷ [])) }
-    ensures memory { IfErr result (λ fault. fault ≡ OutOfMemory) }
+pub(crate) fn take_bytes<'a>(held: &mut ByteList<'a>, number: u32, item: &FieldItem<'a>)
+    ensures { (before : List Field) → held.old ≡ byte_string number before
+        → held.new ≡ byte_string number (before ++ field_of item.now ∷ []) }
 {
     if let Some(content) = content_of(number, item) {
-        held.set(content)?;
+        *held = ByteList::from_slice(content);
     }
-    Ok(())
 }
 
 /// A string, which is UTF-8.
-pub(crate) fn take_text(
-    held: &mut Text,
+pub(crate) fn take_text<'a>(
+    held: &mut Text<'a>,
     number: u32,
-    item: &FieldItem<'_>,
+    item: &FieldItem<'a>,
 ) -> Result<(), ProtoFault>
     ensures value { OnOk result ((before : List Field) → held.old ≡ byte_string number before
         → held.new ≡ byte_string number (before ++ field_of item.now ∷ [])) }
     ensures accepted { OnOk result (AcceptsText number (field_of item.now)) }
-    ensures refused { IfErr result (λ fault. fault ≢ OutOfMemory → RefusesText number (field_of item.now) fault) }
+    ensures refused { IfErr result (λ fault. RefusesText number (field_of item.now) fault) }
 {
     if let Some(content) = content_of(number, item) {
         let Ok(text) = str::from_utf8(content) else {
             return Err(ProtoFault::NotUtf8);
         };
-        held.set(text)?;
+        *held = Text::from_text(text);
     }
     Ok(())
 }
 
 /// The message that is there, or that of no fields.
-fn or_empty<M: Message>(held: Option<M>, alloc: Global) -> M
+fn or_empty<'a, M: Message<'a>>(held: Option<M>, alloc: Global) -> M
     ensures { (contents : List (List ℕ)) → IsEmbedded M.is_value contents held
         → (fields : List Field) × AreJoined contents fields × M.is_value fields result }
 {
@@ -102,11 +96,11 @@ fn or_empty<M: Message>(held: Option<M>, alloc: Global) -> M
 }
 
 /// A message in a message. A later occurrence adds to what an earlier one said.
-pub(crate) fn take_message<M: Message>(
+pub(crate) fn take_message<'a, M: Message<'a>>(
     held: &mut Option<M>,
     alloc: Global,
     number: u32,
-    item: &FieldItem<'_>,
+    item: &FieldItem<'a>,
 ) -> Result<(), ProtoFault>
     ensures value { OnOk result ((before : List Field) → IsEmbedded M.is_value (contents number before) held.old
         → IsEmbedded M.is_value (contents number (before ++ field_of item.now ∷ [])) held.new) }
@@ -124,10 +118,10 @@ pub(crate) fn take_message<M: Message>(
 }
 
 /// The message in a field by itself, if the field has this number and is length-delimited.
-pub(crate) fn read_message<M: Message>(
+pub(crate) fn read_message<'a, M: Message<'a>>(
     alloc: Global,
     number: u32,
-    item: &FieldItem<'_>,
+    item: &FieldItem<'a>,
 ) -> Result<Option<M>, ProtoFault>
     ensures none { IfOk result (λ read. IfNone read (content_in number (field_of item.now) ≡ [])) }
     ensures some { IfOk result (λ read. IfSome read (λ message. (content : List ℕ) × (content_in number (field_of item.now) ≡ content ∷ [])
