@@ -6,7 +6,7 @@ use Rattle.handlers.specs.declared.status.Refusal.TheVariants.{SumOutOfRange, Wr
 use Rattle.handlers.specs.declared.reply.Reply.{Reply}
 use Rattle.handlers.specs.declared.reply.Reply.TheVariants.{Empty, Zeros, Sum as SumReply}
 use Rattle.handlers.specs.declared.state.MethodState.{MethodState}
-use Rattle.handlers.specs.declared.state.MethodState.TheVariants.{Fresh, Sum, Kept, Held, Ended}
+use Rattle.handlers.specs.declared.state.MethodState.TheVariants.{Fresh, Sum, Taken, Held, Ended}
 use Rattle.handlers.specs.Requests.{EmptyVerdict, SimpleVerdict, InputVerdict, OutputVerdict}
 use Rattle.handlers.specs.declared.step.Step.{Step}
 use Rattle.handlers.specs.Statuses.{status_of}
@@ -125,10 +125,10 @@ pub record IsLawful (answers : List (List ℕ) → Bool → Step → Type 0) : T
 abbrev pub StandsEnded : (List (List ℕ) → Bool → Step → Type 0) → List (List ℕ) → Step → Type 0
 StandsEnded answers messages given = (messages ≢ []) × answers messages false given × IsSome given.ends
 
--- EmptyCall needs to know only that there was a message.
+-- EmptyCall keeps only that there was a message.
 abbrev pub StandsEmpty : MethodState → List (List ℕ) → Step → Type 0
 StandsEmpty Fresh messages given = (messages ≡ []) × (given ≡ nothing)
-StandsEmpty (Kept kept) messages given = (message : List ℕ) × (messages ≡ message ∷ []) × EmptyVerdict message (Ok (Empty ∷ [])) × (given ≡ nothing)
+StandsEmpty Taken messages given = (message : List ℕ) × (messages ≡ message ∷ []) × EmptyVerdict message (Ok (Empty ∷ [])) × (given ≡ nothing)
 StandsEmpty (Sum number) messages given = ⊥
 StandsEmpty (Held held) messages given = ⊥
 StandsEmpty Ended messages given = StandsEnded (AnswersSingle EmptyVerdict) messages given
@@ -137,7 +137,7 @@ StandsEmpty Ended messages given = StandsEnded (AnswersSingle EmptyVerdict) mess
 abbrev pub StandsUnary : MethodState → List (List ℕ) → Step → Type 0
 StandsUnary Fresh messages given = (messages ≡ []) × (given ≡ nothing)
 StandsUnary (Sum size) messages given = (message : List ℕ) × (messages ≡ message ∷ []) × SimpleVerdict message (Ok (Zeros size ∷ [])) × (given ≡ nothing)
-StandsUnary (Kept kept) messages given = ⊥
+StandsUnary Taken messages given = ⊥
 StandsUnary (Held held) messages given = ⊥
 StandsUnary Ended messages given = StandsEnded (AnswersSingle SimpleVerdict) messages given
 
@@ -145,7 +145,7 @@ StandsUnary Ended messages given = StandsEnded (AnswersSingle SimpleVerdict) mes
 abbrev pub StandsOutput : MethodState → List (List ℕ) → Step → Type 0
 StandsOutput Fresh messages given = (messages ≡ []) × (given ≡ nothing)
 StandsOutput (Held held) messages given = (message : List ℕ) × (messages ≡ message ∷ []) × (replies : List Reply) × OutputVerdict message (Ok replies) × (held ≡ replying replies) × (given ≡ nothing)
-StandsOutput (Kept kept) messages given = ⊥
+StandsOutput Taken messages given = ⊥
 StandsOutput (Sum number) messages given = ⊥
 StandsOutput Ended messages given = StandsEnded (AnswersSingle OutputVerdict) messages given
 
@@ -153,7 +153,7 @@ StandsOutput Ended messages given = StandsEnded (AnswersSingle OutputVerdict) me
 abbrev pub StandsFull : MethodState → List (List ℕ) → Step → Type 0
 StandsFull Fresh messages given = AllAnswered OutputVerdict messages false given
 StandsFull (Sum number) messages given = ⊥
-StandsFull (Kept kept) messages given = ⊥
+StandsFull Taken messages given = ⊥
 StandsFull (Held held) messages given = ⊥
 StandsFull Ended messages given = EndedByOne OutputVerdict messages given
 
@@ -161,7 +161,7 @@ StandsFull Ended messages given = EndedByOne OutputVerdict messages given
 abbrev pub StandsSum : MethodState → List (List ℕ) → Step → Type 0
 StandsSum Fresh messages given = ⊥
 StandsSum (Sum total) messages given = AllAdded InputVerdict messages total × (given ≡ nothing)
-StandsSum (Kept kept) messages given = ⊥
+StandsSum Taken messages given = ⊥
 StandsSum (Held held) messages given = ⊥
 StandsSum Ended messages given = EndedBySum InputVerdict messages given
 
@@ -169,6 +169,6 @@ StandsSum Ended messages given = EndedBySum InputVerdict messages given
 abbrev pub StandsHalf : MethodState → List (List ℕ) → Step → Type 0
 StandsHalf Fresh messages given = (messages ≡ []) × (given ≡ nothing)
 StandsHalf (Sum number) messages given = ⊥
-StandsHalf (Kept kept) messages given = ⊥
+StandsHalf Taken messages given = ⊥
 StandsHalf (Held held) messages given = AnswersFull OutputVerdict messages false held × (given ≡ nothing)
 StandsHalf Ended messages given = ⊥

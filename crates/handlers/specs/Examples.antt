@@ -5,6 +5,7 @@ use Rattle.pbwire.specs.Spelling.{varint_spelling}
 use Rattle.testproto.specs.declared.messages.BoolValue.{BoolValue}
 use Rattle.testproto.specs.declared.messages.EchoStatus.{EchoStatus}
 use Rattle.testproto.specs.declared.messages.SimpleRequest.{SimpleRequest}
+use Rattle.grpc_status.specs.declared.StatusCode.TheVariants.{NotFound, Unauthenticated, Unknown}
 use Rattle.handlers.specs.declared.status.Status.{Status}
 use Rattle.handlers.specs.declared.status.Refusal.TheVariants.{NotCompressed, BadResponseType, BadResponseSize, SumOutOfRange, WrongNumber}
 use Rattle.handlers.specs.declared.reply.Reply.{Reply}
@@ -36,7 +37,7 @@ echo = record { code = pos 17; message = codes "x" }
 pub compression_first : judge_simple (wrong_request (Some (record { value = true })) (Some echo) (pos 1)) ≡ Err (status_of NotCompressed)
 compression_first = refl
 
-pub then_the_asked_status : judge_simple (wrong_request None (Some echo) (pos 1)) ≡ Err (status 2 (codes "x"))
+pub then_the_asked_status : judge_simple (wrong_request None (Some echo) (pos 1)) ≡ Err (status Unknown (codes "x"))
 then_the_asked_status = refl
 
 pub then_the_type : judge_simple (wrong_request None None (pos 1)) ≡ Err (status_of BadResponseType)
@@ -45,10 +46,10 @@ then_the_type = refl
 pub then_the_size : judge_simple (wrong_request None None (pos 0)) ≡ Err (status_of BadResponseSize)
 then_the_size = refl
 
-pub greatest_code : known_code (pos 16) ≡ 16
+pub greatest_code : known_code (pos 16) ≡ Unauthenticated
 greatest_code = refl
 
-pub unknown_code : known_code (negsuc 0) ≡ 2
+pub unknown_code : known_code (negsuc 0) ≡ Unknown
 unknown_code = refl
 
 pub largest_size : is_size (pos 4000000) ≡ true
@@ -63,7 +64,7 @@ below_zero = refl
 -- ---- answers: a message here is the size that it asks for, and an empty one asks for status 5
 
 abbrev pub FirstNumber : List ℕ → Result (List Reply) Status → Type 0
-FirstNumber [] verdict = verdict ≡ Err (status 5 [])
+FirstNumber [] verdict = verdict ≡ Err (status NotFound [])
 FirstNumber (size ∷ others) verdict = verdict ≡ Ok (Zeros size ∷ [])
 
 pub no_message : AnswersSingle FirstNumber [] true (ending [] (status_of WrongNumber))
@@ -73,8 +74,8 @@ pub two_messages : AnswersSingle FirstNumber ((1 ∷ []) ∷ [] ∷ []) false (e
 two_messages = (Ok (Zeros 1 ∷ []), refl, refl)
 
 -- the third message isn't answered
-pub ended_by_the_second : AnswersFull FirstNumber ((1 ∷ []) ∷ [] ∷ (3 ∷ []) ∷ []) true (ending (Zeros 1 ∷ []) (status 5 []))
-ended_by_the_second = inr ((1 ∷ []) ∷ [], [], (3 ∷ []) ∷ [], refl, (Zeros 1 ∷ []) ∷ [], (refl, tt), status 5 [], refl, refl)
+pub ended_by_the_second : AnswersFull FirstNumber ((1 ∷ []) ∷ [] ∷ (3 ∷ []) ∷ []) true (ending (Zeros 1 ∷ []) (status NotFound []))
+ended_by_the_second = inr ((1 ∷ []) ∷ [], [], (3 ∷ []) ∷ [], refl, (Zeros 1 ∷ []) ∷ [], (refl, tt), status NotFound [], refl, refl)
 
 pub nothing_before_the_end : AnswersHalf FirstNumber ((1 ∷ []) ∷ [] ∷ []) false nothing
 nothing_before_the_end = refl
@@ -98,7 +99,7 @@ sum_passed = inr (
 )
 
 -- what follows a status changes nothing
-pub first_status_stays : joined (ending (Zeros 1 ∷ []) (status 5 [])) (done []) ≡ ending (Zeros 1 ∷ []) (status 5 [])
+pub first_status_stays : joined (ending (Zeros 1 ∷ []) (status NotFound [])) (done []) ≡ ending (Zeros 1 ∷ []) (status NotFound [])
 first_status_stays = refl
 
 -- ---- the bytes of replies

@@ -1,7 +1,10 @@
 -- How one request is judged (gRPC's interop-test-descriptions.md; where it is silent, our own rules).
 -- A verdict on bytes is one that follows from a message that they are, or from there being none. A second message of a
 -- method that takes one, and what stands behind a request that ends the call, need no verdict.
-use Rattle.std.specs.Prelude.{◌≡◌, ℕ, ℤ, pos, negsuc, zero, suc, Bool, true, false, if◌then◌else◌, List, [], ◌∷◌, map, length, Option, Some, None, Result, Ok, Err, nat_le}
+use Rattle.std.specs.Prelude.{◌≡◌, ℕ, ℤ, pos, negsuc, zero, suc, Bool, true, false, if◌then◌else◌, List, [], ◌∷◌, map, length, Option, Some, None, Result, Ok, Err, nat_le, unwrap_or}
+use Rattle.grpc_status.specs.declared.StatusCode.{StatusCode}
+use Rattle.grpc_status.specs.declared.StatusCode.TheVariants.{Unknown}
+use Rattle.grpc_status.specs.StatusCode.{code_with}
 use Rattle.pbwire.specs.Fields.{Field}
 use Rattle.testproto.specs.Values.{IsValueOf}
 use Rattle.testproto.specs.Messages.{AcceptsAll, IsEmpty, AcceptsSimpleRequest, IsSimpleRequest, AcceptsStreamingInputCallRequest, IsStreamingInputCallRequest, AcceptsStreamingOutputCallRequest, IsStreamingOutputCallRequest}
@@ -45,10 +48,10 @@ is_zero (pos zero) = true
 is_zero (pos (suc n)) = false
 is_zero (negsuc n) = false
 
--- a status of gRPC is 0 to 16; another number is UNKNOWN, 2
-abbrev pub known_code : ℤ → ℕ
-known_code (pos code) = if nat_le code 16 then code else 2
-known_code (negsuc code) = 2
+-- the code with this number; where none has it, UNKNOWN
+abbrev pub known_code : ℤ → StatusCode
+known_code (pos number) = unwrap_or (code_with number) Unknown
+known_code (negsuc number) = Unknown
 
 -- the status that the request asks the call to end with, if its code isn't 0
 abbrev pub asked_status : Option EchoStatus → Option Status

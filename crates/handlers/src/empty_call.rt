@@ -9,7 +9,7 @@ use crate::fault::MethodFault;
 use crate::judge::judge_empty;
 use crate::method::Method;
 use crate::reply::Reply;
-use crate::state::{MessageList, MethodState};
+use crate::state::MethodState;
 use crate::status::Refusal;
 use crate::step::Step;
 use std::alloc::Global;
@@ -42,25 +42,25 @@ impl Method for EmptyCall {
         match state {
             MethodState::Fresh => match judge_empty(alloc, message)? {
                 Ok(()) => {
-                    state.set(MethodState::Kept(MessageList::new(alloc)));
+                    state.set(MethodState::Taken);
                     Ok(Step::nothing(alloc))
                 }
                 Err(status) => Ok(end_with(alloc, state, status)),
             },
             MethodState::Ended => Ok(Step::nothing(alloc)),
-            MethodState::Kept(_) => refuse(alloc, state, Refusal::WrongNumber),
-            MethodState::Sum(_) => refuse(alloc, state, Refusal::WrongNumber),
-            MethodState::Held(_) => refuse(alloc, state, Refusal::WrongNumber),
+            MethodState::Taken => Ok(refuse(alloc, state, Refusal::WrongNumber)),
+            MethodState::Sum(_) => Ok(refuse(alloc, state, Refusal::WrongNumber)),
+            MethodState::Held(_) => Ok(refuse(alloc, state, Refusal::WrongNumber)),
         }
     }
 
     fn end(&self, alloc: Global, state: &mut MethodState) -> Result<Step, MethodFault> {
         match state {
-            MethodState::Fresh => refuse(alloc, state, Refusal::WrongNumber),
+            MethodState::Fresh => Ok(refuse(alloc, state, Refusal::WrongNumber)),
             MethodState::Ended => Ok(Step::nothing(alloc)),
-            MethodState::Kept(_) => reply_and_end(alloc, state, Reply::Empty),
-            MethodState::Sum(_) => refuse(alloc, state, Refusal::WrongNumber),
-            MethodState::Held(_) => refuse(alloc, state, Refusal::WrongNumber),
+            MethodState::Taken => reply_and_end(alloc, state, Reply::Empty),
+            MethodState::Sum(_) => Ok(refuse(alloc, state, Refusal::WrongNumber)),
+            MethodState::Held(_) => Ok(refuse(alloc, state, Refusal::WrongNumber)),
         }
     }
 }

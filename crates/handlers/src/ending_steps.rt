@@ -23,16 +23,11 @@ pub(crate) fn end_with(alloc: Global, state: &mut MethodState, status: Status) -
 }
 
 /// Ends the call with a status of our own.
-pub(crate) fn refuse(
-    alloc: Global,
-    state: &mut MethodState,
-    refusal: Refusal,
-) -> Result<Step, MethodFault>
-    ensures step { IfOk result (λ step. step ≡ ending [] (status_of refusal)) }
-    ensures state { OnOk result (state.new ≡ Ended) }
+pub(crate) fn refuse(alloc: Global, state: &mut MethodState, refusal: Refusal) -> Step
+    ensures step { result ≡ ending [] (status_of refusal) }
+    ensures state { state.new ≡ Ended }
 {
-    let status = refusal.status(alloc)?;
-    Ok(end_with(alloc, state, status))
+    end_with(alloc, state, refusal.status())
 }
 
 /// Ends the call with what was held back.
@@ -41,7 +36,7 @@ pub(crate) fn release(alloc: Global, state: &mut MethodState) -> Step
     ensures state { state.new ≡ Ended }
 {
     match std::mem::replace(state, MethodState::Ended) {
-        MethodState::Held(held) => held.finished(alloc),
+        MethodState::Held(held) => held.finished(),
         _ => Step::nothing(alloc),
     }
 }
@@ -57,5 +52,5 @@ pub(crate) fn reply_and_end(
 {
     let replies = Replies::one(alloc, reply)?;
     state.set(MethodState::Ended);
-    Ok(Step::done(alloc, replies))
+    Ok(Step::done(replies))
 }

@@ -44,7 +44,7 @@ impl Method for FullDuplexCall {
                 Err(status) => Ok(end_with(alloc, state, status)),
             },
             MethodState::Ended => Ok(Step::nothing(alloc)),
-            MethodState::Kept(_) => Ok(Step::nothing(alloc)),
+            MethodState::Taken => Ok(Step::nothing(alloc)),
             MethodState::Held(_) => Ok(Step::nothing(alloc)),
             MethodState::Sum(_) => Ok(Step::nothing(alloc)),
         }
@@ -55,9 +55,9 @@ impl Method for FullDuplexCall {
             MethodState::Ended => Ok(Step::nothing(alloc)),
             MethodState::Fresh => {
                 state.set(MethodState::Ended);
-                Ok(Step::done(alloc, Replies::new(alloc)))
+                Ok(Step::done(Replies::new(alloc)))
             }
-            MethodState::Kept(_) => {
+            MethodState::Taken => {
                 state.set(MethodState::Ended);
                 Ok(Step::nothing(alloc))
             }

@@ -49,7 +49,7 @@ impl Method for HalfDuplexCall {
                 Ok(Step::nothing(alloc))
             }
             MethodState::Ended => Ok(Step::nothing(alloc)),
-            MethodState::Kept(_) => Ok(Step::nothing(alloc)),
+            MethodState::Taken => Ok(Step::nothing(alloc)),
             MethodState::Sum(_) => Ok(Step::nothing(alloc)),
         }
     }
@@ -59,10 +59,10 @@ impl Method for HalfDuplexCall {
             MethodState::Held(_) => Ok(release(alloc, state)),
             MethodState::Fresh => {
                 state.set(MethodState::Ended);
-                Ok(Step::done(alloc, Replies::new(alloc)))
+                Ok(Step::done(Replies::new(alloc)))
             }
             MethodState::Ended => Ok(Step::nothing(alloc)),
-            MethodState::Kept(_) => {
+            MethodState::Taken => {
                 state.set(MethodState::Ended);
                 Ok(Step::nothing(alloc))
             }

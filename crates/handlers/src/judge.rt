@@ -6,24 +6,22 @@ ghost use Rattle.handlers.specs.Requests.{IsRead, EmptyVerdict, SimpleVerdict, a
 
 use crate::fault::MethodFault;
 use crate::reply::{Replies, Reply};
-use crate::status::{Refusal, Status};
+use crate::status::{Refusal, Status, StatusText};
+use grpc_status::StatusCode;
 use std::alloc::Global;
 use testproto::{
     BoolValue, EchoStatus, Empty, Message, Payload, ProtoFault, ResponseParameters, SimpleRequest,
     StreamingInputCallRequest, StreamingOutputCallRequest,
 };
 
-/// The greatest number of a status of gRPC.
-const LAST_CODE: i32 = 16;
-
-/// UNKNOWN, as gRPC numbers its statuses.
-const UNKNOWN: u32 = 2;
-
 /// The longest payload that is answered.
 const MAX_SIZE: i32 = 4_000_000;
 
 /// The message that the bytes are, or none where they are no message.
-pub(crate) fn read<M: Message>(alloc: Global, bytes: &[u8]) -> Result<Option<M>, MethodFault>
+pub(crate) fn read<'a, M: Message<'a>>(
+    alloc: Global,
+    bytes: &'a [u8],
+) -> Result<Option<M>, MethodFault>
     ensures { IfOk result (λ read. IsRead M.accepts M.is_value bytes.now read) }
 {
     match M::decode(alloc, bytes) {
@@ -42,7 +40,7 @@ pub(crate) fn judge_empty(alloc: Global, bytes: &[u8]) -> Result<Result<(), Stat
 {
     match read::<Empty>(alloc, bytes)? {
         Some(_) => Ok(Ok(())),
-        None => Ok(Err(Refusal::MalformedMessage.status(alloc)?)),
+        None => Ok(Err(Refusal::MalformedMessage.status())),
     }
 }
 
@@ -51,27 +49,27 @@ pub(crate) fn judge_unary(alloc: Global, bytes: &[u8]) -> Result<Result<u32, Sta
     ensures { IfOk result (λ verdict. MatchResult verdict (λ size. SimpleVerdict bytes.now (Ok (Zeros size ∷ []))) (λ status. SimpleVerdict bytes.now (Err status))) }
 {
     match read::<SimpleRequest>(alloc, bytes)? {
-        Some(request) => unary_verdict(alloc, request),
-        None => Ok(Err(Refusal::MalformedMessage.status(alloc)?)),
+        Some(request) => unary_verdict(alloc, &request),
+        None => Ok(Err(Refusal::MalformedMessage.status())),
     }
 }
 
 /// What a request for one payload asks for, the causes in their order.
-fn unary_verdict(alloc: Global, request: SimpleRequest) -> Result<Result<u32, Status>, MethodFault>
-    ensures { IfOk result (λ verdict. MatchResult verdict (λ size. judge_simple request ≡ Ok (Zeros size ∷ [])) (λ status. judge_simple request ≡ Err status)) }
+fn unary_verdict(alloc: Global, request: &SimpleRequest) -> Result<Result<u32, Status>, MethodFault>
+    ensures { IfOk result (λ verdict. MatchResult verdict (λ size. judge_simple request.now ≡ Ok (Zeros size ∷ [])) (λ status. judge_simple request.now ≡ Err status)) }
 {
     if is_true(&request.expect_compressed) {
-        return Ok(Err(Refusal::NotCompressed.status(alloc)?));
+        return Ok(Err(Refusal::NotCompressed.status()));
     }
-    if let Some(status) = asked_status(request.response_status) {
+    if let Some(status) = asked_status(alloc, &request.response_status)? {
         return Ok(Err(status));
     }
     if request.response_type != 0 {
-        return Ok(Err(Refusal::BadResponseType.status(alloc)?));
+        return Ok(Err(Refusal::BadResponseType.status()));
     }
     match size_of(request.response_size) {
         Some(size) => Ok(Ok(size)),
-        None => Ok(Err(Refusal::BadResponseSize.status(alloc)?)),
+        None => Ok(Err(Refusal::BadResponseSize.status())),
     }
 }
 
@@ -86,32 +84,31 @@ fn is_true(flag: &Option<BoolValue>) -> bool
 }
 
 /// The status that a request asks for, unless its code is 0.
-fn asked_status(echo: Option<EchoStatus>) -> Option<Status>
-    ensures { result ≡ asked_status echo }
+fn asked_status(alloc: Global, echo: &Option<EchoStatus>) -> Result<Option<Status>, MethodFault>
+    ensures { IfOk result (λ status. status ≡ asked_status echo.now) }
 {
     match echo {
         Some(echo) => {
             if echo.code == 0 {
-                None
+                Ok(None)
             } else {
-                Some(Status {
+                Ok(Some(Status {
                     code: known_code(echo.code),
-                    text: echo.message,
-                })
+                    text: StatusText::copied(alloc, echo.message.as_str())?,
+                }))
             }
         }
-        None => None,
+        None => Ok(None),
     }
 }
 
-/// The code, where it is one of gRPC's.
-fn known_code(code: i32) -> u32
-    ensures { result ≡ known_code code }
+/// The code with this number; where none has it, UNKNOWN.
+fn known_code(number: i32) -> StatusCode
+    ensures { result ≡ known_code number }
 {
-    if 0 <= code && code <= LAST_CODE {
-        code as u32
-    } else {
-        UNKNOWN
+    match u32::try_from(number) {
+        Ok(number) => StatusCode::from_number(number).unwrap_or(StatusCode::Unknown),
+        Err(_) => StatusCode::Unknown,
     }
 }
 
@@ -135,27 +132,27 @@ pub(crate) fn judge_output_call(
     ensures { IfOk result (λ verdict. MatchResult verdict (λ replies. OutputVerdict bytes.now (Ok replies)) (λ status. OutputVerdict bytes.now (Err status))) }
 {
     match read::<StreamingOutputCallRequest>(alloc, bytes)? {
-        Some(request) => output_verdict(alloc, request),
-        None => Ok(Err(Refusal::MalformedMessage.status(alloc)?)),
+        Some(request) => output_verdict(alloc, &request),
+        None => Ok(Err(Refusal::MalformedMessage.status())),
     }
 }
 
 /// What a request for several payloads asks for, the causes in their order.
 fn output_verdict(
     alloc: Global,
-    request: StreamingOutputCallRequest,
+    request: &StreamingOutputCallRequest,
 ) -> Result<Result<Replies, Status>, MethodFault>
-    ensures { IfOk result (λ verdict. MatchResult verdict (λ replies. judge_output request ≡ Ok replies) (λ status. judge_output request ≡ Err status)) }
+    ensures { IfOk result (λ verdict. MatchResult verdict (λ replies. judge_output request.now ≡ Ok replies) (λ status. judge_output request.now ≡ Err status)) }
 {
-    if let Some(status) = asked_status(request.response_status) {
+    if let Some(status) = asked_status(alloc, &request.response_status)? {
         return Ok(Err(status));
     }
     if request.response_type != 0 {
-        return Ok(Err(Refusal::BadResponseType.status(alloc)?));
+        return Ok(Err(Refusal::BadResponseType.status()));
     }
     match replies_to(alloc, request.response_parameters.as_slice())? {
         Some(replies) => Ok(Ok(replies)),
-        None => Ok(Err(Refusal::BadResponseSize.status(alloc)?)),
+        None => Ok(Err(Refusal::BadResponseSize.status())),
     }
 }
 
@@ -185,22 +182,19 @@ pub(crate) fn judge_input_call(
     ensures { IfOk result (λ verdict. MatchResult verdict (λ length. InputVerdict bytes.now (Ok length)) (λ status. InputVerdict bytes.now (Err status))) }
 {
     match read::<StreamingInputCallRequest>(alloc, bytes)? {
-        Some(request) => input_verdict(alloc, request),
-        None => Ok(Err(Refusal::MalformedMessage.status(alloc)?)),
+        Some(request) => Ok(input_verdict(&request)),
+        None => Ok(Err(Refusal::MalformedMessage.status())),
     }
 }
 
 /// What a request whose body counts adds.
-fn input_verdict(
-    alloc: Global,
-    request: StreamingInputCallRequest,
-) -> Result<Result<usize, Status>, MethodFault>
-    ensures { IfOk result (λ verdict. MatchResult verdict (λ length. judge_input request ≡ Ok length) (λ status. judge_input request ≡ Err status)) }
+fn input_verdict(request: &StreamingInputCallRequest) -> Result<usize, Status>
+    ensures { MatchResult result (λ length. judge_input request.now ≡ Ok length) (λ status. judge_input request.now ≡ Err status) }
 {
     if is_true(&request.expect_compressed) {
-        return Ok(Err(Refusal::NotCompressed.status(alloc)?));
+        return Err(Refusal::NotCompressed.status());
     }
-    Ok(Ok(body_length(&request.payload)))
+    Ok(body_length(&request.payload))
 }
 
 /// The length of a body, which is 0 where there is no payload.

@@ -32,6 +32,7 @@ impl Methods {
 
     /// The least index of a method with that path, and none only where no method has it.
     pub fn find(&self, path: &[u8]) -> Option<usize>
+        ensures within { IfSome result (λ index. index < length (listed self.now)) }
         ensures found { IfSome result (λ index. HoldsAt (λ method. name method ≡ path.now) (listed self.now) index) }
         ensures least { IfSome result (λ index. AllWithin (λ method. name method ≢ path.now) (listed self.now) 0 index) }
         ensures none { IfNone result (AllWithin (λ method. name method ≢ path.now) (listed self.now) 0 (length (listed self.now))) }

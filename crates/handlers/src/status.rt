@@ -1,19 +1,63 @@
 //! The statuses that a method gives.
 //!
-//! The text is `testproto`'s `Text`, so that an asked text is moved and not copied.
+//! A text of our own is a constant, and takes no memory; one that a request asks for is copied out of it.
 
-ghost use Rattle.std.specs.Prelude.{◌≡◌, [], IfOk};
+ghost use Rattle.std.specs.Prelude.{◌≡◌, [], IfOk, IsUtf8};
 ghost use Rattle.handlers.specs.Statuses.{status_of, ok_status};
 
-use crate::fault::MethodFault;
-use std::alloc::Global;
-use testproto::Text;
+use grpc_status::StatusCode;
+use std::alloc::{AllocError, Global};
+use std::borrow::CowStr;
+use std::marker::Model;
 
-/// How a call ended: gRPC's number of the status, and its text.
+/// How a call ended: the code, and the text beside it.
 #[derive(Debug, Drop)]
 pub struct Status {
-    pub code: u32,
-    pub text: Text,
+    pub code: StatusCode,
+    pub text: StatusText,
+}
+
+/// The text of a status. In a contract it is its bytes, which are UTF-8.
+#[derive(Debug, Drop)]
+pub struct StatusText {
+    text: CowStr<'static, Global>,
+}
+
+impl Model for StatusText {
+    ghost use Rattle.std.specs.Prelude.{List, ℕ};
+    ghost use Rattle.std.specs.Cow.{cow_str_bytes};
+
+    ghost Value = { List ℕ };
+
+    ghost view = { λ text. cow_str_bytes text.text };
+}
+
+impl StatusText {
+    /// A text of the program's own. It takes no memory.
+    pub fn fixed(text: &'static str) -> StatusText
+        ensures { result ≡ text.now }
+    {
+        StatusText {
+            text: CowStr::Borrowed(text),
+        }
+    }
+
+    /// A copy of this text.
+    pub fn copied(alloc: Global, text: &str) -> Result<StatusText, AllocError>
+        ensures { IfOk result (λ copy. copy ≡ text.now) }
+    {
+        let text = String::from_str(alloc, text)?;
+        Ok(StatusText {
+            text: CowStr::Owned(text),
+        })
+    }
+
+    pub fn as_str(&self) -> &str
+        ensures text { result.now ≡ self.now }
+        ensures utf8 { IsUtf8 self.now }
+    {
+        self.text.as_str()
+    }
 }
 
 /// Why a method ends a call with a status of its own.
@@ -33,44 +77,34 @@ pub enum Refusal {
     WrongNumber,
 }
 
-/// Statuses as gRPC numbers them.
-const OK: u32 = 0;
-
-const INVALID_ARGUMENT: u32 = 3;
-
-const OUT_OF_RANGE: u32 = 11;
-
-const INTERNAL: u32 = 13;
-
 impl Refusal {
-    /// The status that the call ends with.
-    pub fn status(self, alloc: Global) -> Result<Status, MethodFault>
-        ensures { IfOk result (λ status. status ≡ status_of self) }
+    /// The status that the call ends with. It takes no memory.
+    pub fn status(self) -> Status
+        ensures { result ≡ status_of self }
     {
         let (code, text) = match self {
-            Refusal::MalformedMessage => (INTERNAL, "malformed message"),
-            Refusal::NotCompressed => (INVALID_ARGUMENT, "message is not compressed"),
-            Refusal::BadResponseType => (INVALID_ARGUMENT, "bad response type"),
-            Refusal::BadResponseSize => (INVALID_ARGUMENT, "bad response size"),
-            Refusal::SumOutOfRange => (OUT_OF_RANGE, "sum out of range"),
-            Refusal::WrongNumber => (INTERNAL, "wrong number of messages"),
+            Refusal::MalformedMessage => (StatusCode::Internal, "malformed message"),
+            Refusal::NotCompressed => (StatusCode::InvalidArgument, "message is not compressed"),
+            Refusal::BadResponseType => (StatusCode::InvalidArgument, "bad response type"),
+            Refusal::BadResponseSize => (StatusCode::InvalidArgument, "bad response size"),
+            Refusal::SumOutOfRange => (StatusCode::OutOfRange, "sum out of range"),
+            Refusal::WrongNumber => (StatusCode::Internal, "wrong number of messages"),
         };
-        let text = String::from_str(alloc, text)?;
-        Ok(Status {
+        Status {
             code,
-            text: Text::from_string(text),
-        })
+            text: StatusText::fixed(text),
+        }
     }
 }
 
 impl Status {
-    /// The status of a call that went well: 0, without a text.
-    pub fn ok(alloc: Global) -> Status
+    /// The status of a call that went well: OK, without a text. It takes no memory.
+    pub fn ok() -> Status
         ensures { result ≡ ok_status }
     {
         Status {
-            code: OK,
-            text: Text::new(alloc),
+            code: StatusCode::Ok,
+            text: StatusText::fixed(""),
         }
     }
 }

@@ -45,18 +45,18 @@ impl Step {
         }
     }
 
-    /// Replies, and the end of a call that went well.
-    pub fn done(alloc: Global, replies: Replies) -> Step
+    /// Replies, and the end of a call that went well. It takes no memory.
+    pub fn done(replies: Replies) -> Step
         ensures { result ≡ done replies }
     {
         Step {
             replies,
-            ends: Some(Status::ok(alloc)),
+            ends: Some(Status::ok()),
         }
     }
 
     /// The end of a call: the status that there is, or that of a call that went well.
-    pub(crate) fn finished(self, alloc: Global) -> Step
+    pub(crate) fn finished(self) -> Step
         ensures { result ≡ finished self }
     {
         match self {
@@ -70,7 +70,7 @@ impl Step {
             Step {
                 replies,
                 ends: None,
-            } => Step::done(alloc, replies),
+            } => Step::done(replies),
         }
     }
 

@@ -51,14 +51,14 @@ impl Method for StreamingInputCall {
                             state.set(MethodState::Sum(total));
                             Ok(Step::nothing(alloc))
                         }
-                        None => refuse(alloc, state, Refusal::SumOutOfRange),
+                        None => Ok(refuse(alloc, state, Refusal::SumOutOfRange)),
                     },
                     Err(status) => Ok(end_with(alloc, state, status)),
                 }
             }
             MethodState::Ended => Ok(Step::nothing(alloc)),
             MethodState::Fresh => Ok(Step::nothing(alloc)),
-            MethodState::Kept(_) => Ok(Step::nothing(alloc)),
+            MethodState::Taken => Ok(Step::nothing(alloc)),
             MethodState::Held(_) => Ok(Step::nothing(alloc)),
         }
     }
@@ -70,13 +70,13 @@ impl Method for StreamingInputCall {
                 if sum <= MAX_SUM {
                     reply_and_end(alloc, state, Reply::Sum(sum as i32))
                 } else {
-                    refuse(alloc, state, Refusal::SumOutOfRange)
+                    Ok(refuse(alloc, state, Refusal::SumOutOfRange))
                 }
             }
             MethodState::Ended => Ok(Step::nothing(alloc)),
-            MethodState::Fresh => refuse(alloc, state, Refusal::WrongNumber),
-            MethodState::Kept(_) => refuse(alloc, state, Refusal::WrongNumber),
-            MethodState::Held(_) => refuse(alloc, state, Refusal::WrongNumber),
+            MethodState::Fresh => Ok(refuse(alloc, state, Refusal::WrongNumber)),
+            MethodState::Taken => Ok(refuse(alloc, state, Refusal::WrongNumber)),
+            MethodState::Held(_) => Ok(refuse(alloc, state, Refusal::WrongNumber)),
         }
     }
 }

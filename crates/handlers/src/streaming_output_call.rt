@@ -47,19 +47,19 @@ impl Method for StreamingOutputCall {
                 Err(status) => Ok(end_with(alloc, state, status)),
             },
             MethodState::Ended => Ok(Step::nothing(alloc)),
-            MethodState::Held(_) => refuse(alloc, state, Refusal::WrongNumber),
-            MethodState::Kept(_) => refuse(alloc, state, Refusal::WrongNumber),
-            MethodState::Sum(_) => refuse(alloc, state, Refusal::WrongNumber),
+            MethodState::Held(_) => Ok(refuse(alloc, state, Refusal::WrongNumber)),
+            MethodState::Taken => Ok(refuse(alloc, state, Refusal::WrongNumber)),
+            MethodState::Sum(_) => Ok(refuse(alloc, state, Refusal::WrongNumber)),
         }
     }
 
     fn end(&self, alloc: Global, state: &mut MethodState) -> Result<Step, MethodFault> {
         match state {
-            MethodState::Fresh => refuse(alloc, state, Refusal::WrongNumber),
+            MethodState::Fresh => Ok(refuse(alloc, state, Refusal::WrongNumber)),
             MethodState::Ended => Ok(Step::nothing(alloc)),
             MethodState::Held(_) => Ok(release(alloc, state)),
-            MethodState::Kept(_) => refuse(alloc, state, Refusal::WrongNumber),
-            MethodState::Sum(_) => refuse(alloc, state, Refusal::WrongNumber),
+            MethodState::Taken => Ok(refuse(alloc, state, Refusal::WrongNumber)),
+            MethodState::Sum(_) => Ok(refuse(alloc, state, Refusal::WrongNumber)),
         }
     }
 }

@@ -101,9 +101,9 @@ fn take_request(alloc: Global, state: &mut MethodState, message: &[u8]) -> Resul
             Err(status) => Ok(end_with(alloc, state, status)),
         },
         MethodState::Ended => Ok(Step::nothing(alloc)),
-        MethodState::Sum(_) => refuse(alloc, state, Refusal::WrongNumber),
-        MethodState::Kept(_) => refuse(alloc, state, Refusal::WrongNumber),
-        MethodState::Held(_) => refuse(alloc, state, Refusal::WrongNumber),
+        MethodState::Sum(_) => Ok(refuse(alloc, state, Refusal::WrongNumber)),
+        MethodState::Taken => Ok(refuse(alloc, state, Refusal::WrongNumber)),
+        MethodState::Held(_) => Ok(refuse(alloc, state, Refusal::WrongNumber)),
     }
 }
 
@@ -115,13 +115,13 @@ fn answer_request(alloc: Global, state: &mut MethodState) -> Result<Step, Method
     ensures ended { IfOk result (λ step. state.old ≡ Ended → step ≡ nothing) }
 {
     match state {
-        MethodState::Fresh => refuse(alloc, state, Refusal::WrongNumber),
+        MethodState::Fresh => Ok(refuse(alloc, state, Refusal::WrongNumber)),
         MethodState::Ended => Ok(Step::nothing(alloc)),
         MethodState::Sum(size) => {
             let size = *size;
             reply_and_end(alloc, state, Reply::Zeros(size))
         }
-        MethodState::Kept(_) => refuse(alloc, state, Refusal::WrongNumber),
-        MethodState::Held(_) => refuse(alloc, state, Refusal::WrongNumber),
+        MethodState::Taken => Ok(refuse(alloc, state, Refusal::WrongNumber)),
+        MethodState::Held(_) => Ok(refuse(alloc, state, Refusal::WrongNumber)),
     }
 }

@@ -23,11 +23,11 @@ returns-in-Err-clause-answers c = λ messages given stands.
     rw c.end_with.ensures.step ((first_ends SimpleVerdict messages given c.args.message.now c.in-Err.status fresh is).1)
 
 pub returns-in-Sum-clause-stands : goal.returns-in-Sum-clause-stands
-returns-in-Sum-clause-stands c = with_ok c.refuse.result _ _ _ c.refuse.ensures.step c.refuse.ensures.state (λ step is ended messages given stands.
+returns-in-Sum-clause-stands c = λ messages given stands.
     let one = rw c.in-Sum.is at stands in
-    rw (is, ended) (second_ends SimpleVerdict messages given one.0 c.args.message.now _ one.1 one.3 one.2))
+    rw (c.refuse.ensures.step, c.refuse.ensures.state) (second_ends SimpleVerdict messages given one.0 c.args.message.now _ one.1 one.3 one.2)
 
 pub returns-in-Sum-clause-answers : goal.returns-in-Sum-clause-answers
-returns-in-Sum-clause-answers c = with_ok c.refuse.result _ _ _ c.refuse.ensures.step c.refuse.ensures.state (λ step is ended messages given stands.
+returns-in-Sum-clause-answers c = λ messages given stands.
     let one = rw c.in-Sum.is at stands in
-    rw is ((second_ends SimpleVerdict messages given one.0 c.args.message.now _ one.1 one.3 one.2).1))
+    rw c.refuse.ensures.step ((second_ends SimpleVerdict messages given one.0 c.args.message.now _ one.1 one.3 one.2).1)

@@ -22,12 +22,12 @@ returns-in-Err-clause-answers c = λ messages given stands.
     let is = rw c.in-Err.is at c.in_ok-judge_empty-in-Fresh.ensures in
     rw c.end_with.ensures.step ((first_ends EmptyVerdict messages given c.args.message.now c.in-Err.status fresh is).1)
 
-pub returns-in-Kept-clause-stands : goal.returns-in-Kept-clause-stands
-returns-in-Kept-clause-stands c = with_ok c.refuse.result _ _ _ c.refuse.ensures.step c.refuse.ensures.state (λ step is ended messages given stands.
-    let one = rw c.in-Kept.is at stands in
-    rw (is, ended) (second_ends EmptyVerdict messages given one.0 c.args.message.now (Empty ∷ []) one.1 one.3 one.2))
+pub returns-in-Taken-clause-stands : goal.returns-in-Taken-clause-stands
+returns-in-Taken-clause-stands c = λ messages given stands.
+    let one = rw c.in-Taken.is at stands in
+    rw (c.refuse.ensures.step, c.refuse.ensures.state) (second_ends EmptyVerdict messages given one.0 c.args.message.now (Empty ∷ []) one.1 one.3 one.2)
 
-pub returns-in-Kept-clause-answers : goal.returns-in-Kept-clause-answers
-returns-in-Kept-clause-answers c = with_ok c.refuse.result _ _ _ c.refuse.ensures.step c.refuse.ensures.state (λ step is ended messages given stands.
-    let one = rw c.in-Kept.is at stands in
-    rw is ((second_ends EmptyVerdict messages given one.0 c.args.message.now (Empty ∷ []) one.1 one.3 one.2).1))
+pub returns-in-Taken-clause-answers : goal.returns-in-Taken-clause-answers
+returns-in-Taken-clause-answers c = λ messages given stands.
+    let one = rw c.in-Taken.is at stands in
+    rw c.refuse.ensures.step ((second_ends EmptyVerdict messages given one.0 c.args.message.now (Empty ∷ []) one.1 one.3 one.2).1)

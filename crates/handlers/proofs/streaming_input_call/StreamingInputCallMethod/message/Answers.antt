@@ -18,16 +18,16 @@ returns-in-Some-clause-answers c = λ messages given stands.
     rw c.nothing.ensures (inl (c.in-Some.total, more.0, more.1))
 
 pub returns-in-None-clause-stands : goal.returns-in-None-clause-stands
-returns-in-None-clause-stands c = with_ok c.refuse.result _ _ _ c.refuse.ensures.step c.refuse.ensures.state (λ step is ended messages given stands.
+returns-in-None-clause-stands c = λ messages given stands.
     let added = rw c.in-Sum.is at stands in
     let asked = rw c.in-Ok.is at c.in_ok-length-in-Sum.ensures in
-    rw (is, ended) (sum_over InputVerdict messages given c.args.message.now _ c.in-Ok.length added asked c.in-None.ensures))
+    rw (c.refuse.ensures.step, c.refuse.ensures.state) (sum_over InputVerdict messages given c.args.message.now _ c.in-Ok.length added asked c.in-None.ensures)
 
 pub returns-in-None-clause-answers : goal.returns-in-None-clause-answers
-returns-in-None-clause-answers c = with_ok c.refuse.result _ _ _ c.refuse.ensures.step c.refuse.ensures.state (λ step is ended messages given stands.
+returns-in-None-clause-answers c = λ messages given stands.
     let added = rw c.in-Sum.is at stands in
     let asked = rw c.in-Ok.is at c.in_ok-length-in-Sum.ensures in
-    rw is (inr (sum_over InputVerdict messages given c.args.message.now _ c.in-Ok.length added asked c.in-None.ensures)))
+    rw c.refuse.ensures.step (inr (sum_over InputVerdict messages given c.args.message.now _ c.in-Ok.length added asked c.in-None.ensures))
 
 pub returns-in-Ended-clause-stands : goal.returns-in-Ended-clause-stands
 returns-in-Ended-clause-stands c = λ messages given stands.
