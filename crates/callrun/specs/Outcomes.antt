@@ -7,6 +7,7 @@ use Rattle.account.specs.declared.call.Told.{Told}
 use Rattle.account.specs.declared.call.Told.TheVariants as told
 use Rattle.callhead.specs.declared.head.CallHead.{CallHead}
 use Rattle.callhead.specs.declared.head.Encoding.TheVariants.{Identity, Other}
+use Rattle.grpc_status.specs.StatusCode.{status_number}
 use Rattle.handlers.specs.declared.reply.Reply.{Reply}
 use Rattle.handlers.specs.declared.status.Status.{Status}
 use Rattle.handlers.specs.declared.step.Step.{Step}
@@ -40,14 +41,14 @@ IsBegun head replies given = ((replies ≡ []) × (given ≡ [])) ⊎ (given ≡
 -- The items that were given, and the status of their trailers.
 pub data IsOutcome (head : CallHead) (overdue : Bool) (said : Option Told) (answer : Step) (given : List OutItem) (code : Option ℕ) : Type 0 where
   -- the whole answer of the method
-  Whole : (status : Status) → answer.ends ≡ Some status → given ≡ response head answer.replies status → code ≡ Some status.code
+  Whole : (status : Status) → answer.ends ≡ Some status → given ≡ response head answer.replies status → code ≡ Some (status_number status.code)
       → IsOutcome head overdue said answer given code
   -- a front of its replies, and a status of the server's own
   CutShort : (cause : Cause) (replies : List Reply) → Stood cause head overdue said → Begins replies answer.replies
-      → given ≡ response head replies (status_of cause) → code ≡ Some (status_of cause).code → IsOutcome head overdue said answer given code
+      → given ≡ response head replies (status_of cause) → code ≡ Some (status_number (status_of cause).code) → IsOutcome head overdue said answer given code
   -- the same, where the head was given before the cause stood
   CutShortBehindHead : (cause : Cause) (replies : List Reply) → Stood cause head overdue said → Begins replies answer.replies
-      → given ≡ full_response head replies (status_of cause) → code ≡ Some (status_of cause).code → IsOutcome head overdue said answer given code
+      → given ≡ full_response head replies (status_of cause) → code ≡ Some (status_number (status_of cause).code) → IsOutcome head overdue said answer given code
   -- a front of its replies, and no trailers
   Unended : (replies : List Reply) → Begins replies answer.replies → IsBegun head replies given → code ≡ None
       → IsOutcome head overdue said answer given code

@@ -6,6 +6,7 @@ use Rattle.account.specs.declared.call.OutItem.{OutItem}
 use Rattle.account.specs.declared.call.OutItem.TheVariants.{Head, Message, Trailers}
 use Rattle.callhead.specs.declared.head.CallHead.{CallHead}
 use Rattle.callhead.specs.StatusFields.{response_fields, status_fields}
+use Rattle.grpc_status.specs.StatusCode.{status_number}
 use Rattle.handlers.specs.declared.reply.Reply.{Reply}
 use Rattle.handlers.specs.declared.status.Status.{Status}
 use Rattle.handlers.specs.Replies.{reply_bytes}
@@ -19,7 +20,7 @@ abbrev pub reply_item : Reply → OutItem
 reply_item reply = Message (frame (reply_bytes reply))
 
 abbrev pub trailing_fields : CallHead → Status → List Field
-trailing_fields head status = status_fields status.code status.text head.echo_trailing
+trailing_fields head status = status_fields (status_number status.code) status.text head.echo_trailing
 
 -- Response-Headers, the replies, and Trailers
 abbrev pub full_response : CallHead → List Reply → Status → List OutItem
@@ -35,7 +36,7 @@ is_none (x ∷ xs) = false
 
 -- A call that didn't go well and has no reply is answered by one block, unless its head wants something echoed first.
 abbrev pub is_short : CallHead → List Reply → Status → Bool
-is_short head replies status = is_none replies && (is_none head.echo_initial && not (status.code == 0))
+is_short head replies status = is_none replies && (is_none head.echo_initial && not (status_number status.code == 0))
 
 abbrev pub response : CallHead → List Reply → Status → List OutItem
 response head replies status = if is_short head replies status then short_response head status else full_response head replies status

@@ -2,6 +2,7 @@
 use Rattle.std.specs.Prelude.{◌≡◌, ◌≢◌, ◌⊎◌, ℕ, Bool, true, false, List, [], ◌∷◌, ◌++◌, Option, None, Some, IsSome, option_map, min, ◌+◌}
 use Rattle.account.specs.declared.call.OutItem.{OutItem}
 use Rattle.account.specs.declared.call.Told.{Told}
+use Rattle.grpc_status.specs.StatusCode.{status_number}
 use Rattle.handlers.specs.declared.reply.Reply.{Reply}
 use Rattle.handlers.specs.declared.state.MethodState.{MethodState}
 use Rattle.handlers.specs.declared.status.Status.{Status}
@@ -105,7 +106,7 @@ trailers_of false head status = response_fields [] ++ trailing_fields head statu
 
 abbrev pub HasTrailers : Bool → CallHead → Option Ending → List Field → ℕ → Type 0
 HasTrailers has_head head None fields code = ⊥
-HasTrailers has_head head (Some way) fields code = (fields ≡ trailers_of has_head head (ends_with way)) × (code ≡ (ends_with way).code)
+HasTrailers has_head head (Some way) fields code = (fields ≡ trailers_of has_head head (ends_with way)) × (code ≡ status_number (ends_with way).code)
 
 -- when a call ends by itself that was opened at this moment; a number over the greatest `u128` counts as that
 abbrev pub deadline_of : Option ℕ → ℕ → Option ℕ

@@ -4,7 +4,6 @@ use Rattle.lpm.specs.declared.fault.LpmFault.{LpmFault}
 use Rattle.lpm.specs.declared.fault.LpmFault.TheVariants as fault
 use Rattle.callhead.specs.declared.head.Encoding.{Encoding}
 use Rattle.callhead.specs.declared.head.Encoding.TheVariants.{Identity, Other}
-use Rattle.grpc_status.specs.StatusCode.{status_number}
 use Rattle.grpc_status.specs.declared.StatusCode.TheVariants as code
 use Rattle.handlers.specs.declared.status.Status.{Status}
 use Rattle.handlers.specs.Statuses.{status}
@@ -12,14 +11,14 @@ use Rattle.callrun.specs.declared.cause.Cause.{Cause}
 use Rattle.callrun.specs.declared.cause.Cause.TheVariants.{Cancelled, DeadlineExceeded, MessageTooLong, OutOfMemory, UnsupportedEncoding, CompressedWithoutEncoding, BadFlag, CutAtEnd}
 
 abbrev pub status_of : Cause → Status
-status_of Cancelled = status (status_number code.Cancelled) (codes "cancelled")
-status_of DeadlineExceeded = status (status_number code.DeadlineExceeded) (codes "deadline exceeded")
-status_of MessageTooLong = status (status_number code.ResourceExhausted) (codes "message too long")
-status_of OutOfMemory = status (status_number code.ResourceExhausted) (codes "out of memory")
-status_of UnsupportedEncoding = status (status_number code.Unimplemented) (codes "unsupported encoding")
-status_of CompressedWithoutEncoding = status (status_number code.Internal) (codes "compressed without encoding")
-status_of BadFlag = status (status_number code.Internal) (codes "bad flag")
-status_of CutAtEnd = status (status_number code.Internal) (codes "message cut at end")
+status_of Cancelled = status code.Cancelled (codes "cancelled")
+status_of DeadlineExceeded = status code.DeadlineExceeded (codes "deadline exceeded")
+status_of MessageTooLong = status code.ResourceExhausted (codes "message too long")
+status_of OutOfMemory = status code.ResourceExhausted (codes "out of memory")
+status_of UnsupportedEncoding = status code.Unimplemented (codes "unsupported encoding")
+status_of CompressedWithoutEncoding = status code.Internal (codes "compressed without encoding")
+status_of BadFlag = status code.Internal (codes "bad flag")
+status_of CutAtEnd = status code.Internal (codes "message cut at end")
 
 -- a compressed message where no encoding was named is the client's fault; where one was, the server doesn't have it
 abbrev pub compressed_by : Encoding → Cause

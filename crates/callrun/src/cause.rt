@@ -1,7 +1,6 @@
 //! Why the server itself ends a call.
 
 ghost use Rattle.std.specs.Prelude.{◌≡◌};
-ghost use Rattle.grpc_status.specs.StatusCode.{status_number};
 ghost use Rattle.callrun.specs.Statuses.{status_of, cause_of};
 
 use callhead::Encoding;
@@ -32,7 +31,7 @@ pub enum Cause {
 impl Cause {
     /// The code of the status.
     pub fn code(self) -> StatusCode
-        ensures { status_number result ≡ (status_of self).code }
+        ensures { result ≡ (status_of self).code }
     {
         match self {
             Cause::Cancelled => StatusCode::Cancelled,

@@ -2,6 +2,7 @@
 
 ghost use Rattle.std.specs.Prelude.{◌≡◌, ◌++◌, [], IfOk};
 ghost use Rattle.callhead.specs.StatusFields.{response_fields};
+ghost use Rattle.grpc_status.specs.StatusCode.{status_number};
 ghost use Rattle.callrun.specs.Responses.{trailing_fields};
 ghost use Rattle.callrun.specs.Endings.{ends_with};
 
@@ -21,11 +22,12 @@ pub(crate) enum Ending {
 }
 
 impl Ending {
+    /// The number of the status.
     pub(crate) fn code(&self) -> u32
-        ensures { result ≡ (ends_with self.now).code }
+        ensures { result ≡ status_number (ends_with self.now).code }
     {
         match self {
-            Ending::Method(status) => status.code,
+            Ending::Method(status) => status.code.number(),
             Ending::Cause(cause) => cause.code().number(),
         }
     }

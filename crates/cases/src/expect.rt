@@ -78,10 +78,19 @@ pub fn expect_body(
     notes: &mut String,
 ) -> Result<(), CaseFault> {
     let response = SimpleResponse::decode(alloc, reply.as_slice())?;
-    let body = match &response.payload {
-        Some(payload) => payload.body.as_slice(),
-        None => &[],
-    };
+    match &response.payload {
+        Some(payload) => expect_zeros(alloc, payload.body.as_slice(), wanted, notes),
+        None => expect_zeros(alloc, &[], wanted, notes),
+    }
+}
+
+/// A body has this length, and zero bytes alone.
+fn expect_zeros(
+    alloc: Global,
+    body: &[u8],
+    wanted: usize,
+    notes: &mut String,
+) -> Result<(), CaseFault> {
     if body.len() == wanted && body.iter().all(|byte| *byte == 0) {
         return Ok(());
     }

@@ -14,27 +14,25 @@ pub struct AskedStatus {
     pub text: &'static str,
 }
 
-/// A payload of so many zero bytes.
-fn payload(alloc: Global, len: usize) -> Result<Payload, AllocError> {
-    Ok(Payload {
-        kind: 0,
-        body: ByteList::from_vec(vec![in alloc; 0; len]?),
-    })
+/// So many zero bytes.
+fn zeros(alloc: Global, len: usize) -> Result<Vec<u8>, AllocError> {
+    vec![in alloc; 0; len]
 }
 
-fn echo_status(
-    alloc: Global,
-    status: Option<AskedStatus>,
-) -> Result<Option<EchoStatus>, AllocError> {
-    let Some(status) = status else {
-        return Ok(None);
-    };
-    let mut message = Text::new(alloc);
-    message.set(status.text)?;
-    Ok(Some(EchoStatus {
+/// A payload with this body.
+fn payload(body: &[u8]) -> Payload<'_> {
+    Payload {
+        kind: 0,
+        body: ByteList::from_slice(body),
+    }
+}
+
+fn echo_status(status: Option<AskedStatus>) -> Option<EchoStatus<'static>> {
+    let status = status?;
+    Some(EchoStatus {
         code: status.code,
-        message,
-    }))
+        message: Text::from_text(status.text),
+    })
 }
 
 /// A request for one response of this size.
@@ -44,14 +42,15 @@ pub fn simple_request(
     body_len: usize,
     status: Option<AskedStatus>,
 ) -> Result<Vec<u8>, CaseFault> {
+    let body = zeros(alloc, body_len)?;
     let request = SimpleRequest {
         response_type: 0,
         response_size,
-        payload: Some(payload(alloc, body_len)?),
+        payload: Some(payload(&body)),
         fill_username: false,
         fill_oauth_scope: false,
         response_compressed: None,
-        response_status: echo_status(alloc, status)?,
+        response_status: echo_status(status),
         expect_compressed: None,
     };
     Ok(request.encode(alloc)?)
@@ -72,19 +71,21 @@ pub fn output_request(
             compressed: None,
         })?;
     }
+    let body = zeros(alloc, body_len)?;
     let request = StreamingOutputCallRequest {
         response_type: 0,
         response_parameters,
-        payload: Some(payload(alloc, body_len)?),
-        response_status: echo_status(alloc, status)?,
+        payload: Some(payload(&body)),
+        response_status: echo_status(status),
     };
     Ok(request.encode(alloc)?)
 }
 
 /// A part of what is summed up.
 pub fn input_request(alloc: Global, body_len: usize) -> Result<Vec<u8>, CaseFault> {
+    let body = zeros(alloc, body_len)?;
     let request = StreamingInputCallRequest {
-        payload: Some(payload(alloc, body_len)?),
+        payload: Some(payload(&body)),
         expect_compressed: None,
     };
     Ok(request.encode(alloc)?)
