@@ -1,8 +1,8 @@
 -- What a lawful frame's length and stream are, by its kind.
-use Rattle.std.proofs.Common.{◌≡◌, ℕ, ◌%◌, ◌<◌, Bool, true, false, length, refl, ap, subst, ◌∙◌, cond}
-use Rattle.std.specs.Prelude.{Option, Some, None, ◌==◌}
+use Rattle.std.proofs.Common.{◌≡◌, ℕ, ◌%◌, ◌<◌, ◌≤◌, Bool, true, false, length, refl, ap, subst, ◌∙◌, cond, arith}
+use Rattle.std.specs.Prelude.{Option, Some, None, ◌==◌, nat_lt}
 use Rattle.std.specs.Option.{option_or}
-use Rattle.std.proofs.lemmas.Bool.{eqb-true, ltb-true}
+use Rattle.std.proofs.lemmas.Bool.{eqb-true, ltb-true, ltb-false}
 use Rattle.h2frame.specs.declared.error_code.ErrorCode.{ErrorCode}
 use Rattle.h2frame.specs.declared.fault.FrameFault.{FrameFault}
 use Rattle.h2frame.specs.declared.fault.FrameFault.TheVariants.{TooLong, BadLength, WrongStream}
@@ -10,7 +10,7 @@ use Rattle.h2frame.specs.declared.frame.Frame.{Frame}
 use Rattle.h2frame.specs.declared.kind.FrameKind.{FrameKind}
 use Rattle.h2frame.specs.declared.kind.FrameKind.TheVariants.{Data, Ping, RstStream, Settings, WindowUpdate}
 use Rattle.h2frame.specs.Flags.{has, ack, is_padded_kind, has_priority_kind}
-use Rattle.h2frame.specs.Faults.{may_be_on, may_have_length, head_fault}
+use Rattle.h2frame.specs.Faults.{max_payload, may_be_on, may_have_length, head_fault}
 use Rattle.h2frame.specs.FrameList.{IsLawful}
 use Rattle.flow.specs.declared.halves.HalfVerdict.{HalfVerdict}
 use Rattle.flow.specs.declared.halves.HalfVerdict.TheVariants.{Open, Accept, Discard, StreamError, ConnectionError}
@@ -26,6 +26,15 @@ no_fault_parts true on len e = absurd cc
 no_fault_parts false true true e = (refl, refl)
 no_fault_parts false true false e = absurd cc
 no_fault_parts false false len e = absurd cc
+
+no_fault_long : (long : Bool) (other : Option FrameFault) → cond long (Some TooLong) other ≡ None → long ≡ false
+no_fault_long true other e = absurd cc
+no_fault_long false other e = refl
+
+pub lawful_short : (frame : Frame) → IsLawful frame → length frame.content ≤ 16384
+lawful_short frame is =
+    let long = no_fault_long (nat_lt max_payload frame.head.length) _ (no_fault_first (head_fault frame.head) _ is.fault) in
+    omega (arith, is.within, ltb-false max_payload frame.head.length long)
 
 parts : (frame : Frame) → IsLawful frame → (may_be_on frame.head.kind frame.head.stream ≡ true) × (may_have_length frame.head.kind frame.head ≡ true)
 parts frame is = no_fault_parts _ _ _ (no_fault_first (head_fault frame.head) _ is.fault)

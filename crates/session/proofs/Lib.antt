@@ -14,6 +14,7 @@ pub mod HalfSteps
 pub mod StreamPieces
 pub mod StreamGroups
 pub mod OpenStreamData
+pub mod NewStreams
 pub mod NewStreamData
 pub mod StreamRuns
 pub mod StreamEnds
@@ -27,3 +28,5 @@ pub mod OneText
 pub mod OneRun
 pub mod OneEvents
 pub mod StreamFrames
+pub mod SettingsExistence
+pub mod Existence

@@ -28,6 +28,7 @@ use Rattle.session.specs.Events.{Situation, Group, Single, Credit, Block, entrie
 use Rattle.session.specs.StreamData.{data_behind, data_of, pieces, is_opening}
 use Rattle.session.proofs.HalfSteps.{half_at, IsClosed, step_begun, step_new, IsFew, verdict_unbegun, headers_open}
 use Rattle.session.proofs.StreamPieces.{IsSilent, kind_silent, head_pieces}
+use Rattle.session.proofs.NewStreams.{not_calm_end, window_unbegun, and_none, new_half, cut_half, malformed_untold}
 use Rattle.session.proofs.StreamGroups.{stream_at, group_elsewhere, elsewhere_silent, block_of, elsewhere_of}
 
 -- ---- where the stream wasn't begun
@@ -40,9 +41,6 @@ UnbegunNext id new group given =
     ⊎ (((half_at new.history id ≡ Some Opened) × (pieces id given ≡ []) × ((more : List Entry) → data_of id (entries_of group ++ more) ≡ data_behind id more))
     ⊎ (IsClosed (half_at new.history id) × (pieces id given ≡ []) × ((list_any (is_opening id) given ≡ false) ⊎ ((more : List Entry) → data_of id (entries_of group ++ more) ≡ []))))
 
-pub not_calm_end : (error : ErrorCode) (given : List InEvent) → given ≡ fatal error → IsCalm given → ⊥
-not_calm_end error given e calm = let wrong : true ≡ false = sym (ap (list_any is_fatal) e) ∙ calm in cc
-
 -- a frame that isn't HEADERS, and leaves the half as it is
 stays_unbegun : (id : ℕ) (old new : Situation) (frame : Frame) (given : List InEvent) → IsSilent id given → new.history ≡ old.history → half_at old.history id ≡ None → is_headers frame.head.kind ≡ false → UnbegunNext id new (Single frame) given
 stays_unbegun id old new frame given silent same none kind =
@@ -52,14 +50,6 @@ stays_unbegun id old new frame given silent same none kind =
       λ more. ap (λ (b : Bool). if nat_eq id frame.head.stream && b then (if has end_stream frame.head.flags then [] else data_behind id more) else data_of id more) kind
           ∙ ap (λ (b : Bool). if b then (if has end_stream frame.head.flags then [] else data_behind id more) else data_of id more) (and_none (nat_eq id frame.head.stream)),
     )
-  where
-    and_none : (b : Bool) → (b && false) ≡ false
-    and_none true = refl
-    and_none false = refl
-
-pub window_unbegun : (b : Bool) (id : ℕ) (old new : Situation) (frame : Frame) (given : List InEvent) → WindowGives b old.history frame given new.history → IsCalm given → verdict old.history frame.head ≡ ConnectionError ProtocolError → new.history ≡ old.history
-window_unbegun true id old new frame given (e, same) calm judged = same
-window_unbegun false id old new frame given (e, same) calm judged = absurd (not_calm_end ProtocolError given (e ∙ ap (λ (v : HalfVerdict). window_events v frame) judged) calm)
 
 single_unbegun : (kind : FrameKind) (id : ℕ) (old new : Situation) (frame : Frame) (given : List InEvent) → frame.head.kind ≡ kind → KindGives kind old.history frame given new.history → IsCalm given
     → nat_eq id frame.head.stream ≡ true → half_at old.history id ≡ None → IsFew old.history → UnbegunNext id new (Single frame) given
@@ -100,9 +90,6 @@ head_cases head fields history next given (inl (call, is, e, same)) = inl same
 head_cases head fields history next given (inr (Malformed, first, e, same)) = inr (same, e)
 head_cases head fields history next given (inr (_, first, e, same)) = inl same
 
-pub new_half : (head : FrameHead) → head.kind ≡ Headers → half_of_new (Received head) ≡ (if has end_stream head.flags then Ended else Opened)
-new_half head kind = ap (λ (k : FrameKind). if is_last_of_kind k (has end_stream head.flags) then Ended else Opened) kind
-
 -- a stream begins whose head isn't malformed
 opens_well : (id : ℕ) (old new : Situation) (frames : List Frame) (block : Pending) (given : List InEvent) → Collects frames block → nat_eq id block.head.stream ≡ true
     → new.history ≡ Received block.head ∷ old.history → half_at (Received block.head ∷ old.history) id ≡ Some (if has end_stream block.head.flags then Ended else Opened) → pieces id given ≡ [] → UnbegunNext id new (Block frames block) given
@@ -117,24 +104,15 @@ opens_well id old new frames block given collects on same half none =
     by false ended now due =
         inr (inl (now ∙ ap (λ (b : Bool). Some (if b then Ended else Opened)) ended, none, λ more. due more ∙ ap (λ (b : Bool). if b then [] else data_behind id more) ended))
 
-and_or_false : (b : Bool) → ((b && false) || false) ≡ false
-and_or_false true = refl
-and_or_false false = refl
-
 pub opens_badly : (id : ℕ) (old new : Situation) (frames : List Frame) (block : Pending) (given : List InEvent) (now : Half) → nat_eq id block.head.stream ≡ true
     → half_at (Received block.head ∷ old.history) id ≡ Some now → new.history ≡ Cut block.head.stream ∷ (Received block.head ∷ old.history) → given ≡ events.BadHead block.head.stream Malformed ∷ []
     → UnbegunNext id new (Block frames block) given
 opens_badly id old new frames block given now on half same e =
     inr (inr (
-      inr (ap (λ (h : List Event). half_at h id) same ∙ step_begun id (Cut block.head.stream) (Received block.head ∷ old.history) now on half ∙ ap Some (cut_half now)),
+      inr (ap (λ (h : List Event). half_at h id) same ∙ step_begun id (Cut block.head.stream) (Received block.head ∷ old.history) now on half ∙ ap Some (cut_half now block.head.stream)),
       ap (pieces id) e,
-      inl (ap (list_any (is_opening id)) e ∙ and_or_false (nat_eq id block.head.stream)),
+      inl (ap (list_any (is_opening id)) e ∙ malformed_untold id block.head.stream),
     ))
-  where
-    cut_half : (half : Half) → half_after half (Cut block.head.stream) ≡ Reset
-    cut_half Opened = refl
-    cut_half Ended = refl
-    cut_half Reset = refl
 
 fields_unbegun : (id : ℕ) (old new : Situation) (frames : List Frame) (block : Pending) (given : List InEvent) (fields : List Field) → Collects frames block → nat_eq id block.head.stream ≡ true
     → HeadGives block.head fields (Received block.head ∷ old.history) given new.history → half_at (Received block.head ∷ old.history) id ≡ Some (if has end_stream block.head.flags then Ended else Opened)

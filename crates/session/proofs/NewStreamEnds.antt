@@ -27,7 +27,7 @@ use Rattle.session.specs.StreamData.{is_opening, Unended, Finished, ending_behin
 use Rattle.session.proofs.HalfSteps.{half_at, IsClosed, step_begun, step_new, IsFew, verdict_unbegun, headers_open}
 use Rattle.session.proofs.StreamPieces.{kind_silent}
 use Rattle.session.proofs.StreamGroups.{stream_at, group_elsewhere, elsewhere_silent}
-use Rattle.session.proofs.NewStreamData.{not_calm_end, window_unbegun, new_half}
+use Rattle.session.proofs.NewStreams.{not_calm_end, window_unbegun, and_none, new_half, cut_half, malformed_untold}
 use Rattle.session.proofs.StreamEnds.{elsewhere_quiet, settings_quiet, ping_quiet}
 use Rattle.session.proofs.OpenStreamEnds.{block_of, elsewhere_of, end_here}
 
@@ -44,10 +44,6 @@ stays_new id old new frame given quiet untold same none kind =
     Still (ap (λ (h : List Event). half_at h id) same ∙ none) quiet untold
     (λ more. ap (λ (b : Bool). if nat_eq id frame.head.stream && b then (if has end_stream frame.head.flags then Finished else ending_behind id more) else ending_of id more) kind
     ∙ ap (λ (b : Bool). if b then (if has end_stream frame.head.flags then Finished else ending_behind id more) else ending_of id more) (and_none (nat_eq id frame.head.stream)))
-  where
-    and_none : (b : Bool) → (b && false) ≡ false
-    and_none true = refl
-    and_none false = refl
 
 window_told : (b : Bool) (id : ℕ) (history next : List Event) (frame : Frame) (given : List InEvent) → verdict history frame.head ≡ ConnectionError ProtocolError → WindowGives b history frame given next → ending_told id given ≡ Unended
 window_told true id history next frame given judged (e, same) = ap (ending_told id) e
@@ -87,18 +83,10 @@ opens_well id new frames block given collects on half told =
         Begins (half ∙ ap (λ (b : Bool). Some (if b then Ended else Opened)) ended) (told ∙ ap (λ (b : Bool). if b then Finished else Unended) ended)
         (λ more. due more ∙ ap (λ (b : Bool). if b then Finished else ending_behind id more) ended)
 
-cut_at : (half : Half) (stream : ℕ) → half_after half (Cut stream) ≡ Reset
-cut_at Opened stream = refl
-cut_at Ended stream = refl
-cut_at Reset stream = refl
-
-malformed_untold : (id stream : ℕ) → list_any (is_opening id) (events.BadHead stream Malformed ∷ []) ≡ false
-malformed_untold id stream = elim (nat_eq id stream) as (λ (b : Bool). list_any (λ (x : Bool). x) ((b && false) ∷ []) ≡ false) [ true ↦ refl | false ↦ refl ]
-
 opens_badly : (id : ℕ) (old new : Situation) (frames : List Frame) (block : Pending) (given : List InEvent) (now : Half) → nat_eq id block.head.stream ≡ true
     → half_at (Received block.head ∷ old.history) id ≡ Some now → new.history ≡ Cut block.head.stream ∷ (Received block.head ∷ old.history) → given ≡ events.BadHead block.head.stream Malformed ∷ [] → NewEnd id new (Block frames block) given
 opens_badly id old new frames block given now on half same e =
-    Untold (inr (ap (λ (h : List Event). half_at h id) same ∙ step_begun id (Cut block.head.stream) (Received block.head ∷ old.history) now on half ∙ ap Some (cut_at now block.head.stream)))
+    Untold (inr (ap (λ (h : List Event). half_at h id) same ∙ step_begun id (Cut block.head.stream) (Received block.head ∷ old.history) now on half ∙ ap Some (cut_half now block.head.stream)))
     (ap (list_any (is_opening id)) e ∙ malformed_untold id block.head.stream)
 
 fault_new : (id : ℕ) (old new : Situation) (frames : List Frame) (block : Pending) (given : List InEvent) (fault : HeadFault) → Collects frames block → nat_eq id block.head.stream ≡ true

@@ -26,7 +26,7 @@ use Rattle.session.specs.StreamData.{Ending, Unended, Finished, Aborted, ending_
 use Rattle.session.proofs.HalfSteps.{half_at, step_begun, verdict_begun, opened_data, opened_reset, opened_window}
 use Rattle.session.proofs.StreamGroups.{single_next, stream_at, group_elsewhere}
 use Rattle.session.proofs.OpenStreamData.{still_open, window_open, opened_headers}
-use Rattle.session.proofs.NewStreamData.{not_calm_end}
+use Rattle.session.proofs.NewStreams.{not_calm_end}
 use Rattle.session.proofs.StreamEnds.{told_append, elsewhere_quiet, settings_quiet, ping_quiet}
 
 -- ---- the entries of a group, for the end of a stream

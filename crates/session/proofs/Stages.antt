@@ -1,6 +1,6 @@
 -- What a stage comes to by a piece.
-use Rattle.std.proofs.Common.{◌≡◌, ◌≢◌, ℕ, inl, inr, List, [], ◌++◌, refl, sym, ap, subst, ◌∙◌, append_assoc}
-use Rattle.std.specs.Prelude.{Option, Result, Ok, Err, IfOk}
+use Rattle.std.proofs.Common.{◌≡◌, ◌≢◌, ℕ, inl, inr, List, [], ◌++◌, length, refl, sym, ap, subst, ◌∙◌, append_assoc, arith}
+use Rattle.std.specs.Prelude.{Option}
 use Rattle.std.proofs.lemmas.List.{append-nil, append_cancel_left}
 use Rattle.h2frame.specs.declared.error_code.ErrorCode.TheVariants.{ProtocolError}
 use Rattle.h2frame.specs.FrameList.{Entry}
@@ -15,7 +15,7 @@ use Rattle.session.specs.declared.in_core.Stage.TheVariants.{Greeting, Reading, 
 use Rattle.session.specs.Prefaces.{preface, Departs, Brings}
 use Rattle.session.specs.Frames.{fatal}
 use Rattle.session.specs.Events.{Situation, Close, Unfinished, Faulty, Refused, Broken, Ended, Closes, Follows}
-use Rattle.session.specs.CoreStates.{Stops, ReadsTo, IsOver, ReadsOn, AtStage}
+use Rattle.session.specs.CoreStates.{Stops, ReadsTo, IsOver, ReadsOn, IsSoundStage, AtStage, Reached, core_of, Feeds}
 
 -- ---- more bytes
 
@@ -56,51 +56,84 @@ at_stage (Reading position) bytes text given waiting streams kept e (reads, unfi
 at_stage Dead bytes text given waiting streams kept e over = inr (text, e, over)
 at_stage (Greeting due) bytes text given waiting streams kept e reads = absurd reads
 
-pub dead_stays : (stage : Stage) (bytes piece : List ℕ) (given : List InEvent) (waiting : List ℕ) (streams : Streams) (kept : Option Table)
-    → stage ≡ Dead → AtStage bytes given stage waiting streams kept → AtStage (bytes ++ piece) given Dead waiting streams kept
-dead_stays stage bytes piece given waiting streams kept is at =
-    let dead : AtStage bytes given Dead waiting streams kept = subst (λ (s : Stage). AtStage bytes given s waiting streams kept) is at in
-    elim dead [
-      | inl (departs, e) ↦ inl (departs_more preface bytes piece departs, e)
-      | inr (text, e, over) ↦ inr (text ++ piece, ap (λ (b : List ℕ). b ++ piece) e ∙ append_assoc preface text piece, over_more text piece given over)
-    ]
+dead_stays : (bytes piece : List ℕ) (given : List InEvent) (waiting : List ℕ) (streams : Streams) (kept : Option Table)
+    → AtStage bytes given Dead waiting streams kept → AtStage (bytes ++ piece) given Dead waiting streams kept
+dead_stays bytes piece given waiting streams kept (inl (departs, e)) = inl (departs_more preface bytes piece departs, e)
+dead_stays bytes piece given waiting streams kept (inr (text, e, over)) =
+    inr (text ++ piece, ap (λ (b : List ℕ). b ++ piece) e ∙ append_assoc preface text piece, over_more text piece given over)
 
-pub reading_goes_on : (stage next : Stage) (position : Position) (bytes piece : List ℕ) (given all : List InEvent) (waiting left : List ℕ) (streams new_streams : Streams) (kept new_kept : Option Table)
-    → stage ≡ Reading position
-    → ((text : List ℕ) → ReadsTo text given position waiting streams kept → ReadsOn (text ++ piece) all next left new_streams new_kept)
-    → AtStage bytes given stage waiting streams kept → AtStage (bytes ++ piece) all next left new_streams new_kept
-reading_goes_on stage next position bytes piece given all waiting left streams new_streams kept new_kept is reads at =
-    let s : AtStage bytes given (Reading position) waiting streams kept = subst (λ (t : Stage). AtStage bytes given t waiting streams kept) is at in
-    at_stage next (bytes ++ piece) (s.0 ++ piece) all left new_streams new_kept (ap (λ (b : List ℕ). b ++ piece) s.1 ∙ append_assoc preface s.0 piece) (reads s.0 s.2)
+pub dead_feeds : (piece : List ℕ) (before : List InEvent) (waiting : List ℕ) (streams : Streams) (kept : Option Table)
+    → Feeds (core_of Dead waiting streams kept) piece before (core_of Dead waiting streams kept) before
+dead_feeds piece before waiting streams kept =
+    record { sound = tt; follows = λ bytes earlier r. record { at = dead_stays bytes piece (earlier ++ before) waiting streams kept r.at } }
+
+-- what is read behind the preface
+pub reading_feeds : (position : Position) (next : Stage) (piece : List ℕ) (before after : List InEvent) (waiting left : List ℕ) (streams new_streams : Streams) (kept new_kept : Option Table)
+    → IsSoundStage next new_streams
+    → ((text : List ℕ) (earlier : List InEvent) → ReadsTo text (earlier ++ before) position waiting streams kept → ReadsOn (text ++ piece) (earlier ++ after) next left new_streams new_kept)
+    → Feeds (core_of (Reading position) waiting streams kept) piece before (core_of next left new_streams new_kept) after
+reading_feeds position next piece before after waiting left streams new_streams kept new_kept sound reads =
+    record {
+      sound = sound;
+      follows = λ bytes earlier r. record {
+        at = at_stage next (bytes ++ piece) (r.at.0 ++ piece) (earlier ++ after) left new_streams new_kept
+            (ap (λ (b : List ℕ). b ++ piece) r.at.1 ∙ append_assoc preface r.at.0 piece) (reads r.at.0 earlier r.at.2);
+      };
+    }
 
 -- ---- the preface
 
-pub greeted : (bytes due piece still rest : List ℕ) (given all : List InEvent) (next : Stage) (waiting left : List ℕ) (streams new_streams : Streams) (kept new_kept : Option Table)
+-- what the preface lacked came, and what is behind it is read
+pub greeted : (due piece still rest : List ℕ) (before after : List InEvent) (next : Stage) (waiting left : List ℕ) (streams new_streams : Streams) (kept new_kept : Option Table)
     → Brings due piece still rest → still ≡ []
-    → ((text : List ℕ) → ReadsTo text given First waiting streams kept → ReadsOn (text ++ rest) all next left new_streams new_kept)
-    → AtStage bytes given (Greeting due) waiting streams kept → AtStage (bytes ++ piece) all next left new_streams new_kept
-greeted bytes due piece still rest given all next waiting left streams new_streams kept new_kept brings none reads (e, some, silent, empty, keeps, table) =
+    → Feeds (core_of (Reading First) waiting streams kept) rest before (core_of next left new_streams new_kept) after
+    → Feeds (core_of (Greeting due) waiting streams kept) piece before (core_of next left new_streams new_kept) after
+greeted due piece still rest before after next waiting left streams new_streams kept new_kept brings none feeds =
     let came : due ≡ brings.came = brings.left ∙ ap (λ (b : List ℕ). brings.came ++ b) none ∙ append-nil brings.came in
-    let all_bytes : bytes ++ piece ≡ preface ++ rest =
-    ap (λ (b : List ℕ). bytes ++ b) (brings.taken ∙ ap (λ (b : List ℕ). b ++ rest) (sym came)) ∙ sym (append_assoc bytes due rest) ∙ ap (λ (b : List ℕ). b ++ rest) (sym e) in
-    at_stage next (bytes ++ piece) rest all left new_streams new_kept all_bytes (reads [] ([], sym empty, (refl, silent, keeps, table)))
+    record {
+      sound = feeds.sound;
+      follows = λ bytes earlier r.
+          let greeting = r.at in
+          let whole : bytes ++ brings.came ≡ preface ++ [] = ap (λ (b : List ℕ). bytes ++ b) (sym came) ∙ sym greeting.0 ∙ sym (append-nil preface) in
+          let parts : (bytes ++ brings.came) ++ rest ≡ bytes ++ piece = append_assoc bytes brings.came rest ∙ ap (λ (b : List ℕ). bytes ++ b) (sym brings.taken) in
+          subst (λ (b : List ℕ). Reached b (earlier ++ after) (core_of next left new_streams new_kept)) parts
+          (feeds.follows (bytes ++ brings.came) earlier
+          (record { at = ([], whole, ([], sym greeting.3, (refl, greeting.2, greeting.4, greeting.5)), inl (omega (arith, ap length greeting.3))) }));
+    }
 
-pub greets_on : (bytes due piece still rest : List ℕ) (given : List InEvent) (waiting : List ℕ) (streams : Streams) (kept : Option Table)
-    → Brings due piece still rest → still ≢ [] → AtStage bytes given (Greeting due) waiting streams kept → AtStage (bytes ++ piece) given (Greeting still) waiting streams kept
-greets_on bytes due piece still rest given waiting streams kept brings more (e, some, silent, empty, keeps, table) =
+pub greets_on : (due piece still rest : List ℕ) (before : List InEvent) (waiting : List ℕ) (streams : Streams) (kept : Option Table)
+    → Brings due piece still rest → still ≢ [] → Feeds (core_of (Greeting due) waiting streams kept) piece before (core_of (Greeting still) waiting streams kept) before
+greets_on due piece still rest before waiting streams kept brings more =
     let none : rest ≡ [] = elim brings.whole [ inl over ↦ absurd (more over) | inr r ↦ r ] in
     let came : piece ≡ brings.came = brings.taken ∙ ap (λ (b : List ℕ). brings.came ++ b) none ∙ append-nil brings.came in
-    (e ∙ ap (λ (b : List ℕ). bytes ++ b) (brings.left ∙ ap (λ (b : List ℕ). b ++ still) (sym came)) ∙ sym (append_assoc bytes piece still), more, silent, empty, keeps, table)
+    record {
+      sound = tt;
+      follows = λ bytes earlier r.
+          let greeting = r.at in
+          record {
+            at = (
+              greeting.0 ∙ ap (λ (b : List ℕ). bytes ++ b) (brings.left ∙ ap (λ (b : List ℕ). b ++ still) (sym came)) ∙ sym (append_assoc bytes piece still),
+              more,
+              greeting.2,
+              greeting.3,
+              greeting.4,
+              greeting.5,
+            );
+          };
+    }
 
-pub departed : (bytes due piece : List ℕ) (before old new : List InEvent) (waiting : List ℕ) (streams : Streams) (kept : Option Table)
-    → Departs due piece → new ≡ old ++ fatal ProtocolError → AtStage bytes (before ++ old) (Greeting due) waiting streams kept → AtStage (bytes ++ piece) (before ++ new) Dead waiting streams kept
-departed bytes due piece before old new waiting streams kept departs e (due_is, some, silent, empty, keeps, table) =
-    inl (
-      (λ (more behind : List ℕ) (same : (bytes ++ piece) ++ more ≡ preface ++ behind).
-          departs more behind (append_cancel_left bytes (piece ++ more) (due ++ behind) (sym (append_assoc bytes piece more) ∙ same ∙ ap (λ (b : List ℕ). b ++ behind) due_is ∙ append_assoc bytes due behind))),
-      ap (λ (es : List InEvent). before ++ es) e ∙ sym (append_assoc before old (fatal ProtocolError)) ∙ ap (λ (es : List InEvent). es ++ fatal ProtocolError) silent,
-    )
-
-pub if_next : {E : Type 0} (r : Result Stage E) (P Q : Stage → Type 0) → IfOk r P → ((next : Stage) → P next → Q next) → IfOk r Q
-if_next (Ok x) P Q p f = f x p
-if_next (Err e) P Q p f = tt
+pub departed : (due piece : List ℕ) (before after : List InEvent) (waiting : List ℕ) (streams : Streams) (kept : Option Table)
+    → Departs due piece → after ≡ before ++ fatal ProtocolError → Feeds (core_of (Greeting due) waiting streams kept) piece before (core_of Dead waiting streams kept) after
+departed due piece before after waiting streams kept departs e =
+    record {
+      sound = tt;
+      follows = λ bytes earlier r.
+          let greeting = r.at in
+          record {
+            at = inl (
+              (λ (more behind : List ℕ) (same : (bytes ++ piece) ++ more ≡ preface ++ behind).
+                  departs more behind (append_cancel_left bytes (piece ++ more) (due ++ behind) (sym (append_assoc bytes piece more) ∙ same ∙ ap (λ (b : List ℕ). b ++ behind) greeting.0 ∙ append_assoc bytes due behind))),
+              ap (λ (es : List InEvent). earlier ++ es) e ∙ sym (append_assoc earlier before (fatal ProtocolError)) ∙ ap (λ (es : List InEvent). es ++ fatal ProtocolError) greeting.2,
+            );
+          };
+    }

@@ -142,3 +142,13 @@ AtStage bytes given Dead waiting streams kept =
 
 pub record Reached (bytes : List ℕ) (given : List InEvent) (core : Core) : Type 0 where
   pub at : AtStage bytes given core.stage core.waiting core.streams core.kept
+
+-- a core by its parts
+abbrev pub core_of : Stage → List ℕ → Streams → Option Table → Core
+core_of stage waiting streams kept = record { stage = stage; waiting = waiting; streams = streams; kept = kept }
+
+-- A piece leads from one core to another, and from some events of it to others: whatever bytes and events led to the
+-- first core, with the piece, and with what is new of the events, they lead to the second.
+pub record Feeds (old : Core) (piece : List ℕ) (before : List InEvent) (new : Core) (after : List InEvent) : Type 0 where
+  pub sound : IsSoundStage new.stage new.streams
+  pub follows : (bytes : List ℕ) (earlier : List InEvent) → Reached bytes (earlier ++ before) old → Reached (bytes ++ piece) (earlier ++ after) new

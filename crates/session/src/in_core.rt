@@ -6,7 +6,7 @@
 ghost use Rattle.std.specs.Prelude.{◌≡◌, List, ℕ, [], ◌++◌, IfOk, IsOk, OnErr};
 ghost use Rattle.session.specs.declared.event.InEvent.{InEvent as InEventOf};
 ghost use Rattle.session.specs.declared.in_core.Stage.TheVariants.{Dead, Greeting, Reading};
-ghost use Rattle.session.specs.CoreStates.{Reached, IsSound, IsSoundStage, ReadsTo, ReadsOn, AtStage};
+ghost use Rattle.session.specs.CoreStates.{Reached, IsSound, IsSoundStage, Feeds, core_of};
 
 use crate::context::{Context, Position};
 use crate::event::InEvent;
@@ -87,10 +87,8 @@ fn advance(
     events: &mut Vec<InEvent>,
 ) -> Result<Stage, AllocError>
     requires { IsSoundStage stage context.old.halves }
-    ensures sound { IfOk result (λ next. IsSoundStage next context.new.halves) }
-    ensures follows { IfOk result (λ next. (bytes : List ℕ) (before : List InEventOf) →
-        AtStage bytes (before ++ events.old.items) stage reader.old context.old.halves context.old.decoder →
-        AtStage (bytes ++ piece.now) (before ++ events.new.items) next reader.new context.new.halves context.new.decoder) }
+    ensures feeds { IfOk result (λ next. Feeds (core_of stage reader.old context.old.halves context.old.decoder) piece.now events.old.items
+        (core_of next reader.new context.new.halves context.new.decoder) events.new.items) }
     ensures dead { stage ≡ Dead → IsOk result × IfOk result (λ next. (next ≡ Dead) × (events.new.items ≡ events.old.items)) }
 {
     match stage {
@@ -108,10 +106,8 @@ fn greet(
     piece: &[u8],
     events: &mut Vec<InEvent>,
 ) -> Result<Stage, AllocError>
-    ensures sound { IfOk result (λ next. IsSoundStage next context.new.halves) }
-    ensures follows { IfOk result (λ next. (bytes : List ℕ) (before : List InEventOf) →
-        AtStage bytes (before ++ events.old.items) (Greeting preface) reader.old context.old.halves context.old.decoder →
-        AtStage (bytes ++ piece.now) (before ++ events.new.items) next reader.new context.new.halves context.new.decoder) }
+    ensures feeds { IfOk result (λ next. Feeds (core_of (Greeting preface) reader.old context.old.halves context.old.decoder) piece.now events.old.items
+        (core_of next reader.new context.new.halves context.new.decoder) events.new.items) }
 {
     let mut preface = preface;
     let Ok(rest) = preface.take(piece) else {
@@ -133,10 +129,8 @@ fn read(
     events: &mut Vec<InEvent>,
 ) -> Result<Stage, AllocError>
     requires { IsSound position context.old.halves }
-    ensures sound { IfOk result (λ next. IsSoundStage next context.new.halves) }
-    ensures follows { IfOk result (λ next. (text : List ℕ) (before : List InEventOf) →
-        ReadsTo text (before ++ events.old.items) position reader.old context.old.halves context.old.decoder →
-        ReadsOn (text ++ piece.now) (before ++ events.new.items) next reader.new context.new.halves context.new.decoder) }
+    ensures feeds { IfOk result (λ next. Feeds (core_of (Reading position) reader.old context.old.halves context.old.decoder) piece.now events.old.items
+        (core_of next reader.new context.new.halves context.new.decoder) events.new.items) }
 {
     let Ok(()) = reader.feed(piece) else {
         return Err(AllocError);

@@ -1,6 +1,6 @@
 //! Laws of a connection's events, for the proofs of callers. None of them does anything.
 
-ghost use Rattle.std.specs.Prelude.{◌≡◌, ℕ, List, ◌++◌, true};
+ghost use Rattle.std.specs.Prelude.{◌≡◌, ◌<◌, ℕ, List, All, ◌++◌, true};
 ghost use Rattle.std.specs.List.{list_any};
 ghost use Rattle.session.specs.declared.event.InEvent.{InEvent as InEventOf};
 ghost use Rattle.h2frame.specs.FrameList.{Entry, Joined};
@@ -69,4 +69,9 @@ pub fn goes_on()
 /// A byte list has one list of events and no other.
 pub fn one_list()
     ensures { (bytes : List ℕ) (one other : List InEventOf) → Events bytes one → Events bytes other → one ≡ other }
+{}
+
+/// Each list of bytes has a list of events.
+pub fn some_list()
+    ensures { (bytes : List ℕ) → All (λ byte. byte < 256) bytes → (given : List InEventOf) × Events bytes given }
 {}
