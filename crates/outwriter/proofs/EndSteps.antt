@@ -112,6 +112,7 @@ reset-written run begun gone w windows over after waiting block owed less id cod
         not_ended = λ e. absurd (true≢false (sym e ∙ still.1));
         goes_on = m.goes ∙ not_gone;
         credit = credits-none run (reset_frame id code) owed none m.credits;
+        update = λ e. cc;
       },
       record {
         begins = sym is_begun;
@@ -227,6 +228,7 @@ headers-written run begun gone w windows over after waiting left block rest owed
         not_ended = λ e. absurd (true≢false (sym e ∙ still.1));
         goes_on = m.goes ∙ not_gone;
         credit = credits-none run (headers_frame id ends_it whole fragment) owed none m.credits;
+        update = λ e. cc;
       },
       record {
         begins = sym is_begun;
@@ -287,6 +289,7 @@ continuation-written run begun gone w over waiting block rest owed made is is_re
         not_ended = λ e. inr refl;
         goes_on = m.goes ∙ not_gone;
         credit = credits-none run (continuation_frame block.id (is_short block) (take 16384 block.rest)) owed none m.credits;
+        update = λ e. cc;
       },
       record {
         begins = sym is_begun;
@@ -326,6 +329,7 @@ data-written run begun gone w windows over waiting block owed id bytes made is i
         not_ended = λ e. absurd (true≢false (sym e ∙ still.1));
         goes_on = m.goes ∙ not_gone;
         credit = credits-none run (data_frame id bytes) owed none m.credits;
+        update = λ e. cc;
       },
       record {
         begins = sym is_begun;
@@ -384,4 +388,5 @@ update-written run begun gone w over waiting block owed less taken made is is_be
     (subst (λ n. ((if k == taken.0 then taken.1 else 0) + updated k run) + n ≤ granted k run) (sym (takes.4 k))
     (at-most-left (k == taken.0) taken.1 (updated k run) (owed_on owed k) (granted k run) (m.credits k) (here k))))
     (λ k e. (takes.5 k).1 ∙ m.silent k e)
+    (λ e. (taken.1, takes.0, small, refl))
     (sym not_gone) m)

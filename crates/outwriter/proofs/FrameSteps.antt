@@ -1,5 +1,5 @@
 -- What is kept follows from a run of one more frame, and the frame might be written.
-use Rattle.std.proofs.Common.{◌≡◌, ℕ, ◌+◌, ◌≤◌, ◌==◌, refl, sym, ap, subst, ◌∙◌, Bool, true, false, List, [], ◌∷◌, ◌++◌, Option, Some, None, arith, append-nil, append_assoc, nat_eq, true≢false}
+use Rattle.std.proofs.Common.{◌≡◌, ℕ, ◌+◌, ◌<◌, ◌≤◌, ◌^◌, ◌==◌, refl, sym, ap, subst, ◌∙◌, Bool, true, false, List, [], ◌∷◌, ◌++◌, Option, Some, None, arith, append-nil, append_assoc, nat_eq, true≢false}
 use Rattle.std.specs.Prelude.{flat_map, ◌||◌, ◌&&◌, is_some, if◌then◌else◌}
 use Rattle.std.specs.List.{list_any}
 use Rattle.std.specs.Map.{lookup}
@@ -13,10 +13,10 @@ use Rattle.h2frame.specs.declared.kind.FrameKind.TheVariants as kind
 use Rattle.outwriter.specs.declared.blocks.HeaderBlock.{HeaderBlock}
 use Rattle.outwriter.specs.declared.due.Due.{Due}
 use Rattle.outwriter.specs.Credits.{Owed}
-use Rattle.outwriter.specs.Frames.{is_last, reset_frame, resets, ends, ends_stream, is_reset, update_on, update_kind, ends_block, first_settings, settings_ack, ping_ack, goaway_frame}
+use Rattle.outwriter.specs.Frames.{is_last, reset_frame, resets, ends, ends_stream, is_reset, update_on, update_kind, update_frame, ends_block, first_settings, settings_ack, ping_ack, goaway_frame}
 use Rattle.outwriter.specs.Histories.{closing_of, spending_of, is_over}
-use Rattle.outwriter.specs.RunState.{Mirrors, HasWindows, HasOver, HasDue, HasBlock, HasHead, HasCredit, HasSilence, has_begun, duties_of, resets_of}
-use Rattle.outwriter.specs.Runs.{Duty, IsAsked, Fragments, unfinished, granted, updated, due, told, told_by, MayWrite, Continues, MayFollowEnd, fragments}
+use Rattle.outwriter.specs.RunState.{Mirrors, HasWindows, HasOver, HasDue, HasBlock, HasHead, HasCredit, HasSilence, duties_of, resets_of}
+use Rattle.outwriter.specs.Runs.{has_begun, IsAsked, Fragments, unfinished, granted, updated, due, told, told_by, MayWrite, Continues, MayFollowEnd, fragments}
 use Rattle.outwriter.specs.Steps.{Step, Taken, Granted, Written, frames_of}
 use Rattle.outwriter.proofs.RunStateSteps.{same-block, all-behind}
 
@@ -47,25 +47,26 @@ module _ (run : List Step) (frame : Frame) where
         λ not_reset. ap (λ b. b || list_any (resets id) (frames_of run)) is_no_reset ∙ (has id).1 not_reset,
       )
 
-  pub due-same : (waiting : List Due) → told_by frame ≡ [] → HasDue run waiting → HasDue (Written frame ∷ run) waiting
+  pub due-same : (waiting : List Due) → told_by (has_begun (frames_of run)) frame ≡ [] → HasDue run waiting → HasDue (Written frame ∷ run) waiting
   due-same waiting none h = (
-    h.0 ∙ ap (λ (xs : List Duty). xs ++ flat_map duties_of waiting) (sym (ap (λ (xs : List Duty). told run ++ xs) none ∙ append-nil (told run))),
+    h.0 ∙ ap (λ (xs : List Frame). xs ++ flat_map duties_of waiting) (sym (ap (λ (xs : List Frame). told run ++ xs) none ∙ append-nil (told run))),
     h.1,
   )
 
   -- nothing that is due is written
-  pub tells-none : (waiting : List Due) → told_by frame ≡ [] → HasDue run waiting → Begins (told run ++ told_by frame) (due run)
+  pub tells-none : (waiting : List Due) → told_by (has_begun (frames_of run)) frame ≡ [] → HasDue run waiting → Begins (told run ++ told_by (has_begun (frames_of run)) frame) (due run)
   tells-none waiting none h = (flat_map duties_of waiting, (due-same waiting none h).0)
 
   -- the first that is due is written
-  pub due-told : (one : Due) (waiting : List Due) → told_by frame ≡ duties_of one → HasDue run (one ∷ waiting) → HasDue (Written frame ∷ run) waiting
+  pub due-told : (one : Due) (waiting : List Due) → told_by (has_begun (frames_of run)) frame ≡ duties_of one → HasDue run (one ∷ waiting) → HasDue (Written frame ∷ run) waiting
   due-told one waiting is h = let P : ℕ × ErrorCode → Type 0 = λ reset. IsAsked reset.0 reset.1 run in (
     h.0 ∙ sym (append_assoc (told run) (duties_of one) (flat_map duties_of waiting))
-        ∙ ap (λ (xs : List Duty). (told run ++ xs) ++ flat_map duties_of waiting) (sym is),
+        ∙ ap (λ (xs : List Frame). (told run ++ xs) ++ flat_map duties_of waiting) (sym is),
     all-behind P (resets_of one) (flat_map resets_of waiting) h.1,
   )
 
-  pub tells-first : (one : Due) (waiting : List Due) → told_by frame ≡ duties_of one → HasDue run (one ∷ waiting) → Begins (told run ++ told_by frame) (due run)
+  pub tells-first : (one : Due) (waiting : List Due) → told_by (has_begun (frames_of run)) frame ≡ duties_of one → HasDue run (one ∷ waiting)
+      → Begins (told run ++ told_by (has_begun (frames_of run)) frame) (due run)
   tells-first one waiting is h = (flat_map duties_of waiting, (due-told one waiting is h).0)
 
   pub credit-same : (owed : Owed) → ((id : ℕ) → update_on id frame ≡ 0) → HasCredit run owed → HasCredit (Written frame ∷ run) owed
@@ -132,24 +133,26 @@ first-written run begun gone w over waiting block owed frame is not_begun not_go
     let none : frames_of run ≡ [] = none-written (frames_of run) (m.begins ∙ not_begun) in
     let no_update = no-updates run first_settings refl in
     let nothing : unfinished run ≡ None = none-unfinished run none in
+    let no_duty : told_by (has_begun (frames_of run)) first_settings ≡ [] = ap (λ b. told_by b first_settings) (m.begins ∙ not_begun) in
     subst (λ (f : Frame). MayWrite run f × Mirrors (Written f ∷ run) true gone w over waiting block owed) (sym is) (
       record {
         first = λ e. refl;
         windows = λ e. cc;
-        answers = tells-none run first_settings waiting refl m.answers;
+        answers = tells-none run first_settings waiting no_duty m.answers;
         asked = λ e. cc;
         block = subst (λ (o : Option Fragments). Continues o first_settings) (sym nothing) (λ e. cc);
         not_reset = ap (list_any (resets 0)) none;
         not_ended = λ e. absurd (true≢false (sym e ∙ ap (list_any (ends 0)) none));
         goes_on = m.goes ∙ not_gone;
         credit = credits-none run first_settings owed no_update m.credits;
+        update = λ e. cc;
       },
       record {
         begins = refl;
         goes = m.goes;
         windows_follow = windows-same run first_settings w refl refl m.windows_follow;
         is_over = over-same run first_settings over refl refl m.is_over;
-        answers = due-same run first_settings waiting refl m.answers;
+        answers = due-same run first_settings waiting no_duty m.answers;
         goes_on = same-block run (Written first_settings ∷ run) block (no-block run first_settings refl ∙ sym nothing) m.goes_on;
         not_reset = head-same first_settings (frames_of run) block refl m.not_reset;
         credits = credit-same run first_settings owed no_update m.credits;
@@ -172,14 +175,15 @@ pub record IsPlain (frame : Frame) : Type 0 where
 
 pub plain-written : (run : List Step) (begun gone after : Bool) (w : Windows) (over : List (ℕ × Bool)) (waiting left : List Due) (block : Option HeaderBlock)
     (owed less : Owed) (frame : Frame) → begun ≡ true → gone ≡ false → block ≡ None → IsPlain frame
-    → Begins (told run ++ told_by frame) (due run) → HasDue (Written frame ∷ run) left
+    → Begins (told run ++ told_by (has_begun (frames_of run)) frame) (due run) → HasDue (Written frame ∷ run) left
     → list_any (resets frame.head.stream) (frames_of run) ≡ false
     → (list_any (ends frame.head.stream) (frames_of run) ≡ true → MayFollowEnd frame.head.kind)
     → ((id : ℕ) → updated id run + update_on id frame ≤ granted id run) → HasCredit (Written frame ∷ run) less → HasSilence over less
+    → (frame.head.kind ≡ kind.WindowUpdate → (n : ℕ) × (0 < n) × (n < 2 ^ 31) × (frame ≡ update_frame frame.head.stream n))
     → is_last frame ≡ after
     → Mirrors run begun gone w over waiting block owed
     → MayWrite run frame × Mirrors (Written frame ∷ run) begun after w over left block less
-plain-written run begun gone after w over waiting left block owed less frame is_begun not_gone no_block plain tells dues not_reset not_ended allowed credits silent last m =
+plain-written run begun gone after w over waiting left block owed less frame is_begun not_gone no_block plain tells dues not_reset not_ended allowed credits silent whole last m =
     let nothing : unfinished run ≡ None = subst (HasBlock run) no_block m.goes_on in (
       record {
         first = λ e. absurd (none-begun (frames_of run) (m.begins ∙ is_begun) e);
@@ -191,6 +195,7 @@ plain-written run begun gone after w over waiting left block owed less frame is_
         not_ended = not_ended;
         goes_on = m.goes ∙ not_gone;
         credit = allowed;
+        update = whole;
       },
       record {
         begins = sym is_begun;
@@ -236,15 +241,16 @@ connection-on run over has none = not-over run 0 (sym (has 0).0 ∙ none-over (l
 -- a frame of the connection that is due
 pub due-written : (run : List Step) (begun gone after : Bool) (w : Windows) (over : List (ℕ × Bool)) (one : Due) (waiting : List Due) (block : Option HeaderBlock)
     (owed : Owed) (made frame : Frame) → made ≡ frame → begun ≡ true → gone ≡ false → block ≡ None → IsPlain frame → frame.head.stream ≡ 0
-    → update_kind frame.head.kind frame.content ≡ 0 → told_by frame ≡ duties_of one → is_last frame ≡ after
+    → update_kind frame.head.kind frame.content ≡ 0 → told_by true frame ≡ duties_of one → (frame.head.kind ≡ kind.WindowUpdate → ⊥) → is_last frame ≡ after
     → Mirrors run begun gone w over (one ∷ waiting) block owed
     → MayWrite run made × Mirrors (Written made ∷ run) begun after w over waiting block owed
-due-written run begun gone after w over one waiting block owed made frame is is_begun not_gone no_block plain on_0 no_update tells last m =
+due-written run begun gone after w over one waiting block owed made frame is is_begun not_gone no_block plain on_0 no_update tells no_credit last m =
     let still = connection-on run over m.is_over m.no_stream_0 in
     let none = no-updates run frame no_update in
+    let is_told : told_by (has_begun (frames_of run)) frame ≡ duties_of one = ap (λ b. told_by b frame) (m.begins ∙ is_begun) ∙ tells in
     subst (λ (f : Frame). MayWrite run f × Mirrors (Written f ∷ run) begun after w over waiting block owed) (sym is)
     (plain-written run begun gone after w over (one ∷ waiting) waiting block owed owed frame is_begun not_gone no_block plain
-    (tells-first run frame one waiting tells m.answers) (due-told run frame one waiting tells m.answers)
+    (tells-first run frame one waiting is_told m.answers) (due-told run frame one waiting is_told m.answers)
     (ap (λ id. list_any (resets id) (frames_of run)) on_0 ∙ still.0)
     (λ e. absurd (true≢false (sym e ∙ ap (λ id. list_any (ends id) (frames_of run)) on_0 ∙ still.1)))
-    (credits-none run frame owed none m.credits) (credit-same run frame owed none m.credits) m.silent last m)
+    (credits-none run frame owed none m.credits) (credit-same run frame owed none m.credits) m.silent (λ e. absurd (no_credit e)) last m)

@@ -1,8 +1,11 @@
 -- One part of a choice after another.
 use Rattle.std.proofs.Common.{inl, inr, sym, ap, subst, ◌∙◌, List, ◌++◌, Option, Some, None, append-nil}
-use Rattle.std.specs.Prelude.{IfNone, IfSome, flat_map}
+use Rattle.std.specs.Prelude.{IfNone, IfSome, flat_map, ◌≡◌, ◌<◌, ◌^◌}
 use Rattle.h2frame.specs.declared.frame.Frame.{Frame}
+use Rattle.h2frame.specs.Spelling.{IsWritable}
+use Rattle.outwriter.specs.declared.next.Next.TheVariants as next
 use Rattle.outwriter.specs.declared.outbound.Outbound.{Outbound}
+use Rattle.outwriter.specs.Frames.{IsSound}
 use Rattle.outwriter.specs.declared.due.Due.{Due}
 use Rattle.outwriter.specs.RunState.{MirrorsOf, HasBlock, Progress, Progresses, Stays, IsBetween, IsSpent, IsAnswered, Writes, duties_of}
 use Rattle.outwriter.specs.Runs.{told}
@@ -28,3 +31,9 @@ spent-answered run o (inr (no_block, none, owed)) m = inr (
   sym (m.answers.0 ∙ ap (λ (waiting : List Due). told run ++ flat_map duties_of waiting) none ∙ append-nil (told run)),
   subst (HasBlock run) no_block m.goes_on,
 )
+
+-- a frame's writer takes it
+pub writable-from : (made frame : Frame) → next.Frame made ≡ next.Frame frame → IsSound made → made.head.stream < 2 ^ 31 → IsWritable frame
+writable-from made frame is sound numbered =
+    let same : made ≡ frame = cc in
+    subst IsWritable same (record { kind = sound.0; stream = numbered; whole = sound.1; not_padded = sound.2; no_priority = sound.3 })

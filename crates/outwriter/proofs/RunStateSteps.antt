@@ -7,6 +7,7 @@ use Rattle.std.proofs.lemmas.List.Sums.{sum_by-cons}
 use Rattle.flow.specs.WindowHistory.{Step as WindowStep}
 use Rattle.flow.specs.Windows.{Windows}
 use Rattle.h2frame.specs.declared.error_code.ErrorCode.{ErrorCode}
+use Rattle.h2frame.specs.declared.frame.Frame.{Frame}
 use Rattle.outwriter.specs.declared.blocks.HeaderBlock.{HeaderBlock}
 use Rattle.outwriter.specs.declared.control.Control.{Control}
 use Rattle.outwriter.specs.declared.control.Control.TheVariants.{Open}
@@ -15,7 +16,7 @@ use Rattle.outwriter.specs.declared.outbound.Outbound.{Outbound}
 use Rattle.outwriter.specs.Credits.{Owed, owed_on}
 use Rattle.outwriter.specs.Histories.{Takes}
 use Rattle.outwriter.specs.RunState.{Mirrors, HasWindows, HasDue, HasBlock, HasSilence, AreAsked, Reached, GoesOn, Stays, duties_of, resets_of}
-use Rattle.outwriter.specs.Runs.{Duty, IsAsked, Fragments, unfinished, granted, granted_by, updated, due, due_by, told}
+use Rattle.outwriter.specs.Runs.{IsAsked, Fragments, unfinished, granted, granted_by, updated, due, due_by, told}
 use Rattle.outwriter.specs.Steps.{Step, Order, Taken, order_of}
 use Rattle.outwriter.proofs.WindowRuns.{nothing-taken}
 
@@ -43,7 +44,7 @@ all-behind P (x ∷ xs) ys h = all-behind P xs ys (All-tail P x (xs ++ ys) h)
 -- a control that obliges to nothing
 pub same-due : (order : Order) (run : List Step) (waiting : List Due) → due_by order ≡ [] → HasDue run waiting → HasDue (Taken order ∷ run) waiting
 same-due order run waiting e h = (
-  ap (λ (more : List Duty). due run ++ more) e ∙ append-nil (due run) ∙ h.0,
+  ap (λ (more : List Frame). due run ++ more) e ∙ append-nil (due run) ∙ h.0,
   asked-on order run (flat_map resets_of waiting) h.1,
 )
 
@@ -52,9 +53,9 @@ pub more-due : (order : Order) (run : List Step) (waiting : List Due) (one : Due
     → HasDue run waiting → HasDue (Taken order ∷ run) (waiting ++ one ∷ [])
 more-due order run waiting one e asked h =
     let P : ℕ × ErrorCode → Type 0 = λ reset. IsAsked reset.0 reset.1 (Taken order ∷ run) in (
-      ap (λ (more : List Duty). due run ++ more) e ∙ ap (λ (all : List Duty). all ++ duties_of one) h.0
+      ap (λ (more : List Frame). due run ++ more) e ∙ ap (λ (all : List Frame). all ++ duties_of one) h.0
           ∙ append_assoc (told run) (flat_map duties_of waiting) (duties_of one)
-          ∙ ap (λ (more : List Duty). told run ++ more) (sym (flat_map-push duties_of waiting one)),
+          ∙ ap (λ (more : List Frame). told run ++ more) (sym (flat_map-push duties_of waiting one)),
       subst (All P) (sym (flat_map-append resets_of waiting (one ∷ [])))
           (All-append P (flat_map resets_of waiting) (flat_map resets_of (one ∷ [])) (asked-on order run (flat_map resets_of waiting) h.1) asked),
     )
@@ -117,7 +118,7 @@ skipped run begun gone w over one waiting block owed none m =
       windows_follow = m.windows_follow;
       is_over = m.is_over;
       answers = (
-        m.answers.0 ∙ ap (λ (duties : List Duty). told run ++ (duties ++ flat_map duties_of waiting)) none,
+        m.answers.0 ∙ ap (λ (duties : List Frame). told run ++ (duties ++ flat_map duties_of waiting)) none,
         all-behind P (resets_of one) (flat_map resets_of waiting) m.answers.1,
       );
       goes_on = m.goes_on;

@@ -1,5 +1,5 @@
 -- A look at an open stream: what is taken of it is written, or kept in hand.
-use Rattle.std.proofs.Common.{◌≡◌, ℕ, ◌<◌, ◌==◌, inl, inr, refl, sym, ap, subst, ◌∙◌, Bool, true, false, List, [], ◌∷◌, ◌++◌, Option, Some, None, length, nat_eq, append_assoc, true≢false}
+use Rattle.std.proofs.Common.{◌≡◌, ℕ, ◌<◌, ◌==◌, ◌⊎◌, inl, inr, refl, sym, ap, subst, ◌∙◌, Bool, true, false, List, [], ◌∷◌, ◌++◌, Option, Some, None, length, nat_eq, append_assoc, true≢false}
 use Rattle.std.specs.Prelude.{Result, Ok, Err, map, get_or, if◌then◌else◌}
 use Rattle.std.specs.Map.{lookup}
 use Rattle.std.proofs.lemmas.Bool.{eqb-true, eq-eqb}
@@ -21,8 +21,8 @@ use Rattle.outwriter.specs.Cores.{calls}
 use Rattle.outwriter.specs.Credits.{knows}
 use Rattle.outwriter.specs.RunState.{Ends}
 use Rattle.outwriter.specs.Parts.{Mark, Byte, Fields, End, on_stream, spelled, marks_of_item, IsFrontOf, IsPart}
-use Rattle.outwriter.specs.StreamLooks.{Shown, shows, with_hand, HandIs, HandKeeps, Removes, TakesAt, TellsData, aheads, HoldsOn, KeepsFronts}
-use Rattle.outwriter.specs.Polls.{block_item}
+use Rattle.outwriter.specs.StreamLooks.{Shown, shows, with_hand, one_more, HandIs, HandKeeps, Removes, TakesAt, TellsData, aheads, HoldsOn, KeepsFronts}
+use Rattle.outwriter.specs.Polls.{block_item, GotNone}
 use Rattle.outwriter.specs.CallState.{Heeds, bytes_marks, Serves}
 use Rattle.outwriter.specs.Steps.{Step, Written}
 use Rattle.outwriter.specs.ToldByNow.{SpellsOf, TellsMore, TellsBlock, block_marks}
@@ -94,10 +94,18 @@ takes-block E (Some (place, Some bs)) old new ahead from to bytes ends_it t = ab
 takes-block E (Some (place, None)) old new ahead from to bytes ends_it t =
     (place, t.0, refl, grows-one place (block_item ends_it t.0) old new t.1, t.2)
 
+-- nothing was got, or that the call was left
+abbrev LeftAt : Shown → List (ℕ × List OutItem) → List (ℕ × List OutItem) → Type 0
+LeftAt view old new = (new ≡ old) ⊎ ((place : ℕ) × (view ≡ Some (place, None)) × (new ≡ one_more place item.Left old))
+
+left-at : (place : ℕ) (old new : List (ℕ × List OutItem)) → GotNone old (one_more place item.Left old) new → LeftAt (Some (place, None)) old new
+left-at place old new (inl e) = inl e
+left-at place old new (inr e) = inr (place, refl, e)
+
 pub takes-nothing : (E : Type 0) (view : Shown) (old new : List (ℕ × List OutItem)) (ahead : List (List OutItem)) (from to : Option Encoding)
     → TakesAt {E = E} view old new ahead from to (Ok polled.Nothing)
-    → (new ≡ old) × (to ≡ from) × (with_hand None view ≡ view) × ((s : ℕ × Option (List ℕ)) → view ≡ Some s → get_or ahead s.0 [] ≡ [])
-takes-nothing E None old new ahead from to t = (t.1, t.2, refl, λ s e. absurd (none-is s e))
+    → LeftAt view old new × (to ≡ from) × (with_hand None view ≡ view) × ((s : ℕ × Option (List ℕ)) → view ≡ Some s → get_or ahead s.0 [] ≡ [])
+takes-nothing E None old new ahead from to t = (inl t.1, t.2, refl, λ s e. absurd (none-is s e))
   where
     none-is : (s : ℕ × Option (List ℕ)) → None ≡ Some s → ⊥
     none-is s e = cc
@@ -105,7 +113,7 @@ takes-nothing E (Some (place, Some bs)) old new ahead from to t = absurd (nothin
   where
     nothing-message : (bs : List ℕ) (r : Result Polled E) → r ≡ Ok polled.Nothing → r ≡ Ok (polled.Message bs) → ⊥
     nothing-message bs r f e = cc
-takes-nothing E (Some (place, None)) old new ahead from to t = (t.0, t.2, refl, λ s e. ap (λ n. get_or ahead n []) (sym (at s e)) ∙ t.1)
+takes-nothing E (Some (place, None)) old new ahead from to t = (left-at place old new t.0, t.2, refl, λ s e. ap (λ n. get_or ahead n []) (sym (at s e)) ∙ t.1)
   where
     at : (s : ℕ × Option (List ℕ)) → Some (place, None) ≡ Some s → place ≡ s.0
     at s e = ap (λ (x : Shown). place_of s x) e
@@ -114,12 +122,16 @@ takes-nothing E (Some (place, None)) old new ahead from to t = (t.0, t.2, refl, 
         place_of d None = d.0
         place_of d (Some x) = x.0
 
+none-fronts : (run : List Step) (place : ℕ) (old new : List (ℕ × List OutItem)) → GotNone old (one_more place item.Left old) new → TellFronts run old → TellFronts run new
+none-fronts run place old new (inl e) all = subst (TellFronts run) (sym e) all
+none-fronts run place old new (inr e) all = fronts-grow run place (item.Left ∷ []) old new (grows-one place item.Left old new e) all
+
 -- whatever was taken, even without memory
 pub takes-fronts : {E : Type 0} (view : Shown) (old new : List (ℕ × List OutItem)) (ahead : List (List OutItem)) (from to : Option Encoding) (result : Result Polled E)
     → TakesAt view old new ahead from to result → (run : List Step) → TellFronts run old → TellFronts run new
 takes-fronts None old new ahead from to result t run all = subst (TellFronts run) (sym t.1) all
 takes-fronts (Some (place, Some bs)) old new ahead from to result t run all = subst (TellFronts run) (sym t.1) all
-takes-fronts (Some (place, None)) old new ahead from to (Ok polled.Nothing) t run all = subst (TellFronts run) (sym t.0) all
+takes-fronts (Some (place, None)) old new ahead from to (Ok polled.Nothing) t run all = none-fronts run place old new t.0 all
 takes-fronts (Some (place, None)) old new ahead from to (Ok (polled.Message bytes)) t run all =
     fronts-grow run place (item.Message bytes ∷ []) old new (grows-one place (item.Message bytes) old new t.0) all
 takes-fronts (Some (place, None)) old new ahead from to (Ok (polled.Block bytes ends_it)) t run all =
@@ -186,6 +198,16 @@ kept-serves run o streams middle left others calls now marks id place was news b
     (subst (λ (l : List (ℕ × Mark)). SpellsOf run o l) (sym (append-nil marks)) s.spells)
     refl (λ k. refl) (λ k. refl) view (hand-twice id place was (Some bytes) streams middle left view none keeps) g bal s
 
+-- a call that was left tells nothing more
+left-serves : (run : List Step) (o : Outbound) (streams left : List (ℕ × OpenStream)) (others : List (ℕ × Bool)) (calls now : List (ℕ × List OutItem))
+    (marks : List (ℕ × Mark)) (id place : ℕ)
+    → shows streams id ≡ Some (place, None) → now ≡ one_more place item.Left calls → HandIs id None streams left
+    → Serves run o streams others calls marks → Serves run o left others now (marks ++ on_stream id [])
+left-serves run o streams left others calls now marks id place view is none s =
+    goes-on run run o o streams left others calls now marks id place None None [] (item.Left ∷ []) (λ k. refl) (λ k. refl) (later-none run)
+    (subst (λ (l : List (ℕ × Mark)). SpellsOf run o l) (sym (append-nil marks)) s.spells)
+    refl (λ k. refl) (λ k. refl) view (hand-then id place None None streams left view none) (grows-one place item.Left calls now is) refl s
+
 head-serves : (run : List Step) (o after : Outbound) (streams middle left : List (ℕ × OpenStream)) (others : List (ℕ × Bool)) (calls now : List (ℕ × List OutItem))
     (marks : List (ℕ × Mark)) (id place : ℕ) (fields : List Field) (ends_it : Bool) (frame : Frame)
     → shows streams id ≡ Some (place, None) → Grows place (block_item ends_it fields ∷ []) calls now
@@ -221,20 +243,32 @@ module _ {L In Out Shut : Type 0} where
       → Took E got ahead old mid id (Ok result) → result ≡ polled.Nothing → HoldsOn got None old mid
   look-nothing E got ahead old mid id result took is run (marks, s, heeds) =
       let t = subst (λ (p : Polled). TakesAt {E = E} (shows old.streams.entries id) (calls got old.senders.items) (calls got mid.senders.items) (aheads ahead mid.senders.items) old.outbound.encoder mid.outbound.encoder (Ok p)) is took.takes in
-      let found = takes-nothing E (shows old.streams.entries id) (calls got old.senders.items) (calls got mid.senders.items) (aheads ahead mid.senders.items) old.outbound.encoder mid.outbound.encoder t in (
-        marks,
-        subst (λ (o : Outbound). Serves run o mid.streams.entries mid.others.entries (calls got mid.senders.items) marks) (sym (same-outbound old.outbound mid.outbound took.outbound found.1))
-            (subst (λ (l : List (ℕ × List OutItem)). Serves run old.outbound mid.streams.entries mid.others.entries l marks) (sym found.0)
-            (subst (λ others. Serves run old.outbound mid.streams.entries others.entries (calls got old.senders.items) marks) (sym took.others)
-            (serves-hands run old.outbound old.streams.entries mid.streams.entries old.others.entries (calls got old.senders.items) marks
-            (λ k. took.hands k ∙ by k found.2 (k == id) refl) s))),
-        subst (Heeds run) (sym (same-outbound old.outbound mid.outbound took.outbound found.1)) heeds,
+      let found = takes-nothing E (shows old.streams.entries id) (calls got old.senders.items) (calls got mid.senders.items) (aheads ahead mid.senders.items) old.outbound.encoder mid.outbound.encoder t in
+      let same = same-outbound old.outbound mid.outbound took.outbound found.1 in
+      let all = told found.0 found.2 in (
+        all.0,
+        subst (λ (o : Outbound). Serves run o mid.streams.entries mid.others.entries (calls got mid.senders.items) all.0) (sym same)
+            (subst (λ others. Serves run old.outbound mid.streams.entries others.entries (calls got mid.senders.items) all.0) (sym took.others) all.1),
+        subst (Heeds run) (sym same) heeds,
       )
     where
       by : (k : ℕ) → with_hand None (shows old.streams.entries id) ≡ shows old.streams.entries id → (b : Bool) → (k == id) ≡ b
           → (if b then with_hand None (shows old.streams.entries k) else shows old.streams.entries k) ≡ shows old.streams.entries k
       by k same true p = subst (λ n. with_hand None (shows old.streams.entries n) ≡ shows old.streams.entries n) (sym (eqb-true k id p)) same
       by k same false p = refl
+
+      told : LeftAt (shows old.streams.entries id) (calls got old.senders.items) (calls got mid.senders.items) → with_hand None (shows old.streams.entries id) ≡ shows old.streams.entries id
+          → (after : List (ℕ × Mark)) × Serves run old.outbound mid.streams.entries old.others.entries (calls got mid.senders.items) after
+      told (inl none) hand = (
+        marks,
+        subst (λ (l : List (ℕ × List OutItem)). Serves run old.outbound mid.streams.entries old.others.entries l marks) (sym none)
+            (serves-hands run old.outbound old.streams.entries mid.streams.entries old.others.entries (calls got old.senders.items) marks
+            (λ k. took.hands k ∙ by k hand (k == id) refl) s),
+      )
+      told (inr (place, view, left)) hand = (
+        marks ++ on_stream id [],
+        left-serves run old.outbound old.streams.entries mid.streams.entries old.others.entries (calls got old.senders.items) (calls got mid.senders.items) marks id place view left took.hands s,
+      )
 
   pub look-data : (E : Type 0) (got ahead : Out → List OutItem) (old mid new : OutCore L In Out Shut) (id : ℕ) (bytes : List ℕ) (result : Polled) (o : Option Frame)
       → Took E got ahead old mid id (Ok result) → result ≡ polled.Message bytes

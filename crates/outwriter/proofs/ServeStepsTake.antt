@@ -1,18 +1,20 @@
 -- What a poll of the sender at a place changes of all calls.
-use Rattle.std.proofs.Common.{◌≡◌, ℕ, ◌<◌, sym, ap, subst, ◌∙◌, List, [], ◌∷◌, ◌++◌, Option, Some, None, length, arith}
+use Rattle.std.proofs.Common.{◌≡◌, ℕ, ◌<◌, sym, ap, subst, ◌∙◌, List, [], ◌∷◌, ◌++◌, Option, Some, None, length, arith, inl, inr, refl}
 use Rattle.std.specs.Prelude.{Result, Ok, Err, OnErr, IfOk, map, get_or, set, ◌≢◌}
 use Rattle.std.proofs.lemmas.List.{map-set, get_or-map, get_or-set_same, get_or-set_other, length-set}
 use Rattle.std.proofs.Math.Seq.{map-set_same}
 use Rattle.account.specs.declared.call.OutItem.{OutItem}
 use Rattle.account.specs.declared.call.OutItem.TheVariants as item
 use Rattle.callbox.specs.declared.sender.Sender.{Sender}
+use Rattle.lane.specs.Lawful.{last_of}
+use Rattle.lane.proofs.KnownItems.{last_of_push}
 use Rattle.hpack_codec.specs.Codec.{Encoding}
 use Rattle.outwriter.specs.declared.stream.OpenStream.{OpenStream}
 use Rattle.outwriter.specs.declared.stream.Polled.{Polled}
 use Rattle.outwriter.specs.declared.stream.Polled.TheVariants as polled
 use Rattle.outwriter.specs.Cores.{calls, lanes}
 use Rattle.outwriter.specs.StreamLooks.{Shown, shown, with_item, one_more, TakesHand, TakesAt, SameAhead, aheads}
-use Rattle.outwriter.specs.Polls.{Polls, block_item}
+use Rattle.outwriter.specs.Polls.{Polls, block_item, GotNone, to_write}
 
 module _ {L In Out Shut : Type 0} where
   more-one : (got : Out → List OutItem) (senders : List (ℕ × Sender L In Out Shut)) (place : ℕ) (entry : ℕ × Sender L In Out Shut) (new : Sender L In Out Shut) (one : OutItem)
@@ -24,6 +26,16 @@ module _ {L In Out Shut : Type 0} where
       map-set f senders place (entry.0, new)
       ∙ ap (λ (c : ℕ × List OutItem). set (map f senders) place c) (ap (λ (l : List OutItem). (entry.0, l)) e ∙ ap (with_item one) was)
 
+  -- nothing more, or the word that its call was left
+  none-one : (got : Out → List OutItem) (senders : List (ℕ × Sender L In Out Shut)) (place : ℕ) (entry : ℕ × Sender L In Out Shut) (new : Sender L In Out Shut)
+      → place < length senders → entry ≡ get_or senders place entry → GotNone (got entry.1.rx) (got entry.1.rx ++ item.Left ∷ []) (got new.rx)
+      → GotNone (calls got senders) (one_more place item.Left (calls got senders)) (calls got (set senders place (entry.0, new)))
+  none-one got senders place entry new lt is (inl e) =
+      inl
+      (map-set_same (λ (call : ℕ × Sender L In Out Shut). (call.0, got call.1.rx)) senders place (entry.0, new) entry
+      (ap (λ (l : List OutItem). (entry.0, l)) e ∙ ap (λ (call : ℕ × Sender L In Out Shut). (call.0, got call.1.rx)) is))
+  none-one got senders place entry new lt is (inr e) = inr (more-one got senders place entry new item.Left lt is e)
+
   pub polled-at : {E : Type 0} (got ahead : Out → List OutItem) (senders : List (ℕ × Sender L In Out Shut)) (place : ℕ) (entry : ℕ × Sender L In Out Shut) (new : Sender L In Out Shut)
       (from to : Option Encoding) (result : Result Polled E)
       → place < length senders → entry ≡ get_or senders place entry
@@ -31,8 +43,7 @@ module _ {L In Out Shut : Type 0} where
       → OnErr result ((one : OutItem) × (got new.rx ≡ got entry.1.rx ++ one ∷ []))
       → TakesHand None place (calls got senders) (calls got (set senders place (entry.0, new))) (aheads ahead (set senders place (entry.0, new))) from to result
   polled-at got ahead senders place entry new from to (Ok polled.Nothing) lt is p err = (
-    map-set_same (λ (call : ℕ × Sender L In Out Shut). (call.0, got call.1.rx)) senders place (entry.0, new) entry
-        (ap (λ (l : List OutItem). (entry.0, l)) p.0 ∙ ap (λ (call : ℕ × Sender L In Out Shut). (call.0, got call.1.rx)) is),
+    none-one got senders place entry new lt is p.0,
     get_or-map (λ (call : ℕ × Sender L In Out Shut). ahead call.1.rx) (set senders place (entry.0, new)) place entry [] (omega (arith, lt, length-set senders place (entry.0, new)))
         ∙ ap (λ (call : ℕ × Sender L In Out Shut). ahead call.1.rx) (get_or-set_same senders place (entry.0, new) entry lt) ∙ p.1,
     p.2,
@@ -68,3 +79,15 @@ takes-at view place old new ahead from to result e t = subst (λ (v : Shown). Ta
 pub same-ahead : (view : Shown) (place : ℕ) (old new : List (List OutItem)) → view ≡ Some (place, None) → ((k : ℕ) → k ≢ place → get_or new k [] ≡ get_or old k [])
     → SameAhead view old new
 same-ahead view place old new e same = subst (λ (v : Shown). SameAhead v old new) (sym e) same
+
+-- behind the word that its call was left nothing of a sender is to be written
+pub left-nothing : (before after ahead : List OutItem) (one : OutItem) → one ≡ item.Left → after ≡ before ++ one ∷ [] → to_write (last_of after) ahead ≡ []
+left-nothing before after ahead one is e =
+    ap (λ (items : List OutItem). to_write (last_of items) ahead) e ∙ ap (λ (o : Option OutItem). to_write o ahead) (last_of_push before one ∙ ap (λ (x : OutItem). Some x) is)
+
+pub none-ahead : (last : Option OutItem) (ahead : List OutItem) → ahead ≡ [] → to_write last ahead ≡ []
+none-ahead None ahead e = e
+none-ahead (Some item.Left) ahead e = refl
+none-ahead (Some (item.Head fields)) ahead e = e
+none-ahead (Some (item.Message bytes)) ahead e = e
+none-ahead (Some (item.Trailers fields)) ahead e = e

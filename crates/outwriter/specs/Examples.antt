@@ -4,16 +4,17 @@ use Rattle.std.specs.Prelude.{◌≡◌, false, true, refl, List, [], ◌∷◌,
 use Rattle.account.specs.declared.call.OutItem.TheVariants.{Head, Message, Trailers}
 use Rattle.flow.specs.WindowHistory.{Spending, Closing}
 use Rattle.h2frame.specs.declared.error_code.ErrorCode.TheVariants.{Cancel, NoError}
+use Rattle.h2frame.specs.declared.kind.FrameKind.TheVariants as kind
 use Rattle.h2frame.specs.Spelling.{spelled as spelling}
 use Rattle.lists.specs.declared.field.Field.{Field}
 use Rattle.outwriter.specs.declared.control.Control.TheVariants.{Settings, Ping, Goaway}
 use Rattle.outwriter.specs.declared.control.Control.TheVariants as order
 use Rattle.h2frame.specs.declared.settings.PeerSetting.TheVariants.{TableSize, WindowSize}
 use Rattle.outwriter.specs.Calls.{is_called_off}
-use Rattle.outwriter.specs.Frames.{first_settings, settings_ack, reset_frame, goaway_frame, update_frame, data_frame, headers_frame, continuation_frame, is_last}
+use Rattle.outwriter.specs.Frames.{frame_with, first_settings, settings_ack, ping_ack, reset_frame, goaway_frame, update_frame, data_frame, headers_frame, continuation_frame, is_last}
 use Rattle.outwriter.specs.Histories.{window_sizes, spending_of, closing_of, is_over}
 use Rattle.outwriter.specs.Parts.{Byte, Fields, End, Reset, spelled, plain_marks, completed, marks_on, on_stream}
-use Rattle.outwriter.specs.Runs.{OfSettings, OfPing, IsAsked, due, told, unfinished, granted, updated}
+use Rattle.outwriter.specs.Runs.{IsAsked, due, told, told_by, unfinished, granted, updated}
 use Rattle.outwriter.specs.Steps.{Step, Taken, Granted, Written}
 
 -- SETTINGS of 12 bytes: 3 is 64, and 6 is 16,384
@@ -32,10 +33,10 @@ abbrev pub acknowledging : List Step
 acknowledging =
     Written settings_ack ∷ Taken (Ping (1 ∷ 2 ∷ 3 ∷ 4 ∷ 5 ∷ 6 ∷ 7 ∷ 8 ∷ [])) ∷ Taken (Settings (TableSize 9 ∷ WindowSize 5 ∷ [])) ∷ Written first_settings ∷ []
 
-pub both_are_due : due acknowledging ≡ OfSettings ∷ OfPing (1 ∷ 2 ∷ 3 ∷ 4 ∷ 5 ∷ 6 ∷ 7 ∷ 8 ∷ []) ∷ []
+pub both_are_due : due acknowledging ≡ settings_ack ∷ ping_ack (1 ∷ 2 ∷ 3 ∷ 4 ∷ 5 ∷ 6 ∷ 7 ∷ 8 ∷ []) ∷ []
 both_are_due = refl
 
-pub one_is_told : told acknowledging ≡ OfSettings ∷ []
+pub one_is_told : told acknowledging ≡ settings_ack ∷ []
 one_is_told = refl
 
 -- a GOAWAY is due by its control, and a reset is asked for by one that is to be written
@@ -47,6 +48,23 @@ goaway_is_told = refl
 
 pub reset_is_asked : IsAsked 3 Cancel leaving
 reset_is_asked = inl (refl, refl)
+
+-- The first SETTINGS come unasked. Further ones, an ACK with a payload, a PING that is no ACK and a PUSH_PROMISE would have to stand among
+-- what is due, and no control puts them there.
+pub first_unasked : told_by false first_settings ≡ []
+first_unasked = refl
+
+pub settings_again : told_by true first_settings ≡ first_settings ∷ []
+settings_again = refl
+
+pub long_ack : told_by true (frame_with kind.Settings 1 0 (0 ∷ [])) ≡ frame_with kind.Settings 1 0 (0 ∷ []) ∷ []
+long_ack = refl
+
+pub ping_without_ack : told_by true (frame_with kind.Ping 0 0 (1 ∷ [])) ≡ frame_with kind.Ping 0 0 (1 ∷ []) ∷ []
+ping_without_ack = refl
+
+pub promise : told_by true (frame_with kind.PushPromise 4 1 []) ≡ frame_with kind.PushPromise 4 1 [] ∷ []
+promise = refl
 
 -- a Refuse calls a stream off, unless the stream was opened before
 pub refused_first : is_called_off 5 (Taken (order.Open 5 tt) ∷ Taken (order.Refuse 5 []) ∷ []) ≡ true

@@ -25,6 +25,11 @@ abbrev pub CanCredit : List WindowStep → ℕ → ℕ → Type 0
 CanCredit history id n =
     ((id ≡ 0) × Fits (connection_window history +ℤ pos n)) ⊎ ((0 < id) × MatchOption (stream_window id history) ⊥ (λ size. Fits (size +ℤ pos n)))
 
+-- a window is, the connection's or that of an open stream
+abbrev pub Overflows : List WindowStep → ℕ → ℕ → Type 0
+Overflows history id n =
+    ((id ≡ 0) × (¬ Fits (connection_window history +ℤ pos n))) ⊎ ((0 < id) × MatchOption (stream_window id history) ⊥ (λ size. ¬ Fits (size +ℤ pos n)))
+
 -- no window is over 2^31 - 1 with this initial size
 abbrev pub CanResize : List WindowStep → ℕ → Type 0
 CanResize history n = (n ≤ MAX_WINDOW) × ((id : ℕ) → 0 < id → IfSome (since_opening id history) (λ steps. Fits (pos n +ℤ balance_of id steps)))

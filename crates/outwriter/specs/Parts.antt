@@ -5,7 +5,7 @@ use Rattle.std.specs.Prelude.{◌≡◌, ℕ, ◌==◌, ◌⊎◌, Bool, true, f
 use Rattle.std.specs.Int.{from_be_bytes, w32}
 use Rattle.account.specs.Accounts.{Begins}
 use Rattle.account.specs.declared.call.OutItem.{OutItem}
-use Rattle.account.specs.declared.call.OutItem.TheVariants.{Head, Message, Trailers}
+use Rattle.account.specs.declared.call.OutItem.TheVariants.{Head, Message, Trailers, Left}
 use Rattle.h2frame.specs.declared.frame.Frame.{Frame}
 use Rattle.h2frame.specs.declared.kind.FrameKind.{FrameKind}
 use Rattle.h2frame.specs.declared.kind.FrameKind.TheVariants.{Data, RstStream}
@@ -34,6 +34,7 @@ abbrev pub marks_of_item : OutItem → List Mark
 marks_of_item (Head fields) = Fields fields ∷ []
 marks_of_item (Message bytes) = map Byte bytes
 marks_of_item (Trailers fields) = Fields fields ∷ End ∷ []
+marks_of_item Left = []
 
 abbrev pub spelled : List OutItem → List Mark
 spelled items = flat_map marks_of_item items

@@ -1,7 +1,8 @@
 -- What a poll of a call's lane finds, and what is written for it.
-use Rattle.std.specs.Prelude.{◌≡◌, Bool, true, false, List, [], ◌∷◌, ◌++◌, Option}
+use Rattle.std.specs.Prelude.{◌≡◌, ◌⊎◌, Bool, true, false, List, [], ◌∷◌, ◌++◌, Option, Some, None}
 use Rattle.account.specs.declared.call.OutItem.{OutItem}
-use Rattle.account.specs.declared.call.OutItem.TheVariants.{Head, Message, Trailers}
+use Rattle.account.specs.declared.call.OutItem.TheVariants.{Head, Message, Trailers, Left}
+use Rattle.lane.specs.Lawful.{last_of}
 use Rattle.lists.specs.declared.field.Field.{Field}
 use Rattle.hpack_codec.specs.Codec.{Encoding, Writes}
 use Rattle.outwriter.specs.declared.stream.Polled.{Polled}
@@ -12,10 +13,26 @@ abbrev pub block_item : Bool → List Field → OutItem
 block_item true fields = Trailers fields
 block_item false fields = Head fields
 
--- Of a lane from which the items of `before` were got, and then those of `after`, nothing was found, and nothing is ahead; or
--- one more item: a message, or fields, of which an encoder that kept `from` wrote the block, and keeps `to`.
+-- what is still to be written of what is ahead of a sender: nothing, where the item that it got last says that its call was left
+abbrev pub to_write : Option OutItem → List OutItem → List OutItem
+to_write (Some Left) ahead = []
+to_write (Some (Head fields)) ahead = ahead
+to_write (Some (Message bytes)) ahead = ahead
+to_write (Some (Trailers fields)) ahead = ahead
+to_write None ahead = ahead
+
+abbrev pub coming : {Out : Type 0} → (Out → List OutItem) → (Out → List OutItem) → Out → List OutItem
+coming got ahead rx = to_write (last_of (got rx)) (ahead rx)
+
+-- nothing was got, or that the call was left
+abbrev pub GotNone : {A : Type 0} → A → A → A → Type 0
+GotNone before left after = (after ≡ before) ⊎ (after ≡ left)
+
+-- Of a lane from which the items of `before` were got, and then those of `after`, nothing was found but that the call was
+-- left, and nothing is to be written; or one more item: a message, or fields, of which an encoder that kept `from` wrote
+-- the block, and keeps `to`.
 abbrev pub Polls : List OutItem → List OutItem → List OutItem → Option Encoding → Option Encoding → Polled → Type 0
-Polls before after ahead from to polled.Nothing = (after ≡ before) × (ahead ≡ []) × (to ≡ from)
-Polls before after ahead from to (polled.Message bytes) = (after ≡ before ++ Message bytes ∷ []) × (to ≡ from)
-Polls before after ahead from to (polled.Block bytes ends) =
+Polls before after coming from to polled.Nothing = GotNone before (before ++ Left ∷ []) after × (coming ≡ []) × (to ≡ from)
+Polls before after coming from to (polled.Message bytes) = (after ≡ before ++ Message bytes ∷ []) × (to ≡ from)
+Polls before after coming from to (polled.Block bytes ends) =
     (fields : List Field) × (after ≡ before ++ block_item ends fields ∷ []) × Writes from fields bytes to

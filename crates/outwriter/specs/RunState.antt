@@ -20,15 +20,10 @@ use Rattle.outwriter.specs.declared.due.Due.{Due}
 use Rattle.outwriter.specs.declared.due.Due.TheVariants as due_kind
 use Rattle.outwriter.specs.declared.outbound.Outbound.{Outbound}
 use Rattle.outwriter.specs.Credits.{Owed, owed_on, pays}
-use Rattle.outwriter.specs.Frames.{is_last, resets, goaway_frame}
-use Rattle.outwriter.specs.Histories.{HasHistory, CanResize, window_sizes, is_over}
-use Rattle.outwriter.specs.Runs.{IsLawful, Duty, OfSettings, OfPing, OfGoaway, IsAsked, due, told, unfinished, granted, updated, MayWrite}
+use Rattle.outwriter.specs.Frames.{is_last, resets, settings_ack, ping_ack, goaway_frame}
+use Rattle.outwriter.specs.Histories.{HasHistory, CanResize, Overflows, window_sizes, is_over}
+use Rattle.outwriter.specs.Runs.{IsLawful, has_begun, IsAsked, due, told, unfinished, granted, updated, MayWrite}
 use Rattle.outwriter.specs.Steps.{Step, Taken, Written, frames_of, order_of}
-
--- the first frame was written
-abbrev pub has_begun : List Frame → Bool
-has_begun [] = false
-has_begun (frame ∷ frames) = true
 
 -- the windows follow from the history of the run's
 abbrev pub HasWindows : List Step → Windows → Type 0
@@ -39,12 +34,12 @@ abbrev pub HasOver : List Step → List (ℕ × Bool) → Type 0
 HasOver run over = (id : ℕ) → (is_some (lookup (nat_eq id) over) ≡ is_over id run)
     × (lookup (nat_eq id) over ≢ Some true → list_any (resets id) (frames_of run) ≡ false)
 
-abbrev pub duties_of : Due → List Duty
-duties_of due_kind.SettingsAck = OfSettings ∷ []
-duties_of (due_kind.PingAck bytes) = OfPing bytes ∷ []
+abbrev pub duties_of : Due → List Frame
+duties_of due_kind.SettingsAck = settings_ack ∷ []
+duties_of (due_kind.PingAck bytes) = ping_ack bytes ∷ []
 duties_of (due_kind.Refuse id fields) = []
 duties_of (due_kind.Reset id code) = []
-duties_of (due_kind.Goaway last code) = OfGoaway (goaway_frame last code).content ∷ []
+duties_of (due_kind.Goaway last code) = goaway_frame last code ∷ []
 
 abbrev pub resets_of : Due → List (ℕ × ErrorCode)
 resets_of (due_kind.Reset id code) = (id, code) ∷ []
@@ -228,6 +223,21 @@ module _ {S : Type 0} where
   HasRoom (control.Window stream n) w = ¬ CreditFault w stream n Overflow
   HasRoom (control.Settings settings) w = (history : List WindowStep) → Follows history w → All (CanResize history) (window_sizes settings)
   HasRoom _ w = Unit {0}
+
+  -- the same over what a run did to the windows
+  abbrev pub BlamesAt : ℕ → Control S → List WindowStep → Type 0
+  BlamesAt id (control.Window stream n) history = (id ≡ stream) × Overflows history stream n
+  BlamesAt id (control.Settings settings) history = (id ≡ 0) × (¬ All (CanResize history) (window_sizes settings))
+  BlamesAt id _ history = ⊥
+
+  abbrev pub BlamesIn : OutFault S → Control S → List Step → Type 0
+  BlamesIn (OutOfMemory back) taken run = Unit {0}
+  BlamesIn (PeerWindow id) taken run = (history : List WindowStep) × HasHistory run history × BlamesAt id taken history
+
+  abbrev pub HasRoomIn : Control S → List Step → Type 0
+  HasRoomIn (control.Window stream n) run = (history : List WindowStep) × HasHistory run history × (¬ Overflows history stream n)
+  HasRoomIn (control.Settings settings) run = (history : List WindowStep) × HasHistory run history × All (CanResize history) (window_sizes settings)
+  HasRoomIn _ run = Unit {0}
 
   -- out of memory, and no fault of the peer
   abbrev pub IsMemory : OutFault S → Type 0

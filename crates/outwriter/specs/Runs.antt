@@ -1,5 +1,5 @@
 -- Which runs of a server's writer are lawful (RFC 9113, sections 3.4, 4.3, 5.1, 6.5, 6.7 to 6.10 and 8.1).
-use Rattle.std.specs.Prelude.{◌≡◌, ◌≢◌, ℕ, ◌+◌, ◌<◌, ◌≤◌, ◌⊎◌, ◌==◌, Bool, true, false, List, [], ◌∷◌, ◌++◌, Option, None, Some, sum_by, if◌then◌else◌}
+use Rattle.std.specs.Prelude.{◌≡◌, ◌≢◌, ℕ, ◌+◌, ◌<◌, ◌≤◌, ◌⊎◌, ◌==◌, ◌&&◌, ◌^◌, Bool, true, false, List, [], ◌∷◌, ◌++◌, Option, None, Some, sum_by, if◌then◌else◌}
 use Rattle.std.specs.List.{list_any}
 use Rattle.std.specs.Option.{option_map}
 use Rattle.account.specs.Accounts.{Begins}
@@ -9,48 +9,52 @@ use Rattle.h2frame.specs.declared.error_code.ErrorCode.{ErrorCode}
 use Rattle.h2frame.specs.declared.frame.Frame.{Frame}
 use Rattle.h2frame.specs.declared.kind.FrameKind.{FrameKind}
 use Rattle.h2frame.specs.declared.kind.FrameKind.TheVariants as kind
-use Rattle.h2frame.specs.Flags.{has, ack}
 use Rattle.outwriter.specs.declared.control.Control.TheVariants.{Settings, Ping, Reset, Goaway}
-use Rattle.outwriter.specs.Frames.{first_settings, reset_frame, goaway_frame, ends_stream, ends_block, is_last, update_on, resets, ends}
+use Rattle.outwriter.specs.Frames.{first_settings, settings_ack, ping_ack, reset_frame, goaway_frame, update_frame, ends_stream, ends_block, is_last, update_on, resets, ends}
 use Rattle.outwriter.specs.Histories.{HasHistory}
 use Rattle.outwriter.specs.Steps.{Step, Order, Taken, Granted, Written, frames_of}
 
 -- ---- what controls oblige to write
 
--- an acknowledgement (sections 6.5.3 and 6.7), or a GOAWAY with this content (section 6.8)
-pub data Duty : Type 0 where
-  OfSettings : Duty
-  OfPing : List ℕ → Duty
-  OfGoaway : List ℕ → Duty
-
-abbrev pub due_by : Order → List Duty
-due_by (Settings settings) = OfSettings ∷ []
-due_by (Ping bytes) = OfPing bytes ∷ []
-due_by (Goaway last code) = OfGoaway (goaway_frame last code).content ∷ []
+-- acknowledgements (sections 6.5.3 and 6.7) and GOAWAY (section 6.8), each as a whole frame
+abbrev pub due_by : Order → List Frame
+due_by (Settings settings) = settings_ack ∷ []
+due_by (Ping bytes) = ping_ack bytes ∷ []
+due_by (Goaway last code) = goaway_frame last code ∷ []
 due_by _ = []
 
 -- what the controls of a run oblige to, in their order
-abbrev pub due : List Step → List Duty
+abbrev pub due : List Step → List Frame
 due [] = []
 due (Taken order ∷ before) = due before ++ due_by order
 due (Granted id n ∷ before) = due before
 due (Written frame ∷ before) = due before
 
-abbrev pub told_by_kind : FrameKind → Bool → List ℕ → List Duty
-told_by_kind kind.Settings true content = OfSettings ∷ []
-told_by_kind kind.Ping true content = OfPing content ∷ []
-told_by_kind kind.GoAway acks content = OfGoaway content ∷ []
-told_by_kind _ _ content = []
+-- A frame of this kind comes only where a control obliges to it. Of the others a stream's DATA, header blocks and reset have a rule of
+-- their own, and so has credit.
+abbrev pub is_duty : FrameKind → Bool
+is_duty kind.Data = false
+is_duty kind.Headers = false
+is_duty kind.RstStream = false
+is_duty kind.WindowUpdate = false
+is_duty kind.Continuation = false
+is_duty _ = true
 
-abbrev pub told_by : Frame → List Duty
-told_by frame = told_by_kind frame.head.kind (has ack frame.head.flags) frame.content
+-- the first frame was written
+abbrev pub has_begun : List Frame → Bool
+has_begun [] = false
+has_begun (frame ∷ frames) = true
+
+-- to the first frame nothing obliges
+abbrev pub told_by : Bool → Frame → List Frame
+told_by begun frame = if is_duty frame.head.kind && begun then frame ∷ [] else []
 
 -- what was written of it, in its order
-abbrev pub told : List Step → List Duty
+abbrev pub told : List Step → List Frame
 told [] = []
 told (Taken order ∷ before) = told before
 told (Granted id n ∷ before) = told before
-told (Written frame ∷ before) = told before ++ told_by frame
+told (Written frame ∷ before) = told before ++ told_by (has_begun (frames_of before)) frame
 
 -- ---- resets (section 6.4)
 
@@ -126,8 +130,9 @@ pub record MayWrite (before : List Step) (frame : Frame) : Type 0 where
   -- first come SETTINGS
   pub first : frames_of before ≡ [] → frame ≡ first_settings
   pub windows : frame.head.kind ≡ kind.Data → FitsWindows before frame
-  -- acknowledgements and GOAWAY come in the order of the controls that oblige to them, and after them
-  pub answers : Begins (told before ++ told_by frame) (due before)
+  -- acknowledgements and GOAWAY come in the order of the controls that oblige to them, and after them; nothing else comes of any other
+  -- kind but DATA, header blocks, resets and credit
+  pub answers : Begins (told before ++ told_by (has_begun (frames_of before)) frame) (due before)
   -- and a reset after the control that asks for it
   pub asked : frame.head.kind ≡ kind.RstStream → (code : ErrorCode) × IsAsked frame.head.stream code before × (frame ≡ reset_frame frame.head.stream code)
   pub block : Continues (unfinished before) frame
@@ -135,6 +140,8 @@ pub record MayWrite (before : List Step) (frame : Frame) : Type 0 where
   pub not_ended : list_any (ends frame.head.stream) (frames_of before) ≡ true → MayFollowEnd frame.head.kind
   pub goes_on : list_any is_last (frames_of before) ≡ false
   pub credit : (id : ℕ) → updated id before + update_on id frame ≤ granted id before
+  -- credit is of 1 to 2^31 - 1 bytes, and nothing else stands in its frame
+  pub update : frame.head.kind ≡ kind.WindowUpdate → (n : ℕ) × (0 < n) × (n < 2 ^ 31) × (frame ≡ update_frame frame.head.stream n)
 
 -- each frame of the run might be written after the steps before it
 abbrev pub IsLawful : List Step → Type 0

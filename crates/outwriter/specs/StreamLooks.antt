@@ -15,7 +15,7 @@ use Rattle.outwriter.specs.declared.stream.Polled.TheVariants as polled
 use Rattle.outwriter.specs.Calls.{TellFronts}
 use Rattle.outwriter.specs.Cores.{calls, IsStuck, AreStuck, IsQuiet}
 use Rattle.outwriter.specs.Parts.{Mark, Byte, on_stream}
-use Rattle.outwriter.specs.Polls.{block_item}
+use Rattle.outwriter.specs.Polls.{block_item, GotNone}
 use Rattle.outwriter.specs.CallState.{Serves, Heeds}
 use Rattle.outwriter.specs.Steps.{Step, Written}
 use Rattle.outwriter.specs.ToldByNow.{TellsMore}
@@ -68,7 +68,7 @@ one_more place one all = set all place (with_item one (get_or all place (0, []))
 
 -- what is found at a place
 abbrev pub Finds : ℕ → List (ℕ × List OutItem) → List (ℕ × List OutItem) → List (List OutItem) → Option Encoding → Option Encoding → Polled → Type 0
-Finds place old new ahead from to polled.Nothing = (new ≡ old) × (get_or ahead place [] ≡ []) × (to ≡ from)
+Finds place old new ahead from to polled.Nothing = GotNone old (one_more place item.Left old) new × (get_or ahead place [] ≡ []) × (to ≡ from)
 Finds place old new ahead from to (polled.Message bytes) = (new ≡ one_more place (item.Message bytes) old) × (to ≡ from)
 Finds place old new ahead from to (polled.Block bytes ends) =
     (fields : List Field) × (new ≡ one_more place (block_item ends fields) old) × Writes from fields bytes to

@@ -32,8 +32,10 @@ impl<L: Lane<Item = OutItem>> OutCore<L> {
     ghost use Rattle.outwriter.specs.declared.control.OutFault.TheVariants as out_fault;
     ghost use Rattle.outwriter.specs.declared.next.Next.TheVariants as next_kind;
     ghost use Rattle.h2frame.specs.declared.frame.Frame.{Frame as FrameOf};
+    ghost use Rattle.h2frame.specs.Spelling.{IsWritable};
     ghost use Rattle.outwriter.specs.Frames.{IsSound};
     ghost use Rattle.outwriter.specs.Cores.{Serving, ServesNext, QuietNext, NoFrameNext, EndedNext, ClosedNext, calls, lanes};
+    ghost use Rattle.outwriter.specs.Polls.{coming};
     ghost use Rattle.outwriter.specs.StreamLooks.{shows, SameHands, HandIs, HandKeeps, Removes, ids, TakesAt, SameAhead, aheads, HoldsOn, KeepsFronts, TellsData, GetsStuck, AllStuck, GetsQuiet};
     ghost use Rattle.outwriter.specs.Steps.{Step};
     ghost use Rattle.outwriter.specs.RunState.{Answers, AnswersAll, Reached, SameOwn, IsSpent, Progress, Progresses, Stays, IsBetween, MirrorsOf};
@@ -49,6 +51,7 @@ impl<L: Lane<Item = OutItem>> OutCore<L> {
         // What a frame's writer asks of it.
         ensures sound { IfOk result (λ next. (frame : FrameOf) → next ≡ next_kind.Frame frame → IsSound frame) }
         ensures numbered { IfOk result (λ next. (frame : FrameOf) → next ≡ next_kind.Frame frame → frame.head.stream < 2 ^ 31) }
+        ensures writable { IfOk result (λ next. (frame : FrameOf) → next ≡ next_kind.Frame frame → IsWritable frame) }
         ensures dead { self.old.is_dead ≡ true → result ≡ Err (out_fault.OutOfMemory None) }
         ensures dies { IfErr result (λ fault. (fault ≡ out_fault.OutOfMemory None) × (self.new.is_dead ≡ true)) }
         ensures over { IfOk result (λ next. next ≡ next_kind.Over → self.new.closed ≡ true) }
@@ -66,11 +69,12 @@ impl<L: Lane<Item = OutItem>> OutCore<L> {
         // So all was written that the controls obliged to.
         ensures answered { IfOk result (λ next. AnswersAll next self.new.outbound) }
 
-        // And of each open stream there is nothing that can be written, what was found ahead of its sender included.
-        ensures quiet { IfOk result (λ next. (run : List Step) → Serving L.got run self.old → self.old.is_dead ≡ false → QuietNext L.ahead next self.new) }
+        // And of each open stream there is nothing that can be written, what was found ahead of its sender included. Of a call that
+        // was left nothing is written.
+        ensures quiet { IfOk result (λ next. (run : List Step) → Serving L.got run self.old → self.old.is_dead ≡ false → QuietNext (coming L.got L.ahead) next self.new) }
 
         // So each call has ended or was reset, or has nothing that can be written now.
-        ensures no_frame { IfOk result (λ next. (run : List Step) → Reached run self.old.outbound → Serving L.got run self.old → self.old.is_dead ≡ false → NoFrameNext L.ahead run next self.new) }
+        ensures no_frame { IfOk result (λ next. (run : List Step) → Reached run self.old.outbound → Serving L.got run self.old → self.old.is_dead ≡ false → NoFrameNext (coming L.got L.ahead) run next self.new) }
 
         // And the end of each stream that a Reset or a Refuse called off was written.
         ensures ended { IfOk result (λ next. (run : List Step) → Reached run self.old.outbound → Serving L.got run self.old → self.old.is_dead ≡ false → EndedNext run next self.new) }
@@ -100,7 +104,7 @@ impl<L: Lane<Item = OutItem>> OutCore<L> {
         ensures fronts { KeepsFronts L.got self.old self.new }
         ensures senders { lanes L.out_name self.new.senders.items ≡ lanes L.out_name self.old.senders.items }
         ensures alive { self.new.is_dead ≡ self.old.is_dead }
-        ensures quiet { IfOk result (λ o. IfNone o (GetsQuiet L.got L.ahead self.old self.new)) }
+        ensures quiet { IfOk result (λ o. IfNone o (GetsQuiet L.got (coming L.got L.ahead) self.old self.new)) }
     {
         if self.outbound.gone {
             return Ok(None);
@@ -126,7 +130,7 @@ impl<L: Lane<Item = OutItem>> OutCore<L> {
         ensures fronts { KeepsFronts L.got self.old self.new }
         ensures senders { lanes L.out_name self.new.senders.items ≡ lanes L.out_name self.old.senders.items }
         ensures alive { self.new.is_dead ≡ self.old.is_dead }
-        ensures quiet { IfOk result (λ o. IfNone o (AllStuck L.got L.ahead self.old self.new)) }
+        ensures quiet { IfOk result (λ o. IfNone o (AllStuck L.got (coming L.got L.ahead) self.old self.new)) }
     {
         if let Some(frame) = self.frame_out_of_turn()? {
             return Ok(Some(frame));
@@ -200,7 +204,7 @@ impl<L: Lane<Item = OutItem>> OutCore<L> {
         ensures fronts { KeepsFronts L.got self.old self.new }
         ensures senders { lanes L.out_name self.new.senders.items ≡ lanes L.out_name self.old.senders.items }
         ensures alive { self.new.is_dead ≡ self.old.is_dead }
-        ensures quiet { IfOk result (λ o. IfNone o (AllStuck L.got L.ahead self.old self.new)) }
+        ensures quiet { IfOk result (λ o. IfNone o (AllStuck L.got (coming L.got L.ahead) self.old self.new)) }
     {
         for index in 0..self.streams.len() {
             let id = match self.streams.get_index(index) {
@@ -227,7 +231,7 @@ impl<L: Lane<Item = OutItem>> OutCore<L> {
         ensures senders { lanes L.out_name self.new.senders.items ≡ lanes L.out_name self.old.senders.items }
         ensures alive { self.new.is_dead ≡ self.old.is_dead }
         ensures ids { IfOk result (λ o. IfNone o (ids self.new.streams.entries ≡ ids self.old.streams.entries)) }
-        ensures quiet { IfOk result (λ o. IfNone o (GetsStuck L.got L.ahead id self.old self.new)) }
+        ensures quiet { IfOk result (λ o. IfNone o (GetsStuck L.got (coming L.got L.ahead) id self.old self.new)) }
     {
         let Some(frame) = self.look(id)? else {
             return Ok(None);
@@ -280,7 +284,7 @@ impl<L: Lane<Item = OutItem>> OutCore<L> {
         ensures senders { lanes L.out_name self.new.senders.items ≡ lanes L.out_name self.old.senders.items }
         ensures alive { self.new.is_dead ≡ self.old.is_dead }
         ensures ids { IfOk result (λ o. IfNone o (ids self.new.streams.entries ≡ ids self.old.streams.entries)) }
-        ensures quiet { IfOk result (λ o. IfNone o (GetsStuck L.got L.ahead id self.old self.new)) }
+        ensures quiet { IfOk result (λ o. IfNone o (GetsStuck L.got (coming L.got L.ahead) id self.old self.new)) }
     {
         if !self.outbound.may_end(id) {
             return Ok(None);
@@ -300,8 +304,8 @@ impl<L: Lane<Item = OutItem>> OutCore<L> {
         ensures outbound { self.new.outbound ≡ record self.old.outbound { encoder = self.new.outbound.encoder } }
         ensures closed { self.new.closed ≡ self.old.closed }
         ensures hands { HandIs id None self.old.streams.entries self.new.streams.entries }
-        ensures takes { TakesAt (shows self.old.streams.entries id) (calls L.got self.old.senders.items) (calls L.got self.new.senders.items) (aheads L.ahead self.new.senders.items) self.old.outbound.encoder self.new.outbound.encoder result }
-        ensures ahead { SameAhead (shows self.old.streams.entries id) (aheads L.ahead self.old.senders.items) (aheads L.ahead self.new.senders.items) }
+        ensures takes { TakesAt (shows self.old.streams.entries id) (calls L.got self.old.senders.items) (calls L.got self.new.senders.items) (aheads (coming L.got L.ahead) self.new.senders.items) self.old.outbound.encoder self.new.outbound.encoder result }
+        ensures ahead { SameAhead (shows self.old.streams.entries id) (aheads (coming L.got L.ahead) self.old.senders.items) (aheads (coming L.got L.ahead) self.new.senders.items) }
         ensures senders { lanes L.out_name self.new.senders.items ≡ lanes L.out_name self.old.senders.items }
         ensures ids { ids self.new.streams.entries ≡ ids self.old.streams.entries }
         ensures others { self.new.others ≡ self.old.others }
@@ -378,6 +382,7 @@ impl<L: Lane<Item = OutItem>> OutCore<L> {
 }
 
 ghost use Rattle.outwriter.specs.Cores.{calls as calls_of, lanes as lanes_of};
+ghost use Rattle.outwriter.specs.Polls.{coming as coming_of};
 ghost use Rattle.outwriter.specs.StreamLooks.{aheads as aheads_of, TakesHand, SameElsewhere};
 
 /// The next item of the sender at a place, if there is one.
@@ -386,8 +391,8 @@ fn poll_at<L: Lane<Item = OutItem>>(
     place: usize,
     encoder: &mut Encoder,
 ) -> Result<Polled, AllocError>
-    ensures takes { TakesHand None place (calls_of L.got senders.old.items) (calls_of L.got senders.new.items) (aheads_of L.ahead senders.new.items) encoder.old encoder.new result }
-    ensures ahead { SameElsewhere place (aheads_of L.ahead senders.old.items) (aheads_of L.ahead senders.new.items) }
+    ensures takes { TakesHand None place (calls_of L.got senders.old.items) (calls_of L.got senders.new.items) (aheads_of (coming_of L.got L.ahead) senders.new.items) encoder.old encoder.new result }
+    ensures ahead { SameElsewhere place (aheads_of (coming_of L.got L.ahead) senders.old.items) (aheads_of (coming_of L.got L.ahead) senders.new.items) }
     ensures senders { lanes_of L.out_name senders.new.items ≡ lanes_of L.out_name senders.old.items }
 {
     match senders.get_mut(place) {

@@ -2,7 +2,7 @@
 
 ghost use Rattle.std.specs.Prelude.{◌≡◌, [], ◌∷◌, ◌++◌, IfOk, OnErr};
 ghost use Rattle.hpack_codec.specs.Codec.{Writes};
-ghost use Rattle.outwriter.specs.Polls.{Polls};
+ghost use Rattle.outwriter.specs.Polls.{Polls, coming};
 ghost use Rattle.account.specs.declared.call.OutItem.{OutItem};
 
 use account::OutItem;
@@ -34,19 +34,21 @@ pub(crate) enum Polled {
     Block { bytes: Bytes, ends: bool },
 }
 
-/// The next item of a sender. The bytes of a message are shared, and fields are encoded.
+/// The next item of a sender. The bytes of a message are shared, and fields are encoded. Where the call was left there is
+/// nothing.
 pub(crate) fn poll<L: Lane<Item = OutItem>>(
     sender: &mut Sender<L>,
     encoder: &mut Encoder,
 ) -> Result<Polled, AllocError>
     ensures name { L.out_name sender.new.rx ≡ L.out_name sender.old.rx }
     ensures id { sender.new.id ≡ sender.old.id }
-    ensures ok { IfOk result (Polls (L.got sender.old.rx) (L.got sender.new.rx) (L.ahead sender.new.rx) encoder.old encoder.new) }
+    ensures ok { IfOk result (Polls (L.got sender.old.rx) (L.got sender.new.rx) (coming L.got L.ahead sender.new.rx) encoder.old encoder.new) }
     // Even without memory an item was got.
     ensures memory { OnErr result ((item : OutItem) × (L.got sender.new.rx ≡ L.got sender.old.rx ++ item ∷ [])) }
 {
     match sender.next() {
         None => Ok(Polled::Nothing),
+        Some(OutItem::Left) => Ok(Polled::Nothing),
         Some(OutItem::Message(bytes)) => Ok(Polled::Message(bytes.clone()?)),
         Some(OutItem::Head(fields)) => {
             let bytes = encoded(encoder, fields.as_slice())?;

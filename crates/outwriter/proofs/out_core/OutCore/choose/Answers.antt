@@ -1,6 +1,7 @@
 use Rattle.std.proofs.Common.{Option, Some, None, subst}
 use Rattle.std.proofs.lemmas.Result.{IfOk-weaker}
 use Rattle.h2frame.specs.declared.frame.Frame.{Frame}
+use Rattle.outwriter.specs.Polls.{coming}
 use Rattle.outwriter.specs.CallState.{OwnOrRests}
 use Rattle.outwriter.proofs.QuietSteps.{quiet-after}
 use Rattle.outwriter.proofs.ServeStepsCore.{holds-then, own-holds}
@@ -25,7 +26,7 @@ returns-clause-served g c =
 
 pub returns-clause-quiet : goal.returns-clause-quiet
 returns-clause-quiet g c =
-    quiet-after g.L.Lane.got g.L.Lane.ahead c.args.self.now (record c.args.self.now { outbound = c.own_frame.new.self }) c.stream_frame.new.self c.stream_frame.result
+    quiet-after g.L.Lane.got (coming g.L.Lane.got g.L.Lane.ahead) c.args.self.now (record c.args.self.now { outbound = c.own_frame.new.self }) c.stream_frame.new.self c.stream_frame.result
     (own-holds g.L.Lane.got c.args.self.now c.own_frame.new.self None
     (subst (λ (x : Option Frame). OwnOrRests x c.args.self.now.outbound c.own_frame.new.self) c.in_default.is c.in_ok-frame.ensures.own))
     c.stream_frame.ensures.quiet

@@ -1,4 +1,5 @@
 use Rattle.std.proofs.Common.{subst, ◌∙◌}
+use Rattle.outwriter.specs.Polls.{coming}
 use Rattle.outwriter.specs.declared.outbound.Outbound.{Outbound}
 use Rattle.outwriter.specs.RunState.{Heads}
 use Rattle.outwriter.proofs.ServeStepsLook.{look-nothing, look-data, look-block, takes-fronts, fronts-still}
@@ -21,7 +22,7 @@ returns-in_err-headers_frame-in-Block-clause-fronts g c =
 
 pub returns-in-Nothing-clause-served : goal.returns-in-Nothing-clause-served
 returns-in-Nothing-clause-served g c =
-    look-nothing _ g.L.Lane.got g.L.Lane.ahead c.args.self.now c.take.new.self c.args.id c.in_ok-take.field-0
+    look-nothing _ g.L.Lane.got (coming g.L.Lane.got g.L.Lane.ahead) c.args.self.now c.take.new.self c.args.id c.in_ok-take.field-0
     (record { takes = c.in_ok-take.ensures.takes; outbound = c.in_ok-take.ensures.outbound; hands = c.in_ok-take.ensures.hands; others = c.in_ok-take.ensures.others }) c.in-Nothing.is
 
 pub returns-in-Nothing-clause-fronts : goal.returns-in-Nothing-clause-fronts
@@ -29,7 +30,7 @@ returns-in-Nothing-clause-fronts g c = takes-fronts _ _ _ _ _ _ _ c.take.ensures
 
 pub returns-in-Message-clause-served : goal.returns-in-Message-clause-served
 returns-in-Message-clause-served g c =
-    IfOk-weaker c.data.result _ _ (λ o tells. look-data _ g.L.Lane.got g.L.Lane.ahead c.args.self.now c.take.new.self c.data.new.self c.args.id c.in-Message.bytes c.in_ok-take.field-0 o
+    IfOk-weaker c.data.result _ _ (λ o tells. look-data _ g.L.Lane.got (coming g.L.Lane.got g.L.Lane.ahead) c.args.self.now c.take.new.self c.data.new.self c.args.id c.in-Message.bytes c.in_ok-take.field-0 o
     (record { takes = c.in_ok-take.ensures.takes; outbound = c.in_ok-take.ensures.outbound; hands = c.in_ok-take.ensures.hands; others = c.in_ok-take.ensures.others }) c.in-Message.is
     tells c.data.ensures.senders c.data.ensures.others) c.data.ensures.data
 
@@ -39,7 +40,7 @@ returns-in-Message-clause-fronts g c =
 
 pub returns-in_ok-headers_frame-in-Block-clause-served : goal.returns-in_ok-headers_frame-in-Block-clause-served
 returns-in_ok-headers_frame-in-Block-clause-served g c =
-    look-block _ g.L.Lane.got g.L.Lane.ahead c.args.self.now c.take.new.self c.end.new.self c.headers_frame.new.self c.args.id c.in-Block.bytes c.in-Block.ends c.in_ok-take.field-0
+    look-block _ g.L.Lane.got (coming g.L.Lane.got g.L.Lane.ahead) c.args.self.now c.take.new.self c.end.new.self c.headers_frame.new.self c.args.id c.in-Block.bytes c.in-Block.ends c.in_ok-take.field-0
     c.in_ok-headers_frame-in-Block.field-0
     (record { takes = c.in_ok-take.ensures.takes; outbound = c.in_ok-take.ensures.outbound; hands = c.in_ok-take.ensures.hands; others = c.in_ok-take.ensures.others }) c.in-Block.is
     c.end.ensures.outbound c.end.ensures.ended c.end.ensures.senders c.end.ensures.others
@@ -51,6 +52,6 @@ returns-in_ok-headers_frame-in-Block-clause-fronts g c =
 
 pub returns-in-Message-clause-quiet : goal.returns-in-Message-clause-quiet
 returns-in-Message-clause-quiet g c =
-    IfOk-weaker c.data.result _ _ (λ o tells. stuck-if _ g.L.Lane.got g.L.Lane.ahead c.args.self.now c.take.new.self c.data.new.self c.args.id c.in-Message.bytes (Ok c.in_ok-take.field-0) o
+    IfOk-weaker c.data.result _ _ (λ o tells. stuck-if _ g.L.Lane.got (coming g.L.Lane.got g.L.Lane.ahead) c.args.self.now c.take.new.self c.data.new.self c.args.id c.in-Message.bytes (Ok c.in_ok-take.field-0) o
     (record { takes = c.in_ok-take.ensures.takes; outbound = c.in_ok-take.ensures.outbound; hands = c.in_ok-take.ensures.hands; others = c.in_ok-take.ensures.others })
     c.in_ok-take.ensures.ahead tells c.data.ensures.senders) c.data.ensures.data

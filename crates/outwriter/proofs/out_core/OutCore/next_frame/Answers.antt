@@ -1,10 +1,12 @@
 use Rattle.std.proofs.Common.{Option, subst}
 use Rattle.h2frame.specs.declared.frame.Frame.{Frame}
-use Rattle.std.specs.Prelude.{IfNone}
+use Rattle.std.specs.Prelude.{IfNone, IfSome, ◌<◌, ◌^◌}
+use Rattle.outwriter.specs.Frames.{IsSound}
+use Rattle.outwriter.specs.Polls.{coming}
 use Rattle.outwriter.specs.RunState.{IsSpent, Progresses}
 use Rattle.outwriter.specs.StreamLooks.{GetsQuiet, HoldsOn}
 use Rattle.outwriter.proofs.EndsKept.{ended-if}
-use Rattle.outwriter.proofs.Progresses.{spent-answered}
+use Rattle.outwriter.proofs.Progresses.{spent-answered, writable-from}
 use Rattle.outwriter.proofs.QuietSteps.{no-frame-if}
 use Rattle.outwriter.proofs.ServeStepsCore.{serving-on}
 use Rattle.outwriter.proofs.out_core.OutCore.next_frame.Goals as goal
@@ -14,13 +16,19 @@ returns-in-Ok-Some-clause-served g c =
     serving-on g.L.Lane.got c.in-Ok-Some.frame c.args.self.now c.choose.new.self c.if-self.false c.choose.ensures.closed
     (subst (λ (o : Option Frame). HoldsOn g.L.Lane.got o c.args.self.now c.choose.new.self) c.in-Ok-Some.field-0-is c.in-Ok-Some.ensures.served)
 
+pub returns-in-Ok-Some-clause-writable : goal.returns-in-Ok-Some-clause-writable
+returns-in-Ok-Some-clause-writable g c = λ frame is.
+    writable-from c.in-Ok-Some.frame frame is
+    (subst (λ (o : Option Frame). IfSome o IsSound) c.in-Ok-Some.field-0-is c.in-Ok-Some.ensures.sound)
+    (subst (λ (o : Option Frame). IfSome o (λ one. one.head.stream < 2 ^ 31)) c.in-Ok-Some.field-0-is c.in-Ok-Some.ensures.numbered)
+
 pub returns-in-Ok-None-clause-quiet : goal.returns-in-Ok-None-clause-quiet
 returns-in-Ok-None-clause-quiet g c = λ run s alive.
-    subst (λ (o : Option Frame). IfNone o (GetsQuiet g.L.Lane.got g.L.Lane.ahead c.args.self.now c.choose.new.self)) c.in-Ok-None.field-0-is c.in-Ok-None.ensures.quiet run (s.serves alive)
+    subst (λ (o : Option Frame). IfNone o (GetsQuiet g.L.Lane.got (coming g.L.Lane.got g.L.Lane.ahead) c.args.self.now c.choose.new.self)) c.in-Ok-None.field-0-is c.in-Ok-None.ensures.quiet run (s.serves alive)
 
 pub returns-in-Ok-None-2-clause-quiet : goal.returns-in-Ok-None-2-clause-quiet
 returns-in-Ok-None-2-clause-quiet g c = λ run s alive.
-    subst (λ (o : Option Frame). IfNone o (GetsQuiet g.L.Lane.got g.L.Lane.ahead c.args.self.now c.choose.new.self)) c.in-Ok-None.field-0-is c.in-Ok-None.ensures.quiet run (s.serves alive)
+    subst (λ (o : Option Frame). IfNone o (GetsQuiet g.L.Lane.got (coming g.L.Lane.got g.L.Lane.ahead) c.args.self.now c.choose.new.self)) c.in-Ok-None.field-0-is c.in-Ok-None.ensures.quiet run (s.serves alive)
 
 pub returns-in-Ok-None-clause-answered : goal.returns-in-Ok-None-clause-answered
 returns-in-Ok-None-clause-answered g c = λ run reached.
@@ -34,17 +42,17 @@ returns-in-Ok-None-2-clause-answered g c = λ run reached.
 
 pub returns-in-Ok-None-clause-no_frame : goal.returns-in-Ok-None-clause-no_frame
 returns-in-Ok-None-clause-no_frame g c = λ run reached s alive.
-    no-frame-if g.L.Lane.got g.L.Lane.ahead run c.choose.new.self
+    no-frame-if g.L.Lane.got (coming g.L.Lane.got g.L.Lane.ahead) run c.choose.new.self
     (subst (λ (o : Option Frame). HoldsOn g.L.Lane.got o c.args.self.now c.choose.new.self) c.in-Ok-None.field-0-is c.in-Ok-None.ensures.served run (s.serves alive))
     ((subst (λ (o : Option Frame). Progresses o c.args.self.now.outbound c.choose.new.self.outbound) c.in-Ok-None.field-0-is c.in-Ok-None.ensures.frame) run reached.0).is_over
-    (subst (λ (o : Option Frame). IfNone o (GetsQuiet g.L.Lane.got g.L.Lane.ahead c.args.self.now c.choose.new.self)) c.in-Ok-None.field-0-is c.in-Ok-None.ensures.quiet run (s.serves alive))
+    (subst (λ (o : Option Frame). IfNone o (GetsQuiet g.L.Lane.got (coming g.L.Lane.got g.L.Lane.ahead) c.args.self.now c.choose.new.self)) c.in-Ok-None.field-0-is c.in-Ok-None.ensures.quiet run (s.serves alive))
 
 pub returns-in-Ok-None-2-clause-no_frame : goal.returns-in-Ok-None-2-clause-no_frame
 returns-in-Ok-None-2-clause-no_frame g c = λ run reached s alive.
-    no-frame-if g.L.Lane.got g.L.Lane.ahead run c.choose.new.self
+    no-frame-if g.L.Lane.got (coming g.L.Lane.got g.L.Lane.ahead) run c.choose.new.self
     (subst (λ (o : Option Frame). HoldsOn g.L.Lane.got o c.args.self.now c.choose.new.self) c.in-Ok-None.field-0-is c.in-Ok-None.ensures.served run (s.serves alive))
     ((subst (λ (o : Option Frame). Progresses o c.args.self.now.outbound c.choose.new.self.outbound) c.in-Ok-None.field-0-is c.in-Ok-None.ensures.frame) run reached.0).is_over
-    (subst (λ (o : Option Frame). IfNone o (GetsQuiet g.L.Lane.got g.L.Lane.ahead c.args.self.now c.choose.new.self)) c.in-Ok-None.field-0-is c.in-Ok-None.ensures.quiet run (s.serves alive))
+    (subst (λ (o : Option Frame). IfNone o (GetsQuiet g.L.Lane.got (coming g.L.Lane.got g.L.Lane.ahead) c.args.self.now c.choose.new.self)) c.in-Ok-None.field-0-is c.in-Ok-None.ensures.quiet run (s.serves alive))
 
 pub returns-in-Ok-None-clause-ended : goal.returns-in-Ok-None-clause-ended
 returns-in-Ok-None-clause-ended g c = λ run reached s alive.

@@ -11,7 +11,7 @@ use Rattle.std.proofs.Common.{subst, ◌<◌, ◌^◌}
 
 pub returns-clause-written : goal.returns-clause-written
 returns-clause-written c = λ run m. due-written run _ _ _ _ _ (Goaway c.args.last c.args.code) _ _ _ _ (goaway_frame c.args.last c.args.code) c.in_ok-frame.ensures c.requires.begun c.requires.going c.requires.no_block
-    (goaway-plain c.args.last c.args.code) refl refl refl
+    (goaway-plain c.args.last c.args.code) refl refl refl (λ e. cc)
     (ap (λ (n : ℕ). not (n == 0)) (from_be_bytes-to_be_bytes_4 (error_number c.args.code) (let P : ℕ → Type 0 = λ n. n < 2 ^ 32 in subst P c.code.ensures c.code.type_inv) ∙ sym c.code.ensures)) m
 
 pub returns-clause-own : goal.returns-clause-own

@@ -7,7 +7,7 @@ use Rattle.outwriter.proofs.outbound.Outbound.settings_ack.Goals as goal
 
 pub returns-clause-written : goal.returns-clause-written
 returns-clause-written c = λ run m. due-written run _ _ _ _ _ SettingsAck _ _ _ _ settings_ack c.make_settings_ack.ensures c.requires.begun c.requires.going c.requires.no_block
-    ack-plain refl refl refl (sym c.requires.going) m
+    ack-plain refl refl refl (λ e. cc) (sym c.requires.going) m
 
 pub returns-clause-own : goal.returns-clause-own
 returns-clause-own c = (
