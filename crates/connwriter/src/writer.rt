@@ -13,6 +13,7 @@ ghost use Rattle.outwriter.specs.Cores.{calls, IsUnused};
 ghost use Rattle.outwriter.specs.Credits.{Grants};
 ghost use Rattle.h2frame.specs.Spelling.{IsWritable};
 ghost use Rattle.outwriter.specs.Frames.{ends_stream};
+ghost use Rattle.outwriter.specs.Polls.{coming};
 ghost use Rattle.outwriter.specs.RunState.{is_held};
 ghost use Rattle.outwriter.specs.Steps.{Step, Taken, Granted, order_of, frames_of};
 ghost use Rattle.connwriter.specs.declared.standing.Standing.TheVariants as stands;
@@ -142,7 +143,7 @@ impl<L: Lane<Item = OutItem>, W: ConnWrite> ConnWriter<L, W> {
     /// 65,536 bytes by it.
     pub fn fill(&mut self) -> Filled
         // Frames are the next steps of the run. Where none comes, all is written that can be.
-        ensures wrote { Fills L.got L.ahead W.contents W.failed (Some result) self.old self.new }
+        ensures wrote { Fills L.got (coming L.got L.ahead) W.contents W.failed (Some result) self.old self.new }
         ensures room { length self.old.buffer.items ≤ 65536 → length self.new.buffer.items ≤ 65536 }
         ensures device { self.new.device ≡ self.old.device }
         ensures left { self.new.left ≡ self.old.left }
@@ -241,7 +242,7 @@ impl<L: Lane<Item = OutItem>, W: ConnWrite> ConnWriter<L, W> {
     /// Puts frames into the buffer.
     fn fill_on(&mut self) -> Filled
         requires { self.old.standing ≡ stands.Going }
-        ensures wrote { Fills L.got L.ahead W.contents W.failed (Some result) self.old self.new }
+        ensures wrote { Fills L.got (coming L.got L.ahead) W.contents W.failed (Some result) self.old self.new }
         ensures room { length self.old.buffer.items ≤ 65536 → length self.new.buffer.items ≤ 65536 }
         ensures device { self.new.device ≡ self.old.device }
         ensures left { self.new.left ≡ self.old.left }
@@ -258,7 +259,7 @@ impl<L: Lane<Item = OutItem>, W: ConnWrite> ConnWriter<L, W> {
     /// Puts the next frame into the buffer. Where there is none it says why.
     fn add_frame(&mut self) -> Option<Filled>
         requires { self.old.standing ≡ stands.Going }
-        ensures wrote { Fills L.got L.ahead W.contents W.failed result self.old self.new }
+        ensures wrote { Fills L.got (coming L.got L.ahead) W.contents W.failed result self.old self.new }
         ensures grows { IfNone result (length self.old.buffer.items < length self.new.buffer.items) }
         ensures fits { length self.new.buffer.items ≤ length self.old.buffer.items + 16393 }
         ensures goes { result ≢ Some filled.Stopped → self.new.standing ≡ stands.Going }

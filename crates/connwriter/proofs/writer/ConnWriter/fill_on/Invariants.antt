@@ -1,4 +1,5 @@
 use Rattle.std.proofs.Common.{◌≡◌, ◌≤◌, ◌-◌, length, None}
+use Rattle.outwriter.specs.Polls.{coming}
 use Rattle.connwriter.specs.Wrote.{Fills}
 use Rattle.connwriter.specs.declared.standing.Standing.TheVariants.{Going}
 use Rattle.connwriter.proofs.writer.ConnWriter.fill_on.Given as goal
@@ -6,7 +7,7 @@ use Rattle.connwriter.proofs.writer.ConnWriter.fill_on.Given as goal
 -- frames lead from the writer as it was to the writer as it is
 abbrev pub invariant-frames : goal.invariant-frames
 invariant-frames g l = record {
-  fills : Fills g.L.Lane.got g.L.Lane.ahead g.W.ConnWrite.contents g.W.ConnWrite.failed None l.fn.self l.self;
+  fills : Fills g.L.Lane.got (coming g.L.Lane.got g.L.Lane.ahead) g.W.ConnWrite.contents g.W.ConnWrite.failed None l.fn.self l.self;
   room : length l.fn.self.buffer.items ≤ 65536 → length l.self.buffer.items ≤ 65536;
   going : l.self.standing ≡ Going;
   device : l.self.device ≡ l.fn.self.device;
