@@ -4,11 +4,12 @@
 //! words each runs once, small, and prints what it did but no time.
 //!
 //! Each module measures one library: `lane_bench`, `h2frame_feed`, `hpack_blocks`, `flow_halves`, `protobuf_messages`,
-//! `session_reading` and `outbound_frames`; `sizes` reads the numbers.
+//! `handlers_calls`, `session_reading` and `outbound_frames`; `sizes` reads the numbers.
 #![tactic(auto)]
 
 mod flow_halves;
 mod h2frame_feed;
+mod handlers_calls;
 mod hpack_blocks;
 mod lane_bench;
 mod outbound_frames;
@@ -37,6 +38,7 @@ fn run_all<R: Threads + Wait + Sync + AllocGlobal + Print + Clock>(rt: &R) -> Re
     hpack_blocks::small(rt)?;
     flow_halves::small(rt)?;
     protobuf_messages::small(rt)?;
+    handlers_calls::small(rt)?;
     session_reading::small(rt)?;
     outbound_frames::small(rt)
 }
@@ -49,6 +51,8 @@ fn run_one<R: Threads + Wait + Sync + AllocGlobal + Print + Clock>(
 ) -> Result<()> {
     match name {
         "flow-halves" => flow_halves::timed(rt, sizes),
+        "handlers-reply" => handlers_calls::reply(rt, sizes),
+        "handlers-request" => handlers_calls::one_request(rt, sizes),
         "h2frame-feed" => h2frame_feed::timed(rt, sizes),
         "hpack-huffman" => hpack_blocks::huffman(rt, sizes),
         "hpack-evictions" => hpack_blocks::evictions(rt, sizes),

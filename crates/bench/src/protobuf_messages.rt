@@ -31,7 +31,10 @@ fn parameters(alloc: Global, count: usize) -> Result<Vec<u8>, AllocError> {
 }
 
 /// Prints how many bytes are written of the message that these are, and the nanoseconds of reading and of writing.
-fn timed<M: Message, R: Clock + AllocGlobal + Print>(rt: &R, bytes: &[u8]) -> Result<()> {
+fn timed<'a, M: Message<'a>, R: Clock + AllocGlobal + Print>(
+    rt: &R,
+    bytes: &'a [u8],
+) -> Result<()> {
     let start = Instant::now(rt)?;
     let message = M::decode(rt.alloc(), bytes)?;
     let reading = start.elapsed(rt)?.as_nanos();
@@ -55,7 +58,7 @@ pub fn many<R: Clock + AllocGlobal + Print>(rt: &R, sizes: &[String]) -> Result<
 }
 
 /// How many bytes are written of the message that these are.
-fn written<M: Message>(alloc: Global, bytes: &[u8]) -> Result<usize> {
+fn written<'a, M: Message<'a>>(alloc: Global, bytes: &'a [u8]) -> Result<usize> {
     let message = M::decode(alloc, bytes)?;
     Ok(message.encode(alloc)?.len())
 }

@@ -57,6 +57,7 @@ fn push_items(text: &mut String, name: &str, items: &Sequence<OutItem>) -> Resul
                 text.push_str(" trailers")?;
                 push_fields(text, fields)?;
             }
+            OutItem::Left => text.push_str(" left")?,
         }
     }
     Ok(())

@@ -53,6 +53,7 @@ fn item_of(alloc: Global, text: &str) -> Result<OutItem> {
         "head" => Ok(OutItem::Head(fields_of(alloc, rest)?)),
         "message" => Ok(OutItem::Message(bytes_of(alloc, rest)?)),
         "trailers" => Ok(OutItem::Trailers(fields_of(alloc, rest)?)),
+        "left" => Ok(OutItem::Left),
         _ => bail!("an item that isn't known"),
     }
 }

@@ -49,11 +49,15 @@ fn give_open<L: Lane<Item = OutItem>>(
             given.push(item.copy()?)?;
             return Ok(End::Shut(giver.trailers(fields.copy()?)));
         }
+        OutItem::Left => {
+            given.push(OutItem::Left)?;
+            return Ok(End::Shut(giver.leave()));
+        }
     }
     Ok(End::Open(giver))
 }
 
-/// Gives an item, where trailers weren't given.
+/// Gives an item, where neither trailers nor that the call was left was given.
 fn give<L: Lane<Item = OutItem>>(
     alloc: Global,
     end: End<Giver<L>, GivenShut<L>>,

@@ -11,6 +11,7 @@ mod devices;
 mod in_ends;
 mod lanes;
 mod messages;
+mod methods;
 mod out_ends;
 mod rings;
 mod threads;
@@ -110,6 +111,11 @@ fn run_threads<R: Threads + Wait + Sync + Clock + Print + AllocGlobal>(rt: &R) -
         rt,
         "items cross threads in order",
         lanes::cross_threads(rt, alloc)?,
+    )?;
+    tell(
+        rt,
+        "two threads share methods",
+        methods::are_shared(rt, alloc)?,
     )?;
     tell(
         rt,

@@ -1,5 +1,5 @@
-//! Each type of frame with payloads of every length: `kinds.rows` for those that are read, and written again, and
-//! `refused.rows` for those that aren't written.
+//! Each type of frame with payloads of the least and the greatest length: `kinds.rows` for those that are read, and
+//! written again, and `refused.rows` for those that aren't written. In `lengths.rows` each length is read.
 
 ghost use Rattle.std.specs.Prelude.{◌≡◌, ◌<◌, ◌^◌, length};
 ghost use Rattle.h2frame.specs.Kind.{kind_of, code_of};
@@ -207,6 +207,41 @@ impl Subject for Kinds {
         let payload = sample.payload(alloc)?;
         let bytes = sample.bytes(alloc, payload.as_slice())?;
         Kinds::try_sample(alloc, &sample, payload.as_slice(), bytes.as_slice(), answer)
+    }
+}
+
+/// Reads the frame of this payload whole, which has to be all of its content.
+fn try_length(alloc: Global, sample: &Sample, payload: &[u8]) -> Result<()> {
+    let bytes = sample.bytes(alloc, payload)?;
+    let frame = read_in_pieces(alloc, bytes.as_slice(), bytes.len())?;
+    ensure!(
+        frame.head == sample.head(),
+        "another head: {:?}",
+        frame.head
+    );
+    ensure!(frame.content.as_slice() == payload, "another content");
+    Ok(())
+}
+
+/// A frame, and the lengths of payload with which one like it is read: each up to its own.
+#[derive(Drop)]
+pub struct Lengths;
+
+impl Subject for Lengths {
+    fn restart(&mut self, _alloc: Global) {}
+
+    /// Reads frames whose payloads are the beginnings of one payload.
+    fn answer(&mut self, alloc: Global, given: Given<'_>, answer: &mut String) -> Result<()> {
+        let mut sample = sample_of(given.words)?;
+        let greatest = sample.length;
+        let payload = sample.payload(alloc)?;
+        for length in 0..=greatest {
+            sample.length = length;
+            let front = payload.as_slice().get(..length as usize).unwrap_or(&[]);
+            try_length(alloc, &sample, front).context(format_args!("{length} bytes"))?;
+        }
+        write!(answer, "0..={greatest}")?;
+        Ok(())
     }
 }
 

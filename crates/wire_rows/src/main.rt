@@ -27,12 +27,14 @@ fn try_frames(rt: &(impl Files + Print + AllocGlobal)) -> Result<u32> {
     let frames = try_file(rt, "frames.rows", &mut frames::Lists)?;
     let firsts = try_file(rt, "faults.rows", &mut frames::FirstBytes)?;
     let kinds = try_file(rt, "kinds.rows", &mut kinds::Kinds)?;
+    let lengths = try_file(rt, "lengths.rows", &mut kinds::Lengths)?;
     let refused = try_file(rt, "refused.rows", &mut kinds::Refused)?;
     let names = try_file(rt, "names.rows", &mut names::Names)?;
     Ok(
         frames
             .saturating_add(firsts)
             .saturating_add(kinds)
+            .saturating_add(lengths)
             .saturating_add(refused)
             .saturating_add(names),
     )

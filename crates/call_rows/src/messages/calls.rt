@@ -19,7 +19,7 @@ fn push_answer(text: &mut String, alloc: Global, answer: &Step) -> Result<()> {
         text.push_str("; ")?;
     }
     match &answer.ends {
-        Some(status) => write!(text, "{} {}", status.code, status.text.as_str())?,
+        Some(status) => write!(text, "{} {}", status.code.number(), status.text.as_str())?,
         None => text.push_str("open")?,
     }
     Ok(())

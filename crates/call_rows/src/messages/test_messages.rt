@@ -23,7 +23,11 @@ enum Question {
 }
 
 /// The text form of the message that the bytes are.
-fn text_of<M: Message + Shown>(alloc: Global, bytes: &[u8], written: bool) -> Result<String> {
+fn text_of<'a, M: Message<'a> + Shown>(
+    alloc: Global,
+    bytes: &'a [u8],
+    written: bool,
+) -> Result<String> {
     let message = M::decode(alloc, bytes)?;
     if written {
         let again = message.encode(alloc)?;
@@ -39,16 +43,16 @@ fn text_of<M: Message + Shown>(alloc: Global, bytes: &[u8], written: bool) -> Re
 }
 
 /// The fault of bytes that are no such message.
-fn fault_of<M: Message>(alloc: Global, bytes: &[u8]) -> Result<String> {
+fn fault_of<'a, M: Message<'a>>(alloc: Global, bytes: &'a [u8]) -> Result<String> {
     match M::decode(alloc, bytes) {
         Ok(_) => Ok(String::from_str(alloc, "no fault")?),
         Err(fault) => Ok(format!(in alloc; "{fault:?}")?),
     }
 }
 
-fn answer_of<M: Message + Shown>(
+fn answer_of<'a, M: Message<'a> + Shown>(
     alloc: Global,
-    bytes: &[u8],
+    bytes: &'a [u8],
     question: Question,
 ) -> Result<String> {
     match question {

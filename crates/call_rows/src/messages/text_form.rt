@@ -112,7 +112,7 @@ impl Shown for Empty {
     }
 }
 
-impl Shown for Payload {
+impl Shown for Payload<'_> {
     fn show(&self, form: &mut TextForm) -> Result<()> {
         form.number("type", self.kind)?;
         form.bytes("body", self.body.as_slice())
@@ -125,14 +125,14 @@ impl Shown for BoolValue {
     }
 }
 
-impl Shown for EchoStatus {
+impl Shown for EchoStatus<'_> {
     fn show(&self, form: &mut TextForm) -> Result<()> {
         form.number("code", self.code)?;
         form.bytes("message", self.message.as_str().as_bytes())
     }
 }
 
-impl Shown for SimpleRequest {
+impl Shown for SimpleRequest<'_> {
     fn show(&self, form: &mut TextForm) -> Result<()> {
         form.number("response_type", self.response_type)?;
         form.number("response_size", self.response_size)?;
@@ -145,7 +145,7 @@ impl Shown for SimpleRequest {
     }
 }
 
-impl Shown for SimpleResponse {
+impl Shown for SimpleResponse<'_> {
     fn show(&self, form: &mut TextForm) -> Result<()> {
         form.message("payload", &self.payload)?;
         form.bytes("username", self.username.as_str().as_bytes())?;
@@ -153,7 +153,7 @@ impl Shown for SimpleResponse {
     }
 }
 
-impl Shown for StreamingInputCallRequest {
+impl Shown for StreamingInputCallRequest<'_> {
     fn show(&self, form: &mut TextForm) -> Result<()> {
         form.message("payload", &self.payload)?;
         form.message("expect_compressed", &self.expect_compressed)
@@ -174,7 +174,7 @@ impl Shown for ResponseParameters {
     }
 }
 
-impl Shown for StreamingOutputCallRequest {
+impl Shown for StreamingOutputCallRequest<'_> {
     fn show(&self, form: &mut TextForm) -> Result<()> {
         form.number("response_type", self.response_type)?;
         for parameters in self.response_parameters.as_slice() {
@@ -185,7 +185,7 @@ impl Shown for StreamingOutputCallRequest {
     }
 }
 
-impl Shown for StreamingOutputCallResponse {
+impl Shown for StreamingOutputCallResponse<'_> {
     fn show(&self, form: &mut TextForm) -> Result<()> {
         form.message("payload", &self.payload)
     }

@@ -33,6 +33,7 @@ pub fn bytes_of(item: &OutItem) -> &[u8] {
             Some(field) => field.value.as_slice(),
             None => &[],
         },
+        OutItem::Left => &[],
     }
 }
 
