@@ -33,7 +33,10 @@ static void tell(void) {
   }
 }
 
-// (A Rattle program ends by this call, which runs no destructor.)
+// (A program with threads ends by the call _exit, which runs no destructor; another returns from main, and then the C
+// library ends it by a call of its own.)
+__attribute__((destructor)) static void end(void) { tell(); }
+
 void _exit(int status) {
   tell();
   for (;;) {
