@@ -2,7 +2,7 @@
 //!
 //! `size`: no length where it passes a `usize`; `encode` then answers out of memory.
 
-ghost use Rattle.std.specs.Prelude.{◌≡◌, ◌≢◌, ◌++◌, ◌∷◌, [], List, length, IfOk, IfErr, IfSome, OnOk, MatchResult};
+ghost use Rattle.std.specs.Prelude.{◌≡◌, ◌≢◌, ◌++◌, ◌∷◌, [], ◌^◌, ◌≤◌, List, length, take, IfOk, IfErr, IfSome, IfNone, OnOk, OnErr, MatchResult};
 ghost use Rattle.pbwire.specs.Fields.{Field, field_of};
 ghost use Rattle.pbwire.specs.Spelling.{spelling_of_all};
 ghost use Rattle.testproto.specs.declared.fault.ProtoFault.{ProtoFault as Fault};
@@ -47,11 +47,14 @@ pub trait Message<'a>: Drop {
     /// How many bytes are written of the message, or none where no buffer could hold them.
     fn size(&self) -> Option<usize>
         ensures len { IfSome result (λ size. size ≡ length (spelling_of_all (fields_of self.now))) }
-        ensures fits { IfSome result (λ size. fits self.now) };
+        ensures fits { IfSome result (λ size. fits self.now) }
+        ensures too_long { IfNone result (2 ^ 64 ≤ length (spelling_of_all (fields_of self.now))) };
 
-    /// Appends the fields of the message, by ascending number, defaults left out.
-    fn put(&self, out: &mut Vec<u8>) -> Result<(), ProtoFault>
+    /// Appends the fields of the message, by ascending number, defaults left out. Where that fails, some of their bytes
+    /// may stand at the end of the buffer.
+    fn put_fields(&self, out: &mut Vec<u8>) -> Result<(), ProtoFault>
         ensures ok { OnOk result (out.new.items ≡ out.old.items ++ spelling_of_all (fields_of self.now)) }
+        ensures kept { take (length out.old.items) out.new.items ≡ out.old.items }
         ensures memory { IfErr result (λ fault. fault ≡ OutOfMemory) };
 
     /// Fields have one value.
@@ -79,6 +82,15 @@ pub trait Message<'a>: Drop {
             → MatchResult result (λ message. message ≡ value) (λ fault. fault ≡ OutOfMemory) }
     {
         decode_message(alloc, bytes)
+    }
+
+    /// Appends the fields of the message, by ascending number, defaults left out.
+    final fn put(&self, out: &mut Vec<u8>) -> Result<(), ProtoFault>
+        ensures ok { OnOk result (out.new.items ≡ out.old.items ++ spelling_of_all (fields_of self.now)) }
+        ensures unchanged { OnErr result (out.new.items ≡ out.old.items) }
+        ensures memory { IfErr result (λ fault. fault ≡ OutOfMemory) }
+    {
+        append_message(self, out)
     }
 
     /// The bytes of the message: its fields by ascending number, defaults left out.
@@ -131,6 +143,23 @@ pub(crate) fn decode_message<'a, M: Message<'a>>(
     Ok(message)
 }
 
+/// Appends the fields of the message, by ascending number, defaults left out.
+pub(crate) fn append_message<'a, M: Message<'a>>(
+    message: &M,
+    out: &mut Vec<u8>,
+) -> Result<(), ProtoFault>
+    ensures ok { OnOk result (out.new.items ≡ out.old.items ++ spelling_of_all (M.fields_of message.now)) }
+    ensures unchanged { OnErr result (out.new.items ≡ out.old.items) }
+    ensures memory { IfErr result (λ fault. fault ≡ OutOfMemory) }
+{
+    let len = out.len();
+    if message.put_fields(out).is_err() {
+        out.truncate(len);
+        return Err(ProtoFault::OutOfMemory);
+    }
+    Ok(())
+}
+
 /// The bytes of the message: its fields by ascending number, defaults left out.
 ///
 /// It sets aside the room once and fills it, so a large body is copied once.
@@ -147,6 +176,6 @@ pub(crate) fn encode_message<'a, M: Message<'a>>(
         return Err(ProtoFault::OutOfMemory);
     };
     let mut out = Vec::with_capacity(alloc, size)?;
-    message.put(&mut out)?;
+    message.put_fields(&mut out)?;
     Ok(out)
 }

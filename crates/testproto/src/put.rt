@@ -1,7 +1,7 @@
 //! One field of a message, as it is written, by its kind: how long it is, and the field at the end of a buffer.
 //! A default is left out.
 
-ghost use Rattle.std.specs.Prelude.{◌≡◌, ◌+◌, ◌++◌, ℕ, length, IfSome, OnOk, IfErr};
+ghost use Rattle.std.specs.Prelude.{◌≡◌, ◌+◌, ◌++◌, ◌^◌, ◌≤◌, ℕ, length, take, IfSome, IfNone, OnOk, IfErr};
 ghost use Rattle.pbwire.specs.Fields.{field_with, content_of, varint};
 ghost use Rattle.pbwire.specs.Spelling.{varint_spelling, spelling_of, spelling_of_all, IsFieldNumber};
 ghost use Rattle.testproto.specs.declared.fault.ProtoFault.TheVariants.{OutOfMemory};
@@ -20,21 +20,24 @@ const DELIMITED: u64 = 2;
 
 /// Adds the length of a field with a varint.
 fn add_varint(total: usize, number: u32, n: u64) -> Option<usize>
-    ensures { IfSome result (λ size. size ≡ total + length (spelling_of (field_with number (varint n)))) }
+    ensures len { IfSome result (λ size. size ≡ total + length (spelling_of (field_with number (varint n)))) }
+    ensures too_long { IfNone result (2 ^ 64 ≤ total + length (spelling_of (field_with number (varint n)))) }
 {
     total.checked_add(varint_len(u64::from(number) * WIRE_TYPES) + varint_len(n))
 }
 
 /// Adds the length of a length-delimited field.
 fn add_delimited(total: usize, number: u32, len: usize) -> Option<usize>
-    ensures { IfSome result (λ size. size ≡ total + delimited_len number len) }
+    ensures len { IfSome result (λ size. size ≡ total + delimited_len number len) }
+    ensures too_long { IfNone result (2 ^ 64 ≤ total + delimited_len number len) }
 {
     let head = varint_len(u64::from(number) * WIRE_TYPES + DELIMITED) + varint_len(len as u64);
     total.checked_add(head)?.checked_add(len)
 }
 
 pub(crate) fn add_int32(total: usize, number: u32, value: i32) -> Option<usize>
-    ensures { IfSome result (λ size. size ≡ total + length (spelling_of_all (int32_fields number value))) }
+    ensures len { IfSome result (λ size. size ≡ total + length (spelling_of_all (int32_fields number value))) }
+    ensures too_long { IfNone result (2 ^ 64 ≤ total + length (spelling_of_all (int32_fields number value))) }
 {
     if value == 0 {
         return Some(total);
@@ -43,7 +46,8 @@ pub(crate) fn add_int32(total: usize, number: u32, value: i32) -> Option<usize>
 }
 
 pub(crate) fn add_bool(total: usize, number: u32, value: bool) -> Option<usize>
-    ensures { IfSome result (λ size. size ≡ total + length (spelling_of_all (bool_fields number value))) }
+    ensures len { IfSome result (λ size. size ≡ total + length (spelling_of_all (bool_fields number value))) }
+    ensures too_long { IfNone result (2 ^ 64 ≤ total + length (spelling_of_all (bool_fields number value))) }
 {
     if value {
         add_varint(total, number, 1)
@@ -53,7 +57,8 @@ pub(crate) fn add_bool(total: usize, number: u32, value: bool) -> Option<usize>
 }
 
 pub(crate) fn add_bytes(total: usize, number: u32, bytes: &[u8]) -> Option<usize>
-    ensures { IfSome result (λ size. size ≡ total + length (spelling_of_all (bytes_fields number bytes.now))) }
+    ensures len { IfSome result (λ size. size ≡ total + length (spelling_of_all (bytes_fields number bytes.now))) }
+    ensures too_long { IfNone result (2 ^ 64 ≤ total + length (spelling_of_all (bytes_fields number bytes.now))) }
 {
     if bytes.is_empty() {
         return Some(total);
@@ -63,6 +68,7 @@ pub(crate) fn add_bytes(total: usize, number: u32, bytes: &[u8]) -> Option<usize
 
 pub(crate) fn add_one<'a, M: Message<'a>>(total: usize, number: u32, message: &M) -> Option<usize>
     ensures len { IfSome result (λ size. size ≡ total + length (spelling_of (message_field M.fields_of number message.now))) }
+    ensures too_long { IfNone result (2 ^ 64 ≤ total + length (spelling_of (message_field M.fields_of number message.now))) }
     ensures fits { IfSome result (λ size. M.fits message.now) }
 {
     let size = message.size()?;
@@ -75,6 +81,7 @@ pub(crate) fn add_message<'a, M: Message<'a>>(
     held: &Option<M>,
 ) -> Option<usize>
     ensures len { IfSome result (λ size. size ≡ total + length (spelling_of_all (message_fields M.fields_of number held.now))) }
+    ensures too_long { IfNone result (2 ^ 64 ≤ total + length (spelling_of_all (message_fields M.fields_of number held.now))) }
     ensures fits { IfSome result (λ size. IfSome held.now M.fits) }
 {
     match held {
@@ -87,6 +94,7 @@ pub(crate) fn add_message<'a, M: Message<'a>>(
 fn put(number: u32, value: &FieldValue<'_>, out: &mut Vec<u8>) -> Result<(), ProtoFault>
     requires { IsFieldNumber number }
     ensures ok { OnOk result (out.new.items ≡ out.old.items ++ spelling_of (field_with number (content_of value.now))) }
+    ensures kept { take (length out.old.items) out.new.items ≡ out.old.items }
     ensures memory { IfErr result (λ fault. fault ≡ OutOfMemory) }
 {
     match write_field(number, value, out) {
@@ -97,6 +105,7 @@ fn put(number: u32, value: &FieldValue<'_>, out: &mut Vec<u8>) -> Result<(), Pro
 
 fn put_varint(n: u64, out: &mut Vec<u8>) -> Result<(), ProtoFault>
     ensures ok { OnOk result (out.new.items ≡ out.old.items ++ varint_spelling n) }
+    ensures kept { take (length out.old.items) out.new.items ≡ out.old.items }
     ensures memory { IfErr result (λ fault. fault ≡ OutOfMemory) }
 {
     match write_varint(n, out) {
@@ -108,6 +117,7 @@ fn put_varint(n: u64, out: &mut Vec<u8>) -> Result<(), ProtoFault>
 pub(crate) fn put_int32(number: u32, value: i32, out: &mut Vec<u8>) -> Result<(), ProtoFault>
     requires { IsFieldNumber number }
     ensures ok { OnOk result (out.new.items ≡ out.old.items ++ spelling_of_all (int32_fields number value)) }
+    ensures kept { take (length out.old.items) out.new.items ≡ out.old.items }
     ensures memory { IfErr result (λ fault. fault ≡ OutOfMemory) }
 {
     if value == 0 {
@@ -123,6 +133,7 @@ pub(crate) fn put_int32(number: u32, value: i32, out: &mut Vec<u8>) -> Result<()
 pub(crate) fn put_bool(number: u32, value: bool, out: &mut Vec<u8>) -> Result<(), ProtoFault>
     requires { IsFieldNumber number }
     ensures ok { OnOk result (out.new.items ≡ out.old.items ++ spelling_of_all (bool_fields number value)) }
+    ensures kept { take (length out.old.items) out.new.items ≡ out.old.items }
     ensures memory { IfErr result (λ fault. fault ≡ OutOfMemory) }
 {
     if value {
@@ -134,6 +145,7 @@ pub(crate) fn put_bool(number: u32, value: bool, out: &mut Vec<u8>) -> Result<()
 pub(crate) fn put_bytes(number: u32, bytes: &[u8], out: &mut Vec<u8>) -> Result<(), ProtoFault>
     requires { IsFieldNumber number }
     ensures ok { OnOk result (out.new.items ≡ out.old.items ++ spelling_of_all (bytes_fields number bytes.now)) }
+    ensures kept { take (length out.old.items) out.new.items ≡ out.old.items }
     ensures memory { IfErr result (λ fault. fault ≡ OutOfMemory) }
 {
     if !bytes.is_empty() {
@@ -150,6 +162,7 @@ pub(crate) fn put_one<'a, M: Message<'a>>(
 ) -> Result<(), ProtoFault>
     requires { IsFieldNumber number }
     ensures ok { OnOk result (out.new.items ≡ out.old.items ++ spelling_of (message_field M.fields_of number message.now)) }
+    ensures kept { take (length out.old.items) out.new.items ≡ out.old.items }
     ensures memory { IfErr result (λ fault. fault ≡ OutOfMemory) }
 {
     let Some(size) = message.size() else {
@@ -157,7 +170,7 @@ pub(crate) fn put_one<'a, M: Message<'a>>(
     };
     put_varint(u64::from(number) * WIRE_TYPES + DELIMITED, out)?;
     put_varint(size as u64, out)?;
-    message.put(out)
+    message.put_fields(out)
 }
 
 pub(crate) fn put_message<'a, M: Message<'a>>(
@@ -167,6 +180,7 @@ pub(crate) fn put_message<'a, M: Message<'a>>(
 ) -> Result<(), ProtoFault>
     requires { IsFieldNumber number }
     ensures ok { OnOk result (out.new.items ≡ out.old.items ++ spelling_of_all (message_fields M.fields_of number held.now)) }
+    ensures kept { take (length out.old.items) out.new.items ≡ out.old.items }
     ensures memory { IfErr result (λ fault. fault ≡ OutOfMemory) }
 {
     match held {

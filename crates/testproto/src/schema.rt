@@ -3,7 +3,7 @@
 //! A message takes a field by asking each of its own fields in turn, and not by a `match` on numbers: each kind is
 //! then written and proved once. At most eight comparisons a field.
 
-ghost use Rattle.std.specs.Prelude.{◌≢◌, ◌++◌, ◌∷◌, [], List, length, ◌≡◌, ◌+◌, IfErr, IfSome, OnOk};
+ghost use Rattle.std.specs.Prelude.{◌≢◌, ◌++◌, ◌∷◌, [], List, length, ◌≡◌, ◌+◌, ◌^◌, ◌≤◌, take, IfErr, IfSome, IfNone, OnOk};
 ghost use Rattle.pbwire.specs.Spelling.{spelling_of_all, IsFieldNumber};
 ghost use Rattle.pbwire.specs.Fields.{Field, field_of};
 ghost use Rattle.testproto.specs.declared.fault.ProtoFault.TheVariants.{OutOfMemory};
@@ -64,7 +64,7 @@ impl<'a> Message<'a> for Empty {
         Some(0)
     }
 
-    fn put(&self, _out: &mut Vec<u8>) -> Result<(), ProtoFault> {
+    fn put_fields(&self, _out: &mut Vec<u8>) -> Result<(), ProtoFault> {
         Ok(())
     }
 }
@@ -108,7 +108,7 @@ impl<'a> Message<'a> for Payload<'a> {
         Some(size)
     }
 
-    fn put(&self, out: &mut Vec<u8>) -> Result<(), ProtoFault> {
+    fn put_fields(&self, out: &mut Vec<u8>) -> Result<(), ProtoFault> {
         put_int32(1, self.kind, out)?;
         put_bytes(2, self.body.as_slice(), out)?;
         Ok(())
@@ -149,7 +149,7 @@ impl<'a> Message<'a> for BoolValue {
         Some(size)
     }
 
-    fn put(&self, out: &mut Vec<u8>) -> Result<(), ProtoFault> {
+    fn put_fields(&self, out: &mut Vec<u8>) -> Result<(), ProtoFault> {
         put_bool(1, self.value, out)?;
         Ok(())
     }
@@ -194,7 +194,7 @@ impl<'a> Message<'a> for EchoStatus<'a> {
         Some(size)
     }
 
-    fn put(&self, out: &mut Vec<u8>) -> Result<(), ProtoFault> {
+    fn put_fields(&self, out: &mut Vec<u8>) -> Result<(), ProtoFault> {
         put_int32(1, self.code, out)?;
         put_bytes(2, self.message.as_str().as_bytes(), out)?;
         Ok(())
@@ -258,7 +258,7 @@ impl<'a> Message<'a> for SimpleRequest<'a> {
         Some(size)
     }
 
-    fn put(&self, out: &mut Vec<u8>) -> Result<(), ProtoFault> {
+    fn put_fields(&self, out: &mut Vec<u8>) -> Result<(), ProtoFault> {
         put_int32(1, self.response_type, out)?;
         put_int32(2, self.response_size, out)?;
         put_message(3, &self.payload, out)?;
@@ -313,7 +313,7 @@ impl<'a> Message<'a> for SimpleResponse<'a> {
         Some(size)
     }
 
-    fn put(&self, out: &mut Vec<u8>) -> Result<(), ProtoFault> {
+    fn put_fields(&self, out: &mut Vec<u8>) -> Result<(), ProtoFault> {
         put_message(1, &self.payload, out)?;
         put_bytes(2, self.username.as_str().as_bytes(), out)?;
         put_bytes(3, self.oauth_scope.as_str().as_bytes(), out)?;
@@ -360,7 +360,7 @@ impl<'a> Message<'a> for StreamingInputCallRequest<'a> {
         Some(size)
     }
 
-    fn put(&self, out: &mut Vec<u8>) -> Result<(), ProtoFault> {
+    fn put_fields(&self, out: &mut Vec<u8>) -> Result<(), ProtoFault> {
         put_message(1, &self.payload, out)?;
         put_message(2, &self.expect_compressed, out)?;
         Ok(())
@@ -403,7 +403,7 @@ impl<'a> Message<'a> for StreamingInputCallResponse {
         Some(size)
     }
 
-    fn put(&self, out: &mut Vec<u8>) -> Result<(), ProtoFault> {
+    fn put_fields(&self, out: &mut Vec<u8>) -> Result<(), ProtoFault> {
         put_int32(1, self.aggregated_payload_size, out)?;
         Ok(())
     }
@@ -451,7 +451,7 @@ impl<'a> Message<'a> for ResponseParameters {
         Some(size)
     }
 
-    fn put(&self, out: &mut Vec<u8>) -> Result<(), ProtoFault> {
+    fn put_fields(&self, out: &mut Vec<u8>) -> Result<(), ProtoFault> {
         put_int32(1, self.size, out)?;
         put_int32(2, self.interval_us, out)?;
         put_message(3, &self.compressed, out)?;
@@ -504,7 +504,7 @@ impl<'a> Message<'a> for StreamingOutputCallRequest<'a> {
         Some(size)
     }
 
-    fn put(&self, out: &mut Vec<u8>) -> Result<(), ProtoFault> {
+    fn put_fields(&self, out: &mut Vec<u8>) -> Result<(), ProtoFault> {
         put_int32(1, self.response_type, out)?;
         put_parameters(2, &self.response_parameters, out)?;
         put_message(3, &self.payload, out)?;
@@ -547,7 +547,7 @@ impl<'a> Message<'a> for StreamingOutputCallResponse<'a> {
         Some(size)
     }
 
-    fn put(&self, out: &mut Vec<u8>) -> Result<(), ProtoFault> {
+    fn put_fields(&self, out: &mut Vec<u8>) -> Result<(), ProtoFault> {
         put_message(1, &self.payload, out)?;
         Ok(())
     }
@@ -576,6 +576,7 @@ fn take_parameters(
 fn add_parameters(total: usize, number: u32, held: &ParameterList) -> Option<usize>
     ensures len { IfSome result (λ size. size ≡ total + length (spelling_of_all (repeated_fields response_parameters_fields number held.now))) }
     ensures fits { IfSome result (λ size. AllByRecursion FitsResponseParameters held.now) }
+    ensures too_long { IfNone result (2 ^ 64 ≤ total + length (spelling_of_all (repeated_fields response_parameters_fields number held.now))) }
 {
     let mut size = total;
     for parameters in held.as_slice() {
@@ -587,6 +588,7 @@ fn add_parameters(total: usize, number: u32, held: &ParameterList) -> Option<usi
 fn put_parameters(number: u32, held: &ParameterList, out: &mut Vec<u8>) -> Result<(), ProtoFault>
     requires { IsFieldNumber number }
     ensures ok { OnOk result (out.new.items ≡ out.old.items ++ spelling_of_all (repeated_fields response_parameters_fields number held.now)) }
+    ensures kept { take (length out.old.items) out.new.items ≡ out.old.items }
     ensures memory { IfErr result (λ fault. fault ≡ OutOfMemory) }
 {
     for parameters in held.as_slice() {

@@ -2,7 +2,7 @@ use Rattle.std.proofs.Common.{◌≡◌, ◌++◌, rules}
 use Rattle.pbwire.specs.Spelling.{spelling_of_all}
 use Rattle.testproto.specs.Canonical.{int32_fields, message_fields, repeated_fields, payload_fields, echo_status_fields, response_parameters_fields}
 use Rattle.testproto.proofs.Writing.{chain}
-use Rattle.testproto.proofs.schema.StreamingOutputCallRequestMessage.put.Goals as goal
+use Rattle.testproto.proofs.schema.StreamingOutputCallRequestMessage.put_fields.Goals as goal
 
 pub returns-clause-ok : goal.returns-clause-ok
 returns-clause-ok c =
