@@ -2,3 +2,4 @@ pub mod Steps
 pub mod Items
 pub mod Taking
 pub mod Ahead
+pub mod Listing

@@ -6,4 +6,5 @@ pub mod Sides
 pub mod Giving
 pub mod Handlings
 pub mod Runs
+pub mod Listings
 pub mod Examples

@@ -1,6 +1,6 @@
 //! What is kept of a call beside its ends, and how its response is given.
 
-ghost use Rattle.std.specs.Prelude.{◌≡◌, ◌≢◌, ◌≤◌, ◌∷◌, ◌⊎◌, [], ℕ, List, true, false, None, Some, length, IfSome, IsSome, IfOk, Bool, Option};
+ghost use Rattle.std.specs.Prelude.{◌≡◌, ◌≢◌, ◌≤◌, ◌∷◌, ◌⊎◌, [], ℕ, List, true, false, None, Some, length, IsSomeAnd, IfOk, Bool, Option};
 ghost use Rattle.callbox.specs.InSides.{Tells, grown};
 ghost use Rattle.account.specs.declared.call.OutItem.{OutItem as Item};
 ghost use Rattle.account.specs.declared.call.Told.{Told as ToldOf};
@@ -55,8 +55,8 @@ impl Call {
     /// Ends the call where the deadline has come.
     pub(crate) fn look_at(&mut self, now: u64)
         ensures run { (before : Shown) → RunsOn self.old before self.new before }
-        ensures overdue { self.new.overdue ≡ true → (self.old.overdue ≡ true) ⊎ IfSome self.old.deadline (λ deadline. deadline ≤ now) }
-        ensures late { IsSome self.old.deadline → IfSome self.old.deadline (λ deadline. deadline ≤ now) → self.new.overdue ≡ true }
+        ensures overdue { self.new.overdue ≡ true → (self.old.overdue ≡ true) ⊎ IsSomeAnd self.old.deadline (λ deadline. deadline ≤ now) }
+        ensures late { IsSomeAnd self.old.deadline (λ deadline. deadline ≤ now) → self.new.overdue ≡ true }
         ensures stays { self.old.overdue ≡ true → self.new ≡ self.old }
         ensures same { (self.new.head ≡ self.old.head) × (self.new.deadline ≡ self.old.deadline) }
     {

@@ -1,6 +1,6 @@
 //! One call as a state machine.
 
-ghost use Rattle.std.specs.Prelude.{Bool, ◌≡◌, ◌<◌, ◌≤◌, ◌+◌, ◌++◌, ◌⊎◌, ◌↔◌, [], false, true, None, Some, length, List, ℕ, min, IfSome, IsSome, IsTrue, slice_get};
+ghost use Rattle.std.specs.Prelude.{Bool, ◌≡◌, ◌<◌, ◌≤◌, ◌+◌, ◌++◌, ◌⊎◌, ◌↔◌, [], false, true, None, Some, length, List, ℕ, min, IfSome, IsSome, IsSomeAnd, IsTrue, slice_get};
 ghost use Rattle.lane.specs.End.{of_end};
 ghost use Rattle.lpm.specs.Messages.{IsUnfinished};
 ghost use Rattle.callbox.specs.InSides.{Took};
@@ -97,9 +97,9 @@ impl<I: Lane<Item = InPiece>, O: Lane<Item = OutItem>> CallRun<I, O> {
         ensures name { name_by (λ g. O.in_name g.tx) (λ s. O.shut_name s.shut) self.new.response ≡ name_by (λ g. O.in_name g.tx) (λ s. O.shut_name s.shut) self.old.response }
         ensures same { (self.new.index ≡ self.old.index) × (self.new.call.head ≡ self.old.call.head) × (self.new.call.deadline ≡ self.old.call.deadline) }
         // The deadline counts as come only where a moment was not before it.
-        ensures overdue { self.new.call.overdue ≡ true → (self.old.call.overdue ≡ true) ⊎ IfSome self.old.call.deadline (λ deadline. deadline ≤ now) }
+        ensures overdue { self.new.call.overdue ≡ true → (self.old.call.overdue ≡ true) ⊎ IsSomeAnd self.old.call.deadline (λ deadline. deadline ≤ now) }
         // And where it was not, it does.
-        ensures late { is_open self.old.response ≡ true → IsSome self.old.call.deadline → IfSome self.old.call.deadline (λ deadline. deadline ≤ now) → self.new.call.overdue ≡ true }
+        ensures late { is_open self.old.response ≡ true → IsSomeAnd self.old.call.deadline (λ deadline. deadline ≤ now) → self.new.call.overdue ≡ true }
         ensures over { result ≡ turn.Over → is_open self.new.response ≡ false }
         // A call is left without trailers only for want of memory, or by a lane that has other faults than that it is full.
         ensures left { is_left self.new.response ≡ true → (is_left self.old.response ≡ true) ⊎ (lacks_memory self.new.call.handling.ending ≡ true) ⊎ (O.only_fills ≡ false) }

@@ -9,7 +9,7 @@
 //! statuses are our own).
 //!
 //! Read `cause` and `ending` first: with what a call ends. Then `specs/Responses.antt` and `specs/Outcomes.antt`; `waiting`,
-//! `handling` and `response`, the parts; and `call_run`, the whole.
+//! `handling` and `response`, the parts; `call_run`, the whole; and `uses::call_list`, calls one after another.
 #![tactic(auto)]
 
 mod call;
@@ -20,8 +20,10 @@ mod giving;
 mod handling;
 mod response;
 mod shutting;
+pub mod uses;
 mod waiting;
 
 pub use call::Turn;
 pub use call_run::CallRun;
 pub use cause::Cause;
+pub use uses::call_list::{Ended, Opened, Pace, run_call, run_list};

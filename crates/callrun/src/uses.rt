@@ -1,0 +1,3 @@
+//! What is written over the public calls alone, to show that they suffice.
+
+pub mod call_list;

@@ -1,0 +1,142 @@
+//! Calls that are run one after another, as a worker runs those of its list.
+//!
+//! When the turns of a call come is its worker's to say, by a [`Pace`]: one with a bell waits where there is nothing to
+//! do, and one whose connection has ended has the call left.
+
+ghost use Rattle.std.specs.Prelude.{◌≡◌, ◌≤◌, ◌<◌, ◌++◌, ◌⊎◌, ℕ, List, [], true, All, IfOk, IfSome, IsSomeAnd, length, slice_get};
+ghost use Rattle.std.specs.List.{AllZip};
+ghost use Rattle.lane.specs.End.{of_end};
+ghost use Rattle.callbox.specs.InSides.{Took};
+ghost use Rattle.handlers.specs.Listed.{listed};
+ghost use Rattle.callrun.specs.Runs.{HasCome};
+ghost use Rattle.callrun.specs.Sides.{name_by, shown};
+ghost use Rattle.callrun.specs.Listings.{IsUntouched, WasRun};
+
+use crate::call::Turn;
+use crate::call_run::CallRun;
+use account::OutItem;
+use callbox::{GivenShut, Giver, InPiece, Taker};
+use callhead::CallHead;
+use handlers::{Method, Methods};
+use lane::{End, Lane};
+use std::alloc::{AllocError, Global};
+use std::collections::VecDeque;
+
+/// When the turns of calls come.
+pub trait Pace {
+    /// The latest moment that was told.
+    ghost latest: { Self → ℕ };
+
+    /// The moment of the next turn, behind one that came to this. None: the call is to be left.
+    fn next(&mut self, last: Turn) -> Option<u64>
+        ensures stays { latest self.old ≤ latest self.new }
+        ensures told { IfSome result (λ now. now ≤ latest self.new) };
+}
+
+/// A call that was opened, and waits for its worker.
+#[derive(Drop)]
+pub struct Opened<I: Lane<Item = InPiece>, O: Lane<Item = OutItem>> {
+    /// Which of the server's methods the call names.
+    pub index: usize,
+    pub head: CallHead,
+    /// When it was opened, in nanoseconds of the server's clock.
+    pub opened: u64,
+    pub taker: Taker<I>,
+    pub giver: Giver<O>,
+}
+
+/// What is left of a call.
+#[derive(Drop)]
+pub struct Ended<I: Lane<Item = InPiece>, O: Lane<Item = OutItem>> {
+    pub taker: Taker<I>,
+    pub end: End<Giver<O>, GivenShut<O>>,
+    /// The status of the trailers that were given.
+    pub code: Option<u32>,
+}
+
+/// Gives the call turns until it is over, or its pace has it left, or it had so many.
+fn take_turns<I: Lane<Item = InPiece>, O: Lane<Item = OutItem>, P: Pace>(
+    run: &mut CallRun<I, O>,
+    methods: &Methods,
+    pace: &mut P,
+    turns: u64,
+)
+    requires index { run.old.index < length (listed methods.now) }
+    ensures run { IfSome (slice_get (listed methods.now) run.old.index) (λ method. (messages : List (List ℕ))
+        → Took (I.got run.old.taker.rx) run.old.taker.progress messages
+        → HasCome ((⟦<dyn Method as Method>⟧ method.vtable).answers method.value) ((⟦<dyn Method as Method>⟧ method.vtable).stands method.value) run.old.taker.progress.told messages run.old.call run.old.in_hand (shown (λ g. O.put_in g.tx) (λ s. O.put_shut s.shut) (λ s. O.was_placed s.shut) run.old.response)
+        → (more : List (List ℕ)) × Took (I.got run.new.taker.rx) run.new.taker.progress (messages ++ more)
+        × HasCome ((⟦<dyn Method as Method>⟧ method.vtable).answers method.value) ((⟦<dyn Method as Method>⟧ method.vtable).stands method.value) run.new.taker.progress.told (messages ++ more) run.new.call run.new.in_hand (shown (λ g. O.put_in g.tx) (λ s. O.put_shut s.shut) (λ s. O.was_placed s.shut) run.new.response)) }
+    ensures in_name { I.out_name run.new.taker.rx ≡ I.out_name run.old.taker.rx }
+    ensures name { name_by (λ g. O.in_name g.tx) (λ s. O.shut_name s.shut) run.new.response ≡ name_by (λ g. O.in_name g.tx) (λ s. O.shut_name s.shut) run.old.response }
+    ensures same { (run.new.index ≡ run.old.index) × (run.new.call.head ≡ run.old.call.head) × (run.new.call.deadline ≡ run.old.call.deadline) }
+    ensures overdue { run.new.call.overdue ≡ true → (run.old.call.overdue ≡ true) ⊎ IsSomeAnd run.old.call.deadline (λ deadline. deadline ≤ P.latest pace.new) }
+    ensures stays { P.latest pace.old ≤ P.latest pace.new }
+{
+    let mut last = Turn::Went;
+    for _ in 0..turns {
+        let Some(now) = pace.next(last) else {
+            return;
+        };
+        last = run.turn(methods, now);
+        if matches!(last, Turn::Over) {
+            return;
+        }
+    }
+}
+
+/// Runs a call until it is over, or its pace has it left, or it had so many turns. It takes no memory of its own.
+pub fn run_call<I: Lane<Item = InPiece>, O: Lane<Item = OutItem>, P: Pace>(
+    alloc: Global,
+    methods: &Methods,
+    call: Opened<I, O>,
+    pace: &mut P,
+    turns: u64,
+) -> Ended<I, O>
+    requires index { call.index < length (listed methods.now) }
+    requires untouched { IsUntouched (I.got call.taker.rx) call.taker.progress (O.put_in call.giver.tx) }
+    ensures run { IfSome (slice_get (listed methods.now) call.index) (λ method.
+        WasRun ((⟦<dyn Method as Method>⟧ method.vtable).answers method.value) call.head call.opened (P.latest pace.new)
+        (I.got result.taker.rx) result.taker.progress (of_end (λ g. O.put_in g.tx) (λ s. O.put_shut s.shut) result.end) result.code) }
+    ensures in_name { I.out_name result.taker.rx ≡ I.out_name call.taker.rx }
+    ensures name { of_end (λ g. O.in_name g.tx) (λ s. O.shut_name s.shut) result.end ≡ O.in_name call.giver.tx }
+    ensures stays { P.latest pace.old ≤ P.latest pace.new }
+{
+    let Opened {
+        index,
+        head,
+        opened,
+        taker,
+        giver,
+    } = call;
+    let mut run = CallRun::new(alloc, methods, index, head, taker, giver, opened);
+    take_turns(&mut run, methods, pace, turns);
+    run.leave(methods);
+    let (taker, end, code) = run.into_ends();
+    Ended { taker, end, code }
+}
+
+/// Runs calls, one after another, each as [`run_call`] does: what is left of each stands at its place in the list. Room
+/// for what is left is made before the first is run.
+pub fn run_list<I: Lane<Item = InPiece>, O: Lane<Item = OutItem>, P: Pace>(
+    alloc: Global,
+    methods: &Methods,
+    calls: VecDeque<Opened<I, O>>,
+    pace: &mut P,
+    turns: u64,
+) -> Result<Vec<Ended<I, O>>, AllocError>
+    requires index { All (λ call. call.index < length (listed methods.now)) calls.items }
+    requires untouched { All (λ call. IsUntouched (I.got call.taker.rx) call.taker.progress (O.put_in call.giver.tx)) calls.items }
+    ensures run { IfOk result (λ ended. AllZip (λ call end. IfSome (slice_get (listed methods.now) call.index) (λ method.
+        WasRun ((⟦<dyn Method as Method>⟧ method.vtable).answers method.value) call.head call.opened (P.latest pace.new)
+        (I.got end.taker.rx) end.taker.progress (of_end (λ g. O.put_in g.tx) (λ s. O.put_shut s.shut) end.end) end.code)) calls.items ended.items) }
+    ensures in_names { IfOk result (λ ended. AllZip (λ call end. I.out_name end.taker.rx ≡ I.out_name call.taker.rx) calls.items ended.items) }
+    ensures names { IfOk result (λ ended. AllZip (λ call end. of_end (λ g. O.in_name g.tx) (λ s. O.shut_name s.shut) end.end ≡ O.in_name call.giver.tx) calls.items ended.items) }
+{
+    let mut waiting = calls;
+    let mut ended = Vec::with_capacity(alloc, waiting.len())?;
+    while let Some(call) = waiting.pop_front() {
+        ended.push(run_call(alloc, methods, call, pace, turns))?;
+    }
+    Ok(ended)
+}
