@@ -9,7 +9,6 @@ use Rattle.outwriter.specs.RunState.{IsAnswered, IsSpent}
 use Rattle.outwriter.specs.Cores.{HaveNoFrame}
 use Rattle.callbox.specs.declared.sender.Sender.{Sender}
 use Rattle.device.specs.Bytes.{AppendsPrefix}
-use Rattle.flow.specs.Windows.{Windows}
 use Rattle.h2frame.specs.declared.error_code.ErrorCode.TheVariants.{FlowControlError}
 use Rattle.h2frame.specs.declared.frame.Frame.{Frame}
 use Rattle.outwriter.specs.declared.control.Control.{Control}
@@ -19,7 +18,7 @@ use Rattle.outwriter.specs.declared.control.OutFault.TheVariants as out_fault
 use Rattle.outwriter.specs.declared.control.OutFault.TheVariants.{PeerWindow}
 use Rattle.outwriter.specs.declared.out_core.OutCore.{OutCore}
 use Rattle.outwriter.specs.Cores.{IsUnused, Serving, ServesControl, ServesOn, ServesStill}
-use Rattle.outwriter.specs.RunState.{Blames, Reached, GoesOn, Remains, Takes}
+use Rattle.outwriter.specs.RunState.{Concerns, Reached, GoesOn, Remains, Takes}
 use Rattle.outwriter.specs.Steps.{Step, Order, Taken, Granted, Written, frames_of, order_of}
 use Rattle.outwriter.specs.declared.next.Next.{Next}
 use Rattle.connwriter.specs.declared.filled.Filled.{Filled}
@@ -179,15 +178,15 @@ module _ {L In Out Shut W : Type 0} (got : Out → List OutItem) (contents : W �
   own-order-by true last id control is = ap (λ (c : Control (Sender L In Out Shut)). order_of c) is
   own-order-by false last id control is = ap (λ (c : Control (Sender L In Out Shut)). order_of c) is
 
-  own-blameless-by : (is_zero : Bool) (last id stream : ℕ) (windows : Windows) (control : Control (Sender L In Out Shut))
-      → control ≡ (if is_zero then Goaway last FlowControlError else Reset id FlowControlError true) → Blames (PeerWindow stream) control windows → ⊥
-  own-blameless-by true last id stream windows control is h = subst (λ (c : Control (Sender L In Out Shut)). Blames (PeerWindow stream) c windows) is h
-  own-blameless-by false last id stream windows control is h = subst (λ (c : Control (Sender L In Out Shut)). Blames (PeerWindow stream) c windows) is h
+  own-blameless-by : (is_zero : Bool) (last id stream : ℕ) (control : Control (Sender L In Out Shut))
+      → control ≡ (if is_zero then Goaway last FlowControlError else Reset id FlowControlError true) → Concerns (PeerWindow stream) control → ⊥
+  own-blameless-by true last id stream control is h = subst (λ (c : Control (Sender L In Out Shut)). Concerns (PeerWindow stream) c) is h
+  own-blameless-by false last id stream control is h = subst (λ (c : Control (Sender L In Out Shut)). Concerns (PeerWindow stream) c) is h
 
   -- the peer's window doesn't overflow by an order of the writer's own
-  pub own-blameless : (last id stream : ℕ) (windows : Windows) (control : Control (Sender L In Out Shut)) → control ≡ own_control last id
-      → Blames (PeerWindow stream) control windows → ⊥
-  own-blameless last id stream windows control is = own-blameless-by (id == 0) last id stream windows control is
+  pub own-blameless : (last id stream : ℕ) (control : Control (Sender L In Out Shut)) → control ≡ own_control last id
+      → Concerns (PeerWindow stream) control → ⊥
+  own-blameless last id stream control is = own-blameless-by (id == 0) last id stream control is
 
   pub own-on : (last id : ℕ) (control : Control (Sender L In Out Shut)) (old : ConnWriter L W In Out Shut) (core : OutCore L In Out Shut) → control ≡ own_control last id
       → GoesOn (Taken (order_of control)) old.core.outbound core.outbound → (IsUnused got control → ServesOn got (Taken (order_of control)) old.core core)

@@ -1,11 +1,10 @@
 -- The orders that a writer makes by itself: the peer's window overflows (RFC 9113, sections 6.9.1 and 6.9.2).
 use Rattle.std.specs.Prelude.{◌≡◌, ◌≢◌, ℕ, ◌==◌, true, List, [], ◌∷◌, if◌then◌else◌}
-use Rattle.flow.specs.Windows.{Windows}
 use Rattle.h2frame.specs.declared.error_code.ErrorCode.TheVariants.{FlowControlError}
 use Rattle.outwriter.specs.declared.control.Control.{Control}
 use Rattle.outwriter.specs.declared.control.Control.TheVariants.{Reset, Goaway}
 use Rattle.outwriter.specs.declared.control.OutFault.TheVariants.{PeerWindow}
-use Rattle.outwriter.specs.RunState.{Blames, HasRoom}
+use Rattle.outwriter.specs.RunState.{Blames, Concerns, HasRoom}
 use Rattle.outwriter.specs.Steps.{Order, Step, Taken}
 use Rattle.connwriter.specs.declared.standing.Standing.{Standing}
 use Rattle.connwriter.specs.declared.standing.Standing.TheVariants.{Going}
@@ -27,12 +26,12 @@ module _ {S : Type 0} where
   steps_of order last (Unanswered id) = Taken order ∷ []
   steps_of order last (HandedBack control) = []
 
-  -- why: with the order a window would be over 2^31 - 1 bytes, or there is room for it
-  abbrev pub Blamed : Taking S → Control S → Windows → Type 0
-  Blamed Done control windows = HasRoom control windows
-  Blamed (Ended id) control windows = Blames (PeerWindow id) control windows
-  Blamed (Unanswered id) control windows = Blames (PeerWindow id) control windows
-  Blamed (HandedBack back) control windows = back ≡ control
+  -- why, after this run: with the order a window would be over 2^31 - 1 bytes, or there is room for it
+  abbrev pub Blamed : Taking S → Control S → List Step → Type 0
+  Blamed Done control run = HasRoom control run
+  Blamed (Ended id) control run = Concerns (PeerWindow id) control × Blames (PeerWindow id) control run
+  Blamed (Unanswered id) control run = Concerns (PeerWindow id) control × Blames (PeerWindow id) control run
+  Blamed (HandedBack back) control run = back ≡ control
 
   -- a writer whose own order found no memory goes on no more
   abbrev pub Stops : Taking S → Standing → Standing → Type 0

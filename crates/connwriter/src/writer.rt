@@ -115,7 +115,7 @@ impl<L: Lane<Item = OutItem>, W: ConnWrite> ConnWriter<L, W> {
         ensures wrote { IsUnused L.got control → WritesOn L.got W.contents W.failed (steps_of (order_of control) last result) self.old self.new }
 
         // The writer ends a stream or the connection exactly where a window would be over 2^31 - 1 bytes.
-        ensures blamed { Blamed result control self.old.core.outbound.windows }
+        ensures blamed { (before : Option (List ℕ)) (run : List Step) → Wrote L.got W.contents W.failed before run self.old → Blamed result control run }
         ensures stands { Stops result self.old.standing self.new.standing }
         ensures rest { self.new ≡ record self.old { core = self.new.core; standing = self.new.standing } }
     {

@@ -9,10 +9,10 @@ use Rattle.std.proofs.lemmas.List.Elements.{All-nil, All-push, All-weaker, All-c
 use Rattle.std.proofs.lemmas.List.Sums.{sum_by-cons}
 use Rattle.indexmap.proofs.ReorderLemmas.{map-reverse}
 use Rattle.flow.specs.Windows.{Windows, Fits, FitsAt}
-use Rattle.flow.specs.WindowHistory.{Step, Resizing, credit_to, spending, since_opening, balance_of, Follows}
+use Rattle.flow.specs.WindowHistory.{Step, Resizing, credit_to, spending, since_opening, balance_of, Follows, CanResize}
 use Rattle.h2frame.specs.declared.settings.PeerSetting.{PeerSetting}
 use Rattle.h2frame.specs.declared.settings.PeerSetting.TheVariants.{TableSize, WindowSize}
-use Rattle.outwriter.specs.Histories.{window_size, window_sizes, CanResize}
+use Rattle.outwriter.specs.Histories.{window_size, window_sizes}
 use Rattle.outwriter.specs.Resizes.{IsSeen}
 
 -- ---- the sizes that were read

@@ -1,19 +1,19 @@
 -- What controls do to the windows of a run.
-use Rattle.std.proofs.Common.{◌≡◌, ℕ, zero, suc, ◌+◌, ◌<◌, ◌≤◌, inl, inr, Bool, true, false, ℤ, pos, ◌+ℤ◌, refl, sym, ap, subst, ◌∙◌, List, [], ◌∷◌, ◌++◌, Option, Some, None, Result, Ok, Err, arith, nat_eq, OnOk, OnErr}
-use Rattle.std.specs.Prelude.{not, if◌then◌else◌, ◌<ℤ◌, MatchOption, All, map, reverse}
+use Rattle.std.proofs.Common.{◌≡◌, ℕ, ◌<◌, inl, inr, Bool, true, false, ℤ, pos, ◌+ℤ◌, refl, sym, ap, subst, ◌∙◌, List, [], ◌∷◌, ◌++◌, Option, Some, None, Result, Ok, Err, arith, nat_eq, OnOk, OnErr, true≢false}
+use Rattle.std.specs.Prelude.{not, is_some, if◌then◌else◌, ◌<ℤ◌, MatchOption, All, map, reverse}
 use Rattle.std.specs.Map.{lookup, remove_entry}
 use Rattle.std.specs.Option.{option_map}
 use Rattle.std.proofs.lemmas.Bool.{eq-eqb}
-use Rattle.std.proofs.lemmas.Int.{ints}
 use Rattle.flow.specs.declared.send_windows.WindowFault.{WindowFault}
 use Rattle.flow.specs.declared.send_windows.WindowFault.TheVariants.{Overflow, NoRoom, Unknown, OutOfMemory}
 use Rattle.flow.specs.declared.TheConstants.{MAX_WINDOW}
-use Rattle.flow.specs.WindowHistory.{Opening, Credit, Resizing, connection_window, stream_window, since_opening, balance_of, initial_size, Follows}
+use Rattle.flow.specs.WindowHistory.{Opening, Credit, Resizing, Closing, stream_window, since_opening, balance_of, initial_size, CanCredit, CanResize, Follows}
 use Rattle.flow.specs.WindowHistory.{Step as WindowStep}
-use Rattle.flow.specs.Windows.{Windows, Fits, window, balance, opened, closed, CreditFault, Meets}
-use Rattle.outwriter.specs.declared.control.Control.TheVariants.{Window, Settings, Open}
+use Rattle.flow.specs.Windows.{Windows, window, balance, opened, closed, CreditFault, Meets}
+use Rattle.outwriter.specs.declared.control.Control.TheVariants.{Window, Settings, Open, Reset}
+use Rattle.h2frame.specs.declared.error_code.ErrorCode.{ErrorCode}
 use Rattle.h2frame.specs.declared.settings.PeerSetting.{PeerSetting}
-use Rattle.outwriter.specs.Histories.{CanCredit, CanResize, Takes, opens, window_sizes}
+use Rattle.outwriter.specs.Histories.{HasWindow, Overflows, Takes, opens, window_sizes}
 use Rattle.outwriter.specs.RunState.{HasWindows}
 use Rattle.outwriter.specs.Steps.{Step, Order, Taken}
 
@@ -29,62 +29,50 @@ window-follows h w id f there = moved id w.initial (initial_size h) (balance w i
 
 -- ---- credit
 
-fits-unless : (size : ℤ) (n : ℕ) → ¬ (pos MAX_WINDOW <ℤ (size +ℤ pos n)) → Fits (size +ℤ pos n)
-fits-unless size n not_over = grind (arith, ints)
+shut : (since : Option (List WindowStep)) (size : List WindowStep → ℤ) → option_map size since ≡ None → is_some since ≡ true → ⊥
+shut None size e is_open = true≢false (sym is_open)
+shut (Some steps) size e is_open = cc
 
-connection-fits : (kept n : ℕ) (z : ℤ) → pos kept ≡ z → ¬ (MAX_WINDOW < kept + n) → Fits (z +ℤ pos n)
-connection-fits kept n z e not_over = let le : kept + n ≤ MAX_WINDOW = omega (arith, not_over) in omega (arith, ints, e, le)
-
-stream-fits : (o : Option ℤ) (n : ℕ) → ¬ (o ≡ None) → ¬ MatchOption o ⊥ (λ size. pos MAX_WINDOW <ℤ (size +ℤ pos n)) → MatchOption o ⊥ (λ size. Fits (size +ℤ pos n))
-stream-fits None n some not_over = some refl
-stream-fits (Some size) n some not_over = fits-unless size n not_over
-
--- credit that is taken has room
-pub can-credit : (h : List WindowStep) (w : Windows) (id n : ℕ) → Follows h w → ((fault : WindowFault) → ¬ CreditFault w id n fault) → CanCredit h id n
-can-credit h w zero n f none = inl (refl, connection-fits w.connection n (connection_window h) f.connection (λ over. none Overflow (inl (refl, over))))
-can-credit h w (suc k) n f none =
-    let there : 0 < suc k = omega arith in
-    inr (
-      there,
-      subst (λ o. MatchOption o ⊥ (λ size. Fits (size +ℤ pos n))) (window-follows h w (suc k) f there)
-          (stream-fits (window w (suc k)) n (λ e. none Unknown (there, e)) (λ over. none Overflow (inr (there, over)))),
-    )
-
-no-connection : (kept n : ℕ) (z : ℤ) → pos kept ≡ z → MAX_WINDOW < kept + n → Fits (z +ℤ pos n) → ⊥
-no-connection kept n z e over fits = grind (arith, ints)
-
-no-stream : (o : Option ℤ) (n : ℕ) → MatchOption o ⊥ (λ size. pos MAX_WINDOW <ℤ (size +ℤ pos n)) → MatchOption o ⊥ (λ size. Fits (size +ℤ pos n)) → ⊥
-no-stream None n over fits = over
-no-stream (Some size) n over fits = grind (arith, ints)
-
--- credit that is refused has none, where its stream is open
-pub cannot-credit : (h : List WindowStep) (w : Windows) (id n : ℕ) → Follows h w → CreditFault w id n Overflow → ¬ CanCredit h id n
-cannot-credit h w id n f (inl (e, over)) (inl (e', fits)) = no-connection w.connection n (connection_window h) f.connection over fits
-cannot-credit h w id n f (inl (e, over)) (inr (there, fits)) = omega (arith, e, there)
-cannot-credit h w id n f (inr (there, over)) (inl (e, fits)) = omega (arith, e, there)
-cannot-credit h w id n f (inr (there, over)) (inr (there', fits)) =
-    no-stream (window w id) n over (subst (λ o. MatchOption o ⊥ (λ size. Fits (size +ℤ pos n))) (sym (window-follows h w id f there)) fits)
-
-nowhere : (o : Option ℤ) (n : ℕ) → o ≡ None → MatchOption o ⊥ (λ size. Fits (size +ℤ pos n)) → ⊥
-nowhere None n e fits = fits
-nowhere (Some size) n e fits = cc
-
-unknown : (h : List WindowStep) (w : Windows) (id n : ℕ) → Follows h w → CreditFault w id n Unknown → ¬ CanCredit h id n
-unknown h w id n f (there, e) (inl (is_0, fits)) = omega (arith, there, is_0)
-unknown h w id n f (there, e) (inr (also, fits)) = nowhere (stream_window id h) n (sym (window-follows h w id f there) ∙ e) fits
+open-by : (since : Option (List WindowStep)) (size : List WindowStep → ℤ) (P : ℤ → Type 0) → MatchOption (option_map size since) ⊥ P → is_some since ≡ true
+open-by None size P h = absurd h
+open-by (Some steps) size P h = refl
 
 -- what a control of credit does to the windows: it is credited, or refused and changes nothing
-pub window-taken : (run : List Step) (id n : ℕ) (old new : Windows) (r : Result (Unit {0}) WindowFault) → Meets (CreditFault old id n) r
+pub window-taken : (run : List Step) (id n : ℕ) (old new : Windows) (r : Result (Unit {0}) WindowFault)
+    → OnOk r ((history : List WindowStep) → Follows history old → CanCredit history id n)
+    → OnErr r ((history : List WindowStep) → Follows history old → ¬ CanCredit history id n)
     → OnErr r (new ≡ old) → OnOk r ((history : List WindowStep) → Follows history old → Follows (Credit id n ∷ history) new)
     → HasWindows run old → HasWindows (Taken (Window id n) ∷ run) new
-window-taken run id n old new (Ok done) meets same follows (h, has, f) =
-    (Credit id n ∷ h, (h, has, inl (can-credit h old id n f meets, refl)), follows h f)
-window-taken run id n old new (Err Overflow) meets same follows (h, has, f) =
-    (h, (h, has, inr (cannot-credit h old id n f meets, refl)), subst (Follows h) (sym same) f)
-window-taken run id n old new (Err Unknown) meets same follows (h, has, f) =
-    (h, (h, has, inr (unknown h old id n f meets, refl)), subst (Follows h) (sym same) f)
-window-taken run id n old new (Err NoRoom) meets same follows has = absurd meets
-window-taken run id n old new (Err OutOfMemory) meets same follows has = absurd meets
+window-taken run id n old new (Ok done) can cannot same follows (h, has, f) = (Credit id n ∷ h, (h, has, inl (can h f, refl)), follows h f)
+window-taken run id n old new (Err fault) can cannot same follows (h, has, f) = (h, (h, has, inr (cannot h f, refl)), subst (Follows h) (sym same) f)
+
+-- credit that overflows no window has room, where there is a window
+pub fits-unless-over : (w : Windows) (id n : ℕ) (r : Result (Unit {0}) WindowFault) → Meets (CreditFault w id n) r
+    → OnOk r ((history : List WindowStep) → Follows history w → CanCredit history id n) → (r ≡ Err Overflow → ⊥)
+    → (history : List WindowStep) → Follows history w → HasWindow history id → CanCredit history id n
+fits-unless-over w id n (Ok done) meets can isnt h f there = can h f
+fits-unless-over w id n (Err Overflow) meets can isnt h f there = absurd (isnt refl)
+fits-unless-over w id n (Err Unknown) meets can isnt h f (inl e) = let no : ⊥ = omega (arith, e, meets.0) in absurd no
+fits-unless-over w id n (Err Unknown) meets can isnt h f (inr is_open) =
+    absurd (shut (since_opening id h) (λ steps. pos (initial_size h) +ℤ balance_of id steps) (sym (window-follows h w id f meets.0) ∙ meets.1) is_open)
+fits-unless-over w id n (Err NoRoom) meets can isnt h f there = absurd meets
+fits-unless-over w id n (Err OutOfMemory) meets can isnt h f there = absurd meets
+
+has-window : (h : List WindowStep) (w : Windows) (id n : ℕ) → Follows h w → CreditFault w id n Overflow → HasWindow h id
+has-window h w id n f (inl (e, over)) = inl e
+has-window h w id n f (inr (there, over)) =
+    inr (open-by (since_opening id h) (λ steps. pos (initial_size h) +ℤ balance_of id steps) (λ size. pos MAX_WINDOW <ℤ (size +ℤ pos n))
+    (subst (λ o. MatchOption o ⊥ (λ size. pos MAX_WINDOW <ℤ (size +ℤ pos n))) (window-follows h w id f there) over))
+
+-- and credit that overflows one has none
+pub over-stands : (w : Windows) (id n : ℕ) (r : Result (Unit {0}) WindowFault) → Meets (CreditFault w id n) r
+    → OnErr r ((history : List WindowStep) → Follows history w → ¬ CanCredit history id n) → r ≡ Err Overflow
+    → (history : List WindowStep) → Follows history w → Overflows history id n
+over-stands w id n (Ok done) meets cannot is = cc
+over-stands w id n (Err Overflow) meets cannot is = λ h f. (has-window h w id n f meets, cannot h f)
+over-stands w id n (Err Unknown) meets cannot is = cc
+over-stands w id n (Err NoRoom) meets cannot is = absurd meets
+over-stands w id n (Err OutOfMemory) meets cannot is = absurd meets
 
 -- what SETTINGS do to the windows: all their initial sizes are set, or none
 pub settings-taken : (run : List Step) (settings : List PeerSetting) (old new : Windows) (r : Result (Unit {0}) WindowFault)
@@ -99,6 +87,12 @@ settings-taken run settings old new (Err fault) ok err same (h, has, f) = (h, (h
 pub nothing-taken : (run : List Step) (order : Order) (w : Windows) → ((history : List WindowStep) → Takes run history order history)
     → HasWindows run w → HasWindows (Taken order ∷ run) w
 nothing-taken run order w stays (h, has, f) = (h, (h, has, stays h), f)
+
+-- a Reset, which closes the window of its stream
+pub reset-taken : (run : List Step) (id : ℕ) (code : ErrorCode) (written : Bool) (w windows : Windows)
+    → ((history : List WindowStep) → Follows history w → Follows (Closing id ∷ history) windows)
+    → HasWindows run w → HasWindows (Taken (Reset id code written) ∷ run) windows
+reset-taken run id code written w windows follows (h, has, f) = (Closing id ∷ h, (h, has, refl), follows h f)
 
 -- an Open, whether or not it opens the window of its stream
 pub open-taken : (run : List Step) (id : ℕ) (w windows : Windows) (opening : Bool)
@@ -123,26 +117,6 @@ pub closed-again : (w : Windows) (id : ℕ) → balance w id ≡ None → closed
 closed-again w id none =
     ap (λ (es : List (ℕ × ℤ)). let all : Windows = record { connection = w.connection; initial = w.initial; balances = es } in all)
     (remove-pushed (nat_eq id) w.balances (id, pos 0) none (eq-eqb id id refl))
-
-no-window : (o : Option ℤ) (n : ℕ) → o ≡ None → MatchOption o ⊥ (λ size. pos MAX_WINDOW <ℤ (size +ℤ pos n)) → ⊥
-no-window None n e over = over
-no-window (Some size) n e over = cc
-
--- credit that isn't over the greatest window has room, or no stream
-pub fits-unless-over : (w : Windows) (id n : ℕ) (r : Result (Unit {0}) WindowFault) → Meets (CreditFault w id n) r → (r ≡ Err Overflow → ⊥) → ¬ CreditFault w id n Overflow
-fits-unless-over w id n (Ok done) meets isnt over = meets Overflow over
-fits-unless-over w id n (Err Overflow) meets isnt over = isnt refl
-fits-unless-over w id n (Err Unknown) meets isnt (inl (e, over)) = omega (arith, e, meets.0)
-fits-unless-over w id n (Err Unknown) meets isnt (inr (there, over)) = no-window (window w id) n meets.1 over
-fits-unless-over w id n (Err NoRoom) meets isnt over = meets
-fits-unless-over w id n (Err OutOfMemory) meets isnt over = meets
-
-pub over-stands : (w : Windows) (id n : ℕ) (r : Result (Unit {0}) WindowFault) → Meets (CreditFault w id n) r → r ≡ Err Overflow → CreditFault w id n Overflow
-over-stands w id n (Ok done) meets is = cc
-over-stands w id n (Err Overflow) meets is = meets
-over-stands w id n (Err Unknown) meets is = cc
-over-stands w id n (Err NoRoom) meets is = absurd meets
-over-stands w id n (Err OutOfMemory) meets is = absurd meets
 
 pub not-true : (b : Bool) → not b ≡ true → b ≡ false
 not-true true e = cc

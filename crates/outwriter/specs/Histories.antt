@@ -1,10 +1,9 @@
 -- The windows of a run (RFC 9113, section 6.9): what each step does to them.
-use Rattle.std.specs.Prelude.{◌&&◌, not, nat_lt, nat_le, is_some, ◌||◌, ◌≡◌, ℕ, ◌<◌, ◌≤◌, ◌⊎◌, pos, ◌+ℤ◌, Bool, All, IfSome, MatchOption, List, [], ◌∷◌, ◌++◌, reverse, map, flat_map, if◌then◌else◌}
+use Rattle.std.specs.Prelude.{◌&&◌, not, nat_lt, nat_le, is_some, ◌||◌, ◌≡◌, ℕ, ◌⊎◌, Bool, true, All, List, [], ◌∷◌, ◌++◌, reverse, map, flat_map, if◌then◌else◌}
 use Rattle.std.specs.List.{list_any}
 use Rattle.flow.specs.declared.TheConstants.{MAX_WINDOW}
-use Rattle.flow.specs.WindowHistory.{Opening, Credit, Spending, Resizing, Closing, connection_window, stream_window, since_opening, balance_of}
+use Rattle.flow.specs.WindowHistory.{Opening, Credit, Spending, Resizing, Closing, since_opening, CanCredit, CanResize}
 use Rattle.flow.specs.WindowHistory.{Step as WindowStep}
-use Rattle.flow.specs.Windows.{Fits}
 use Rattle.h2frame.specs.declared.frame.Frame.{Frame}
 use Rattle.outwriter.specs.declared.control.Control.TheVariants.{Settings, Ping, Window, Open, Refuse, Reset, Goaway, InputEnded, Close}
 use Rattle.h2frame.specs.declared.settings.PeerSetting.{PeerSetting}
@@ -20,19 +19,13 @@ window_size (TableSize size) = []
 abbrev pub window_sizes : List PeerSetting → List ℕ
 window_sizes settings = flat_map window_size settings
 
--- no window is over 2^31 - 1 with n bytes more on a stream, or on the connection as stream 0
-abbrev pub CanCredit : List WindowStep → ℕ → ℕ → Type 0
-CanCredit history id n =
-    ((id ≡ 0) × Fits (connection_window history +ℤ pos n)) ⊎ ((0 < id) × MatchOption (stream_window id history) ⊥ (λ size. Fits (size +ℤ pos n)))
+-- there is a window: that of the connection as stream 0, or of a stream that is open
+abbrev pub HasWindow : List WindowStep → ℕ → Type 0
+HasWindow history id = (id ≡ 0) ⊎ (is_some (since_opening id history) ≡ true)
 
--- a window is, the connection's or that of an open stream
+-- it would be over 2^31 - 1 with n bytes more
 abbrev pub Overflows : List WindowStep → ℕ → ℕ → Type 0
-Overflows history id n =
-    ((id ≡ 0) × (¬ Fits (connection_window history +ℤ pos n))) ⊎ ((0 < id) × MatchOption (stream_window id history) ⊥ (λ size. ¬ Fits (size +ℤ pos n)))
-
--- no window is over 2^31 - 1 with this initial size
-abbrev pub CanResize : List WindowStep → ℕ → Type 0
-CanResize history n = (n ≤ MAX_WINDOW) × ((id : ℕ) → 0 < id → IfSome (since_opening id history) (λ steps. Fits (pos n +ℤ balance_of id steps)))
+Overflows history id n = HasWindow history id × (¬ CanCredit history id n)
 
 -- whether an RST_STREAM or an END_STREAM was written on a stream
 abbrev pub is_over : ℕ → List Step → Bool
@@ -47,7 +40,7 @@ abbrev pub opens : List Step → List WindowStep → ℕ → Bool
 opens run history id = (is_stream id && not (is_over id run)) && not (is_some (since_opening id history))
 
 -- From one history a control that is taken after a run leads to the next. One that would take a window over 2^31 - 1
--- changes none; nor does credit of a stream that isn't open.
+-- changes none; nor does credit of a stream that isn't open. A Reset closes its stream's window, whether or not it is to be written.
 abbrev pub Takes : List Step → List WindowStep → Order → List WindowStep → Type 0
 Takes run history (Settings settings) next =
     (All (CanResize history) (window_sizes settings) × (next ≡ reverse (map Resizing (window_sizes settings)) ++ history))
@@ -57,7 +50,7 @@ Takes run history (Window id n) next =
 Takes run history (Open id sender) next = next ≡ (if opens run history id then Opening id ∷ history else history)
 Takes run history (Ping bytes) next = next ≡ history
 Takes run history (Refuse id fields) next = next ≡ history
-Takes run history (Reset id code written) next = next ≡ history
+Takes run history (Reset id code written) next = next ≡ Closing id ∷ history
 Takes run history (Goaway last code) next = next ≡ history
 Takes run history InputEnded next = next ≡ history
 Takes run history Close next = next ≡ history

@@ -2,10 +2,9 @@
 use Rattle.std.specs.Prelude.{◌≡◌, ◌≢◌, ◌⊎◌, ◌&&◌, All, ℕ, ◌+◌, ◌≤◌, ◌==◌, Bool, true, false, List, [], ◌∷◌, ◌++◌, flat_map, Option, None, Some, IfSome, MatchOption, Result, Ok, Err, is_some, nat_eq, nat_lt, if◌then◌else◌}
 use Rattle.std.specs.List.{list_any}
 use Rattle.std.specs.Map.{lookup}
-use Rattle.flow.specs.WindowHistory.{Follows, Closing, Spending}
+use Rattle.flow.specs.WindowHistory.{Follows, Closing, Spending, CanCredit, CanResize}
 use Rattle.flow.specs.WindowHistory.{Step as WindowStep}
-use Rattle.flow.specs.declared.send_windows.WindowFault.TheVariants.{Overflow}
-use Rattle.flow.specs.Windows.{Windows, CreditFault}
+use Rattle.flow.specs.Windows.{Windows}
 use Rattle.h2frame.specs.declared.error_code.ErrorCode.{ErrorCode}
 use Rattle.h2frame.specs.declared.frame.Frame.{Frame}
 use Rattle.outwriter.specs.declared.blocks.HeaderBlock.{HeaderBlock}
@@ -21,7 +20,7 @@ use Rattle.outwriter.specs.declared.due.Due.TheVariants as due_kind
 use Rattle.outwriter.specs.declared.outbound.Outbound.{Outbound}
 use Rattle.outwriter.specs.Credits.{Owed, owed_on, pays}
 use Rattle.outwriter.specs.Frames.{is_last, resets, settings_ack, ping_ack, goaway_frame}
-use Rattle.outwriter.specs.Histories.{HasHistory, CanResize, Overflows, window_sizes, is_over}
+use Rattle.outwriter.specs.Histories.{HasHistory, HasWindow, Overflows, window_sizes, is_over}
 use Rattle.outwriter.specs.Runs.{IsLawful, has_begun, IsAsked, due, told, unfinished, granted, updated, MayWrite}
 use Rattle.outwriter.specs.Steps.{Step, Taken, Written, frames_of, order_of}
 
@@ -210,34 +209,30 @@ is_held None room_now = false
 is_held (Some stream) room_now = is_some stream.in_hand && (room_now == 0)
 
 module _ {S : Type 0} where
-  -- why a control is a fault of the peer: with it a window would be over 2^31 - 1 bytes
-  abbrev pub Blames : OutFault S → Control S → Windows → Type 0
-  Blames (OutOfMemory back) taken w = Unit {0}
-  Blames (PeerWindow id) (control.Window stream n) w = (id ≡ stream) × CreditFault w stream n Overflow
-  Blames (PeerWindow id) (control.Settings settings) w =
-      (id ≡ 0) × ((history : List WindowStep) → Follows history w → ¬ All (CanResize history) (window_sizes settings))
-  Blames (PeerWindow id) _ w = ⊥
+  -- a fault of the peer comes by its credit, on that stream, or at 0 by its SETTINGS
+  abbrev pub Concerns : OutFault S → Control S → Type 0
+  Concerns (OutOfMemory back) taken = Unit {0}
+  Concerns (PeerWindow id) (control.Window stream n) = id ≡ stream
+  Concerns (PeerWindow id) (control.Settings settings) = id ≡ 0
+  Concerns (PeerWindow id) _ = ⊥
+
+  -- with the control a window would be over 2^31 - 1 bytes
+  abbrev pub IsTooMuch : Control S → List WindowStep → Type 0
+  IsTooMuch (control.Window stream n) history = Overflows history stream n
+  IsTooMuch (control.Settings settings) history = ¬ All (CanResize history) (window_sizes settings)
+  IsTooMuch _ history = ⊥
+
+  -- why a control is a fault of the peer, by what the run did to the windows
+  abbrev pub Blames : OutFault S → Control S → List Step → Type 0
+  Blames (OutOfMemory back) taken run = Unit {0}
+  Blames (PeerWindow id) taken run = (history : List WindowStep) × HasHistory run history × IsTooMuch taken history
 
   -- and why it is none
-  abbrev pub HasRoom : Control S → Windows → Type 0
-  HasRoom (control.Window stream n) w = ¬ CreditFault w stream n Overflow
-  HasRoom (control.Settings settings) w = (history : List WindowStep) → Follows history w → All (CanResize history) (window_sizes settings)
-  HasRoom _ w = Unit {0}
-
-  -- the same over what a run did to the windows
-  abbrev pub BlamesAt : ℕ → Control S → List WindowStep → Type 0
-  BlamesAt id (control.Window stream n) history = (id ≡ stream) × Overflows history stream n
-  BlamesAt id (control.Settings settings) history = (id ≡ 0) × (¬ All (CanResize history) (window_sizes settings))
-  BlamesAt id _ history = ⊥
-
-  abbrev pub BlamesIn : OutFault S → Control S → List Step → Type 0
-  BlamesIn (OutOfMemory back) taken run = Unit {0}
-  BlamesIn (PeerWindow id) taken run = (history : List WindowStep) × HasHistory run history × BlamesAt id taken history
-
-  abbrev pub HasRoomIn : Control S → List Step → Type 0
-  HasRoomIn (control.Window stream n) run = (history : List WindowStep) × HasHistory run history × (¬ Overflows history stream n)
-  HasRoomIn (control.Settings settings) run = (history : List WindowStep) × HasHistory run history × All (CanResize history) (window_sizes settings)
-  HasRoomIn _ run = Unit {0}
+  abbrev pub HasRoom : Control S → List Step → Type 0
+  HasRoom (control.Window stream n) run =
+      (history : List WindowStep) × HasHistory run history × (HasWindow history stream → CanCredit history stream n)
+  HasRoom (control.Settings settings) run = (history : List WindowStep) × HasHistory run history × All (CanResize history) (window_sizes settings)
+  HasRoom _ run = Unit {0}
 
   -- out of memory, and no fault of the peer
   abbrev pub IsMemory : OutFault S → Type 0

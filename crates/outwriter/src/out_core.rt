@@ -12,7 +12,7 @@ ghost use Rattle.std.specs.VecDeque.{deque_len, deque_capacity};
 ghost use Rattle.std.specs.Prelude.{vec_len, vec_capacity};
 ghost use Rattle.outwriter.specs.Cores.{calls, Serving, ServesOn, ServesControl, Brings};
 ghost use Rattle.outwriter.specs.declared.control.OutFault.TheVariants as out_fault;
-ghost use Rattle.outwriter.specs.RunState.{Reached, GoesOn, Takes, Leads, Stays, Blames, HasRoom, IsMemory, is_held};
+ghost use Rattle.outwriter.specs.RunState.{Reached, GoesOn, Takes, Leads, Stays, Blames, Concerns, HasRoom, IsMemory, is_held};
 ghost use Rattle.std.specs.Map.{lookup};
 ghost use Rattle.flow.specs.Windows.{room};
 ghost use Rattle.outwriter.specs.Calls.{TellFronts, TellOthers};
@@ -91,8 +91,11 @@ impl<L: Lane<Item = OutItem>> OutCore<L> {
         ensures brings { Brings result control self.old.senders.items self.new.senders.items }
 
         // A fault of the peer is answered exactly where it stands.
-        ensures fault { IfErr result (λ fault. Blames fault control self.old.outbound.windows) }
-        ensures room { OnOk result (HasRoom control self.old.outbound.windows) }
+        ensures fault { IfErr result (λ fault. (run : List Step) → Reached run self.old.outbound → Blames fault control run) }
+        ensures room { OnOk result ((run : List Step) → Reached run self.old.outbound → HasRoom control run) }
+
+        // It is that of the stream to which the peer gave credit, or of the connection where its SETTINGS are.
+        ensures whose { IfErr result (λ fault. Concerns fault control) }
         ensures alive { self.new.is_dead ≡ self.old.is_dead }
         ensures dead { self.old.is_dead ≡ true → result ≡ Err (out_fault.OutOfMemory (Some control)) }
     {

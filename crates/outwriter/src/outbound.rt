@@ -5,9 +5,9 @@
 //! leads to the state behind it.
 
 ghost use Rattle.std.specs.Prelude.{Err, ◌==◌, ◌∷◌, if◌then◌else◌, ◌≢◌, ◌≡◌, ◌≤◌, ◌<◌, ◌^◌, ◌&&◌, ◌||◌, true, false, nat_lt, nat_le, ℕ, All, List, [], None, OnOk, OnErr, IfErr, length};
-ghost use Rattle.flow.specs.WindowHistory.{Follows};
+ghost use Rattle.flow.specs.WindowHistory.{Follows, CanCredit, CanResize};
 ghost use Rattle.flow.specs.WindowHistory.{Step as WindowStep};
-ghost use Rattle.flow.specs.Windows.{balance, CreditFault};
+ghost use Rattle.flow.specs.Windows.{balance};
 ghost use Rattle.outwriter.specs.Credits.{Grants, knows, owed_on, nothing_owed};
 ghost use Rattle.outwriter.specs.RunState.{HasOver, HasSilence};
 ghost use Rattle.outwriter.specs.ToldByNow.{KeepsTable, SpellsOf};
@@ -46,7 +46,7 @@ pub(crate) struct Outbound {
 impl Outbound {
     ghost use Rattle.std.specs.VecDeque.{deque_len, deque_capacity};
     ghost use Rattle.outwriter.specs.Steps.{Step, Taken, Granted};
-    ghost use Rattle.outwriter.specs.Histories.{opens, CanResize, window_sizes};
+    ghost use Rattle.outwriter.specs.Histories.{opens, HasWindow, Overflows, window_sizes};
     ghost use Rattle.outwriter.specs.RunState.{MirrorsOf, Leads, Stays};
     ghost use Rattle.outwriter.specs.CallState.{Takes, none_is_new};
     ghost use Rattle.outwriter.specs.declared.control.Control.TheVariants as order;
@@ -111,8 +111,8 @@ impl Outbound {
     pub(crate) fn take_window(&mut self, id: StreamId, increment: u32) -> bool
         ensures taken { Leads (Taken (order.Window id increment)) self.old self.new }
         ensures takes { Takes [] none_is_new self.old self.new }
-        ensures fits { result ≡ true → ¬ CreditFault self.old.windows id increment window_fault.Overflow }
-        ensures over { result ≡ false → CreditFault self.old.windows id increment window_fault.Overflow }
+        ensures fits { result ≡ true → (history : List WindowStep) → Follows history self.old.windows → HasWindow history id → CanCredit history id increment }
+        ensures over { result ≡ false → (history : List WindowStep) → Follows history self.old.windows → Overflows history id increment }
     {
         let credited = self.windows.credit(id, increment);
         !is_overflow(credited)
@@ -167,7 +167,8 @@ impl Outbound {
         self.due.push_back_reserved(Due::Refuse(id, fields));
     }
 
-    /// Owes RST_STREAM, where a Reset is to be written and its stream had neither ended nor been reset.
+    /// Closes a stream's window, and owes RST_STREAM, where the Reset is to be written and its stream had neither ended nor been
+    /// reset.
     pub(crate) fn take_reset(
         &mut self,
         id: StreamId,
@@ -179,6 +180,7 @@ impl Outbound {
         ensures taken { Leads (Taken (order.Reset id code written)) self.old self.new }
         ensures takes { Takes (if written && was_open then due_kind.Reset id code ∷ [] else []) none_is_new self.old self.new }
     {
+        self.windows.close(id);
         if written && was_open {
             self.due.push_back_reserved(Due::Reset(id, code));
         }

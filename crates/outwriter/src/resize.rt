@@ -1,8 +1,8 @@
 //! The initial windows of SETTINGS (RFC 9113, section 6.9.2).
 
 ghost use Rattle.std.specs.Prelude.{◌≡◌, ◌++◌, List, reverse, map, All, OnOk, OnErr};
-ghost use Rattle.flow.specs.WindowHistory.{Step, Resizing, Follows};
-ghost use Rattle.outwriter.specs.Histories.{window_sizes, CanResize};
+ghost use Rattle.flow.specs.WindowHistory.{Step, Resizing, Follows, CanResize};
+ghost use Rattle.outwriter.specs.Histories.{window_sizes};
 ghost use Rattle.outwriter.specs.Resizes.{IsSeen};
 
 use flow::{SendWindows, WindowFault};

@@ -1,7 +1,8 @@
 use Rattle.std.proofs.Common.{◌≤◌, sym, ap, subst, ◌∙◌, Some}
 use Rattle.std.proofs.lemmas.List.Elements.{All-weaker}
 use Rattle.flow.specs.Windows.{Windows, FitsAt}
-use Rattle.outwriter.specs.Histories.{window_sizes, CanResize}
+use Rattle.flow.specs.WindowHistory.{CanResize}
+use Rattle.outwriter.specs.Histories.{window_sizes}
 use Rattle.outwriter.specs.Resizes.{IsSeen}
 use Rattle.outwriter.proofs.ResizeLemmas.{last-below, FitsAt-smaller, CanResize-smaller, all_resized}
 use Rattle.outwriter.proofs.resize.resize.Goals as goal

@@ -4,18 +4,27 @@ use Rattle.outwriter.specs.declared.control.Control.TheVariants as order
 use Rattle.outwriter.specs.declared.due.Due.TheVariants as due_kind
 use Rattle.outwriter.proofs.CallStepsControl.{none-plain, ok-from, one-plain, serving-answered, serving-plain, serving-room}
 use Rattle.outwriter.proofs.CallStepsOrders.{takes-nothing}
-use Rattle.outwriter.proofs.Faults.{no-blame}
+use Rattle.outwriter.proofs.Faults.{no-blame, no-concern, blamed, credit-fits, settings-fit}
 use Rattle.outwriter.proofs.RunStateSteps.{quiet-led}
 use Rattle.outwriter.proofs.out_core.OutCore.control.Goals as goal
 
 pub returns-in-Open-clause-fault : goal.returns-in-Open-clause-fault
-returns-in-Open-clause-fault g c = IfErr-weaker c.begin.result _ _ (λ fault is. no-blame fault c.args.control c.args.self.now.outbound.windows is) c.begin.ensures.memory
+returns-in-Open-clause-fault g c = IfErr-weaker c.begin.result _ _ (λ fault is run reached. no-blame fault c.args.control is run) c.begin.ensures.memory
+
+pub returns-in-Open-clause-whose : goal.returns-in-Open-clause-whose
+returns-in-Open-clause-whose g c = IfErr-weaker c.begin.result _ _ (λ fault is. no-concern fault c.args.control is) c.begin.ensures.memory
 
 pub returns-in-Refuse-clause-fault : goal.returns-in-Refuse-clause-fault
-returns-in-Refuse-clause-fault g c = IfErr-weaker c.refuse.result _ _ (λ fault is. no-blame fault c.args.control c.args.self.now.outbound.windows is) c.refuse.ensures.memory
+returns-in-Refuse-clause-fault g c = IfErr-weaker c.refuse.result _ _ (λ fault is run reached. no-blame fault c.args.control is run) c.refuse.ensures.memory
+
+pub returns-in-Refuse-clause-whose : goal.returns-in-Refuse-clause-whose
+returns-in-Refuse-clause-whose g c = IfErr-weaker c.refuse.result _ _ (λ fault is. no-concern fault c.args.control is) c.refuse.ensures.memory
 
 pub returns-in-Reset-clause-fault : goal.returns-in-Reset-clause-fault
-returns-in-Reset-clause-fault g c = IfErr-weaker c.reset.result _ _ (λ fault is. no-blame fault c.args.control c.args.self.now.outbound.windows is) c.reset.ensures.memory
+returns-in-Reset-clause-fault g c = IfErr-weaker c.reset.result _ _ (λ fault is run reached. no-blame fault c.args.control is run) c.reset.ensures.memory
+
+pub returns-in-Reset-clause-whose : goal.returns-in-Reset-clause-whose
+returns-in-Reset-clause-whose g c = IfErr-weaker c.reset.result _ _ (λ fault is. no-concern fault c.args.control is) c.reset.ensures.memory
 
 pub returns-in_default-clause-served : goal.returns-in_default-clause-served
 returns-in_default-clause-served g c = serving-room g.L.Lane.got c.args.self.now c.if-self.false c.make_room.new.self c.make_room.ensures.takes
@@ -82,3 +91,23 @@ returns-in-InputEnded-clause-taken g c =
 pub returns-clause-taken : goal.returns-clause-taken
 returns-clause-taken g c =
     quiet-led c.args.control order.Close c.args.self.now.outbound c.make_room.new.self c.in-Close.is refl (λ run history. refl) c.make_room.ensures.stays
+
+pub returns-then-take_window-clause-room : goal.returns-then-take_window-clause-room
+returns-then-take_window-clause-room g c = λ run reached.
+    credit-fits c.args.self.now.outbound c.make_room.new.self.windows c.in-Window.id c.in-Window.increment c.args.control c.in-Window.is c.make_room.ensures.windows
+    (c.take_window.ensures.fits c.if-take_window.true) run reached
+
+pub returns-in-Window-clause-fault : goal.returns-in-Window-clause-fault
+returns-in-Window-clause-fault g c = λ run reached.
+    blamed c.args.self.now.outbound c.make_room.new.self.windows c.in-Window.id c.args.control (order.Window c.in-Window.id c.in-Window.increment) c.in-Window.is c.make_room.ensures.windows
+    (c.take_window.ensures.over c.if-take_window.false) run reached
+
+pub returns-in-Ok-take_settings-clause-room : goal.returns-in-Ok-take_settings-clause-room
+returns-in-Ok-take_settings-clause-room g c = λ run reached.
+    settings-fit c.args.self.now.outbound c.make_room.new.self.windows c.in-Settings.settings c.args.control c.in-Settings.is c.make_room.ensures.windows
+    c.in-Ok-take_settings.ensures.fits run reached
+
+pub returns-in-Settings-clause-fault : goal.returns-in-Settings-clause-fault
+returns-in-Settings-clause-fault g c = λ run reached.
+    blamed c.args.self.now.outbound c.make_room.new.self.windows 0 c.args.control (order.Settings c.in-Settings.settings) c.in-Settings.is c.make_room.ensures.windows
+    c.in-Err.ensures.over run reached
