@@ -3,6 +3,8 @@ pub mod End
 pub mod PutFault
 pub mod RingEnds
 pub mod Ring
+pub mod Cuts
+pub mod Follows
 pub mod RingLane
 pub mod Notes
 pub mod KnownCells

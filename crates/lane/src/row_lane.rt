@@ -74,7 +74,9 @@ pub struct RowLane<T> {
 
 #[tactic(auto, using(crate::proofs::KnownItems::length_items_of))]
 impl<T: Send + Sync + Drop> Lane for RowLane<T> {
-    ghost use Rattle.std.specs.Prelude.{[], false};
+    ghost use Rattle.std.specs.Prelude.{[], ◌∷◌, ◌++◌, false};
+    ghost use mathlib.Core.List.{IsPrefix};
+    ghost use Rattle.lane.specs.Follows.{Follows};
     ghost use Rattle.lane.specs.End.{of_end, has_last};
     ghost use Rattle.lane.specs.Lawful.{IsLawful, count_of};
     ghost use Rattle.lane.specs.RowLane.{RowName, RowName_set, room_of, in_name, shut_name, out_name, put_in, put_shut, was_placed, got};
@@ -96,6 +98,16 @@ impl<T: Send + Sync + Drop> Lane for RowLane<T> {
     ghost out_name = { out_name };
 
     ghost shut_name = { shut_name };
+
+    ghost ring_of = { λ name. name };
+
+    ghost next_name = { λ name. name };
+
+    ghost past_in = { λ _. [] };
+
+    ghost past_shut = { λ _. [] };
+
+    ghost past_out = { λ _. [] };
 
     ghost room_of = { room_of };
 
@@ -225,6 +237,22 @@ impl<T: Send + Sync + Drop> Lane for RowLane<T> {
         let index = rx.got.len();
         rx.got.push_reserved(last);
         Some(item_at(&rx.cells, index, same))
+    }
+
+    fn begin(shut: RowLaneShut<T>) -> Result<RowLaneIn<T>, RowLaneShut<T>> {
+        Err(shut)
+    }
+
+    fn go_on(_rx: &mut RowLaneOut<T>) -> bool {
+        false
+    }
+
+    fn settle_all(end: End<RowLaneIn<T>, RowLaneShut<T>>, rx: RowLaneOut<T>)
+        requires { of_end in_name shut_name end ≡ out_name rx }
+        ensures ended { IsPrefix [] (of_end (λ _. []) (λ s. put_shut s ∷ []) end) }
+        ensures follows { Follows (of_end (λ _. []) (λ _. []) end ++ of_end put_in put_shut end ∷ []) [] (got rx) }
+    {
+        Self::settle(end, rx);
     }
 
     fn settle(end: End<RowLaneIn<T>, RowLaneShut<T>>, rx: RowLaneOut<T>) -> Settled
