@@ -1,0 +1,4 @@
+pub mod HalfLemmas
+pub mod KeptLemmas
+pub mod LawLemmas
+pub mod StepLemmas

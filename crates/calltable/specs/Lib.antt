@@ -1,0 +1,4 @@
+pub mod Steps
+pub mod Halves
+pub mod Kept
+pub mod Orders
