@@ -8,14 +8,13 @@ use h2frame::StreamId;
 use std::sync::ledger::{Ledger, Share};
 use std::sync::{Arc, Wait};
 
-/// The credit book, and the shares of the one who counts what comes and admits calls.
+/// The credit book, and the shares of the one who counts what comes and admits calls: all parts of their ledgers, so that
+/// they are what the book counts.
 #[derive(Drop)]
 pub(crate) struct Intake<A: Ledger, B: Ledger, C: Ledger> {
-    pub(crate) shared: Arc<Shared<A, B, C>>,
-    came: Share<A>,
-    calls: Share<B>,
-    ghost came_whole: { (came.parts ≡ A.parts) × (0 < came.parts) },
-    ghost calls_whole: { (calls.parts ≡ B.parts) × (0 < calls.parts) },
+    shared: Arc<Shared<A, B, C>>,
+    pub(crate) came: Share<A>,
+    pub(crate) calls: Share<B>,
 }
 
 impl<A: Ledger, B: Ledger, C: Ledger> Intake<A, B, C> {
@@ -24,8 +23,7 @@ impl<A: Ledger, B: Ledger, C: Ledger> Intake<A, B, C> {
         came: Share<A>,
         calls: Share<B>,
     ) -> Intake<A, B, C>
-        requires came { (came.parts ≡ A.parts) × (0 < came.parts) }
-        requires calls { (calls.parts ≡ B.parts) × (0 < calls.parts) }
+        ensures { (result.came ≡ came) × (result.calls ≡ calls) }
     {
         Intake {
             shared,
@@ -35,7 +33,11 @@ impl<A: Ledger, B: Ledger, C: Ledger> Intake<A, B, C> {
     }
 
     /// Admits a call.
-    pub(crate) fn admit(&mut self, rt: &impl Wait, id: StreamId) -> Result<(), AdmitFault> {
+    pub(crate) fn admit(&mut self, rt: &impl Wait, id: StreamId) -> Result<(), AdmitFault>
+        requires calls { (self.old.calls.parts ≡ B.parts) × (0 < B.parts) }
+        ensures calls { self.new.calls.parts ≡ self.old.calls.parts }
+        ensures came { self.new.came ≡ self.old.came }
+    {
         let Intake { shared, calls, .. } = self;
         shared.book.lock(rt).admit(id, calls)
     }
@@ -48,7 +50,10 @@ impl<A: Ledger, B: Ledger, C: Ledger> Intake<A, B, C> {
         flow: u32,
         padding: u32,
     ) -> Receipt
-        requires { padding ≤ flow }
+        requires padding { padding ≤ flow }
+        requires came { (self.old.came.parts ≡ A.parts) × (0 < A.parts) }
+        ensures came { self.new.came.parts ≡ self.old.came.parts }
+        ensures calls { self.new.calls ≡ self.old.calls }
     {
         let Intake { shared, came, .. } = self;
         shared.book.lock(rt).receive(id, flow, padding, came)

@@ -34,7 +34,7 @@ impl<A: Ledger, B: Ledger, C: Ledger> Outlet<A, B, C> {
     ) {
         let Outlet { shared, told, .. } = self;
         let mut book = shared.book.lock(rt);
-        for place in 0..MAX_LIVE {
+        'calls: for place in 0..MAX_LIVE {
             let Some(id) = book.live_id(place) else {
                 break;
             };

@@ -1,6 +1,6 @@
 //! What becomes of each event of a connection.
 
-ghost use Rattle.std.specs.Prelude.{◌≤◌};
+ghost use Rattle.std.specs.Prelude.{◌≡◌, ◌<◌};
 
 use crate::intake::Intake;
 use crate::orders::Orders;
@@ -52,7 +52,6 @@ pub(crate) struct Reader<A: Ledger, B: Ledger, C: Ledger, R: Drop> {
     pub(crate) rt: R,
     pub(crate) alloc: Global,
     pub(crate) methods: Arc<Methods>,
-    pub(crate) intake: Intake<A, B, C>,
     pub(crate) orders: Orders<A, B, C>,
     pub(crate) slots: Slots,
     /// The calls whose halves are open, by their streams.
@@ -76,7 +75,6 @@ where
         rt: R,
         alloc: Global,
         methods: Arc<Methods>,
-        intake: Intake<A, B, C>,
         orders: Orders<A, B, C>,
         start: Instant,
     ) -> Reader<A, B, C, R> {
@@ -84,7 +82,6 @@ where
             rt,
             alloc,
             methods,
-            intake,
             orders,
             slots: Slots::new(alloc),
             rows: IndexMap::new(alloc),
@@ -95,18 +92,25 @@ where
     }
 
     /// Reads to the end, and says how the connection ended as far as the reader sees.
-    pub(crate) fn read<I: ConnRead>(&mut self, input: &mut I) -> Ending {
+    pub(crate) fn read<I: ConnRead>(
+        &mut self,
+        intake: &mut Intake<A, B, C>,
+        input: &mut I,
+    ) -> Ending
+        requires whole { (intake.old.came.parts ≡ A.parts) × (0 < A.parts) × (intake.old.calls.parts ≡ B.parts) × (0 < B.parts) }
+        ensures whole { (intake.new.came.parts ≡ A.parts) × (0 < A.parts) × (intake.new.calls.parts ≡ B.parts) × (0 < B.parts) }
+    {
         let mut core = InCore::new(self.alloc);
         let mut piece = [0u8; PIECE];
         let rt = self.rt;
-        for _ in rt.forever() {
+        'pieces: for _ in rt.forever() {
             let Ok(count) = input.read(&mut piece) else {
                 return Ending::ReadFailed;
             };
             if count == 0 || self.orders.shared.has_stopped() {
                 return self.input_ended();
             }
-            match self.take(&mut core, &piece[..count]) {
+            match self.take(intake, &mut core, &piece[..count]) {
                 Ok(None) => {}
                 Ok(Some(code)) => return self.fail(code, Ending::ProtocolError(code)),
                 Err(AllocError) => {
@@ -124,13 +128,12 @@ where
             mut orders,
             slots,
             rows,
-            intake,
             ..
         } = self;
         for (id, row) in rows {
             orders.reset(&rt, id, ErrorCode::Cancel, false);
             let _shut = row.feeder.reset(ErrorCode::Cancel.code());
-            intake.shared.book.lock(&rt).cut(id);
+            orders.shared.book.lock(&rt).cut(id);
         }
         orders.put(&rt, Control::InputEnded);
         orders.shared.writer.ring();
@@ -152,14 +155,22 @@ where
         let last = self.orders.shared.last();
         let rt = self.rt;
         self.orders.put(&rt, Control::Goaway { last, code });
-        self.intake.shared.book.lock(&rt).stop();
+        self.orders.shared.book.lock(&rt).stop();
         ending
     }
 
     /// What bytes that came lead to; the error that ends the connection, if one does.
-    fn take(&mut self, core: &mut InCore, piece: &[u8]) -> Result<Option<ErrorCode>, AllocError> {
-        for event in core.feed(piece)? {
-            if let Some(code) = self.follow(event)? {
+    fn take(
+        &mut self,
+        intake: &mut Intake<A, B, C>,
+        core: &mut InCore,
+        piece: &[u8],
+    ) -> Result<Option<ErrorCode>, AllocError>
+        requires whole { (intake.old.came.parts ≡ A.parts) × (0 < A.parts) × (intake.old.calls.parts ≡ B.parts) × (0 < B.parts) }
+        ensures whole { (intake.new.came.parts ≡ A.parts) × (0 < A.parts) × (intake.new.calls.parts ≡ B.parts) × (0 < B.parts) }
+    {
+        'events: for event in core.feed(piece)? {
+            if let Some(code) = self.follow(intake, event)? {
                 return Ok(Some(code));
             }
         }
@@ -171,13 +182,20 @@ where
     }
 
     /// What one event leads to; the error that ends the connection, if it does.
-    fn follow(&mut self, event: InEvent) -> Result<Option<ErrorCode>, AllocError> {
+    fn follow(
+        &mut self,
+        intake: &mut Intake<A, B, C>,
+        event: InEvent,
+    ) -> Result<Option<ErrorCode>, AllocError>
+        requires whole { (intake.old.came.parts ≡ A.parts) × (0 < A.parts) × (intake.old.calls.parts ≡ B.parts) × (0 < B.parts) }
+        ensures whole { (intake.new.came.parts ≡ A.parts) × (0 < A.parts) × (intake.new.calls.parts ≡ B.parts) × (0 < B.parts) }
+    {
         let rt = self.rt;
         match event {
-            InEvent::Open(id, head) => self.open(id, head)?,
+            InEvent::Open(id, head) => self.open(intake, id, head)?,
             InEvent::BadHead(id, fault) => self.refuse(id, fault)?,
-            InEvent::Data(id, bytes, flow) => return Ok(self.data(id, bytes, flow)),
-            InEvent::Loose(flow) => return Ok(self.loose(flow)),
+            InEvent::Data(id, bytes, flow) => return Ok(self.data(intake, id, bytes, flow)),
+            InEvent::Loose(flow) => return Ok(self.loose(intake, flow)),
             InEvent::End(id) => self.end_half(id),
             InEvent::Reset(id, code) => self.cut(id, code, false),
             InEvent::StreamError(id, code) => self.cut(id, code, true),
@@ -200,7 +218,15 @@ where
     }
 
     /// Begins a call, or refuses one that no method answers or that is one too many.
-    fn open(&mut self, id: StreamId, head: CallHead) -> Result<(), AllocError> {
+    fn open(
+        &mut self,
+        intake: &mut Intake<A, B, C>,
+        id: StreamId,
+        head: CallHead,
+    ) -> Result<(), AllocError>
+        requires whole { (intake.old.came.parts ≡ A.parts) × (0 < A.parts) × (intake.old.calls.parts ≡ B.parts) × (0 < B.parts) }
+        ensures whole { (intake.new.came.parts ≡ A.parts) × (0 < A.parts) × (intake.new.calls.parts ≡ B.parts) × (0 < B.parts) }
+    {
         let rt = self.rt;
         self.begin(id);
         let Some(index) = self.methods.find(head.path.as_slice()) else {
@@ -208,7 +234,7 @@ where
             self.orders.put(&rt, Control::Refuse(id, fields));
             return Ok(());
         };
-        match self.intake.admit(&rt, id) {
+        match intake.admit(&rt, id) {
             Ok(()) => self.start(id, index, head),
             Err(AdmitFault::OutOfMemory) => Err(AllocError),
             Err(AdmitFault::NotNew | AdmitFault::Draining | AdmitFault::TooMany) => {
@@ -230,7 +256,7 @@ where
         self.rows.reserve(1)?;
         let slot = self
             .slots
-            .engage(rt, &self.intake.shared, &self.methods, self.start)?;
+            .engage(rt, &self.orders.shared, &self.methods, self.start)?;
         self.orders.put(&rt, Control::Open(id, sender));
         slot.hand_over(
             &rt,
@@ -259,10 +285,19 @@ where
     }
 
     /// DATA came on a stream, so many bytes of it by flow control.
-    fn data(&mut self, id: StreamId, bytes: Bytes, flow: u32) -> Option<ErrorCode> {
+    fn data(
+        &mut self,
+        intake: &mut Intake<A, B, C>,
+        id: StreamId,
+        bytes: Bytes,
+        flow: u32,
+    ) -> Option<ErrorCode>
+        requires whole { (intake.old.came.parts ≡ A.parts) × (0 < A.parts) × (intake.old.calls.parts ≡ B.parts) × (0 < B.parts) }
+        ensures whole { (intake.new.came.parts ≡ A.parts) × (0 < A.parts) × (intake.new.calls.parts ≡ B.parts) × (0 < B.parts) }
+    {
         let rt = self.rt;
         let padding = flow.saturating_sub(u32::try_from(bytes.len()).unwrap_or(u32::MAX));
-        match self.intake.receive(&rt, id, flow, padding) {
+        match intake.receive(&rt, id, flow, padding) {
             Receipt::Feed => self.feed(id, bytes),
             Receipt::Discard => {}
             Receipt::CallWindow => self.cut(id, ErrorCode::FlowControlError, true),
@@ -272,9 +307,12 @@ where
     }
 
     /// Bytes came that count on the connection alone.
-    fn loose(&mut self, flow: u32) -> Option<ErrorCode> {
+    fn loose(&mut self, intake: &mut Intake<A, B, C>, flow: u32) -> Option<ErrorCode>
+        requires whole { (intake.old.came.parts ≡ A.parts) × (0 < A.parts) × (intake.old.calls.parts ≡ B.parts) × (0 < B.parts) }
+        ensures whole { (intake.new.came.parts ≡ A.parts) × (0 < A.parts) × (intake.new.calls.parts ≡ B.parts) × (0 < B.parts) }
+    {
         let rt = self.rt;
-        match self.intake.receive(&rt, 0, flow, 0) {
+        match intake.receive(&rt, 0, flow, 0) {
             Receipt::Overrun => Some(ErrorCode::FlowControlError),
             Receipt::Feed | Receipt::Discard | Receipt::CallWindow => None,
         }
@@ -297,7 +335,7 @@ where
     /// The client has ended its half.
     fn end_half(&mut self, id: StreamId) {
         let rt = self.rt;
-        self.intake.shared.book.lock(&rt).end_remote(id);
+        self.orders.shared.book.lock(&rt).end_remote(id);
         if let Some(row) = self.rows.swap_remove(&id) {
             let _shut = row.feeder.end();
             row.slot.bell.ring();
@@ -312,15 +350,15 @@ where
             let _shut = row.feeder.reset(code.code());
             row.slot.bell.ring();
         }
-        self.intake.shared.book.lock(&rt).cut(id);
+        self.orders.shared.book.lock(&rt).cut(id);
     }
 
     /// Lets go of the halves of calls that are no longer live.
     fn forget(&mut self) {
         let Reader {
-            rt, rows, intake, ..
+            rt, rows, orders, ..
         } = self;
-        let book = intake.shared.book.lock(rt);
+        let book = orders.shared.book.lock(rt);
         rows.retain(|id, _row| book.is_live(*id));
     }
 }

@@ -84,11 +84,12 @@ where
         ring: putting,
         shared: Arc::try_clone(&shared)?,
     };
-    let mut reader = Reader::new(rt, alloc, methods, Intake::new(shared, came, calls), orders, start);
+    let mut intake = Intake::new(shared, came, calls);
+    let mut reader = Reader::new(rt, alloc, methods, orders, start);
     let Ok(writing) = thread::spawn(&rt, move || writer.write(&rt)) else {
         return Err(AllocError);
     };
-    let read = reader.read(input);
+    let read = reader.read(&mut intake, input);
     reader.end();
     let written = writing.join(&rt);
     Ok(of_both(read, written))

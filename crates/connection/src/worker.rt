@@ -1,5 +1,8 @@
 //! What a worker does with a call.
 
+ghost use Rattle.std.specs.Prelude.{◌≡◌, ◌<◌, length};
+ghost use Rattle.handlers.specs.Listed.{listed};
+
 use crate::shared::Shared;
 use crate::slot::{InLane, Job, OutLane, Slot};
 use callrun::{CallRun, Turn};
@@ -46,18 +49,20 @@ impl<A: Ledger, B: Ledger, C: Ledger> Worker<A, B, C> {
             giver,
             opened,
         } = job;
-        if self.methods.get(index).is_none() {
+        let methods: &Methods = &self.methods;
+        if methods.get(index).is_none() {
             return;
         }
-        let mut run = CallRun::new(self.alloc, &self.methods, index, head, taker, giver, opened);
-        for _ in rt.forever() {
+        let mut run = CallRun::new(self.alloc, methods, index, head, taker, giver, opened);
+        'turns: for _ in rt.forever() {
             let mark = slot.bell.mark();
-            match run.turn(&self.methods, self.now(rt, &run)) {
+            let now = self.now(rt, &run);
+            match run.turn(methods, now) {
                 Turn::Went => {}
                 Turn::Over => break,
                 Turn::Nothing | Turn::Full => {
                     if !self.is_live(rt, id, &mut run) {
-                        self.give_up(rt, &mut run);
+                        self.give_up(rt, methods, &mut run);
                         break;
                     }
                     slot.bell.wait_past(rt, mark, Duration::from_millis(STEP));
@@ -68,7 +73,9 @@ impl<A: Ledger, B: Ledger, C: Ledger> Worker<A, B, C> {
     }
 
     /// Returns what was taken, and says whether the call is live still.
-    fn is_live(&self, rt: &impl Wait, id: StreamId, run: &mut CallRun<InLane, OutLane>) -> bool {
+    fn is_live(&self, rt: &impl Wait, id: StreamId, run: &mut CallRun<InLane, OutLane>) -> bool
+        ensures { run.new.index ≡ run.old.index }
+    {
         self.shared.writer.ring();
         let credit = run.credit();
         let mut book = self.shared.book.lock(rt);
@@ -80,13 +87,21 @@ impl<A: Ledger, B: Ledger, C: Ledger> Worker<A, B, C> {
     }
 
     /// Leaves a call that is no longer live, unless it was reset: then that is what it is told last.
-    fn give_up<R: Wait + Clock>(&self, rt: &R, run: &mut CallRun<InLane, OutLane>) {
-        for _ in rt.forever() {
-            match run.turn(&self.methods, self.now(rt, run)) {
+    fn give_up<R: Wait + Clock>(
+        &self,
+        rt: &R,
+        methods: &Methods,
+        run: &mut CallRun<InLane, OutLane>,
+    )
+        requires { run.old.index < length (listed methods.now) }
+    {
+        'turns: for _ in rt.forever() {
+            let now = self.now(rt, run);
+            match run.turn(methods, now) {
                 Turn::Went => {}
                 Turn::Over => return,
                 Turn::Nothing | Turn::Full => {
-                    run.leave(&self.methods);
+                    run.leave(methods);
                     return;
                 }
             }
