@@ -1,6 +1,7 @@
 //! The value under the lock of a connection.
 
-ghost use Rattle.std.specs.Prelude.{◌≡◌, ◌≢◌, ℕ, ◌+◌, ◌<◌, ◌≤◌, true, false, length, nat_eq, if◌then◌else◌, IsSome, IsTrue, ◌↔◌, OnOk, OnErr};
+ghost use Rattle.std.specs.Prelude.{◌≡◌, ◌≢◌, ℕ, ◌+◌, ◌<◌, ◌≤◌, true, false, length, slice_get, nat_eq, if◌then◌else◌, IsSome, IsTrue, ◌↔◌, OnOk, OnErr};
+ghost use Rattle.std.specs.Map.{keys_of};
 ghost use Rattle.flow.specs.Books.{new_book, call_at, Meets, GiveBackCause, after_give_back, after_cut, after_end_remote, after_end_local};
 ghost use Rattle.connbook.specs.Receipts.{receipt_of, after_receipt, counted_of, Admits, after_admission, credit_of, after_credit, after_stop};
 ghost use Rattle.connbook.specs.Ledgers.{IsKept};
@@ -59,6 +60,13 @@ impl<A: Ledger, B: Ledger, C: Ledger> ConnBook<A, B, C> {
         ensures { IsTrue result ↔ IsSome (call_at self.now.book id) }
     {
         self.book.marks(id).is_some()
+    }
+
+    /// The id of a live call by its place among them, in the order of their admission.
+    pub fn live_id(&self, place: usize) -> Option<StreamId>
+        ensures { result ≡ slice_get (keys_of self.now.book.calls) place }
+    {
+        self.book.live_id(place)
     }
 
     /// Whether the writer has stopped: nothing is written any more, and no call is live.

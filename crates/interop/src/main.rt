@@ -12,6 +12,7 @@
 //! - `text`: hexadecimal text into bytes.
 //! - `call`: the events of a call whose bytes come in pieces.
 //! - `report`: the lines that tell messages, the end and faults.
+//! - `client` and `target`: `interop case`. `server`: `interop serve`.
 #![tactic(auto)]
 
 ghost use Rattle.std.specs.Prelude.{◌<◌};
@@ -20,6 +21,7 @@ mod body;
 mod call;
 mod client;
 mod report;
+mod server;
 mod target;
 mod text;
 mod words;
@@ -28,10 +30,14 @@ use body::{RunFault, run_body};
 use client::run_cases;
 use device::Marked;
 use std::io::ErrorKind;
-use std::net::Net;
+use std::net::{Net, TcpListener, TcpStream};
 use std::process::ExitCode;
 use std::rt::Env;
+use std::sync::Wait;
+use std::thread::Threads;
+use std::time::Clock;
 use std::{env, io};
+use server::{read_serve_words, serve};
 use target::read_case_words;
 use words::{Words, WordsFault};
 
@@ -48,6 +54,7 @@ The gRPC interop test server's program.
 
 Usage: interop [body --cut N]
        interop case NAME --port P [--host H]
+       interop serve --port P [--conns N]
 
   body --cut N   read the joined DATA bytes of one call as hexadecimal text, in pieces
                  of N bytes (1 to 65536), and print its messages; this with N = 3 is
@@ -55,6 +62,8 @@ Usage: interop [body --cut N]
   case NAME      run the test case of this name as a client against the server at
                  H:P (127.0.0.1 if no host is given), or all of them where NAME is
                  all, and print a line of each; what differed is told on standard error
+  serve --port P serve grpc.testing.TestService on port P of 127.0.0.1, until it is
+                 interrupted, or N connections were served
   -h, --help     print this text
   --version      print the version
 
@@ -97,11 +106,32 @@ fn obey_case<R: Net + Print + Eprint + AllocGlobal>(rt: &R, words: &[String]) ->
     }
 }
 
+// Serves as the words behind `serve` say, and answers the exit status.
+fn obey_serve<R>(rt: R, words: &[String]) -> u8
+where
+    R: Net<Stream = TcpStream, Listener = TcpListener> + Print + Eprint + AllocGlobal,
+    R: Threads + Wait + Clock + Copy + Send + Sync + Drop + 'static,
+{
+    let Some(words) = read_serve_words(words) else {
+        return complain(&rt, "bad arguments");
+    };
+    match serve(rt, words) {
+        Ok(()) => 0,
+        Err(_) => FAILED,
+    }
+}
+
 // Does what the words after the program's name say, and answers the exit status.
-fn obey<R: Input + Net + Print + Eprint + AllocGlobal>(rt: &R, words: &[String]) -> u8 {
+fn obey<R>(rt: &R, words: &[String]) -> u8
+where
+    R: Net<Stream = TcpStream, Listener = TcpListener> + Input + Print + Eprint + AllocGlobal,
+    R: Threads + Wait + Clock + Copy + Send + Sync + Drop + 'static,
+{
     if let Some((command, behind)) = words.split_first() {
-        if command.as_str() == "case" {
-            return obey_case(rt, behind);
+        match command.as_str() {
+            "case" => return obey_case(rt, behind),
+            "serve" => return obey_serve(*rt, behind),
+            _ => {}
         }
     }
     if let Some(text) = self_description(words) {

@@ -46,7 +46,7 @@ pub fn read_case_words(words: &[String]) -> Option<CaseWords<'_>> {
 }
 
 /// A port that may be connected to.
-fn read_port(text: &str) -> Option<u16>
+pub fn read_port(text: &str) -> Option<u16>
     ensures { IfSome result (λ port. 0 < port) }
 {
     match text.parse::<u16>() {

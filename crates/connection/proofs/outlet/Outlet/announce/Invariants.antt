@@ -1,0 +1,5 @@
+use Rattle.std.proofs.Common.{◌<◌}
+use Rattle.connection.proofs.outlet.Outlet.announce.Given as goal
+
+abbrev pub invariant-calls : goal.invariant-calls
+invariant-calls g l = 0 < l.told.parts

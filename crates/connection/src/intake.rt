@@ -1,0 +1,61 @@
+//! The reader's hold on the credit book.
+
+ghost use Rattle.std.specs.Prelude.{◌≡◌, ◌<◌, ◌≤◌};
+
+use crate::shared::Shared;
+use connbook::{AdmitFault, Receipt};
+use h2frame::StreamId;
+use std::sync::ledger::{Ledger, Share};
+use std::sync::{Arc, Wait};
+
+/// The credit book, and the shares of the one who counts what comes and admits calls: all parts of their ledgers, so that
+/// they are what the book counts.
+#[derive(Drop)]
+pub(crate) struct Intake<A: Ledger, B: Ledger, C: Ledger> {
+    shared: Arc<Shared<A, B, C>>,
+    pub(crate) came: Share<A>,
+    pub(crate) calls: Share<B>,
+}
+
+impl<A: Ledger, B: Ledger, C: Ledger> Intake<A, B, C> {
+    pub(crate) fn new(
+        shared: Arc<Shared<A, B, C>>,
+        came: Share<A>,
+        calls: Share<B>,
+    ) -> Intake<A, B, C>
+        ensures { (result.came ≡ came) × (result.calls ≡ calls) }
+    {
+        Intake {
+            shared,
+            came,
+            calls,
+        }
+    }
+
+    /// Admits a call.
+    pub(crate) fn admit(&mut self, rt: &impl Wait, id: StreamId) -> Result<(), AdmitFault>
+        requires calls { (self.old.calls.parts ≡ B.parts) × (0 < B.parts) }
+        ensures calls { self.new.calls.parts ≡ self.old.calls.parts }
+        ensures came { self.new.came ≡ self.old.came }
+    {
+        let Intake { shared, calls, .. } = self;
+        shared.book.lock(rt).admit(id, calls)
+    }
+
+    /// Counts DATA that came on a stream, `padding` of them no data.
+    pub(crate) fn receive(
+        &mut self,
+        rt: &impl Wait,
+        id: StreamId,
+        flow: u32,
+        padding: u32,
+    ) -> Receipt
+        requires padding { padding ≤ flow }
+        requires came { (self.old.came.parts ≡ A.parts) × (0 < A.parts) }
+        ensures came { self.new.came.parts ≡ self.old.came.parts }
+        ensures calls { self.new.calls ≡ self.old.calls }
+    {
+        let Intake { shared, came, .. } = self;
+        shared.book.lock(rt).receive(id, flow, padding, came)
+    }
+}

@@ -1,0 +1,31 @@
+//! A connection with its threads: bytes come in, calls are answered, bytes go out.
+//!
+//! `serve_connection` reads in the thread of its caller, one more thread writes, and each live call is answered by a worker,
+//! which serves one call after another. What they share is one lock, with the connection's credit book in it; a ring of
+//! orders from the reader to the writer; and the lanes of each call.
+//!
+//! Each part is a machine of a crate below: the reader has an `InCore`, a worker a `CallRun`, the writer a `ConnWriter`, and
+//! the lock a `ConnBook`. Here they are only turned, waited for and rung.
+//!
+//! - `shared`: what the threads of a connection share.
+//! - `intake`: the reader's hold on the credit book, `outlet` the writer's.
+//! - `slot`: a worker and how it is handed a call; `worker`: what it does with one.
+//! - `orders`: what the reader has the writer do.
+//! - `reader`: what becomes of each event; `writer`: orders and credit in, frames out.
+//! - `serve`: one connection from its first byte to its last.
+#![tactic(auto)]
+
+mod intake;
+mod orders;
+mod outlet;
+mod reader;
+mod report;
+mod serve;
+mod shared;
+mod slot;
+mod slots;
+mod worker;
+mod writer;
+
+pub use report::Ending;
+pub use serve::serve_connection;

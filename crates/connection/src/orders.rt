@@ -1,0 +1,54 @@
+//! What the reader has the writer do.
+
+use crate::shared::Shared;
+use crate::slot::OutLane;
+use callbox::Sender;
+use h2frame::{ErrorCode, StreamId};
+use lane::{PutFault, RingIn};
+use outwriter::Control;
+use std::sync::ledger::Ledger;
+use std::sync::{Arc, Wait};
+use std::time::Duration;
+
+/// An order to the writer.
+pub(crate) type Order = Control<Sender<OutLane>>;
+
+/// How many orders may wait for the writer.
+pub(crate) const ORDERS: usize = 1024;
+
+/// How long the reader waits for room before it looks again, in milliseconds.
+const STEP: u64 = 1;
+
+/// The reader's end of the ring of orders.
+#[derive(Drop)]
+pub(crate) struct Orders<A: Ledger, B: Ledger, C: Ledger> {
+    pub(crate) ring: RingIn<Order>,
+    pub(crate) shared: Arc<Shared<A, B, C>>,
+}
+
+impl<A: Ledger, B: Ledger, C: Ledger> Orders<A, B, C> {
+    /// Puts an order, and waits where there is no room. Behind a writer that has stopped it is dropped.
+    pub(crate) fn put<R: Wait>(&mut self, rt: &R, order: Order) {
+        let mut order = order;
+        for _ in rt.forever() {
+            let mark = self.shared.reader.mark();
+            match self.ring.put(order) {
+                Ok(()) => return,
+                Err(PutFault::Full { item, .. }) => order = item,
+                Err(PutFault::OutOfMemory(_) | PutFault::NotTaken(_)) => return,
+            }
+            self.shared.writer.ring();
+            if self.shared.has_stopped() {
+                return;
+            }
+            self.shared
+                .reader
+                .wait_past(rt, mark, Duration::from_millis(STEP));
+        }
+    }
+
+    /// Orders a stream to be reset; `written` where the peer is to be told.
+    pub(crate) fn reset(&mut self, rt: &impl Wait, id: StreamId, code: ErrorCode, written: bool) {
+        self.put(rt, Control::Reset { id, code, written });
+    }
+}

@@ -1,0 +1,105 @@
+//! One connection from its first byte to its last.
+
+ghost use Rattle.std.specs.Prelude.{◌≡◌, ◌<◌};
+
+use crate::intake::Intake;
+use crate::orders::{ORDERS, Orders};
+use crate::outlet::Outlet;
+use crate::reader::Reader;
+use crate::report::Ending;
+use crate::shared::Shared;
+use crate::writer::Writer;
+use connbook::ConnBook;
+use connwriter::ConnWriter;
+use device::{ConnRead, ConnWrite};
+use handlers::Methods;
+use lane::Ring;
+use std::alloc::{AllocError, Global};
+use std::marker::Brand;
+use std::sync::ledger::{Blank, Ledger};
+use std::sync::{Arc, Wait};
+use std::thread;
+use std::thread::Threads;
+use std::time::{Clock, Instant};
+
+/// Serves one connection, and says how it ended. The caller's thread reads; one more writes, and up to 64 answer calls. It
+/// returns once the input has ended or the connection was ended with an error, and all that could be written was.
+///
+/// Calls are answered by these methods. A peer that neither reads nor closes is waited for.
+pub fn serve_connection<I, O, R>(
+    rt: R,
+    alloc: Global,
+    input: &mut I,
+    output: O,
+    methods: Arc<Methods>,
+) -> Ending
+where
+    I: ConnRead,
+    O: ConnWrite + Send + Drop + 'static,
+    R: Threads + Wait + Clock + Copy + Send + Sync + Drop + 'static,
+{
+    let blanks = (Blank::new(1), Blank::new(1), Blank::new(1));
+    match serve_over::<Brand, Brand, Brand, I, O, R>(rt, alloc, blanks, input, output, methods) {
+        Ok(ending) => ending,
+        Err(AllocError) => Ending::OutOfMemory,
+    }
+}
+
+/// The same, over ledgers of its own. Out of memory before the connection began nothing was read or written.
+fn serve_over<A, B, C, I, O, R>(
+    rt: R,
+    alloc: Global,
+    blanks: (Blank, Blank, Blank),
+    input: &mut I,
+    output: O,
+    methods: Arc<Methods>,
+) -> Result<Ending, AllocError>
+where
+    A: Ledger + Send + Sync + 'static,
+    B: Ledger + Send + Sync + 'static,
+    C: Ledger + Send + Sync + 'static,
+    I: ConnRead,
+    O: ConnWrite + Send + Drop + 'static,
+    R: Threads + Wait + Clock + Copy + Send + Sync + Drop + 'static,
+    requires received { (blanks.0.name ≡ A.name) × (blanks.0.parts ≡ A.parts) × (0 < A.parts) }
+    requires admitted { (blanks.1.name ≡ B.name) × (blanks.1.parts ≡ B.parts) × (0 < B.parts) }
+    requires announced { (blanks.2.name ≡ C.name) × (blanks.2.parts ≡ C.parts) × (0 < C.parts) }
+{
+    let (received, came) = blanks.0.open::<A>();
+    let (admitted, calls) = blanks.1.open::<B>();
+    let (announced, told) = blanks.2.open::<C>();
+    let book = ConnBook::new(alloc, received, admitted, announced);
+    let shared = Shared::new(alloc, book)?;
+    let (putting, taking) = Ring::open(alloc, ORDERS)?;
+    let start = Instant::now(&rt).map_err(|_| AllocError)?;
+    let writer = Writer {
+        orders: taking,
+        outlet: Outlet::new(Arc::try_clone(&shared)?, told),
+        frames: ConnWriter::new(alloc, output),
+        input_ended: false,
+        closed: false,
+        failed: None,
+    };
+    let orders = Orders {
+        ring: putting,
+        shared: Arc::try_clone(&shared)?,
+    };
+    let mut intake = Intake::new(shared, came, calls);
+    let mut reader = Reader::new(rt, alloc, methods, orders, start);
+    let Ok(writing) = thread::spawn(&rt, move || writer.write(&rt)) else {
+        return Err(AllocError);
+    };
+    let read = reader.read(&mut intake, input);
+    reader.end();
+    let written = writing.join(&rt);
+    Ok(of_both(read, written))
+}
+
+/// How a connection ended, by what the reader and the writer see.
+fn of_both(read: Ending, written: Option<Ending>) -> Ending {
+    match (read, written) {
+        (Ending::OutOfMemory, _) => Ending::OutOfMemory,
+        (_, Some(ending)) => ending,
+        (ending, None) => ending,
+    }
+}

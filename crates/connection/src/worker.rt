@@ -1,0 +1,166 @@
+//! What a worker does with a call.
+
+ghost use Rattle.std.specs.Prelude.{◌≡◌, ◌<◌, length};
+ghost use Rattle.handlers.specs.Listed.{listed};
+
+use crate::shared::Shared;
+use crate::slot::{InLane, Job, OutLane, Slot};
+use callrun::{CallRun, Turn};
+use h2frame::StreamId;
+use handlers::Methods;
+use std::alloc::Global;
+use std::sync::ledger::Ledger;
+use std::sync::{Arc, Wait};
+use std::thread;
+use std::thread::{JoinHandle, Threads};
+use std::time::{Clock, Duration, Instant};
+
+/// How long a call waits at most before it looks again: at the clock, and whether it is live; in milliseconds.
+const STEP: u64 = 1;
+
+/// What a worker has, beside the methods.
+#[derive(Drop)]
+pub(crate) struct Worker<A: Ledger, B: Ledger, C: Ledger> {
+    pub(crate) alloc: Global,
+    /// Where it is handed its calls.
+    pub(crate) slot: Arc<Slot>,
+    pub(crate) shared: Arc<Shared<A, B, C>>,
+    /// When the connection began.
+    pub(crate) start: Instant,
+}
+
+/// What a thread does with the methods.
+pub(crate) trait Work<R> {
+    fn work(self, rt: &R, methods: &Methods);
+}
+
+/// Starts a thread that does this. None where no thread can be had: then the work is dropped.
+pub(crate) fn start_thread<K, R>(rt: R, work: K, methods: Arc<Methods>) -> Option<JoinHandle<()>>
+where
+    K: Work<R> + Send + Drop + 'static,
+    R: Threads + Copy + Send + Drop + 'static,
+{
+    match thread::spawn(&rt, move || work.work(&rt, &methods)) {
+        Ok(handle) => Some(handle),
+        Err(_refused) => None,
+    }
+}
+
+impl<A: Ledger, B: Ledger, C: Ledger, R: Wait + Clock> Work<R> for Worker<A, B, C> {
+    /// Answers one call after another, until no more come.
+    fn work(self, rt: &R, methods: &Methods) {
+        for _ in rt.forever() {
+            let Some(job) = self.slot.next(rt) else {
+                return;
+            };
+            self.answer(rt, methods, job);
+            self.slot.rest();
+            self.shared.reader.ring();
+        }
+    }
+}
+
+impl<A: Ledger, B: Ledger, C: Ledger> Worker<A, B, C> {
+    /// Answers a call.
+    fn answer<R: Wait + Clock>(&self, rt: &R, methods: &Methods, job: Job) {
+        let Job {
+            id,
+            index,
+            head,
+            taker,
+            giver,
+            opened,
+        } = job;
+        if methods.get(index).is_none() {
+            return;
+        }
+        let mut run = CallRun::new(self.alloc, methods, index, head, taker, giver, opened);
+        'turns: for _ in rt.forever() {
+            let mark = self.slot.bell.mark();
+            let now = self.now(rt, &run);
+            match run.turn(methods, now) {
+                Turn::Went => {}
+                Turn::Over => break,
+                Turn::Nothing | Turn::Full => {
+                    if !self.is_live(rt, id, &mut run) {
+                        self.give_up(rt, methods, &mut run);
+                        break;
+                    }
+                    self.slot
+                        .bell
+                        .wait_past(rt, mark, Duration::from_millis(STEP));
+                }
+            }
+        }
+        self.settle(rt, id, run);
+    }
+
+    /// Returns what was taken, and says whether the call is live still.
+    fn is_live(&self, rt: &impl Wait, id: StreamId, run: &mut CallRun<InLane, OutLane>) -> bool
+        ensures { run.new.index ≡ run.old.index }
+    {
+        self.shared.writer.ring();
+        let credit = run.credit();
+        let mut book = self.shared.book.lock(rt);
+        if credit > 0 {
+            // Where the call is no longer live, its bytes were returned already.
+            let _ = book.give_back(id, credit);
+        }
+        book.is_live(id)
+    }
+
+    /// Leaves a call that is no longer live, unless it was reset: then that is what it is told last.
+    fn give_up<R: Wait + Clock>(
+        &self,
+        rt: &R,
+        methods: &Methods,
+        run: &mut CallRun<InLane, OutLane>,
+    )
+        requires { run.old.index < length (listed methods.now) }
+    {
+        'turns: for _ in rt.forever() {
+            let now = self.now(rt, run);
+            match run.turn(methods, now) {
+                Turn::Went => {}
+                Turn::Over => return,
+                Turn::Nothing | Turn::Full => {
+                    run.leave(methods);
+                    return;
+                }
+            }
+        }
+    }
+
+    /// Returns what was taken of a call that is over. One without trailers is live no more.
+    fn settle(&self, rt: &impl Wait, id: StreamId, run: CallRun<InLane, OutLane>) {
+        let mut run = run;
+        let credit = run.credit();
+        let (_taker, _given, code) = run.into_ends();
+        {
+            let mut book = self.shared.book.lock(rt);
+            if credit > 0 {
+                let _ = book.give_back(id, credit);
+            }
+            if code.is_none() {
+                book.cut(id);
+            }
+        }
+        self.shared.writer.ring();
+    }
+
+    /// The moment, in nanoseconds of the connection. No clock is read for a call without a deadline.
+    fn now(&self, rt: &impl Clock, run: &CallRun<InLane, OutLane>) -> u64 {
+        if run.has_deadline() {
+            return moment(rt, self.start);
+        }
+        0
+    }
+}
+
+/// How many nanoseconds there were since the start; the greatest number where the clock doesn't tell.
+pub(crate) fn moment(rt: &impl Clock, start: Instant) -> u64 {
+    match start.elapsed(rt) {
+        Ok(past) => u64::try_from(past.as_nanos()).unwrap_or(u64::MAX),
+        Err(_) => u64::MAX,
+    }
+}

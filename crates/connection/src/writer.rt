@@ -1,0 +1,160 @@
+//! The writing thread of a connection.
+
+use crate::orders::Order;
+use crate::outlet::Outlet;
+use crate::report::Ending;
+use crate::slot::OutLane;
+use connwriter::{ConnWriter, Filled, Standing, Taking};
+use device::ConnWrite;
+use flow::MAX_LIVE;
+use h2frame::ErrorCode;
+use lane::RingOut;
+use outwriter::Control;
+use std::sync::Wait;
+use std::sync::ledger::Ledger;
+use std::time::Duration;
+
+/// How long the writer waits at most before it looks again, in milliseconds.
+const STEP: u64 = 100;
+
+/// What the writing thread of a connection has.
+#[derive(Drop)]
+pub(crate) struct Writer<A: Ledger, B: Ledger, C: Ledger, W: ConnWrite> {
+    pub(crate) orders: RingOut<Order>,
+    pub(crate) outlet: Outlet<A, B, C>,
+    pub(crate) frames: ConnWriter<OutLane, W>,
+    /// Whether no more comes from the peer.
+    pub(crate) input_ended: bool,
+    /// Whether no more orders come.
+    pub(crate) closed: bool,
+    /// The error of its own that the writer ended the connection with.
+    pub(crate) failed: Option<ErrorCode>,
+}
+
+impl<A: Ledger, B: Ledger, C: Ledger, W: ConnWrite + Drop> Writer<A, B, C, W> {
+    /// Writes until no more is to be written, and says how the connection ended as far as the writer sees.
+    pub(crate) fn write(self, rt: &impl Wait) -> Option<Ending> {
+        let mut writer = self;
+        for _ in rt.forever() {
+            let mark = writer.outlet.shared.writer.mark();
+            writer.drain(rt);
+            writer.announce(rt);
+            let filled = writer.frames.fill();
+            let is_silent = writer.frames.is_flushed();
+            writer.flush(rt);
+            match filled {
+                Filled::Over => break,
+                Filled::Full => {}
+                Filled::Idle | Filled::Stopped => {
+                    if writer.has_ended(rt, filled) {
+                        break;
+                    }
+                    if is_silent {
+                        writer
+                            .outlet
+                            .shared
+                            .writer
+                            .wait_past(rt, mark, Duration::from_millis(STEP));
+                    }
+                }
+            }
+        }
+        writer.ending()
+    }
+
+    /// Takes all orders that wait.
+    fn drain(&mut self, rt: &impl Wait) {
+        let mut some = false;
+        for _ in 0..u64::MAX {
+            let Some(order) = self.orders.take() else {
+                break;
+            };
+            some = true;
+            self.take(rt, order);
+        }
+        if some {
+            self.outlet.shared.reader.ring();
+        }
+    }
+
+    /// Takes an order.
+    fn take(&mut self, rt: &impl Wait, order: Order) {
+        match &order {
+            Control::InputEnded => self.input_ended = true,
+            Control::Close => self.closed = true,
+            _ => {}
+        }
+        let last = self.outlet.shared.last();
+        match self.frames.take(order, last) {
+            Taking::Done => {}
+            Taking::Ended(0) => {
+                self.failed = Some(ErrorCode::FlowControlError);
+                self.stop(rt);
+            }
+            Taking::Ended(id) => self.outlet.shared.book.lock(rt).cut(id),
+            Taking::Unanswered(_) | Taking::HandedBack(_) => self.stop(rt),
+        }
+    }
+
+    /// Owes the peer what credit is due.
+    fn announce(&mut self, rt: &impl Wait) {
+        let Writer { outlet, frames, .. } = self;
+        outlet.announce(rt, frames);
+    }
+
+    /// Writes what is in the buffer. The calls whose last frame is in it take no more DATA.
+    fn flush(&mut self, rt: &impl Wait) {
+        {
+            let outlet = &self.outlet;
+            let mut book = outlet.shared.book.lock(rt);
+            for id in self.frames.ended() {
+                book.end_local(*id);
+            }
+        }
+        if self.frames.flush().is_err() {
+            self.stop(rt);
+        }
+    }
+
+    /// Whether nothing more can be written. Once the input has ended no window opens, so the calls that wait for one are cut.
+    fn has_ended(&mut self, rt: &impl Wait, filled: Filled) -> bool {
+        if filled == Filled::Stopped {
+            self.stop(rt);
+            return self.closed;
+        }
+        if self.input_ended {
+            self.cut_held(rt);
+        }
+        false
+    }
+
+    /// Cuts the calls that wait for a window.
+    fn cut_held(&mut self, rt: &impl Wait) {
+        let outlet = &self.outlet;
+        let mut book = outlet.shared.book.lock(rt);
+        for place in (0..MAX_LIVE).rev() {
+            if let Some(id) = book.live_id(place) {
+                if self.frames.held(id) {
+                    book.cut(id);
+                }
+            }
+        }
+    }
+
+    /// Nothing more is written: no call is live.
+    fn stop(&mut self, rt: &impl Wait) {
+        self.outlet.shared.book.lock(rt).stop();
+        self.outlet.shared.stop();
+    }
+
+    fn ending(&self) -> Option<Ending> {
+        match self.frames.standing() {
+            Standing::OutOfMemory => Some(Ending::OutOfMemory),
+            Standing::Broken => Some(Ending::WriteFailed),
+            Standing::Going => match self.failed {
+                Some(code) => Some(Ending::ProtocolError(code)),
+                None => None,
+            },
+        }
+    }
+}

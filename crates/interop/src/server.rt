@@ -1,0 +1,141 @@
+//! The command `serve`: the interop test server.
+
+use crate::target::read_port;
+use connection::serve_connection;
+use device::Marked;
+use handlers::{
+    CacheableUnaryCall, EmptyCall, FullDuplexCall, HalfDuplexCall, Method, Methods,
+    StreamingInputCall, StreamingOutputCall, UnaryCall,
+};
+use std::alloc::{AllocError, Global};
+use std::io;
+use std::net::{Net, TcpListener, TcpStream};
+use std::sync::{Arc, Wait};
+use std::thread;
+use std::thread::{JoinHandle, Threads};
+use std::time::{Clock, Duration};
+
+/// How long no connection is taken after one could not be, in milliseconds.
+const PAUSE: u64 = 10;
+
+/// What `serve` is told: the port, and how many connections it serves before it ends, where it ends.
+#[derive(Clone, Copy, Debug, PartialEq, Eq)]
+pub struct ServeWords {
+    pub port: u16,
+    pub connections: Option<u32>,
+}
+
+/// The words behind `serve`: `--port` and `--conns` with their values, in any order. The port, 1 to 65,535, has to be there.
+pub fn read_serve_words(words: &[String]) -> Option<ServeWords> {
+    let mut port = None;
+    let mut connections = None;
+    let mut rest = words;
+    while !rest.is_empty() {
+        let (option, behind) = rest.split_first()?;
+        let (value, behind) = behind.split_first()?;
+        match option.as_str() {
+            "--port" => port = Some(read_port(value.as_str())?),
+            "--conns" => connections = Some(value.as_str().parse::<u32>().ok()?),
+            _ => return None,
+        }
+        rest = behind;
+    }
+    let port = port?;
+    Some(ServeWords { port, connections })
+}
+
+/// Listens on the port of 127.0.0.1, and serves each connection in a thread of its own: all that come, or as many as the
+/// words say. It fails where the port can't be had.
+pub fn serve<R>(rt: R, words: ServeWords) -> io::Result<()>
+where
+    R: Net<Stream = TcpStream, Listener = TcpListener> + Print + AllocGlobal,
+    R: Threads + Wait + Clock + Copy + Send + Sync + Drop + 'static,
+{
+    let alloc = rt.alloc();
+    let methods = Arc::new(alloc, all_methods(alloc)?)?;
+    let port = words.port;
+    let address = format!(in alloc; "127.0.0.1:{port}")?;
+    let listener = TcpListener::bind(&rt, address.as_str())?;
+    println!(rt; "listening {address}")?;
+    match words.connections {
+        Some(count) => serve_some(rt, alloc, &listener, &methods, count),
+        None => serve_all(rt, alloc, &listener, &methods),
+    }
+}
+
+/// Serves all connections that come.
+fn serve_all<R>(
+    rt: R,
+    alloc: Global,
+    listener: &TcpListener,
+    methods: &Arc<Methods>,
+) -> io::Result<()>
+where
+    R: Threads + Wait + Clock + Copy + Send + Sync + Drop + 'static,
+{
+    for _ in rt.forever() {
+        if serve_next(rt, alloc, listener, methods).is_err() {
+            let _ = thread::sleep(&rt, Duration::from_millis(PAUSE));
+        }
+    }
+    unreachable!()
+}
+
+/// Serves so many connections, to the end of each.
+fn serve_some<R>(
+    rt: R,
+    alloc: Global,
+    listener: &TcpListener,
+    methods: &Arc<Methods>,
+    count: u32,
+) -> io::Result<()>
+where
+    R: Threads + Wait + Clock + Copy + Send + Sync + Drop + 'static,
+{
+    let mut served = Vec::new(alloc);
+    for _ in 0..count {
+        served.push(serve_next(rt, alloc, listener, methods)?)?;
+    }
+    for connection in served {
+        connection.join(&rt);
+    }
+    Ok(())
+}
+
+/// Takes the next connection, and serves it in a thread of its own.
+fn serve_next<R>(
+    rt: R,
+    alloc: Global,
+    listener: &TcpListener,
+    methods: &Arc<Methods>,
+) -> io::Result<JoinHandle<()>>
+where
+    R: Threads + Wait + Clock + Copy + Send + Sync + Drop + 'static,
+{
+    let (input, _peer) = listener.accept()?;
+    // So that a small frame leaves at once.
+    input.set_nodelay(true)?;
+    let output = input.try_clone()?;
+    let methods = Arc::try_clone(methods)?;
+    let serving = thread::spawn(&rt, move || {
+        let mut input = Marked::new(input);
+        let _ending = serve_connection(rt, alloc, &mut input, Marked::new(output), methods);
+    });
+    match serving {
+        Ok(handle) => Ok(handle),
+        Err(_refused) => Err(io::Error::from(io::ErrorKind::OutOfMemory)),
+    }
+}
+
+/// The methods of `grpc.testing.TestService`.
+fn all_methods(alloc: Global) -> Result<Methods, AllocError> {
+    let mut methods: Vec<Box<dyn Method>> = Vec::new(alloc);
+    methods.push(Box::new(alloc, EmptyCall)?)?;
+    methods.push(Box::new(alloc, UnaryCall)?)?;
+    methods.push(Box::new(alloc, CacheableUnaryCall)?)?;
+    methods.push(Box::new(alloc, StreamingInputCall)?)?;
+    methods.push(Box::new(alloc, StreamingOutputCall)?)?;
+    methods.push(Box::new(alloc, FullDuplexCall)?)?;
+    methods.push(Box::new(alloc, HalfDuplexCall)?)?;
+    Ok(Methods::new(methods))
+}
