@@ -100,9 +100,7 @@ fn block_of(alloc: Global, text: &str) -> Result<Vec<u8>> {
             Some((digits, count)) => (digits, count.parse::<usize>()?),
             None => (word, 1),
         };
-        let bytes = hex::decode(alloc, digits)
-            .ok()
-            .context("the block is not hexadecimal")?;
+        let bytes = hex::decode(alloc, digits).context("the block's hexadecimal digits")?;
         for _ in 0..count {
             block.extend_from_slice(bytes.as_slice())?;
         }
