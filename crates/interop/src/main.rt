@@ -29,6 +29,7 @@ mod words;
 use body::{RunFault, run_body};
 use client::run_cases;
 use device::Marked;
+use server::{read_serve_words, serve};
 use std::io::ErrorKind;
 use std::net::{Net, TcpListener, TcpStream};
 use std::process::ExitCode;
@@ -37,7 +38,6 @@ use std::sync::Wait;
 use std::thread::Threads;
 use std::time::Clock;
 use std::{env, io};
-use server::{read_serve_words, serve};
 use target::read_case_words;
 use words::{Words, WordsFault};
 

@@ -1,19 +1,18 @@
 //! The command `serve`: the interop test server.
 
-use crate::target::read_port;
+use crate::target::read_number;
 use connection::serve_connection;
 use device::Marked;
 use handlers::{
     CacheableUnaryCall, EmptyCall, FullDuplexCall, HalfDuplexCall, Method, Methods,
     StreamingInputCall, StreamingOutputCall, UnaryCall,
 };
-use std::alloc::{AllocError, Global};
-use std::io;
+use std::alloc::Global;
 use std::net::{Net, TcpListener, TcpStream};
 use std::sync::{Arc, Wait};
-use std::thread;
 use std::thread::{JoinHandle, Threads};
 use std::time::{Clock, Duration};
+use std::{io, thread};
 
 /// How long no connection is taken after one could not be, in milliseconds.
 const PAUSE: u64 = 10;
@@ -22,10 +21,10 @@ const PAUSE: u64 = 10;
 #[derive(Clone, Copy, Debug, PartialEq, Eq)]
 pub struct ServeWords {
     pub port: u16,
-    pub connections: Option<u32>,
+    pub connections: Option<u16>,
 }
 
-/// The words behind `serve`: `--port` and `--conns` with their values, in any order. The port, 1 to 65,535, has to be there.
+/// The words behind `serve`: `--port` and `--conns` with their values, in any order, each 1 to 65,535. The port has to be there.
 pub fn read_serve_words(words: &[String]) -> Option<ServeWords> {
     let mut port = None;
     let mut connections = None;
@@ -34,8 +33,8 @@ pub fn read_serve_words(words: &[String]) -> Option<ServeWords> {
         let (option, behind) = rest.split_first()?;
         let (value, behind) = behind.split_first()?;
         match option.as_str() {
-            "--port" => port = Some(read_port(value.as_str())?),
-            "--conns" => connections = Some(value.as_str().parse::<u32>().ok()?),
+            "--port" => port = Some(read_number(value.as_str())?),
+            "--conns" => connections = Some(read_number(value.as_str())?),
             _ => return None,
         }
         rest = behind;
@@ -44,15 +43,23 @@ pub fn read_serve_words(words: &[String]) -> Option<ServeWords> {
     Some(ServeWords { port, connections })
 }
 
-/// Listens on the port of 127.0.0.1, and serves each connection in a thread of its own: all that come, or as many as the
-/// words say. It fails where the port can't be had.
+/// Listens on the port of 127.0.0.1, and serves `grpc.testing.TestService` on each connection in a thread of its own: on all
+/// that come, or on as many as the words say. It fails where the port can't be had.
 pub fn serve<R>(rt: R, words: ServeWords) -> io::Result<()>
 where
     R: Net<Stream = TcpStream, Listener = TcpListener> + Print + AllocGlobal,
     R: Threads + Wait + Clock + Copy + Send + Sync + Drop + 'static,
 {
     let alloc = rt.alloc();
-    let methods = Arc::new(alloc, all_methods(alloc)?)?;
+    let mut methods: Vec<Box<dyn Method>> = Vec::new(alloc);
+    methods.push(Box::new(alloc, EmptyCall)?)?;
+    methods.push(Box::new(alloc, UnaryCall)?)?;
+    methods.push(Box::new(alloc, CacheableUnaryCall)?)?;
+    methods.push(Box::new(alloc, StreamingInputCall)?)?;
+    methods.push(Box::new(alloc, StreamingOutputCall)?)?;
+    methods.push(Box::new(alloc, FullDuplexCall)?)?;
+    methods.push(Box::new(alloc, HalfDuplexCall)?)?;
+    let methods = Arc::new(alloc, Methods::new(methods))?;
     let port = words.port;
     let address = format!(in alloc; "127.0.0.1:{port}")?;
     let listener = TcpListener::bind(&rt, address.as_str())?;
@@ -87,7 +94,7 @@ fn serve_some<R>(
     alloc: Global,
     listener: &TcpListener,
     methods: &Arc<Methods>,
-    count: u32,
+    count: u16,
 ) -> io::Result<()>
 where
     R: Threads + Wait + Clock + Copy + Send + Sync + Drop + 'static,
@@ -125,17 +132,4 @@ where
         Ok(handle) => Ok(handle),
         Err(_refused) => Err(io::Error::from(io::ErrorKind::OutOfMemory)),
     }
-}
-
-/// The methods of `grpc.testing.TestService`.
-fn all_methods(alloc: Global) -> Result<Methods, AllocError> {
-    let mut methods: Vec<Box<dyn Method>> = Vec::new(alloc);
-    methods.push(Box::new(alloc, EmptyCall)?)?;
-    methods.push(Box::new(alloc, UnaryCall)?)?;
-    methods.push(Box::new(alloc, CacheableUnaryCall)?)?;
-    methods.push(Box::new(alloc, StreamingInputCall)?)?;
-    methods.push(Box::new(alloc, StreamingOutputCall)?)?;
-    methods.push(Box::new(alloc, FullDuplexCall)?)?;
-    methods.push(Box::new(alloc, HalfDuplexCall)?)?;
-    Ok(Methods::new(methods))
 }

@@ -32,7 +32,7 @@ pub fn read_case_words(words: &[String]) -> Option<CaseWords<'_>> {
         let (option, behind) = rest.split_first()?;
         let (value, behind) = behind.split_first()?;
         match option.as_str() {
-            "--port" => port = Some(read_port(value.as_str())?),
+            "--port" => port = Some(read_number(value.as_str())?),
             "--host" => host = value.as_str(),
             _ => return None,
         }
@@ -45,8 +45,8 @@ pub fn read_case_words(words: &[String]) -> Option<CaseWords<'_>> {
     })
 }
 
-/// A port that may be connected to.
-pub fn read_port(text: &str) -> Option<u16>
+/// A port, or a number of connections: 1 to 65,535.
+pub fn read_number(text: &str) -> Option<u16>
     ensures { IfSome result (λ port. 0 < port) }
 {
     match text.parse::<u16>() {
