@@ -105,6 +105,7 @@ impl<L: Lane<Item = OutItem>> OutCore<L> {
         ensures whose { IfErr result (λ fault. Concerns fault control) }
         ensures alive { self.new.is_dead ≡ self.old.is_dead }
         ensures dead { self.old.is_dead ≡ true → result ≡ Err (out_fault.OutOfMemory (Some control)) }
+        ensures dead_stays { self.old.is_dead ≡ true → self.new ≡ self.old }
     {
         if self.is_dead {
             return Err(OutFault::OutOfMemory(Some(control)));
