@@ -135,9 +135,7 @@ fn lines_of(alloc: Global, bytes: &[u8], size: usize) -> Result<String> {
 fn bytes_of(rt: &(impl Files + AllocGlobal), name: &str) -> Result<Vec<u8>> {
     let path = format!(in rt.alloc(); "recordings/{name}.hex")?;
     let digits = fs::read_to_string(rt, path.as_str())?;
-    hex::decode(rt.alloc(), digits.trim())
-        .ok()
-        .context("the file is not hexadecimal")
+    hex::decode(rt.alloc(), digits.trim()).context("the file's hexadecimal digits")
 }
 
 /// The lines of a connection, the same in pieces of each size.

@@ -59,9 +59,9 @@ impl Part {
             self.add_heads(times)?;
             return Ok(());
         }
-        let bytes = hex::decode(alloc, repeated)
-            .ok()
-            .context("an item is neither a name nor hexadecimal")?;
+        let bytes = hex::decode(alloc, repeated).context(
+            "an item that is no name, as hexadecimal digits",
+        )?;
         for _ in 0..times {
             self.bytes.extend_from_slice(bytes.as_slice())?;
         }

@@ -5,7 +5,7 @@ use super::peer::Peer;
 use anyhow::{Context, Result, bail};
 use callbox::Sender;
 use h2frame::{ErrorCode, PeerSetting, PeerSettings};
-use outwriter::{Control, Next, OutCore};
+use outwriter::{Control, Next, OutCore, OutFault};
 use std::alloc::Global;
 use std::mem;
 
@@ -33,10 +33,11 @@ pub fn perform(alloc: Global, core: &mut Core, peer: &mut Peer, act: &str) -> Re
     }
 }
 
-/// Takes a control. What is refused is told.
+/// Takes a control. One that is refused for what it says is told.
 fn take(core: &mut Core, peer: &mut Peer, order: Order) -> Result<()> {
     match core.control(order) {
         Ok(()) => Ok(()),
+        Err(OutFault::OutOfMemory(_)) => bail!("no memory is left"),
         Err(fault) => peer.tell_fault(fault.code()),
     }
 }

@@ -1,10 +1,10 @@
 //! The calls that acts open, and the fields of header blocks.
 
 use account::OutItem;
-use anyhow::{Context, Result};
+use anyhow::{Result, bail};
 use bytes::Bytes;
 use callbox::{Giver, Sender, open_out};
-use lane::RingLane;
+use lane::{PutFault, RingLane};
 use lists::{Field, Octets, Sequence};
 use std::alloc::Global;
 
@@ -32,9 +32,17 @@ pub fn fields(alloc: Global, name: &str, len: usize) -> Result<Sequence<Field>> 
 pub fn sender(alloc: Global, id: u32, lengths: &str, ended: bool) -> Result<Sender<Ring>> {
     let head = fields(alloc, ":status", 3)?;
     let (mut giver, sender) = open_out::<Ring>(alloc, id, ROOM)?;
-    giver.head(head).ok().context("the head is refused")?;
+    given(giver.head(head))?;
     give_all(alloc, giver, lengths, ended)?;
     Ok(sender)
+}
+
+/// Why an item was not given, as an error.
+fn given<T: Drop>(answer: Result<(), PutFault<T>>) -> Result<()> {
+    if let Err(fault) = answer {
+        bail!("an item is not given: {fault}");
+    }
+    Ok(())
 }
 
 /// Gives what comes behind the head.
@@ -54,7 +62,7 @@ fn give_all(alloc: Global, mut giver: Giver<Ring>, lengths: &str, ended: bool) -
 fn give(alloc: Global, giver: &mut Giver<Ring>, len: usize) -> Result<()> {
     let message = Bytes::from_vec(vec![in alloc; 0; len.min(LONGEST)]?)?;
     if giver.has_head() {
-        giver.give(message).ok().context("a message is refused")?;
+        given(giver.give(message))?;
     }
     Ok(())
 }
