@@ -23,10 +23,10 @@ use Rattle.outwriter.specs.Credits.{Owed, owed_on, pays, Forgets, TakesAll}
 use Rattle.outwriter.specs.Frames.{resets, ends, update_on, reset_frame, data_frame, update_frame, headers_frame, continuation_frame, ends_stream, ends_block}
 use Rattle.outwriter.specs.Histories.{is_over, closing_of, spending_of}
 use Rattle.outwriter.specs.RunState.{Mirrors, resets_of, HasWindows, HasOver, HasDue, HasBlock, HasHead, HasCredit, HasSilence, Sets, spent, closing, Keeps, Ends}
-use Rattle.outwriter.specs.Runs.{IsAsked, Fragments, Continues, MayWrite, fragments, unfinished, updated, granted}
+use Rattle.outwriter.specs.Runs.{due, IsAsked, Fragments, Continues, MayWrite, fragments, unfinished, updated, granted}
 use Rattle.outwriter.specs.Steps.{Step, Written, frames_of}
 use Rattle.outwriter.proofs.RunStateSteps.{same-block}
-use Rattle.outwriter.proofs.FrameSteps.{not-over, none-over, none-begun, no-updates, credits-none, tells-first, due-told, no-block, over-same, due-same, tells-none, credit-same, windows-same, head-same, plain-written, IsPlain}
+use Rattle.outwriter.proofs.FrameSteps.{in-answers, in-goaways, not-over, none-over, none-begun, no-updates, credits-none, tells-first, due-told, no-block, over-same, due-same, tells-none, credit-same, windows-same, head-same, plain-written, IsPlain}
 
 -- the windows go on by what a frame closes and spends
 pub windows-more : (run : List Step) (frame : Frame) (w windows : Windows) (more : List WindowStep)
@@ -105,7 +105,9 @@ reset-written run begun gone w windows over after waiting block owed less id cod
       record {
         first = λ e. absurd (none-begun (frames_of run) (m.begins ∙ is_begun) e);
         windows = λ e. cc;
-        answers = tells-first run (reset_frame id code) (due_kind.Reset id code) waiting refl m.answers;
+        content = λ e. cc;
+        answers = in-answers _ (due run) (tells-first run (reset_frame id code) (due_kind.Reset id code) waiting refl m.answers);
+        parts = in-goaways _ (due run) (tells-first run (reset_frame id code) (due_kind.Reset id code) waiting refl m.answers);
         asked = λ e. (code, All-head Asked (id, code) (flat_map resets_of waiting) m.answers.1, refl);
         block = subst (λ (o : Option Fragments). Continues o (reset_frame id code)) (sym nothing) (λ e. cc);
         not_reset = still.0;
@@ -221,7 +223,9 @@ headers-written run begun gone w windows over after waiting left block rest owed
       record {
         first = λ e. absurd (none-begun (frames_of run) (m.begins ∙ is_begun) e);
         windows = λ e. cc;
-        answers = tells-none run (headers_frame id ends_it whole fragment) left refl dues;
+        content = λ e. cc;
+        answers = in-answers _ (due run) (tells-none run (headers_frame id ends_it whole fragment) left refl dues);
+        parts = in-goaways _ (due run) (tells-none run (headers_frame id ends_it whole fragment) left refl dues);
         asked = λ e. cc;
         block = subst (λ (o : Option Fragments). Continues o (headers_frame id ends_it whole fragment)) (sym nothing) (λ e. cc);
         not_reset = still.0;
@@ -282,7 +286,9 @@ continuation-written run begun gone w over waiting block rest owed made is is_re
       record {
         first = λ e. absurd (none-begun (frames_of run) (m.begins ∙ is_begun) e);
         windows = λ e. cc;
-        answers = tells-none run (continuation_frame block.id (is_short block) (take 16384 block.rest)) waiting refl m.answers;
+        content = λ e. cc;
+        answers = in-answers _ (due run) (tells-none run (continuation_frame block.id (is_short block) (take 16384 block.rest)) waiting refl m.answers);
+        parts = in-goaways _ (due run) (tells-none run (continuation_frame block.id (is_short block) (take 16384 block.rest)) waiting refl m.answers);
         asked = λ e. cc;
         block = goes-on (unfinished run) block.id (is_short block) (take 16384 block.rest) m.goes_on.1 m.goes_on.2;
         not_reset = m.not_reset;
@@ -309,20 +315,22 @@ continuation-written run begun gone w over waiting block rest owed made is is_re
 
 pub data-written : (run : List Step) (begun gone : Bool) (w windows : Windows) (over : List (ℕ × Bool)) (waiting : List Due)
     (block : Option HeaderBlock) (owed : Owed) (id : ℕ) (bytes : List ℕ) (made : Frame)
-    → made ≡ data_frame id bytes → begun ≡ true → gone ≡ false → block ≡ None → lookup (nat_eq id) over ≡ None → length bytes ≤ 16384
+    → made ≡ data_frame id bytes → begun ≡ true → gone ≡ false → block ≡ None → lookup (nat_eq id) over ≡ None → 0 < length bytes → length bytes ≤ 16384
     → ((history : List WindowStep) → Follows history w → length bytes ≤ room_after history id)
     → ((history : List WindowStep) → Follows history w → Follows (spent id (length bytes) ++ history) windows)
     → Mirrors run begun gone w over waiting block owed
     → MayWrite run made × Mirrors (Written made ∷ run) begun gone windows over waiting block owed
-data-written run begun gone w windows over waiting block owed id bytes made is is_begun not_gone no_block is_open short fits follows m =
+data-written run begun gone w windows over waiting block owed id bytes made is is_begun not_gone no_block is_open some short fits follows m =
     let nothing : unfinished run ≡ None = subst (HasBlock run) no_block m.goes_on in
     let still = not-over run id (sym (m.is_over id).0 ∙ none-over (lookup (nat_eq id) over) is_open) in
     let none = no-updates run (data_frame id bytes) refl in
     subst (λ (f : Frame). MayWrite run f × Mirrors (Written f ∷ run) begun gone windows over waiting block owed) (sym is) (
       record {
         first = λ e. absurd (none-begun (frames_of run) (m.begins ∙ is_begun) e);
-        windows = λ e. (short, λ some. (m.windows_follow.0, m.windows_follow.1, fits m.windows_follow.0 m.windows_follow.2));
-        answers = tells-none run (data_frame id bytes) waiting refl m.answers;
+        windows = λ e. (short, λ more. (m.windows_follow.0, m.windows_follow.1, fits m.windows_follow.0 m.windows_follow.2));
+        content = λ e. inl some;
+        answers = in-answers _ (due run) (tells-none run (data_frame id bytes) waiting refl m.answers);
+        parts = in-goaways _ (due run) (tells-none run (data_frame id bytes) waiting refl m.answers);
         asked = λ e. cc;
         block = subst (λ (o : Option Fragments). Continues o (data_frame id bytes)) (sym nothing) (λ e. cc);
         not_reset = still.0;
@@ -350,7 +358,7 @@ data-written run begun gone w windows over waiting block owed id bytes made is i
 update-plain : (id n : ℕ) → IsPlain (update_frame id n)
 update-plain id n = record { no_data = λ e. cc; no_continuation = λ e. cc; no_fragment = λ begun. refl; no_closing = refl; no_spending = refl; no_end = refl; no_reset = refl }
 
-told-amount : (n : ℕ) → n < 2 ^ 31 → increment_of (bytes_high_first 4 n) ≡ n
+pub told-amount : (n : ℕ) → n < 2 ^ 31 → increment_of (bytes_high_first 4 n) ≡ n
 told-amount n small = ap (λ k. k % 2 ^ 31) (from_be_bytes-to_be_bytes_4 n (omega (arith, small))) ∙ small_mod n (2 ^ 31) small
 
 update-amount : (id n k : ℕ) → n < 2 ^ 31 → update_on k (update_frame id n) ≡ (if k == id then n else 0)

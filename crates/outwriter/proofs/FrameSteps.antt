@@ -1,8 +1,9 @@
 -- What is kept follows from a run of one more frame, and the frame might be written.
-use Rattle.std.proofs.Common.{◌≡◌, ℕ, ◌+◌, ◌<◌, ◌≤◌, ◌^◌, ◌==◌, refl, sym, ap, subst, ◌∙◌, Bool, true, false, List, [], ◌∷◌, ◌++◌, Option, Some, None, arith, append-nil, append_assoc, nat_eq, true≢false}
-use Rattle.std.specs.Prelude.{flat_map, ◌||◌, ◌&&◌, is_some, if◌then◌else◌}
+use Rattle.std.proofs.Common.{◌≡◌, ℕ, ◌+◌, ◌<◌, ◌≤◌, ◌^◌, ◌==◌, inl, inr, refl, sym, ap, subst, ◌∙◌, Bool, true, false, List, [], ◌∷◌, ◌++◌, Option, Some, None, arith, append-nil, append_assoc, nat_eq, true≢false}
+use Rattle.std.specs.Prelude.{filter, not, flat_map, ◌||◌, ◌&&◌, is_some, if◌then◌else◌}
 use Rattle.std.specs.List.{list_any}
 use Rattle.std.specs.Map.{lookup}
+use Rattle.std.proofs.lemmas.List.Elements.{filter-append}
 use Rattle.std.proofs.lemmas.List.Sums.{sum_by-cons}
 use Rattle.account.specs.Accounts.{Begins}
 use Rattle.flow.specs.WindowHistory.{Step as WindowStep}
@@ -11,14 +12,43 @@ use Rattle.h2frame.specs.declared.error_code.ErrorCode.{ErrorCode}
 use Rattle.h2frame.specs.declared.frame.Frame.{Frame}
 use Rattle.h2frame.specs.declared.kind.FrameKind.TheVariants as kind
 use Rattle.outwriter.specs.declared.blocks.HeaderBlock.{HeaderBlock}
+use Rattle.outwriter.specs.declared.control.Control.TheVariants.{Goaway}
 use Rattle.outwriter.specs.declared.due.Due.{Due}
 use Rattle.outwriter.specs.Credits.{Owed}
 use Rattle.outwriter.specs.Frames.{is_last, reset_frame, resets, ends, ends_stream, is_reset, update_on, update_kind, update_frame, ends_block, first_settings, settings_ack, ping_ack, goaway_frame}
 use Rattle.outwriter.specs.Histories.{closing_of, spending_of, is_over}
 use Rattle.outwriter.specs.RunState.{Mirrors, HasWindows, HasOver, HasDue, HasBlock, HasHead, HasCredit, HasSilence, duties_of, resets_of}
-use Rattle.outwriter.specs.Runs.{has_begun, IsAsked, Fragments, unfinished, granted, updated, due, told, told_by, MayWrite, Continues, MayFollowEnd, fragments}
+use Rattle.outwriter.specs.Runs.{has_begun, IsAsked, Fragments, unfinished, granted, granted_by, updated, due, told, told_by, is_goaway, goaways, without_goaway, AreAmong, MayWrite, Continues, MayFollowEnd, fragments}
 use Rattle.outwriter.specs.Steps.{Step, Taken, Granted, Written, frames_of}
 use Rattle.outwriter.proofs.RunStateSteps.{same-block, all-behind}
+
+-- ---- one order apart from another
+
+pub begins-filtered : (p : Frame → Bool) (front all : List Frame) → Begins front all → Begins (filter p front) (filter p all)
+begins-filtered p front all (rest, e) = (filter p rest, ap (filter p) e ∙ filter-append p front rest)
+
+none-among : (all : List Frame) → AreAmong [] all
+none-among [] = refl
+none-among (first ∷ others) = inl (none-among others)
+
+begins-among : (front rest : List Frame) → AreAmong front (front ++ rest)
+begins-among [] rest = none-among rest
+begins-among (first ∷ others) rest = inr (others, refl, begins-among others rest)
+
+among-front : (front all : List Frame) → Begins front all → AreAmong front all
+among-front front all (rest, e) = subst (AreAmong front) (sym e) (begins-among front rest)
+
+pub among-last : (some all : List Frame) (frame : Frame) → AreAmong some all → AreAmong (some ++ frame ∷ []) (all ++ frame ∷ [])
+among-last some [] frame e = inr ([], ap (λ (frames : List Frame). frames ++ frame ∷ []) e, refl)
+among-last some (first ∷ others) frame (inl among) = inl (among-last some others frame among)
+among-last some (first ∷ others) frame (inr (rest, e, among)) =
+    inr (rest ++ frame ∷ [], ap (λ (frames : List Frame). frames ++ frame ∷ []) e, among-last rest others frame among)
+
+pub in-answers : (front all : List Frame) → Begins front all → Begins (without_goaway front) (without_goaway all)
+in-answers front all begins = begins-filtered (λ frame. not (is_goaway frame.head.kind)) front all begins
+
+pub in-goaways : (front all : List Frame) → Begins front all → AreAmong (goaways front) (goaways all)
+in-goaways front all begins = among-front (goaways front) (goaways all) (begins-filtered (λ frame. is_goaway frame.head.kind) front all begins)
 
 pub none-begun : (frames : List Frame) → has_begun frames ≡ true → frames ≡ [] → ⊥
 none-begun [] begun e = cc
@@ -138,7 +168,9 @@ first-written run begun gone w over waiting block owed frame is not_begun not_go
       record {
         first = λ e. refl;
         windows = λ e. cc;
-        answers = tells-none run first_settings waiting no_duty m.answers;
+        content = λ e. cc;
+        answers = in-answers _ (due run) (tells-none run first_settings waiting no_duty m.answers);
+        parts = in-goaways _ (due run) (tells-none run first_settings waiting no_duty m.answers);
         asked = λ e. cc;
         block = subst (λ (o : Option Fragments). Continues o first_settings) (sym nothing) (λ e. cc);
         not_reset = ap (list_any (resets 0)) none;
@@ -188,7 +220,9 @@ plain-written run begun gone after w over waiting left block owed less frame is_
       record {
         first = λ e. absurd (none-begun (frames_of run) (m.begins ∙ is_begun) e);
         windows = λ e. absurd (plain.no_data e);
-        answers = tells;
+        content = λ e. absurd (plain.no_data e);
+        answers = in-answers _ (due run) tells;
+        parts = in-goaways _ (due run) tells;
         asked = λ e. no-asked frame plain.no_reset e;
         block = subst (λ (o : Option Fragments). Continues o frame) (sym nothing) plain.no_continuation;
         not_reset = not_reset;
@@ -254,3 +288,53 @@ due-written run begun gone after w over one waiting block owed made frame is is_
     (ap (λ id. list_any (resets id) (frames_of run)) on_0 ∙ still.0)
     (λ e. absurd (true≢false (sym e ∙ ap (λ id. list_any (ends id) (frames_of run)) on_0 ∙ still.1)))
     (credits-none run frame owed none m.credits) (credit-same run frame owed none m.credits) m.silent (λ e. absurd (no_credit e)) last m)
+
+-- ---- the last word of a dead core
+
+-- between header blocks, a GOAWAY may be written that is asked for now
+pub may-part : (run : List Step) (begun gone : Bool) (w : Windows) (over : List (ℕ × Bool)) (waiting : List Due) (block : Option HeaderBlock) (owed : Owed)
+    (last : ℕ) (code : ErrorCode) → begun ≡ true → gone ≡ false → block ≡ None → Mirrors run begun gone w over waiting block owed
+    → MayWrite (Taken (Goaway last code) ∷ run) (goaway_frame last code)
+may-part run begun gone w over waiting block owed last code is_begun not_gone no_block m =
+    let frame : Frame = goaway_frame last code in
+    let nothing : unfinished run ≡ None = subst (HasBlock run) no_block m.goes_on in
+    let still = connection-on run over m.is_over m.no_stream_0 in
+    let none = no-updates run frame refl in
+    let tells : told_by (has_begun (frames_of run)) frame ≡ frame ∷ [] = ap (λ b. told_by b frame) (m.begins ∙ is_begun) in
+    let before : Begins (told run) (due run) = (flat_map duties_of waiting, m.answers.0) in record {
+      first = λ e. absurd (none-begun (frames_of run) (m.begins ∙ is_begun) e);
+      windows = λ e. cc;
+      content = λ e. cc;
+      answers = subst (λ (more : List Frame). Begins (without_goaway (told run ++ more)) (without_goaway (due run ++ frame ∷ []))) (sym tells)
+          (same-answers (told run) (due run) frame refl (in-answers (told run) (due run) before));
+      parts = subst (λ (more : List Frame). AreAmong (goaways (told run ++ more)) (goaways (due run ++ frame ∷ []))) (sym tells)
+          (more-goaways (told run) (due run) frame refl (in-goaways (told run) (due run) before));
+      asked = λ e. cc;
+      block = subst (λ (o : Option Fragments). Continues o frame) (sym nothing) (λ e. cc);
+      not_reset = still.0;
+      not_ended = λ e. absurd (true≢false (sym e ∙ still.1));
+      goes_on = m.goes ∙ not_gone;
+      credit = λ id. omega (arith, credits-none run frame owed none m.credits id, sum_by-cons (granted_by id) (Taken (Goaway last code)) run);
+      update = λ e. cc;
+    }
+  where
+    same-answers : (front all : List Frame) (frame : Frame) → is_goaway frame.head.kind ≡ true → Begins (without_goaway front) (without_goaway all)
+        → Begins (without_goaway (front ++ frame ∷ [])) (without_goaway (all ++ frame ∷ []))
+    same-answers front all frame is begins =
+        subst (λ (f : List Frame). Begins f (without_goaway (all ++ frame ∷ []))) (sym (dropped front frame is))
+        (subst (λ (f : List Frame). Begins (without_goaway front) f) (sym (dropped all frame is)) begins)
+      where
+        dropped : (frames : List Frame) (frame : Frame) → is_goaway frame.head.kind ≡ true → without_goaway (frames ++ frame ∷ []) ≡ without_goaway frames
+        dropped frames frame is =
+            filter-append (λ f. not (is_goaway f.head.kind)) frames (frame ∷ [])
+            ∙ ap (λ b. without_goaway frames ++ (if not b then frame ∷ [] else [])) is ∙ append-nil (without_goaway frames)
+
+    more-goaways : (front all : List Frame) (frame : Frame) → is_goaway frame.head.kind ≡ true → AreAmong (goaways front) (goaways all)
+        → AreAmong (goaways (front ++ frame ∷ [])) (goaways (all ++ frame ∷ []))
+    more-goaways front all frame is among =
+        subst (λ (f : List Frame). AreAmong f (goaways (all ++ frame ∷ []))) (sym (kept front frame is))
+        (subst (λ (f : List Frame). AreAmong (goaways front ++ frame ∷ []) f) (sym (kept all frame is)) (among-last (goaways front) (goaways all) frame among))
+      where
+        kept : (frames : List Frame) (frame : Frame) → is_goaway frame.head.kind ≡ true → goaways (frames ++ frame ∷ []) ≡ goaways frames ++ frame ∷ []
+        kept frames frame is =
+            filter-append (λ f. is_goaway f.head.kind) frames (frame ∷ []) ∙ ap (λ b. goaways frames ++ (if b then frame ∷ [] else [])) is

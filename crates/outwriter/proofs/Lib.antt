@@ -25,3 +25,4 @@ pub mod ServeStepsTake
 pub mod ServeStepsLook
 pub mod ServeStepsCore
 pub mod StuckSteps
+pub mod LawExamples

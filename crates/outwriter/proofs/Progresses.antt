@@ -1,11 +1,12 @@
 -- One part of a choice after another.
-use Rattle.std.proofs.Common.{inl, inr, sym, ap, subst, ◌∙◌, List, ◌++◌, Option, Some, None, append-nil}
+use Rattle.std.proofs.Common.{ℕ, arith, refl, inl, inr, sym, ap, subst, ◌∙◌, List, ◌++◌, Option, Some, None, append-nil}
 use Rattle.std.specs.Prelude.{IfNone, IfSome, flat_map, ◌≡◌, ◌<◌, ◌^◌}
 use Rattle.h2frame.specs.declared.frame.Frame.{Frame}
 use Rattle.h2frame.specs.Spelling.{IsWritable}
 use Rattle.outwriter.specs.declared.next.Next.TheVariants as next
 use Rattle.outwriter.specs.declared.outbound.Outbound.{Outbound}
-use Rattle.outwriter.specs.Frames.{IsSound}
+use Rattle.h2frame.specs.declared.error_code.ErrorCode.{ErrorCode}
+use Rattle.outwriter.specs.Frames.{IsSound, goaway_frame}
 use Rattle.outwriter.specs.declared.due.Due.{Due}
 use Rattle.outwriter.specs.RunState.{MirrorsOf, HasBlock, Progress, Progresses, Stays, IsBetween, IsSpent, IsAnswered, Writes, duties_of}
 use Rattle.outwriter.specs.Runs.{told}
@@ -37,3 +38,6 @@ pub writable-from : (made frame : Frame) → next.Frame made ≡ next.Frame fram
 writable-from made frame is sound numbered =
     let same : made ≡ frame = cc in
     subst IsWritable same (record { kind = sound.0; stream = numbered; whole = sound.1; not_padded = sound.2; no_priority = sound.3 })
+
+pub goaway-writable : (last : ℕ) (code : ErrorCode) → IsWritable (goaway_frame last code)
+goaway-writable last code = record { kind = refl; stream = omega arith; whole = refl; not_padded = refl; no_priority = refl }

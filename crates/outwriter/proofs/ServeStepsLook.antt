@@ -1,5 +1,5 @@
 -- A look at an open stream: what is taken of it is written, or kept in hand.
-use Rattle.std.proofs.Common.{◌≡◌, ℕ, ◌<◌, ◌==◌, ◌⊎◌, inl, inr, refl, sym, ap, subst, ◌∙◌, Bool, true, false, List, [], ◌∷◌, ◌++◌, Option, Some, None, length, nat_eq, append_assoc, true≢false}
+use Rattle.std.proofs.Common.{◌≡◌, ℕ, ◌<◌, ◌==◌, ◌⊎◌, inl, inr, refl, sym, ap, subst, ◌∙◌, Bool, true, false, List, [], ◌∷◌, ◌++◌, Option, Some, None, length, nat_eq, append_assoc, true≢false, arith}
 use Rattle.std.specs.Prelude.{Result, Ok, Err, map, get_or, if◌then◌else◌}
 use Rattle.std.specs.Map.{lookup}
 use Rattle.std.proofs.lemmas.Bool.{eqb-true, eq-eqb}
@@ -198,6 +198,21 @@ kept-serves run o streams middle left others calls now marks id place was news b
     (subst (λ (l : List (ℕ × Mark)). SpellsOf run o l) (sym (append-nil marks)) s.spells)
     refl (λ k. refl) (λ k. refl) view (hand-twice id place was (Some bytes) streams middle left view none keeps) g bal s
 
+-- a message without bytes tells nothing
+empty-serves : (run : List Step) (o : Outbound) (streams left : List (ℕ × OpenStream)) (others : List (ℕ × Bool)) (calls now : List (ℕ × List OutItem))
+    (marks : List (ℕ × Mark)) (id place : ℕ) (was : Option (List ℕ)) (news : List OutItem) (bytes : List ℕ)
+    → shows streams id ≡ Some (place, was) → Grows place news calls now → (bytes_marks was ++ spelled news) ≡ map Byte bytes → bytes ≡ []
+    → HandIs id None streams left → Serves run o streams others calls marks → Serves run o left others now (marks ++ on_stream id [])
+empty-serves run o streams left others calls now marks id place was news bytes view g bal none hands s =
+    goes-on run run o o streams left others calls now marks id place was None [] news (λ k. refl) (λ k. refl) (later-none run)
+    (subst (λ (l : List (ℕ × Mark)). SpellsOf run o l) (sym (append-nil marks)) s.spells)
+    refl (λ k. refl) (λ k. refl) view (hand-then id place was None streams left view hands) g (bal ∙ ap (map Byte) none) s
+
+pub no-bytes : (bytes : List ℕ) (is_empty : Bool) → is_empty ≡ (length bytes == 0) → is_empty ≡ true → bytes ≡ []
+no-bytes [] is_empty is e = refl
+no-bytes (byte ∷ bytes) is_empty is e = let wrong : length (byte ∷ bytes) ≡ 0 = eqb-true (length (byte ∷ bytes)) 0 (sym is ∙ e) in
+    let no : ⊥ = omega (arith, wrong) in absurd no
+
 -- a call that was left tells nothing more
 left-serves : (run : List Step) (o : Outbound) (streams left : List (ℕ × OpenStream)) (others : List (ℕ × Bool)) (calls now : List (ℕ × List OutItem))
     (marks : List (ℕ × Mark)) (id place : ℕ)
@@ -299,6 +314,20 @@ module _ {L In Out Shut : Type 0} where
             (kept-serves run old.outbound old.streams.entries mid.streams.entries new.streams.entries old.others.entries
             (calls got old.senders.items) (calls got mid.senders.items) m.0 id found.0 found.1 found.2 bytes found.3 found.4 found.5 took.hands tells.0 m.1))),
         subst (Heeds run) (sym (tells.1 ∙ same)) m.2,
+      )
+
+  pub look-empty : (E : Type 0) (got ahead : Out → List OutItem) (old mid : OutCore L In Out Shut) (id : ℕ) (bytes : List ℕ) (result : Polled)
+      → Took E got ahead old mid id (Ok result) → result ≡ polled.Message bytes → bytes ≡ [] → HoldsOn got None old mid
+  look-empty E got ahead old mid id bytes result took is none = λ run m.
+      let t = subst (λ (p : Polled). TakesAt {E = E} (shows old.streams.entries id) (calls got old.senders.items) (calls got mid.senders.items) (aheads ahead mid.senders.items) old.outbound.encoder mid.outbound.encoder (Ok p)) is took.takes in
+      let found = takes-message E (shows old.streams.entries id) (calls got old.senders.items) (calls got mid.senders.items) (aheads ahead mid.senders.items) old.outbound.encoder mid.outbound.encoder bytes t in
+      let same = same-outbound old.outbound mid.outbound took.outbound found.6 in (
+        m.0 ++ on_stream id [],
+        subst (λ (x : Outbound). Serves run x mid.streams.entries mid.others.entries (calls got mid.senders.items) (m.0 ++ on_stream id [])) (sym same)
+            (subst (λ others. Serves run old.outbound mid.streams.entries others.entries (calls got mid.senders.items) (m.0 ++ on_stream id [])) (sym took.others)
+            (empty-serves run old.outbound old.streams.entries mid.streams.entries old.others.entries
+            (calls got old.senders.items) (calls got mid.senders.items) m.0 id found.0 found.1 found.2 bytes found.3 found.4 found.5 none took.hands m.1)),
+        subst (Heeds run) (sym same) m.2,
       )
 
   pub look-block : (E : Type 0) (got ahead : Out → List OutItem) (old mid fin : OutCore L In Out Shut) (after : Outbound) (id : ℕ) (bytes : List ℕ) (ends_it : Bool) (result : Polled) (frame : Frame)

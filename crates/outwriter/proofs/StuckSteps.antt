@@ -1,7 +1,6 @@
 -- Where a look at a stream finds nothing to write, nothing can be written on it, and of the other streams all is the same.
 use Rattle.std.proofs.Common.{◌≡◌, ℕ, refl, sym, ap, subst, ◌∙◌, Bool, false, List, [], Option, Some, None, nat_eq, true≢false}
-use Rattle.h2frame.specs.declared.frame.Frame.{Frame}
-use Rattle.std.specs.Prelude.{IfNone, Result, Ok, get_or, ◌≢◌, ◌&&◌, not, is_some, if◌then◌else◌}
+use Rattle.std.specs.Prelude.{IfOk, Result, Ok, Err, get_or, ◌≢◌, ◌&&◌, not, is_some, if◌then◌else◌}
 use Rattle.std.specs.Map.{lookup}
 use Rattle.std.proofs.lemmas.Bool.{eq-eqb, ne_eqb}
 use Rattle.account.specs.declared.call.OutItem.{OutItem}
@@ -11,9 +10,11 @@ use Rattle.outwriter.specs.declared.outbound.Outbound.{Outbound}
 use Rattle.outwriter.specs.declared.stream.OpenStream.{OpenStream}
 use Rattle.outwriter.specs.declared.stream.Polled.{Polled}
 use Rattle.outwriter.specs.declared.stream.Polled.TheVariants as polled
+use Rattle.outwriter.specs.declared.stream.Looked.{Looked}
+use Rattle.outwriter.specs.declared.stream.Looked.TheVariants as looked
 use Rattle.outwriter.specs.Cores.{calls, IsStuck}
 use Rattle.outwriter.specs.Histories.{is_stream}
-use Rattle.outwriter.specs.StreamLooks.{Shown, shown, shows, with_hand, HandIs, TakesAt, SameAhead, TellsData, aheads, Holds, StuckAt, GetsStuck}
+use Rattle.outwriter.specs.StreamLooks.{Shown, shown, shows, with_hand, HandIs, TakesAt, SameAhead, TellsData, aheads, Holds, HoldsOn, StuckAt, GetsStuck, LeavesStuck, LooksAt, frame_in}
 use Rattle.outwriter.specs.Steps.{Step}
 use Rattle.outwriter.proofs.ServeSteps.{shown-some, from_some, none-some}
 use Rattle.outwriter.proofs.ServeStepsLook.{Took, takes-nothing}
@@ -99,8 +100,29 @@ module _ {L In Out Shut : Type 0} where
         (ap (λ (o : Outbound). o.windows) tells.1 ∙ ap (λ (o : Outbound). o.windows) took.outbound),
   )
 
-  pub stuck-if : (E : Type 0) (got ahead : Out → List OutItem) (old mid new : OutCore L In Out Shut) (id : ℕ) (bytes : List ℕ) (result : Result Polled E) (o : Option Frame)
+  -- a message without bytes
+  pub leaves-empty : (E : Type 0) (got ahead : Out → List OutItem) (old mid : OutCore L In Out Shut) (id : ℕ) (result : Polled)
+      → Took E got ahead old mid id (Ok result) → SameAhead (shows old.streams.entries id) (aheads ahead old.senders.items) (aheads ahead mid.senders.items)
+      → LeavesStuck got ahead id old mid
+  leaves-empty E got ahead old mid id result took same run h =
+      others-stuck got ahead old mid mid id run h same (λ k ne. elsewhere-is None id k old.streams.entries mid.streams.entries took.hands ne) refl
+      (ap (λ (o : Outbound). o.windows) took.outbound)
+
+  pub looks-data : (E : Type 0) {F : Type 0} (got ahead : Out → List OutItem) (old mid new : OutCore L In Out Shut) (id : ℕ) (bytes : List ℕ) (result : Result Polled E) (found : Result Looked F)
       → Took E got ahead old mid id result → SameAhead (shows old.streams.entries id) (aheads ahead old.senders.items) (aheads ahead mid.senders.items)
-      → TellsData id bytes o mid new → new.senders ≡ mid.senders → IfNone o (GetsStuck got ahead id old new)
-  stuck-if E got ahead old mid new id bytes result None took same tells senders = stuck-data E got ahead old mid new id bytes result took same tells senders
-  stuck-if E got ahead old mid new id bytes result (Some frame) took same tells senders = tt
+      → IfOk found (λ l. l ≢ looked.Empty) → IfOk found (λ l. TellsData id bytes (frame_in l) mid new) → new.senders ≡ mid.senders
+      → IfOk found (λ l. LooksAt got ahead id l old new)
+  looks-data E got ahead old mid new id bytes result (Ok (looked.Frame frame)) took same ne tells senders = tt
+  looks-data E got ahead old mid new id bytes result (Ok looked.Nothing) took same ne tells senders = stuck-data E got ahead old mid new id bytes result took same tells senders
+  looks-data E got ahead old mid new id bytes result (Ok looked.Empty) took same ne tells senders = absurd (ne refl)
+  looks-data E got ahead old mid new id bytes result (Err e) took same ne tells senders = tt
+
+  -- one look after another
+  pub leaves-then : (got ahead : Out → List OutItem) (old mid new : OutCore L In Out Shut) (id : ℕ) → HoldsOn got None old mid
+      → LeavesStuck got ahead id old mid → LeavesStuck got ahead id mid new → LeavesStuck got ahead id old new
+  leaves-then got ahead old mid new id holds first second = λ run h k ne stuck. second run (holds run h) k ne (first run h k ne stuck)
+
+  pub gets-then : (got ahead : Out → List OutItem) (old mid new : OutCore L In Out Shut) (id : ℕ) → HoldsOn got None old mid
+      → LeavesStuck got ahead id old mid → GetsStuck got ahead id mid new → GetsStuck got ahead id old new
+  gets-then got ahead old mid new id holds first second run h =
+      let found = second run (holds run h) in (found.0, λ k ne stuck. found.1 k ne (first run h k ne stuck))

@@ -7,7 +7,7 @@ use Rattle.account.specs.declared.call.OutItem.{OutItem}
 use Rattle.callbox.specs.declared.sender.Sender.{Sender}
 use Rattle.flow.specs.Windows.{room}
 use Rattle.outwriter.specs.declared.control.Control.{Control}
-use Rattle.outwriter.specs.declared.control.Control.TheVariants.{Open}
+use Rattle.outwriter.specs.declared.control.Control.TheVariants.{Open, Goaway}
 use Rattle.outwriter.specs.declared.control.OutFault.{OutFault}
 use Rattle.outwriter.specs.declared.control.OutFault.TheVariants.{OutOfMemory, PeerWindow}
 use Rattle.outwriter.specs.declared.next.Next.{Next}
@@ -16,7 +16,11 @@ use Rattle.outwriter.specs.declared.out_core.OutCore.{OutCore}
 use Rattle.outwriter.specs.declared.outbound.Outbound.{Outbound}
 use Rattle.outwriter.specs.declared.stream.OpenStream.{OpenStream}
 use Rattle.outwriter.specs.Calls.{TellEnds, TellFronts, TellOthers, is_closed, is_served, was_reset}
+use Rattle.h2frame.specs.declared.error_code.ErrorCode.{ErrorCode}
+use Rattle.outwriter.specs.Frames.{goaway_frame}
 use Rattle.outwriter.specs.Histories.{is_stream, is_over}
+use Rattle.outwriter.specs.RunState.{Reached}
+use Rattle.outwriter.specs.Runs.{MayWrite}
 use Rattle.outwriter.specs.Parts.{Mark}
 use Rattle.outwriter.specs.CallState.{Serves, Heeds}
 use Rattle.outwriter.specs.Steps.{Step, Taken, Written, order_of}
@@ -122,3 +126,12 @@ module _ {L In Out Shut : Type 0} where
   EndedNext run (next.Frame frame) core = Unit {0}
   EndedNext run next.Idle core = (core.outbound.gone ≡ true) ⊎ TellEnds run
   EndedNext run next.Over core = (core.outbound.gone ≡ true) ⊎ TellEnds run
+
+  -- what a dead core may say yet, it may say after this run: any GOAWAY
+  abbrev pub Parts : List Step → OutCore L In Out Shut → Type 0
+  Parts run core = core.is_dead ≡ true → core.may_part ≡ true
+      → (last : ℕ) (code : ErrorCode) → MayWrite (Taken (Goaway last code) ∷ run) (goaway_frame last code)
+
+  -- so it is of a core that dies now
+  abbrev pub PartsAfter : OutCore L In Out Shut → OutCore L In Out Shut → Type 0
+  PartsAfter old new = (run : List Step) → (old.is_dead ≡ false → Reached run old.outbound) → Parts run old → Parts run new

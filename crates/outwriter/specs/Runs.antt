@@ -1,5 +1,5 @@
 -- Which runs of a server's writer are lawful (RFC 9113, sections 3.4, 4.3, 5.1, 6.5, 6.7 to 6.10 and 8.1).
-use Rattle.std.specs.Prelude.{◌≡◌, ◌≢◌, ℕ, ◌+◌, ◌<◌, ◌≤◌, ◌⊎◌, ◌==◌, ◌&&◌, ◌^◌, Bool, true, false, List, [], ◌∷◌, ◌++◌, Option, None, Some, sum_by, if◌then◌else◌}
+use Rattle.std.specs.Prelude.{◌≡◌, ◌≢◌, ℕ, ◌+◌, ◌<◌, ◌≤◌, ◌⊎◌, ◌==◌, ◌&&◌, ◌^◌, Bool, true, false, List, [], ◌∷◌, ◌++◌, Option, None, Some, not, filter, sum_by, if◌then◌else◌}
 use Rattle.std.specs.List.{list_any}
 use Rattle.std.specs.Option.{option_map}
 use Rattle.account.specs.Accounts.{Begins}
@@ -55,6 +55,22 @@ told [] = []
 told (Taken order ∷ before) = told before
 told (Granted id n ∷ before) = told before
 told (Written frame ∷ before) = told before ++ told_by (has_begun (frames_of before)) frame
+
+-- acknowledgements stand in one order, and GOAWAYs in another
+abbrev pub is_goaway : FrameKind → Bool
+is_goaway kind.GoAway = true
+is_goaway _ = false
+
+abbrev pub goaways : List Frame → List Frame
+goaways frames = filter (λ frame. is_goaway frame.head.kind) frames
+
+abbrev pub without_goaway : List Frame → List Frame
+without_goaway frames = filter (λ frame. not (is_goaway frame.head.kind)) frames
+
+-- these are among those, in the same order
+abbrev pub AreAmong : List Frame → List Frame → Type 0
+AreAmong frames [] = frames ≡ []
+AreAmong frames (first ∷ others) = AreAmong frames others ⊎ ((rest : List Frame) × (frames ≡ first ∷ rest) × AreAmong rest others)
 
 -- ---- resets (section 6.4)
 
@@ -130,10 +146,14 @@ pub record MayWrite (before : List Step) (frame : Frame) : Type 0 where
   -- first come SETTINGS
   pub first : frames_of before ≡ [] → frame ≡ first_settings
   pub windows : frame.head.kind ≡ kind.Data → FitsWindows before frame
-  -- acknowledgements and GOAWAY come in the order of the controls that oblige to them, and after them; nothing else comes of any other
-  -- kind but DATA, header blocks, resets and credit
-  pub answers : Begins (told before ++ told_by (has_begun (frames_of before)) frame) (due before)
-  -- and a reset after the control that asks for it
+  -- DATA has bytes, or ends its stream
+  pub content : frame.head.kind ≡ kind.Data → (0 < frame.head.length) ⊎ (ends_stream frame ≡ true)
+  -- acknowledgements come in the order of the controls that oblige to them, and after them; nothing else comes of any other kind but DATA,
+  -- header blocks, resets, credit and GOAWAY
+  pub answers : Begins (without_goaway (told before ++ told_by (has_begun (frames_of before)) frame)) (without_goaway (due before))
+  -- GOAWAY comes after the control that asks for it, and in order among GOAWAYs
+  pub parts : AreAmong (goaways (told before ++ told_by (has_begun (frames_of before)) frame)) (goaways (due before))
+  -- a reset comes after the control that asks for it
   pub asked : frame.head.kind ≡ kind.RstStream → (code : ErrorCode) × IsAsked frame.head.stream code before × (frame ≡ reset_frame frame.head.stream code)
   pub block : Continues (unfinished before) frame
   pub not_reset : list_any (resets frame.head.stream) (frames_of before) ≡ false

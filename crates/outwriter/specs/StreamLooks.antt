@@ -12,6 +12,8 @@ use Rattle.outwriter.specs.declared.out_core.OutCore.{OutCore}
 use Rattle.outwriter.specs.declared.stream.OpenStream.{OpenStream}
 use Rattle.outwriter.specs.declared.stream.Polled.{Polled}
 use Rattle.outwriter.specs.declared.stream.Polled.TheVariants as polled
+use Rattle.outwriter.specs.declared.stream.Looked.{Looked}
+use Rattle.outwriter.specs.declared.stream.Looked.TheVariants as looked
 use Rattle.outwriter.specs.Calls.{TellFronts}
 use Rattle.outwriter.specs.Cores.{calls, IsStuck, AreStuck, IsQuiet}
 use Rattle.outwriter.specs.Parts.{Mark, Byte, on_stream}
@@ -94,6 +96,12 @@ SameAhead (Some s) old new = SameElsewhere s.0 old new
 
 -- ---- a core
 
+-- the frame that a look found
+abbrev pub frame_in : Looked → Option Frame
+frame_in (looked.Frame frame) = Some frame
+frame_in looked.Nothing = None
+frame_in looked.Empty = None
+
 module _ {L In Out Shut : Type 0} where
   abbrev pub aheads : (Out → List OutItem) → List (ℕ × Sender L In Out Shut) → List (List OutItem)
   aheads ahead senders = map (λ call. ahead call.1.rx) senders
@@ -125,6 +133,16 @@ module _ {L In Out Shut : Type 0} where
   -- nor on any on which nothing could be before
   abbrev pub GetsStuck : (Out → List OutItem) → (Out → List OutItem) → ℕ → OutCore L In Out Shut → OutCore L In Out Shut → Type 0
   GetsStuck got ahead id old new = (run : List Step) → Holds got run old → StuckAt ahead id new × ((k : ℕ) → k ≢ id → StuckAt ahead k old → StuckAt ahead k new)
+
+  -- of the other streams all is the same
+  abbrev pub LeavesStuck : (Out → List OutItem) → (Out → List OutItem) → ℕ → OutCore L In Out Shut → OutCore L In Out Shut → Type 0
+  LeavesStuck got ahead id old new = (run : List Step) → Holds got run old → (k : ℕ) → k ≢ id → StuckAt ahead k old → StuckAt ahead k new
+
+  -- where a look at a stream found nothing, nothing can be written on it
+  abbrev pub LooksAt : (Out → List OutItem) → (Out → List OutItem) → ℕ → Looked → OutCore L In Out Shut → OutCore L In Out Shut → Type 0
+  LooksAt got ahead id (looked.Frame frame) old new = Unit {0}
+  LooksAt got ahead id looked.Nothing old new = GetsStuck got ahead id old new
+  LooksAt got ahead id looked.Empty old new = LeavesStuck got ahead id old new
 
   -- nothing can be written on any open stream
   abbrev pub AllStuck : (Out → List OutItem) → (Out → List OutItem) → OutCore L In Out Shut → OutCore L In Out Shut → Type 0

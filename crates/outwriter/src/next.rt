@@ -3,12 +3,12 @@
 //! An open stream that isn't among those that take turns is looked at once in a while, one of them with each frame. A
 //! stream that a window holds isn't among them, so it costs the others that look and no more.
 
-ghost use Rattle.std.specs.Prelude.{◌≡◌, ◌<◌, ◌^◌, List, true, false, None, Err, IfOk, IfErr, IfSome, IfNone, nat_eq};
+ghost use Rattle.std.specs.Prelude.{◌≡◌, ◌≢◌, ◌<◌, ◌^◌, length, List, true, false, None, Err, IfOk, IfErr, IfSome, IfNone, nat_eq};
 ghost use Rattle.std.specs.Map.{lookup};
 
 use crate::control::OutFault;
 use crate::out_core::OutCore;
-use crate::stream::{Polled, poll};
+use crate::stream::{Looked, Polled, poll};
 use account::OutItem;
 use bytes::Bytes;
 use callbox::Sender;
@@ -31,12 +31,13 @@ pub enum Next {
 impl<L: Lane<Item = OutItem>> OutCore<L> {
     ghost use Rattle.outwriter.specs.declared.control.OutFault.TheVariants as out_fault;
     ghost use Rattle.outwriter.specs.declared.next.Next.TheVariants as next_kind;
+    ghost use Rattle.outwriter.specs.declared.stream.Looked.TheVariants as looked;
     ghost use Rattle.h2frame.specs.declared.frame.Frame.{Frame as FrameOf};
     ghost use Rattle.h2frame.specs.Spelling.{IsWritable};
     ghost use Rattle.outwriter.specs.Frames.{IsSound};
-    ghost use Rattle.outwriter.specs.Cores.{Serving, ServesNext, QuietNext, NoFrameNext, EndedNext, ClosedNext, calls, lanes};
+    ghost use Rattle.outwriter.specs.Cores.{Serving, ServesNext, QuietNext, NoFrameNext, EndedNext, ClosedNext, PartsAfter, calls, lanes};
     ghost use Rattle.outwriter.specs.Polls.{coming};
-    ghost use Rattle.outwriter.specs.StreamLooks.{shows, SameHands, HandIs, HandKeeps, Removes, ids, TakesAt, SameAhead, aheads, HoldsOn, KeepsFronts, TellsData, GetsStuck, AllStuck, GetsQuiet};
+    ghost use Rattle.outwriter.specs.StreamLooks.{shows, SameHands, HandIs, HandKeeps, Removes, ids, TakesAt, SameAhead, aheads, HoldsOn, KeepsFronts, TellsData, GetsStuck, LooksAt, frame_in, AllStuck, GetsQuiet};
     ghost use Rattle.outwriter.specs.Steps.{Step};
     ghost use Rattle.outwriter.specs.RunState.{Answers, AnswersAll, Reached, SameOwn, IsSpent, Progress, Progresses, Stays, IsBetween, MirrorsOf};
 
@@ -54,6 +55,7 @@ impl<L: Lane<Item = OutItem>> OutCore<L> {
         ensures writable { IfOk result (λ next. (frame : FrameOf) → next ≡ next_kind.Frame frame → IsWritable frame) }
         ensures dead { self.old.is_dead ≡ true → result ≡ Err (out_fault.OutOfMemory None) }
         ensures dies { IfErr result (λ fault. (fault ≡ out_fault.OutOfMemory None) × (self.new.is_dead ≡ true)) }
+        ensures parts { IfErr result (λ fault. PartsAfter self.old self.new) }
         ensures over { IfOk result (λ next. next ≡ next_kind.Over → self.new.closed ≡ true) }
 
         // It is over exactly where a Close was taken: that no more comes from the peer is none.
@@ -82,12 +84,14 @@ impl<L: Lane<Item = OutItem>> OutCore<L> {
         if self.is_dead {
             return Err(OutFault::OutOfMemory(None));
         }
+        let may_part = self.outbound.is_between();
         match self.choose() {
             Ok(Some(frame)) => Ok(Next::Frame(frame)),
             Ok(None) if self.closed => Ok(Next::Over),
             Ok(None) => Ok(Next::Idle),
             Err(_e) => {
                 self.is_dead = true;
+                self.may_part = may_part;
                 Err(OutFault::OutOfMemory(None))
             }
         }
@@ -271,7 +275,8 @@ impl<L: Lane<Item = OutItem>> OutCore<L> {
         }
     }
 
-    /// A frame of this stream, if it is open and has one that may be written now.
+    /// A frame of this stream, if it is open and has one that may be written now. For a message without bytes nothing is
+    /// written; more than 4,294,967,295 of them, one behind another, count as one that there is no memory for.
     fn look(&mut self, id: StreamId) -> Result<Option<Frame>, AllocError>
         requires { IsBetween self.old.outbound }
         ensures sound { IfOk result (λ o. IfSome o IsSound) }
@@ -286,15 +291,45 @@ impl<L: Lane<Item = OutItem>> OutCore<L> {
         ensures ids { IfOk result (λ o. IfNone o (ids self.new.streams.entries ≡ ids self.old.streams.entries)) }
         ensures quiet { IfOk result (λ o. IfNone o (GetsStuck L.got (coming L.got L.ahead) id self.old self.new)) }
     {
+        for _ in 0..u32::MAX {
+            match self.look_once(id)? {
+                Looked::Frame(frame) => return Ok(Some(frame)),
+                Looked::Nothing => return Ok(None),
+                Looked::Empty => {}
+            }
+        }
+        Err(AllocError)
+    }
+
+    /// The same for what is next on it.
+    fn look_once(&mut self, id: StreamId) -> Result<Looked, AllocError>
+        requires { IsBetween self.old.outbound }
+        ensures sound { IfOk result (λ l. IfSome (frame_in l) IsSound) }
+        ensures numbered { IfOk result (λ l. IfSome (frame_in l) (λ frame. frame.head.stream < 2 ^ 31)) }
+        ensures frame { IfOk result (λ l. Progress (frame_in l) self.old.outbound self.new.outbound) }
+        ensures own { IfOk result (λ l. IfNone (frame_in l) (SameOwn self.old.outbound self.new.outbound)) }
+        ensures closed { self.new.closed ≡ self.old.closed }
+        ensures served { IfOk result (λ l. HoldsOn L.got (frame_in l) self.old self.new) }
+        ensures fronts { KeepsFronts L.got self.old self.new }
+        ensures senders { lanes L.out_name self.new.senders.items ≡ lanes L.out_name self.old.senders.items }
+        ensures alive { self.new.is_dead ≡ self.old.is_dead }
+        ensures ids { IfOk result (λ l. IfNone (frame_in l) (ids self.new.streams.entries ≡ ids self.old.streams.entries)) }
+        ensures looks { IfOk result (λ l. LooksAt L.got (coming L.got L.ahead) id l self.old self.new) }
+    {
         if !self.outbound.may_end(id) {
-            return Ok(None);
+            return Ok(Looked::Nothing);
         }
         match self.take(id)? {
-            Polled::Nothing => Ok(None),
-            Polled::Message(bytes) => self.data(id, bytes),
+            Polled::Nothing => Ok(Looked::Nothing),
+            Polled::Message(bytes) => {
+                if bytes.is_empty() {
+                    return Ok(Looked::Empty);
+                }
+                self.data(id, bytes)
+            }
             Polled::Block { bytes, ends } => {
                 self.end(id, ends);
-                Ok(Some(self.outbound.headers_frame(id, ends, bytes)?))
+                Ok(Looked::Frame(self.outbound.headers_frame(id, ends, bytes)?))
             }
         }
     }
@@ -321,31 +356,33 @@ impl<L: Lane<Item = OutItem>> OutCore<L> {
     }
 
     /// The next DATA of a message, as far as the windows let it through. What is left is kept in hand.
-    fn data(&mut self, id: StreamId, bytes: Bytes) -> Result<Option<Frame>, AllocError>
+    fn data(&mut self, id: StreamId, bytes: Bytes) -> Result<Looked, AllocError>
         requires between { IsBetween self.old.outbound }
         requires stream { 0 < id }
         requires number { id < 2 ^ 31 }
         requires open { lookup (nat_eq id) self.old.outbound.over.entries ≡ None }
-        ensures sound { IfOk result (λ o. IfSome o IsSound) }
-        ensures numbered { IfOk result (λ o. IfSome o (λ frame. frame.head.stream < 2 ^ 31)) }
-        ensures frame { IfOk result (λ o. Progress o self.old.outbound self.new.outbound) }
-        ensures own { IfOk result (λ o. IfNone o (SameOwn self.old.outbound self.new.outbound)) }
+        requires some { 0 < length bytes }
+        ensures sound { IfOk result (λ l. IfSome (frame_in l) IsSound) }
+        ensures numbered { IfOk result (λ l. IfSome (frame_in l) (λ frame. frame.head.stream < 2 ^ 31)) }
+        ensures frame { IfOk result (λ l. Progress (frame_in l) self.old.outbound self.new.outbound) }
+        ensures own { IfOk result (λ l. IfNone (frame_in l) (SameOwn self.old.outbound self.new.outbound)) }
         ensures closed { self.new.closed ≡ self.old.closed }
-        ensures data { IfOk result (λ o. TellsData id bytes o self.old self.new) }
+        ensures data { IfOk result (λ l. TellsData id bytes (frame_in l) self.old self.new) }
+        ensures looks { IfOk result (λ l. l ≢ looked.Empty) }
         ensures ids { ids self.new.streams.entries ≡ ids self.old.streams.entries }
         ensures senders { self.new.senders ≡ self.old.senders }
         ensures others { self.new.others ≡ self.old.others }
         ensures alive { self.new.is_dead ≡ self.old.is_dead }
     {
         let len = self.outbound.room(id, bytes.len());
-        if len == 0 && !bytes.is_empty() {
+        if len == 0 {
             self.keep(id, bytes);
-            return Ok(None);
+            return Ok(Looked::Nothing);
         }
         let mut rest = bytes;
         let piece = rest.split_to(len)?;
         self.keep(id, rest);
-        Ok(Some(self.outbound.data_frame(id, piece)))
+        Ok(Looked::Frame(self.outbound.data_frame(id, piece)))
     }
 
     /// Closes a stream whose trailers are written.

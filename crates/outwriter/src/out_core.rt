@@ -7,16 +7,19 @@
 //! `control`: A dead core hands each control back, since nothing that it keeps is known to follow from its run; what
 //! was told of each call stays a prefix, so its senders can be brought back.
 
-ghost use Rattle.std.specs.Prelude.{◌≡◌, ◌<◌, ◌++◌, Bool, List, [], ◌∷◌, Some, Err, false, true, OnOk, OnErr, IfOk, IfErr, nat_eq, map, length};
+ghost use Rattle.std.specs.Prelude.{◌≡◌, ◌<◌, ◌++◌, Bool, List, [], ◌∷◌, Some, None, Err, false, true, OnOk, OnErr, IfOk, IfErr, IfSome, nat_eq, map, length};
 ghost use Rattle.std.specs.VecDeque.{deque_len, deque_capacity};
 ghost use Rattle.std.specs.Prelude.{vec_len, vec_capacity};
-ghost use Rattle.outwriter.specs.Cores.{calls, Serving, ServesOn, ServesControl, Brings};
+ghost use Rattle.outwriter.specs.Cores.{calls, Serving, ServesOn, ServesControl, Brings, Parts};
 ghost use Rattle.outwriter.specs.declared.control.OutFault.TheVariants as out_fault;
 ghost use Rattle.outwriter.specs.RunState.{Reached, GoesOn, Takes, Leads, Stays, Blames, Concerns, HasRoom, IsMemory, is_held};
 ghost use Rattle.std.specs.Map.{lookup};
 ghost use Rattle.flow.specs.Windows.{room};
 ghost use Rattle.outwriter.specs.Calls.{TellFronts, TellOthers};
 ghost use Rattle.outwriter.specs.Credits.{Grants};
+ghost use Rattle.h2frame.specs.Spelling.{IsWritable};
+ghost use Rattle.outwriter.specs.Frames.{goaway_frame};
+ghost use Rattle.outwriter.specs.Runs.{MayWrite};
 ghost use Rattle.outwriter.specs.CoreChanges.{KeepsServing, KeepsHeeds, Prepares, MayReset, WasClosed};
 ghost use Rattle.outwriter.specs.CallState.{none_is_new};
 ghost use Rattle.outwriter.specs.CallState.{Takes as KeepsCalls};
@@ -25,11 +28,12 @@ ghost use Rattle.h2frame.specs.declared.error_code.ErrorCode.{ErrorCode as Error
 ghost use Rattle.outwriter.specs.declared.control.Control.TheVariants as order;
 
 use crate::control::{Control, OutFault};
+use crate::frames::make_goaway;
 use crate::outbound::{Outbound, is_stream};
 use crate::stream::OpenStream;
 use account::OutItem;
 use callbox::Sender;
-use h2frame::{ErrorCode, StreamId};
+use h2frame::{ErrorCode, Frame, StreamId};
 use indexmap::IndexMap;
 use lane::Lane;
 use lists::{Field, Sequence};
@@ -41,6 +45,8 @@ use std::collections::VecDeque;
 pub struct OutCore<L: Lane<Item = OutItem>> {
     /// After `next_frame` was out of memory.
     pub(crate) is_dead: bool,
+    /// Whether a GOAWAY may be written of a dead core.
+    pub(crate) may_part: bool,
     /// Whether Close was taken.
     pub(crate) closed: bool,
     pub(crate) outbound: Outbound,
@@ -67,6 +73,7 @@ impl<L: Lane<Item = OutItem>> OutCore<L> {
     {
         OutCore {
             is_dead: false,
+            may_part: false,
             closed: false,
             outbound: Outbound::new(alloc),
             senders: Vec::new(alloc),
@@ -98,6 +105,7 @@ impl<L: Lane<Item = OutItem>> OutCore<L> {
         ensures whose { IfErr result (λ fault. Concerns fault control) }
         ensures alive { self.new.is_dead ≡ self.old.is_dead }
         ensures dead { self.old.is_dead ≡ true → result ≡ Err (out_fault.OutOfMemory (Some control)) }
+        ensures dead_stays { self.old.is_dead ≡ true → self.new ≡ self.old }
     {
         if self.is_dead {
             return Err(OutFault::OutOfMemory(Some(control)));
@@ -135,6 +143,29 @@ impl<L: Lane<Item = OutItem>> OutCore<L> {
                 self.closed = true;
                 Ok(())
             }
+        }
+    }
+
+    /// The last word of a core that is dead, once: GOAWAY, where SETTINGS were written, no header block is unfinished and no GOAWAY
+    /// with an error was written. What else was due goes unsaid. Out of memory, nothing is said.
+    pub fn farewell(&mut self, last: StreamId, code: ErrorCode) -> Option<Frame>
+        ensures goaway { IfSome result (λ frame. frame ≡ goaway_frame last code) }
+
+        // As one that a control asked for, it may be written behind the run.
+        ensures lawful { IfSome result (λ frame. (run : List Step) → Parts run self.old → MayWrite (Taken (order.Goaway last code) ∷ run) frame) }
+        ensures writable { IfSome result IsWritable }
+        ensures dead { self.old.is_dead ≡ false → result ≡ None }
+        ensures rest { self.new ≡ record self.old { may_part = self.new.may_part } }
+        ensures once { self.new.may_part ≡ false }
+    {
+        let may_part = self.is_dead && self.may_part;
+        self.may_part = false;
+        if !may_part {
+            return None;
+        }
+        match make_goaway(self.outbound.alloc, last, code) {
+            Ok(frame) => Some(frame),
+            Err(_e) => None,
         }
     }
 

@@ -47,7 +47,7 @@ impl Outbound {
     ghost use Rattle.std.specs.VecDeque.{deque_len, deque_capacity};
     ghost use Rattle.outwriter.specs.Steps.{Step, Taken, Granted};
     ghost use Rattle.outwriter.specs.Histories.{opens, HasWindow, Overflows, window_sizes};
-    ghost use Rattle.outwriter.specs.RunState.{MirrorsOf, Leads, Stays};
+    ghost use Rattle.outwriter.specs.RunState.{IsBetween, MirrorsOf, Leads, Stays};
     ghost use Rattle.outwriter.specs.CallState.{Takes, none_is_new};
     ghost use Rattle.outwriter.specs.declared.control.Control.TheVariants as order;
     ghost use Rattle.outwriter.specs.declared.due.Due.TheVariants as due_kind;
@@ -71,6 +71,13 @@ impl Outbound {
             due: VecDeque::new(alloc),
             credit: Credit::new(alloc),
         }
+    }
+
+    /// Whether SETTINGS were written, no GOAWAY with an error was, and no header block is unfinished.
+    pub(crate) fn is_between(&self) -> bool
+        ensures { result ≡ true → IsBetween self.now }
+    {
+        self.begun && !self.gone && self.block.is_none()
     }
 
     /// Makes room for one more that is due.

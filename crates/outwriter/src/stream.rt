@@ -8,6 +8,7 @@ ghost use Rattle.account.specs.declared.call.OutItem.{OutItem};
 use account::OutItem;
 use bytes::Bytes;
 use callbox::Sender;
+use h2frame::Frame;
 use hpack_codec::Encoder;
 use lane::Lane;
 use lists::Field;
@@ -32,6 +33,15 @@ pub(crate) enum Polled {
     Message(Bytes),
     /// A header block, and whether it ends the stream.
     Block { bytes: Bytes, ends: bool },
+}
+
+/// What a look at an open stream finds.
+#[derive(Drop)]
+pub(crate) enum Looked {
+    Frame(Frame),
+    Nothing,
+    /// A message without bytes, for which nothing is written.
+    Empty,
 }
 
 /// The next item of a sender. The bytes of a message are shared, and fields are encoded. Where the call was left there is

@@ -266,6 +266,7 @@ impl Outbound {
         requires between { IsBetween self.old }
         requires number { id < 2 ^ 31 }
         requires open { lookup (nat_eq id) self.old.over.entries ≡ None }
+        requires some { 0 < length piece }
         requires payload { length piece ≤ 16384 }
         requires room { length piece ≤ room self.old.windows id }
         requires fits { (history : List WindowStep) → Follows history self.old.windows → length piece ≤ room_after history id }

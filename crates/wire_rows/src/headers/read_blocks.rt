@@ -6,7 +6,7 @@ use super::fields::text_of;
 use anyhow::{Context, Result, bail};
 use hpack_codec::{Decoder, HpackFault};
 use lists::Field;
-use std::alloc::{AllocError, Global};
+use std::alloc::Global;
 
 /// `:method: GET` by its index, a block that each decoder reads.
 const LAWFUL_BLOCK: [u8; 1] = [0x82];
@@ -85,10 +85,11 @@ pub fn refusal(alloc: Global, input: &str) -> Result<String> {
     Ok(answer)
 }
 
-fn answer_to(alloc: Global, decoder: &mut Decoder, block: &[u8]) -> Result<String, AllocError> {
+fn answer_to(alloc: Global, decoder: &mut Decoder, block: &[u8]) -> Result<String> {
     match decoder.block(block) {
-        Ok(fields) => text_of(alloc, fields.as_slice()),
-        Err(fault) => format!(in alloc; "fault {fault:?}"),
+        Ok(fields) => Ok(text_of(alloc, fields.as_slice())?),
+        Err(HpackFault::OutOfMemory) => Err(HpackFault::OutOfMemory.into()),
+        Err(fault) => Ok(format!(in alloc; "fault {fault:?}")?),
     }
 }
 

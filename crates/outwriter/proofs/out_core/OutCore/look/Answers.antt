@@ -1,57 +1,28 @@
-use Rattle.std.proofs.Common.{subst, ◌∙◌}
+use Rattle.std.proofs.Common.{None, subst, rules}
+use Rattle.outwriter.specs.declared.stream.Looked.{Looked}
 use Rattle.outwriter.specs.Polls.{coming}
-use Rattle.outwriter.specs.declared.outbound.Outbound.{Outbound}
-use Rattle.outwriter.specs.RunState.{Heads}
-use Rattle.outwriter.proofs.ServeStepsLook.{look-nothing, look-data, look-block, takes-fronts, fronts-still}
-use Rattle.outwriter.proofs.StuckSteps.{stuck-if}
-use Rattle.std.specs.Prelude.{Ok}
-use Rattle.std.proofs.lemmas.Result.{IfOk-weaker}
+use Rattle.outwriter.specs.StreamLooks.{HoldsOn, LooksAt, frame_in}
+use Rattle.outwriter.proofs.ServeStepsCore.{holds-then, fronts-then}
+use Rattle.outwriter.proofs.StuckSteps.{leaves-then, gets-then}
 use Rattle.outwriter.proofs.out_core.OutCore.look.Goals as goal
 
-pub returns-in_ok-headers_frame-in-Block-clause-frame : goal.returns-in_ok-headers_frame-in-Block-clause-frame
-returns-in_ok-headers_frame-in-Block-clause-frame g c = λ run m.
-    subst (λ (o : Outbound). Heads c.in_ok-headers_frame-in-Block.field-0 o c.headers_frame.new.self) (c.end.ensures.outbound ∙ c.in_ok-take.ensures.outbound)
-    c.in_ok-headers_frame-in-Block.ensures.written run c.args.self.now.outbound.due.items m m.answers
+pub loop-preserved : goal.loop-preserved
+loop-preserved g c = (
+  search rules,
+  search rules,
+  search rules,
+  search rules,
+  holds-then g.L.Lane.got c.args.self.now c.loop.self c.look_once.new.self None c.loop.invariant.4
+      (subst (λ (l : Looked). HoldsOn g.L.Lane.got (frame_in l) c.loop.self c.look_once.new.self) c.in-Empty.is c.in_ok-frame.ensures.served),
+  fronts-then g.L.Lane.got c.args.self.now c.loop.self c.look_once.new.self c.loop.invariant.5 c.look_once.ensures.fronts,
+  search rules,
+  search rules,
+  search rules,
+  leaves-then g.L.Lane.got (coming g.L.Lane.got g.L.Lane.ahead) c.args.self.now c.loop.self c.look_once.new.self c.args.id c.loop.invariant.4 c.loop.invariant.9
+      (subst (λ (l : Looked). LooksAt g.L.Lane.got (coming g.L.Lane.got g.L.Lane.ahead) c.args.id l c.loop.self c.look_once.new.self) c.in-Empty.is c.in_ok-frame.ensures.looks),
+)
 
-pub returns-in_err-take-clause-fronts : goal.returns-in_err-take-clause-fronts
-returns-in_err-take-clause-fronts g c = takes-fronts _ _ _ _ _ _ _ c.take.ensures.takes
-
-pub returns-in_err-headers_frame-in-Block-clause-fronts : goal.returns-in_err-headers_frame-in-Block-clause-fronts
-returns-in_err-headers_frame-in-Block-clause-fronts g c =
-    fronts-still g.L.Lane.got c.args.self.now c.take.new.self c.end.new.self (takes-fronts _ _ _ _ _ _ _ c.take.ensures.takes) c.end.ensures.senders
-
-pub returns-in-Nothing-clause-served : goal.returns-in-Nothing-clause-served
-returns-in-Nothing-clause-served g c =
-    look-nothing _ g.L.Lane.got (coming g.L.Lane.got g.L.Lane.ahead) c.args.self.now c.take.new.self c.args.id c.in_ok-take.field-0
-    (record { takes = c.in_ok-take.ensures.takes; outbound = c.in_ok-take.ensures.outbound; hands = c.in_ok-take.ensures.hands; others = c.in_ok-take.ensures.others }) c.in-Nothing.is
-
-pub returns-in-Nothing-clause-fronts : goal.returns-in-Nothing-clause-fronts
-returns-in-Nothing-clause-fronts g c = takes-fronts _ _ _ _ _ _ _ c.take.ensures.takes
-
-pub returns-in-Message-clause-served : goal.returns-in-Message-clause-served
-returns-in-Message-clause-served g c =
-    IfOk-weaker c.data.result _ _ (λ o tells. look-data _ g.L.Lane.got (coming g.L.Lane.got g.L.Lane.ahead) c.args.self.now c.take.new.self c.data.new.self c.args.id c.in-Message.bytes c.in_ok-take.field-0 o
-    (record { takes = c.in_ok-take.ensures.takes; outbound = c.in_ok-take.ensures.outbound; hands = c.in_ok-take.ensures.hands; others = c.in_ok-take.ensures.others }) c.in-Message.is
-    tells c.data.ensures.senders c.data.ensures.others) c.data.ensures.data
-
-pub returns-in-Message-clause-fronts : goal.returns-in-Message-clause-fronts
-returns-in-Message-clause-fronts g c =
-    fronts-still g.L.Lane.got c.args.self.now c.take.new.self c.data.new.self (takes-fronts _ _ _ _ _ _ _ c.take.ensures.takes) c.data.ensures.senders
-
-pub returns-in_ok-headers_frame-in-Block-clause-served : goal.returns-in_ok-headers_frame-in-Block-clause-served
-returns-in_ok-headers_frame-in-Block-clause-served g c =
-    look-block _ g.L.Lane.got (coming g.L.Lane.got g.L.Lane.ahead) c.args.self.now c.take.new.self c.end.new.self c.headers_frame.new.self c.args.id c.in-Block.bytes c.in-Block.ends c.in_ok-take.field-0
-    c.in_ok-headers_frame-in-Block.field-0
-    (record { takes = c.in_ok-take.ensures.takes; outbound = c.in_ok-take.ensures.outbound; hands = c.in_ok-take.ensures.hands; others = c.in_ok-take.ensures.others }) c.in-Block.is
-    c.end.ensures.outbound c.end.ensures.ended c.end.ensures.senders c.end.ensures.others
-    c.in_ok-headers_frame-in-Block.ensures.tells c.in_ok-headers_frame-in-Block.ensures.ends c.in_ok-headers_frame-in-Block.ensures.rest
-
-pub returns-in_ok-headers_frame-in-Block-clause-fronts : goal.returns-in_ok-headers_frame-in-Block-clause-fronts
-returns-in_ok-headers_frame-in-Block-clause-fronts g c =
-    fronts-still g.L.Lane.got c.args.self.now c.take.new.self c.end.new.self (takes-fronts _ _ _ _ _ _ _ c.take.ensures.takes) c.end.ensures.senders
-
-pub returns-in-Message-clause-quiet : goal.returns-in-Message-clause-quiet
-returns-in-Message-clause-quiet g c =
-    IfOk-weaker c.data.result _ _ (λ o tells. stuck-if _ g.L.Lane.got (coming g.L.Lane.got g.L.Lane.ahead) c.args.self.now c.take.new.self c.data.new.self c.args.id c.in-Message.bytes (Ok c.in_ok-take.field-0) o
-    (record { takes = c.in_ok-take.ensures.takes; outbound = c.in_ok-take.ensures.outbound; hands = c.in_ok-take.ensures.hands; others = c.in_ok-take.ensures.others })
-    c.in_ok-take.ensures.ahead tells c.data.ensures.senders) c.data.ensures.data
+pub returns-in-Nothing-clause-quiet : goal.returns-in-Nothing-clause-quiet
+returns-in-Nothing-clause-quiet g c =
+    gets-then g.L.Lane.got (coming g.L.Lane.got g.L.Lane.ahead) c.args.self.now c.loop.self c.look_once.new.self c.args.id c.loop.invariant.4 c.loop.invariant.9
+    (subst (λ (l : Looked). LooksAt g.L.Lane.got (coming g.L.Lane.got g.L.Lane.ahead) c.args.id l c.loop.self c.look_once.new.self) c.in-Nothing.is c.in_ok-frame.ensures.looks)

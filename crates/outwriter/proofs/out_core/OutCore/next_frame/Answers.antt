@@ -6,6 +6,7 @@ use Rattle.outwriter.specs.Polls.{coming}
 use Rattle.outwriter.specs.RunState.{IsSpent, Progresses}
 use Rattle.outwriter.specs.StreamLooks.{GetsQuiet, HoldsOn}
 use Rattle.outwriter.proofs.EndsKept.{ended-if}
+use Rattle.outwriter.proofs.FrameSteps.{may-part}
 use Rattle.outwriter.proofs.Progresses.{spent-answered, writable-from}
 use Rattle.outwriter.proofs.QuietSteps.{no-frame-if}
 use Rattle.outwriter.proofs.ServeStepsCore.{serving-on}
@@ -67,3 +68,8 @@ returns-in-Ok-None-2-clause-ended g c = λ run reached s alive.
     (subst (λ (o : Option Frame). IfNone o (IsSpent c.choose.new.self.outbound)) c.in-Ok-None.field-0-is c.in-Ok-None.ensures.spent)
     ((subst (λ (o : Option Frame). Progresses o c.args.self.now.outbound c.choose.new.self.outbound) c.in-Ok-None.field-0-is c.in-Ok-None.ensures.frame) run reached.0).is_over
     (subst (λ (o : Option Frame). HoldsOn g.L.Lane.got o c.args.self.now c.choose.new.self) c.in-Ok-None.field-0-is c.in-Ok-None.ensures.served run (s.serves alive)).2
+
+pub returns-in-Err-clause-parts : goal.returns-in-Err-clause-parts
+returns-in-Err-clause-parts g c = λ run reached parts dead may last code.
+    let between = c.is_between-may_part.ensures may in
+    may-part run _ _ _ _ _ _ _ last code between.begun between.going between.no_block (reached c.if-self.false).0

@@ -1,0 +1,215 @@
+-- The law of runs on examples: a run that is lawful, and for each rule a frame that isn't.
+use Rattle.std.proofs.Common.{◌≡◌, ℕ, ◌<◌, ◌≤◌, ◌⊎◌, inl, inr, refl, sym, ap, subst, Bool, true, false, List, [], ◌∷◌, ◌==◌, length, arith, ◌∙◌, true≢false}
+use Rattle.std.specs.Prelude.{sum_by, ◌+◌}
+use Rattle.std.specs.List.{list_all}
+use Rattle.std.proofs.lemmas.Bool.{eqb-true}
+use Rattle.std.proofs.lemmas.List.Sums.{sum_by-cons}
+use Rattle.account.specs.Accounts.{Begins}
+use Rattle.flow.specs.WindowHistory.{Opening, room_after}
+use Rattle.flow.specs.WindowHistory.{Step as WindowStep}
+use Rattle.h2frame.specs.declared.error_code.ErrorCode.TheVariants.{Cancel}
+use Rattle.h2frame.specs.declared.frame.Frame.{Frame}
+use Rattle.h2frame.specs.declared.kind.FrameKind.{FrameKind}
+use Rattle.h2frame.specs.Faults.{increment_of}
+use Rattle.h2frame.specs.declared.kind.FrameKind.TheVariants as kind
+use Rattle.outwriter.specs.declared.control.Control.TheVariants as order
+use Rattle.outwriter.specs.Frames.{update_kind, update_on, first_settings, settings_ack, ping_ack, reset_frame, goaway_frame, update_frame, data_frame, headers_frame, continuation_frame, is_data}
+use Rattle.outwriter.specs.Histories.{HasHistory}
+use Rattle.outwriter.specs.Runs.{MayWrite, MayFollowEnd, IsLawful, updated, granted}
+use Rattle.outwriter.specs.Steps.{Step, Taken, Granted, Written, frames_of}
+use Rattle.hpack_codec.proofs.HuffmanTable.{and_true}
+use Rattle.outwriter.proofs.FrameSteps.{no-updates}
+use Rattle.outwriter.proofs.EndSteps.{told-amount}
+
+-- SETTINGS were written
+abbrev begun : List Step
+begun = Written first_settings ∷ []
+
+-- ---- frames that may not be written
+
+-- anything but SETTINGS comes first
+pub late-settings : ¬ MayWrite [] settings_ack
+late-settings m = true≢false (ap (λ (frame : Frame). frame.head.length == 0) (m.first refl))
+
+-- DATA on a stream that isn't open has no window
+pub closed-stream : ¬ MayWrite begun (data_frame 1 (7 ∷ []))
+closed-stream m =
+    let fits = (m.windows refl).1 (omega arith) in
+    let none : fits.0 ≡ [] = subst (λ (earlier : List WindowStep). fits.0 ≡ earlier) fits.1.1 fits.1.2 in
+    let room : 1 ≤ room_after [] 1 = subst (λ (history : List WindowStep). 1 ≤ room_after history 1) none fits.2 in
+    omega (arith, room)
+
+-- DATA without bytes doesn't end its stream
+pub empty-data : (before : List Step) → ¬ MayWrite before (data_frame 1 [])
+empty-data before m = by (m.content refl)
+  where
+    by : (0 < 0) ⊎ (false ≡ true) → ⊥
+    by (inl some) = omega (arith, some)
+    by (inr ends) = true≢false (sym ends)
+
+-- SETTINGS come again
+pub settings-again : ¬ MayWrite begun first_settings
+settings-again m = by m.answers
+  where
+    by : Begins (first_settings ∷ []) [] → ⊥
+    by (rest, e) = cc
+
+-- a PING is answered before the SETTINGS that were taken before it are acknowledged
+pub out-of-order : ¬ MayWrite (Taken (order.Ping (1 ∷ [])) ∷ Taken (order.Settings []) ∷ begun) (ping_ack (1 ∷ []))
+out-of-order m = by m.answers
+  where
+    first : Frame → List Frame → Frame
+    first none [] = none
+    first none (frame ∷ frames) = frame
+
+    by : Begins (ping_ack (1 ∷ []) ∷ []) (settings_ack ∷ ping_ack (1 ∷ []) ∷ []) → ⊥
+    by (rest, e) = true≢false (ap (λ (frames : List Frame). (first settings_ack frames).head.length == 0) e)
+
+-- nothing asked for GOAWAY
+pub unasked-goaway : ¬ MayWrite begun (goaway_frame 7 Cancel)
+unasked-goaway m = by m.parts
+  where
+    by : goaway_frame 7 Cancel ∷ [] ≡ [] → ⊥
+    by e = cc
+
+-- nor for a reset, or only for one that isn't to be written
+pub unasked-reset : ¬ MayWrite (Taken (order.Reset 3 Cancel false) ∷ begun) (reset_frame 3 Cancel)
+unasked-reset m = by (m.asked refl).1
+  where
+    by : ⊥ ⊎ ⊥ → ⊥
+    by (inl h) = h
+    by (inr h) = h
+
+-- a header block is unfinished
+pub inside-a-block : ¬ MayWrite (Written (headers_frame 5 false false (1 ∷ [])) ∷ begun) (data_frame 5 (7 ∷ []))
+inside-a-block m = true≢false (ap is_data m.block.0)
+
+-- none is
+pub no-block : ¬ MayWrite begun (continuation_frame 5 true (1 ∷ []))
+no-block m = m.block refl
+
+-- a stream that was reset
+pub after-a-reset : ¬ MayWrite (Written (reset_frame 3 Cancel) ∷ Taken (order.Reset 3 Cancel true) ∷ begun) (update_frame 3 4)
+after-a-reset m = true≢false m.not_reset
+
+-- and one that has ended
+pub after-the-end : ¬ MayWrite (Written (headers_frame 1 true true (130 ∷ [])) ∷ begun) (headers_frame 1 true true (130 ∷ []))
+after-the-end m = by (m.not_ended refl)
+  where
+    may_follow : FrameKind → Bool
+    may_follow kind.WindowUpdate = true
+    may_follow kind.Continuation = true
+    may_follow _ = false
+
+    by : MayFollowEnd kind.Headers → ⊥
+    by (inl e) = true≢false (sym (ap may_follow e))
+    by (inr e) = true≢false (sym (ap may_follow e))
+
+-- a GOAWAY with an error was the last frame
+pub after-the-last : ¬ MayWrite (Written (goaway_frame 7 Cancel) ∷ Taken (order.Goaway 7 Cancel) ∷ begun) settings_ack
+after-the-last m = true≢false m.goes_on
+
+-- more credit than was granted
+pub ungranted : ¬ MayWrite (Granted 1 3 ∷ begun) (update_frame 1 4)
+ungranted m = omega (arith, m.credit 1)
+
+-- and none
+pub no-credit : ¬ MayWrite begun (update_frame 1 0)
+no-credit m =
+    let told = m.update refl in
+    let amount : 0 ≡ told.0 = ap (λ (frame : Frame). increment_of frame.content) told.3 ∙ told-amount told.0 told.2 in
+    omega (arith, amount, told.1)
+
+-- ---- a lawful run
+
+none-updated : (frames : List Frame) (id : ℕ) → list_all (λ frame. update_kind frame.head.kind frame.content == 0) frames ≡ true → sum_by (update_on id) frames ≡ 0
+none-updated [] id e = refl
+none-updated (frame ∷ frames) id e =
+    let both = and_true (update_kind frame.head.kind frame.content == 0) (list_all (λ f. update_kind f.head.kind f.content == 0) frames) e in
+    let here : update_on id frame ≡ 0 = no-updates [] frame (eqb-true (update_kind frame.head.kind frame.content) 0 both.0) id in
+    omega (arith, sum_by-cons (update_on id) frame frames, here, none-updated frames id both.1)
+
+-- no credit is told
+calm : (before : List Step) (frame : Frame) → list_all (λ f. update_kind f.head.kind f.content == 0) (frames_of before) ≡ true → update_kind frame.head.kind frame.content ≡ 0
+    → (id : ℕ) → updated id before + update_on id frame ≤ granted id before
+calm before frame all none id = omega (arith, none-updated (frames_of before) id all, no-updates before frame none id)
+
+-- a call is opened, and answered by headers, a message and trailers
+abbrev opened : List Step
+opened = Taken (order.Open 1 tt) ∷ begun
+
+abbrev headed : List Step
+headed = Written (headers_frame 1 false true (130 ∷ [])) ∷ opened
+
+abbrev sent : List Step
+sent = Written (data_frame 1 (8 ∷ 9 ∷ [])) ∷ headed
+
+first-may : MayWrite [] first_settings
+first-may = record {
+  first = λ e. refl;
+  windows = λ e. cc;
+  content = λ e. cc;
+  answers = ([], refl);
+  parts = refl;
+  asked = λ e. cc;
+  block = λ e. cc;
+  not_reset = refl;
+  not_ended = λ e. cc;
+  goes_on = refl;
+  credit = calm [] first_settings refl refl;
+  update = λ e. cc;
+}
+
+head-may : MayWrite opened (headers_frame 1 false true (130 ∷ []))
+head-may = record {
+  first = λ e. cc;
+  windows = λ e. cc;
+  content = λ e. cc;
+  answers = ([], refl);
+  parts = refl;
+  asked = λ e. cc;
+  block = λ e. cc;
+  not_reset = refl;
+  not_ended = λ e. cc;
+  goes_on = refl;
+  credit = calm opened (headers_frame 1 false true (130 ∷ [])) refl refl;
+  update = λ e. cc;
+}
+
+has-window : HasHistory headed (Opening 1 ∷ [])
+has-window = (Opening 1 ∷ [], ([], ([], refl, refl), refl), refl)
+
+data-may : MayWrite headed (data_frame 1 (8 ∷ 9 ∷ []))
+data-may = record {
+  first = λ e. cc;
+  windows = λ e. (omega arith, λ some. (Opening 1 ∷ [], has-window, omega arith));
+  content = λ e. inl (omega arith);
+  answers = ([], refl);
+  parts = refl;
+  asked = λ e. cc;
+  block = λ e. cc;
+  not_reset = refl;
+  not_ended = λ e. cc;
+  goes_on = refl;
+  credit = calm headed (data_frame 1 (8 ∷ 9 ∷ [])) refl refl;
+  update = λ e. cc;
+}
+
+end-may : MayWrite sent (headers_frame 1 true true (130 ∷ []))
+end-may = record {
+  first = λ e. cc;
+  windows = λ e. cc;
+  content = λ e. cc;
+  answers = ([], refl);
+  parts = refl;
+  asked = λ e. cc;
+  block = λ e. cc;
+  not_reset = refl;
+  not_ended = λ e. cc;
+  goes_on = refl;
+  credit = calm sent (headers_frame 1 true true (130 ∷ [])) refl refl;
+  update = λ e. cc;
+}
+
+pub one-call : IsLawful (Written (headers_frame 1 true true (130 ∷ [])) ∷ sent)
+one-call = (end-may, (data-may, (head-may, (first-may, tt))))
