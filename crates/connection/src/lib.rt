@@ -27,5 +27,5 @@ mod slots;
 mod worker;
 mod writer;
 
-pub use report::Ending;
+pub use report::{Ending, Served};
 pub use serve::serve_connection;

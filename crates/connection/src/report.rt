@@ -2,6 +2,14 @@
 
 use h2frame::ErrorCode;
 
+/// What became of a connection.
+#[derive(Drop)]
+pub struct Served<O: Drop> {
+    pub ending: Ending,
+    /// What was written to. None where no memory or no thread was to be had before anything was read.
+    pub output: Option<O>,
+}
+
 /// How a connection ended. Where several are true, the first of `OutOfMemory`, `WriteFailed`, `ProtocolError` and
 /// `ReadFailed` is told, and else what the input ended with.
 #[derive(Clone, Copy, Debug, PartialEq, Eq)]
@@ -15,4 +23,18 @@ pub enum Ending {
     ReadFailed,
     WriteFailed,
     OutOfMemory,
+}
+
+impl Ending {
+    /// The ending's number.
+    pub fn code(self) -> u32 {
+        match self {
+            Ending::InputEnded => 1,
+            Ending::PeerGoaway => 2,
+            Ending::ProtocolError(_) => 3,
+            Ending::ReadFailed => 4,
+            Ending::WriteFailed => 5,
+            Ending::OutOfMemory => 6,
+        }
+    }
 }

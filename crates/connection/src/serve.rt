@@ -6,7 +6,7 @@ use crate::intake::Intake;
 use crate::orders::{ORDERS, Orders};
 use crate::outlet::Outlet;
 use crate::reader::Reader;
-use crate::report::Ending;
+use crate::report::{Ending, Served};
 use crate::shared::Shared;
 use crate::writer::Writer;
 use connbook::ConnBook;
@@ -22,7 +22,7 @@ use std::thread;
 use std::thread::Threads;
 use std::time::{Clock, Instant};
 
-/// Serves one connection, and says how it ended. The caller's thread reads; one more writes, and up to 64 answer calls. It
+/// Serves one connection, and says what became of it. The caller's thread reads; one more writes, and up to 64 answer calls. It
 /// returns once the input has ended or the connection was ended with an error, and all that could be written was.
 ///
 /// Calls are answered by these methods. A peer that neither reads nor closes is waited for.
@@ -32,7 +32,7 @@ pub fn serve_connection<I, O, R>(
     input: &mut I,
     output: O,
     methods: Arc<Methods>,
-) -> Ending
+) -> Served<O>
 where
     I: ConnRead,
     O: ConnWrite + Send + Drop + 'static,
@@ -40,8 +40,11 @@ where
 {
     let blanks = (Blank::new(1), Blank::new(1), Blank::new(1));
     match serve_over::<Brand, Brand, Brand, I, O, R>(rt, alloc, blanks, input, output, methods) {
-        Ok(ending) => ending,
-        Err(AllocError) => Ending::OutOfMemory,
+        Ok(served) => served,
+        Err(AllocError) => Served {
+            ending: Ending::OutOfMemory,
+            output: None,
+        },
     }
 }
 
@@ -53,7 +56,7 @@ fn serve_over<A, B, C, I, O, R>(
     input: &mut I,
     output: O,
     methods: Arc<Methods>,
-) -> Result<Ending, AllocError>
+) -> Result<Served<O>, AllocError>
 where
     A: Ledger + Send + Sync + 'static,
     B: Ledger + Send + Sync + 'static,
@@ -91,8 +94,11 @@ where
     };
     let read = reader.read(&mut intake, input);
     reader.end();
-    let written = writing.join(&rt);
-    Ok(of_both(read, written))
+    let (written, output) = writing.join(&rt);
+    Ok(Served {
+        ending: of_both(read, written),
+        output: Some(output),
+    })
 }
 
 /// How a connection ended, by what the reader and the writer see.

@@ -32,8 +32,9 @@ pub(crate) struct Writer<A: Ledger, B: Ledger, C: Ledger, W: ConnWrite> {
 }
 
 impl<A: Ledger, B: Ledger, C: Ledger, W: ConnWrite + Drop> Writer<A, B, C, W> {
-    /// Writes until no more is to be written, and says how the connection ended as far as the writer sees.
-    pub(crate) fn write(self, rt: &impl Wait) -> Option<Ending> {
+    /// Writes until no more is to be written. It says how the connection ended as far as the writer sees, and gives back what
+    /// it wrote to.
+    pub(crate) fn write(self, rt: &impl Wait) -> (Option<Ending>, W) {
         let mut writer = self;
         for _ in rt.forever() {
             let mark = writer.outlet.shared.writer.mark();
@@ -59,7 +60,10 @@ impl<A: Ledger, B: Ledger, C: Ledger, W: ConnWrite + Drop> Writer<A, B, C, W> {
                 }
             }
         }
-        writer.ending()
+        let ending = writer.ending();
+        let Writer { frames, .. } = writer;
+        let (_senders, device) = frames.into_parts();
+        (ending, device)
     }
 
     /// Takes all orders that wait.

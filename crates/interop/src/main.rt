@@ -20,8 +20,11 @@ ghost use Rattle.std.specs.Prelude.{◌<◌};
 mod body;
 mod call;
 mod client;
+mod memory;
+mod parts;
 mod report;
 mod server;
+mod streams;
 mod target;
 mod text;
 mod words;
@@ -29,12 +32,17 @@ mod words;
 use body::{RunFault, run_body};
 use client::run_cases;
 use device::Marked;
-use server::{read_serve_words, serve};
+use handlers::{
+    CacheableUnaryCall, EmptyCall, FullDuplexCall, HalfDuplexCall, Method, Methods, StreamingInputCall, StreamingOutputCall, UnaryCall,
+};
+use parts::run_parts;
+use server::{ServerCommand, read_server_words, serve};
+use std::alloc::AllocError;
 use std::io::ErrorKind;
 use std::net::{Net, TcpListener, TcpStream};
 use std::process::ExitCode;
 use std::rt::Env;
-use std::sync::Wait;
+use std::sync::{Arc, Wait};
 use std::thread::Threads;
 use std::time::Clock;
 use std::{env, io};
@@ -54,6 +62,7 @@ The gRPC interop test server's program.
 
 Usage: interop [body --cut N]
        interop case NAME --port P [--host H]
+       interop parts
        interop serve --port P [--conns N]
 
   body --cut N   read the joined DATA bytes of one call as hexadecimal text, in pieces
@@ -62,6 +71,8 @@ Usage: interop [body --cut N]
   case NAME      run the test case of this name as a client against the server at
                  H:P (127.0.0.1 if no host is given), or all of them where NAME is
                  all, and print a line of each; what differed is told on standard error
+  parts          read the bytes of a connection as hexadecimal text, serve it, and print what
+                 it is answered with, stream by stream, and how it ended
   serve --port P serve grpc.testing.TestService on port P of 127.0.0.1, until it is
                  interrupted, or N connections were served
   -h, --help     print this text
@@ -106,18 +117,42 @@ fn obey_case<R: Net + Print + Eprint + AllocGlobal>(rt: &R, words: &[String]) ->
     }
 }
 
-// Serves as the words behind `serve` say, and answers the exit status.
-fn obey_serve<R>(rt: R, words: &[String]) -> u8
+// Serves `grpc.testing.TestService`, and answers the exit status.
+fn obey_server<R>(rt: R, command: ServerCommand) -> Result<u8, AllocError>
 where
-    R: Net<Stream = TcpStream, Listener = TcpListener> + Print + Eprint + AllocGlobal,
+    R: Net<Stream = TcpStream, Listener = TcpListener> + Input + Print + Eprint + AllocGlobal,
     R: Threads + Wait + Clock + Copy + Send + Sync + Drop + 'static,
 {
-    let Some(words) = read_serve_words(words) else {
-        return complain(&rt, "bad arguments");
-    };
-    match serve(rt, words) {
+    let alloc = rt.alloc();
+    let mut methods: Vec<Box<dyn Method>> = Vec::new(alloc);
+    methods.push(Box::new(alloc, EmptyCall)?)?;
+    methods.push(Box::new(alloc, UnaryCall)?)?;
+    methods.push(Box::new(alloc, CacheableUnaryCall)?)?;
+    methods.push(Box::new(alloc, StreamingInputCall)?)?;
+    methods.push(Box::new(alloc, StreamingOutputCall)?)?;
+    methods.push(Box::new(alloc, FullDuplexCall)?)?;
+    methods.push(Box::new(alloc, HalfDuplexCall)?)?;
+    let methods = Arc::new(alloc, Methods::new(methods))?;
+    Ok(match command {
+        ServerCommand::Parts => print_parts(rt, methods),
+        ServerCommand::Serve(words) => match serve(rt, &methods, words) {
+            Ok(()) => 0,
+            Err(_) => FAILED,
+        },
+    })
+}
+
+// Serves the connection in standard input, reports on standard output, and answers the exit status.
+fn print_parts<R>(rt: R, methods: Arc<Methods>) -> u8
+where
+    R: Input + Print + Eprint + AllocGlobal + Threads + Wait + Clock + Copy + Send + Sync + Drop + 'static,
+{
+    let mut input = Marked::new(rt.reader());
+    let mut output = Marked::new(io::writer(&rt));
+    match run_parts(rt, rt.alloc(), methods, &mut input, &mut output) {
         Ok(()) => 0,
-        Err(_) => FAILED,
+        Err(RunFault::NotHex) => complain(&rt, "input is not hexadecimal"),
+        Err(RunFault::ReadFailed | RunFault::WriteFailed | RunFault::OutOfMemory) => FAILED,
     }
 }
 
@@ -130,7 +165,12 @@ where
     if let Some((command, behind)) = words.split_first() {
         match command.as_str() {
             "case" => return obey_case(rt, behind),
-            "serve" => return obey_serve(*rt, behind),
+            "parts" | "serve" => {
+                return match read_server_words(command.as_str(), behind) {
+                    Some(command) => obey_server(*rt, command).unwrap_or(FAILED),
+                    None => complain(rt, "bad arguments"),
+                };
+            }
             _ => {}
         }
     }

@@ -3,10 +3,7 @@
 use crate::target::read_number;
 use connection::serve_connection;
 use device::Marked;
-use handlers::{
-    CacheableUnaryCall, EmptyCall, FullDuplexCall, HalfDuplexCall, Method, Methods,
-    StreamingInputCall, StreamingOutputCall, UnaryCall,
-};
+use handlers::Methods;
 use std::alloc::Global;
 use std::net::{Net, TcpListener, TcpStream};
 use std::sync::{Arc, Wait};
@@ -24,8 +21,26 @@ pub struct ServeWords {
     pub connections: Option<u16>,
 }
 
+/// What the server is to serve.
+#[derive(Clone, Copy, Debug, PartialEq, Eq)]
+pub enum ServerCommand {
+    /// The connection in standard input.
+    Parts,
+    /// The connections to a port.
+    Serve(ServeWords),
+}
+
+/// The command of these words: `parts` alone, or `serve` and the words behind it.
+pub fn read_server_words(command: &str, behind: &[String]) -> Option<ServerCommand> {
+    match command {
+        "parts" if behind.is_empty() => Some(ServerCommand::Parts),
+        "serve" => Some(ServerCommand::Serve(read_serve_words(behind)?)),
+        _ => None,
+    }
+}
+
 /// The words behind `serve`: `--port` and `--conns` with their values, in any order, each 1 to 65,535. The port has to be there.
-pub fn read_serve_words(words: &[String]) -> Option<ServeWords> {
+fn read_serve_words(words: &[String]) -> Option<ServeWords> {
     let mut port = None;
     let mut connections = None;
     let mut rest = words;
@@ -45,28 +60,19 @@ pub fn read_serve_words(words: &[String]) -> Option<ServeWords> {
 
 /// Listens on the port of 127.0.0.1, and serves `grpc.testing.TestService` on each connection in a thread of its own: on all
 /// that come, or on as many as the words say. It fails where the port can't be had.
-pub fn serve<R>(rt: R, words: ServeWords) -> io::Result<()>
+pub fn serve<R>(rt: R, methods: &Arc<Methods>, words: ServeWords) -> io::Result<()>
 where
     R: Net<Stream = TcpStream, Listener = TcpListener> + Print + AllocGlobal,
     R: Threads + Wait + Clock + Copy + Send + Sync + Drop + 'static,
 {
     let alloc = rt.alloc();
-    let mut methods: Vec<Box<dyn Method>> = Vec::new(alloc);
-    methods.push(Box::new(alloc, EmptyCall)?)?;
-    methods.push(Box::new(alloc, UnaryCall)?)?;
-    methods.push(Box::new(alloc, CacheableUnaryCall)?)?;
-    methods.push(Box::new(alloc, StreamingInputCall)?)?;
-    methods.push(Box::new(alloc, StreamingOutputCall)?)?;
-    methods.push(Box::new(alloc, FullDuplexCall)?)?;
-    methods.push(Box::new(alloc, HalfDuplexCall)?)?;
-    let methods = Arc::new(alloc, Methods::new(methods))?;
     let port = words.port;
     let address = format!(in alloc; "127.0.0.1:{port}")?;
     let listener = TcpListener::bind(&rt, address.as_str())?;
     println!(rt; "listening {address}")?;
     match words.connections {
-        Some(count) => serve_some(rt, alloc, &listener, &methods, count),
-        None => serve_all(rt, alloc, &listener, &methods),
+        Some(count) => serve_some(rt, alloc, &listener, methods, count),
+        None => serve_all(rt, alloc, &listener, methods),
     }
 }
 
@@ -126,7 +132,7 @@ where
     let methods = Arc::try_clone(methods)?;
     let serving = thread::spawn(&rt, move || {
         let mut input = Marked::new(input);
-        let _ending = serve_connection(rt, alloc, &mut input, Marked::new(output), methods);
+        let _served = serve_connection(rt, alloc, &mut input, Marked::new(output), methods);
     });
     match serving {
         Ok(handle) => Ok(handle),

@@ -1,0 +1,64 @@
+//! `interop parts`: a connection served over memory, from hexadecimal text to the frames that were written.
+//!
+//! The whole report is made before any of it is written, so out of memory prints nothing.
+
+use crate::body::RunFault;
+use crate::memory::{MemoryInput, MemoryOutput};
+use crate::streams::Streams;
+use crate::text::bytes_of;
+use connection::{Ending, serve_connection};
+use device::{ConnRead, ConnWrite, Marked, read_all, write_all};
+use h2frame::FrameReader;
+use handlers::Methods;
+use std::alloc::Global;
+use std::sync::{Arc, Wait};
+use std::thread::Threads;
+use std::time::Clock;
+
+/// Reads a connection's bytes as hexadecimal text, to the end of the input, and serves them. Then it writes what the
+/// connection was answered with, stream by stream, and how it ended.
+pub fn run_parts<R, I, O>(
+    rt: R,
+    alloc: Global,
+    methods: Arc<Methods>,
+    input: &mut I,
+    output: &mut O,
+) -> Result<(), RunFault>
+where
+    I: ConnRead,
+    O: ConnWrite,
+    R: Threads + Wait + Clock + Copy + Send + Sync + Drop + 'static,
+{
+    let text = read_all(alloc, input)?;
+    let bytes = bytes_of(alloc, text)?;
+    let mut input = Marked::new(MemoryInput::new(bytes));
+    let written = Marked::new(MemoryOutput {
+        bytes: Vec::new(alloc),
+    });
+    let served = serve_connection(rt, alloc, &mut input, written, methods);
+    let Some(written) = served.output else {
+        return Err(RunFault::OutOfMemory);
+    };
+    let report = report(alloc, written.into_inner().bytes.as_slice(), served.ending)?;
+    write_all(output, report.as_bytes())?;
+    Ok(())
+}
+
+/// The report on a connection on which this was written.
+fn report(alloc: Global, written: &[u8], ending: Ending) -> Result<String, RunFault> {
+    let mut reader = FrameReader::new(alloc);
+    if reader.feed(written).is_err() {
+        return Err(RunFault::OutOfMemory);
+    }
+    let mut streams = Streams::new(alloc);
+    for _ in 0..u64::MAX {
+        match reader.next() {
+            Some(Ok(frame)) => streams.tell(&frame)?,
+            Some(Err(_)) => return Err(RunFault::OutOfMemory),
+            None => break,
+        }
+    }
+    let mut text = streams.into_text()?;
+    writeln!(text, "ending {}", ending.code())?;
+    Ok(text)
+}
