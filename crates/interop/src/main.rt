@@ -12,7 +12,8 @@
 //! - `text`: hexadecimal text into bytes.
 //! - `call`: the events of a call whose bytes come in pieces.
 //! - `report`: the lines that tell messages, the end and faults.
-//! - `client` and `target`: `interop case`. `server`: `interop serve`.
+//! - `client` and `target`: `interop case`.
+//! - `server`: `interop serve`. `parts`, `memory` and `streams`: `interop parts`.
 #![tactic(auto)]
 
 ghost use Rattle.std.specs.Prelude.{◌<◌};
@@ -33,7 +34,8 @@ use body::{RunFault, run_body};
 use client::run_cases;
 use device::Marked;
 use handlers::{
-    CacheableUnaryCall, EmptyCall, FullDuplexCall, HalfDuplexCall, Method, Methods, StreamingInputCall, StreamingOutputCall, UnaryCall,
+    CacheableUnaryCall, EmptyCall, FullDuplexCall, HalfDuplexCall, Method, Methods,
+    StreamingInputCall, StreamingOutputCall, UnaryCall,
 };
 use parts::run_parts;
 use server::{ServerCommand, read_server_words, serve};
@@ -145,7 +147,18 @@ where
 // Serves the connection in standard input, reports on standard output, and answers the exit status.
 fn print_parts<R>(rt: R, methods: Arc<Methods>) -> u8
 where
-    R: Input + Print + Eprint + AllocGlobal + Threads + Wait + Clock + Copy + Send + Sync + Drop + 'static,
+    R: Input
+        + Print
+        + Eprint
+        + AllocGlobal
+        + Threads
+        + Wait
+        + Clock
+        + Copy
+        + Send
+        + Sync
+        + Drop
+        + 'static,
 {
     let mut input = Marked::new(rt.reader());
     let mut output = Marked::new(io::writer(&rt));
