@@ -6,7 +6,7 @@ use crate::body::RunFault;
 use crate::memory::{MemoryInput, MemoryOutput};
 use crate::streams::Streams;
 use crate::text::bytes_of;
-use connection::{Ending, serve_connection};
+use connection::{Ending, Served, serve_connection};
 use device::{ConnRead, ConnWrite, Marked, read_all, write_all};
 use h2frame::FrameReader;
 use handlers::Methods;
@@ -35,11 +35,14 @@ where
     let written = Marked::new(MemoryOutput {
         bytes: Vec::new(alloc),
     });
-    let served = serve_connection(rt, alloc, &mut input, written, methods);
-    let Some(written) = served.output else {
+    let Served {
+        ending,
+        output: written,
+    } = serve_connection(rt, alloc, &mut input, written, methods);
+    let Some(written) = written else {
         return Err(RunFault::OutOfMemory);
     };
-    let report = report(alloc, written.into_inner().bytes.as_slice(), served.ending)?;
+    let report = report(alloc, written.into_inner().bytes.as_slice(), ending)?;
     write_all(output, report.as_bytes())?;
     Ok(())
 }
