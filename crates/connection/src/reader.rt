@@ -33,8 +33,8 @@ const PIECE: usize = 16_384;
 /// Room for the pieces of a call's DATA: as many as the bytes that a window lets through.
 const IN_ROOM: usize = 65_536;
 
-/// Room for what a call is answered with.
-const OUT_ROOM: usize = 256;
+/// Room for what a call is answered with: so many messages wait at most to be written.
+const OUT_ROOM: usize = 16;
 
 /// How many streams a client may begin (`flow::Halves`); at the last of them it is told to open no more.
 const STREAMS: u32 = 4096;

@@ -15,6 +15,8 @@ pub(crate) struct Shared<A: Ledger, B: Ledger, C: Ledger> {
     pub(crate) writer: Bell,
     /// Rung where the reader may wait for room, or for a worker.
     pub(crate) reader: Bell,
+    /// Rung where calls may wait for room for what they give.
+    pub(crate) room: Bell,
     /// The greatest stream that was looked at: what a GOAWAY tells.
     last: AtomicU32,
     /// Whether the writer writes nothing more.
@@ -32,6 +34,7 @@ impl<A: Ledger, B: Ledger, C: Ledger> Shared<A, B, C> {
                 book: Mutex::new(book),
                 writer: Bell::new(),
                 reader: Bell::new(),
+                room: Bell::new(),
                 last: AtomicU32::new(0),
                 stopped: AtomicBool::new(false),
             },

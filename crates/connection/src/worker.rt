@@ -18,6 +18,9 @@ use std::time::{Clock, Duration, Instant};
 /// How long a call waits at most before it looks again: at the clock, and whether it is live; in milliseconds.
 const STEP: u64 = 1;
 
+/// The same, of a call without a deadline for which nothing happens.
+const LONG_STEP: u64 = 16;
+
 /// What a worker has, beside the methods.
 #[derive(Drop)]
 pub(crate) struct Worker<A: Ledger, B: Ledger, C: Ledger> {
@@ -75,24 +78,37 @@ impl<A: Ledger, B: Ledger, C: Ledger> Worker<A, B, C> {
             return;
         }
         let mut run = CallRun::new(self.alloc, methods, index, head, taker, giver, opened);
+        let mut step = STEP;
         'turns: for _ in rt.forever() {
-            let mark = self.slot.bell.mark();
+            let came = self.slot.bell.mark();
+            let room = self.shared.room.mark();
             let now = self.now(rt, &run);
-            match run.turn(methods, now) {
-                Turn::Went => {}
+            let turn = run.turn(methods, now);
+            match turn {
+                Turn::Went => step = STEP,
                 Turn::Over => break,
                 Turn::Nothing | Turn::Full => {
                     if !self.is_live(rt, id, &mut run) {
                         self.give_up(rt, methods, &mut run);
                         break;
                     }
-                    self.slot
-                        .bell
-                        .wait_past(rt, mark, Duration::from_millis(STEP));
+                    self.wait(rt, turn, room, came, step);
+                    if !run.has_deadline() {
+                        step = LONG_STEP.min(step.saturating_mul(2));
+                    }
                 }
             }
         }
         self.settle(rt, id, run);
+    }
+
+    /// Waits so many milliseconds at most: for room where a turn lacked it, else for what comes for the call.
+    fn wait(&self, rt: &impl Wait, turn: Turn, room: u64, came: u64, step: u64) {
+        let limit = Duration::from_millis(step);
+        match turn {
+            Turn::Full => self.shared.room.wait_past(rt, room, limit),
+            Turn::Went | Turn::Nothing | Turn::Over => self.slot.bell.wait_past(rt, came, limit),
+        }
     }
 
     /// Returns what was taken, and says whether the call is live still.

@@ -42,6 +42,9 @@ impl<A: Ledger, B: Ledger, C: Ledger, W: ConnWrite + Drop> Writer<A, B, C, W> {
             writer.announce(rt);
             let filled = writer.frames.fill();
             let is_silent = writer.frames.is_flushed();
+            if !is_silent {
+                writer.outlet.shared.room.ring();
+            }
             writer.flush(rt);
             match filled {
                 Filled::Over => break,
