@@ -115,14 +115,18 @@ impl<A: Ledger, B: Ledger, C: Ledger> Worker<A, B, C> {
     fn is_live(&self, rt: &impl Wait, id: StreamId, run: &mut CallRun<InLane, OutLane>) -> bool
         ensures { run.new.index ≡ run.old.index }
     {
-        self.shared.writer.ring();
         let credit = run.credit();
-        let mut book = self.shared.book.lock(rt);
-        if credit > 0 {
-            // Where the call is no longer live, its bytes were returned already.
-            let _ = book.give_back(id, credit);
-        }
-        book.is_live(id)
+        let is_live = {
+            let mut book = self.shared.book.lock(rt);
+            if credit > 0 {
+                // Where the call is no longer live, its bytes were returned already.
+                let _ = book.give_back(id, credit);
+            }
+            book.is_live(id)
+        };
+        // Only now, so that the writer sees what was returned.
+        self.shared.writer.ring();
+        is_live
     }
 
     /// Leaves a call that is no longer live, unless it was reset: then that is what it is told last.
