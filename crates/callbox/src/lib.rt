@@ -9,8 +9,8 @@
 //! calls at once.
 //!
 //! Read the crate `account` first; then `specs/InSides.antt` with `piece`, `feeder`, `taker` and `in_side`;
-//! `specs/OutSides.antt` with `giver`, `sender` and `out_side`; `specs/Slots.antt` with `slot`; and `call`, `uses::four_threads` and `uses::handed_over`
-//! (a sender that goes to another thread) last.
+//! `specs/OutSides.antt` with `giver`, `sender` and `out_side`; `specs/Slots.antt` with `slot`; and `call`,
+//! `uses::four_threads` and `uses::handed_over` (a sender that goes to another thread) last.
 #![tactic(auto)]
 
 pub mod call;
