@@ -1,6 +1,6 @@
 -- What went through the in side, item by item, and the run of its events.
 use Rattle.std.proofs.Common.{◌≡◌, ℕ, ◌+◌, min, Bool, true, false, List, [], ◌∷◌, ◌++◌, length, Option, Some, None, refl, sym, ap, subst, ◌∙◌, append_assoc, arith, MatchBool}
-use Rattle.std.specs.Prelude.{All, is_none, map, fold}
+use Rattle.std.specs.Prelude.{◌&&◌, All, is_none, map, fold}
 use Rattle.std.specs.List.{concat}
 use Rattle.std.proofs.lemmas.List.{append-nil, length-append}
 use Rattle.std.proofs.lemmas.List.Elements.{All-nil, All-cons, All-head, All-tail}
@@ -24,7 +24,7 @@ use Rattle.callbox.specs.declared.piece.InPiece.{InPiece}
 use Rattle.callbox.specs.declared.piece.InPiece.TheVariants as piece
 use Rattle.account.specs.Accounts.{MayTell}
 use Rattle.account.specs.Runs.{after, run, opened, telling}
-use Rattle.callbox.specs.InSides.{pieces_of, bytes_of, shut_of, ends_at_shut, fits_shut, once, in_account, in_events, Took}
+use Rattle.callbox.specs.InSides.{pieces_of, bytes_of, shut_of, ends_at_shut, all_end_at_shut, fits_shut, once, in_account, in_events, Took}
 use Rattle.account.proofs.SerialLemmas.{MayTell-longer, MayTell-shut, after-feed, after-shut, after-take_message, after-take_more, after-take_fault}
 
 -- ---- one item more
@@ -44,6 +44,14 @@ pub ends_at_shut-open : (items : List InPiece) → shut_of items ≡ None → en
 ends_at_shut-open [] e = refl
 ends_at_shut-open (piece.Bytes bytes ∷ items) e = ends_at_shut-open items e
 ends_at_shut-open (piece.Shut closed ∷ items) e = absurd cc
+
+and_both : (a b c : Bool) → a && b ≡ true → (b ≡ true → c ≡ true) → a && c ≡ true
+and_both true b c e next = next e
+and_both false b c e next = absurd cc
+
+pub all_end-push : (calls : List (List InPiece)) (items : List InPiece) → all_end_at_shut calls ≡ true → ends_at_shut items ≡ true → all_end_at_shut (calls ++ items ∷ []) ≡ true
+all_end-push [] items e last = ap (λ (b : Bool). b && true) last
+all_end-push (first ∷ calls) items e last = and_both (ends_at_shut first) (all_end_at_shut calls) (all_end_at_shut (calls ++ items ∷ [])) e (λ before. all_end-push calls items before last)
 
 pub bytes_of-append : (items more : List InPiece) → bytes_of (items ++ more) ≡ bytes_of items ++ bytes_of more
 bytes_of-append [] more = refl

@@ -1,3 +1,4 @@
 pub mod InLemmas
 pub mod TakerLemmas
 pub mod OutLemmas
+pub mod SlotLemmas

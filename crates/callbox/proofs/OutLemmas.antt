@@ -22,7 +22,7 @@ use Rattle.callbox.specs.InSides.{pieces_of}
 use Rattle.account.specs.Accounts.{IsBody, IsResponse}
 use Rattle.callbox.specs.OutAccounts.{CountsOut}
 use Rattle.callbox.specs.declared.out_side.OutAccount.{OutAccount}
-use Rattle.callbox.specs.OutSides.{answer_items, has_end, has_head, has_trailers, message_items, out_account, out_events}
+use Rattle.callbox.specs.OutSides.{EachResponse, answer_items, has_end, has_head, has_trailers, message_items, out_account, out_events}
 use Rattle.account.specs.Runs.{after, run, opened, may_follow, last_of}
 use Rattle.account.proofs.SerialLemmas.{last, last_of-last, slice_get-behind, after-give, after-send}
 
@@ -99,6 +99,10 @@ not_begun (Left ∷ items) response going e = absurd cc
 pub put_or_kept : {A E : Type 0} (P : List OutItem → Type 0) (r : Result A E) (put new : List OutItem) (item : OutItem) → OnOk r (new ≡ put ++ item ∷ []) → OnErr r (new ≡ put) → P put → P (put ++ item ∷ []) → P new
 put_or_kept P (Ok x) put new item ok kept before behind = subst P (sym ok) behind
 put_or_kept P (Err e) put new item ok kept before behind = subst P (sym kept) before
+
+pub each_response-push : (calls : List (List OutItem)) (items : List OutItem) → EachResponse calls → IsResponse items → EachResponse (calls ++ items ∷ [])
+each_response-push [] items each response = (response, tt)
+each_response-push (first ∷ calls) items each response = (each.0, each_response-push calls items each.1 response)
 
 -- ---- the trailers
 

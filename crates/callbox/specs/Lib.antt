@@ -2,3 +2,4 @@ pub mod InSides
 pub mod InAccounts
 pub mod OutSides
 pub mod OutAccounts
+pub mod Slots

@@ -143,3 +143,12 @@ IsResponse-prop (Head fields ∷ items) = IsBody-prop items
 IsResponse-prop (Message bytes ∷ items) = λ p q. absurd p
 IsResponse-prop (Trailers fields ∷ items) = IsEmpty-prop items
 IsResponse-prop (Left ∷ items) = IsEmpty-prop items
+
+-- each of the calls before was given a response
+abbrev pub EachResponse : List (List OutItem) → Type 0
+EachResponse [] = Unit {0}
+EachResponse (items ∷ calls) = IsResponse items × EachResponse calls
+
+pub EachResponse-prop : (calls : List (List OutItem)) → IsProp (EachResponse calls)
+EachResponse-prop [] = Unit-prop
+EachResponse-prop (items ∷ calls) = ×_prop (IsResponse-prop items) (EachResponse-prop calls)

@@ -5,9 +5,12 @@
 //! of them together. In every schedule what they did is a lawful account, the one that the serial core makes of the same
 //! events.
 //!
+//! A slot's four ends serve one call after another: each has a `begin`, and `settle_slot` brings them together for all
+//! calls at once.
+//!
 //! Read the crate `account` first; then `specs/InSides.antt` with `piece`, `feeder`, `taker` and `in_side`;
-//! `specs/OutSides.antt` with `giver`, `sender` and `out_side`; and `call`, `uses::four_threads` and `uses::handed_over`
-//! (a sender that goes to another thread) last.
+//! `specs/OutSides.antt` with `giver`, `sender` and `out_side`; `specs/Slots.antt` with `slot`; and `call`,
+//! `uses::four_threads` and `uses::handed_over` (a sender that goes to another thread) last.
 #![tactic(auto)]
 
 pub mod call;
@@ -17,6 +20,7 @@ pub mod in_side;
 pub mod out_side;
 pub mod piece;
 pub mod sender;
+pub mod slot;
 pub mod taker;
 pub mod uses;
 
@@ -27,6 +31,7 @@ pub use in_side::{InAccount, open_in, settle_in};
 pub use out_side::{OutAccount, open_out, settle_out};
 pub use piece::InPiece;
 pub use sender::Sender;
+pub use slot::settle_slot;
 pub use taker::{Taken, Taker};
 pub use uses::four_threads::{Answer, Ran, Request, run_call};
 pub use uses::handed_over::answer_elsewhere;

@@ -75,6 +75,7 @@ pub fn open_out<L: Lane<Item = OutItem>>(
     ensures one_call { IfOk result (λ r. L.in_name r.0.tx ≡ L.out_name r.1.rx) }
     ensures room { IfOk result (λ r. L.room_of (L.in_name r.0.tx) ≡ room) }
     ensures nothing { IfOk result (λ r. (L.put_in r.0.tx ≡ []) × (L.got r.1.rx ≡ [])) }
+    ensures first { IfOk result (λ r. (L.past_in r.0.tx ≡ []) × (L.past_out r.1.rx ≡ [])) }
     ensures id { IfOk result (λ r. r.1.id ≡ id) }
 {
     let (tx, rx) = L::open(alloc, room)?;

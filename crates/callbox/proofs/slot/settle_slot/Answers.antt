@@ -1,0 +1,9 @@
+use Rattle.callbox.proofs.SlotLemmas.{each_lawful}
+use Rattle.callbox.proofs.slot.settle_slot.Goals as goal
+
+pub returns : goal.returns
+returns g c =
+    record {
+      accounts = λ calls took.
+          each_lawful _ _ _ _ _ _ calls c.meet_in.ensures.follows c.meet_in.ensures.shut c.meet_out.ensures.follows c.meet_out.ensures.given took;
+    }

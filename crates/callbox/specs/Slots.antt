@@ -1,0 +1,51 @@
+-- The calls that one slot served over its two lanes, in order.
+use Rattle.std.specs.Prelude.{◌≡◌, ℕ, List, [], ◌∷◌, Option, None, slice_index_or}
+use mathlib.Core.List.{IsPrefix}
+use Rattle.lane.specs.Cuts.{segment}
+use Rattle.account.specs.declared.call.Account.{Account}
+use Rattle.account.specs.declared.call.OutItem.{OutItem}
+use Rattle.account.specs.declared.call.Told.{Told}
+use Rattle.account.specs.Accounts.{IsLawful}
+use Rattle.callbox.specs.declared.piece.InPiece.{InPiece}
+use Rattle.callbox.specs.declared.taker.Progress.{Progress}
+use Rattle.callbox.specs.InSides.{Took, bytes_of, shut_of}
+
+-- the messages of a call that were taken, and what was told behind them
+abbrev pub TakenCall : Type 0
+TakenCall = List (List ℕ) × Option Told
+
+-- Of a beginning of what was got of a call these messages were taken, and this was told behind them. What was got later
+-- was drained.
+pub record TookOf (got : List InPiece) (messages : List (List ℕ)) (said : Option Told) : Type 0 where
+  pub front : List InPiece
+  pub progress : Progress
+  pub begins : IsPrefix front got
+  pub took : Took front progress messages
+  pub told : progress.told ≡ said
+
+-- the same of each call
+abbrev pub EachTook : List (List InPiece) → List TakenCall → Type 0
+EachTook [] [] = Unit {0}
+EachTook [] (call ∷ calls) = ⊥
+EachTook (got ∷ more) [] = ⊥
+EachTook (got ∷ more) (call ∷ calls) = TookOf got call.0 call.1 × EachTook more calls
+
+-- call number n, or one of which nothing was taken
+abbrev pub call_at : List TakenCall → ℕ → TakenCall
+call_at calls n = slice_index_or calls n ([], None)
+
+-- the account of call number n, both sides: what was fed, taken, given and sent of it
+abbrev pub account_at : List (List InPiece) → List TakenCall → List (List OutItem) → List (List OutItem) → ℕ → Account
+account_at fed calls given sent n =
+    record {
+      fed = bytes_of (segment fed n);
+      shut = shut_of (segment fed n);
+      taken = (call_at calls n).0;
+      told = (call_at calls n).1;
+      given = segment given n;
+      sent = segment sent n;
+    }
+
+-- each call's account is lawful, whatever the other calls did
+abbrev pub EachLawful : List (List InPiece) → List TakenCall → List (List OutItem) → List (List OutItem) → Type 0
+EachLawful fed calls given sent = (n : ℕ) → IsLawful (account_at fed calls given sent n)

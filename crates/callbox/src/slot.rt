@@ -1,0 +1,95 @@
+//! The four ends of a slot, which served one call after another, brought together.
+
+ghost use Rattle.std.specs.Prelude.{◌≡◌, true, List, [], ◌∷◌, ◌++◌};
+ghost use Rattle.lane.specs.End.{of_end};
+ghost use Rattle.lane.specs.Follows.{Follows};
+ghost use Rattle.callbox.specs.InSides.{all_end_at_shut};
+ghost use Rattle.callbox.specs.OutSides.{EachResponse};
+ghost use Rattle.callbox.specs.Slots.{EachLawful, EachTook, TakenCall};
+
+use crate::{FedShut, Feeder, GivenShut, Giver, InPiece, Sender, Taker};
+use account::OutItem;
+use lane::{End, Lane};
+
+/// Brings the ends of one slot together, wherever they are: then each of its calls has a lawful account.
+///
+/// The ends say what was fed, given and sent of each call; what was taken of each is for the holder of the taker to say.
+pub fn settle_slot<I: Lane<Item = InPiece>, O: Lane<Item = OutItem>>(
+    fed: End<Feeder<I>, FedShut<I>>,
+    taker: Taker<I>,
+    given: End<Giver<O>, GivenShut<O>>,
+    sender: Sender<O>,
+)
+    requires one_in { I.ring_of (of_end (λ f. I.in_name f.tx) (λ s. I.shut_name s.shut) fed) ≡ I.ring_of (I.out_name taker.rx) }
+    requires one_out { O.ring_of (of_end (λ g. O.in_name g.tx) (λ s. O.shut_name s.shut) given) ≡ O.ring_of (O.out_name sender.rx) }
+    ensures accounts { (calls : List TakenCall) → EachTook (I.past_out taker.rx ++ I.got taker.rx ∷ []) calls
+        → EachLawful
+        (of_end (λ f. I.past_in f.tx) (λ s. I.past_shut s.shut) fed ++ of_end (λ f. I.put_in f.tx) (λ s. I.put_shut s.shut) fed ∷ []) calls
+        (of_end (λ g. O.past_in g.tx) (λ s. O.past_shut s.shut) given ++ of_end (λ g. O.put_in g.tx) (λ s. O.put_shut s.shut) given ∷ [])
+        (O.past_out sender.rx ++ O.got sender.rx ∷ []) }
+{
+    meet_in(fed, taker);
+    meet_out(given, sender);
+}
+
+/// What was got of each call begins what was fed of it, and ends at its shut.
+fn meet_in<L: Lane<Item = InPiece>>(end: End<Feeder<L>, FedShut<L>>, taker: Taker<L>)
+    requires one_lane { L.ring_of (of_end (λ f. L.in_name f.tx) (λ s. L.shut_name s.shut) end) ≡ L.ring_of (L.out_name taker.rx) }
+    ensures follows { Follows
+        (of_end (λ f. L.past_in f.tx) (λ s. L.past_shut s.shut) end ++ of_end (λ f. L.put_in f.tx) (λ s. L.put_shut s.shut) end ∷ [])
+        (L.past_out taker.rx) (L.got taker.rx) }
+    ensures shut { all_end_at_shut
+        (of_end (λ f. L.past_in f.tx) (λ s. L.past_shut s.shut) end ++ of_end (λ f. L.put_in f.tx) (λ s. L.put_shut s.shut) end ∷ []) ≡ true }
+{
+    match end {
+        End::Open(feeder) => meet_in_open(feeder, taker),
+        End::Shut(shut) => meet_in_shut(shut, taker),
+    }
+}
+
+fn meet_in_open<L: Lane<Item = InPiece>>(feeder: Feeder<L>, taker: Taker<L>)
+    requires one_lane { L.ring_of (L.in_name feeder.tx) ≡ L.ring_of (L.out_name taker.rx) }
+    ensures follows { Follows (L.past_in feeder.tx ++ L.put_in feeder.tx ∷ []) (L.past_out taker.rx) (L.got taker.rx) }
+    ensures shut { all_end_at_shut (L.past_in feeder.tx ++ L.put_in feeder.tx ∷ []) ≡ true }
+{
+    L::settle_all(End::Open(feeder.tx), taker.rx);
+}
+
+fn meet_in_shut<L: Lane<Item = InPiece>>(shut: FedShut<L>, taker: Taker<L>)
+    requires one_lane { L.ring_of (L.shut_name shut.shut) ≡ L.ring_of (L.out_name taker.rx) }
+    ensures follows { Follows (L.past_shut shut.shut ++ L.put_shut shut.shut ∷ []) (L.past_out taker.rx) (L.got taker.rx) }
+    ensures shut { all_end_at_shut (L.past_shut shut.shut ++ L.put_shut shut.shut ∷ []) ≡ true }
+{
+    L::settle_all(End::Shut(shut.shut), taker.rx);
+}
+
+/// What was sent of each call begins what was given of it, a response.
+fn meet_out<L: Lane<Item = OutItem>>(end: End<Giver<L>, GivenShut<L>>, sender: Sender<L>)
+    requires one_lane { L.ring_of (of_end (λ g. L.in_name g.tx) (λ s. L.shut_name s.shut) end) ≡ L.ring_of (L.out_name sender.rx) }
+    ensures follows { Follows
+        (of_end (λ g. L.past_in g.tx) (λ s. L.past_shut s.shut) end ++ of_end (λ g. L.put_in g.tx) (λ s. L.put_shut s.shut) end ∷ [])
+        (L.past_out sender.rx) (L.got sender.rx) }
+    ensures given { EachResponse
+        (of_end (λ g. L.past_in g.tx) (λ s. L.past_shut s.shut) end ++ of_end (λ g. L.put_in g.tx) (λ s. L.put_shut s.shut) end ∷ []) }
+{
+    match end {
+        End::Open(giver) => meet_out_open(giver, sender),
+        End::Shut(shut) => meet_out_shut(shut, sender),
+    }
+}
+
+fn meet_out_open<L: Lane<Item = OutItem>>(giver: Giver<L>, sender: Sender<L>)
+    requires one_lane { L.ring_of (L.in_name giver.tx) ≡ L.ring_of (L.out_name sender.rx) }
+    ensures follows { Follows (L.past_in giver.tx ++ L.put_in giver.tx ∷ []) (L.past_out sender.rx) (L.got sender.rx) }
+    ensures given { EachResponse (L.past_in giver.tx ++ L.put_in giver.tx ∷ []) }
+{
+    L::settle_all(End::Open(giver.tx), sender.rx);
+}
+
+fn meet_out_shut<L: Lane<Item = OutItem>>(shut: GivenShut<L>, sender: Sender<L>)
+    requires one_lane { L.ring_of (L.shut_name shut.shut) ≡ L.ring_of (L.out_name sender.rx) }
+    ensures follows { Follows (L.past_shut shut.shut ++ L.put_shut shut.shut ∷ []) (L.past_out sender.rx) (L.got sender.rx) }
+    ensures given { EachResponse (L.past_shut shut.shut ++ L.put_shut shut.shut ∷ []) }
+{
+    L::settle_all(End::Shut(shut.shut), sender.rx);
+}
