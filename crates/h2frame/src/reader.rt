@@ -22,6 +22,9 @@ use std::marker::Model;
 /// The least bytes of a content that shares the block it was read into.
 const LEAST_SHARED: usize = 256;
 
+/// The least bytes of a piece for which a block of its own is made, where the buffer has no room.
+const LARGE_PIECE: usize = 4096;
+
 /// The frames of bytes that come in pieces, from the end of the connection's preface on. A clause sees it as the bytes
 /// that were fed and aren't used up.
 #[derive(Drop)]
@@ -66,7 +69,7 @@ impl FrameReader {
         if let Some(fault) = standing_fault(self.buffer.as_slice()) {
             return Err(fault);
         }
-        self.buffer.extend_from_slice(piece)?;
+        extend(&mut self.buffer, piece)?;
         Ok(())
     }
 
@@ -91,6 +94,30 @@ impl FrameReader {
     {
         step(&mut self.buffer)
     }
+}
+
+/// Appends the piece, or changes nothing.
+fn extend(buffer: &mut BytesMut, piece: &[u8]) -> Result<(), AllocError>
+    ensures ok { OnOk result (buffer.new.items ≡ buffer.old.items ++ piece.now) }
+    ensures err { OnErr result (buffer.new.items ≡ buffer.old.items) }
+{
+    if piece.len() < LARGE_PIECE || buffer.try_reclaim(piece.len()) {
+        return buffer.extend_from_slice(piece);
+    }
+    *buffer = joined(buffer, piece)?;
+    Ok(())
+}
+
+/// The bytes of the buffer and of the piece, in a new block with room for no more: a buffer that grows fills its new room with
+/// zeros first.
+fn joined(buffer: &BytesMut, piece: &[u8]) -> Result<BytesMut, AllocError>
+    ensures { IfOk result (λ all. all.items ≡ buffer.now.items ++ piece.now) }
+{
+    let alloc = *buffer.allocator();
+    let mut all = Vec::with_capacity(alloc, buffer.len().saturating_add(piece.len()))?;
+    all.extend_from_slice(buffer.as_slice())?;
+    all.extend_from_slice(piece)?;
+    Ok(BytesMut::from_vec(all))
 }
 
 /// The fault that stands at the front, behind which nothing can be read.
