@@ -57,6 +57,8 @@ pub struct Connection<S> {
     arrived: VecDeque<Arrival>,
     /// Whether the client's PING was answered.
     answered: bool,
+    /// The error with which the server ended the connection, if it said one.
+    pub goaway: Option<u32>,
 }
 
 impl<S: ConnRead + ConnWrite> Connection<S> {
@@ -71,6 +73,7 @@ impl<S: ConnRead + ConnWrite> Connection<S> {
             windows: SendWindows::new(alloc),
             arrived: VecDeque::new(alloc),
             answered: false,
+            goaway: None,
         }
     }
 
@@ -229,13 +232,13 @@ impl<S: ConnRead + ConnWrite> Connection<S> {
             })),
             FrameKind::Settings => self.settings(&frame),
             FrameKind::Ping => self.pinged(frame),
-            FrameKind::GoAway => {
-                if number_at(frame.content.as_slice(), 4) == 0 {
-                    Ok(None)
-                } else {
+            FrameKind::GoAway => match number_at(frame.content.as_slice(), 4) {
+                0 => Ok(None),
+                code => {
+                    self.goaway = Some(code);
                     Err(CaseFault::Connection)
                 }
-            }
+            },
             FrameKind::WindowUpdate => self.credited(&frame),
             FrameKind::PushPromise | FrameKind::Continuation => Err(CaseFault::Connection),
             FrameKind::Priority | FrameKind::Unknown(_) => Ok(None),

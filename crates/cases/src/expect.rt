@@ -18,6 +18,33 @@ pub fn note(notes: &mut String, wanted: &str, came: &str) -> Result<(), AllocErr
     notes.push_str("\n")
 }
 
+/// Says what came where a case was ended before it could be compared: by the connection, or by what is no message.
+pub fn note_end(
+    alloc: Global,
+    fault: CaseFault,
+    goaway: Option<u32>,
+    notes: &mut String,
+) -> Result<(), AllocError> {
+    match (fault, goaway) {
+        (CaseFault::Connection, Some(code)) => {
+            let came = format!(in alloc; "GOAWAY {code}")?;
+            note(notes, "an answer", came.as_str())
+        }
+        (CaseFault::Connection, None) => note(
+            notes,
+            "frames and header blocks",
+            "what is none, or is out of place",
+        ),
+        (CaseFault::StreamFailed, _) => note(
+            notes,
+            "an answer",
+            "the end of the connection, or nothing in time",
+        ),
+        (CaseFault::WrongReply, _) => note(notes, "a message", "what is none, or too many"),
+        _ => Ok(()),
+    }
+}
+
 /// The call ended with this status. No text is wanted where none is given.
 pub fn expect_status(
     alloc: Global,

@@ -7,7 +7,7 @@ use crate::case::Case;
 use crate::connection::Connection;
 use crate::expect::{
     expect_bodies, expect_body, expect_count, expect_echoes, expect_empty, expect_status,
-    expect_sum, note,
+    expect_sum, note, note_end,
 };
 use crate::fault::CaseFault;
 use crate::method::{Asked, Method};
@@ -60,7 +60,13 @@ pub fn run_case<S: ConnRead + ConnWrite + Drop>(
         return Err(CaseFault::UnknownCase);
     };
     let mut connection = Connection::new(alloc, device);
-    run(&mut connection, case, notes)
+    let ran = run(&mut connection, case, notes);
+    if let Err(fault) = ran {
+        if notes.is_empty() {
+            note_end(alloc, fault, connection.goaway, notes)?;
+        }
+    }
+    ran
 }
 
 fn run<S: ConnRead + ConnWrite>(
