@@ -1,6 +1,6 @@
 #!/usr/bin/env python3
 """made.py FOLDER: writes connections that are too long to write by hand, or many of a kind, into a folder, as the other files of
-this folder have them: NAME.hex and NAME.out. What is wanted follows from RFC 9113 and gRPC over HTTP/2, and the statuses and texts
+this folder have them: NAME.hex and NAME.out, and where several answers are lawful NAME.or1, NAME.or2 .. with the others. What is wanted follows from RFC 9113 and gRPC over HTTP/2, and the statuses and texts
 that the server itself gives from docs/PROTOCOL.md.
 """
 import os
@@ -116,6 +116,35 @@ def reset_before_its_message():
     return joined, CONNECTION + "ending 1\n"
 
 
+def one_of(joined, *bodies):
+    """A connection of one call, on whose stream one of these is written."""
+    texts = [CONNECTION + (f"stream 1\n{body}" if body else "") + "ending 1\n" for body in bodies]
+    return joined, texts
+
+
+ONE = bytes.fromhex("00000000050a03120100")
+CANCELLED = "grpc-status: 1\ngrpc-message: cancelled"
+
+
+def data_behind_the_end():
+    """STREAM_CLOSED, unless the call was answered before: then its stream is closed both ways."""
+    head, joined = block(RESPONSE), BEGIN + call("EmptyCall", wire.message()) + wire.data(1, b"\0")
+    begun = ["", head, f"{head}data 5 0000000000\n"]
+    return one_of(joined, *(f"{it}reset 5\n" for it in begun), answer(bytes(5)))
+
+
+def reset_behind_a_message():
+    """The reply may be on its way, and the trailers of what is cancelled too."""
+    joined = BEGIN + call("FullDuplexCall", wire.message(wire.output_request(1)), end=False) + wire.reset(1)
+    head = block(RESPONSE)
+    return one_of(joined, "", head, f"{head}data {len(ONE)} {ONE.hex()}\n", answer(ONE, CANCELLED))
+
+
+def reset_inside_a_message():
+    joined = BEGIN + call("FullDuplexCall", wire.message(wire.output_request(1))[:-1], end=False) + wire.reset(1)
+    return one_of(joined, "", block(RESPONSE + CANCELLED, end=True))
+
+
 def heads_of_no_call():
     path = b"\x04" + wire.integer(4, 7) + b"/a/b"
     get, post = b"\x82\x86" + path, b"\x83\x86" + path + wire.literal("content-type", "text/plain")
@@ -139,6 +168,9 @@ def made():
     yield "statuses", statuses()
     yield "echoes", echoes()
     yield "reset_before_its_message", reset_before_its_message()
+    yield "data_behind_the_end", data_behind_the_end()
+    yield "reset_behind_a_message", reset_behind_a_message()
+    yield "reset_inside_a_message", reset_inside_a_message()
     yield "heads_of_no_call", heads_of_no_call()
     yield "ping_on_a_stream", goaway(1, wire.frame(wire.PING, 0, 1, bytes(8)))
     yield "ping_of_seven_bytes", goaway(6, wire.frame(wire.PING, 0, 0, bytes(7)))
@@ -158,7 +190,9 @@ def made():
 
 def main():
     for name, (joined, text) in made():
-        for ending, content in (("hex", joined.hex() + "\n"), ("out", text)):
+        first, *others = [text] if isinstance(text, str) else text
+        files = [("hex", joined.hex() + "\n"), ("out", first), *((f"or{at}", other) for at, other in enumerate(others, 1))]
+        for ending, content in files:
             with open(os.path.join(sys.argv[1], f"{name}.{ending}"), "w", encoding="utf-8") as file:
                 file.write(content)
 
