@@ -20,7 +20,7 @@ use Rattle.callbox.proofs.InLemmas.{counts_in, fits_end}
 
 module _ {T : Type 0} where
   -- what was got of each segment begins what was put of it
-  prefix_at : (past put : List (List T)) (got : List T) (rest : List (List T)) (n : ℕ) → past ++ rest ≡ put → IsPrefix got (segment put (length past))
+  pub prefix_at : (past put : List (List T)) (got : List T) (rest : List (List T)) (n : ℕ) → past ++ rest ≡ put → IsPrefix got (segment put (length past))
       → IsPrefix (segment (past ++ got ∷ []) n) (segment put n)
   prefix_at [] put got rest zero is here = here
   prefix_at [] put got rest (suc n) is here = (segment put (suc n), refl)

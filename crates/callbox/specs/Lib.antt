@@ -3,3 +3,4 @@ pub mod InAccounts
 pub mod OutSides
 pub mod OutAccounts
 pub mod Slots
+pub mod SlotRuns

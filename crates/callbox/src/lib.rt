@@ -10,7 +10,7 @@
 //!
 //! Read the crate `account` first; then `specs/InSides.antt` with `piece`, `feeder`, `taker` and `in_side`;
 //! `specs/OutSides.antt` with `giver`, `sender` and `out_side`; `specs/Slots.antt` with `slot`; and `call`,
-//! `uses::four_threads` and `uses::handed_over` (a sender that goes to another thread) last.
+//! `uses::four_threads`, `uses::slot_run` and `uses::handed_over` (a sender that goes to another thread) last.
 #![tactic(auto)]
 
 pub mod call;
@@ -35,3 +35,5 @@ pub use slot::settle_slot;
 pub use taker::{Taken, Taker};
 pub use uses::four_threads::{Answer, Ran, Request, run_call};
 pub use uses::handed_over::answer_elsewhere;
+pub use uses::slot_call::{RanCalls, Reply, SentCall, SlotCall, TookCall};
+pub use uses::slot_run::run_calls;

@@ -207,8 +207,11 @@ fn give_messages<L: Lane<Item = OutItem>>(giver: &mut Giver<L>, messages: &[Byte
 }
 
 /// A copy of the next item, or nothing.
-fn next_copy<L: Lane<Item = OutItem>>(sender: &mut Sender<L>) -> Result<Option<OutItem>, AllocError>
+pub(crate) fn next_copy<L: Lane<Item = OutItem>>(
+    sender: &mut Sender<L>,
+) -> Result<Option<OutItem>, AllocError>
     ensures name { L.out_name sender.new.rx ≡ L.out_name sender.old.rx }
+    ensures past { L.past_out sender.new.rx ≡ L.past_out sender.old.rx }
     ensures got { IfOk result (λ next. MatchOption next
         (L.got sender.new.rx ≡ L.got sender.old.rx)
         (λ item. L.got sender.new.rx ≡ L.got sender.old.rx ++ item ∷ [])) }
