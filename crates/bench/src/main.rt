@@ -3,7 +3,7 @@
 //! The first word chooses one, and the numbers after it its size: it prints how long it took, in nanoseconds. Without
 //! words each runs once, small, and prints what it did but no time.
 //!
-//! Each module measures one library: `lane_bench`, `h2frame_feed`, `hpack_blocks`, `flow_halves`, `protobuf_messages`,
+//! Each module measures one library: `lane_bench` and `lane_segments`, `slot_calls`, `h2frame_feed`, `hpack_blocks`, `flow_halves`, `protobuf_messages`,
 //! `handlers_calls`, `session_reading` and `outbound_frames`; `sizes` reads the numbers.
 #![tactic(auto)]
 
@@ -12,10 +12,12 @@ mod h2frame_feed;
 mod handlers_calls;
 mod hpack_blocks;
 mod lane_bench;
+mod lane_segments;
 mod outbound_frames;
 mod protobuf_messages;
 mod session_reading;
 mod sizes;
+mod slot_calls;
 
 use anyhow::{Result, bail};
 use std::env;
@@ -34,6 +36,8 @@ fn main(rt: HostRuntime) -> Result<()> {
 /// Each measurement once, small.
 fn run_all<R: Threads + Wait + Sync + AllocGlobal + Print + Clock>(rt: &R) -> Result<()> {
     lane_bench::run_all(rt, rt.alloc())?;
+    lane_segments::small(rt)?;
+    slot_calls::small(rt)?;
     h2frame_feed::small(rt)?;
     hpack_blocks::small(rt)?;
     flow_halves::small(rt)?;
@@ -56,13 +60,16 @@ fn run_one<R: Threads + Wait + Sync + AllocGlobal + Print + Clock>(
         "h2frame-feed" => h2frame_feed::timed(rt, sizes),
         "hpack-huffman" => hpack_blocks::huffman(rt, sizes),
         "hpack-evictions" => hpack_blocks::evictions(rt, sizes),
+        "lane-opened" => lane_segments::opened(rt, sizes),
         "lane-relay" => lane_bench::relayed(rt, rt.alloc(), sizes),
         "lane-ring" => lane_bench::rings(rt, sizes),
         "lane-ring-awaited" => lane_bench::rings_awaited(rt, sizes),
+        "lane-segments" => lane_segments::segments(rt, sizes),
         "outwriter-long" => outbound_frames::long(rt, sizes),
         "outwriter-small" => outbound_frames::small_replies(rt, sizes),
         "session-calls" => session_reading::calls(rt, sizes),
         "session-data" => session_reading::data(rt, sizes),
+        "slot-calls" => slot_calls::counted(rt, sizes),
         "testproto-body" => protobuf_messages::one_body(rt, sizes),
         "testproto-many" => protobuf_messages::many(rt, sizes),
         _ => bail!("there is no such measurement"),
