@@ -267,10 +267,10 @@ ended_whole asked fed messages begins last tells =
     let same : fed ≡ asked = sym (append-nil fed) ∙ ap (λ (rest : List InPiece). fed ++ rest) (sym none) ∙ begins.1 in
     (ap shut_of (sym same) ∙ tells.0, ap bytes_of (sym same) ∙ tells.1)
 
-pub runs_calls : (calls : List SlotCall) (taken : List TookCall) (sent : List SentCall) (fed got : List (List InPiece)) (given left : List (List OutItem)) → EachBegins fed (map asked_items calls)
-    → TookAll got (map taken_call taken) → EachBegins given (map reply_items calls) → ((n : ℕ) → segment left n ≡ segment (map sent_items sent) n)
-    → ((each : List TakenCall) → EachTook got each → EachLawful fed each given left) → RunsCalls calls taken sent
-runs_calls calls taken sent fed got given left asked took replied same settled = λ n.
+pub runs_calls : (calls : List SlotCall) (taken : List TookCall) (sent : List SentCall) (fed got : List (List InPiece)) (given left : List (List OutItem))
+    → ((each : List TakenCall) → EachTook got each → EachLawful fed each given left) → EachBegins fed (map asked_items calls) → TookAll got (map taken_call taken) → EachBegins given (map reply_items calls)
+    → ((n : ℕ) → segment left n ≡ segment (map sent_items sent) n) → RunsCalls calls taken sent
+runs_calls calls taken sent fed got given left settled asked took replied same = λ n.
     let of_call = λ (call : TakenCall) (items : List OutItem).
     IsLawful (record { fed = bytes_of (segment fed n); shut = shut_of (segment fed n); taken = call.0; told = call.1; given = segment given n; sent = items }) in
     let call = call_at (map taken_call taken) n in

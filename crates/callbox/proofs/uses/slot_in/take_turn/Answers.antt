@@ -12,8 +12,8 @@ returns-clause-so_far g c = λ more.
     let got = g.L.Lane.got c.take_call.new.taker.rx in
     let past = g.L.Lane.past_out c.take_call.new.taker.rx in
     let next = c.next_call.ensures.past more in
-    let took = took_drained got next.0 call.messages.items call.told c.in_ok-took.ensures.took next.1.0 in
-    subst (λ (p : List (List InPiece)). EachTook p (map taken_call c.push.new.self.items)) (sym next.1.1)
+    let took = took_drained got next.0 call.messages.items call.told c.in_ok-took.ensures.took next.1 in
+    subst (λ (p : List (List InPiece)). EachTook p (map taken_call c.push.new.self.items)) (sym next.2)
     (each_took-next (g.L.Lane.past_out c.args.taker.now.rx) past next.0 c.args.taken.now.items c.push.new.self.items call c.requires.so_far
     c.take_call.ensures.past c.in_ok-push.ensures.items took)
 

@@ -7,7 +7,7 @@ returns-clause-so_far g c = λ more.
     let mid = c.send_call.new.sender.rx in
     c.begin.ensures.past more
     ∙ sent-next (g.L.Lane.past_out c.args.sender.now.rx) (g.L.Lane.past_out mid) (g.L.Lane.got mid) c.args.sent.now.items c.push.new.self.items c.in_ok-call.call
-        c.requires.so_far c.send_call.ensures.past c.in_ok-call.ensures.sent c.in_ok-push.ensures.items
+    c.requires.so_far c.send_call.ensures.past c.in_ok-call.ensures.sent c.in_ok-push.ensures.items
 
 pub returns-clause-ends : goal.returns-clause-ends
 returns-clause-ends g c = λ less.
@@ -17,4 +17,4 @@ returns-clause-ends g c = λ less.
     let past : g.L.Lane.past_out end ≡ g.L.Lane.past_out mid = search rules in
     let got : g.L.Lane.got end ≡ g.L.Lane.got mid = search rules in
     sent-next (g.L.Lane.past_out c.args.sender.now.rx) (g.L.Lane.past_out end) (g.L.Lane.got end) c.args.sent.now.items c.push.new.self.items c.in_ok-call.call
-        c.requires.so_far (past ∙ c.send_call.ensures.past) (got ∙ c.in_ok-call.ensures.sent) c.in_ok-push.ensures.items
+    c.requires.so_far (past ∙ c.send_call.ensures.past) (got ∙ c.in_ok-call.ensures.sent) c.in_ok-push.ensures.items
