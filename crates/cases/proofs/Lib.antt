@@ -1,1 +1,3 @@
 pub mod AskedLemmas
+mod NameLemmas
+mod ReportLemmas

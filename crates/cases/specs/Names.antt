@@ -1,5 +1,5 @@
 -- The names of the cases: gRPC, "Interoperability Test Case Descriptions".
-use Rattle.std.specs.Prelude.{ℕ, List, codes}
+use Rattle.std.specs.Prelude.{◌≢◌, ℕ, List, codes}
 use Rattle.cases.specs.declared.case.Case.{Case}
 use Rattle.cases.specs.declared.case.Case.TheVariants.{EmptyUnary, LargeUnary, ClientStreaming, ServerStreaming, PingPong, EmptyStream, CustomMetadata, StatusCodeAndMessage, SpecialStatusMessage, UnimplementedMethod, UnimplementedService, CancelAfterBegin, CancelAfterFirstResponse, TimeoutOnSleepingServer}
 
@@ -18,3 +18,7 @@ name_of UnimplementedService = codes "unimplemented_service"
 name_of CancelAfterBegin = codes "cancel_after_begin"
 name_of CancelAfterFirstResponse = codes "cancel_after_first_response"
 name_of TimeoutOnSleepingServer = codes "timeout_on_sleeping_server"
+
+-- no case has this name
+abbrev pub IsNoName : List ℕ → Type 0
+IsNoName name = (case : Case) → name_of case ≢ name

@@ -1,7 +1,7 @@
 //! The cases by their names.
 
-ghost use Rattle.std.specs.Prelude.{◌≡◌, Some};
-ghost use Rattle.cases.specs.Names.{name_of};
+ghost use Rattle.std.specs.Prelude.{◌≡◌, Some, IfSome, IfNone};
+ghost use Rattle.cases.specs.Names.{IsNoName, name_of};
 
 /// A case.
 #[derive(Clone, Copy, Debug, PartialEq, Eq)]
@@ -63,8 +63,11 @@ impl Case {
         }
     }
 
-    /// The case with this name.
-    pub fn named(name: &str) -> Option<Case> {
+    /// The case with this name, if there is one.
+    pub fn named(name: &str) -> Option<Case>
+        ensures some { IfSome result (λ case. name_of case ≡ name.now) }
+        ensures none { IfNone result (IsNoName name.now) }
+    {
         Case::ALL.iter().find(|case| case.name() == name).copied()
     }
 }

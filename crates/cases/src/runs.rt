@@ -1,6 +1,8 @@
 //! The fourteen cases (gRPC, "Interoperability Test Case Descriptions").
 
-ghost use Rattle.std.specs.Prelude.{◌<◌, ◌^◌};
+ghost use Rattle.std.specs.Prelude.{◌≡◌, ◌<◌, ◌^◌, Err};
+ghost use Rattle.cases.specs.Names.{IsNoName};
+ghost use Rattle.cases.specs.declared.fault.CaseFault.TheVariants.{UnknownCase};
 
 use crate::call::{CANCEL, Call};
 use crate::case::Case;
@@ -55,7 +57,9 @@ pub fn run_case<S: ConnRead + ConnWrite + Drop>(
     name: &str,
     device: S,
     notes: &mut String,
-) -> Result<(), CaseFault> {
+) -> Result<(), CaseFault>
+    ensures unknown { IsNoName name.now → result ≡ Err UnknownCase }
+{
     let Some(case) = Case::named(name) else {
         return Err(CaseFault::UnknownCase);
     };

@@ -1,8 +1,13 @@
-//! The command `case`: test cases against a server.
+//! The commands that run test cases: `case` against a server, and the client's part of `self`.
+
+ghost use Rattle.std.specs.Prelude.{◌≡◌, List, map, IfOk};
+ghost use Rattle.std.specs.Io.KnownBytes.{Appends};
+ghost use Rattle.cases.specs.Report.{all_cases, have_passed, lines_of};
+ghost use Rattle.cases.specs.declared.report.Outcome.{Outcome};
 
 use crate::target::{CaseWords, Target};
-use cases::{Case, CaseFault, run_case};
-use device::Marked;
+use cases::{CaseFault, ReportFault, have_passed, print_line, run_all, run_case};
+use device::{ConnWrite, Marked};
 use std::alloc::{AllocError, Global};
 use std::io;
 use std::net::{Net, OpenStream, TcpStream};
@@ -12,43 +17,52 @@ use std::time::Duration;
 const PATIENCE: u64 = 10;
 
 /// Runs the case that the words name, or all of them, prints a line of each, and answers whether none failed.
-pub fn run_cases<R: Net + Print + Eprint + AllocGlobal>(
+pub fn run_cases<R: Net + Eprint + AllocGlobal, W: ConnWrite>(
     rt: &R,
     words: CaseWords<'_>,
-) -> io::Result<bool> {
-    if words.name != "all" {
-        return report_case(rt, words.name, words.target);
+    output: &mut W,
+) -> Result<bool, ReportFault> {
+    let alloc = rt.alloc();
+    if words.name == "all" {
+        return run_all_cases(rt, alloc, words.target, output);
     }
-    let mut all_passed = true;
-    for case in Case::ALL {
-        let passed = report_case(rt, case.name(), words.target)?;
-        all_passed = all_passed && passed;
-    }
-    Ok(all_passed)
+    let answer = try_case(rt, words.name, words.target);
+    print_line(alloc, words.name, answer, output)?;
+    Ok(answer.is_ok())
 }
 
-/// Runs a case, prints its line, and answers whether it passed. What was wanted and what came goes to standard error.
-fn report_case<R: Net + Print + Eprint + AllocGlobal>(
+/// Runs the fourteen cases, prints a line of each, and answers whether none failed.
+pub fn run_all_cases<R: Net + Eprint + AllocGlobal, W: ConnWrite>(
+    rt: &R,
+    alloc: Global,
+    target: Target<'_>,
+    output: &mut W,
+) -> Result<bool, ReportFault>
+    ensures lines { IfOk result (λ passed. (outcomes : List Outcome)
+        × (map (λ outcome. outcome.case) outcomes ≡ all_cases)
+        × Appends (W.contents output.old) (W.contents output.new) (lines_of outcomes)
+        × (passed ≡ have_passed outcomes)) }
+{
+    let outcomes = run_all(alloc, |case| try_case(rt, case.name(), target), output)?;
+    Ok(have_passed(outcomes.as_slice()))
+}
+
+/// Runs a case over a connection of its own. What was wanted and what came goes to standard error where they differ.
+fn try_case<R: Net + Eprint + AllocGlobal>(
     rt: &R,
     name: &str,
     target: Target<'_>,
-) -> io::Result<bool> {
+) -> Result<(), CaseFault> {
     let mut notes = String::new(rt.alloc());
-    match connect_and_run(rt, name, target, &mut notes) {
-        Ok(()) => {
-            println!(rt; "case {name} ok")?;
-            Ok(true)
-        }
-        Err(fault) => {
-            let code = fault.code();
-            eprint!(rt; "{notes}")?;
-            println!(rt; "case {name} failed {code}")?;
-            Ok(false)
-        }
+    let answer = connect_and_run(rt, name, target, &mut notes);
+    if answer.is_err() {
+        // The line that is printed tells of the fault even where nothing can be said here.
+        let _said = eprint!(rt; "{notes}");
     }
+    answer
 }
 
-/// Runs a case over a connection of its own.
+/// Runs a case over a connection that it makes.
 fn connect_and_run<R: Net + AllocGlobal>(
     rt: &R,
     name: &str,

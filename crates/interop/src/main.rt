@@ -13,7 +13,7 @@
 //! - `call`: the events of a call whose bytes come in pieces.
 //! - `report`: the lines that tell messages, the end and faults.
 //! - `client` and `target`: `interop case`.
-//! - `server`: `interop serve`. `parts`, `memory` and `streams`: `interop parts`.
+//! - `server`: `interop serve` and `interop self`. `parts`, `memory` and `streams`: `interop parts`.
 #![tactic(auto)]
 
 ghost use Rattle.std.specs.Prelude.{◌<◌};
@@ -38,7 +38,7 @@ use handlers::{
     StreamingInputCall, StreamingOutputCall, UnaryCall,
 };
 use parts::run_parts;
-use server::{ServerCommand, read_server_words, serve};
+use server::{ServerCommand, listen, read_server_words, run_self, serve};
 use std::alloc::AllocError;
 use std::io::ErrorKind;
 use std::net::{Net, TcpListener, TcpStream};
@@ -65,6 +65,7 @@ The gRPC interop test server's program.
 Usage: interop [body --cut N]
        interop case NAME --port P [--host H]
        interop parts
+       interop self [--port P]
        interop serve --port P [--conns N]
 
   body --cut N   read the joined DATA bytes of one call as hexadecimal text, in pieces
@@ -75,6 +76,8 @@ Usage: interop [body --cut N]
                  all, and print a line of each; what differed is told on standard error
   parts          read the bytes of a connection as hexadecimal text, serve it, and print what
                  it is answered with, stream by stream, and how it ended
+  self           serve on port P of 127.0.0.1 (50051 if none is given), run all test cases
+                 against this server, and print a line of each
   serve --port P serve grpc.testing.TestService on port P of 127.0.0.1, until it is
                  interrupted, or N connections were served
   -h, --help     print this text
@@ -112,7 +115,8 @@ fn obey_case<R: Net + Print + Eprint + AllocGlobal>(rt: &R, words: &[String]) ->
     let Some(words) = read_case_words(words) else {
         return complain(rt, "bad arguments");
     };
-    match run_cases(rt, words) {
+    let mut output = Marked::new(io::writer(rt));
+    match run_cases(rt, words, &mut output) {
         Ok(true) => 0,
         Ok(false) => CASE_FAILED,
         Err(_) => FAILED,
@@ -141,7 +145,25 @@ where
             Ok(()) => 0,
             Err(_) => FAILED,
         },
+        ServerCommand::Cases(port) => try_cases(rt, methods, port),
     })
+}
+
+// Runs the test cases against a server of its own, and answers the exit status.
+fn try_cases<R>(rt: R, methods: Arc<Methods>, port: u16) -> u8
+where
+    R: Net<Stream = TcpStream, Listener = TcpListener> + Print + Eprint + AllocGlobal,
+    R: Threads + Wait + Clock + Copy + Send + Sync + Drop + 'static,
+{
+    let Ok(listener) = listen(&rt, rt.alloc(), port) else {
+        return FAILED;
+    };
+    let mut output = Marked::new(io::writer(&rt));
+    match run_self(rt, methods, listener, port, &mut output) {
+        Ok(true) => 0,
+        Ok(false) => CASE_FAILED,
+        Err(_) => FAILED,
+    }
 }
 
 // Serves the connection in standard input, reports on standard output, and answers the exit status.
@@ -178,7 +200,7 @@ where
     if let Some((command, behind)) = words.split_first() {
         match command.as_str() {
             "case" => return obey_case(rt, behind),
-            "parts" | "serve" => {
+            "parts" | "self" | "serve" => {
                 return match read_server_words(command.as_str(), behind) {
                     Some(command) => obey_server(*rt, command).unwrap_or(FAILED),
                     None => complain(rt, "bad arguments"),

@@ -1,8 +1,15 @@
-//! The command `serve`: the interop test server.
+//! The commands `serve`, the interop test server, and `self`, the test cases against it in the same process.
 
-use crate::target::read_number;
+ghost use Rattle.std.specs.Prelude.{◌≡◌, List, map, IfOk};
+ghost use Rattle.std.specs.Io.KnownBytes.{Appends};
+ghost use Rattle.cases.specs.Report.{all_cases, have_passed, lines_of};
+ghost use Rattle.cases.specs.declared.report.Outcome.{Outcome};
+
+use crate::client::run_all_cases;
+use crate::target::{LOOPBACK, Target, read_number};
+use cases::ReportFault;
 use connection::serve_connection;
-use device::Marked;
+use device::{ConnWrite, Marked};
 use handlers::Methods;
 use std::alloc::Global;
 use std::net::{Net, TcpListener, TcpStream};
@@ -13,6 +20,9 @@ use std::{io, thread};
 
 /// How long no connection is taken after one could not be, in milliseconds.
 const PAUSE: u64 = 10;
+
+/// The port of `self` where no other is given.
+const OWN_PORT: u16 = 50_051;
 
 /// What `serve` is told: the port, and how many connections it serves before it ends, where it ends.
 #[derive(Clone, Copy, Debug, PartialEq, Eq)]
@@ -28,13 +38,25 @@ pub enum ServerCommand {
     Parts,
     /// The connections to a port.
     Serve(ServeWords),
+    /// The test cases, over connections to this port.
+    Cases(u16),
 }
 
-/// The command of these words: `parts` alone, or `serve` and the words behind it.
+/// The command of these words: `parts` alone, or `serve` or `self` and the words behind it.
 pub fn read_server_words(command: &str, behind: &[String]) -> Option<ServerCommand> {
     match command {
         "parts" if behind.is_empty() => Some(ServerCommand::Parts),
         "serve" => Some(ServerCommand::Serve(read_serve_words(behind)?)),
+        "self" => Some(ServerCommand::Cases(read_self_words(behind)?)),
+        _ => None,
+    }
+}
+
+/// The words behind `self`: none, or `--port` with its value.
+fn read_self_words(words: &[String]) -> Option<u16> {
+    match words {
+        [] => Some(OWN_PORT),
+        [option, port] if option.as_str() == "--port" => read_number(port.as_str()),
         _ => None,
     }
 }
@@ -67,13 +89,50 @@ where
 {
     let alloc = rt.alloc();
     let port = words.port;
-    let address = format!(in alloc; "127.0.0.1:{port}")?;
-    let listener = TcpListener::bind(&rt, address.as_str())?;
-    println!(rt; "listening {address}")?;
+    let listener = listen(&rt, alloc, port)?;
+    println!(rt; "listening {LOOPBACK}:{port}")?;
     match words.connections {
         Some(count) => serve_some(rt, alloc, &listener, methods, count),
         None => serve_all(rt, alloc, &listener, methods),
     }
+}
+
+/// Listens on the port of 127.0.0.1. It fails where the port can't be had.
+pub fn listen<R: Net>(rt: &R, alloc: Global, port: u16) -> io::Result<R::Listener> {
+    let address = format!(in alloc; "{LOOPBACK}:{port}")?;
+    TcpListener::bind(rt, address.as_str())
+}
+
+/// Serves the port that is listened on in a thread of its own, runs the fourteen cases against it, prints a line of each,
+/// and answers whether none failed. The server's thread goes on until the program ends.
+pub fn run_self<R, W>(
+    rt: R,
+    methods: Arc<Methods>,
+    listener: TcpListener,
+    port: u16,
+    output: &mut W,
+) -> Result<bool, ReportFault>
+where
+    W: ConnWrite,
+    R: Net<Stream = TcpStream, Listener = TcpListener> + Eprint + AllocGlobal,
+    R: Threads + Wait + Clock + Copy + Send + Sync + Drop + 'static,
+    ensures { IfOk result (λ passed. (outcomes : List Outcome)
+        × (map (λ outcome. outcome.case) outcomes ≡ all_cases)
+        × Appends (W.contents output.old) (W.contents output.new) (lines_of outcomes)
+        × (passed ≡ have_passed outcomes)) }
+{
+    let alloc = rt.alloc();
+    let serving = thread::spawn(&rt, move || {
+        let _ended = serve_all(rt, alloc, &listener, &methods);
+    });
+    if serving.is_err() {
+        return Err(ReportFault::OutOfMemory);
+    }
+    let target = Target {
+        host: LOOPBACK,
+        port,
+    };
+    run_all_cases(&rt, alloc, target, output)
 }
 
 /// Serves all connections that come.

@@ -19,7 +19,7 @@ pub struct CaseWords<'a> {
 }
 
 /// Where a server is looked for that nothing is said of.
-const LOOPBACK: &str = "127.0.0.1";
+pub const LOOPBACK: &str = "127.0.0.1";
 
 /// The words behind `case`: a name, and then `--port` and `--host` with their values, in any order. The port, 1 to
 /// 65,535, has to be there.
