@@ -19,12 +19,15 @@ fn zeros(alloc: Global, len: usize) -> Result<Vec<u8>, AllocError> {
     vec![in alloc; 0; len]
 }
 
-/// A payload with this body.
-fn payload(body: &[u8]) -> Payload<'_> {
-    Payload {
+/// A payload with this body, and none for no bytes: so real clients write it.
+fn payload(body: &[u8]) -> Option<Payload<'_>> {
+    if body.is_empty() {
+        return None;
+    }
+    Some(Payload {
         kind: 0,
         body: ByteList::from_slice(body),
-    }
+    })
 }
 
 fn echo_status(status: Option<AskedStatus>) -> Option<EchoStatus<'static>> {
@@ -46,7 +49,7 @@ pub fn simple_request(
     let request = SimpleRequest {
         response_type: 0,
         response_size,
-        payload: Some(payload(&body)),
+        payload: payload(&body),
         fill_username: false,
         fill_oauth_scope: false,
         response_compressed: None,
@@ -75,7 +78,7 @@ pub fn output_request(
     let request = StreamingOutputCallRequest {
         response_type: 0,
         response_parameters,
-        payload: Some(payload(&body)),
+        payload: payload(&body),
         response_status: echo_status(status),
     };
     Ok(request.encode(alloc)?)
@@ -85,7 +88,7 @@ pub fn output_request(
 pub fn input_request(alloc: Global, body_len: usize) -> Result<Vec<u8>, CaseFault> {
     let body = zeros(alloc, body_len)?;
     let request = StreamingInputCallRequest {
-        payload: Some(payload(&body)),
+        payload: payload(&body),
         expect_compressed: None,
     };
     Ok(request.encode(alloc)?)
