@@ -94,6 +94,10 @@ serves-same run after o new streams others calls marks more takes spells fresh s
       numbered = s.numbered;
       ended = λ k d within none is. subst (λ (b : Option Bool). IsEnded b (marks_on (get_or calls k d).0 marks) (get_or calls k d).1) (sym (over (get_or calls k d).0))
           (s.ended k d within none (sym (served (get_or calls k d).0) ∙ is));
+      returned = λ id items is e.
+          let h = s.returned id items (later.returned id items is) (sym (served id) ∙ e) in
+          (h.0, subst (λ (b : Option Bool). IsEnded b (marks_on id marks) items) (sym (over id)) h.1);
+      stale = λ id items is. fresh id (s.stale id items (later.returned id items is));
       apart = λ i j d first second differ same. served (get_or calls i d).0 ∙ s.apart i j d first second differ same;
       opened = λ k d within. fresh (get_or calls k d).0 (s.opened k d within);
       credited = λ id e. fresh id (s.credited id (sym (knowing id) ∙ e));
@@ -133,6 +137,8 @@ serves-nothing o streams others calls spells due credit over no_streams no_other
       known = λ id stream e. absurd (none id stream e);
       numbered = λ id stream e. absurd (none id stream e);
       ended = λ k d within e f. absurd (empty k within);
+      returned = λ id items is e. absurd is;
+      stale = λ id items is. absurd is;
       apart = λ i j d first second differ same. refl;
       opened = λ k d within. absurd (empty k within);
       credited = λ id e. absurd (unknown id e);
@@ -162,6 +168,8 @@ serves-other run o streams others more calls marks id value isnt sets reset reas
   known = s.known;
   numbered = s.numbered;
   ended = s.ended;
+  returned = s.returned;
+  stale = s.stale;
   apart = s.apart;
   opened = s.opened;
   credited = s.credited;
@@ -253,6 +261,8 @@ serves-closed run o streams left others calls marks id closes reset reason s = r
   known = λ k stream e. s.known k stream (was-open k stream e);
   numbered = λ k stream e. s.numbered k stream (was-open k stream e);
   ended = λ k d within none is. ended k d within is (lookup (nat_eq (get_or calls k d).0) streams) refl;
+  returned = λ k items is e. let h = s.returned k items is e in (still-none k h.0, h.1);
+  stale = s.stale;
   apart = s.apart;
   opened = s.opened;
   credited = s.credited;

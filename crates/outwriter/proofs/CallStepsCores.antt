@@ -17,7 +17,7 @@ use Rattle.outwriter.specs.Steps.{Step, Taken, Granted}
 use Rattle.outwriter.specs.ToldByNow.{SpellsOf}
 use Rattle.outwriter.proofs.CallSteps.{serves-equal, serves-nothing}
 use Rattle.outwriter.proofs.CallStepsOpen.{serves-opened}
-use Rattle.outwriter.proofs.Fronts.{fronts_of, others_of}
+use Rattle.outwriter.proofs.Fronts.{fronts_of, returned_of, others_of}
 
 module _ {L In Out Shut : Type 0} (got : Out → List OutItem) (old new : OutCore L In Out Shut) where
   -- as long as the core lives, what was told follows from what is kept
@@ -28,6 +28,7 @@ module _ {L In Out Shut : Type 0} (got : Out → List OutItem) (old new : OutCor
       let after = keeps run m.0 m.1 in
       record {
         fronts = fronts_of (more ++ run) new.outbound new.streams.entries new.others.entries (calls got new.senders.items) m.0 after;
+        returned = returned_of (more ++ run) new.outbound new.streams.entries new.others.entries (calls got new.senders.items) m.0 after;
         others = others_of (more ++ run) new.outbound new.streams.entries new.others.entries (calls got new.senders.items) m.0 after;
         closed = closed run s.closed;
         serves = λ still. (m.0, after, heeds run m.0 m.1 m.2);
@@ -38,6 +39,7 @@ module _ {L In Out Shut : Type 0} (got : Out → List OutItem) (old new : OutCor
       → KeepsServing got (Granted id n ∷ []) old new → KeepsHeeds got (Granted id n ∷ []) old new → ServesOn got (Granted id n) old new
   serving-granted id n same closed senders keeps heeds run s = record {
     fronts = subst (λ (l : List (ℕ × List OutItem)). TellFronts (Granted id n ∷ run) l) (sym senders) s.fronts;
+    returned = s.returned;
     others = s.others;
     closed = s.closed ∙ sym closed;
     serves = λ alive. let m = s.serves (sym same ∙ alive) in (m.0, keeps run m.0 m.1, heeds run m.0 m.1 m.2);
@@ -53,6 +55,7 @@ module _ {L In Out Shut : Type 0} (got : Out → List OutItem) (core : OutCore L
       let serves = serves-nothing core.outbound core.streams.entries core.others.entries (calls got core.senders.items) spells due credit over streams others none in
       record {
         fronts = fronts_of [] core.outbound core.streams.entries core.others.entries (calls got core.senders.items) [] serves;
+        returned = returned_of [] core.outbound core.streams.entries core.others.entries (calls got core.senders.items) [] serves;
         others = others_of [] core.outbound core.streams.entries core.others.entries (calls got core.senders.items) [] serves;
         closed = sym closed;
         serves = λ still. ([], serves, λ id there e. absurd (true≢false (sym e)));

@@ -253,6 +253,21 @@ module _ (run : List Step) (o new : Outbound) (streams left : List (ℕ × OpenS
       (λ other same. new-apart j d other (sym same))
       (λ end same. absurd (differ (last ∙ sym end))))
 
+  -- the stream of a call whose sender was given back isn't the new one
+  returned-none : (k : ℕ) → is_served k run ≡ true → lookup (nat_eq k) streams ≡ None → lookup (nat_eq k) left ≡ None
+  returned-none k is e = by (lookup (nat_eq k) left) refl
+    where
+      by : (found : Option OpenStream) → lookup (nat_eq k) left ≡ found → found ≡ None
+      by None f = refl
+      by (Some stream) f = cases (opened-by k (Some stream) f)
+        where
+          cases : ((becomes_open o others id ≡ true) × (k ≡ id) × (Some stream ≡ Some (stream_at (length calls)))) ⊎ (lookup (nat_eq k) streams ≡ Some stream) → Some stream ≡ None
+          cases (inl h) =
+              let u = was-unknown h.0 in
+              let knows-it : knows o.credit id ≡ true = subst (λ n. knows o.credit n ≡ true) h.1 (s.served k is (ap is_stream h.1 ∙ u.0)) in
+              absurd (true≢false (sym knows-it ∙ u.1))
+          cases (inr h) = absurd (not-some (lookup (nat_eq k) streams) stream e h)
+
   credited : (k : ℕ) → knows new.credit k ≡ true → is_fresh k after ≡ false
   credited k e = by (known-by k e)
     where
@@ -332,6 +347,11 @@ module _ (run : List Step) (o new : Outbound) (streams left : List (ℕ × OpenS
     known = of-open (λ n. knows new.credit n ≡ true) (λ here. knows-here (was-unknown here).0) (λ n stream e. knows-more n (s.known n stream e));
     numbered = of-open (λ n. is_stream n ≡ true) (λ here. (was-unknown here).0) s.numbered;
     ended = ended;
+    returned = λ k items is e.
+        let was = old-served k (s.stale k items is) e in
+        let h = s.returned k items is was in
+        (returned-none k was h.0, subst (λ (b : Option Bool). IsEnded b (marks_on k marks) items) (sym (over k)) h.1);
+    stale = λ k items is. fresh-less run id k (s.stale k items is);
     apart = apart;
     opened = opened;
     credited = credited;

@@ -19,7 +19,7 @@ use Rattle.outwriter.specs.Frames.{is_last, reset_frame, resets, ends, ends_stre
 use Rattle.outwriter.specs.Histories.{closing_of, spending_of, is_over}
 use Rattle.outwriter.specs.RunState.{Mirrors, HasWindows, HasOver, HasDue, HasBlock, HasHead, HasCredit, HasSilence, duties_of, resets_of}
 use Rattle.outwriter.specs.Runs.{has_begun, IsAsked, Fragments, unfinished, granted, granted_by, updated, due, told, told_by, is_goaway, goaways, without_goaway, AreAmong, MayWrite, Continues, MayFollowEnd, fragments}
-use Rattle.outwriter.specs.Steps.{Step, Taken, Granted, Written, frames_of}
+use Rattle.outwriter.specs.Steps.{Step, Taken, Granted, Written, Returned, frames_of}
 use Rattle.outwriter.proofs.RunStateSteps.{same-block, all-behind}
 
 -- ---- one order apart from another
@@ -154,6 +154,7 @@ none-unfinished : (run : List Step) → frames_of run ≡ [] → unfinished run 
 none-unfinished [] e = refl
 none-unfinished (Taken order ∷ run) e = none-unfinished run e
 none-unfinished (Granted id n ∷ run) e = none-unfinished run e
+none-unfinished (Returned id items ∷ run) e = none-unfinished run e
 none-unfinished (Written frame ∷ run) e = cc
 
 pub first-written : (run : List Step) (begun gone : Bool) (w : Windows) (over : List (ℕ × Bool)) (waiting : List Due) (block : Option HeaderBlock) (owed : Owed)

@@ -13,7 +13,7 @@ use Rattle.hpack_codec.specs.Table.{Table}
 use Rattle.outwriter.specs.declared.blocks.HeaderBlock.{HeaderBlock}
 use Rattle.outwriter.specs.declared.outbound.Outbound.{Outbound}
 use Rattle.outwriter.specs.declared.stream.OpenStream.{OpenStream}
-use Rattle.outwriter.specs.Calls.{is_served, IsOther, TellFronts, TellOthers}
+use Rattle.outwriter.specs.Calls.{is_served, IsOther, TellFronts, TellOthers, TellReturned}
 use Rattle.outwriter.specs.Credits.{knows}
 use Rattle.outwriter.specs.Parts.{Mark, Fields, End, Reset, end_mark, marks_on, spelled, IsFrontOf, IsPart}
 use Rattle.outwriter.specs.CallState.{Serves, bytes_marks}
@@ -103,6 +103,10 @@ fronts_of run o streams others calls marks s =
     All-from_get_or (λ (call : ℕ × List OutItem). is_served call.0 run ≡ true → (part : List Mark) × IsPart call.0 run part × IsFrontOf part (spelled call.1)) calls (0, [])
     (λ k within served. front-now (get_or calls k (0, [])).0 (get_or calls k (0, [])).1 run o marks s.spells
     (call-front run o streams others calls marks s k (0, []) within served))
+
+pub returned_of : (run : List Step) (o : Outbound) (streams : List (ℕ × OpenStream)) (others : List (ℕ × Bool)) (calls : List (ℕ × List OutItem)) (marks : List (ℕ × Mark))
+    → Serves run o streams others calls marks → TellReturned run
+returned_of run o streams others calls marks s id items is served = front-now id items run o marks s.spells (s.returned id items is served).1.0
 
 -- ---- other streams
 

@@ -26,3 +26,4 @@ pub mod ServeStepsLook
 pub mod ServeStepsCore
 pub mod StuckSteps
 pub mod LawExamples
+pub mod ReturnSteps

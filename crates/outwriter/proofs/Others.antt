@@ -1,9 +1,10 @@
 -- Of streams that are no call's: what was told of them stays so, as the run goes on.
 use Rattle.std.proofs.Common.{◌≡◌, ◌⊎◌, ℕ, inl, inr, refl, sym, ap, subst, ◌∙◌, Bool, true, false, List, ◌∷◌, Option}
 use Rattle.std.specs.Prelude.{◌||◌, is_some}
+use Rattle.account.specs.declared.call.OutItem.{OutItem}
 use Rattle.h2frame.specs.declared.frame.Frame.{Frame}
 use Rattle.lists.specs.declared.field.Field.{Field}
-use Rattle.outwriter.specs.Calls.{is_opened, opens_stream, calls_off, is_called_off, drops, is_dropped, was_reset, resets_stream, IsRefused, IsOther}
+use Rattle.outwriter.specs.Calls.{is_opened, opens_stream, calls_off, is_called_off, drops, is_dropped, was_reset, resets_stream, IsRefused, IsOther, IsReturned}
 use Rattle.outwriter.specs.Parts.{Mark}
 use Rattle.outwriter.specs.CallState.{IsUncalled, has_reason}
 use Rattle.outwriter.specs.Steps.{Step, Order, Taken, Granted, Written}
@@ -27,15 +28,16 @@ pub record Later (run next : List Step) : Type 0 where
   pub refused : (id : ℕ) (fields : List Field) → IsRefused id fields run → IsRefused id fields next
   pub reset : (id : ℕ) → was_reset id run ≡ true → was_reset id next ≡ true
   pub reason : (id : ℕ) → has_reason id run ≡ true → has_reason id next ≡ true
+  pub returned : (id : ℕ) (items : List OutItem) → IsReturned id items next → IsReturned id items run
 
 pub later-none : (run : List Step) → Later run run
-later-none run = record { opened = λ id. refl; refused = λ id fields is. is; reset = λ id e. e; reason = λ id e. e }
+later-none run = record { opened = λ id. refl; refused = λ id fields is. is; reset = λ id e. e; reason = λ id e. e; returned = λ id items is. is }
 
 pub later-written : (run : List Step) (frame : Frame) → Later run (Written frame ∷ run)
-later-written run frame = record { opened = λ id. refl; refused = λ id fields is. is; reset = λ id e. e; reason = λ id e. e }
+later-written run frame = record { opened = λ id. refl; refused = λ id fields is. is; reset = λ id e. e; reason = λ id e. e; returned = λ id items is. is }
 
 pub later-granted : (run : List Step) (id n : ℕ) → Later run (Granted id n ∷ run)
-later-granted run id n = record { opened = λ other. refl; refused = λ other fields is. is; reset = λ other e. e; reason = λ other e. e }
+later-granted run id n = record { opened = λ other. refl; refused = λ other fields is. is; reset = λ other e. e; reason = λ other e. e; returned = λ other items is. is }
 
 -- with any control
 pub opened-taken : (run : List Step) (order : Order) (id : ℕ) → is_opened id run ≡ true → is_opened id (Taken order ∷ run) ≡ true
@@ -59,6 +61,7 @@ later-taken run order none = record {
   refused = refused-taken run order;
   reset = reset-taken run order;
   reason = reason-taken run order;
+  returned = λ id items is. is;
 }
 
 other-later : (run next : List Step) (id : ℕ) (part : List Mark) → ((fields : List Field) → IsRefused id fields run → IsRefused id fields next) → IsOther id run part → IsOther id next part

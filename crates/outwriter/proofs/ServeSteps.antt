@@ -91,6 +91,8 @@ pub record Change (run next : List Step) (o after : Outbound) (streams left : Li
   pub ended : (k : ℕ) (d : ℕ × List OutItem) → k < length calls → is_changed (get_or calls k d).0 ≡ true → lookup (nat_eq (get_or calls k d).0) left ≡ None
       → is_served (get_or calls k d).0 run ≡ true
       → IsEnded (lookup (nat_eq (get_or calls k d).0) after.over.entries) (marks_on (get_or calls k d).0 told) (get_or now k d).1
+  pub returned : (id : ℕ) (items : List OutItem) → is_changed id ≡ true → lookup (nat_eq id) streams ≡ None → is_served id run ≡ true
+      → IsEnded (lookup (nat_eq id) o.over.entries) (marks_on id marks) items → IsEnded (lookup (nat_eq id) after.over.entries) (marks_on id told) items
   pub unknown : (id : ℕ) → is_changed id ≡ true → knows o.credit id ≡ false → lookup (nat_eq id) others ≡ None
       → (marks_on id told ≡ []) × (lookup (nat_eq id) after.over.entries ≡ None)
   pub other : (id : ℕ) (was_reset : Bool) → is_changed id ≡ true → lookup (nat_eq id) others ≡ Some was_reset → is_fresh id run ≡ true
@@ -153,6 +155,10 @@ serves-changed run next o after streams left others calls now marks told is_chan
   known = λ id stream e. let was = was-open streams left id stream (c.closed id) e (lookup (nat_eq id) streams) refl in c.same_knows id ∙ s.known id was.0 was.1;
   numbered = λ id stream e. let was = was-open streams left id stream (c.closed id) e (lookup (nat_eq id) streams) refl in s.numbered id was.0 was.1;
   ended = λ k d lt. subst (Ended k d) (sym (c.numbers k d (within k lt))) (ended-by k d (within k lt) (is_changed (get_or calls k d).0) refl);
+  returned = λ id items is served.
+      let was = s.returned id items (c.later.returned id items is) (sym (c.same_served id) ∙ served) in
+      (c.closed id was.0, returned-by id items was.0 (sym (c.same_served id) ∙ served) was.1 (is_changed id) refl);
+  stale = λ id items is. c.same_fresh id ∙ s.stale id items (c.later.returned id items is);
   apart = λ i j d li lj ne e. ap (λ n. is_served n next) (c.numbers i d (within i li)) ∙ c.same_served (get_or calls i d).0
       ∙ s.apart i j d (within i li) (within j lj) ne (sym (c.numbers i d (within i li)) ∙ e ∙ c.numbers j d (within j lj));
   opened = λ k d lt. ap (λ n. is_fresh n next) (c.numbers k d (within k lt)) ∙ c.same_fresh (get_or calls k d).0 ∙ s.opened k d (within k lt);
@@ -198,6 +204,14 @@ serves-changed run next o after streams left others calls now marks told is_chan
         ended-same (lookup (nat_eq n) o.over.entries) (lookup (nat_eq n) after.over.entries) (marks_on n marks) (marks_on n told) (get_or calls k d).1 (get_or now k d).1
         (c.same_over n p) (c.same_marks n p) (ap (λ (x : ℕ × List OutItem). x.1) (c.same_calls k d lt p))
         (s.ended k d lt (none-shown (lookup (nat_eq n) streams) (sym (c.same_shown n p) ∙ ap shown none)) (sym (c.same_served n) ∙ served))
+
+    returned-by : (id : ℕ) (items : List OutItem) → lookup (nat_eq id) streams ≡ None → is_served id run ≡ true
+        → IsEnded (lookup (nat_eq id) o.over.entries) (marks_on id marks) items → (b : Bool) → is_changed id ≡ b
+        → IsEnded (lookup (nat_eq id) after.over.entries) (marks_on id told) items
+    returned-by id items none served ended true p = c.returned id items p none served ended
+    returned-by id items none served ended false p =
+        ended-same (lookup (nat_eq id) o.over.entries) (lookup (nat_eq id) after.over.entries) (marks_on id marks) (marks_on id told) items items
+        (c.same_over id p) (c.same_marks id p) refl ended
 
     unknown-by : (id : ℕ) → knows o.credit id ≡ false → lookup (nat_eq id) others ≡ None → (b : Bool) → is_changed id ≡ b
         → (marks_on id told ≡ []) × (lookup (nat_eq id) after.over.entries ≡ None)

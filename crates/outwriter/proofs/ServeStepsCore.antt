@@ -11,7 +11,7 @@ use Rattle.outwriter.specs.CallState.{Serves, Heeds, IsOwn, OwnOrRests}
 use Rattle.outwriter.specs.Steps.{Step, Written}
 use Rattle.outwriter.specs.ToldByNow.{block_marks}
 use Rattle.outwriter.proofs.EndsKept.{heeds-kept, own-ends, rests-ends}
-use Rattle.outwriter.proofs.Fronts.{fronts_of, others_of}
+use Rattle.outwriter.proofs.Fronts.{fronts_of, returned_of, others_of}
 use Rattle.outwriter.proofs.ServeStepsOwn.{serves-hands, serves-rests, serves-plain, serves-reset, serves-refusal}
 
 module _ {L In Out Shut : Type 0} where
@@ -63,6 +63,7 @@ module _ {L In Out Shut : Type 0} where
   serving-on got frame old new alive closed holds run s =
       let h = holds run (s.serves alive) in record {
         fronts = fronts_of (Written frame ∷ run) new.outbound new.streams.entries new.others.entries (calls got new.senders.items) h.0 h.1;
+        returned = returned_of (Written frame ∷ run) new.outbound new.streams.entries new.others.entries (calls got new.senders.items) h.0 h.1;
         others = others_of (Written frame ∷ run) new.outbound new.streams.entries new.others.entries (calls got new.senders.items) h.0 h.1;
         closed = s.closed ∙ sym closed;
         serves = λ e. h;
@@ -71,8 +72,8 @@ module _ {L In Out Shut : Type 0} where
   pub serving-still : (got : Out → List OutItem) (old new : OutCore L In Out Shut) → old.is_dead ≡ false → new.closed ≡ old.closed → HoldsOn got None old new → KeepsFronts got old new
       → ServesStill got old new
   serving-still got old new alive closed holds fronts run s =
-      record { fronts = fronts run s.fronts; others = s.others; closed = s.closed ∙ sym closed; serves = λ e. holds run (s.serves alive) }
+      record { fronts = fronts run s.fronts; returned = s.returned; others = s.others; closed = s.closed ∙ sym closed; serves = λ e. holds run (s.serves alive) }
 
   pub serving-dead : (got : Out → List OutItem) (old new : OutCore L In Out Shut) → new.is_dead ≡ true → new.closed ≡ old.closed → KeepsFronts got old new → ServesStill got old new
   serving-dead got old new dead closed fronts run s =
-      record { fronts = fronts run s.fronts; others = s.others; closed = s.closed ∙ sym closed; serves = λ e. absurd (true≢false (sym dead ∙ e)) }
+      record { fronts = fronts run s.fronts; returned = s.returned; others = s.others; closed = s.closed ∙ sym closed; serves = λ e. absurd (true≢false (sym dead ∙ e)) }

@@ -92,6 +92,7 @@ goes-on run next o after streams left others calls now marks id place was hand m
           subst (λ (n : ℕ). IsExact n st now (marks_on n (marks ++ on_stream id more))) (sym (eqb-true k id p)) (exact-here st (same k st p e));
       not_over = λ k st p e. over k ∙ subst (λ (n : ℕ). lookup (nat_eq n) o.over.entries ≡ None) (sym (eqb-true k id p)) (s.not_over id f.0 f.1);
       ended = λ k d lt p none is. absurd (still (get_or calls k d).0 p none);
+      returned = λ k items p none is e. absurd (none-some f.0 (sym (subst (λ (n : ℕ). lookup (nat_eq n) streams ≡ None) (eqb-true k id p) none) ∙ f.1));
       unknown = λ k p e none. absurd (true≢false (sym (s.known id f.0 f.1) ∙ subst (λ (n : ℕ). knows o.credit n ≡ false) (eqb-true k id p) e));
       other = λ k w p e is. absurd (none-some f.0 (sym (subst (λ (n : ℕ). lookup (nat_eq n) streams ≡ None) (eqb-true k id p) (s.other k w e).0) ∙ f.1));
       stays = λ k p none. absurd (still k p none);
@@ -164,6 +165,7 @@ ends run next o after streams left others calls now marks id place was more news
       exact = λ k st p e. absurd (gone k p st e);
       not_over = λ k st p e. absurd (gone k p st e);
       ended = λ k d lt p none is. ended-by k d lt p is (k == place) refl;
+      returned = λ k items p none is e. absurd (none-some f.0 (sym (subst (λ (n : ℕ). lookup (nat_eq n) streams ≡ None) (eqb-true k id p) none) ∙ f.1));
       unknown = λ k p e none. absurd (true≢false (sym (s.known id f.0 f.1) ∙ subst (λ (n : ℕ). knows o.credit n ≡ false) (eqb-true k id p) e));
       other = λ k w p e is. absurd (none-some f.0 (sym (subst (λ (n : ℕ). lookup (nat_eq n) streams ≡ None) (eqb-true k id p) (s.other k w e).0) ∙ f.1));
       stays = λ k p none. ap is_some (sets k ∙ ap (λ b. if b then Some false else lookup (nat_eq k) o.over.entries) p);

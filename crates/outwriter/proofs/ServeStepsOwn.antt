@@ -46,6 +46,7 @@ serves-same run next o after streams left others calls marks told fresh served l
       exact = λ k st p e. absurd (true≢false (sym p));
       not_over = λ k st p e. absurd (true≢false (sym p));
       ended = λ k d lt p none is. absurd (true≢false (sym p));
+      returned = λ k items p none is e. absurd (true≢false (sym p));
       unknown = λ k p e none. absurd (true≢false (sym p));
       other = λ k w p e is. absurd (true≢false (sym p));
       stays = λ k p none. absurd (true≢false (sym p));
@@ -108,6 +109,7 @@ serves-reset run o after streams others calls marks frame known r s =
       exact = λ k st p e. absurd (none-some st (sym (none k p) ∙ e));
       not_over = λ k st p e. absurd (none-some st (sym (none k p) ∙ e));
       ended = λ k d lt p gone is. ended-here (get_or calls k d).0 (get_or calls k d).1 p (s.ended k d lt gone is);
+      returned = λ k items p gone is e. ended-here k items p e;
       unknown = λ k p e gone. absurd (true≢false (sym (subst (λ (n : ℕ). (is_some (lookup (nat_eq n) others) || knows o.credit n) ≡ true) (sym (eqb-true k id p)) may.1)
           ∙ ap (λ b. b || knows o.credit k) (ap is_some gone) ∙ e));
       other = λ k w p e is. ended-here k [] p ((s.other k w e).1 is);
@@ -165,6 +167,7 @@ serves-refusal run o after streams others calls marks frame known r s =
       exact = λ k st p e. absurd (none-some st (sym (none k p (lookup (nat_eq id) others) refl) ∙ e));
       not_over = λ k st p e. absurd (none-some st (sym (none k p (lookup (nat_eq id) others) refl) ∙ e));
       ended = λ k d lt p gone is. absurd (true≢false (sym is ∙ subst (λ (n : ℕ). is_served n run ≡ false) (sym (eqb-true (get_or calls k d).0 id p)) may.1));
+      returned = λ k items p gone is e. absurd (true≢false (sym is ∙ subst (λ (n : ℕ). is_served n run ≡ false) (sym (eqb-true k id p)) may.1));
       unknown = λ k p e gone. absurd (true≢false (sym may.2 ∙ ap is_some (subst (λ (n : ℕ). lookup (nat_eq n) others ≡ None) (eqb-true k id p) gone)));
       other = λ k w p e is. absurd (true≢false (sym is ∙ subst (λ (n : ℕ). is_fresh n run ≡ false) (sym (eqb-true k id p)) may.0));
       stays = λ k p closed. ap is_some (r.6 k ∙ ap (λ b. if b then Some false else lookup (nat_eq k) o.over.entries) p);

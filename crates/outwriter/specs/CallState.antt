@@ -11,7 +11,7 @@ use Rattle.outwriter.specs.declared.due.Due.{Due}
 use Rattle.outwriter.specs.declared.due.Due.TheVariants as due_kind
 use Rattle.outwriter.specs.declared.outbound.Outbound.{Outbound}
 use Rattle.outwriter.specs.declared.stream.OpenStream.{OpenStream}
-use Rattle.outwriter.specs.Calls.{is_fresh, is_served, is_opened, is_called_off, is_dropped, was_reset, IsRefused, IsOther}
+use Rattle.outwriter.specs.Calls.{is_fresh, is_served, is_opened, is_called_off, is_dropped, was_reset, IsRefused, IsOther, IsReturned}
 use Rattle.outwriter.specs.Credits.{knows}
 use Rattle.outwriter.specs.Histories.{is_stream}
 use Rattle.outwriter.specs.RunState.{Sets}
@@ -85,6 +85,10 @@ pub record Serves (run : List Step) (o : Outbound) (streams : List (ℕ × OpenS
   -- of a call whose stream isn't open, a front
   pub ended : (k : ℕ) (d : ℕ × List OutItem) → k < length calls → lookup (nat_eq (get_or calls k d).0) streams ≡ None → is_served (get_or calls k d).0 run ≡ true
       → IsEnded (lookup (nat_eq (get_or calls k d).0) o.over.entries) (marks_on (get_or calls k d).0 marks) (get_or calls k d).1
+  -- so of a call whose sender was given back
+  pub returned : (id : ℕ) (items : List OutItem) → IsReturned id items run → is_served id run ≡ true
+      → (lookup (nat_eq id) streams ≡ None) × IsEnded (lookup (nat_eq id) o.over.entries) (marks_on id marks) items
+  pub stale : (id : ℕ) (items : List OutItem) → IsReturned id items run → is_fresh id run ≡ false
   -- a stream that two calls have is none that is served
   pub apart : (i j : ℕ) (d : ℕ × List OutItem) → i < length calls → j < length calls → i ≢ j → (get_or calls i d).0 ≡ (get_or calls j d).0
       → is_served (get_or calls i d).0 run ≡ false

@@ -9,7 +9,7 @@ use Rattle.outwriter.specs.declared.control.Control.TheVariants.{Open, Refuse}
 use Rattle.outwriter.specs.declared.control.Control.TheVariants as order
 use Rattle.outwriter.specs.Histories.{is_stream, is_over}
 use Rattle.outwriter.specs.Parts.{Mark, Fields, End, Reset, spelled, IsPart, IsFrontOf}
-use Rattle.outwriter.specs.Steps.{Step, Order, Taken, Granted, Written}
+use Rattle.outwriter.specs.Steps.{Step, Order, Taken, Granted, Written, Returned}
 
 abbrev pub opens_stream : ℕ → Order → Bool
 opens_stream id (Open stream sender) = id == stream
@@ -24,6 +24,7 @@ abbrev pub is_fresh : ℕ → List Step → Bool
 is_fresh id [] = true
 is_fresh id (Taken order ∷ before) = if opens_stream id order then false else (if refuses_stream id order then false else is_fresh id before)
 is_fresh id (Granted stream n ∷ before) = is_fresh id before
+is_fresh id (Returned stream items ∷ before) = is_fresh id before
 is_fresh id (Written frame ∷ before) = is_fresh id before
 
 -- the stream is a call's: it was opened once, and not refused before
@@ -31,6 +32,7 @@ abbrev pub is_served : ℕ → List Step → Bool
 is_served id [] = false
 is_served id (Taken order ∷ before) = if opens_stream id order then is_fresh id before else is_served id before
 is_served id (Granted stream n ∷ before) = is_served id before
+is_served id (Returned stream items ∷ before) = is_served id before
 is_served id (Written frame ∷ before) = is_served id before
 
 abbrev pub resets_stream : ℕ → Order → Bool
@@ -42,6 +44,7 @@ abbrev pub was_reset : ℕ → List Step → Bool
 was_reset id [] = false
 was_reset id (Taken order ∷ before) = resets_stream id order || was_reset id before
 was_reset id (Granted stream n ∷ before) = was_reset id before
+was_reset id (Returned stream items ∷ before) = was_reset id before
 was_reset id (Written frame ∷ before) = was_reset id before
 
 -- Of each call, its stream and the items that its sender gave: what the stream's frames tell begins what the items spell, or is a
@@ -50,6 +53,19 @@ abbrev pub TellFronts : List Step → List (ℕ × List OutItem) → Type 0
 TellFronts run calls =
     All (λ call. is_served call.0 run ≡ true → (part : List Mark) × IsPart call.0 run part × IsFrontOf part (spelled call.1)) calls
 
+-- the sender of this stream was given back, which had given these items
+abbrev pub IsReturned : ℕ → List OutItem → List Step → Type 0
+IsReturned id items [] = ⊥
+IsReturned id items (Taken order ∷ before) = IsReturned id items before
+IsReturned id items (Granted stream n ∷ before) = IsReturned id items before
+IsReturned id items (Written frame ∷ before) = IsReturned id items before
+IsReturned id items (Returned stream found ∷ before) = ((id ≡ stream) × (items ≡ found)) ⊎ IsReturned id items before
+
+-- so it is with each call whose sender was given back
+abbrev pub TellReturned : List Step → Type 0
+TellReturned run = (id : ℕ) (items : List OutItem) → IsReturned id items run → is_served id run ≡ true
+    → (part : List Mark) × IsPart id run part × IsFrontOf part (spelled items)
+
 -- ---- streams that are no call's
 
 -- an Open of the stream was taken
@@ -57,6 +73,7 @@ abbrev pub is_opened : ℕ → List Step → Bool
 is_opened id [] = false
 is_opened id (Taken order ∷ before) = opens_stream id order || is_opened id before
 is_opened id (Granted stream n ∷ before) = is_opened id before
+is_opened id (Returned stream items ∷ before) = is_opened id before
 is_opened id (Written frame ∷ before) = is_opened id before
 
 abbrev pub Refuses : ℕ → List Field → Order → Type 0
@@ -68,6 +85,7 @@ abbrev pub IsRefused : ℕ → List Field → List Step → Type 0
 IsRefused id fields [] = ⊥
 IsRefused id fields (Taken order ∷ before) = Refuses id fields order ⊎ IsRefused id fields before
 IsRefused id fields (Granted stream n ∷ before) = IsRefused id fields before
+IsRefused id fields (Returned stream items ∷ before) = IsRefused id fields before
 IsRefused id fields (Written frame ∷ before) = IsRefused id fields before
 
 -- nothing, a reset, or the fields of a Refuse and the end of the stream
@@ -90,6 +108,7 @@ abbrev pub is_closed : List Step → Bool
 is_closed [] = false
 is_closed (Taken order ∷ before) = closes order || is_closed before
 is_closed (Granted stream n ∷ before) = is_closed before
+is_closed (Returned stream items ∷ before) = is_closed before
 is_closed (Written frame ∷ before) = is_closed before
 
 -- ---- streams that are called off
@@ -105,6 +124,7 @@ abbrev pub is_called_off : ℕ → List Step → Bool
 is_called_off id [] = false
 is_called_off id (Taken order ∷ before) = calls_off id (is_opened id before) order || is_called_off id before
 is_called_off id (Granted stream n ∷ before) = is_called_off id before
+is_called_off id (Returned stream items ∷ before) = is_called_off id before
 is_called_off id (Written frame ∷ before) = is_called_off id before
 
 -- a Reset of it that isn't to be written
@@ -117,6 +137,7 @@ abbrev pub is_dropped : ℕ → List Step → Bool
 is_dropped id [] = false
 is_dropped id (Taken order ∷ before) = drops id order || is_dropped id before
 is_dropped id (Granted stream n ∷ before) = is_dropped id before
+is_dropped id (Returned stream items ∷ before) = is_dropped id before
 is_dropped id (Written frame ∷ before) = is_dropped id before
 
 -- the end of each stream that was called off was written, by END_STREAM or RST_STREAM, unless it was dropped

@@ -15,7 +15,7 @@ use Rattle.outwriter.specs.declared.next.Next.TheVariants as next
 use Rattle.outwriter.specs.declared.out_core.OutCore.{OutCore}
 use Rattle.outwriter.specs.declared.outbound.Outbound.{Outbound}
 use Rattle.outwriter.specs.declared.stream.OpenStream.{OpenStream}
-use Rattle.outwriter.specs.Calls.{TellEnds, TellFronts, TellOthers, is_closed, is_served, was_reset}
+use Rattle.outwriter.specs.Calls.{TellEnds, TellFronts, TellReturned, TellOthers, is_closed, is_served, was_reset}
 use Rattle.h2frame.specs.declared.error_code.ErrorCode.{ErrorCode}
 use Rattle.outwriter.specs.Frames.{goaway_frame}
 use Rattle.outwriter.specs.Histories.{is_stream, is_over}
@@ -61,6 +61,7 @@ module _ {L In Out Shut : Type 0} where
   -- follows from the run.
   pub record Serving (got : Out → List OutItem) (run : List Step) (core : OutCore L In Out Shut) : Type 0 where
     pub fronts : TellFronts run (calls got core.senders.items)
+    pub returned : TellReturned run
     pub others : TellOthers run
     pub closed : is_closed run ≡ core.closed
     pub serves : core.is_dead ≡ false

@@ -9,7 +9,7 @@ use Rattle.outwriter.specs.declared.control.Control.TheVariants.{Settings, Ping,
 use Rattle.h2frame.specs.declared.settings.PeerSetting.{PeerSetting}
 use Rattle.h2frame.specs.declared.settings.PeerSetting.TheVariants.{TableSize, WindowSize}
 use Rattle.outwriter.specs.Frames.{is_data, ends_stream, is_reset, resets, ends}
-use Rattle.outwriter.specs.Steps.{Step, Order, Taken, Granted, Written, frames_of}
+use Rattle.outwriter.specs.Steps.{Step, Order, Taken, Granted, Written, Returned, frames_of}
 
 -- the initial sizes of windows that SETTINGS set, in their order
 abbrev pub window_size : PeerSetting → List ℕ
@@ -68,5 +68,6 @@ abbrev pub HasHistory : List Step → List WindowStep → Type 0
 HasHistory [] history = history ≡ []
 HasHistory (Taken order ∷ before) history = (earlier : List WindowStep) × HasHistory before earlier × Takes before earlier order history
 HasHistory (Granted id n ∷ before) history = HasHistory before history
+HasHistory (Returned id items ∷ before) history = HasHistory before history
 HasHistory (Written frame ∷ before) history =
     (earlier : List WindowStep) × HasHistory before earlier × (history ≡ closing_of frame ++ (spending_of frame ++ earlier))

@@ -16,3 +16,4 @@ pub mod Cores
 pub mod StreamLooks
 pub mod CoreChanges
 pub mod Examples
+pub mod Releases

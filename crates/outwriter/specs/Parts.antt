@@ -14,7 +14,7 @@ use Rattle.hpack_codec.specs.Block.{IsBlock}
 use Rattle.hpack_codec.specs.Table.{Table, empty_table}
 use Rattle.outwriter.specs.Frames.{ends_stream, ends_block}
 use Rattle.outwriter.specs.Runs.{Fragments, fragments, unfinished}
-use Rattle.outwriter.specs.Steps.{Step, Taken, Granted, Written}
+use Rattle.outwriter.specs.Steps.{Step, Taken, Granted, Written, Returned}
 
 -- a byte of DATA; a whole header block, as the fields that it stands for; the end of the stream; its reset, with the error's
 -- number
@@ -69,6 +69,7 @@ abbrev pub Tells : List Step → Table → List (ℕ × Mark) → Type 0
 Tells [] table marks = (table ≡ empty_table) × (marks ≡ [])
 Tells (Taken order ∷ before) table marks = Tells before table marks
 Tells (Granted id n ∷ before) table marks = Tells before table marks
+Tells (Returned id items ∷ before) table marks = Tells before table marks
 Tells (Written frame ∷ before) table marks =
     (earlier : Table) × (fewer : List (ℕ × Mark)) × Tells before earlier fewer × Adds (completed before frame) frame earlier fewer table marks
 

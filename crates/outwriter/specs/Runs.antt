@@ -12,7 +12,7 @@ use Rattle.h2frame.specs.declared.kind.FrameKind.TheVariants as kind
 use Rattle.outwriter.specs.declared.control.Control.TheVariants.{Settings, Ping, Reset, Goaway}
 use Rattle.outwriter.specs.Frames.{first_settings, settings_ack, ping_ack, reset_frame, goaway_frame, update_frame, ends_stream, ends_block, is_last, update_on, resets, ends}
 use Rattle.outwriter.specs.Histories.{HasHistory}
-use Rattle.outwriter.specs.Steps.{Step, Order, Taken, Granted, Written, frames_of}
+use Rattle.outwriter.specs.Steps.{Step, Order, Taken, Granted, Written, Returned, frames_of}
 
 -- ---- what controls oblige to write
 
@@ -28,6 +28,7 @@ abbrev pub due : List Step → List Frame
 due [] = []
 due (Taken order ∷ before) = due before ++ due_by order
 due (Granted id n ∷ before) = due before
+due (Returned id items ∷ before) = due before
 due (Written frame ∷ before) = due before
 
 -- A frame of this kind comes only where a control obliges to it. Of the others a stream's DATA, header blocks and reset have a rule of
@@ -54,6 +55,7 @@ abbrev pub told : List Step → List Frame
 told [] = []
 told (Taken order ∷ before) = told before
 told (Granted id n ∷ before) = told before
+told (Returned id items ∷ before) = told before
 told (Written frame ∷ before) = told before ++ told_by (has_begun (frames_of before)) frame
 
 -- acknowledgements stand in one order, and GOAWAYs in another
@@ -84,6 +86,7 @@ abbrev pub IsAsked : ℕ → ErrorCode → List Step → Type 0
 IsAsked id code [] = ⊥
 IsAsked id code (Taken order ∷ before) = Asks id code order ⊎ IsAsked id code before
 IsAsked id code (Granted stream n ∷ before) = IsAsked id code before
+IsAsked id code (Returned stream items ∷ before) = IsAsked id code before
 IsAsked id code (Written frame ∷ before) = IsAsked id code before
 
 -- ---- header blocks (section 4.3)
@@ -109,6 +112,7 @@ abbrev pub unfinished : List Step → Option Fragments
 unfinished [] = None
 unfinished (Taken order ∷ before) = unfinished before
 unfinished (Granted id n ∷ before) = unfinished before
+unfinished (Returned id items ∷ before) = unfinished before
 unfinished (Written frame ∷ before) = if ends_block frame then None else fragments frame (unfinished before)
 
 -- nothing comes between the frames of a header block, and a CONTINUATION nowhere else
@@ -168,4 +172,5 @@ abbrev pub IsLawful : List Step → Type 0
 IsLawful [] = Unit {0}
 IsLawful (Taken order ∷ before) = IsLawful before
 IsLawful (Granted id n ∷ before) = IsLawful before
+IsLawful (Returned id items ∷ before) = IsLawful before
 IsLawful (Written frame ∷ before) = MayWrite before frame × IsLawful before

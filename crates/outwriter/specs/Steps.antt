@@ -1,6 +1,7 @@
 -- What a writer does, step by step.
 -- A run has its latest step first.
 use Rattle.std.specs.Prelude.{ℕ, List, [], ◌∷◌}
+use Rattle.account.specs.declared.call.OutItem.{OutItem}
 use Rattle.h2frame.specs.declared.frame.Frame.{Frame}
 use Rattle.outwriter.specs.declared.control.Control.{Control}
 use Rattle.outwriter.specs.declared.control.Control.TheVariants.{Settings, Ping, Window, Open, Refuse, Reset, Goaway, InputEnded, Close}
@@ -28,12 +29,14 @@ module _ {S : Type 0} where
   fault_code (OutOfMemory control) = 1
   fault_code (PeerWindow id) = 2
 
--- A control is taken; credit is granted to be written on a stream, or on the connection as stream 0; a frame is written.
+-- A control is taken; credit is granted to be written on a stream, or on the connection as stream 0; a frame is written; the sender of a
+-- call is given back, which had given these items.
 -- A run is a list of steps, the latest first.
 pub data Step : Type 0 where
   Taken : Order → Step
   Granted : ℕ → ℕ → Step
   Written : Frame → Step
+  Returned : ℕ → List OutItem → Step
 
 -- the frames that a step wrote
 abbrev pub frame_of_step : Step → List Frame
@@ -46,3 +49,4 @@ frames_of [] = []
 frames_of (Written frame ∷ before) = frame ∷ frames_of before
 frames_of (Taken order ∷ before) = frames_of before
 frames_of (Granted id n ∷ before) = frames_of before
+frames_of (Returned id items ∷ before) = frames_of before

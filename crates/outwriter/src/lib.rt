@@ -9,7 +9,7 @@
 //! for, whole header blocks, nothing behind a stream's end. `specs/Parts.antt` says what the frames of one stream tell, and what items spell.
 //!
 //! Read `control` for what goes in; `frames` and `blocks` for the frames that come out; `stream`, `due`,
-//! `resize` and `credit` for what is kept; `out_core` for what a control does, and `next` for the choice of a frame.
+//! `resize` and `credit` for what is kept; `out_core` for what a control does, `next` for the choice of a frame, and `release` for what a call that is through gives back.
 #![tactic(auto)]
 
 mod blocks;
@@ -20,6 +20,7 @@ mod frames;
 pub mod next;
 pub mod out_core;
 mod outbound;
+mod release;
 mod resize;
 mod stream;
 mod writing;

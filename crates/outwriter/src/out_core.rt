@@ -15,7 +15,7 @@ ghost use Rattle.outwriter.specs.declared.control.OutFault.TheVariants as out_fa
 ghost use Rattle.outwriter.specs.RunState.{Reached, GoesOn, Takes, Leads, Stays, Blames, Concerns, HasRoom, IsMemory, is_held};
 ghost use Rattle.std.specs.Map.{lookup};
 ghost use Rattle.flow.specs.Windows.{room};
-ghost use Rattle.outwriter.specs.Calls.{TellFronts, TellOthers};
+ghost use Rattle.outwriter.specs.Calls.{TellFronts, TellReturned, TellOthers};
 ghost use Rattle.outwriter.specs.Credits.{Grants};
 ghost use Rattle.h2frame.specs.Spelling.{IsWritable};
 ghost use Rattle.outwriter.specs.Frames.{goaway_frame};
@@ -50,7 +50,7 @@ pub struct OutCore<L: Lane<Item = OutItem>> {
     /// Whether Close was taken.
     pub(crate) closed: bool,
     pub(crate) outbound: Outbound,
-    /// The senders of all calls, in the order of their Opens.
+    /// The senders that weren't given back.
     pub(crate) senders: Vec<(StreamId, Sender<L>)>,
     /// The open streams.
     pub(crate) streams: IndexMap<StreamId, OpenStream>,
@@ -192,12 +192,15 @@ impl<L: Lane<Item = OutItem>> OutCore<L> {
         }
     }
 
-    /// The senders of all calls, in the order of their Opens.
+    /// The senders that are kept: of each call whose sender wasn't given back.
     pub fn into_senders(self) -> Vec<(StreamId, Sender<L>)>
         ensures senders { result ≡ self.senders }
 
         // What was told of each call begins what the items that were got of its sender spell.
         ensures fronts { (run : List Step) → Serving L.got run self → TellFronts run (calls L.got result.items) }
+
+        // So does what was told of each call whose sender was given back.
+        ensures returned { (run : List Step) → Serving L.got run self → TellReturned run }
 
         // Of a stream that was never opened nothing was told, a reset, or what a Refuse asked for.
         ensures others { (run : List Step) → Serving L.got run self → TellOthers run }

@@ -1,0 +1,98 @@
+//! Whose sender is given back.
+//!
+//! A call is through where its end was written, or a Reset of it was taken: of its stream nothing more is told, but perhaps
+//! a reset. What is still ahead of its sender nobody asks for any more, so whoever gets the sender polls that away.
+
+ghost use Rattle.std.specs.Prelude.{◌≡◌, true, false, IfSome, IfNone, OnSome};
+ghost use Rattle.outwriter.specs.Releases.{IsWhole, PlaceIs};
+
+use crate::out_core::OutCore;
+use crate::stream::OpenStream;
+use account::OutItem;
+use callbox::Sender;
+use h2frame::StreamId;
+use indexmap::IndexMap;
+use lane::Lane;
+
+impl<L: Lane<Item = OutItem>> OutCore<L> {
+    ghost use Rattle.outwriter.specs.Cores.{ServesOn};
+    ghost use Rattle.outwriter.specs.Releases.{IsThrough, HasNone, IsAt, MovedTo, Releases, HasEnded};
+    ghost use Rattle.outwriter.specs.RunState.{GoesOn};
+    ghost use Rattle.outwriter.specs.Steps.{Returned};
+
+    /// Gives back the sender of a call that is through: its stream isn't open any more, and no header block of it is
+    /// unfinished. It takes no memory. A stream that was opened twice has two.
+    pub fn release(&mut self, id: StreamId) -> Option<Sender<L>>
+        // That it is given back, with what it has given, is the next step of the run.
+        ensures taken { IfSome result (λ sender. GoesOn (Returned id (L.got sender.rx)) self.old.outbound self.new.outbound) }
+        ensures served { IfSome result (λ sender. ServesOn L.got (Returned id (L.got sender.rx)) self.old self.new) }
+
+        // It is one of this stream's that were kept, and the last takes its place.
+        ensures releases { IfSome result (λ sender. Releases id sender self.old.senders.items self.new.senders.items) }
+
+        // It is given back exactly where the call is through, and so has ended or was reset.
+        ensures through { OnSome result (IsThrough id self.old) }
+        ensures none { IfNone result (IsThrough id self.old → HasNone id self.old.senders.items) }
+        ensures ended { OnSome result (HasEnded L.got id self.old) }
+        ensures unchanged { IfNone result (self.new ≡ self.old) }
+        ensures rest { self.new ≡ record self.old { senders = self.new.senders; streams = self.new.streams } }
+    {
+        if self.streams.contains_key(&id) || self.is_in_block(id) {
+            return None;
+        }
+        let place = self.place_of(id)?;
+        let (_id, sender) = self.senders.swap_remove(place);
+        self.move_last(place);
+        Some(sender)
+    }
+
+    /// The sender that was last stands at a place now, unless that was the last.
+    fn move_last(&mut self, place: usize)
+        ensures moved { MovedTo place self.old.senders.items self.old.streams.entries self.new.streams.entries }
+        ensures rest { self.new ≡ record self.old { streams = self.new.streams } }
+    {
+        let senders = self.senders.as_slice();
+        let last = senders.len();
+        match senders.get(place) {
+            Some(call) => move_place(&mut self.streams, call.0, last, place),
+            None => {}
+        }
+    }
+
+    /// Whether a header block of this stream is unfinished.
+    fn is_in_block(&self, id: StreamId) -> bool
+        ensures whole { result ≡ false → IsWhole id self.now.outbound.block }
+        ensures unfinished { result ≡ true → ¬ IsWhole id self.now.outbound.block }
+    {
+        match &self.outbound.block {
+            Some(block) => block.id == id,
+            None => false,
+        }
+    }
+
+    /// Where the first sender of this stream stands.
+    fn place_of(&self, id: StreamId) -> Option<usize>
+        ensures some { IfSome result (λ place. IsAt id place self.now.senders.items) }
+        ensures none { IfNone result (HasNone id self.now.senders.items) }
+    {
+        for place in 0..self.senders.len() {
+            if let Some((stream, _)) = self.senders.get(place) {
+                if *stream == id {
+                    return Some(place);
+                }
+            }
+        }
+        None
+    }
+}
+
+/// The sender of a stream stands at another place, if it stood there.
+fn move_place(streams: &mut IndexMap<StreamId, OpenStream>, id: StreamId, from: usize, to: usize)
+    ensures { PlaceIs id from to streams.old.entries streams.new.entries }
+{
+    if let Some(stream) = streams.get_mut(&id) {
+        if stream.place == from {
+            stream.place = to;
+        }
+    }
+}
