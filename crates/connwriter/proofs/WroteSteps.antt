@@ -3,7 +3,7 @@ use Rattle.std.proofs.Common.{◌≡◌, ◌≢◌, ◌∙◌, ℕ, Bool, true, 
 use Rattle.std.proofs.lemmas.List.{append-nil, map-append}
 use Rattle.account.specs.declared.call.OutItem.{OutItem}
 use Rattle.std.specs.Io.KnownBytes.{Appends}
-use Rattle.std.specs.Prelude.{◌==◌, ◌⊎◌, Ok, Err, if◌then◌else◌}
+use Rattle.std.specs.Prelude.{◌==◌, ◌⊎◌, Ok, Err, IfSome, if◌then◌else◌}
 use Rattle.outwriter.specs.Calls.{TellEnds}
 use Rattle.outwriter.specs.RunState.{IsAnswered, IsSpent}
 use Rattle.outwriter.specs.Cores.{HaveNoFrame}
@@ -19,7 +19,7 @@ use Rattle.outwriter.specs.declared.control.OutFault.TheVariants.{PeerWindow}
 use Rattle.outwriter.specs.declared.out_core.OutCore.{OutCore}
 use Rattle.outwriter.specs.Cores.{IsUnused, Serving, ServesControl, ServesOn, ServesStill}
 use Rattle.outwriter.specs.RunState.{Concerns, Reached, GoesOn, Remains, Takes}
-use Rattle.outwriter.specs.Steps.{Step, Order, Taken, Granted, Written, frames_of, order_of}
+use Rattle.outwriter.specs.Steps.{Step, Order, Taken, Granted, Written, Returned, frames_of, order_of}
 use Rattle.outwriter.specs.declared.next.Next.{Next}
 use Rattle.connwriter.specs.declared.filled.Filled.{Filled}
 use Rattle.connwriter.specs.declared.standing.Standing.{Standing}
@@ -75,6 +75,20 @@ module _ {L In Out Shut W : Type 0} (got : Out → List OutItem) (contents : W �
   pub granted-on : (id n : ℕ) (old : ConnWriter L W In Out Shut) (core : OutCore L In Out Shut) → GoesOn (Granted id n) old.core.outbound core.outbound
       → ServesOn got (Granted id n) old.core core → core.is_dead ≡ old.core.is_dead → WritesOn got contents failed (Granted id n ∷ []) old (record old { core = core })
   granted-on id n old core goes serves dead before run w = record {
+    lawful = w.lawful;
+    reached = λ alive. goes run (w.reached (sym dead ∙ alive));
+    serving = serves run w.serving;
+    bytes = w.bytes;
+    marked = w.marked;
+  }
+
+  -- a sender is given back
+  pub returned-on : (id : ℕ) (old : ConnWriter L W In Out Shut) (core : OutCore L In Out Shut) (result : Option (Sender L In Out Shut))
+      → IfSome result (λ sender. GoesOn (Returned id (got sender.rx)) old.core.outbound core.outbound)
+      → IfSome result (λ sender. ServesOn got (Returned id (got sender.rx)) old.core core) → core.is_dead ≡ old.core.is_dead
+      → IfSome result (λ sender. WritesOn got contents failed (Returned id (got sender.rx) ∷ []) old (record old { core = core }))
+  returned-on id old core None goes serves dead = tt
+  returned-on id old core (Some sender) goes serves dead = λ before run w. record {
     lawful = w.lawful;
     reached = λ alive. goes run (w.reached (sym dead ∙ alive));
     serving = serves run w.serving;

@@ -3,19 +3,20 @@
 //! `fill` stops where a frame of the greatest length might not fit, so the buffer never has more than 64 KiB, and it is
 //! used again for the next frames.
 
-ghost use Rattle.std.specs.Prelude.{◌≡◌, ◌≢◌, ◌≤◌, ◌<◌, ◌+◌, ℕ, true, List, [], ◌∷◌, Option, Some, IsErr, OnOk, OnErr, IfNone, length, nat_eq, vec_len, vec_capacity};
+ghost use Rattle.std.specs.Prelude.{◌≡◌, ◌≢◌, ◌≤◌, ◌<◌, ◌+◌, ℕ, true, List, [], ◌∷◌, Option, Some, IsErr, OnOk, OnErr, OnSome, IfSome, IfNone, length, nat_eq, vec_len, vec_capacity};
 ghost use Rattle.std.specs.Map.{lookup};
 ghost use Rattle.std.specs.Io.KnownBytes.{Appends};
 ghost use Rattle.device.specs.Bytes.{AppendsPrefix};
 ghost use Rattle.flow.specs.Windows.{room};
-ghost use Rattle.outwriter.specs.Calls.{TellFronts, TellOthers};
+ghost use Rattle.outwriter.specs.Calls.{TellFronts, TellReturned, TellOthers};
 ghost use Rattle.outwriter.specs.Cores.{calls, IsUnused};
 ghost use Rattle.outwriter.specs.Credits.{Grants};
 ghost use Rattle.h2frame.specs.Spelling.{IsWritable};
 ghost use Rattle.outwriter.specs.Frames.{ends_stream};
 ghost use Rattle.outwriter.specs.Polls.{coming};
+ghost use Rattle.outwriter.specs.Releases.{IsThrough, HasNone, Releases};
 ghost use Rattle.outwriter.specs.RunState.{is_held};
-ghost use Rattle.outwriter.specs.Steps.{Step, Taken, Granted, order_of, frames_of};
+ghost use Rattle.outwriter.specs.Steps.{Step, Taken, Granted, Returned, order_of, frames_of};
 ghost use Rattle.connwriter.specs.declared.standing.Standing.TheVariants as stands;
 ghost use Rattle.connwriter.specs.declared.filled.Filled.TheVariants as filled;
 ghost use Rattle.connwriter.specs.Orders.{own_control, own_order, steps_of, Blamed, Stops};
@@ -139,6 +140,20 @@ impl<L: Lane<Item = OutItem>, W: ConnWrite> ConnWriter<L, W> {
         self.core.grant(id, n);
     }
 
+    /// Gives back the sender of a call that is through: its stream isn't open any more, and no header block of it is
+    /// unfinished. What it was told may still be in the buffer.
+    pub fn release(&mut self, id: StreamId) -> Option<Sender<L>>
+        // That it is given back, with what it has given, is the next step of the run.
+        ensures wrote { IfSome result (λ sender. WritesOn L.got W.contents W.failed (Returned id (L.got sender.rx) ∷ []) self.old self.new) }
+        ensures releases { IfSome result (λ sender. Releases id sender self.old.core.senders.items self.new.core.senders.items) }
+        ensures through { OnSome result (IsThrough id self.old.core) }
+        ensures none { IfNone result (IsThrough id self.old.core → HasNone id self.old.core.senders.items) }
+        ensures unchanged { IfNone result (self.new ≡ self.old) }
+        ensures rest { self.new ≡ record self.old { core = self.new.core } }
+    {
+        self.core.release(id)
+    }
+
     /// Puts frames into the buffer, until none comes or the longest might not fit. The buffer never has more than
     /// 65,536 bytes by it.
     pub fn fill(&mut self) -> Filled
@@ -190,14 +205,15 @@ impl<L: Lane<Item = OutItem>, W: ConnWrite> ConnWriter<L, W> {
         }
     }
 
-    /// The senders of all calls, in the order of their Opens, and the device.
+    /// The senders that are kept, and the device.
     pub fn into_parts(self) -> (Vec<(StreamId, Sender<L>)>, W)
         ensures senders { result.0 ≡ self.core.senders }
         ensures device { result.1 ≡ self.device }
 
-        // What was told of each call begins what the items that were got of its sender spell; of a stream that was never opened nothing was
+        // What was told of each call begins what the items that were got of its sender spell, also where the sender was given back; of a stream that was never opened nothing was
         // told, a reset, or what a Refuse asked for.
         ensures fronts { (before : Option (List ℕ)) (run : List Step) → Wrote L.got W.contents W.failed before run self → TellFronts run (calls L.got result.0.items) }
+        ensures returned { (before : Option (List ℕ)) (run : List Step) → Wrote L.got W.contents W.failed before run self → TellReturned run }
         ensures others { (before : Option (List ℕ)) (run : List Step) → Wrote L.got W.contents W.failed before run self → TellOthers run }
 
         // The device got a prefix of the spelled frames of the run, and all of them where no write failed and nothing is left.
