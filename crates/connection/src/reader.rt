@@ -28,7 +28,7 @@ use std::thread::Threads;
 use std::time::{Clock, Instant};
 
 /// How many bytes are read at a time.
-const PIECE: usize = 16_384;
+const PIECE: usize = 32_768;
 
 /// Room for the pieces of a call's DATA: as many as the bytes that a window lets through.
 const IN_ROOM: usize = 65_536;
@@ -177,6 +177,8 @@ where
         if self.rows.len() > 2 * MAX_LIVE {
             self.forget();
         }
+        self.slots.ring_noted();
+        // The writer wakes while the calls are answered.
         self.orders.shared.writer.ring();
         Ok(None)
     }
@@ -330,7 +332,7 @@ where
             return;
         };
         match row.feeder.feed(bytes) {
-            Ok(()) => row.slot.bell.ring(),
+            Ok(()) => row.slot.note(),
             Err(_fault) => self.cut(id, ErrorCode::EnhanceYourCalm, true),
         }
     }
@@ -341,7 +343,7 @@ where
         self.orders.shared.book.lock(&rt).end_remote(id);
         if let Some(row) = self.rows.swap_remove(&id) {
             let _shut = row.feeder.end();
-            row.slot.bell.ring();
+            row.slot.note();
         }
     }
 
@@ -351,7 +353,7 @@ where
         self.orders.reset(&rt, id, code, written);
         if let Some(row) = self.rows.swap_remove(&id) {
             let _shut = row.feeder.reset(code.code());
-            row.slot.bell.ring();
+            row.slot.note();
         }
         self.orders.shared.book.lock(&rt).cut(id);
     }

@@ -36,6 +36,8 @@ pub(crate) struct Job {
 pub(crate) struct Slot {
     /// Rung where something comes for the call, or a call comes.
     pub(crate) bell: Bell,
+    /// Whether the bell is still to be rung.
+    noted: AtomicBool,
     job: Mutex<Option<Job>>,
     idle: AtomicBool,
     /// Whether no more calls come.
@@ -47,6 +49,7 @@ impl Slot {
     pub(crate) fn new() -> Slot {
         Slot {
             bell: Bell::new(),
+            noted: AtomicBool::new(false),
             job: Mutex::new(None),
             idle: AtomicBool::new(false),
             over: AtomicBool::new(false),
@@ -58,10 +61,23 @@ impl Slot {
         self.idle.swap(false, Ordering::SeqCst)
     }
 
-    /// Hands the worker a call.
+    /// Hands the worker a call. Its bell is still to be rung.
     pub(crate) fn hand_over(&self, rt: &impl Wait, job: Job) {
         *self.job.lock(rt) = Some(job);
-        self.bell.ring();
+        self.note();
+    }
+
+    /// Something came, for which the bell is to be rung once all that came with it is there.
+    pub(crate) fn note(&self) {
+        self.noted.store(true, Ordering::SeqCst);
+    }
+
+    /// Rings the bell, where something was noted.
+    pub(crate) fn ring_noted(&self) {
+        if self.noted.load(Ordering::SeqCst) {
+            self.noted.store(false, Ordering::SeqCst);
+            self.bell.ring();
+        }
     }
 
     /// The worker has answered its call.

@@ -64,12 +64,20 @@ impl Slots {
                 self.start(rt, Arc::try_clone(&slot)?, worker, methods)?;
                 return Ok(slot);
             }
+            self.ring_noted();
             let mark = shared.reader.mark();
             shared
                 .reader
                 .wait_past(&rt, mark, Duration::from_millis(STEP));
         }
         unreachable!()
+    }
+
+    /// Rings the bells of the workers for which something came.
+    pub(crate) fn ring_noted(&self) {
+        for slot in &self.all {
+            slot.ring_noted();
+        }
     }
 
     /// Starts one more worker, that of this slot. That no thread can be made counts as want of memory.

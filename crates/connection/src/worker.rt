@@ -18,8 +18,12 @@ use std::time::{Clock, Duration, Instant};
 /// How long a call waits at most before it looks again: at the clock, and whether it is live; in milliseconds.
 const STEP: u64 = 1;
 
-/// The same, of a call without a deadline for which nothing happens.
-const LONG_STEP: u64 = 16;
+/// The same, of a call without a deadline that lacks room for what it gives.
+const ROOM_STEP: u64 = 16;
+
+/// The same, of a call without a deadline for which nothing comes. What comes rings its bell, and so does the end of the
+/// connection.
+const LONG_STEP: u64 = 1024;
 
 /// What a worker has, beside the methods.
 #[derive(Drop)]
@@ -79,22 +83,27 @@ impl<A: Ledger, B: Ledger, C: Ledger> Worker<A, B, C> {
         }
         let mut run = CallRun::new(self.alloc, methods, index, head, taker, giver, opened);
         let mut step = STEP;
+        let mut is_told = true;
         'turns: for _ in rt.forever() {
             let came = self.slot.bell.mark();
             let room = self.shared.room.mark();
             let now = self.now(rt, &run);
             let turn = run.turn(methods, now);
             match turn {
-                Turn::Went => step = STEP,
+                Turn::Went => {
+                    step = STEP;
+                    is_told = false;
+                }
                 Turn::Over => break,
                 Turn::Nothing | Turn::Full => {
-                    if !self.is_live(rt, id, &mut run) {
+                    if !self.is_live(rt, id, &mut run, is_told) {
                         self.give_up(rt, methods, &mut run);
                         break;
                     }
+                    is_told = true;
                     self.wait(rt, turn, room, came, step);
                     if !run.has_deadline() {
-                        step = LONG_STEP.min(step.saturating_mul(2));
+                        step = longer(turn, step);
                     }
                 }
             }
@@ -111,8 +120,15 @@ impl<A: Ledger, B: Ledger, C: Ledger> Worker<A, B, C> {
         }
     }
 
-    /// Returns what was taken, and says whether the call is live still.
-    fn is_live(&self, rt: &impl Wait, id: StreamId, run: &mut CallRun<InLane, OutLane>) -> bool
+    /// Returns what was taken, and says whether the call is live still. The writer is rung where something was returned, or
+    /// where it wasn't told yet of what was given.
+    fn is_live(
+        &self,
+        rt: &impl Wait,
+        id: StreamId,
+        run: &mut CallRun<InLane, OutLane>,
+        is_told: bool,
+    ) -> bool
         ensures { run.new.index ≡ run.old.index }
     {
         let credit = run.credit();
@@ -125,7 +141,9 @@ impl<A: Ledger, B: Ledger, C: Ledger> Worker<A, B, C> {
             book.is_live(id)
         };
         // Only now, so that the writer sees what was returned.
-        self.shared.writer.ring();
+        if credit > 0 || !is_told {
+            self.shared.writer.ring();
+        }
         is_live
     }
 
@@ -175,6 +193,15 @@ impl<A: Ledger, B: Ledger, C: Ledger> Worker<A, B, C> {
         }
         0
     }
+}
+
+/// How many milliseconds a call waits the next time, that waited so many for nothing.
+fn longer(turn: Turn, step: u64) -> u64 {
+    let most = match turn {
+        Turn::Full => ROOM_STEP,
+        Turn::Went | Turn::Nothing | Turn::Over => LONG_STEP,
+    };
+    most.min(step.saturating_mul(2))
 }
 
 /// How many nanoseconds there were since the start; the greatest number where the clock doesn't tell.
