@@ -25,6 +25,53 @@ const ROOM_STEP: u64 = 16;
 /// connection.
 const LONG_STEP: u64 = 1024;
 
+/// How many turns a call goes on before the writer is rung. A short call has come to its end by then, and rings once.
+const FEW_TURNS: u32 = 4;
+
+/// How a call waits, and when the writer is rung for it.
+#[derive(Drop)]
+struct Pace {
+    /// How many milliseconds it waits at most the next time.
+    step: u64,
+    /// How many turns it went on since it had nothing to do.
+    turns: u32,
+    /// Whether the writer was rung for all that it did.
+    is_told: bool,
+}
+
+impl Pace {
+    fn new() -> Pace {
+        Pace {
+            step: STEP,
+            turns: 0,
+            is_told: true,
+        }
+    }
+
+    /// A turn went. Whether the writer is to be rung for it at once.
+    fn went(&mut self) -> bool {
+        self.step = STEP;
+        self.turns = self.turns.saturating_add(1);
+        self.is_told = self.turns > FEW_TURNS;
+        self.is_told
+    }
+
+    /// The call has waited behind such a turn.
+    fn waited(&mut self, turn: Turn, has_deadline: bool) {
+        self.is_told = true;
+        let most = match turn {
+            Turn::Full => ROOM_STEP,
+            Turn::Went | Turn::Nothing | Turn::Over => {
+                self.turns = 0;
+                LONG_STEP
+            }
+        };
+        if !has_deadline {
+            self.step = most.min(self.step.saturating_mul(2));
+        }
+    }
+}
+
 /// What a worker has, beside the methods.
 #[derive(Drop)]
 pub(crate) struct Worker<A: Ledger, B: Ledger, C: Ledger> {
@@ -82,8 +129,7 @@ impl<A: Ledger, B: Ledger, C: Ledger> Worker<A, B, C> {
             return;
         }
         let mut run = CallRun::new(self.alloc, methods, index, head, taker, giver, opened);
-        let mut step = STEP;
-        let mut is_told = true;
+        let mut pace = Pace::new();
         'turns: for _ in rt.forever() {
             let came = self.slot.bell.mark();
             let room = self.shared.room.mark();
@@ -91,20 +137,18 @@ impl<A: Ledger, B: Ledger, C: Ledger> Worker<A, B, C> {
             let turn = run.turn(methods, now);
             match turn {
                 Turn::Went => {
-                    step = STEP;
-                    is_told = false;
+                    if pace.went() {
+                        self.shared.writer.ring();
+                    }
                 }
                 Turn::Over => break,
                 Turn::Nothing | Turn::Full => {
-                    if !self.is_live(rt, id, &mut run, is_told) {
+                    if !self.is_live(rt, id, &mut run, pace.is_told) {
                         self.give_up(rt, methods, &mut run);
                         break;
                     }
-                    is_told = true;
-                    self.wait(rt, turn, room, came, step);
-                    if !run.has_deadline() {
-                        step = longer(turn, step);
-                    }
+                    self.wait(rt, turn, room, came, pace.step);
+                    pace.waited(turn, run.has_deadline());
                 }
             }
         }
@@ -193,15 +237,6 @@ impl<A: Ledger, B: Ledger, C: Ledger> Worker<A, B, C> {
         }
         0
     }
-}
-
-/// How many milliseconds a call waits the next time, that waited so many for nothing.
-fn longer(turn: Turn, step: u64) -> u64 {
-    let most = match turn {
-        Turn::Full => ROOM_STEP,
-        Turn::Went | Turn::Nothing | Turn::Over => LONG_STEP,
-    };
-    most.min(step.saturating_mul(2))
 }
 
 /// How many nanoseconds there were since the start; the greatest number where the clock doesn't tell.
