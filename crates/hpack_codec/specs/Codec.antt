@@ -1,5 +1,5 @@
 -- What a decoder and an encoder keep from block to block.
-use Rattle.std.specs.Prelude.{◌≡◌, ℕ, ◌^◌, ◌≤◌, ◌⊎◌, Bool, true, false, min, List, [], length, Option, Some, None}
+use Rattle.std.specs.Prelude.{◌≡◌, ℕ, ◌^◌, ◌≤◌, ◌⊎◌, ◌++◌, All, codes, min, List, [], length, Option, Some, None}
 use Rattle.hpack_codec.specs.declared.fault.HpackFault.{HpackFault}
 use Rattle.hpack_codec.specs.declared.fault.HpackFault.TheVariants.{Dead}
 use Rattle.lists.specs.declared.field.Field.{Field}
@@ -45,8 +45,19 @@ Writes None fields block kept = ⊥
 abbrev pub IsTooLong : Field → Type 0
 IsTooLong field = (2 ^ 32 ≤ length field.name) ⊎ (2 ^ 32 ≤ length field.value)
 
--- what an encoder without entries keeps
-abbrev pub encoding_of : Bool → ℕ → ℕ → Option Encoding
-encoding_of true table_limit least_limit = None
-encoding_of false table_limit least_limit =
-    Some (record { table = record { entries = []; limit = table_limit }; least = least_limit })
+-- what an encoder with this table and least limit keeps, or a dead one
+abbrev pub encoding_of : Option Table → ℕ → Option Encoding
+encoding_of None least_limit = None
+encoding_of (Some table) least_limit = Some (record { table = table; least = least_limit })
+
+-- A field of this name never becomes an entry: its value is a text that a request may have said, or an application's bytes.
+abbrev pub IsPrivate : List ℕ → Type 0
+IsPrivate name = (name ≡ codes "grpc-message") ⊎ ((front : List ℕ) × (name ≡ front ++ codes "-bin"))
+
+-- no entry is private
+abbrev pub NonePrivate : Table → Type 0
+NonePrivate table = All (λ field. IsPrivate field.name → ⊥) table.entries
+
+abbrev pub HoldsNoPrivate : Option Encoding → Type 0
+HoldsNoPrivate None = Unit {0}
+HoldsNoPrivate (Some encoding) = NonePrivate encoding.table

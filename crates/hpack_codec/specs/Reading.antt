@@ -4,8 +4,8 @@ use Rattle.std.specs.List.{flat_map}
 use Rattle.hpack_codec.specs.declared.fault.HpackFault.{HpackFault}
 use Rattle.hpack_codec.specs.declared.fault.HpackFault.TheVariants.{Integer, Huffman, SizeUpdate, Truncated, OutOfMemory, Dead, TooLarge}
 use Rattle.lists.specs.declared.field.Field.{Field}
-use Rattle.hpack_codec.specs.declared.static_table.Found.{Found}
-use Rattle.hpack_codec.specs.declared.static_table.Found.TheVariants.{Whole, Name, Nothing}
+use Rattle.hpack_codec.specs.declared.found.Found.{Found}
+use Rattle.hpack_codec.specs.declared.found.Found.TheVariants.{Whole, Name, Nothing}
 use Rattle.hpack_codec.specs.StaticTable.{static_table, entry}
 use Rattle.hpack_codec.specs.Integer.{base_128, IsUnfinished, IsInteger}
 use Rattle.hpack_codec.specs.Huffman.{bits, code, IsHuffman, AreOctets}
@@ -155,22 +155,25 @@ pub record IsUpdatesFault (fault : HpackFault) (table : Table) (bytes : List ℕ
   pub begins : Begins 32 64 rest
   pub is_fault : IsUpdateFault fault rest
 
--- The text spells the field over each table, and changes none.
-abbrev pub SpellsField : Field → List ℕ → Type 0
-SpellsField field text = (table : Table) → Represents table text field table
-
-abbrev pub SpellsFields : List Field → List ℕ → Type 0
-SpellsFields fields text = (table : Table) → AreFields table text fields table
-
--- The text leads an empty table from one limit to the other.
-abbrev pub SpellsUpdate : ℕ → ℕ → List ℕ → Type 0
-SpellsUpdate from to text =
-    (limits : List ℕ) × AreUpdates (record { entries = []; limit = from }) text limits (record { entries = []; limit = to })
+-- The text is changes of size that lead from the one table to the other.
+abbrev pub Changes : Table → List ℕ → Table → Type 0
+Changes table text next = (limits : List ℕ) × AreUpdates table text limits next
 
 -- The static entry at this index has this name and value, or this name.
-abbrev pub IsFound : Found → List ℕ → List ℕ → Type 0
-IsFound (Whole index) name_bytes value_bytes =
+abbrev pub IsStatic : Found → List ℕ → List ℕ → Type 0
+IsStatic (Whole index) name_bytes value_bytes =
     (0 < index) × (index ≤ 61) × (slice_get static_table (index - 1) ≡ Some (entry name_bytes value_bytes))
-IsFound (Name index) name_bytes value_bytes =
+IsStatic (Name index) name_bytes value_bytes =
     (other : List ℕ) × (0 < index) × (index ≤ 61) × (slice_get static_table (index - 1) ≡ Some (entry name_bytes other))
-IsFound Nothing name_bytes value_bytes = Unit {0}
+IsStatic Nothing name_bytes value_bytes = Unit {0}
+
+-- The entry at this index of both tables has this name and value, or this name.
+abbrev pub IsFound : Table → Found → List ℕ → List ℕ → Type 0
+IsFound table (Whole index) name_bytes value_bytes = entry_at table index ≡ Some (entry name_bytes value_bytes)
+IsFound table (Name index) name_bytes value_bytes = (other : List ℕ) × (entry_at table index ≡ Some (entry name_bytes other))
+IsFound table Nothing name_bytes value_bytes = Unit {0}
+
+-- The index of a literal with this name: 0, or an entry's with the name.
+abbrev pub IsNameAt : Table → ℕ → List ℕ → Type 0
+IsNameAt table index octets =
+    (index ≡ 0) ⊎ ((other : List ℕ) × (entry_at table index ≡ Some (entry octets other)))

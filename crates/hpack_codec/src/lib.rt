@@ -16,10 +16,12 @@
 mod decoder;
 mod encoder;
 mod fault;
+mod found;
 mod huffman;
 mod integer;
 pub mod laws;
 mod representation;
+mod search_table;
 mod static_table;
 mod string_literal;
 mod table;

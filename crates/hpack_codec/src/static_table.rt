@@ -1,7 +1,9 @@
 //! The static table (RFC 7541, appendix A).
 ghost use Rattle.std.specs.Prelude.{◌≡◌, ◌<◌, length, map, slice_get, Some};
 ghost use Rattle.hpack_codec.specs.StaticTable.{static_table, entry};
-ghost use Rattle.hpack_codec.specs.Reading.{IsFound};
+ghost use Rattle.hpack_codec.specs.Reading.{IsStatic};
+
+use crate::found::Found;
 
 /// How many entries there are.
 pub const LEN: usize = 61;
@@ -89,19 +91,9 @@ fn pair_at(pairs: &[Pair], place: usize) -> Pair
     pairs[place]
 }
 
-/// Where the static table has a field.
-#[derive(Clone, Copy)]
-pub enum Found {
-    /// The name and the value, at this index.
-    Whole(u32),
-    /// The name alone, first at this index.
-    Name(u32),
-    Nothing,
-}
-
 /// The least index of a field, or else of its name.
 pub fn find(name: &[u8], value: &[u8]) -> Found
-    ensures { IsFound result name.now value.now }
+    ensures { IsStatic result name.now value.now }
 {
     let mut found = Found::Nothing;
     for place in 0..LEN {

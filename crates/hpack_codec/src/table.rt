@@ -45,6 +45,19 @@ impl DynamicTable {
         }
     }
 
+    /// How many entries it has.
+    pub fn len(&self) -> usize
+        ensures { result ≡ length self.now.entries }
+    {
+        self.recent.len()
+    }
+
+    pub fn limit(&self) -> u32
+        ensures { result ≡ self.now.limit }
+    {
+        self.max_size
+    }
+
     /// The name and the value at an index of both tables.
     pub fn get(&self, index: u32) -> Option<(&[u8], &[u8])>
         ensures { MatchOption result (entry_at self.now index ≡ None)

@@ -1,10 +1,16 @@
-use Rattle.std.proofs.Common.{arith}
-use Rattle.hpack_codec.proofs.Blocks.{update_none, update_one}
+use Rattle.std.proofs.Common.{arith, rules}
+use Rattle.hpack_codec.proofs.Blocks.{update_none, update_one, resized_private}
 use Rattle.hpack_codec.proofs.encoder.push_update.Goals as goal
 
-pub returns-in_ok-push_integer : goal.returns-in_ok-push_integer
-returns-in_ok-push_integer c =
-    update_one c.args.from c.args.to _ _ (omega (arith, c.requires.lower, c.requires.lawful)) c.in_ok-push_integer.ensures
+pub returns-in_err-push_integer-clause-private : goal.returns-in_err-push_integer-clause-private
+returns-in_err-push_integer-clause-private c = resized_private c.args.table.now c.resize.new.self c.args.least c.resize.ensures
 
-pub returns-else-to-from : goal.returns-else-to-from
-returns-else-to-from c = update_none c.args.from c.args.to c.args.out.now.items c.if-to-from.false c.requires.lower
+pub returns-in_ok-push_integer-clause-text : goal.returns-in_ok-push_integer-clause-text
+returns-in_ok-push_integer-clause-text c =
+    rw c.resize.ensures (update_one c.args.table.now c.args.least _ _ (omega (arith, c.requires.lower, c.requires.lawful)) c.in_ok-push_integer.ensures)
+
+pub returns-in_ok-push_integer-clause-private : goal.returns-in_ok-push_integer-clause-private
+returns-in_ok-push_integer-clause-private c = resized_private c.args.table.now c.resize.new.self c.args.least c.resize.ensures
+
+pub returns-else-least-limit-clause-text : goal.returns-else-least-limit-clause-text
+returns-else-least-limit-clause-text c = update_none c.args.table.now c.args.out.now.items

@@ -1,5 +1,5 @@
-use Rattle.hpack_codec.specs.Reading.{IsFound}
+use Rattle.hpack_codec.specs.Reading.{IsStatic}
 use Rattle.hpack_codec.proofs.static_table.find.Given as goal
 
 abbrev pub invariant-loop-place : goal.invariant-loop-place
-invariant-loop-place l = IsFound l.found l.name l.value
+invariant-loop-place l = IsStatic l.found l.name l.value
