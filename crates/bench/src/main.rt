@@ -3,7 +3,7 @@
 //! The first word chooses one, and the numbers after it its size: it prints how long it took, in nanoseconds. Without
 //! words each runs once, small, and prints what it did but no time.
 //!
-//! Each module measures one library: `lane_bench` and `lane_segments`, `slot_calls`, `h2frame_feed`, `hpack_blocks`, `flow_halves`, `protobuf_messages`,
+//! Each module measures one library: `lane_bench` and `lane_segments`, `slot_calls`, `h2frame_feed`, `hpack_blocks`, `hpack_writing`, `flow_halves`, `protobuf_messages`,
 //! `handlers_calls`, `session_reading` and `outbound_frames`; `sizes` reads the numbers.
 #![tactic(auto)]
 
@@ -11,6 +11,7 @@ mod flow_halves;
 mod h2frame_feed;
 mod handlers_calls;
 mod hpack_blocks;
+mod hpack_writing;
 mod lane_bench;
 mod lane_segments;
 mod outbound_frames;
@@ -40,6 +41,7 @@ fn run_all<R: Threads + Wait + Sync + AllocGlobal + Print + Clock>(rt: &R) -> Re
     slot_calls::small(rt)?;
     h2frame_feed::small(rt)?;
     hpack_blocks::small(rt)?;
+    hpack_writing::small(rt)?;
     flow_halves::small(rt)?;
     protobuf_messages::small(rt)?;
     handlers_calls::small(rt)?;
@@ -60,6 +62,8 @@ fn run_one<R: Threads + Wait + Sync + AllocGlobal + Print + Clock>(
         "h2frame-feed" => h2frame_feed::timed(rt, sizes),
         "hpack-huffman" => hpack_blocks::huffman(rt, sizes),
         "hpack-evictions" => hpack_blocks::evictions(rt, sizes),
+        "hpack-heads" => hpack_writing::heads(rt, sizes),
+        "hpack-random" => hpack_writing::random(rt, sizes),
         "lane-opened" => lane_segments::opened(rt, sizes),
         "lane-relay" => lane_bench::relayed(rt, rt.alloc(), sizes),
         "lane-ring" => lane_bench::rings(rt, sizes),

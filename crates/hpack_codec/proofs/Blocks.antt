@@ -46,8 +46,7 @@ pub fields_more : (table mid next : Table) (old half new : List ℕ) (fields : L
     → Appends old new (λ text. AreFields table text (take (i + 1) fields) next)
 fields_more table mid next old half new fields i field l is a b =
     subst (λ (front : List Field). Appends old new (λ text. AreFields table text front next))
-    (sym (take_more fields i field l ∙ ap (λ (f : Field). take i fields ++ f ∷ []) (sym is)))
-    (
+    (sym (take_more fields i field l ∙ ap (λ (f : Field). take i fields ++ f ∷ []) (sym is))) (
       a.0 ++ b.0,
       b.1 ∙ ap (λ (front : List ℕ). front ++ b.0) a.1 ∙ append_assoc old a.0 b.0,
       AreFields-push table mid next a.0 b.0 (take i fields) field a.2 b.2,

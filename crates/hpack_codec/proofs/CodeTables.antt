@@ -5,7 +5,7 @@ use Rattle.std.proofs.lemmas.Bool.Decides.{eqb_tells}
 use Rattle.std.proofs.lemmas.List.{take_more, take_all, take-append-drop, drop_more}
 use Rattle.hpack_codec.specs.declared.huffman.Codes.{Codes}
 use Rattle.hpack_codec.specs.Huffman.{code_length, code_number}
-use Rattle.hpack_codec.specs.CodeTable.{each_below, is_in_row, is_row, are_rows, is_least, are_ascending, is_covered, is_code_table}
+use Rattle.hpack_codec.specs.CodeTable.{each_below, is_in_row, is_row, are_rows, is_least, are_ascending, is_covered, is_code_table, is_listed, is_code_list}
 use Rattle.hpack_codec.proofs.HuffmanTable.{and_true}
 
 pub eqb-true : (a b : ℕ) → (a == b) ≡ true → a ≡ b
@@ -132,3 +132,24 @@ missed_all register count symbol rows symbols e m octet le is =
 
 pub misses_whole : (register count i : ℕ) (rows : List Codes) → length rows ≤ i → MissesAll register count (take i rows) → MissesAll register count rows
 misses_whole register count i rows h m = subst (MissesAll register count) (take_all i rows h) m
+
+-- what the lists of numbers and lengths say of a byte
+pub record HasCode (numbers lengths : List ℕ) (octet : ℕ) : Type 0 where
+  pub in_numbers : octet < length numbers
+  pub in_lengths : octet < length lengths
+  pub number : get_or numbers octet 0 ≡ code_number octet
+  pub len : get_or lengths octet 0 ≡ code_length octet
+
+pub code_listed : (numbers lengths : List ℕ) (octet : ℕ) → is_code_list numbers lengths ≡ true → octet < 256 → HasCode numbers lengths octet
+unfolding is_code_list
+code_listed numbers lengths octet e h =
+    let whole = and_true ((length numbers == 256) && (length lengths == 256)) (each_below 256 (is_listed numbers lengths)) e in
+    let sizes = and_true (length numbers == 256) (length lengths == 256) whole.0 in
+    let here = each_below_at 256 (is_listed numbers lengths) octet whole.1 h in
+    let two = and_true (code_number octet == get_or numbers octet 0) (code_length octet == get_or lengths octet 0) here in
+    record {
+      in_numbers = omega (arith, eqb-true _ _ sizes.0, h);
+      in_lengths = omega (arith, eqb-true _ _ sizes.1, h);
+      number = sym (eqb-true _ _ two.0);
+      len = sym (eqb-true _ _ two.1);
+    }

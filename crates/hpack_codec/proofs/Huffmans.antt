@@ -104,7 +104,7 @@ no_text text out rest o is none other octets h =
     other (subst IsPadding (sym same.1) h.is_padding)
 
 -- a register of ones
-ones_bits : (n : ℕ) → bits n (2 ^ n - 1) ≡ replicate n 1
+pub ones_bits : (n : ℕ) → bits n (2 ^ n - 1) ≡ replicate n 1
 unfolding bits
 ones_bits zero = refl
 ones_bits (suc n) =
@@ -146,7 +146,7 @@ drains_none old count register small = record {
   shorter = omega arith;
 }
 
-AreOctets-push : (octets : List ℕ) (octet : ℕ) → AreOctets octets → octet < 256 → AreOctets (octets ++ octet ∷ [])
+pub AreOctets-push : (octets : List ℕ) (octet : ℕ) → AreOctets octets → octet < 256 → AreOctets (octets ++ octet ∷ [])
 unfolding AreOctets
 AreOctets-push [] octet a h = (h, tt)
 AreOctets-push (x ∷ octets) octet a h = (a.0, AreOctets-push octets octet a.1 h)

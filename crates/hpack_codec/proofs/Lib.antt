@@ -15,3 +15,4 @@ pub mod StaticEntries
 pub mod HuffmanExistence
 pub mod Existence
 pub mod Examples
+pub mod HuffmanWriting

@@ -4,9 +4,10 @@ use Rattle.std.proofs.lemmas.Bool.{cases_lt}
 use Rattle.hpack_codec.specs.declared.fault.HpackFault.{HpackFault}
 use Rattle.hpack_codec.specs.declared.fault.HpackFault.TheVariants.{Integer, Index, Huffman, SizeUpdate, Truncated, OutOfMemory, Dead, TooLarge}
 use Rattle.hpack_codec.specs.Integer.{IsInteger}
+use Rattle.hpack_codec.specs.StringLiteral.{IsString}
 use Rattle.hpack_codec.specs.Huffman.{IsHuffman}
 use Rattle.hpack_codec.specs.Faults.{IsStringFault, IsNoHuffman, IsCutString}
-use Rattle.hpack_codec.specs.Reading.{TakesInteger, TakesString, OrMemory, IsTextFault, flags_of}
+use Rattle.hpack_codec.specs.Reading.{TakesInteger, TakesString, OrMemory, IsTextFault, Appends, IsTextOf, text_length, flags_of}
 
 -- the flags of a first byte in a range
 pub flags_from : (prefix_bits : ℕ) (flags : ℕ) (bytes : List ℕ) → 1 ≤ length bytes → get_or bytes 0 0 / 2 ^ prefix_bits * 2 ^ prefix_bits ≡ flags → flags_of prefix_bits bytes ≡ flags
@@ -85,3 +86,17 @@ cut_string bytes rest len some octet t short = record {
     | inr high ↦ inr (subst (λ (flags : ℕ). IsInteger 7 flags t.0 len) (flags_7_high bytes some high octet) t.2)
   ];
 }
+
+-- a Huffman text behind its length
+pub wrote_huffman : (old mid new octets : List ℕ) (len : ℕ) → len ≡ text_length octets → Appends old mid (λ text. IsInteger 7 128 text len)
+    → Appends mid new (λ text. IsTextOf text octets) → Appends old new (λ text. IsString text octets)
+wrote_huffman old mid new octets len len_is size text = (
+  size.0 ++ text.0,
+  text.1 ∙ ap (λ (front : List ℕ). front ++ text.0) size.1 ∙ append_assoc old size.0 text.0,
+  record {
+    size = size.0;
+    content = text.0;
+    spelling = refl;
+    meaning = inr (subst (λ (n : ℕ). IsInteger 7 128 size.0 n) (len_is ∙ sym text.2.1) size.2, text.2.0);
+  },
+)

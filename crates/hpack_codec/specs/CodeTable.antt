@@ -1,4 +1,4 @@
--- The tables that the decoder reads Huffman's code by, and that they are that code: a test that is computed.
+-- The tables that Huffman's code is read and written by, and that they are that code: a test that is computed.
 use Rattle.std.specs.Prelude.{ℕ, zero, suc, ◌+◌, ◌-◌, Bool, true, false, ◌&&◌, ◌||◌, nat_lt, nat_le, ◌==◌, List, [], ◌∷◌, length, slice_index}
 use Rattle.hpack_codec.specs.declared.huffman.Codes.{Codes}
 use Rattle.hpack_codec.specs.Huffman.{code_length, code_number}
@@ -44,3 +44,13 @@ is_covered (row ∷ rows) symbol =
 unfoldable pub is_code_table : List Codes → List ℕ → Bool
 is_code_table rows symbols =
     are_rows symbols rows && (are_ascending rows && each_below 256 (is_covered rows))
+
+-- the symbol's code has the number and the length at its place
+abbrev pub is_listed : List ℕ → List ℕ → ℕ → Bool
+is_listed numbers lengths symbol =
+    (code_number symbol == slice_index numbers symbol) && (code_length symbol == slice_index lengths symbol)
+
+-- Each byte's code is listed.
+unfoldable pub is_code_list : List ℕ → List ℕ → Bool
+is_code_list numbers lengths =
+    ((length numbers == 256) && (length lengths == 256)) && each_below 256 (is_listed numbers lengths)

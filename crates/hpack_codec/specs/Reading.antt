@@ -1,5 +1,5 @@
 -- What the parts of the decoder and the encoder do: facts that their private functions hand on.
-use Rattle.std.specs.Prelude.{◌≡◌, ℕ, ◌-◌, ◌*◌, ◌/◌, ◌^◌, ◌<◌, ◌≤◌, ◌⊎◌, Bool, true, false, List, [], ◌∷◌, ◌++◌, length, Some, slice_get}
+use Rattle.std.specs.Prelude.{◌≡◌, ℕ, ◌+◌, ◌-◌, ◌*◌, ◌/◌, ◌^◌, ◌<◌, ◌≤◌, ◌⊎◌, Bool, true, false, List, [], ◌∷◌, ◌++◌, length, Some, slice_get}
 use Rattle.std.specs.List.{flat_map}
 use Rattle.hpack_codec.specs.declared.fault.HpackFault.{HpackFault}
 use Rattle.hpack_codec.specs.declared.fault.HpackFault.TheVariants.{Integer, Huffman, SizeUpdate, Truncated, OutOfMemory, Dead, TooLarge}
@@ -62,6 +62,22 @@ pub record Drains (old new : List ℕ) (count register left_count left : ℕ) : 
   pub none : BeginsNoCode (bits left_count left)
   pub bound : left < 2 ^ left_count
   pub shorter : left_count ≤ count
+
+-- Whole bytes were moved from the front of a register to the end of a list.
+pub record Flushes (old new : List ℕ) (count register left_count left : ℕ) : Type 0 where
+  pub moved : List ℕ
+  pub new_is : new ≡ old ++ moved
+  pub register_is : bits count register ≡ flat_map (bits 8) moved ++ bits left_count left
+  pub bound : left < 2 ^ left_count
+  pub short : left_count < 8
+
+-- how many bytes the Huffman text of octets has: those of its bits, rounded up
+unfoldable pub text_length : List ℕ → ℕ
+text_length octets = (length (flat_map code octets) + 7) / 8
+
+-- the Huffman text of octets, of this length
+abbrev pub IsTextOf : List ℕ → List ℕ → Type 0
+IsTextOf text octets = IsHuffman text octets × (length text ≡ text_length octets)
 
 -- No octets have this Huffman text.
 abbrev pub IsTextFault : HpackFault → List ℕ → Type 0

@@ -13,8 +13,8 @@ use crate::fault::HpackFault;
 use crate::found::Found;
 use crate::integer::push_integer;
 use crate::representation::{
-    INDEXED, INDEXED_PREFIX, LITERAL, LITERAL_INDEXED, LITERAL_INDEXED_PREFIX, LITERAL_PREFIX, NEW_NAME,
-    SIZE_UPDATE, SIZE_UPDATE_PREFIX,
+    INDEXED, INDEXED_PREFIX, LITERAL, LITERAL_INDEXED, LITERAL_INDEXED_PREFIX, LITERAL_PREFIX,
+    NEW_NAME, SIZE_UPDATE, SIZE_UPDATE_PREFIX,
 };
 use crate::search_table::SearchTable;
 use crate::string_literal::push_string;
@@ -130,7 +130,11 @@ fn push_update(out: &mut Vec<u8>, table: &mut SearchTable, least: u32) -> Result
     Ok(())
 }
 
-fn push_fields(out: &mut Vec<u8>, table: &mut SearchTable, fields: &[Field]) -> Result<(), AllocError>
+fn push_fields(
+    out: &mut Vec<u8>,
+    table: &mut SearchTable,
+    fields: &[Field],
+) -> Result<(), AllocError>
     requires { Any IsTooLong fields.now → ⊥ }
     ensures text { OnOk result (Appends out.old.items out.new.items (λ text. AreFields table.old text fields.now table.new)) }
     ensures limit { OnOk result (table.new.limit ≡ table.old.limit) }

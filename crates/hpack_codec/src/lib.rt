@@ -18,6 +18,7 @@ mod encoder;
 mod fault;
 mod found;
 mod huffman;
+mod huffman_writing;
 mod integer;
 pub mod laws;
 mod representation;

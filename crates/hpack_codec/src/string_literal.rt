@@ -6,6 +6,7 @@ ghost use Rattle.hpack_codec.specs.StringLiteral.{IsString};
 
 use crate::fault::HpackFault;
 use crate::huffman;
+use crate::huffman_writing::{push_text, text_len};
 use crate::integer::{integer, push_integer};
 use lists::Octets;
 use std::alloc::{AllocError, Global};
@@ -42,11 +43,16 @@ pub fn string(alloc: Global, bytes: &[u8]) -> Result<(Octets, &[u8]), HpackFault
     Ok((Octets::from(octets), rest))
 }
 
-/// Writes octets as they are at the end.
+/// Writes octets at the end: their Huffman text where that is shorter, or else as they are.
 pub fn push_string(out: &mut Vec<u8>, octets: &[u8]) -> Result<(), AllocError>
     requires { length octets.now < 2 ^ 32 }
     ensures { OnOk result (Appends out.old.items out.new.items (λ text. IsString text octets.now)) }
 {
+    let len = text_len(octets);
+    if len < octets.len() {
+        push_integer(out, HUFFMAN, LEN_PREFIX, len as u32)?;
+        return push_text(out, octets);
+    }
     push_integer(out, PLAIN, LEN_PREFIX, octets.len() as u32)?;
     out.extend_from_slice(octets)
 }
