@@ -1,5 +1,5 @@
 -- On blocks: fields and changes of size one behind another.
-use Rattle.std.proofs.Common.{◌≡◌, ◌≢◌, ℕ, zero, suc, ◌+◌, ◌-◌, ◌<◌, ◌≤◌, ◌⊎◌, Bool, true, false, IsTrue, ◌↔◌, List, [], ◌∷◌, ◌++◌, length, take, get_or, refl, sym, subst, ◌∙◌, ap, inl, inr, arith, append_assoc, Some, None}
+use Rattle.std.proofs.Common.{◌≡◌, ◌≢◌, ℕ, zero, suc, ◌+◌, ◌-◌, ◌<◌, ◌≤◌, Bool, true, false, IsTrue, ◌↔◌, List, [], ◌∷◌, ◌++◌, length, take, get_or, refl, sym, subst, ◌∙◌, ap, inl, inr, arith, append_assoc, Some}
 use Rattle.std.proofs.lemmas.List.{append-nil, take_more, take_all}
 use Rattle.std.proofs.lemmas.Bool.Decides.{leb_tells}
 use Rattle.std.specs.List.{All, AllByRecursion}
@@ -7,14 +7,14 @@ use Rattle.std.proofs.lemmas.List.Elements.{All-from_recursion, recursion_from_A
 use Rattle.lists.specs.declared.field.Field.{Field}
 use Rattle.hpack_codec.specs.Integer.{IsInteger}
 use Rattle.hpack_codec.specs.StringLiteral.{IsString}
-use Rattle.hpack_codec.specs.StaticTable.{static_table, entry}
+use Rattle.hpack_codec.specs.StaticTable.{entry}
 use Rattle.hpack_codec.specs.declared.found.Found.{Found}
 use Rattle.hpack_codec.specs.declared.found.Found.TheVariants.{Whole, Name, Nothing}
 use Rattle.hpack_codec.specs.Table.{Table, size_of, fitting, insert_entry, resize, entry_at}
 use Rattle.hpack_codec.specs.Block.{Indexed, Incremental, WithoutIndexing, IsLiteral, IsName, Represents, AreFields, AreUpdates, IsBlock}
 use Rattle.hpack_codec.specs.Codec.{IsPrivate, NonePrivate}
 use Rattle.hpack_codec.specs.Reading.{Appends, Changes, IsFound, IsStatic, IsNameAt}
-use Rattle.hpack_codec.proofs.Tables.{entry_at-static, entry_at-zero}
+use Rattle.hpack_codec.proofs.Tables.{entry_at-static}
 
 -- one field more
 pub AreFields-push : (table mid next : Table) (text last : List ℕ) (fields : List Field) (field : Field)

@@ -5,7 +5,7 @@ use Rattle.std.proofs.lemmas.List.{append-nil, length-replicate, take_more, take
 use Rattle.std.proofs.lemmas.Grind.{flat_map-append}
 use Rattle.std.proofs.lemmas.Nat.{pow_pos, shr_high, mod_below, mul-add-lt, pow-add, div_below}
 use Rattle.std.proofs.Math.Nat.{pow-le-pow_right}
-use Rattle.hpack_codec.specs.Huffman.{bits, code, code_length, code_number, IsPadding, AreOctets, IsHuffman}
+use Rattle.hpack_codec.specs.Huffman.{bits, code, code_length, code_number, IsPadding, AreOctets}
 use Rattle.hpack_codec.specs.Reading.{Appends, Flushes, IsTextOf, text_length}
 use Rattle.hpack_codec.proofs.Bits.{length-bits, bits-add, bits_low, bits-mod}
 use Rattle.hpack_codec.proofs.HuffmanTable.{code_facts}

@@ -1,6 +1,4 @@
-use Rattle.std.proofs.Common.{◌≡◌, true, false, sym, ◌∙◌}
 use Rattle.std.proofs.lemmas.Result.{on_ok_weaker}
-use Rattle.hpack_codec.specs.Codec.{IsPrivate}
 use Rattle.hpack_codec.proofs.Blocks.{wrote_plain, wrote_entry, inserted_private, not_private}
 use Rattle.hpack_codec.proofs.encoder.push_literal.Goals as goal
 

@@ -1,4 +1,3 @@
-use Rattle.std.proofs.Common.{◌≡◌, subst, sym}
 use Rattle.std.proofs.lemmas.Result.{on_ok_weaker}
 use Rattle.hpack_codec.proofs.Blocks.{wrote_value, wrote_both}
 use Rattle.hpack_codec.proofs.encoder.push_pair.Goals as goal

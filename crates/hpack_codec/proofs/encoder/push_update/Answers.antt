@@ -1,4 +1,4 @@
-use Rattle.std.proofs.Common.{arith, rules}
+use Rattle.std.proofs.Common.{arith}
 use Rattle.hpack_codec.proofs.Blocks.{update_none, update_one, resized_private}
 use Rattle.hpack_codec.proofs.encoder.push_update.Goals as goal
 

@@ -1,6 +1,6 @@
 use Rattle.std.proofs.Common.{◌-◌, arith, refl}
 use Rattle.std.proofs.lemmas.Nat.{one_shl}
-use Rattle.hpack_codec.proofs.HuffmanWriting.{flushes_none, flushes_more, flushed, byte_fits}
+use Rattle.hpack_codec.proofs.HuffmanWriting.{flushes_more, byte_fits}
 use Rattle.hpack_codec.proofs.huffman_writing.flush.Goals as goal
 
 pub overflow_cast-register : goal.overflow_cast-register

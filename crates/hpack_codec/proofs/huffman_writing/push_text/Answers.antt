@@ -1,4 +1,4 @@
-use Rattle.std.proofs.Common.{◌∙◌, ◌-◌, ◌+◌, ◌^◌, ◌<◌, get_or, arith, refl}
+use Rattle.std.proofs.Common.{◌∙◌, ◌-◌, ◌<◌, get_or, arith, refl}
 use Rattle.std.proofs.lemmas.Nat.{one_shl}
 use Rattle.hpack_codec.proofs.HuffmanWriting.{spells_none, spells_more, spells_all, spells_padded, has_room, code_short, last_fits}
 use Rattle.hpack_codec.proofs.huffman_writing.push_text.Goals as goal

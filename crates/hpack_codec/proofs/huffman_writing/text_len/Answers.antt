@@ -1,4 +1,4 @@
-use Rattle.std.proofs.Common.{◌∙◌, arith, refl, sym}
+use Rattle.std.proofs.Common.{◌∙◌, arith, refl}
 use Rattle.hpack_codec.proofs.HuffmanWriting.{counts_more, counted}
 use Rattle.hpack_codec.proofs.huffman_writing.text_len.Goals as goal
 

@@ -1,4 +1,3 @@
-use Rattle.std.proofs.Common.{inr}
 use Rattle.std.proofs.lemmas.Result.{on_ok_weaker}
 use Rattle.hpack_codec.proofs.Strings.{wrote_huffman}
 use Rattle.hpack_codec.proofs.string_literal.push_string.Goals as goal

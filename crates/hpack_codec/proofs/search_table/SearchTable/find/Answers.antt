@@ -1,5 +1,3 @@
-use Rattle.std.proofs.Common.{subst}
-use Rattle.hpack_codec.specs.Reading.{IsFound}
 use Rattle.hpack_codec.proofs.Blocks.{static_is_found}
 use Rattle.hpack_codec.proofs.search_table.SearchTable.find.Goals as goal
 
