@@ -38,12 +38,7 @@ pub fn opened<R: Print + Clock + AllocGlobal>(rt: &R, sizes: &[String]) -> Resul
 }
 
 /// Puts so many items and a last one, and takes them all.
-fn pass<L: Lane<Item = u64>>(
-    tx: L::In,
-    rx: &mut L::Out,
-    items: usize,
-    taken: &mut u64,
-) -> L::Shut {
+fn pass<L: Lane<Item = u64>>(tx: L::In, rx: &mut L::Out, items: usize, taken: &mut u64) -> L::Shut {
     let mut tx = tx;
     for _ in 0..items {
         let _placed = L::put(&mut tx, 7).is_ok();
