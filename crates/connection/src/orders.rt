@@ -27,7 +27,8 @@ pub(crate) struct Orders<A: Ledger, B: Ledger, C: Ledger> {
 }
 
 impl<A: Ledger, B: Ledger, C: Ledger> Orders<A, B, C> {
-    /// Puts an order, and waits where there is no room. Behind a writer that has stopped it is dropped.
+    /// Puts an order, and waits where there is no room. Behind a writer that has stopped it is dropped, but not the last one: such
+    /// a writer takes orders still, and ends at that one.
     pub(crate) fn put<R: Wait>(&mut self, rt: &R, order: Order) {
         let mut order = order;
         for _ in rt.forever() {
@@ -38,7 +39,7 @@ impl<A: Ledger, B: Ledger, C: Ledger> Orders<A, B, C> {
                 Err(PutFault::OutOfMemory(_) | PutFault::NotTaken(_)) => return,
             }
             self.shared.writer.ring();
-            if self.shared.has_stopped() {
+            if self.shared.has_stopped() && !matches!(order, Control::Close) {
                 return;
             }
             self.shared
