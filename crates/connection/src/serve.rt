@@ -81,6 +81,7 @@ where
         frames: ConnWriter::new(alloc, output),
         input_ended: false,
         closed: false,
+        called_off: Vec::new(alloc),
         failed: None,
     };
     let orders = Orders {

@@ -7,7 +7,7 @@ use crate::slot::OutLane;
 use connwriter::{ConnWriter, Filled, Standing, Taking};
 use device::ConnWrite;
 use flow::MAX_LIVE;
-use h2frame::ErrorCode;
+use h2frame::{ErrorCode, StreamId};
 use lane::RingOut;
 use outwriter::Control;
 use std::sync::Wait;
@@ -27,6 +27,8 @@ pub(crate) struct Writer<A: Ledger, B: Ledger, C: Ledger, W: ConnWrite> {
     pub(crate) input_ended: bool,
     /// Whether no more orders come.
     pub(crate) closed: bool,
+    /// Streams of which a Reset was taken since all that can be was written.
+    pub(crate) called_off: Vec<StreamId>,
     /// The error of its own that the writer ended the connection with.
     pub(crate) failed: Option<ErrorCode>,
 }
@@ -46,6 +48,7 @@ impl<A: Ledger, B: Ledger, C: Ledger, W: ConnWrite + Drop> Writer<A, B, C, W> {
                 writer.outlet.shared.room.ring();
             }
             writer.flush(rt);
+            writer.let_go(filled);
             match filled {
                 Filled::Over => break,
                 Filled::Full => {}
@@ -89,6 +92,7 @@ impl<A: Ledger, B: Ledger, C: Ledger, W: ConnWrite + Drop> Writer<A, B, C, W> {
         match &order {
             Control::InputEnded => self.input_ended = true,
             Control::Close => self.closed = true,
+            Control::Reset { id, .. } => self.call_off(*id),
             _ => {}
         }
         let last = self.outlet.shared.last();
@@ -98,7 +102,10 @@ impl<A: Ledger, B: Ledger, C: Ledger, W: ConnWrite + Drop> Writer<A, B, C, W> {
                 self.failed = Some(ErrorCode::FlowControlError);
                 self.stop(rt);
             }
-            Taking::Ended(id) => self.outlet.shared.book.lock(rt).cut(id),
+            Taking::Ended(id) => {
+                self.call_off(id);
+                self.outlet.shared.book.lock(rt).cut(id);
+            }
             Taking::Unanswered(_) | Taking::HandedBack(_) => self.stop(rt),
         }
     }
@@ -120,6 +127,28 @@ impl<A: Ledger, B: Ledger, C: Ledger, W: ConnWrite + Drop> Writer<A, B, C, W> {
         }
         if self.frames.flush().is_err() {
             self.stop(rt);
+        }
+    }
+
+    /// Notes that a stream was called off. Without memory for that its sender is kept to the end.
+    fn call_off(&mut self, id: StreamId) {
+        let _ = self.called_off.push(id);
+    }
+
+    /// Lets go of the senders of calls that are through, so that a connection has those of its live calls alone. A header block
+    /// of a stream that was called off is whole where nothing more can be written now.
+    fn let_go(&mut self, filled: Filled) {
+        for index in 0..self.frames.left().len() {
+            if let Some(id) = self.frames.left().get(index).copied() {
+                let _ = self.frames.release(id);
+            }
+        }
+        if filled != Filled::Full {
+            for _ in 0..self.called_off.len() {
+                if let Some(id) = self.called_off.pop() {
+                    let _ = self.frames.release(id);
+                }
+            }
         }
     }
 
