@@ -56,7 +56,8 @@ impl<A: Ledger, B: Ledger, C: Ledger, W: ConnWrite + Drop> Writer<A, B, C, W> {
                     if writer.has_ended(rt, filled) {
                         break;
                     }
-                    if is_silent {
+                    // What is left in the buffer of a writer that has stopped is never written.
+                    if is_silent || filled == Filled::Stopped {
                         writer
                             .outlet
                             .shared
