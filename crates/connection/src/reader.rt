@@ -304,7 +304,7 @@ where
         let padding = flow.saturating_sub(u32::try_from(bytes.len()).unwrap_or(u32::MAX));
         match intake.receive(&rt, id, flow, padding) {
             Receipt::Feed => self.feed(id, bytes),
-            Receipt::Discard => {}
+            Receipt::Discard => self.miss(id, &bytes),
             Receipt::CallWindow => self.cut(id, ErrorCode::FlowControlError, true),
             Receipt::Overrun => return Some(ErrorCode::FlowControlError),
         }
@@ -334,6 +334,17 @@ where
         match row.feeder.feed(bytes) {
             Ok(()) => row.slot.note(),
             Err(_fault) => self.cut(id, ErrorCode::EnhanceYourCalm, true),
+        }
+    }
+
+    /// What comes for a call that is no longer live is fed to no one. So the call is never told that its half has ended.
+    fn miss(&mut self, id: StreamId, bytes: &Bytes) {
+        if bytes.is_empty() {
+            return;
+        }
+        if let Some(row) = self.rows.swap_remove(&id) {
+            let _shut = row.feeder.reset(ErrorCode::Cancel.code());
+            row.slot.note();
         }
     }
 

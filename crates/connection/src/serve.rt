@@ -82,6 +82,7 @@ where
         input_ended: false,
         closed: false,
         called_off: Vec::new(alloc),
+        lacks_memory: false,
         failed: None,
     };
     let orders = Orders {

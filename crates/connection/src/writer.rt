@@ -29,6 +29,8 @@ pub(crate) struct Writer<A: Ledger, B: Ledger, C: Ledger, W: ConnWrite> {
     pub(crate) closed: bool,
     /// Streams of which a Reset was taken since all that can be was written.
     pub(crate) called_off: Vec<StreamId>,
+    /// Whether there was no memory for an order.
+    pub(crate) lacks_memory: bool,
     /// The error of its own that the writer ended the connection with.
     pub(crate) failed: Option<ErrorCode>,
 }
@@ -107,8 +109,20 @@ impl<A: Ledger, B: Ledger, C: Ledger, W: ConnWrite + Drop> Writer<A, B, C, W> {
                 self.call_off(id);
                 self.outlet.shared.book.lock(rt).cut(id);
             }
-            Taking::Unanswered(_) | Taking::HandedBack(_) => self.stop(rt),
+            Taking::Unanswered(_) | Taking::HandedBack(_) => self.give_up(rt),
         }
+    }
+
+    /// Ends the connection for want of memory: by GOAWAY where there is memory for that, and behind it nothing is written.
+    fn give_up(&mut self, rt: &impl Wait) {
+        self.lacks_memory = true;
+        let last = self.outlet.shared.last();
+        let code = ErrorCode::InternalError;
+        match self.frames.take(Control::Goaway { last, code }, last) {
+            Taking::Done => {}
+            Taking::Ended(_) | Taking::Unanswered(_) | Taking::HandedBack(_) => self.frames.stop(),
+        }
+        self.stop(rt);
     }
 
     /// Owes the peer what credit is due.
@@ -185,6 +199,9 @@ impl<A: Ledger, B: Ledger, C: Ledger, W: ConnWrite + Drop> Writer<A, B, C, W> {
     }
 
     fn ending(&self) -> Option<Ending> {
+        if self.lacks_memory {
+            return Some(Ending::OutOfMemory);
+        }
         match self.frames.standing() {
             Standing::OutOfMemory => Some(Ending::OutOfMemory),
             Standing::Broken => Some(Ending::WriteFailed),

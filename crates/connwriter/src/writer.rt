@@ -205,6 +205,18 @@ impl<L: Lane<Item = OutItem>, W: ConnWrite> ConnWriter<L, W> {
         }
     }
 
+    /// Makes no more frames, as where memory ran out: for an owner who has none for what the writer was to be told.
+    pub fn stop(&mut self)
+        ensures wrote { WritesOn L.got W.contents W.failed [] self.old self.new }
+        ensures stops { self.new.standing ≢ stands.Going }
+        ensures dead { self.old.standing ≡ stands.Going → self.new.standing ≡ stands.OutOfMemory }
+        ensures rest { self.new ≡ record self.old { standing = self.new.standing } }
+    {
+        if let Standing::Going = self.standing {
+            self.standing = Standing::OutOfMemory;
+        }
+    }
+
     /// The senders that are kept, and the device.
     pub fn into_parts(self) -> (Vec<(StreamId, Sender<L>)>, W)
         ensures senders { result.0 ≡ self.core.senders }
@@ -240,18 +252,6 @@ impl<L: Lane<Item = OutItem>, W: ConnWrite> ConnWriter<L, W> {
                 Err(AllocError)
             }
             Err(OutFault::PeerWindow(_)) => unreachable!(),
-        }
-    }
-
-    /// Makes no more frames.
-    fn stop(&mut self)
-        ensures wrote { WritesOn L.got W.contents W.failed [] self.old self.new }
-        ensures stops { self.new.standing ≢ stands.Going }
-        ensures dead { self.old.standing ≡ stands.Going → self.new.standing ≡ stands.OutOfMemory }
-        ensures rest { self.new ≡ record self.old { standing = self.new.standing } }
-    {
-        if let Standing::Going = self.standing {
-            self.standing = Standing::OutOfMemory;
         }
     }
 
