@@ -1,6 +1,6 @@
 //! The reader's hold on the credit book.
 
-ghost use Rattle.std.specs.Prelude.{◌≡◌, ◌<◌, ◌≤◌};
+ghost use Rattle.std.specs.Prelude.{◌≡◌, ◌<◌, ◌≤◌, ◌+◌};
 
 use crate::shared::Shared;
 use connbook::{AdmitFault, Receipt};
@@ -12,7 +12,7 @@ use std::sync::{Arc, Wait};
 /// they are what the book counts.
 #[derive(Drop)]
 pub(crate) struct Intake<A: Ledger, B: Ledger, C: Ledger> {
-    shared: Arc<Shared<A, B, C>>,
+    pub(crate) shared: Arc<Shared<A, B, C>>,
     pub(crate) came: Share<A>,
     pub(crate) calls: Share<B>,
 }
@@ -53,6 +53,7 @@ impl<A: Ledger, B: Ledger, C: Ledger> Intake<A, B, C> {
         requires padding { padding ≤ flow }
         requires came { (self.old.came.parts ≡ A.parts) × (0 < A.parts) }
         ensures came { self.new.came.parts ≡ self.old.came.parts }
+        ensures counted { self.new.came.amount ≤ self.old.came.amount + flow }
         ensures calls { self.new.calls ≡ self.old.calls }
     {
         let Intake { shared, came, .. } = self;

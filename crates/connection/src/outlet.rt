@@ -1,6 +1,8 @@
 //! The writer's hold on the credit book.
 
-ghost use Rattle.std.specs.Prelude.{◌<◌};
+ghost use Rattle.std.specs.Prelude.{◌≡◌, ◌<◌, ℕ, List, Option};
+ghost use Rattle.outwriter.specs.Steps.{Order};
+ghost use Rattle.connection.specs.Written.{Writes};
 
 use crate::shared::Shared;
 use account::OutItem;
@@ -15,13 +17,14 @@ use std::sync::{Arc, Wait};
 #[derive(Drop)]
 pub(crate) struct Outlet<A: Ledger, B: Ledger, C: Ledger> {
     pub(crate) shared: Arc<Shared<A, B, C>>,
-    told: Share<C>,
+    pub(crate) told: Share<C>,
     ghost some: { 0 < told.parts },
 }
 
 impl<A: Ledger, B: Ledger, C: Ledger> Outlet<A, B, C> {
     pub(crate) fn new(shared: Arc<Shared<A, B, C>>, told: Share<C>) -> Outlet<A, B, C>
         requires { 0 < told.parts }
+        ensures { result.told ≡ told }
     {
         Outlet { shared, told }
     }
@@ -31,7 +34,12 @@ impl<A: Ledger, B: Ledger, C: Ledger> Outlet<A, B, C> {
         &mut self,
         rt: &impl Wait,
         writer: &mut ConnWriter<L, W>,
-    ) {
+    )
+        // What is granted on the connection counts in the share.
+        ensures writes { (before : Option (List ℕ)) (came : List Order) → Writes L.got W.contents W.failed before came self.old.told.amount writer.old
+            → Writes L.got W.contents W.failed before came self.new.told.amount writer.new }
+        ensures parts { self.new.told.parts ≡ self.old.told.parts }
+    {
         let Outlet { shared, told, .. } = self;
         let mut book = shared.book.lock(rt);
         'calls: for place in 0..MAX_LIVE {

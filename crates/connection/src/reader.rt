@@ -1,8 +1,14 @@
 //! What becomes of each event of a connection.
 
-ghost use Rattle.std.specs.Prelude.{◌≡◌, ◌<◌};
+ghost use Rattle.std.specs.Prelude.{◌≡◌, ◌≢◌, ◌<◌, ◌≤◌, ◌+◌, ℕ, List, [], ◌∷◌, ◌++◌, true, Ok, Some, None};
+ghost use Rattle.lane.specs.Ring.{in_name, put_in};
+ghost use Rattle.session.specs.declared.event.InEvent.{InEvent as InEventOf};
+ghost use Rattle.session.specs.CoreStates.{Reached};
+ghost use Rattle.connection.specs.declared.report.Ending.TheVariants as ending;
+ghost use Rattle.connection.specs.Heard.{Heard, HearsOf, Hears, Heeds, ReachedBy, news_of};
 
 use crate::intake::Intake;
+use crate::order::Order;
 use crate::orders::Orders;
 use crate::report::Ending;
 use crate::shared::Shared;
@@ -18,9 +24,10 @@ use flow::MAX_LIVE;
 use h2frame::{ErrorCode, StreamId};
 use handlers::Methods;
 use indexmap::IndexMap;
+use lane::RingIn;
 use lists::Sequence;
 use outwriter::Control;
-use session::{Control as PeerControl, InCore, InEvent};
+use session::{InCore, InEvent};
 use std::alloc::{AllocError, Global};
 use std::sync::ledger::Ledger;
 use std::sync::{Arc, Wait};
@@ -77,7 +84,9 @@ where
         methods: Arc<Methods>,
         orders: Orders<A, B, C>,
         start: Instant,
-    ) -> Reader<A, B, C, R> {
+    ) -> Reader<A, B, C, R>
+        ensures { result.orders ≡ orders }
+    {
         Reader {
             rt,
             alloc,
@@ -98,7 +107,14 @@ where
         input: &mut I,
     ) -> Ending
         requires whole { (intake.old.came.parts ≡ A.parts) × (0 < A.parts) × (intake.old.calls.parts ≡ B.parts) × (0 < B.parts) }
+        requires fresh { Heeds [] (put_in self.old.orders.ring) self.old.orders.lost intake.old.came.amount }
         ensures whole { (intake.new.came.parts ≡ A.parts) × (0 < A.parts) × (intake.new.calls.parts ≡ B.parts) × (0 < B.parts) }
+        ensures ring { in_name self.new.orders.ring ≡ in_name self.old.orders.ring }
+        ensures heard { Heard (I.remaining input.old) (I.remaining input.new) (put_in self.new.orders.ring) intake.new.came.amount }
+
+        // That a read failed is told only where one did.
+        ensures marked { result ≡ ending.ReadFailed → I.failed input.new ≡ true }
+        ensures reads { result ≢ ending.WriteFailed }
     {
         let mut core = InCore::new(self.alloc);
         let mut piece = [0u8; PIECE];
@@ -122,7 +138,10 @@ where
     }
 
     /// Ends all halves and workers, and lets the writer end.
-    pub(crate) fn end(self) {
+    pub(crate) fn end(self) -> RingIn<Order>
+        ensures ring { in_name result ≡ in_name self.orders.ring }
+        ensures news { news_of (put_in result) ≡ news_of (put_in self.orders.ring) }
+    {
         let Reader {
             rt,
             mut orders,
@@ -130,7 +149,7 @@ where
             rows,
             ..
         } = self;
-        for (id, row) in rows {
+        'rows: for (id, row) in rows {
             orders.reset(&rt, id, ErrorCode::Cancel, false);
             let _shut = row.feeder.reset(ErrorCode::Cancel.code());
             orders.shared.book.lock(&rt).cut(id);
@@ -140,6 +159,7 @@ where
         slots.end(&rt);
         orders.put(&rt, Control::Close);
         orders.shared.writer.ring();
+        orders.ring
     }
 
     fn input_ended(&self) -> Ending {
@@ -151,7 +171,11 @@ where
     }
 
     /// Ends the connection with an error, which the peer is told.
-    fn fail(&mut self, code: ErrorCode, ending: Ending) -> Ending {
+    fn fail(&mut self, code: ErrorCode, ending: Ending) -> Ending
+        ensures ring { in_name self.new.orders.ring ≡ in_name self.old.orders.ring }
+        ensures news { news_of (put_in self.new.orders.ring) ≡ news_of (put_in self.old.orders.ring) }
+        ensures lost { self.new.orders.lost ≡ self.old.orders.lost }
+    {
         let last = self.orders.shared.last();
         let rt = self.rt;
         self.orders.put(&rt, Control::Goaway { last, code });
@@ -168,11 +192,15 @@ where
     ) -> Result<Option<ErrorCode>, AllocError>
         requires whole { (intake.old.came.parts ≡ A.parts) × (0 < A.parts) × (intake.old.calls.parts ≡ B.parts) × (0 < B.parts) }
         ensures whole { (intake.new.came.parts ≡ A.parts) × (0 < A.parts) × (intake.new.calls.parts ≡ B.parts) × (0 < B.parts) }
+        ensures ring { in_name self.new.orders.ring ≡ in_name self.old.orders.ring }
+        ensures hears { (bytes : List ℕ) (given : List InEventOf) → Reached bytes given core.old → Heeds given (put_in self.old.orders.ring) self.old.orders.lost intake.old.came.amount
+            → HearsOf (bytes ++ piece.now) (put_in self.new.orders.ring) intake.new.came.amount }
+        ensures heeds { result ≡ Ok None → (bytes : List ℕ) (given : List InEventOf) → Reached bytes given core.old → Heeds given (put_in self.old.orders.ring) self.old.orders.lost intake.old.came.amount
+            → ReachedBy (bytes ++ piece.now) core.new (put_in self.new.orders.ring) self.new.orders.lost intake.new.came.amount }
     {
-        'events: for event in core.feed(piece)? {
-            if let Some(code) = self.follow(intake, event)? {
-                return Ok(Some(code));
-            }
+        let events = core.feed(piece)?;
+        if let Some(code) = self.follow_all(intake, events)? {
+            return Ok(Some(code));
         }
         if self.rows.len() > 2 * MAX_LIVE {
             self.forget();
@@ -180,6 +208,28 @@ where
         self.slots.ring_noted();
         // The writer wakes while the calls are answered.
         self.orders.shared.writer.ring();
+        Ok(None)
+    }
+
+    /// What events lead to, one after another; the error that ends the connection, if one does.
+    fn follow_all(
+        &mut self,
+        intake: &mut Intake<A, B, C>,
+        events: Vec<InEvent>,
+    ) -> Result<Option<ErrorCode>, AllocError>
+        requires whole { (intake.old.came.parts ≡ A.parts) × (0 < A.parts) × (intake.old.calls.parts ≡ B.parts) × (0 < B.parts) }
+        ensures whole { (intake.new.came.parts ≡ A.parts) × (0 < A.parts) × (intake.new.calls.parts ≡ B.parts) × (0 < B.parts) }
+        ensures ring { in_name self.new.orders.ring ≡ in_name self.old.orders.ring }
+        ensures hears { (given : List InEventOf) → Heeds given (put_in self.old.orders.ring) self.old.orders.lost intake.old.came.amount
+            → Hears (given ++ events.items) (put_in self.new.orders.ring) intake.new.came.amount }
+        ensures heeds { result ≡ Ok None → (given : List InEventOf) → Heeds given (put_in self.old.orders.ring) self.old.orders.lost intake.old.came.amount
+            → Heeds (given ++ events.items) (put_in self.new.orders.ring) self.new.orders.lost intake.new.came.amount }
+    {
+        'events: for event in events {
+            if let Some(code) = self.follow(intake, event)? {
+                return Ok(Some(code));
+            }
+        }
         Ok(None)
     }
 
@@ -191,6 +241,9 @@ where
     ) -> Result<Option<ErrorCode>, AllocError>
         requires whole { (intake.old.came.parts ≡ A.parts) × (0 < A.parts) × (intake.old.calls.parts ≡ B.parts) × (0 < B.parts) }
         ensures whole { (intake.new.came.parts ≡ A.parts) × (0 < A.parts) × (intake.new.calls.parts ≡ B.parts) × (0 < B.parts) }
+        ensures ring { in_name self.new.orders.ring ≡ in_name self.old.orders.ring }
+        ensures heeds { (given : List InEventOf) → Heeds given (put_in self.old.orders.ring) self.old.orders.lost intake.old.came.amount
+            → Heeds (given ++ event ∷ []) (put_in self.new.orders.ring) self.new.orders.lost intake.new.came.amount }
     {
         let rt = self.rt;
         match event {
@@ -201,7 +254,7 @@ where
             InEvent::End(id) => self.end_half(id),
             InEvent::Reset(id, code) => self.cut(id, code, false),
             InEvent::StreamError(id, code) => self.cut(id, code, true),
-            InEvent::Control(control) => self.orders.put(&rt, order_of(control)),
+            InEvent::Control(control) => self.orders.tell(&rt, control),
             InEvent::PeerGoaway => self.peer_goaway = true,
             InEvent::Fatal(code) => return Ok(Some(code)),
         }
@@ -209,7 +262,11 @@ where
     }
 
     /// A stream was begun. The peer is told at the last that it may begin.
-    fn begin(&mut self, id: StreamId) {
+    fn begin(&mut self, id: StreamId)
+        ensures ring { in_name self.new.orders.ring ≡ in_name self.old.orders.ring }
+        ensures news { news_of (put_in self.new.orders.ring) ≡ news_of (put_in self.old.orders.ring) }
+        ensures lost { self.new.orders.lost ≡ self.old.orders.lost }
+    {
         let rt = self.rt;
         self.orders.shared.set_last(id);
         self.begun = self.begun.saturating_add(1);
@@ -228,6 +285,10 @@ where
     ) -> Result<(), AllocError>
         requires whole { (intake.old.came.parts ≡ A.parts) × (0 < A.parts) × (intake.old.calls.parts ≡ B.parts) × (0 < B.parts) }
         ensures whole { (intake.new.came.parts ≡ A.parts) × (0 < A.parts) × (intake.new.calls.parts ≡ B.parts) × (0 < B.parts) }
+        ensures ring { in_name self.new.orders.ring ≡ in_name self.old.orders.ring }
+        ensures news { news_of (put_in self.new.orders.ring) ≡ news_of (put_in self.old.orders.ring) }
+        ensures lost { self.new.orders.lost ≡ self.old.orders.lost }
+        ensures came { intake.new.came ≡ intake.old.came }
     {
         let rt = self.rt;
         self.begin(id);
@@ -247,7 +308,11 @@ where
     }
 
     /// Has a worker answer a call that was admitted.
-    fn start(&mut self, id: StreamId, index: usize, head: CallHead) -> Result<(), AllocError> {
+    fn start(&mut self, id: StreamId, index: usize, head: CallHead) -> Result<(), AllocError>
+        ensures ring { in_name self.new.orders.ring ≡ in_name self.old.orders.ring }
+        ensures news { news_of (put_in self.new.orders.ring) ≡ news_of (put_in self.old.orders.ring) }
+        ensures lost { self.new.orders.lost ≡ self.old.orders.lost }
+    {
         let rt = self.rt;
         let opened = match head.timeout {
             Some(_) => moment(&rt, self.start),
@@ -277,7 +342,11 @@ where
     }
 
     /// Answers what is no head of a call.
-    fn refuse(&mut self, id: StreamId, fault: HeadFault) -> Result<(), AllocError> {
+    fn refuse(&mut self, id: StreamId, fault: HeadFault) -> Result<(), AllocError>
+        ensures ring { in_name self.new.orders.ring ≡ in_name self.old.orders.ring }
+        ensures news { news_of (put_in self.new.orders.ring) ≡ news_of (put_in self.old.orders.ring) }
+        ensures lost { self.new.orders.lost ≡ self.old.orders.lost }
+    {
         let rt = self.rt;
         self.begin(id);
         match fault.refusal(self.alloc)? {
@@ -299,6 +368,10 @@ where
     ) -> Option<ErrorCode>
         requires whole { (intake.old.came.parts ≡ A.parts) × (0 < A.parts) × (intake.old.calls.parts ≡ B.parts) × (0 < B.parts) }
         ensures whole { (intake.new.came.parts ≡ A.parts) × (0 < A.parts) × (intake.new.calls.parts ≡ B.parts) × (0 < B.parts) }
+        ensures ring { in_name self.new.orders.ring ≡ in_name self.old.orders.ring }
+        ensures news { news_of (put_in self.new.orders.ring) ≡ news_of (put_in self.old.orders.ring) }
+        ensures lost { self.new.orders.lost ≡ self.old.orders.lost }
+        ensures came { intake.new.came.amount ≤ intake.old.came.amount + flow }
     {
         let rt = self.rt;
         let padding = flow.saturating_sub(u32::try_from(bytes.len()).unwrap_or(u32::MAX));
@@ -315,6 +388,10 @@ where
     fn loose(&mut self, intake: &mut Intake<A, B, C>, flow: u32) -> Option<ErrorCode>
         requires whole { (intake.old.came.parts ≡ A.parts) × (0 < A.parts) × (intake.old.calls.parts ≡ B.parts) × (0 < B.parts) }
         ensures whole { (intake.new.came.parts ≡ A.parts) × (0 < A.parts) × (intake.new.calls.parts ≡ B.parts) × (0 < B.parts) }
+        ensures ring { in_name self.new.orders.ring ≡ in_name self.old.orders.ring }
+        ensures news { news_of (put_in self.new.orders.ring) ≡ news_of (put_in self.old.orders.ring) }
+        ensures lost { self.new.orders.lost ≡ self.old.orders.lost }
+        ensures came { intake.new.came.amount ≤ intake.old.came.amount + flow }
     {
         let rt = self.rt;
         match intake.receive(&rt, 0, flow, 0) {
@@ -324,7 +401,11 @@ where
     }
 
     /// Feeds a piece to its call. One that isn't taken resets the call.
-    fn feed(&mut self, id: StreamId, bytes: Bytes) {
+    fn feed(&mut self, id: StreamId, bytes: Bytes)
+        ensures ring { in_name self.new.orders.ring ≡ in_name self.old.orders.ring }
+        ensures news { news_of (put_in self.new.orders.ring) ≡ news_of (put_in self.old.orders.ring) }
+        ensures lost { self.new.orders.lost ≡ self.old.orders.lost }
+    {
         if bytes.is_empty() {
             return;
         }
@@ -338,7 +419,11 @@ where
     }
 
     /// The client has ended its half.
-    fn end_half(&mut self, id: StreamId) {
+    fn end_half(&mut self, id: StreamId)
+        ensures ring { in_name self.new.orders.ring ≡ in_name self.old.orders.ring }
+        ensures news { news_of (put_in self.new.orders.ring) ≡ news_of (put_in self.old.orders.ring) }
+        ensures lost { self.new.orders.lost ≡ self.old.orders.lost }
+    {
         let rt = self.rt;
         self.orders.shared.book.lock(&rt).end_remote(id);
         if let Some(row) = self.rows.swap_remove(&id) {
@@ -348,7 +433,11 @@ where
     }
 
     /// A stream is reset: its call is told so, and is live no more.
-    fn cut(&mut self, id: StreamId, code: ErrorCode, written: bool) {
+    fn cut(&mut self, id: StreamId, code: ErrorCode, written: bool)
+        ensures ring { in_name self.new.orders.ring ≡ in_name self.old.orders.ring }
+        ensures news { news_of (put_in self.new.orders.ring) ≡ news_of (put_in self.old.orders.ring) }
+        ensures lost { self.new.orders.lost ≡ self.old.orders.lost }
+    {
         let rt = self.rt;
         self.orders.reset(&rt, id, code, written);
         if let Some(row) = self.rows.swap_remove(&id) {
@@ -359,7 +448,11 @@ where
     }
 
     /// Lets go of the halves of calls that are no longer live.
-    fn forget(&mut self) {
+    fn forget(&mut self)
+        ensures ring { in_name self.new.orders.ring ≡ in_name self.old.orders.ring }
+        ensures news { news_of (put_in self.new.orders.ring) ≡ news_of (put_in self.old.orders.ring) }
+        ensures lost { self.new.orders.lost ≡ self.old.orders.lost }
+    {
         let Reader {
             rt,
             rows,
@@ -368,14 +461,5 @@ where
         } = self;
         let book = orders.shared.book.lock(rt);
         rows.retain(|id, _row| book.is_live(*id));
-    }
-}
-
-/// What the writer is told of what the peer tells it.
-fn order_of(control: PeerControl) -> crate::orders::Order {
-    match control {
-        PeerControl::Settings(settings) => Control::Settings(settings),
-        PeerControl::Ping(bytes) => Control::Ping(bytes),
-        PeerControl::Window(id, increment) => Control::Window(id, increment),
     }
 }

@@ -1,6 +1,15 @@
 //! The writing thread of a connection.
 
-use crate::orders::Order;
+ghost use Rattle.std.specs.Prelude.{◌≡◌, ◌≢◌, ◌+◌, ℕ, List, Option, Some, true, [], ◌∷◌, ◌++◌, map};
+ghost use Rattle.lane.specs.RingLane.{got};
+ghost use Rattle.outwriter.specs.Steps.{Order as OrderTaken};
+ghost use Rattle.connwriter.specs.declared.standing.Standing.TheVariants as stands;
+ghost use Rattle.connection.specs.declared.report.Ending.TheVariants as ending;
+ghost use Rattle.connection.specs.Orders.{orders_of};
+ghost use Rattle.connection.specs.Written.{IsFlushed, Writes};
+ghost use Rattle.connection.specs.Later.{IsLater};
+
+use crate::order::Order;
 use crate::outlet::Outlet;
 use crate::report::Ending;
 use crate::slot::OutLane;
@@ -32,47 +41,58 @@ pub(crate) struct Writer<A: Ledger, B: Ledger, C: Ledger, W: ConnWrite> {
 }
 
 impl<A: Ledger, B: Ledger, C: Ledger, W: ConnWrite + Drop> Writer<A, B, C, W> {
-    /// Writes until no more is to be written. It says how the connection ended as far as the writer sees, and gives back what
-    /// it wrote to.
-    pub(crate) fn write(self, rt: &impl Wait) -> (Option<Ending>, W) {
+    /// Writes until no more is to be written.
+    pub(crate) fn write(self, rt: &impl Wait) -> Writer<A, B, C, W>
+        ensures later { IsLater W.contents W.failed self result }
+        ensures flushed { IsFlushed result.frames }
+    {
         let mut writer = self;
         for _ in rt.forever() {
-            let mark = writer.outlet.shared.writer.mark();
-            writer.drain(rt);
-            writer.announce(rt);
-            let filled = writer.frames.fill();
-            let is_silent = writer.frames.is_flushed();
-            if !is_silent {
-                writer.outlet.shared.room.ring();
+            if writer.turn(rt) {
+                break;
             }
-            writer.flush(rt);
-            match filled {
-                Filled::Over => break,
-                Filled::Full => {}
-                Filled::Idle | Filled::Stopped => {
-                    if writer.has_ended(rt, filled) {
-                        break;
-                    }
-                    if is_silent {
-                        writer
-                            .outlet
-                            .shared
-                            .writer
-                            .wait_past(rt, mark, Duration::from_millis(STEP));
-                    }
+        }
+        writer
+    }
+
+    /// Takes what orders wait, writes what can be written, and waits where that is nothing. Whether no more is to be written.
+    fn turn(&mut self, rt: &impl Wait) -> bool
+        ensures later { IsLater W.contents W.failed self.old self.new }
+        ensures flushed { IsFlushed self.new.frames }
+    {
+        let mark = self.outlet.shared.writer.mark();
+        self.drain(rt);
+        self.announce(rt);
+        let filled = self.frames.fill();
+        let is_silent = self.frames.is_flushed();
+        if !is_silent {
+            self.outlet.shared.room.ring();
+        }
+        self.flush(rt);
+        match filled {
+            Filled::Over => return true,
+            Filled::Full => {}
+            Filled::Idle | Filled::Stopped => {
+                if self.has_ended(rt, filled) {
+                    return true;
+                }
+                if is_silent {
+                    self.outlet
+                        .shared
+                        .writer
+                        .wait_past(rt, mark, Duration::from_millis(STEP));
                 }
             }
         }
-        let ending = writer.ending();
-        let Writer { frames, .. } = writer;
-        let (_senders, device) = frames.into_parts();
-        (ending, device)
+        false
     }
 
     /// Takes all orders that wait.
-    fn drain(&mut self, rt: &impl Wait) {
+    fn drain(&mut self, rt: &impl Wait)
+        ensures later { IsLater W.contents W.failed self.old self.new }
+    {
         let mut some = false;
-        for _ in 0..u64::MAX {
+        'orders: for _ in 0..u64::MAX {
             let Some(order) = self.orders.take() else {
                 break;
             };
@@ -84,33 +104,57 @@ impl<A: Ledger, B: Ledger, C: Ledger, W: ConnWrite + Drop> Writer<A, B, C, W> {
         }
     }
 
-    /// Takes an order.
-    fn take(&mut self, rt: &impl Wait, order: Order) {
-        match &order {
+    /// Takes an order. A writer that makes no more frames lets it go.
+    fn take(&mut self, rt: &impl Wait, order: Order)
+        ensures orders { self.new.orders ≡ self.old.orders }
+        ensures outlet { self.new.outlet ≡ self.old.outlet }
+        ensures writes { (before : Option (List ℕ)) (came : List Order) → Writes got W.contents W.failed before (orders_of came) self.old.outlet.told.amount self.old.frames
+            → Writes got W.contents W.failed before (orders_of (came ++ order ∷ [])) self.new.outlet.told.amount self.new.frames }
+    {
+        let Order { control, .. } = order;
+        match &control {
             Control::InputEnded => self.input_ended = true,
             Control::Close => self.closed = true,
             _ => {}
         }
+        if self.frames.standing() != Standing::Going {
+            return;
+        }
         let last = self.outlet.shared.last();
-        match self.frames.take(order, last) {
+        match self.frames.take(control, last) {
             Taking::Done => {}
             Taking::Ended(0) => {
                 self.failed = Some(ErrorCode::FlowControlError);
                 self.stop(rt);
             }
             Taking::Ended(id) => self.outlet.shared.book.lock(rt).cut(id),
-            Taking::Unanswered(_) | Taking::HandedBack(_) => self.stop(rt),
+            Taking::Unanswered(_) => self.stop(rt),
+            Taking::HandedBack(_) => {
+                self.frames.stop();
+                self.stop(rt);
+            }
         }
     }
 
     /// Owes the peer what credit is due.
-    fn announce(&mut self, rt: &impl Wait) {
+    fn announce(&mut self, rt: &impl Wait)
+        ensures orders { self.new.orders ≡ self.old.orders }
+        ensures parts { self.new.outlet.told.parts ≡ self.old.outlet.told.parts }
+        ensures writes { (before : Option (List ℕ)) (came : List OrderTaken) → Writes got W.contents W.failed before came self.old.outlet.told.amount self.old.frames
+            → Writes got W.contents W.failed before came self.new.outlet.told.amount self.new.frames }
+    {
         let Writer { outlet, frames, .. } = self;
         outlet.announce(rt, frames);
     }
 
     /// Writes what is in the buffer. The calls whose last frame is in it take no more DATA.
-    fn flush(&mut self, rt: &impl Wait) {
+    fn flush(&mut self, rt: &impl Wait)
+        ensures orders { self.new.orders ≡ self.old.orders }
+        ensures outlet { self.new.outlet ≡ self.old.outlet }
+        ensures writes { (before : Option (List ℕ)) (came : List OrderTaken) (told : ℕ) → Writes got W.contents W.failed before came told self.old.frames
+            → Writes got W.contents W.failed before came told self.new.frames }
+        ensures flushed { IsFlushed self.new.frames }
+    {
         {
             let outlet = &self.outlet;
             let mut book = outlet.shared.book.lock(rt);
@@ -124,7 +168,7 @@ impl<A: Ledger, B: Ledger, C: Ledger, W: ConnWrite + Drop> Writer<A, B, C, W> {
     }
 
     /// Whether nothing more can be written. Once the input has ended no window opens, so the calls that wait for one are cut.
-    fn has_ended(&mut self, rt: &impl Wait, filled: Filled) -> bool {
+    fn has_ended(&self, rt: &impl Wait, filled: Filled) -> bool {
         if filled == Filled::Stopped {
             self.stop(rt);
             return self.closed;
@@ -136,7 +180,7 @@ impl<A: Ledger, B: Ledger, C: Ledger, W: ConnWrite + Drop> Writer<A, B, C, W> {
     }
 
     /// Cuts the calls that wait for a window.
-    fn cut_held(&mut self, rt: &impl Wait) {
+    fn cut_held(&self, rt: &impl Wait) {
         let outlet = &self.outlet;
         let mut book = outlet.shared.book.lock(rt);
         for place in (0..MAX_LIVE).rev() {
@@ -149,12 +193,16 @@ impl<A: Ledger, B: Ledger, C: Ledger, W: ConnWrite + Drop> Writer<A, B, C, W> {
     }
 
     /// Nothing more is written: no call is live.
-    fn stop(&mut self, rt: &impl Wait) {
+    fn stop(&self, rt: &impl Wait) {
         self.outlet.shared.book.lock(rt).stop();
         self.outlet.shared.stop();
     }
 
-    fn ending(&self) -> Option<Ending> {
+    /// How the connection ended as far as the writer sees.
+    pub(crate) fn ending(&self) -> Option<Ending>
+        ensures broken { result ≡ Some ending.WriteFailed → self.now.frames.standing ≡ stands.Broken }
+        ensures memory { self.now.frames.standing ≡ stands.OutOfMemory → result ≡ Some ending.OutOfMemory }
+    {
         match self.frames.standing() {
             Standing::OutOfMemory => Some(Ending::OutOfMemory),
             Standing::Broken => Some(Ending::WriteFailed),

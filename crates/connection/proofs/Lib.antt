@@ -1,0 +1,3 @@
+pub mod HeardSteps
+pub mod ServedLemmas
+pub mod WrittenSteps

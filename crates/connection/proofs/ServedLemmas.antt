@@ -1,0 +1,113 @@
+-- What the reader and the writer of a connection know together, where they meet.
+use Rattle.std.proofs.Common.{◌≡◌, ◌≢◌, ◌∙◌, ◌⊎◌, inl, inr, ℕ, zero, suc, ◌+◌, ◌≤◌, Bool, true, false, arith, List, [], ◌∷◌, ◌++◌, Option, None, Some, ap, append_assoc, sym, refl, subst, filter, flat_map, map}
+use Rattle.std.proofs.lemmas.List.{append-nil, map-append}
+use Rattle.std.proofs.lemmas.List.Elements.{filter-append}
+use Rattle.std.proofs.lemmas.Grind.{flat_map-append}
+use Rattle.account.specs.Accounts.{Begins}
+use Rattle.h2frame.specs.declared.frame.Frame.{Frame}
+use Rattle.outwriter.specs.declared.control.Control.TheVariants.{Settings, Ping, Window, Open, Refuse, Reset, Goaway, InputEnded, Close}
+use Rattle.outwriter.specs.Runs.{IsLawful, due, due_by, told, granted, updated, without_goaway, is_goaway}
+use Rattle.outwriter.specs.Steps.{Step, Order, Taken, Granted, Written, order_of}
+use Rattle.connection.specs.declared.order.Order.{Order as OrderToWriter}
+use Rattle.connection.specs.Heard.{is_news, news_of}
+use Rattle.connection.specs.Orders.{IsOwn, Took, orders_of}
+use Rattle.connection.specs.Served.{orders_in}
+use Rattle.connection.specs.Written.{TookOf}
+
+without-append : (xs ys : List Frame) → without_goaway (xs ++ ys) ≡ without_goaway xs ++ without_goaway ys
+without-append xs ys = filter-append _ xs ys
+
+-- what was written of what is due begins it
+lawful-answers : (run : List Step) → IsLawful run → Begins (without_goaway (told run)) (without_goaway (due run))
+lawful-answers [] law = ([], refl)
+lawful-answers (Taken order ∷ before) law =
+    let first = lawful-answers before law in (
+      first.0 ++ without_goaway (due_by order),
+      without-append (due before) (due_by order) ∙ (ap (λ (all : List Frame). all ++ without_goaway (due_by order)) first.1 ∙ append_assoc (without_goaway (told before)) first.0 (without_goaway (due_by order))),
+    )
+lawful-answers (Granted id n ∷ before) law = lawful-answers before law
+lawful-answers (Written frame ∷ before) law = law.0.answers
+
+-- no more credit is told than was granted
+pub lawful-credit : (id : ℕ) (run : List Step) → IsLawful run → updated id run ≤ granted id run
+lawful-credit id [] law = omega arith
+lawful-credit id (Taken order ∷ before) law = let first = lawful-credit id before law in omega arith
+lawful-credit id (Granted stream n ∷ before) law = let first = lawful-credit id before law in omega arith
+lawful-credit id (Written frame ∷ before) law = let first = law.0.credit id in omega arith
+
+-- of an order that is no news nothing is to be acknowledged
+due-order : (order : Order) → without_goaway (due_by order) ≡ flat_map due_by (filter is_news (order ∷ []))
+due-order (Settings settings) = refl
+due-order (Ping bytes) = refl
+due-order (Window id increment) = refl
+due-order (Open id sender) = refl
+due-order (Refuse id fields) = refl
+due-order (Reset id code written) = refl
+due-order (Goaway last code) = refl
+due-order InputEnded = refl
+due-order Close = refl
+
+own-news : (order : Order) → IsOwn order → filter is_news (order ∷ []) ≡ []
+own-news (Settings settings) own = absurd own
+own-news (Ping bytes) own = absurd own
+own-news (Window id increment) own = absurd own
+own-news (Open id sender) own = absurd own
+own-news (Refuse id fields) own = absurd own
+own-news (Reset id code written) own = refl
+own-news (Goaway last code) own = refl
+own-news InputEnded own = absurd own
+own-news Close own = absurd own
+
+-- the news among a run's orders are those among the orders that came
+took-news : (run : List Step) (orders : List Order) → Took orders run → filter is_news (orders_in run) ≡ filter is_news orders
+took-news [] orders took = sym (ap (λ (all : List Order). filter is_news all) took)
+took-news (Taken order ∷ before) orders (inl (front, all, took)) =
+    filter-append is_news (orders_in before) (order ∷ [])
+    ∙ (ap (λ (first : List Order). first ++ filter is_news (order ∷ [])) (took-news before front took)
+    ∙ (sym (filter-append is_news front (order ∷ [])) ∙ ap (λ (found : List Order). filter is_news found) (sym all)))
+took-news (Taken order ∷ before) orders (inr (own, took)) =
+    filter-append is_news (orders_in before) (order ∷ [])
+    ∙ (ap (λ (last : List Order). filter is_news (orders_in before) ++ last) (own-news order own)
+    ∙ (append-nil (filter is_news (orders_in before)) ∙ took-news before orders took))
+took-news (Granted id n ∷ before) orders took = took-news before orders took
+took-news (Written frame ∷ before) orders took = took-news before orders took
+
+-- what is due are the acknowledgements of the news
+due-news : (run : List Step) → without_goaway (due run) ≡ flat_map due_by (filter is_news (orders_in run))
+due-news [] = refl
+due-news (Taken order ∷ before) =
+    without-append (due before) (due_by order)
+    ∙ (ap (λ (first : List Frame). first ++ without_goaway (due_by order)) (due-news before)
+    ∙ (ap (λ (last : List Frame). flat_map due_by (filter is_news (orders_in before)) ++ last) (due-order order)
+    ∙ (sym (flat_map-append due_by (filter is_news (orders_in before)) (filter is_news (order ∷ [])))
+    ∙ ap (λ (all : List Order). flat_map due_by all) (sym (filter-append is_news (orders_in before) (order ∷ []))))))
+due-news (Granted id n ∷ before) = due-news before
+due-news (Written frame ∷ before) = due-news before
+
+-- what the writer took begins what the reader put
+pub meet-news : (run : List Step) (came ahead put : List OrderToWriter) (all : List Order) → came ++ ahead ≡ put → TookOf (orders_of came) run → Begins (news_of put) all
+    → Begins (filter is_news (orders_in run)) all
+meet-news run came ahead put all meets took told = (
+  filter is_news took.1.0 ++ (news_of ahead ++ told.0),
+  told.1
+  ∙ (ap (λ (found : List OrderToWriter). news_of found ++ told.0) (sym meets)
+  ∙ (ap (λ (found : List Order). filter is_news found ++ told.0) (map-append (λ (order : OrderToWriter). order_of order.control) came ahead)
+  ∙ (ap (λ (found : List Order). found ++ told.0) (filter-append is_news (orders_of came) (orders_of ahead))
+  ∙ (ap (λ (found : List Order). (filter is_news found ++ news_of ahead) ++ told.0) took.1.1
+  ∙ (ap (λ (found : List Order). (found ++ news_of ahead) ++ told.0) (filter-append is_news took.0 took.1.0)
+  ∙ (ap (λ (found : List Order). ((found ++ filter is_news took.1.0) ++ news_of ahead) ++ told.0) (sym (took-news run took.0 took.2))
+  ∙ (append_assoc (filter is_news (orders_in run) ++ filter is_news took.1.0) (news_of ahead) told.0
+  ∙ append_assoc (filter is_news (orders_in run)) (filter is_news took.1.0) (news_of ahead ++ told.0)))))))),
+)
+
+-- and what is acknowledged begins what is to be
+pub meet-answers : (run : List Step) (all : List Order) → IsLawful run → Begins (filter is_news (orders_in run)) all
+    → Begins (without_goaway (told run)) (flat_map due_by all)
+meet-answers run all law first =
+    let answers = lawful-answers run law in (
+      answers.0 ++ flat_map due_by first.0,
+      ap (λ (found : List Order). flat_map due_by found) first.1
+      ∙ (flat_map-append due_by (filter is_news (orders_in run)) first.0
+      ∙ (ap (λ (found : List Frame). found ++ flat_map due_by first.0) (sym (due-news run) ∙ answers.1)
+      ∙ append_assoc (without_goaway (told run)) answers.0 (flat_map due_by first.0))),
+    )

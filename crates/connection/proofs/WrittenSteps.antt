@@ -1,0 +1,126 @@
+-- What each step of a connection's writer does to what it wrote.
+use Rattle.std.proofs.Common.{◌≡◌, ◌≢◌, ◌∙◌, ℕ, Bool, true, false, inl, inr, zero, suc, arith, List, [], ◌∷◌, ◌++◌, ◌+◌, Option, None, Some, ap, append_assoc, sym, refl, map, subst, nat_eq}
+use Rattle.std.proofs.lemmas.List.{append-nil, map-append}
+use Rattle.std.specs.Prelude.{◌==◌, if◌then◌else◌}
+use Rattle.account.specs.declared.call.OutItem.{OutItem}
+use Rattle.callbox.specs.declared.sender.Sender.{Sender}
+use Rattle.h2frame.specs.declared.frame.Frame.{Frame}
+use Rattle.outwriter.specs.declared.control.Control.{Control}
+use Rattle.outwriter.specs.Runs.{granted}
+use Rattle.outwriter.specs.Steps.{Step, Order, Taken, Granted, Written}
+use Rattle.connwriter.specs.declared.filled.Filled.{Filled}
+use Rattle.connwriter.specs.declared.filled.Filled.TheVariants.{Stopped}
+use Rattle.connwriter.specs.declared.standing.Standing.{Standing}
+use Rattle.connwriter.specs.declared.standing.Standing.TheVariants.{Going, OutOfMemory, Broken}
+use Rattle.connwriter.specs.declared.taking.Taking.{Taking}
+use Rattle.connwriter.specs.declared.taking.Taking.TheVariants.{Done, Ended, Unanswered, HandedBack}
+use Rattle.connwriter.specs.declared.writer.ConnWriter.{ConnWriter}
+use Rattle.connwriter.specs.Orders.{own_order, steps_of}
+use Rattle.connwriter.specs.Wrote.{Wrote, WritesOn, Fills}
+use Rattle.connection.specs.Orders.{IsOwn, Took}
+use Rattle.connection.specs.Written.{Writes}
+
+-- ---- orders and credit of a run
+
+took-own : (last id : ℕ) (orders : List Order) (run : List Step) → Took orders run → Took orders (Taken (own_order last id) ∷ run)
+took-own last zero orders run took = inr (refl, took)
+took-own last (suc id) orders run took = inr ((refl, refl), took)
+
+took-written : (frames : List Frame) (orders : List Order) (run : List Step) → Took orders run → Took orders (map Written frames ++ run)
+took-written [] orders run took = took
+took-written (frame ∷ frames) orders run took = took-written frames orders run took
+
+granted-written : (id : ℕ) (frames : List Frame) (run : List Step) → granted id (map Written frames ++ run) ≡ granted id run
+granted-written id [] run = refl
+granted-written id (frame ∷ frames) run = granted-written id frames run
+
+granted-more : (id n : ℕ) (run : List Step) → granted 0 (Granted id n ∷ run) ≡ granted 0 run + (if nat_eq id 0 then n else 0)
+granted-more zero n run = omega arith
+granted-more (suc id) n run = omega arith
+
+granted-own : (last id : ℕ) (order : Order) (run : List Step) → granted 0 (Taken (own_order last id) ∷ Taken order ∷ run) ≡ granted 0 run
+granted-own last id order run = refl
+
+was-going : (standing : Standing) → (standing ≢ Going → ⊥) → standing ≡ Going
+was-going Going no = refl
+was-going OutOfMemory no = absurd (no (λ e. cc))
+was-going Broken no = absurd (no (λ e. cc))
+
+module _ {L In Out Shut W : Type 0} (got : Out → List OutItem) (contents : W → Option (List ℕ)) (failed : W → Bool) (before : Option (List ℕ)) where
+  -- an order that came is taken
+  pub order-on : (came : List Order) (told : ℕ) (order : Order) (last : ℕ) (taking : Taking (Sender L In Out Shut)) (old new : ConnWriter L W In Out Shut)
+      → old.standing ≡ Going → ((control : Control (Sender L In Out Shut)) → taking ≢ HandedBack control) → WritesOn got contents failed (steps_of order last taking) old new
+      → Writes got contents failed before came told old → Writes got contents failed before (came ++ order ∷ []) told new
+  order-on came told order last Done old new going taken on w = record {
+    run = Taken order ∷ w.run;
+    wrote = on before w.run w.wrote;
+    orders = (came ++ order ∷ [], ([], sym (append-nil (came ++ order ∷ []))), inl (came, refl, w.all going));
+    all = λ still. inl (came, refl, w.all going);
+    credit = w.credit;
+  }
+  order-on came told order last (Unanswered id) old new going taken on w = record {
+    run = Taken order ∷ w.run;
+    wrote = on before w.run w.wrote;
+    orders = (came ++ order ∷ [], ([], sym (append-nil (came ++ order ∷ []))), inl (came, refl, w.all going));
+    all = λ still. inl (came, refl, w.all going);
+    credit = w.credit;
+  }
+  order-on came told order last (Ended id) old new going taken on w =
+      let took = took-own last id (came ++ order ∷ []) (Taken order ∷ w.run) (inl (came, refl, w.all going)) in
+      record {
+        run = Taken (own_order last id) ∷ Taken order ∷ w.run;
+        wrote = on before w.run w.wrote;
+        orders = (came ++ order ∷ [], ([], sym (append-nil (came ++ order ∷ []))), took);
+        all = λ still. took;
+        credit = granted-own last id order w.run ∙ w.credit;
+      }
+  order-on came told order last (HandedBack control) old new going taken on w = absurd (taken control refl)
+
+  -- an order that came isn't taken, and the writer goes on no more
+  pub order-lost : (came : List Order) (told : ℕ) (order : Order) (old new : ConnWriter L W In Out Shut) → new.standing ≢ Going
+      → WritesOn got contents failed [] old new → Writes got contents failed before came told old → Writes got contents failed before (came ++ order ∷ []) told new
+  order-lost came told order old new stopped on w = record {
+    run = w.run;
+    wrote = on before w.run w.wrote;
+    orders = (w.orders.0, (w.orders.1.0 ++ order ∷ [], ap (λ (all : List Order). all ++ order ∷ []) w.orders.1.1 ∙ append_assoc w.orders.0 w.orders.1.0 (order ∷ [])), w.orders.2);
+    all = λ going. absurd (stopped going);
+    credit = w.credit;
+  }
+
+  -- credit is granted, and counted
+  pub credit-on : (came : List Order) (told id n : ℕ) (old new : ConnWriter L W In Out Shut) → new.standing ≡ old.standing
+      → WritesOn got contents failed (Granted id n ∷ []) old new → Writes got contents failed before came told old
+      → Writes got contents failed before came (told + (if nat_eq id 0 then n else 0)) new
+  credit-on came told id n old new stands on w = record {
+    run = Granted id n ∷ w.run;
+    wrote = on before w.run w.wrote;
+    orders = w.orders;
+    all = λ going. w.all (sym stands ∙ going);
+    credit = granted-more id n w.run ∙ ap (λ (all : ℕ). all + (if nat_eq id 0 then n else 0)) w.credit;
+  }
+
+  -- frames are put into the buffer
+  pub filled-on : (ahead : Out → List OutItem) (filled : Option Filled) (came : List Order) (told : ℕ) (old new : ConnWriter L W In Out Shut)
+      → Fills got ahead contents failed filled old new → (old.standing ≢ Going → new ≡ old) → Writes got contents failed before came told old
+      → Writes got contents failed before came told new
+  filled-on ahead filled came told old new fills still w =
+      let found = fills before w.run w.wrote in
+      record {
+        run = map Written found.0 ++ w.run;
+        wrote = found.1;
+        orders = (w.orders.0, w.orders.1, took-written found.0 w.orders.0 w.run w.orders.2);
+        all = λ going. took-written found.0 came w.run
+            (w.all (was-going old.standing (λ not_going. not_going (sym (ap (λ (writer : ConnWriter L W In Out Shut). writer.standing) (still not_going)) ∙ going))));
+        credit = granted-written 0 found.0 w.run ∙ w.credit;
+      }
+
+  -- nothing is a step of the run
+  pub still-on : (came : List Order) (told : ℕ) (old new : ConnWriter L W In Out Shut) → (new.standing ≡ Going → old.standing ≡ Going)
+      → WritesOn got contents failed [] old new → Writes got contents failed before came told old → Writes got contents failed before came told new
+  still-on came told old new stands on w = record {
+    run = w.run;
+    wrote = on before w.run w.wrote;
+    orders = w.orders;
+    all = λ going. w.all (stands going);
+    credit = w.credit;
+  }
