@@ -1,5 +1,5 @@
 -- What each step of a connection's writer does to what it wrote.
-use Rattle.std.proofs.Common.{◌≡◌, ◌≢◌, ◌∙◌, ℕ, Bool, true, false, inl, inr, zero, suc, arith, List, [], ◌∷◌, ◌++◌, ◌+◌, Option, None, Some, ap, append_assoc, sym, refl, map, subst, nat_eq}
+use Rattle.std.proofs.Common.{◌≡◌, ◌≢◌, ◌∙◌, ℕ, Bool, true, false, inl, inr, zero, suc, arith, length, List, [], ◌∷◌, ◌++◌, ◌+◌, Option, None, Some, ap, append_assoc, sym, refl, map, subst, nat_eq}
 use Rattle.std.proofs.lemmas.List.{append-nil, map-append}
 use Rattle.std.specs.Prelude.{◌==◌, if◌then◌else◌}
 use Rattle.account.specs.declared.call.OutItem.{OutItem}
@@ -7,7 +7,9 @@ use Rattle.callbox.specs.declared.sender.Sender.{Sender}
 use Rattle.h2frame.specs.declared.frame.Frame.{Frame}
 use Rattle.outwriter.specs.declared.control.Control.{Control}
 use Rattle.outwriter.specs.Runs.{granted}
-use Rattle.outwriter.specs.Steps.{Step, Order, Taken, Granted, Written}
+use Rattle.outwriter.specs.Cores.{IsUnused}
+use Rattle.outwriter.specs.declared.control.Control.TheVariants.{Settings, Ping, Window, Open, Refuse, Reset, Goaway, InputEnded, Close}
+use Rattle.outwriter.specs.Steps.{Step, Order, Taken, Granted, Written, order_of}
 use Rattle.connwriter.specs.declared.filled.Filled.{Filled}
 use Rattle.connwriter.specs.declared.filled.Filled.TheVariants.{Stopped}
 use Rattle.connwriter.specs.declared.standing.Standing.{Standing}
@@ -17,10 +19,31 @@ use Rattle.connwriter.specs.declared.taking.Taking.TheVariants.{Done, Ended, Una
 use Rattle.connwriter.specs.declared.writer.ConnWriter.{ConnWriter}
 use Rattle.connwriter.specs.Orders.{own_order, steps_of}
 use Rattle.connwriter.specs.Wrote.{Wrote, WritesOn, Fills}
-use Rattle.connection.specs.Orders.{IsOwn, Took}
+use Rattle.connection.specs.declared.order.Order.{Order as OrderToWriter}
+use Rattle.connection.specs.Orders.{IsOwn, Took, orders_of}
+use Rattle.connection.specs.Unused.{got_before}
 use Rattle.connection.specs.Written.{Writes}
 
 -- ---- orders and credit of a run
+
+orders-more : (came : List OrderToWriter) (order : OrderToWriter) → orders_of (came ++ order ∷ []) ≡ orders_of came ++ order_of order.control ∷ []
+orders-more came order = map-append (λ (found : OrderToWriter). order_of found.control) came (order ∷ [])
+
+none-got : {A : Type 0} (items : List A) → length items ≡ 0 → items ≡ []
+none-got [] none = refl
+none-got (item ∷ items) none = cc
+
+-- nothing was got of the sender that an order brings
+pub unused-of : {L In Out Shut : Type 0} (got : Out → List OutItem) (control : Control (Sender L In Out Shut)) → got_before got control ≡ 0 → IsUnused got control
+unused-of got (Open id sender) none = none-got (got sender.rx) none
+unused-of got (Settings settings) none = tt
+unused-of got (Ping bytes) none = tt
+unused-of got (Window id increment) none = tt
+unused-of got (Refuse id fields) none = tt
+unused-of got (Reset id code written) none = tt
+unused-of got (Goaway last code) none = tt
+unused-of got InputEnded none = tt
+unused-of got Close none = tt
 
 took-own : (last id : ℕ) (orders : List Order) (run : List Step) → Took orders run → Took orders (Taken (own_order last id) ∷ run)
 took-own last zero orders run took = inr (refl, took)
@@ -87,6 +110,19 @@ module _ {L In Out Shut W : Type 0} (got : Out → List OutItem) (contents : W �
     credit = w.credit;
   }
 
+  pub order-taken : (came : List OrderToWriter) (told : ℕ) (order : OrderToWriter) (last : ℕ) (taking : Taking (Sender L In Out Shut)) (old new : ConnWriter L W In Out Shut)
+      → old.standing ≡ Going → ((control : Control (Sender L In Out Shut)) → taking ≢ HandedBack control) → WritesOn got contents failed (steps_of (order_of order.control) last taking) old new
+      → Writes got contents failed before (orders_of came) told old → Writes got contents failed before (orders_of (came ++ order ∷ [])) told new
+  order-taken came told order last taking old new going taken on w =
+      subst (λ (all : List Order). Writes got contents failed before all told new) (sym (orders-more came order))
+      (order-on (orders_of came) told (order_of order.control) last taking old new going taken on w)
+
+  pub order-dropped : (came : List OrderToWriter) (told : ℕ) (order : OrderToWriter) (old new : ConnWriter L W In Out Shut) → new.standing ≢ Going
+      → WritesOn got contents failed [] old new → Writes got contents failed before (orders_of came) told old → Writes got contents failed before (orders_of (came ++ order ∷ [])) told new
+  order-dropped came told order old new stopped on w =
+      subst (λ (all : List Order). Writes got contents failed before all told new) (sym (orders-more came order))
+      (order-lost (orders_of came) told (order_of order.control) old new stopped on w)
+
   -- credit is granted, and counted
   pub credit-on : (came : List Order) (told id n : ℕ) (old new : ConnWriter L W In Out Shut) → new.standing ≡ old.standing
       → WritesOn got contents failed (Granted id n ∷ []) old new → Writes got contents failed before came told old
@@ -98,6 +134,12 @@ module _ {L In Out Shut W : Type 0} (got : Out → List OutItem) (contents : W �
     all = λ going. w.all (sym stands ∙ going);
     credit = granted-more id n w.run ∙ ap (λ (all : ℕ). all + (if nat_eq id 0 then n else 0)) w.credit;
   }
+
+  -- none is due
+  pub credit-none : (came : List Order) (told id : ℕ) (writer : ConnWriter L W In Out Shut) → Writes got contents failed before came told writer
+      → Writes got contents failed before came (told + (if nat_eq id 0 then 0 else 0)) writer
+  credit-none came told zero writer w = subst (λ (all : ℕ). Writes got contents failed before came all writer) (omega arith) w
+  credit-none came told (suc id) writer w = subst (λ (all : ℕ). Writes got contents failed before came all writer) (omega arith) w
 
   -- frames are put into the buffer
   pub filled-on : (ahead : Out → List OutItem) (filled : Option Filled) (came : List Order) (told : ℕ) (old new : ConnWriter L W In Out Shut)

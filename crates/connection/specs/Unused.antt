@@ -1,5 +1,5 @@
 -- Senders of which nothing was got.
-use Rattle.std.specs.Prelude.{ℕ, length}
+use Rattle.std.specs.Prelude.{ℕ, List, length}
 use Rattle.account.specs.declared.call.OutItem.{OutItem}
 use Rattle.callbox.specs.declared.sender.Sender.{Sender}
 use Rattle.outwriter.specs.declared.control.Control.{Control}

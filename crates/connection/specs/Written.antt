@@ -1,5 +1,5 @@
 -- What the writer of a connection wrote: the frames of a lawful run of its core, as far as they went out.
-use Rattle.std.specs.Prelude.{◌≡◌, ◌≢◌, ℕ, Bool, true, false, List, map, Option, None, Some}
+use Rattle.std.specs.Prelude.{◌≡◌, ◌≢◌, ℕ, Bool, true, false, List, [], map, Option, None, Some}
 use Rattle.account.specs.Accounts.{Begins}
 use Rattle.account.specs.declared.call.OutItem.{OutItem}
 use Rattle.outwriter.specs.Runs.{IsLawful, granted}

@@ -51,9 +51,11 @@ impl<A: Ledger, B: Ledger, C: Ledger> Orders<A, B, C> {
         ensures none { self.new.lost ≡ true → news_of (put_in self.new.ring) ≡ news_of (put_in self.old.ring) }
         ensures lost { self.old.lost ≡ true → self.new.lost ≡ true }
     {
-        if !self.lost && !self.offer(rt, Order::new(order_of(control))) {
-            self.lost = true;
+        if self.lost {
+            return;
         }
+        let is_put = self.offer(rt, Order::new(order_of(control)));
+        self.lost = !is_put;
     }
 
     /// Orders a stream to be reset; `written` where the peer is to be told.

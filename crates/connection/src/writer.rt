@@ -47,7 +47,7 @@ impl<A: Ledger, B: Ledger, C: Ledger, W: ConnWrite + Drop> Writer<A, B, C, W> {
         ensures flushed { IsFlushed result.frames }
     {
         let mut writer = self;
-        for _ in rt.forever() {
+        'turns: for _ in rt.forever() {
             if writer.turn(rt) {
                 break;
             }
@@ -55,20 +55,13 @@ impl<A: Ledger, B: Ledger, C: Ledger, W: ConnWrite + Drop> Writer<A, B, C, W> {
         writer
     }
 
-    /// Takes what orders wait, writes what can be written, and waits where that is nothing. Whether no more is to be written.
+    /// Writes what can be written, and waits where that is nothing. Whether no more is to be written.
     fn turn(&mut self, rt: &impl Wait) -> bool
         ensures later { IsLater W.contents W.failed self.old self.new }
         ensures flushed { IsFlushed self.new.frames }
     {
         let mark = self.outlet.shared.writer.mark();
-        self.drain(rt);
-        self.announce(rt);
-        let filled = self.frames.fill();
-        let is_silent = self.frames.is_flushed();
-        if !is_silent {
-            self.outlet.shared.room.ring();
-        }
-        self.flush(rt);
+        let (filled, is_silent) = self.write_once(rt);
         match filled {
             Filled::Over => return true,
             Filled::Full => {}
@@ -85,6 +78,22 @@ impl<A: Ledger, B: Ledger, C: Ledger, W: ConnWrite + Drop> Writer<A, B, C, W> {
             }
         }
         false
+    }
+
+    /// Takes what orders wait, and writes a buffer's worth of frames. Why there aren't more, and whether there was none.
+    fn write_once(&mut self, rt: &impl Wait) -> (Filled, bool)
+        ensures later { IsLater W.contents W.failed self.old self.new }
+        ensures flushed { IsFlushed self.new.frames }
+    {
+        self.drain(rt);
+        self.announce(rt);
+        let filled = self.frames.fill();
+        let is_silent = self.frames.is_flushed();
+        if !is_silent {
+            self.outlet.shared.room.ring();
+        }
+        self.flush(rt);
+        (filled, is_silent)
     }
 
     /// Takes all orders that wait.
@@ -162,8 +171,9 @@ impl<A: Ledger, B: Ledger, C: Ledger, W: ConnWrite + Drop> Writer<A, B, C, W> {
                 book.end_local(*id);
             }
         }
-        if self.frames.flush().is_err() {
-            self.stop(rt);
+        match self.frames.flush() {
+            Ok(()) => {}
+            Err(_fault) => self.stop(rt),
         }
     }
 
