@@ -39,8 +39,11 @@ pub heeds-told : (given : List InEvent) (control : PeerControl) (old new : List 
     → Heeds given old was came → Heeds (given ++ events.Control control ∷ []) new lost came
 heeds-told given control old new true true came told none stays h = record {
   hears = record {
-    told = (h.hears.told.0 ++ news_told control ∷ [], news-more given (events.Control control) ∙ (ap (λ (all : List Order). all ++ news_told control ∷ []) (h.hears.told.1 ∙ ap (λ (first : List Order). first ++ h.hears.told.0) (sym (none refl)))
-        ∙ append_assoc (news_of new) h.hears.told.0 (news_told control ∷ [])));
+    told = (
+      h.hears.told.0 ++ news_told control ∷ [],
+      news-more given (events.Control control) ∙ (ap (λ (all : List Order). all ++ news_told control ∷ []) (h.hears.told.1 ∙ ap (λ (first : List Order). first ++ h.hears.told.0) (sym (none refl)))
+          ∙ append_assoc (news_of new) h.hears.told.0 (news_told control ∷ [])),
+    );
     counted = let all = payload-more given (events.Control control) in let before = h.hears.counted in omega arith;
   };
   all = λ kept. absurd (true≢false kept);
@@ -48,8 +51,11 @@ heeds-told given control old new true true came told none stays h = record {
 heeds-told given control old new true false came told none stays h = absurd (true≢false (sym (stays refl)))
 heeds-told given control old new false true came told none stays h = record {
   hears = record {
-    told = (h.hears.told.0 ++ news_told control ∷ [], news-more given (events.Control control) ∙ (ap (λ (all : List Order). all ++ news_told control ∷ []) (h.hears.told.1 ∙ ap (λ (first : List Order). first ++ h.hears.told.0) (sym (none refl)))
-        ∙ append_assoc (news_of new) h.hears.told.0 (news_told control ∷ [])));
+    told = (
+      h.hears.told.0 ++ news_told control ∷ [],
+      news-more given (events.Control control) ∙ (ap (λ (all : List Order). all ++ news_told control ∷ []) (h.hears.told.1 ∙ ap (λ (first : List Order). first ++ h.hears.told.0) (sym (none refl)))
+          ∙ append_assoc (news_of new) h.hears.told.0 (news_told control ∷ [])),
+    );
     counted = let all = payload-more given (events.Control control) in let before = h.hears.counted in omega arith;
   };
   all = λ kept. absurd (true≢false kept);

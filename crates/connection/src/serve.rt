@@ -165,10 +165,7 @@ where
         mut calls,
     } = intake;
     let Outlet { mut told, .. } = outlet;
-    shared
-        .book
-        .lock(rt)
-        .audit(&mut came, &mut calls, &mut told);
+    shared.book.lock(rt).audit(&mut came, &mut calls, &mut told);
     let (_senders, device) = frames.into_parts();
     Served {
         ending,
