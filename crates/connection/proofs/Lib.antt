@@ -1,3 +1,4 @@
 pub mod HeardSteps
+pub mod LaterSteps
 pub mod ServedLemmas
 pub mod WrittenSteps

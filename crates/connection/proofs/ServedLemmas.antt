@@ -6,7 +6,8 @@ use Rattle.std.proofs.lemmas.Grind.{flat_map-append}
 use Rattle.account.specs.Accounts.{Begins}
 use Rattle.h2frame.specs.declared.frame.Frame.{Frame}
 use Rattle.outwriter.specs.declared.control.Control.TheVariants.{Settings, Ping, Window, Open, Refuse, Reset, Goaway, InputEnded, Close}
-use Rattle.outwriter.specs.Runs.{IsLawful, due, due_by, told, granted, updated, without_goaway, is_goaway}
+use Rattle.outwriter.specs.Frames.{update_on}
+use Rattle.outwriter.specs.Runs.{IsLawful, due, due_by, told, granted, granted_by, updated, without_goaway, is_goaway}
 use Rattle.outwriter.specs.Steps.{Step, Order, Taken, Granted, Written, order_of, frames_of}
 use Rattle.account.specs.declared.call.OutItem.{OutItem}
 use Rattle.connwriter.specs.declared.standing.Standing.{Standing}
@@ -35,12 +36,21 @@ lawful-answers (Taken order ∷ before) law =
 lawful-answers (Granted id n ∷ before) law = lawful-answers before law
 lawful-answers (Written frame ∷ before) law = law.0.answers
 
+less-more : (a b more : ℕ) → a ≤ b → a ≤ more + b
+less-more a b more less = omega arith
+
+less-turned : (a b c : ℕ) → a + b ≤ c → b + a ≤ c
+less-turned a b c less = omega arith
+
+none-less : 0 ≤ 0
+none-less = omega arith
+
 -- no more credit is told than was granted
 pub lawful-credit : (id : ℕ) (run : List Step) → IsLawful run → updated id run ≤ granted id run
-lawful-credit id [] law = omega arith
-lawful-credit id (Taken order ∷ before) law = let first = lawful-credit id before law in omega arith
-lawful-credit id (Granted stream n ∷ before) law = let first = lawful-credit id before law in omega arith
-lawful-credit id (Written frame ∷ before) law = let first = law.0.credit id in omega arith
+lawful-credit id [] law = none-less
+lawful-credit id (Taken order ∷ before) law = lawful-credit id before law
+lawful-credit id (Granted stream n ∷ before) law = less-more (updated id before) (granted id before) (granted_by id (Granted stream n)) (lawful-credit id before law)
+lawful-credit id (Written frame ∷ before) law = less-turned (updated id before) (update_on id frame) (granted id before) (law.0.credit id)
 
 -- of an order that is no news nothing is to be acknowledged
 due-order : (order : Order) → without_goaway (due_by order) ≡ flat_map due_by (filter is_news (order ∷ []))

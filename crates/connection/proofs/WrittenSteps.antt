@@ -1,5 +1,8 @@
 -- What each step of a connection's writer does to what it wrote.
-use Rattle.std.proofs.Common.{◌≡◌, ◌≢◌, ◌∙◌, ℕ, Bool, true, false, inl, inr, zero, suc, arith, length, List, [], ◌∷◌, ◌++◌, ◌+◌, Option, None, Some, ap, append_assoc, sym, refl, map, subst, nat_eq}
+use Rattle.std.proofs.Common.{◌≡◌, ◌≢◌, ◌∙◌, ℕ, Bool, true, false, inl, inr, zero, suc, arith, length, List, [], ◌∷◌, ◌++◌, ◌+◌, Option, None, Some, ap, append_assoc, sym, refl, map, subst, nat_eq, true≢false, Result, Ok, Err, OnOk, OnErr}
+use Rattle.std.proofs.Math.Nat.{add_comm}
+use Rattle.std.proofs.lemmas.Bool.Decides.{nat_tests}
+use Rattle.h2frame.specs.declared.error_code.ErrorCode.TheVariants.{FlowControlError}
 use Rattle.std.proofs.lemmas.List.{append-nil, map-append}
 use Rattle.std.specs.Prelude.{◌==◌, if◌then◌else◌}
 use Rattle.account.specs.declared.call.OutItem.{OutItem}
@@ -26,7 +29,7 @@ use Rattle.connection.specs.Written.{Writes}
 
 -- ---- orders and credit of a run
 
-orders-more : (came : List OrderToWriter) (order : OrderToWriter) → orders_of (came ++ order ∷ []) ≡ orders_of came ++ order_of order.control ∷ []
+pub orders-more : (came : List OrderToWriter) (order : OrderToWriter) → orders_of (came ++ order ∷ []) ≡ orders_of came ++ order_of order.control ∷ []
 orders-more came order = map-append (λ (found : OrderToWriter). order_of found.control) came (order ∷ [])
 
 none-got : {A : Type 0} (items : List A) → length items ≡ 0 → items ≡ []
@@ -45,9 +48,12 @@ unused-of got (Goaway last code) none = tt
 unused-of got InputEnded none = tt
 unused-of got Close none = tt
 
+own : (stands : Bool) (last id : ℕ) → IsOwn (if stands then Goaway last FlowControlError else Reset id FlowControlError true)
+own true last id = refl
+own false last id = (refl, refl)
+
 took-own : (last id : ℕ) (orders : List Order) (run : List Step) → Took orders run → Took orders (Taken (own_order last id) ∷ run)
-took-own last zero orders run took = inr (refl, took)
-took-own last (suc id) orders run took = inr ((refl, refl), took)
+took-own last id orders run took = inr (own (id == 0) last id, took)
 
 took-written : (frames : List Frame) (orders : List Order) (run : List Step) → Took orders run → Took orders (map Written frames ++ run)
 took-written [] orders run took = took
@@ -57,17 +63,36 @@ granted-written : (id : ℕ) (frames : List Frame) (run : List Step) → granted
 granted-written id [] run = refl
 granted-written id (frame ∷ frames) run = granted-written id frames run
 
+granted-by : (one other : Bool) (n rest : ℕ) → one ≡ other → (if one then n else 0) + rest ≡ rest + (if other then n else 0)
+granted-by true true n rest e = add_comm n rest
+granted-by true false n rest e = absurd (true≢false e)
+granted-by false true n rest e = absurd (true≢false (sym e))
+granted-by false false n rest e = add_comm 0 rest
+
+turned : (id : ℕ) → (0 == id) ≡ nat_eq id 0
+turned id = grind (arith, nat_tests)
+
 granted-more : (id n : ℕ) (run : List Step) → granted 0 (Granted id n ∷ run) ≡ granted 0 run + (if nat_eq id 0 then n else 0)
-granted-more zero n run = omega arith
-granted-more (suc id) n run = omega arith
+granted-more id n run = granted-by (0 == id) (nat_eq id 0) n (granted 0 run) (turned id)
+
+plus-none : (n : ℕ) → n ≡ n + 0
+plus-none n = omega arith
+
+none-more : (stands : Bool) (n : ℕ) → n ≡ n + (if stands then 0 else 0)
+none-more true n = plus-none n
+none-more false n = plus-none n
 
 granted-own : (last id : ℕ) (order : Order) (run : List Step) → granted 0 (Taken (own_order last id) ∷ Taken order ∷ run) ≡ granted 0 run
 granted-own last id order run = refl
 
 was-going : (standing : Standing) → (standing ≢ Going → ⊥) → standing ≡ Going
-was-going Going no = refl
-was-going OutOfMemory no = absurd (no (λ e. cc))
-was-going Broken no = absurd (no (λ e. cc))
+was-going Going never = refl
+was-going OutOfMemory never = absurd (never (λ e. cc))
+was-going Broken never = absurd (never (λ e. cc))
+
+went-on : {T E : Type 0} (result : Result T E) (old new : Standing) → OnOk result (new ≡ old) → OnErr result (new ≡ Broken) → new ≡ Going → old ≡ Going
+went-on (Ok done) old new ok err going = sym ok ∙ going
+went-on (Err fault) old new ok err going = let broken = sym err ∙ going in cc
 
 module _ {L In Out Shut W : Type 0} (got : Out → List OutItem) (contents : W → Option (List ℕ)) (failed : W → Bool) (before : Option (List ℕ)) where
   -- an order that came is taken
@@ -110,19 +135,6 @@ module _ {L In Out Shut W : Type 0} (got : Out → List OutItem) (contents : W �
     credit = w.credit;
   }
 
-  pub order-taken : (came : List OrderToWriter) (told : ℕ) (order : OrderToWriter) (last : ℕ) (taking : Taking (Sender L In Out Shut)) (old new : ConnWriter L W In Out Shut)
-      → old.standing ≡ Going → ((control : Control (Sender L In Out Shut)) → taking ≢ HandedBack control) → WritesOn got contents failed (steps_of (order_of order.control) last taking) old new
-      → Writes got contents failed before (orders_of came) told old → Writes got contents failed before (orders_of (came ++ order ∷ [])) told new
-  order-taken came told order last taking old new going taken on w =
-      subst (λ (all : List Order). Writes got contents failed before all told new) (sym (orders-more came order))
-      (order-on (orders_of came) told (order_of order.control) last taking old new going taken on w)
-
-  pub order-dropped : (came : List OrderToWriter) (told : ℕ) (order : OrderToWriter) (old new : ConnWriter L W In Out Shut) → new.standing ≢ Going
-      → WritesOn got contents failed [] old new → Writes got contents failed before (orders_of came) told old → Writes got contents failed before (orders_of (came ++ order ∷ [])) told new
-  order-dropped came told order old new stopped on w =
-      subst (λ (all : List Order). Writes got contents failed before all told new) (sym (orders-more came order))
-      (order-lost (orders_of came) told (order_of order.control) old new stopped on w)
-
   -- credit is granted, and counted
   pub credit-on : (came : List Order) (told id n : ℕ) (old new : ConnWriter L W In Out Shut) → new.standing ≡ old.standing
       → WritesOn got contents failed (Granted id n ∷ []) old new → Writes got contents failed before came told old
@@ -138,8 +150,7 @@ module _ {L In Out Shut W : Type 0} (got : Out → List OutItem) (contents : W �
   -- none is due
   pub credit-none : (came : List Order) (told id : ℕ) (writer : ConnWriter L W In Out Shut) → Writes got contents failed before came told writer
       → Writes got contents failed before came (told + (if nat_eq id 0 then 0 else 0)) writer
-  credit-none came told zero writer w = subst (λ (all : ℕ). Writes got contents failed before came all writer) (omega arith) w
-  credit-none came told (suc id) writer w = subst (λ (all : ℕ). Writes got contents failed before came all writer) (omega arith) w
+  credit-none came told id writer w = subst (λ (all : ℕ). Writes got contents failed before came all writer) (none-more (nat_eq id 0) told) w
 
   -- frames are put into the buffer
   pub filled-on : (ahead : Out → List OutItem) (filled : Option Filled) (came : List Order) (told : ℕ) (old new : ConnWriter L W In Out Shut)
@@ -155,6 +166,17 @@ module _ {L In Out Shut W : Type 0} (got : Out → List OutItem) (contents : W �
             (w.all (was-going old.standing (λ not_going. not_going (sym (ap (λ (writer : ConnWriter L W In Out Shut). writer.standing) (still not_going)) ∙ going))));
         credit = granted-written 0 found.0 w.run ∙ w.credit;
       }
+
+  -- the buffer is written, or a write fails
+  pub flush-on : {T E : Type 0} (result : Result T E) (came : List Order) (told : ℕ) (old new : ConnWriter L W In Out Shut) → OnOk result (new.standing ≡ old.standing) → OnErr result (new.standing ≡ Broken)
+      → WritesOn got contents failed [] old new → Writes got contents failed before came told old → Writes got contents failed before came told new
+  flush-on result came told old new ok err on w = record {
+    run = w.run;
+    wrote = on before w.run w.wrote;
+    orders = w.orders;
+    all = λ going. w.all (went-on result old.standing new.standing ok err going);
+    credit = w.credit;
+  }
 
   -- nothing is a step of the run
   pub still-on : (came : List Order) (told : ℕ) (old new : ConnWriter L W In Out Shut) → (new.standing ≡ Going → old.standing ≡ Going)

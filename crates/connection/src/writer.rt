@@ -2,14 +2,15 @@
 
 ghost use Rattle.std.specs.Prelude.{◌≡◌, ◌≢◌, ◌+◌, ℕ, List, Option, Some, true, [], ◌∷◌, ◌++◌, map};
 ghost use Rattle.lane.specs.RingLane.{got};
-ghost use Rattle.outwriter.specs.Steps.{Order as OrderTaken};
+ghost use Rattle.outwriter.specs.Steps.{Order as OrderTaken, order_of};
+ghost use Rattle.connection.specs.Unused.{got_before};
 ghost use Rattle.connwriter.specs.declared.standing.Standing.TheVariants as stands;
 ghost use Rattle.connection.specs.declared.report.Ending.TheVariants as ending;
 ghost use Rattle.connection.specs.Orders.{orders_of};
 ghost use Rattle.connection.specs.Written.{IsFlushed, Writes};
 ghost use Rattle.connection.specs.Later.{IsLater};
 
-use crate::order::Order;
+use crate::order::{Order, OrderOf};
 use crate::outlet::Outlet;
 use crate::report::Ending;
 use crate::slot::OutLane;
@@ -106,29 +107,50 @@ impl<A: Ledger, B: Ledger, C: Ledger, W: ConnWrite + Drop> Writer<A, B, C, W> {
                 break;
             };
             some = true;
-            self.take(rt, order);
+            self.accept(rt, order);
         }
         if some {
             self.outlet.shared.reader.ring();
         }
     }
 
-    /// Takes an order. A writer that makes no more frames lets it go.
-    fn take(&mut self, rt: &impl Wait, order: Order)
+    /// Accepts an order. A writer that makes no more frames lets it go.
+    fn accept(&mut self, rt: &impl Wait, order: Order)
         ensures orders { self.new.orders ≡ self.old.orders }
         ensures outlet { self.new.outlet ≡ self.old.outlet }
-        ensures writes { (before : Option (List ℕ)) (came : List Order) → Writes got W.contents W.failed before (orders_of came) self.old.outlet.told.amount self.old.frames
-            → Writes got W.contents W.failed before (orders_of (came ++ order ∷ [])) self.new.outlet.told.amount self.new.frames }
+        ensures writes { (before : Option (List ℕ)) (came : List OrderTaken) (told : ℕ) → Writes got W.contents W.failed before came told self.old.frames
+            → Writes got W.contents W.failed before (came ++ order_of order.control ∷ []) told self.new.frames }
     {
         let Order { control, .. } = order;
-        match &control {
+        self.note(&control);
+        if self.frames.standing() != Standing::Going {
+            return;
+        }
+        self.give(rt, control);
+    }
+
+    /// Keeps in mind what ends.
+    fn note(&mut self, control: &OrderOf)
+        ensures orders { self.new.orders ≡ self.old.orders }
+        ensures outlet { self.new.outlet ≡ self.old.outlet }
+        ensures frames { self.new.frames ≡ self.old.frames }
+    {
+        match control {
             Control::InputEnded => self.input_ended = true,
             Control::Close => self.closed = true,
             _ => {}
         }
-        if self.frames.standing() != Standing::Going {
-            return;
-        }
+    }
+
+    /// Gives an order to the core. One that it can't take stops the writer.
+    fn give(&mut self, rt: &impl Wait, control: OrderOf)
+        requires going { self.old.frames.standing ≡ stands.Going }
+        requires unused { got_before got control ≡ 0 }
+        ensures orders { self.new.orders ≡ self.old.orders }
+        ensures outlet { self.new.outlet ≡ self.old.outlet }
+        ensures writes { (before : Option (List ℕ)) (came : List OrderTaken) (told : ℕ) → Writes got W.contents W.failed before came told self.old.frames
+            → Writes got W.contents W.failed before (came ++ order_of control ∷ []) told self.new.frames }
+    {
         let last = self.outlet.shared.last();
         match self.frames.take(control, last) {
             Taking::Done => {}
