@@ -1,24 +1,61 @@
 -- What each event does to what a connection's reader made of what it read.
-use Rattle.std.proofs.Common.{◌≡◌, ◌∙◌, ℕ, ◌+◌, ◌≤◌, Bool, true, false, true≢false, arith, List, [], ◌∷◌, ◌++◌, Option, None, Some, ap, append_assoc, sym, refl, subst}
+use Rattle.std.proofs.Common.{◌≡◌, ◌∙◌, ℕ, ◌+◌, ◌≤◌, Bool, true, false, true≢false, arith, List, [], ◌∷◌, ◌++◌, Option, None, Some, ap, append_assoc, sym, refl, subst, filter, not}
 use Rattle.std.proofs.lemmas.List.{append-nil}
 use Rattle.std.proofs.lemmas.List.Sums.{sum_by-append, sum_by_push}
 use Rattle.std.proofs.lemmas.Grind.{flat_map-append}
+use Rattle.std.proofs.lemmas.List.Elements.{filter-append}
 use Rattle.std.specs.Io.KnownBytes.{Consumes}
 use Rattle.account.specs.Accounts.{Begins}
-use Rattle.outwriter.specs.Steps.{Order}
+use Rattle.outwriter.specs.Steps.{Order, order_of}
 use Rattle.session.specs.declared.event.Control.{Control as PeerControl}
 use Rattle.session.specs.declared.event.InEvent.{InEvent}
 use Rattle.session.specs.declared.event.InEvent.TheVariants as events
 use Rattle.session.specs.CoreStates.{Core, Reached}
 use Rattle.session.specs.Events.{Events}
 use Rattle.connection.specs.declared.order.Order.{Order as OrderToWriter}
-use Rattle.connection.specs.Heard.{Hears, Heeds, HearsOf, Heard, ReachedBy, news, news_by, news_of, news_told, payload, payload_by}
+use Rattle.session.specs.declared.event.Control.TheVariants as peer
+use Rattle.connection.specs.Orders.{orders_of}
+use Rattle.connection.proofs.WrittenSteps.{orders-more}
+use Rattle.connection.specs.Heard.{is_news, Hears, Heeds, HearsOf, Heard, ReachedBy, news, news_by, news_of, news_told, payload, payload_by}
 
 news-more : (given : List InEvent) (event : InEvent) → news (given ++ event ∷ []) ≡ news given ++ news_by event
 news-more given event = flat_map-append news_by given (event ∷ []) ∙ ap (λ (last : List Order). news given ++ last) (append-nil (news_by event))
 
 payload-more : (given : List InEvent) (event : InEvent) → payload (given ++ event ∷ []) ≡ payload given + payload_by event
 payload-more given event = sum_by_push payload_by given event
+
+-- ---- an order is put
+
+news-put : (put : List OrderToWriter) (order : OrderToWriter) → news_of (put ++ order ∷ []) ≡ news_of put ++ filter is_news (order_of order.control ∷ [])
+news-put put order = ap (λ (all : List Order). filter is_news all) (orders-more put order) ∙ filter-append is_news (orders_of put) (order_of order.control ∷ [])
+
+no-news : (order : Order) → is_news order ≡ false → filter is_news (order ∷ []) ≡ []
+no-news order none = rw none refl
+
+some-news : (order : Order) → is_news order ≡ true → filter is_news (order ∷ []) ≡ order ∷ []
+some-news order some = rw some refl
+
+told-news : (control : PeerControl) → is_news (news_told control) ≡ true
+told-news (peer.Settings settings) = refl
+told-news (peer.Ping bytes) = refl
+told-news (peer.Window id increment) = refl
+
+-- one that is no news, or it is dropped
+pub quiet-put : (is_put : Bool) (old new : List OrderToWriter) (order : OrderToWriter) → is_news (order_of order.control) ≡ false → (is_put ≡ true → new ≡ old ++ order ∷ [])
+    → (is_put ≡ false → new ≡ old) → news_of new ≡ news_of old
+quiet-put true old new order none put dropped =
+    ap (λ (all : List OrderToWriter). news_of all) (put refl)
+    ∙ (news-put old order ∙ (ap (λ (last : List Order). news_of old ++ last) (no-news (order_of order.control) none) ∙ append-nil (news_of old)))
+quiet-put false old new order none put dropped = ap (λ (all : List OrderToWriter). news_of all) (dropped refl)
+
+-- one that is
+pub news-told : (old new : List OrderToWriter) (order : OrderToWriter) (control : PeerControl) → order_of order.control ≡ news_told control → new ≡ old ++ order ∷ []
+    → news_of new ≡ news_of old ++ news_told control ∷ []
+news-told old new order control is put =
+    ap (λ (all : List OrderToWriter). news_of all) put
+    ∙ (news-put old order ∙ ap (λ (last : List Order). news_of old ++ last) (ap (λ (found : Order). filter is_news (found ∷ [])) is ∙ some-news (news_told control) (told-news control)))
+
+-- ---- an event is followed
 
 -- an event without news
 pub heeds-quiet : (given : List InEvent) (event : InEvent) (old new : List OrderToWriter) (was lost : Bool) (had came : ℕ) → news_by event ≡ [] → news_of new ≡ news_of old

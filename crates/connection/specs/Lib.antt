@@ -1,3 +1,4 @@
+pub mod Examples
 pub mod Heard
 pub mod Later
 pub mod Orders
