@@ -40,3 +40,11 @@ module _ {A B C W : Type 0} (contents : W → Option (List ℕ)) (failed : W →
         (subst (λ (found : Outlet A B C). Writes got contents failed before (orders_of (taken mid.orders) ++ order_of order.control ∷ []) found.told.amount new.frames) (sym outlet)
         (step before (orders_of (taken mid.orders)) mid.outlet.told.amount (later.writes before w)))));
   }
+
+  -- and later again
+  pub later-later : IsLater contents failed old mid → IsLater contents failed mid new → IsLater contents failed old new
+  later-later first second = record {
+    ring = second.ring ∙ first.ring;
+    parts = second.parts ∙ first.parts;
+    writes = λ before w. second.writes before (first.writes before w);
+  }

@@ -3,6 +3,7 @@ use Rattle.std.proofs.Common.{◌≡◌, ◌≢◌, ◌∙◌, ◌⊎◌, inl, i
 use Rattle.std.proofs.lemmas.List.{append-nil, map-append}
 use Rattle.std.proofs.lemmas.List.Elements.{filter-append}
 use Rattle.std.proofs.lemmas.Grind.{flat_map-append}
+use Rattle.std.proofs.lemmas.List.Sums.{sum_by-cons}
 use Rattle.account.specs.Accounts.{Begins}
 use Rattle.h2frame.specs.declared.frame.Frame.{Frame}
 use Rattle.outwriter.specs.declared.control.Control.TheVariants.{Settings, Ping, Window, Open, Refuse, Reset, Goaway, InputEnded, Close}
@@ -49,8 +50,10 @@ none-less = omega arith
 pub lawful-credit : (id : ℕ) (run : List Step) → IsLawful run → updated id run ≤ granted id run
 lawful-credit id [] law = none-less
 lawful-credit id (Taken order ∷ before) law = lawful-credit id before law
-lawful-credit id (Granted stream n ∷ before) law = less-more (updated id before) (granted id before) (granted_by id (Granted stream n)) (lawful-credit id before law)
-lawful-credit id (Written frame ∷ before) law = less-turned (updated id before) (update_on id frame) (granted id before) (law.0.credit id)
+lawful-credit id (Granted stream n ∷ before) law =
+    let first = lawful-credit id before law in let all = sum_by-cons (granted_by id) (Granted stream n) before in omega arith
+lawful-credit id (Written frame ∷ before) law =
+    let first = law.0.credit id in let all = sum_by-cons (update_on id) frame (frames_of before) in omega arith
 
 -- of an order that is no news nothing is to be acknowledged
 due-order : (order : Order) → without_goaway (due_by order) ≡ flat_map due_by (filter is_news (order ∷ []))

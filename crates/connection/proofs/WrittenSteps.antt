@@ -9,7 +9,8 @@ use Rattle.account.specs.declared.call.OutItem.{OutItem}
 use Rattle.callbox.specs.declared.sender.Sender.{Sender}
 use Rattle.h2frame.specs.declared.frame.Frame.{Frame}
 use Rattle.outwriter.specs.declared.control.Control.{Control}
-use Rattle.outwriter.specs.Runs.{granted}
+use Rattle.std.proofs.lemmas.List.Sums.{sum_by-cons}
+use Rattle.outwriter.specs.Runs.{granted, granted_by}
 use Rattle.outwriter.specs.Cores.{IsUnused}
 use Rattle.outwriter.specs.declared.control.Control.TheVariants.{Settings, Ping, Window, Open, Refuse, Reset, Goaway, InputEnded, Close}
 use Rattle.outwriter.specs.Steps.{Step, Order, Taken, Granted, Written, order_of}
@@ -73,7 +74,7 @@ turned : (id : ℕ) → (0 == id) ≡ nat_eq id 0
 turned id = grind (arith, nat_tests)
 
 granted-more : (id n : ℕ) (run : List Step) → granted 0 (Granted id n ∷ run) ≡ granted 0 run + (if nat_eq id 0 then n else 0)
-granted-more id n run = granted-by (0 == id) (nat_eq id 0) n (granted 0 run) (turned id)
+granted-more id n run = sum_by-cons (granted_by 0) (Granted id n) run ∙ granted-by (0 == id) (nat_eq id 0) n (granted 0 run) (turned id)
 
 plus-none : (n : ℕ) → n ≡ n + 0
 plus-none n = omega arith

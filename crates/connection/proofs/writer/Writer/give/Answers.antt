@@ -13,7 +13,7 @@ returns-clause-writes g c =
     elim c.match-take.branch [
       | in-Done w ↦ rw w.self-is (λ before came told had. order-on got g.W.ConnWrite.contents g.W.ConnWrite.failed before came told (order_of c.args.control) c.last-last.result Done old c.take.new.self c.requires.going
           (λ control e. cc) (w.in-Done.ensures.wrote unused) had)
-      | in-Ended-eq0 w ↦ rw w.self-is (λ before came told had. order-on got g.W.ConnWrite.contents g.W.ConnWrite.failed before came told (order_of c.args.control) c.last-last.result (Ended 0) old c.take.new.self c.requires.going
+      | in-Ended-eq0 w ↦ rw w.self-is (λ before came told had. order-on got g.W.ConnWrite.contents g.W.ConnWrite.failed before came told (order_of c.args.control) c.last-last.result (Ended w.in-Ended-eq0.id) old c.take.new.self c.requires.going
           (λ control e. cc) (w.in-Ended-eq0.ensures.wrote unused) had)
       | in-Ended w ↦ rw w.self-is (λ before came told had. order-on got g.W.ConnWrite.contents g.W.ConnWrite.failed before came told (order_of c.args.control) c.last-last.result (Ended w.in-Ended.id) old c.take.new.self c.requires.going
           (λ control e. cc) (w.in-Ended.ensures.wrote unused) had)
