@@ -3,3 +3,5 @@ pub mod Items
 pub mod Taking
 pub mod Ahead
 pub mod Listing
+pub mod Went
+pub mod Turns

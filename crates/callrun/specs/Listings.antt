@@ -1,5 +1,5 @@
 -- Calls that were run, one after another.
-use Rattle.std.specs.Prelude.{◌≡◌, ◌≤◌, ℕ, Bool, true, List, [], Option, None, IsSomeAnd}
+use Rattle.std.specs.Prelude.{◌≡◌, ◌≤◌, ◌<◌, ◌+◌, ◌⊎◌, ℕ, Bool, true, false, List, [], Option, None, Some, IsSomeAnd}
 use Rattle.account.specs.declared.call.OutItem.{OutItem}
 use Rattle.callbox.specs.InSides.{Took}
 use Rattle.callbox.specs.declared.piece.InPiece.{InPiece}
@@ -8,6 +8,8 @@ use Rattle.callhead.specs.declared.head.CallHead.{CallHead}
 use Rattle.handlers.specs.declared.step.Step.{Step}
 use Rattle.callrun.specs.Outcomes.{IsOutcome, is_end}
 use Rattle.callrun.specs.Runs.{deadline_of}
+use Rattle.callrun.specs.declared.uses.call_list.Why.{Why}
+use Rattle.callrun.specs.declared.uses.call_list.Why.TheVariants.{Over, Left, Spent}
 
 -- Nothing was taken of the call yet, and nothing given.
 abbrev pub IsUntouched : List InPiece → Progress → List OutItem → Type 0
@@ -22,3 +24,33 @@ pub record WasRun (answers : List (List ℕ) → Bool → Step → Type 0) (head
   pub took : Took got progress messages
   pub late : overdue ≡ true → IsSomeAnd (deadline_of head.timeout opened) (λ deadline. deadline ≤ latest)
   pub outcome : (answer : Step) → answers messages (is_end progress.told) answer → IsOutcome head overdue progress.told answer given code
+
+-- So many more were counted. A count may stop at the greatest `u64`.
+abbrev pub CountsOn : ℕ → ℕ → ℕ → Type 0
+CountsOn old new more = (old ≤ new) × (new < 18446744073709551615 → new ≡ old + more)
+
+-- an answer of a pace gives a turn, or has the call left
+abbrev pub turns_by : Option ℕ → ℕ
+turns_by None = 0
+turns_by (Some now) = 1
+
+abbrev pub lefts_by : Option ℕ → ℕ
+lefts_by None = 1
+lefts_by (Some now) = 0
+
+-- how often its pace had a call left
+abbrev pub leaves : Why → ℕ
+leaves Over = 0
+leaves Left = 1
+leaves Spent = 0
+
+-- of at most so many turns it had these, and no more for this reason
+abbrev pub IsWhy : ℕ → ℕ → Why → Type 0
+IsWhy most had Over = (0 < had) × (had ≤ most)
+IsWhy most had Left = had < most
+IsWhy most had Spent = had ≡ most
+
+-- A call that is over was given its trailers, unless memory was wanting, or its lane has other faults than that it is full.
+pub record HadTurns (most had : ℕ) (reason : Why) (is_shut ran_out only_fills : Bool) : Type 0 where
+  pub why : IsWhy most had reason
+  pub over : reason ≡ Over → (is_shut ≡ true) ⊎ (ran_out ≡ true) ⊎ (only_fills ≡ false)

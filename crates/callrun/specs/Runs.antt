@@ -18,7 +18,8 @@ use Rattle.callhead.specs.declared.head.CallHead.{CallHead}
 use Rattle.handlers.specs.Answers.{IsLawful}
 use Rattle.callbox.specs.InSides.{Tells, grown}
 use Rattle.callbox.specs.declared.taker.Taken.{Taken}
-use Rattle.callrun.specs.Handlings.{EndsSo, HeadIsDue, IsReady, IsStanding}
+use Rattle.callbox.specs.declared.taker.Taken.TheVariants as taken_as
+use Rattle.callrun.specs.Handlings.{EndsSo, HeadIsDue, IsReady, IsStanding, lacks_memory}
 use Rattle.callrun.specs.Outcomes.{IsBegun, IsOutcome, is_end}
 use Rattle.callrun.specs.Sides.{Shown}
 
@@ -64,6 +65,21 @@ abbrev pub TakesAhead : (List (List ℕ) → Type 0) → List (List ℕ) → Opt
 TakesAhead Holds messages old_hand old_said new_hand new_said =
     ((new_hand ≡ old_hand) × (new_said ≡ old_said) × Holds messages)
     ⊎ ((taken : Taken) × (new_hand ≡ Some taken) × Tells taken old_said new_said × Holds (grown messages taken))
+
+-- what a turn that did something did
+-- one item was given
+abbrev pub GivesOne : Shown → Shown → Type 0
+GivesOne before after = (item : OutItem) × (after.given ≡ before.given ++ item ∷ [])
+
+-- one thing was taken
+abbrev pub TakesOne : (List (List ℕ) → Type 0) → (List (List ℕ) → Type 0) → Option Told → Option Told → Type 0
+TakesOne Held Holds old_said new_said =
+    (taken : Taken) × (taken ≢ taken_as.Nothing) × Tells taken old_said new_said × ((messages : List (List ℕ)) → Held messages → Holds (grown messages taken))
+
+-- Memory was wanting, and the call ends by it. It didn't before, unless its deadline has come since.
+abbrev pub RunsOut : Call → Call → Type 0
+RunsOut old new = (lacks_memory new.handling.ending ≡ true)
+    × ((lacks_memory old.handling.ending ≡ false) ⊎ ((old.overdue ≡ false) × (new.overdue ≡ true)))
 
 -- a step in which nothing is taken: of the same answer
 pub record RunsOn (old : Call) (before : Shown) (new : Call) (after : Shown) : Type 0 where

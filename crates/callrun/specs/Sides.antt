@@ -35,6 +35,13 @@ module _ {G S : Type 0} where
   is_left (Shut end code) = false
   is_left Gone = false
 
+  -- the trailers were given, or their place was taken
+  abbrev pub is_shut : Response G S → Bool
+  is_shut (Open giver) = false
+  is_shut (Left giver) = false
+  is_shut (Shut end code) = true
+  is_shut Gone = false
+
   -- nothing more is given
   abbrev pub left : Response G S → Response G S
   left (Open giver) = Left giver

@@ -49,7 +49,7 @@ impl Call {
     ghost use Rattle.callrun.specs.declared.giving.Refused.TheVariants as refused_kind;
     ghost use Rattle.callrun.specs.Giving.{IsFull};
     ghost use Rattle.callrun.specs.Handlings.{HeadIsDue, IsReady, lacks_memory};
-    ghost use Rattle.callrun.specs.Runs.{HasCome, HasRun, RunsOn, SameCall, IsDueReply, IsEnding, HasTrailers, ends_short};
+    ghost use Rattle.callrun.specs.Runs.{GivesOne, HasCome, HasRun, RunsOn, RunsOut, SameCall, IsDueReply, IsEnding, HasTrailers, ends_short};
     ghost use Rattle.callrun.specs.Sides.{IsOpenTo, is_gone, is_left, is_open, left, name_by, shown, Shown};
 
     /// Ends the call where the deadline has come.
@@ -59,6 +59,7 @@ impl Call {
         ensures late { IsSomeAnd self.old.deadline (λ deadline. deadline ≤ now) → self.new.overdue ≡ true }
         ensures stays { self.old.overdue ≡ true → self.new ≡ self.old }
         ensures same { (self.new.head ≡ self.old.head) × (self.new.deadline ≡ self.old.deadline) }
+        ensures newly { (self.new ≡ self.old) ⊎ ((self.old.overdue ≡ false) × (self.new.overdue ≡ true)) }
     {
         if self.overdue {
             return;
@@ -104,6 +105,7 @@ impl Call {
             → HasCome (answers method.now) (stands method.now) said messages self.old in_hand (shown of_open of_shut was_placed response.now)
             → HasRun (answers method.now) (stands method.now) said messages self.new (shown of_open of_shut was_placed response.now) }
         ensures same { SameCall self.old self.new }
+        ensures lacks { lacks_memory self.old.handling.ending ≡ true → self.new ≡ self.old }
     {
         let Some(taken) = in_hand else {
             return;
@@ -125,6 +127,8 @@ impl Call {
         ensures there { is_gone response.new ≡ is_gone response.old }
         ensures same { SameCall self.old self.new }
         ensures turn { result ≢ turn.Nothing }
+        ensures went { result ≡ turn.Went → GivesOne (shown (λ g. O.put_in g.tx) (λ s. O.put_shut s.shut) (λ s. O.was_placed s.shut) response.old) (shown (λ g. O.put_in g.tx) (λ s. O.put_shut s.shut) (λ s. O.was_placed s.shut) response.new)
+            ⊎ RunsOut self.old self.new }
         ensures over { result ≡ turn.Over → is_open response.new ≡ false }
         ensures left { is_left response.new ≡ true → (is_left response.old ≡ true) ⊎ (lacks_memory self.new.handling.ending ≡ true) ⊎ (O.only_fills ≡ false) }
         ensures full { result ≡ turn.Full → IsOpenTo (λ g. IsFull (O.room_of (O.in_name g.tx)) (length (O.put_in g.tx)) (O.seen_taken g.tx)) response.new }
@@ -156,6 +160,8 @@ impl Call {
         ensures there { is_gone response.new ≡ is_gone response.old }
         ensures same { SameCall self.old self.new }
         ensures turn { result ≢ turn.Nothing }
+        ensures went { result ≡ turn.Went → GivesOne (shown (λ g. O.put_in g.tx) (λ s. O.put_shut s.shut) (λ s. O.was_placed s.shut) response.old) (shown (λ g. O.put_in g.tx) (λ s. O.put_shut s.shut) (λ s. O.was_placed s.shut) response.new)
+            ⊎ RunsOut self.old self.new }
         ensures over { result ≡ turn.Over → is_open response.new ≡ false }
         ensures left { is_left response.new ≡ true → (is_left response.old ≡ true) ⊎ (lacks_memory self.new.handling.ending ≡ true) ⊎ (O.only_fills ≡ false) }
         ensures full { result ≡ turn.Full → IsOpenTo (λ g. IsFull (O.room_of (O.in_name g.tx)) (length (O.put_in g.tx)) (O.seen_taken g.tx)) response.new }
@@ -175,6 +181,7 @@ impl Call {
         ensures response { (response.new ≡ response.old) ⊎ (response.new ≡ left response.old) }
         ensures same { SameCall self.old self.new }
         ensures turn { result ≢ turn.Nothing }
+        ensures went { result ≡ turn.Went → RunsOut self.old self.new }
         ensures over { result ≡ turn.Over → is_open response.new ≡ false }
         ensures full { result ≡ turn.Full → (refused ≡ refused_kind.Full) × (response.new ≡ response.old) }
         ensures left { (response.new ≡ response.old) ⊎ (lacks_memory self.new.handling.ending ≡ true) ⊎ (refused ≡ refused_kind.NotTaken) }
@@ -194,6 +201,7 @@ impl Call {
         ensures run { (of_open : G → List Item) (of_shut : S → List Item) (was_placed : S → Bool) → RunsOn self.old (shown of_open of_shut was_placed response.old) self.new (shown of_open of_shut was_placed response.new) }
         ensures response { (response.new ≡ response.old) ⊎ (response.new ≡ left response.old) }
         ensures same { SameCall self.old self.new }
+        ensures went { result ≡ turn.Went → RunsOut self.old self.new }
         ensures turn { ((result ≡ turn.Went) × (response.new ≡ response.old)) ⊎ ((result ≡ turn.Over) × (response.new ≡ left response.old) × (lacks_memory self.new.handling.ending ≡ true)) }
     {
         if self.handling.lacks_memory() {
@@ -215,6 +223,8 @@ impl Call {
         ensures there { is_gone response.new ≡ is_gone response.old }
         ensures same { SameCall self.old self.new }
         ensures turn { result ≢ turn.Nothing }
+        ensures went { result ≡ turn.Went → GivesOne (shown (λ g. O.put_in g.tx) (λ s. O.put_shut s.shut) (λ s. O.was_placed s.shut) response.old) (shown (λ g. O.put_in g.tx) (λ s. O.put_shut s.shut) (λ s. O.was_placed s.shut) response.new)
+            ⊎ RunsOut self.old self.new }
         ensures over { result ≡ turn.Over → is_open response.new ≡ false }
         ensures left { is_left response.new ≡ true → (is_left response.old ≡ true) ⊎ (lacks_memory self.new.handling.ending ≡ true) ⊎ (O.only_fills ≡ false) }
         ensures full { result ≡ turn.Full → IsOpenTo (λ g. IsFull (O.room_of (O.in_name g.tx)) (length (O.put_in g.tx)) (O.seen_taken g.tx)) response.new }

@@ -10,8 +10,8 @@ ghost use Rattle.callrun.specs.declared.call.Turn.TheVariants as turn;
 ghost use Rattle.callrun.specs.Giving.{IsFull};
 ghost use Rattle.callrun.specs.Outcomes.{IsOutcome};
 ghost use Rattle.callrun.specs.Handlings.{IsReady, lacks_memory};
-ghost use Rattle.callrun.specs.Runs.{GivesOf, HasCome, HasRun, Leaves, MayTake, SameCall, TakesAhead, deadline_of};
-ghost use Rattle.callrun.specs.Sides.{IsOpenTo, is_gone, is_left, is_open, name_by, shown};
+ghost use Rattle.callrun.specs.Runs.{GivesOf, GivesOne, HasCome, HasRun, Leaves, MayTake, RunsOut, SameCall, TakesAhead, TakesOne, deadline_of};
+ghost use Rattle.callrun.specs.Sides.{IsOpenTo, is_gone, is_left, is_open, is_shut, name_by, shown};
 
 use crate::call::{Call, Turn};
 use crate::handling::Handling;
@@ -104,6 +104,10 @@ impl<I: Lane<Item = InPiece>, O: Lane<Item = OutItem>> CallRun<I, O> {
         // A call is left without trailers only for want of memory, or by a lane that has other faults than that it is full.
         ensures left { is_left self.new.response ≡ true → (is_left self.old.response ≡ true) ⊎ (lacks_memory self.new.call.handling.ending ≡ true) ⊎ (O.only_fills ≡ false) }
         ensures stays_over { is_open self.old.response ≡ false → (result ≡ turn.Over) × (self.new ≡ self.old) }
+        // Something was done: an item was given, or one thing was taken, or memory was wanting, by which the call ends.
+        ensures went { result ≡ turn.Went → GivesOne (shown (λ g. O.put_in g.tx) (λ s. O.put_shut s.shut) (λ s. O.was_placed s.shut) self.old.response) (shown (λ g. O.put_in g.tx) (λ s. O.put_shut s.shut) (λ s. O.was_placed s.shut) self.new.response)
+            ⊎ TakesOne (λ all. Took (I.got self.old.taker.rx) self.old.taker.progress all) (λ all. Took (I.got self.new.taker.rx) self.new.taker.progress all) self.old.taker.progress.told self.new.taker.progress.told
+            ⊎ RunsOut self.old.call self.new.call }
         // There was nothing to take.
         ensures nothing { result ≡ turn.Nothing → IsUnfinished self.new.taker.progress.splitter
             × (self.new.taker.progress.shut ≡ None) × (self.new.taker.progress.unread ≡ false) × (I.ahead self.new.taker.rx ≡ []) }
@@ -170,6 +174,7 @@ impl<I: Lane<Item = InPiece>, O: Lane<Item = OutItem>> CallRun<I, O> {
         ensures leaves { Leaves (shown (λ g. O.put_in g.tx) (λ s. O.put_shut s.shut) (λ s. O.was_placed s.shut) self.old.response) (shown (λ g. O.put_in g.tx) (λ s. O.put_shut s.shut) (λ s. O.was_placed s.shut) self.new.response) }
         ensures name { name_by (λ g. O.in_name g.tx) (λ s. O.shut_name s.shut) self.new.response ≡ name_by (λ g. O.in_name g.tx) (λ s. O.shut_name s.shut) self.old.response }
         ensures over { is_open self.new.response ≡ false }
+        ensures shut { is_shut self.new.response ≡ is_shut self.old.response }
         ensures same { (self.new.index ≡ self.old.index) × (self.new.taker ≡ self.old.taker) × SameCall self.old.call self.new.call }
     {
         let Some(method) = methods.get(self.index) else {
@@ -197,12 +202,20 @@ impl<I: Lane<Item = InPiece>, O: Lane<Item = OutItem>> CallRun<I, O> {
         self.call.deadline.is_some()
     }
 
+    /// Whether the call ends for want of memory.
+    pub fn ran_out(&self) -> bool
+        ensures { result ≡ lacks_memory self.now.call.handling.ending }
+    {
+        self.call.handling.lacks_memory()
+    }
+
     /// The two ends of the call, and the status of the trailers that were given.
     pub fn into_ends(self) -> (Taker<I>, End<Giver<O>, GivenShut<O>>, Option<u32>)
         // What was given is an outcome of what the method answers.
         ensures outcome { (answer : Step) → GivesOf self.taker.progress.told answer self.call (shown (λ g. O.put_in g.tx) (λ s. O.put_shut s.shut) (λ s. O.was_placed s.shut) self.response)
             → IsOutcome self.call.head self.call.overdue self.taker.progress.told answer (of_end (λ g. O.put_in g.tx) (λ s. O.put_shut s.shut) result.1) result.2 }
         ensures taker { result.0 ≡ self.taker }
+        ensures shut { of_end (λ g. false) (λ s. true) result.1 ≡ is_shut self.response }
         ensures name { Some (of_end (λ g. O.in_name g.tx) (λ s. O.shut_name s.shut) result.1) ≡ name_by (λ g. O.in_name g.tx) (λ s. O.shut_name s.shut) self.response }
     {
         let CallRun {
@@ -232,6 +245,7 @@ impl<I: Lane<Item = InPiece>, O: Lane<Item = OutItem>> CallRun<I, O> {
         ensures in_name { I.out_name self.new.taker.rx ≡ I.out_name self.old.taker.rx }
         ensures same { (self.new.index ≡ self.old.index) × (self.new.in_hand ≡ self.old.in_hand) × (self.new.response ≡ self.old.response) × SameCall self.old.call self.new.call }
         ensures turn { (result ≡ turn.Went) ⊎ (result ≡ turn.Nothing) }
+        ensures went { result ≡ turn.Went → TakesOne (λ all. Took (I.got self.old.taker.rx) self.old.taker.progress all) (λ all. Took (I.got self.new.taker.rx) self.new.taker.progress all) self.old.taker.progress.told self.new.taker.progress.told }
         ensures nothing { result ≡ turn.Nothing → IsUnfinished self.new.taker.progress.splitter
             × (self.new.taker.progress.shut ≡ None) × (self.new.taker.progress.unread ≡ false) × (I.ahead self.new.taker.rx ≡ []) }
     {

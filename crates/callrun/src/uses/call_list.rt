@@ -3,14 +3,16 @@
 //! When the turns of a call come is its worker's to say, by a [`Pace`]: one with a bell waits where there is nothing to
 //! do, and one whose connection has ended has the call left.
 
-ghost use Rattle.std.specs.Prelude.{◌≡◌, ◌≤◌, ◌<◌, ◌++◌, ◌⊎◌, ℕ, List, [], true, All, IfOk, IfSome, IsSomeAnd, length, slice_get};
-ghost use Rattle.std.specs.List.{AllZip};
+ghost use Rattle.std.specs.Prelude.{◌≡◌, ◌+◌, ◌≤◌, ◌<◌, ◌++◌, ◌⊎◌, ℕ, List, [], true, false, All, IfOk, IfSome, IsSomeAnd, length, slice_get};
+ghost use Rattle.std.specs.List.{AllZip, sum_by};
 ghost use Rattle.lane.specs.End.{of_end};
 ghost use Rattle.callbox.specs.InSides.{Took};
 ghost use Rattle.handlers.specs.Listed.{listed};
 ghost use Rattle.callrun.specs.Runs.{HasCome};
-ghost use Rattle.callrun.specs.Sides.{name_by, shown};
-ghost use Rattle.callrun.specs.Listings.{IsUntouched, WasRun};
+ghost use Rattle.callrun.specs.Handlings.{lacks_memory};
+ghost use Rattle.callrun.specs.Sides.{is_left, is_open, name_by, shown};
+ghost use Rattle.callrun.specs.declared.uses.call_list.Why.TheVariants as why;
+ghost use Rattle.callrun.specs.Listings.{CountsOn, HadTurns, IsUntouched, IsWhy, WasRun, lefts_by, leaves, turns_by};
 
 use crate::call::Turn;
 use crate::call_run::CallRun;
@@ -27,10 +29,29 @@ pub trait Pace {
     /// The latest moment that was told.
     ghost latest: { Self → ℕ };
 
+    /// How many turns it gave.
+    ghost turns: { Self → ℕ };
+
+    /// How often it had a call left.
+    ghost lefts: { Self → ℕ };
+
     /// The moment of the next turn, behind one that came to this. None: the call is to be left.
     fn next(&mut self, last: Turn) -> Option<u64>
         ensures stays { latest self.old ≤ latest self.new }
-        ensures told { IfSome result (λ now. now ≤ latest self.new) };
+        ensures told { IfSome result (λ now. now ≤ latest self.new) }
+        ensures turns { CountsOn (turns self.old) (turns self.new) (turns_by result) }
+        ensures lefts { CountsOn (lefts self.old) (lefts self.new) (lefts_by result) };
+}
+
+/// Why a call has no more turns.
+#[derive(Clone, Copy, Debug, PartialEq, Eq)]
+pub enum Why {
+    /// It is over.
+    Over,
+    /// Its pace had it left.
+    Left,
+    /// It had as many as it may have.
+    Spent,
 }
 
 /// A call that was opened, and waits for its worker.
@@ -52,15 +73,20 @@ pub struct Ended<I: Lane<Item = InPiece>, O: Lane<Item = OutItem>> {
     pub end: End<Giver<O>, GivenShut<O>>,
     /// The status of the trailers that were given.
     pub code: Option<u32>,
+    /// How many turns it had.
+    pub turns: u64,
+    pub why: Why,
+    /// Whether it ended for want of memory.
+    pub ran_out: bool,
 }
 
-/// Gives the call turns until it is over, or its pace has it left, or it had so many.
+/// Gives the call turns until it is over, or its pace has it left, or it had so many: how many it had, and why no more.
 fn take_turns<I: Lane<Item = InPiece>, O: Lane<Item = OutItem>, P: Pace>(
     run: &mut CallRun<I, O>,
     methods: &Methods,
     pace: &mut P,
     turns: u64,
-)
+) -> (u64, Why)
     requires index { run.old.index < length (listed methods.now) }
     ensures run { IfSome (slice_get (listed methods.now) run.old.index) (λ method. (messages : List (List ℕ))
         → Took (I.got run.old.taker.rx) run.old.taker.progress messages
@@ -72,17 +98,23 @@ fn take_turns<I: Lane<Item = InPiece>, O: Lane<Item = OutItem>, P: Pace>(
     ensures same { (run.new.index ≡ run.old.index) × (run.new.call.head ≡ run.old.call.head) × (run.new.call.deadline ≡ run.old.call.deadline) }
     ensures overdue { run.new.call.overdue ≡ true → (run.old.call.overdue ≡ true) ⊎ IsSomeAnd run.old.call.deadline (λ deadline. deadline ≤ P.latest pace.new) }
     ensures stays { P.latest pace.old ≤ P.latest pace.new }
+    ensures turns { CountsOn (P.turns pace.old) (P.turns pace.new) result.0 }
+    ensures lefts { CountsOn (P.lefts pace.old) (P.lefts pace.new) (leaves result.1) }
+    ensures why { IsWhy turns result.0 result.1 }
+    ensures over { result.1 ≡ why.Over → is_open run.new.response ≡ false }
+    ensures left { is_left run.new.response ≡ true → (is_left run.old.response ≡ true) ⊎ (lacks_memory run.new.call.handling.ending ≡ true) ⊎ (O.only_fills ≡ false) }
 {
     let mut last = Turn::Went;
-    for _ in 0..turns {
+    for had in 0..turns {
         let Some(now) = pace.next(last) else {
-            return;
+            return (had, Why::Left);
         };
         last = run.turn(methods, now);
         if matches!(last, Turn::Over) {
-            return;
+            return (had + 1, Why::Over);
         }
     }
+    (turns, Why::Spent)
 }
 
 /// Runs a call until it is over, or its pace has it left, or it had so many turns. It takes no memory of its own.
@@ -101,6 +133,10 @@ pub fn run_call<I: Lane<Item = InPiece>, O: Lane<Item = OutItem>, P: Pace>(
     ensures in_name { I.out_name result.taker.rx ≡ I.out_name call.taker.rx }
     ensures name { of_end (λ g. O.in_name g.tx) (λ s. O.shut_name s.shut) result.end ≡ O.in_name call.giver.tx }
     ensures stays { P.latest pace.old ≤ P.latest pace.new }
+    // Its pace was asked for each turn, and it is left only where the pace had it left, or it had as many turns as it may have.
+    ensures turns { CountsOn (P.turns pace.old) (P.turns pace.new) result.turns }
+    ensures lefts { CountsOn (P.lefts pace.old) (P.lefts pace.new) (leaves result.why) }
+    ensures had { HadTurns turns result.turns result.why (of_end (λ g. false) (λ s. true) result.end) result.ran_out O.only_fills }
 {
     let Opened {
         index,
@@ -110,10 +146,18 @@ pub fn run_call<I: Lane<Item = InPiece>, O: Lane<Item = OutItem>, P: Pace>(
         giver,
     } = call;
     let mut run = CallRun::new(alloc, methods, index, head, taker, giver, opened);
-    take_turns(&mut run, methods, pace, turns);
+    let (turns, why) = take_turns(&mut run, methods, pace, turns);
+    let ran_out = run.ran_out();
     run.leave(methods);
     let (taker, end, code) = run.into_ends();
-    Ended { taker, end, code }
+    Ended {
+        taker,
+        end,
+        code,
+        turns,
+        why,
+        ran_out,
+    }
 }
 
 /// Runs calls, one after another, each as [`run_call`] does: what is left of each stands at its place in the list. Room
@@ -132,6 +176,9 @@ pub fn run_list<I: Lane<Item = InPiece>, O: Lane<Item = OutItem>, P: Pace>(
         (I.got end.taker.rx) end.taker.progress (of_end (λ g. O.put_in g.tx) (λ s. O.put_shut s.shut) end.end) end.code)) calls.items ended.items) }
     ensures in_names { IfOk result (λ ended. AllZip (λ call end. I.out_name end.taker.rx ≡ I.out_name call.taker.rx) calls.items ended.items) }
     ensures names { IfOk result (λ ended. AllZip (λ call end. of_end (λ g. O.in_name g.tx) (λ s. O.shut_name s.shut) end.end ≡ O.in_name call.giver.tx) calls.items ended.items) }
+    ensures turns { IfOk result (λ ended. CountsOn (P.turns pace.old) (P.turns pace.new) (sum_by (λ end. end.turns) ended.items)) }
+    ensures lefts { IfOk result (λ ended. CountsOn (P.lefts pace.old) (P.lefts pace.new) (sum_by (λ end. leaves end.why) ended.items)) }
+    ensures had { IfOk result (λ ended. All (λ end. HadTurns turns end.turns end.why (of_end (λ g. false) (λ s. true) end.end) end.ran_out O.only_fills) ended.items) }
 {
     let mut waiting = calls;
     let mut ended = Vec::with_capacity(alloc, waiting.len())?;

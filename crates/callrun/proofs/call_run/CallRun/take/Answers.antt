@@ -18,5 +18,6 @@ returns-in_default g c = record {
   in_name = c.take.ensures.name;
   same = (refl, refl, refl, c.answer.ensures.same);
   turn = inl refl;
+  went = λ went. (c.take.result, c.in_default.not-Nothing, c.take.ensures.tells, c.take.ensures.took);
   nothing = λ same. absurd (cc);
 }

@@ -1,9 +1,10 @@
-use Rattle.std.proofs.Common.{◌++◌, ◌∙◌, List, ℕ, subst, sym}
+use Rattle.std.proofs.Common.{◌++◌, ◌∙◌, List, ℕ, inl, inr, subst, sym}
 use Rattle.callbox.specs.InSides.{Took}
 use Rattle.callrun.specs.Runs.{HasCome, HasRun}
 use Rattle.callrun.specs.Sides.{shown}
 use Rattle.callrun.proofs.Ahead.{kept_come, same_hand, then_none}
 use Rattle.callrun.proofs.Taking.{if_is, kept_run, step_run}
+use Rattle.callrun.proofs.Went.{ran_out_so}
 use Rattle.callrun.proofs.call_run.CallRun.turn.Goals as goal
 
 pub returns-then-not-is_open-clause-run : goal.returns-then-not-is_open-clause-run
@@ -54,3 +55,18 @@ returns-clause-run g c = if_is _ _ _ c.in-Some.ensures (λ messages took come.
     (shown (λ giver. g.O.Lane.put_in giver.tx) (λ s. g.O.Lane.put_shut s.shut) (λ s. g.O.Lane.was_placed s.shut) c.args.self.now.response))
     (c.deref_box-2.ensures.1 ∙ sym c.deref_box-1.ensures.1) before)))))))
     come)
+
+pub returns-in-Some-first-clause-went : goal.returns-in-Some-first-clause-went
+returns-in-Some-first-clause-went g c = λ went. elim (c.give.ensures.went went) [
+  | inl gave ↦ inl gave
+  | inr runs ↦ inr (inr (ran_out_so c.args.self.now.call c.hand_over.new.self c.look_at.new.self c.give.new.self c.hand_over.ensures.lacks c.hand_over.ensures.same.2 c.look_at.ensures.newly c.give.ensures.same.2 runs))
+]
+
+pub returns-then-is_some-clause-went : goal.returns-then-is_some-clause-went
+returns-then-is_some-clause-went g c = λ went. elim (c.finish.ensures.went went) [
+  | inl gave ↦ inl gave
+  | inr runs ↦ inr (inr (ran_out_so c.args.self.now.call c.hand_over.new.self c.look_at.new.self c.finish.new.self c.hand_over.ensures.lacks c.hand_over.ensures.same.2 c.look_at.ensures.newly c.finish.ensures.same.2 runs))
+]
+
+pub returns-clause-went : goal.returns-clause-went
+returns-clause-went g c = λ went. inr (inl (c.take.ensures.went went))

@@ -1,8 +1,9 @@
-use Rattle.std.proofs.Common.{◌≡◌, ◌<◌, length, All}
+use Rattle.std.proofs.Common.{◌≡◌, ◌<◌, length, All, true, false}
 use Rattle.std.specs.Prelude.{IfSome, slice_get}
 use Rattle.lane.specs.End.{of_end}
 use Rattle.handlers.specs.Listed.{listed}
-use Rattle.callrun.specs.Listings.{IsUntouched, WasRun}
+use Rattle.std.specs.List.{sum_by}
+use Rattle.callrun.specs.Listings.{CountsOn, HadTurns, IsUntouched, WasRun, leaves}
 use Rattle.callrun.proofs.Listing.{RunsUpTo}
 use Rattle.callrun.proofs.uses.call_list.run_list.Given as goal
 
@@ -17,6 +18,9 @@ invariant-loop-call g l =
           × (g.I.Lane.out_name end.taker.rx ≡ g.I.Lane.out_name call.taker.rx)
           × (of_end (λ giver. g.O.Lane.in_name giver.tx) (λ s. g.O.Lane.shut_name s.shut) end.end ≡ g.O.Lane.in_name call.giver.tx))
           l.fn.calls.items l.waiting.items l.ended.items;
+      turns : CountsOn (g.P.Pace.turns l.fn.pace) (g.P.Pace.turns l.pace) (sum_by (λ end. end.turns) l.ended.items);
+      lefts : CountsOn (g.P.Pace.lefts l.fn.pace) (g.P.Pace.lefts l.pace) (sum_by (λ end. leaves end.why) l.ended.items);
+      had : All (λ end. HadTurns l.turns end.turns end.why (of_end (λ giver. false) (λ s. true) end.end) end.ran_out g.O.Lane.only_fills) l.ended.items;
       index : All (λ call. call.index < length (listed l.methods)) l.waiting.items;
       untouched : All (λ call. IsUntouched (g.I.Lane.got call.taker.rx) call.taker.progress (g.O.Lane.put_in call.giver.tx)) l.waiting.items;
     }
