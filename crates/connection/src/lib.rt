@@ -1,15 +1,16 @@
 //! A connection with its threads: bytes come in, calls are answered, bytes go out.
 //!
-//! `serve_connection` reads in the thread of its caller, one more thread writes, and each live call is answered by a worker,
-//! which serves one call after another. What they share is one lock, with the connection's credit book in it; a ring of
-//! orders from the reader to the writer; and the lanes of each call.
+//! `serve_connection` reads in the thread of its caller, one more thread writes, and each live call is answered by a worker.
+//! A worker and its two lanes are a slot, which serves one call after another. What the threads share is one lock, with the
+//! connection's credit book in it; a ring of orders from the reader to the writer; and the lanes of the slots.
 //!
 //! Each part is a machine of a crate below: the reader has an `InCore`, a worker a `CallRun`, the writer a `ConnWriter`, and
 //! the lock a `ConnBook`. Here they are only turned, waited for and rung.
 //!
 //! - `shared`: what the threads of a connection share.
 //! - `intake`: the reader's hold on the credit book, `outlet` the writer's.
-//! - `slot`: a worker and how it is handed a call; `worker`: what it does with one.
+//! - `slot`: what the threads see of a slot; `slots`: what the reader has of all; `senders`: what the writer has.
+//! - `worker`: what a worker does with a call.
 //! - `orders`: what the reader has the writer do.
 //! - `reader`: what becomes of each event; `writer`: orders and credit in, frames out.
 //! - `serve`: one connection from its first byte to its last.
@@ -20,6 +21,7 @@ mod orders;
 mod outlet;
 mod reader;
 mod report;
+mod senders;
 mod serve;
 mod shared;
 mod slot;

@@ -1,7 +1,7 @@
 //! What the reader has the writer do.
 
 use crate::shared::Shared;
-use crate::slot::OutLane;
+use crate::slot::{OutLane, Slot};
 use callbox::Sender;
 use h2frame::{ErrorCode, StreamId};
 use lane::{PutFault, RingIn};
@@ -10,8 +10,17 @@ use std::sync::ledger::Ledger;
 use std::sync::{Arc, Wait};
 use std::time::Duration;
 
+/// Whose sender sends a call that begins.
+#[derive(Drop)]
+pub(crate) enum Opened {
+    /// That of a new slot, which stays with the writer. The slots come in the order of their numbers.
+    New(Arc<Slot>, Sender<OutLane>),
+    /// That of the slot of this number, once more.
+    Again(usize),
+}
+
 /// An order to the writer.
-pub(crate) type Order = Control<Sender<OutLane>>;
+pub(crate) type Order = Control<Opened>;
 
 /// How many orders may wait for the writer.
 pub(crate) const ORDERS: usize = 1024;
@@ -51,5 +60,20 @@ impl<A: Ledger, B: Ledger, C: Ledger> Orders<A, B, C> {
     /// Orders a stream to be reset; `written` where the peer is to be told.
     pub(crate) fn reset(&mut self, rt: &impl Wait, id: StreamId, code: ErrorCode, written: bool) {
         self.put(rt, Control::Reset { id, code, written });
+    }
+}
+
+/// The control that an order is where no call begins by it; else which call begins, and whose sender sends it.
+pub(crate) fn split(order: Order) -> Result<Control<Sender<OutLane>>, (StreamId, Opened)> {
+    match order {
+        Control::Open(id, opened) => Err((id, opened)),
+        Control::Settings(settings) => Ok(Control::Settings(settings)),
+        Control::Ping(bytes) => Ok(Control::Ping(bytes)),
+        Control::Window(id, increment) => Ok(Control::Window(id, increment)),
+        Control::Refuse(id, fields) => Ok(Control::Refuse(id, fields)),
+        Control::Reset { id, code, written } => Ok(Control::Reset { id, code, written }),
+        Control::Goaway { last, code } => Ok(Control::Goaway { last, code }),
+        Control::InputEnded => Ok(Control::InputEnded),
+        Control::Close => Ok(Control::Close),
     }
 }

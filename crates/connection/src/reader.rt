@@ -5,16 +5,14 @@ ghost use Rattle.std.specs.Prelude.{◌≡◌, ◌<◌};
 use crate::intake::Intake;
 use crate::orders::Orders;
 use crate::report::Ending;
-use crate::shared::Shared;
-use crate::slot::{InLane, Job, OutLane, Slot};
-use crate::slots::Slots;
+use crate::slot::{InLane, Job};
+use crate::slots::{Engaged, Slots};
 use crate::worker::moment;
 use bytes::Bytes;
-use callbox::{Feeder, open_call};
+use callbox::Feeder;
 use callhead::{CallHead, HeadFault, unknown_method};
 use connbook::{AdmitFault, Receipt};
 use device::ConnRead;
-use flow::MAX_LIVE;
 use h2frame::{ErrorCode, StreamId};
 use handlers::Methods;
 use indexmap::IndexMap;
@@ -25,16 +23,13 @@ use std::alloc::{AllocError, Global};
 use std::sync::ledger::Ledger;
 use std::sync::{Arc, Wait};
 use std::thread::Threads;
-use std::time::{Clock, Instant};
+use std::time::{Clock, Duration, Instant};
 
 /// How many bytes are read at a time.
 const PIECE: usize = 32_768;
 
-/// Room for the pieces of a call's DATA: as many as the bytes that a window lets through.
-const IN_ROOM: usize = 65_536;
-
-/// Room for what a call is answered with: so many messages wait at most to be written.
-const OUT_ROOM: usize = 16;
+/// How long the reader waits for a slot before it looks again, in milliseconds.
+const STEP: u64 = 1;
 
 /// How many streams a client may begin (`flow::Halves`); at the last of them it is told to open no more.
 const STREAMS: u32 = 4096;
@@ -43,7 +38,8 @@ const STREAMS: u32 = 4096;
 #[derive(Drop)]
 struct Row {
     feeder: Feeder<InLane>,
-    slot: Arc<Slot>,
+    /// The number of its slot.
+    place: usize,
 }
 
 /// What the reading thread of a connection has.
@@ -126,13 +122,13 @@ where
         let Reader {
             rt,
             mut orders,
-            slots,
+            mut slots,
             rows,
             ..
         } = self;
         for (id, row) in rows {
             orders.reset(&rt, id, ErrorCode::Cancel, false);
-            let _shut = row.feeder.reset(ErrorCode::Cancel.code());
+            slots.keep(row.place, row.feeder.reset(ErrorCode::Cancel.code()));
             orders.shared.book.lock(&rt).cut(id);
         }
         orders.put(&rt, Control::InputEnded);
@@ -173,9 +169,6 @@ where
             if let Some(code) = self.follow(intake, event)? {
                 return Ok(Some(code));
             }
-        }
-        if self.rows.len() > 2 * MAX_LIVE {
-            self.forget();
         }
         self.slots.ring_noted();
         // The writer wakes while the calls are answered.
@@ -253,27 +246,65 @@ where
             Some(_) => moment(&rt, self.start),
             None => 0,
         };
-        let (feeder, taker, giver, sender) = open_call::<InLane, OutLane>(
-            self.alloc, id, IN_ROOM, OUT_ROOM,
-        )?;
         self.rows.reserve(1)?;
-        let slot = self
-            .slots
-            .engage(rt, &self.orders.shared, &self.methods, self.start)?;
-        self.orders.put(&rt, Control::Open(id, sender));
-        slot.hand_over(
-            &rt,
-            Job {
-                id,
-                index,
-                head,
-                taker,
-                giver,
-                opened,
-            },
-        );
-        self.rows.insert(id, Row { feeder, slot })?;
+        let Some(engaged) = self.engage(id)? else {
+            return Ok(());
+        };
+        let Engaged {
+            place,
+            feeder,
+            opened: whose,
+        } = engaged;
+        self.orders.put(&rt, Control::Open(id, whose));
+        let job = Job {
+            id,
+            index,
+            head,
+            opened,
+        };
+        self.slots.hand_over(&rt, place, job);
+        self.rows.insert(id, Row { feeder, place })?;
         Ok(())
+    }
+
+    /// A slot for a call of this stream: a free one, or a new one. Where all are at calls, one of them is at a call that is no longer
+    /// live, and the reader waits for it. None where the writer has stopped: then no call is live.
+    fn engage(&mut self, id: StreamId) -> Result<Option<Engaged>, AllocError> {
+        let rt = self.rt;
+        for _ in rt.forever() {
+            let mark = self.orders.shared.reader.mark();
+            if let Some(engaged) = self.slots.engage(id) {
+                return Ok(Some(engaged));
+            }
+            self.shut_answered();
+            let shared = &self.orders.shared;
+            if let Some(engaged) = self.slots.open(rt, shared, &self.methods, self.start, id)? {
+                return Ok(Some(engaged));
+            }
+            if shared.has_stopped() {
+                return Ok(None);
+            }
+            self.slots.ring_noted();
+            shared.writer.ring();
+            shared
+                .reader
+                .wait_past(&rt, mark, Duration::from_millis(STEP));
+        }
+        unreachable!()
+    }
+
+    /// Shuts the halves of calls that were answered before their client ended them: before that their slots aren't free. A stream
+    /// whose call was left, though it was live, is reset.
+    fn shut_answered(&mut self) {
+        let rt = self.rt;
+        for place in 0..self.slots.len() {
+            if let Some(id) = self.slots.abandoned(place) {
+                self.orders.reset(&rt, id, ErrorCode::InternalError, true);
+            }
+            if let Some(id) = self.slots.answered(place) {
+                self.let_go(id, ErrorCode::Cancel);
+            }
+        }
     }
 
     /// Answers what is no head of a call.
@@ -332,7 +363,7 @@ where
             return;
         };
         match row.feeder.feed(bytes) {
-            Ok(()) => row.slot.note(),
+            Ok(()) => self.slots.note(row.place),
             Err(_fault) => self.cut(id, ErrorCode::EnhanceYourCalm, true),
         }
     }
@@ -342,10 +373,7 @@ where
         if bytes.is_empty() {
             return;
         }
-        if let Some(row) = self.rows.swap_remove(&id) {
-            let _shut = row.feeder.reset(ErrorCode::Cancel.code());
-            row.slot.note();
-        }
+        self.let_go(id, ErrorCode::Cancel);
     }
 
     /// The client has ended its half.
@@ -353,8 +381,7 @@ where
         let rt = self.rt;
         self.orders.shared.book.lock(&rt).end_remote(id);
         if let Some(row) = self.rows.swap_remove(&id) {
-            let _shut = row.feeder.end();
-            row.slot.note();
+            self.slots.keep(row.place, row.feeder.end());
         }
     }
 
@@ -362,23 +389,15 @@ where
     fn cut(&mut self, id: StreamId, code: ErrorCode, written: bool) {
         let rt = self.rt;
         self.orders.reset(&rt, id, code, written);
-        if let Some(row) = self.rows.swap_remove(&id) {
-            let _shut = row.feeder.reset(code.code());
-            row.slot.note();
-        }
+        self.let_go(id, code);
         self.orders.shared.book.lock(&rt).cut(id);
     }
 
-    /// Lets go of the halves of calls that are no longer live.
-    fn forget(&mut self) {
-        let Reader {
-            rt,
-            rows,
-            orders,
-            ..
-        } = self;
-        let book = orders.shared.book.lock(rt);
-        rows.retain(|id, _row| book.is_live(*id));
+    /// Resets the half of a call, if it is open.
+    fn let_go(&mut self, id: StreamId, code: ErrorCode) {
+        if let Some(row) = self.rows.swap_remove(&id) {
+            self.slots.keep(row.place, row.feeder.reset(code.code()));
+        }
     }
 }
 

@@ -7,6 +7,7 @@ use crate::orders::{ORDERS, Orders};
 use crate::outlet::Outlet;
 use crate::reader::Reader;
 use crate::report::{Ending, Served};
+use crate::senders::Senders;
 use crate::shared::Shared;
 use crate::writer::Writer;
 use connbook::ConnBook;
@@ -79,6 +80,8 @@ where
         orders: taking,
         outlet: Outlet::new(Arc::try_clone(&shared)?, told),
         frames: ConnWriter::new(alloc, output),
+        senders: Senders::new(alloc),
+        set_aside: None,
         input_ended: false,
         closed: false,
         called_off: Vec::new(alloc),

@@ -4,10 +4,12 @@ ghost use Rattle.std.specs.Prelude.{◌≡◌, ◌<◌, length};
 ghost use Rattle.handlers.specs.Listed.{listed};
 
 use crate::shared::Shared;
-use crate::slot::{InLane, Job, OutLane, Slot};
+use crate::slot::{IDLE, InLane, Job, OutLane, Slot};
+use callbox::{GivenShut, Giver, Taker};
 use callrun::{CallRun, Turn};
 use h2frame::StreamId;
 use handlers::Methods;
+use lane::End;
 use std::alloc::Global;
 use std::sync::ledger::Ledger;
 use std::sync::{Arc, Wait};
@@ -83,6 +85,14 @@ pub(crate) struct Worker<A: Ledger, B: Ledger, C: Ledger> {
     pub(crate) start: Instant,
 }
 
+/// A worker, and its ends of the lanes of its slot, which stay with it.
+#[derive(Drop)]
+pub(crate) struct WithEnds<A: Ledger, B: Ledger, C: Ledger> {
+    pub(crate) worker: Worker<A, B, C>,
+    pub(crate) taker: Taker<InLane>,
+    pub(crate) giver: Giver<OutLane>,
+}
+
 /// What a thread does with the methods.
 pub(crate) trait Work<R> {
     fn work(self, rt: &R, methods: &Methods);
@@ -100,33 +110,80 @@ where
     }
 }
 
-impl<A: Ledger, B: Ledger, C: Ledger, R: Wait + Clock> Work<R> for Worker<A, B, C> {
+impl<A: Ledger, B: Ledger, C: Ledger, R: Wait + Clock> Work<R> for WithEnds<A, B, C> {
     /// Answers one call after another, until no more come.
     fn work(self, rt: &R, methods: &Methods) {
+        let WithEnds {
+            worker,
+            taker,
+            giver,
+        } = self;
+        let mut taker = taker;
+        let mut end = End::Open(giver);
         for _ in rt.forever() {
-            let Some(job) = self.slot.next(rt) else {
+            let Some(job) = worker.slot.next(rt) else {
                 return;
             };
-            self.answer(rt, methods, job);
-            self.slot.rest();
-            self.shared.reader.ring();
+            let Some(giver) = worker.begin(rt, job.id, end) else {
+                return;
+            };
+            let (taken, given) = worker.answer(rt, methods, job, taker, giver);
+            taker = taken;
+            end = End::Shut(given);
+            if !worker.rest(rt, &mut taker) {
+                return;
+            }
         }
     }
 }
 
 impl<A: Ledger, B: Ledger, C: Ledger> Worker<A, B, C> {
+    /// The giver of the next call. All of the last was sent, or the slot wasn't free: where that isn't seen yet the worker looks
+    /// again while the call is live. None where it isn't.
+    fn begin(
+        &self,
+        rt: &impl Wait,
+        id: StreamId,
+        end: End<Giver<OutLane>, GivenShut<OutLane>>,
+    ) -> Option<Giver<OutLane>> {
+        let mut shut = match end {
+            End::Open(giver) => return Some(giver),
+            End::Shut(shut) => shut,
+        };
+        for _ in rt.forever() {
+            let mark = self.slot.bell.mark();
+            match shut.begin(self.alloc) {
+                Ok(giver) => return Some(giver),
+                Err(still) => shut = still,
+            }
+            if !self.shared.book.lock(rt).is_live(id) {
+                return None;
+            }
+            self.slot
+                .bell
+                .wait_past(rt, mark, Duration::from_millis(STEP));
+        }
+        unreachable!()
+    }
+
     /// Answers a call.
-    fn answer<R: Wait + Clock>(&self, rt: &R, methods: &Methods, job: Job) {
+    fn answer<R: Wait + Clock>(
+        &self,
+        rt: &R,
+        methods: &Methods,
+        job: Job,
+        taker: Taker<InLane>,
+        giver: Giver<OutLane>,
+    ) -> (Taker<InLane>, GivenShut<OutLane>) {
         let Job {
             id,
             index,
             head,
-            taker,
-            giver,
             opened,
         } = job;
         if methods.get(index).is_none() {
-            return;
+            self.settle(rt, id, 0, false);
+            return (taker, giver.leave());
         }
         let mut run = CallRun::new(self.alloc, methods, index, head, taker, giver, opened);
         let mut pace = Pace::new();
@@ -152,7 +209,7 @@ impl<A: Ledger, B: Ledger, C: Ledger> Worker<A, B, C> {
                 }
             }
         }
-        self.settle(rt, id, run);
+        self.end(rt, id, run)
     }
 
     /// Waits so many milliseconds at most: for room where a turn lacked it, else for what comes for the call.
@@ -213,21 +270,64 @@ impl<A: Ledger, B: Ledger, C: Ledger> Worker<A, B, C> {
         }
     }
 
-    /// Returns what was taken of a call that is over. One without trailers is live no more.
-    fn settle(&self, rt: &impl Wait, id: StreamId, run: CallRun<InLane, OutLane>) {
+    /// Ends a call that is over, by its last item, and hands back its ends.
+    fn end(
+        &self,
+        rt: &impl Wait,
+        id: StreamId,
+        run: CallRun<InLane, OutLane>,
+    ) -> (Taker<InLane>, GivenShut<OutLane>) {
         let mut run = run;
         let credit = run.credit();
-        let (_taker, _given, code) = run.into_ends();
+        let (taker, given, code) = run.into_ends();
+        let shut = match given {
+            End::Open(giver) => giver.leave(),
+            End::Shut(shut) => shut,
+        };
+        self.settle(rt, id, credit, code.is_some());
+        (taker, shut)
+    }
+
+    /// Returns what was taken of a call that is over. One without trailers is live no more.
+    fn settle(&self, rt: &impl Wait, id: StreamId, credit: u32, has_trailers: bool) {
+        let mut is_abandoned = false;
         {
             let mut book = self.shared.book.lock(rt);
             if credit > 0 {
                 let _ = book.give_back(id, credit);
             }
-            if code.is_none() {
+            if !has_trailers {
+                is_abandoned = book.is_live(id);
                 book.cut(id);
             }
         }
-        self.shared.writer.ring();
+        self.slot.answer(is_abandoned);
+    }
+
+    /// Gets what is left of a call that was answered, up to its end, and is idle then: for the next call the taker goes on. Says
+    /// whether more calls come.
+    fn rest(&self, rt: &impl Wait, taker: &mut Taker<InLane>) -> bool {
+        for _ in rt.forever() {
+            let mark = self.slot.bell.mark();
+            taker.drain();
+            let is_idle = taker.begin(self.alloc);
+            if is_idle {
+                self.slot.rest();
+            }
+            // Only now, so that the slot is free by the time that the peer sees the end of the call.
+            self.shared.writer.ring();
+            self.shared.reader.ring();
+            if is_idle {
+                return true;
+            }
+            if self.slot.is_over() {
+                return false;
+            }
+            self.slot
+                .bell
+                .wait_past(rt, mark, Duration::from_secs(IDLE));
+        }
+        unreachable!()
     }
 
     /// The moment, in nanoseconds of the connection. No clock is read for a call without a deadline.

@@ -3,7 +3,9 @@
 use crate::orders::Order;
 use crate::outlet::Outlet;
 use crate::report::Ending;
+use crate::senders::{Senders, Untaken};
 use crate::slot::OutLane;
+use callbox::Sender;
 use connwriter::{ConnWriter, Filled, Standing, Taking};
 use device::ConnWrite;
 use flow::MAX_LIVE;
@@ -23,11 +25,15 @@ pub(crate) struct Writer<A: Ledger, B: Ledger, C: Ledger, W: ConnWrite> {
     pub(crate) orders: RingOut<Order>,
     pub(crate) outlet: Outlet<A, B, C>,
     pub(crate) frames: ConnWriter<OutLane, W>,
+    /// The senders of slots between two calls.
+    pub(crate) senders: Senders,
+    /// An order that can't be taken yet. The others wait behind it.
+    pub(crate) set_aside: Option<Order>,
     /// Whether no more comes from the peer.
     pub(crate) input_ended: bool,
     /// Whether no more orders come.
     pub(crate) closed: bool,
-    /// Streams of which a Reset was taken since all that can be was written.
+    /// Streams that were called off or have ended, and whose senders may be with the core still.
     pub(crate) called_off: Vec<StreamId>,
     /// Whether there was no memory for an order.
     pub(crate) lacks_memory: bool,
@@ -49,8 +55,8 @@ impl<A: Ledger, B: Ledger, C: Ledger, W: ConnWrite + Drop> Writer<A, B, C, W> {
             if !is_silent {
                 writer.outlet.shared.room.ring();
             }
-            writer.flush(rt);
             writer.let_go(filled);
+            writer.flush(rt);
             match filled {
                 Filled::Over => break,
                 Filled::Full => {}
@@ -79,19 +85,34 @@ impl<A: Ledger, B: Ledger, C: Ledger, W: ConnWrite + Drop> Writer<A, B, C, W> {
     fn drain(&mut self, rt: &impl Wait) {
         let mut some = false;
         for _ in 0..u64::MAX {
-            let Some(order) = self.orders.take() else {
+            let Some(order) = self.next_order() else {
                 break;
             };
             some = true;
-            self.take(rt, order);
+            match self.senders.control_of(order) {
+                Ok(control) => self.take(rt, control),
+                Err(Untaken::OutOfMemory) => self.give_up(rt),
+                Err(Untaken::Early(order)) => {
+                    self.set_aside = Some(order);
+                    break;
+                }
+            }
         }
         if some {
             self.outlet.shared.reader.ring();
         }
     }
 
+    /// The order that was set aside, or else the next that waits.
+    fn next_order(&mut self) -> Option<Order> {
+        match self.set_aside.take() {
+            Some(order) => Some(order),
+            None => self.orders.take(),
+        }
+    }
+
     /// Takes an order.
-    fn take(&mut self, rt: &impl Wait, order: Order) {
+    fn take(&mut self, rt: &impl Wait, order: Control<Sender<OutLane>>) {
         match &order {
             Control::InputEnded => self.input_ended = true,
             Control::Close => self.closed = true,
@@ -145,26 +166,43 @@ impl<A: Ledger, B: Ledger, C: Ledger, W: ConnWrite + Drop> Writer<A, B, C, W> {
         }
     }
 
-    /// Notes that a stream was called off. Without memory for that its sender is kept to the end.
+    /// Notes that a stream was called off, or has ended. Without memory for that its sender is kept to the end.
     fn call_off(&mut self, id: StreamId) {
         let _ = self.called_off.push(id);
     }
 
-    /// Lets go of the senders of calls that are through, so that a connection has those of its live calls alone. A header block
-    /// of a stream that was called off is whole where nothing more can be written now.
+    /// Lets go of the senders of calls that are through, before the peer can see that: so their slots are free for the calls that it
+    /// begins then. A header block that a full buffer has cut is whole where nothing more can be written now.
     fn let_go(&mut self, filled: Filled) {
-        for index in 0..self.frames.left().len() {
-            if let Some(id) = self.frames.left().get(index).copied() {
-                let _ = self.frames.release(id);
-            }
-        }
-        if filled != Filled::Full {
-            for _ in 0..self.called_off.len() {
-                if let Some(id) = self.called_off.pop() {
-                    let _ = self.frames.release(id);
+        for index in 0..self.frames.ended().len() {
+            if let Some(id) = self.frames.ended().get(index).copied() {
+                if !self.release(id, true) {
+                    self.call_off(id);
                 }
             }
         }
+        for index in (0..self.called_off.len()).rev() {
+            if let Some(id) = self.called_off.get(index).copied() {
+                let is_kept = self.release(id, false);
+                if (is_kept || filled != Filled::Full) && index < self.called_off.len() {
+                    self.called_off.swap_remove(index);
+                }
+            }
+        }
+        if self.senders.catch_up() {
+            self.outlet.shared.reader.ring();
+        }
+    }
+
+    /// Keeps the sender of a call that is through for the next call of its slot, and says whether it is.
+    fn release(&mut self, id: StreamId, is_at_end: bool) -> bool {
+        let Some(sender) = self.frames.release(id) else {
+            return false;
+        };
+        if self.senders.keep(sender, is_at_end) {
+            self.outlet.shared.reader.ring();
+        }
+        true
     }
 
     /// Whether nothing more can be written. Once the input has ended no window opens, so the calls that wait for one are cut.
