@@ -1,6 +1,7 @@
 // Loaded before the C library (LD_PRELOAD): refuses one allocation of a program, the one whose number stands in the
 // environment as REFUSE, counted from 1. Where there is none it refuses nothing, and writes at the program's end how
-// many there were to the file that is named there as COUNT.
+// many there were to the file that is named there as COUNT. Where the environment has LEAST, only those of so many bytes
+// and more count.
 #include <errno.h>
 #include <stdatomic.h>
 #include <stddef.h>
@@ -16,10 +17,13 @@ extern void *__libc_memalign(size_t alignment, size_t size);
 
 static atomic_ulong seen;
 static unsigned long refused;
+static size_t least;
 
 __attribute__((constructor)) static void begin(void) {
   const char *number = getenv("REFUSE");
   refused = number ? strtoul(number, NULL, 10) : 0;
+  const char *bytes = getenv("LEAST");
+  least = bytes ? strtoul(bytes, NULL, 10) : 0;
   atomic_store(&seen, 0);
 }
 
@@ -44,7 +48,10 @@ void _exit(int status) {
   }
 }
 
-static int is_refused(void) {
+static int is_refused(size_t size) {
+  if (size < least) {
+    return 0;
+  }
   if (atomic_fetch_add(&seen, 1) + 1 != refused) {
     return 0;
   }
@@ -52,18 +59,18 @@ static int is_refused(void) {
   return 1;
 }
 
-void *malloc(size_t size) { return is_refused() ? NULL : __libc_malloc(size); }
+void *malloc(size_t size) { return is_refused(size) ? NULL : __libc_malloc(size); }
 
-void *calloc(size_t count, size_t size) { return is_refused() ? NULL : __libc_calloc(count, size); }
+void *calloc(size_t count, size_t size) { return is_refused(count * size) ? NULL : __libc_calloc(count, size); }
 
-void *realloc(void *old, size_t size) { return is_refused() ? NULL : __libc_realloc(old, size); }
+void *realloc(void *old, size_t size) { return is_refused(size) ? NULL : __libc_realloc(old, size); }
 
 void *aligned_alloc(size_t alignment, size_t size) {
-  return is_refused() ? NULL : __libc_memalign(alignment, size);
+  return is_refused(size) ? NULL : __libc_memalign(alignment, size);
 }
 
 int posix_memalign(void **place, size_t alignment, size_t size) {
-  if (is_refused()) {
+  if (is_refused(size)) {
     return ENOMEM;
   }
   void *memory = __libc_memalign(alignment, size);
