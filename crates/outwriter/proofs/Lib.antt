@@ -16,6 +16,7 @@ pub mod Others
 pub mod Progresses
 pub mod QuietSteps
 pub mod ResizeLemmas
+pub mod TableLemmas
 pub mod WindowRuns
 pub mod Faults
 pub mod ServeSteps

@@ -7,7 +7,7 @@ use Rattle.std.proofs.lemmas.List.{take_min, take-append-drop}
 use Rattle.h2frame.specs.declared.frame.Frame.{Frame}
 use Rattle.lists.specs.declared.field.Field.{Field}
 use Rattle.hpack_codec.specs.Block.{IsBlock}
-use Rattle.hpack_codec.specs.Codec.{Encoding, Writes, limited}
+use Rattle.hpack_codec.specs.Codec.{Encoding, Writes}
 use Rattle.hpack_codec.specs.Table.{Table}
 use Rattle.outwriter.specs.declared.blocks.HeaderBlock.{HeaderBlock}
 use Rattle.outwriter.specs.declared.due.Due.{Due}
@@ -67,15 +67,6 @@ rests-tells old new rests run marks spells = (
   spells-same run run old.block new.block old.encoder new.encoder marks (λ table told t. t) refl rests.block
       (λ table is. subst (λ (kept : Option Encoding). IsTableOf kept table) (sym rests.encoder) is) spells.1,
 )
-
--- ---- an encoder's limit
-
-pub keeps-limited : (old new : Option Encoding) (limit : ℕ) → new ≡ limited old limit → KeepsTable old new
-keeps-limited old new limit is table of = subst (λ (kept : Option Encoding). IsTableOf kept table) (sym is) (by old of)
-  where
-    by : (kept : Option Encoding) → IsTableOf kept table → IsTableOf (limited kept limit) table
-    by None e = tt
-    by (Some encoding) e = e
 
 -- ---- frames that are of no header block
 

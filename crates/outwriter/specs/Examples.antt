@@ -6,16 +6,19 @@ use Rattle.flow.specs.WindowHistory.{Spending, Closing}
 use Rattle.h2frame.specs.declared.error_code.ErrorCode.TheVariants.{Cancel, NoError}
 use Rattle.h2frame.specs.declared.kind.FrameKind.TheVariants as kind
 use Rattle.h2frame.specs.Spelling.{spelled as spelling}
+use Rattle.hpack_codec.specs.Codec.{first_encoding}
+use Rattle.hpack_codec.specs.Table.{empty_table}
 use Rattle.lists.specs.declared.field.Field.{Field}
 use Rattle.outwriter.specs.declared.control.Control.TheVariants.{Settings, Ping, Goaway}
 use Rattle.outwriter.specs.declared.control.Control.TheVariants as order
 use Rattle.h2frame.specs.declared.settings.PeerSetting.TheVariants.{TableSize, WindowSize}
 use Rattle.outwriter.specs.Calls.{is_called_off}
 use Rattle.outwriter.specs.Frames.{frame_with, first_settings, settings_ack, ping_ack, reset_frame, goaway_frame, update_frame, data_frame, headers_frame, continuation_frame, is_last}
-use Rattle.outwriter.specs.Histories.{window_sizes, spending_of, closing_of, is_over}
+use Rattle.outwriter.specs.Histories.{window_sizes, table_sizes, spending_of, closing_of, is_over}
 use Rattle.outwriter.specs.Parts.{Byte, Fields, End, Reset, spelled, plain_marks, completed, marks_on, on_stream}
 use Rattle.outwriter.specs.Runs.{IsAsked, due, told, told_by, unfinished, granted, updated}
 use Rattle.outwriter.specs.Steps.{Step, Taken, Granted, Written}
+use Rattle.outwriter.specs.TableLimits.{limited_by}
 
 -- SETTINGS of 12 bytes: 3 is 64, and 6 is 16,384
 pub first_bytes : spelling first_settings ≡ 0 ∷ 0 ∷ 12 ∷ 4 ∷ 0 ∷ 0 ∷ 0 ∷ 0 ∷ 0 ∷ 0 ∷ 3 ∷ 0 ∷ 0 ∷ 0 ∷ 64 ∷ 0 ∷ 6 ∷ 0 ∷ 0 ∷ 64 ∷ 0 ∷ []
@@ -75,6 +78,13 @@ opened_first = refl
 
 pub sizes_of_windows : window_sizes (TableSize 9 ∷ WindowSize 5 ∷ WindowSize 7 ∷ []) ≡ 5 ∷ 7 ∷ []
 sizes_of_windows = refl
+
+-- of the limits that SETTINGS set for the header table the least counts
+pub limits_of_tables : table_sizes (TableSize 9 ∷ WindowSize 5 ∷ TableSize 7 ∷ TableSize 8 ∷ []) ≡ 9 ∷ 7 ∷ 8 ∷ []
+limits_of_tables = refl
+
+pub least_counts : limited_by (Some first_encoding) (9 ∷ 7 ∷ 8 ∷ []) ≡ Some (record { table = empty_table; least = 7 })
+least_counts = refl
 
 -- DATA is spent, and END_STREAM on a header block closes the stream's window
 pub data_is_spent : spending_of (data_frame 1 (7 ∷ 7 ∷ 7 ∷ [])) ≡ Spending 1 3 ∷ []

@@ -19,6 +19,14 @@ window_size (TableSize size) = []
 abbrev pub window_sizes : List PeerSetting → List ℕ
 window_sizes settings = flat_map window_size settings
 
+-- the limits of the header table that SETTINGS set, in their order (RFC 7541, section 4.2)
+abbrev pub table_size : PeerSetting → List ℕ
+table_size (TableSize size) = size ∷ []
+table_size (WindowSize size) = []
+
+abbrev pub table_sizes : List PeerSetting → List ℕ
+table_sizes settings = flat_map table_size settings
+
 -- there is a window: that of the connection as stream 0, or of a stream that is open
 abbrev pub HasWindow : List WindowStep → ℕ → Type 0
 HasWindow history id = (id ≡ 0) ⊎ (is_some (since_opening id history) ≡ true)

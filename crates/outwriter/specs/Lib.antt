@@ -10,6 +10,7 @@ pub mod Blocks
 pub mod Credits
 pub mod Polls
 pub mod Resizes
+pub mod TableLimits
 pub mod RunState
 pub mod CallState
 pub mod Cores

@@ -24,6 +24,7 @@ ghost use Rattle.outwriter.specs.CoreChanges.{KeepsServing, KeepsHeeds, Prepares
 ghost use Rattle.outwriter.specs.CallState.{none_is_new};
 ghost use Rattle.outwriter.specs.CallState.{Takes as KeepsCalls};
 ghost use Rattle.outwriter.specs.Steps.{Step, Taken, Granted};
+ghost use Rattle.outwriter.specs.TableLimits.{TakesLimits};
 ghost use Rattle.h2frame.specs.declared.error_code.ErrorCode.{ErrorCode as ErrorCodeOf};
 ghost use Rattle.outwriter.specs.declared.control.Control.TheVariants as order;
 
@@ -106,6 +107,9 @@ impl<L: Lane<Item = OutItem>> OutCore<L> {
         ensures alive { self.new.is_dead ≡ self.old.is_dead }
         ensures dead { self.old.is_dead ≡ true → result ≡ Err (out_fault.OutOfMemory (Some control)) }
         ensures dead_stays { self.old.is_dead ≡ true → self.new ≡ self.old }
+
+        // The limits of the header table that SETTINGS set are told to the encoder, whose next header block sets the least.
+        ensures limits { TakesLimits result control self.old.outbound.encoder self.new.outbound.encoder }
     {
         if self.is_dead {
             return Err(OutFault::OutOfMemory(Some(control)));
@@ -221,6 +225,7 @@ impl<L: Lane<Item = OutItem>> OutCore<L> {
         ensures senders { OnErr result (self.new.senders.items ≡ self.old.senders.items) }
         ensures closed { self.new.closed ≡ self.old.closed }
         ensures alive { self.new.is_dead ≡ self.old.is_dead }
+        ensures encoder { self.new.outbound.encoder ≡ self.old.outbound.encoder }
     {
         match self.prepare(id) {
             Ok(()) => {
@@ -243,6 +248,7 @@ impl<L: Lane<Item = OutItem>> OutCore<L> {
         ensures senders { self.new.senders.items ≡ self.old.senders.items }
         ensures closed { self.new.closed ≡ self.old.closed }
         ensures alive { self.new.is_dead ≡ self.old.is_dead }
+        ensures encoder { self.new.outbound.encoder ≡ self.old.outbound.encoder }
     {
         self.senders.reserve(1)?;
         self.ready.reserve(self.streams.len().saturating_add(1))?;
@@ -273,6 +279,7 @@ impl<L: Lane<Item = OutItem>> OutCore<L> {
         ensures senders { self.new.senders.items ≡ self.old.senders.items }
         ensures closed { self.new.closed ≡ self.old.closed }
         ensures alive { self.new.is_dead ≡ self.old.is_dead }
+        ensures encoder { self.new.outbound.encoder ≡ self.old.outbound.encoder }
     {
         if !is_stream(id) || self.outbound.credit.has(id) || self.others.contains_key(&id) {
             return Ok(());
@@ -301,6 +308,7 @@ impl<L: Lane<Item = OutItem>> OutCore<L> {
         ensures senders { self.new.senders.items ≡ self.old.senders.items }
         ensures closed { self.new.closed ≡ self.old.closed }
         ensures alive { self.new.is_dead ≡ self.old.is_dead }
+        ensures encoder { self.new.outbound.encoder ≡ self.old.outbound.encoder }
     {
         match self.ends(id) {
             Ok(was_open) => {
@@ -323,6 +331,7 @@ impl<L: Lane<Item = OutItem>> OutCore<L> {
         ensures senders { self.new.senders.items ≡ self.old.senders.items }
         ensures closed { self.new.closed ≡ self.old.closed }
         ensures alive { self.new.is_dead ≡ self.old.is_dead }
+        ensures encoder { self.new.outbound.encoder ≡ self.old.outbound.encoder }
     {
         if !is_stream(id) {
             return Ok(false);

@@ -10,6 +10,8 @@ ghost use Rattle.flow.specs.WindowHistory.{Step as WindowStep};
 ghost use Rattle.flow.specs.Windows.{balance};
 ghost use Rattle.outwriter.specs.Credits.{Grants, knows, owed_on, nothing_owed};
 ghost use Rattle.outwriter.specs.RunState.{HasOver, HasSilence};
+ghost use Rattle.outwriter.specs.Histories.{table_sizes};
+ghost use Rattle.outwriter.specs.TableLimits.{limited_by};
 ghost use Rattle.outwriter.specs.ToldByNow.{KeepsTable, SpellsOf};
 ghost use Rattle.flow.specs.declared.send_windows.WindowFault.TheVariants as window_fault;
 
@@ -87,6 +89,7 @@ impl Outbound {
         ensures credit { self.new.credit ≡ self.old.credit }
         ensures windows { self.new.windows ≡ self.old.windows }
         ensures takes { Takes [] none_is_new self.old self.new }
+        ensures encoder { self.new.encoder ≡ self.old.encoder }
     {
         self.due.reserve(1)
     }
@@ -99,6 +102,7 @@ impl Outbound {
         ensures takes { Takes (due_kind.SettingsAck ∷ []) none_is_new self.old self.new }
         ensures fits { OnOk result ((history : List WindowStep) → Follows history self.old.windows → All (CanResize history) (window_sizes settings.now)) }
         ensures over { OnErr result ((history : List WindowStep) → Follows history self.old.windows → ¬ All (CanResize history) (window_sizes settings.now)) }
+        ensures limits { self.new.encoder ≡ limited_by self.old.encoder (table_sizes settings.now) }
     {
         self.due.push_back_reserved(Due::SettingsAck);
         limit_table(&mut self.encoder, settings.as_slice());
@@ -110,6 +114,7 @@ impl Outbound {
         requires room { deque_len self.old.due < deque_capacity self.old.due }
         ensures taken { Leads (Taken (order.Ping bytes)) self.old self.new }
         ensures takes { Takes (due_kind.PingAck bytes ∷ []) none_is_new self.old self.new }
+        ensures encoder { self.new.encoder ≡ self.old.encoder }
     {
         self.due.push_back_reserved(Due::PingAck(bytes));
     }
@@ -120,6 +125,7 @@ impl Outbound {
         ensures takes { Takes [] none_is_new self.old self.new }
         ensures fits { result ≡ true → (history : List WindowStep) → Follows history self.old.windows → HasWindow history id → CanCredit history id increment }
         ensures over { result ≡ false → (history : List WindowStep) → Follows history self.old.windows → Overflows history id increment }
+        ensures encoder { self.new.encoder ≡ self.old.encoder }
     {
         let credited = self.windows.credit(id, increment);
         !is_overflow(credited)
@@ -140,6 +146,7 @@ impl Outbound {
         ensures stays { OnErr result (Stays self.old self.new) }
         ensures takes { OnOk result (Takes [] (λ other. is_new && (other == id)) self.old self.new) }
         ensures takes_none { OnErr result (Takes [] none_is_new self.old self.new) }
+        ensures encoder { self.new.encoder ≡ self.old.encoder }
     {
         if !self.opens(id) {
             return open_credit(&mut self.credit, &self.over, id, is_new, was_reset);
@@ -170,6 +177,7 @@ impl Outbound {
         requires room { deque_len self.old.due < deque_capacity self.old.due }
         ensures taken { Leads (Taken (order.Refuse id fields)) self.old self.new }
         ensures takes { Takes (due_kind.Refuse id fields ∷ []) none_is_new self.old self.new }
+        ensures encoder { self.new.encoder ≡ self.old.encoder }
     {
         self.due.push_back_reserved(Due::Refuse(id, fields));
     }
@@ -186,6 +194,7 @@ impl Outbound {
         requires room { deque_len self.old.due < deque_capacity self.old.due }
         ensures taken { Leads (Taken (order.Reset id code written)) self.old self.new }
         ensures takes { Takes (if written && was_open then due_kind.Reset id code ∷ [] else []) none_is_new self.old self.new }
+        ensures encoder { self.new.encoder ≡ self.old.encoder }
     {
         self.windows.close(id);
         if written && was_open {
@@ -217,6 +226,7 @@ impl Outbound {
         requires room { deque_len self.old.due < deque_capacity self.old.due }
         ensures taken { Leads (Taken (order.Goaway last code)) self.old self.new }
         ensures takes { Takes (due_kind.Goaway last code ∷ []) none_is_new self.old self.new }
+        ensures encoder { self.new.encoder ≡ self.old.encoder }
     {
         self.due.push_back_reserved(Due::Goaway(last, code));
     }
@@ -266,9 +276,10 @@ fn open_credit(
     credit.open(id, is_silent)
 }
 
-/// The limits that SETTINGS have for the encoder's table.
+/// Tells the encoder the limits that SETTINGS have for its table.
 fn limit_table(encoder: &mut Encoder, settings: &[PeerSetting])
-    ensures { KeepsTable encoder.old encoder.new }
+    ensures table { KeepsTable encoder.old encoder.new }
+    ensures limits { encoder.new ≡ limited_by encoder.old (table_sizes settings.now) }
 {
     for setting in settings {
         if let PeerSetting::TableSize(limit) = *setting {

@@ -1,9 +1,15 @@
-use Rattle.outwriter.proofs.TellSteps.{keeps-limited}
+use Rattle.std.proofs.Common.{◌∙◌}
+use Rattle.outwriter.proofs.TableLemmas.{limited-more, limited-same, keeps-limits}
 use Rattle.outwriter.proofs.outbound.limit_table.Goals.{in-TableSize, in_default}
 use Rattle.outwriter.proofs.outbound.limit_table.Goals as goal
 
 pub loop-setting-preserved : goal.loop-setting-preserved
 loop-setting-preserved c = elim c.match-setting.branch [
-  | in-TableSize w ↦ λ table is. rw w.encoder-is (keeps-limited _ _ w.in-TableSize.limit w.limit.ensures table (c.loop-setting.invariant table is))
-  | in_default w ↦ λ table is. rw w.encoder-is (c.loop-setting.invariant table is)
+  | in-TableSize w ↦ rw w.encoder-is (limited-more c.args.settings.now c.loop-setting.setting-index _ c.args.encoder.now c.loop-setting.encoder _ w.in-TableSize.limit
+      c.loop-setting-test.true w.in-TableSize.is w.limit.ensures c.loop-setting.invariant)
+  | in_default w ↦ rw w.encoder-is (limited-same c.args.settings.now c.loop-setting.setting-index _ c.args.encoder.now c.loop-setting.encoder w.in_default.field-0
+      c.loop-setting-test.true w.in_default.is c.loop-setting.invariant)
 ]
+
+pub returns-clause-table : goal.returns-clause-table
+returns-clause-table c = keeps-limits _ _ _ c.loop-setting.invariant

@@ -14,4 +14,5 @@ returns c = record {
       (c.is_overflow.ensures.fits (not-true c.is_overflow.result e));
   over = λ e. over-stands c.args.self.now.windows c.args.id c.args.increment c.credit-credited.result c.credit-credited.ensures.fault c.credit-credited.ensures.cannot
       (c.is_overflow.ensures.over (not-false c.is_overflow.result e));
+  encoder = refl;
 }
