@@ -139,7 +139,7 @@ impl Call {
         if !giver.has_head() {
             return self.begin(response);
         }
-        match give_reply(giver, self.alloc, reply) {
+        match give_reply(giver, self.alloc, &mut self.handling.waiting, reply) {
             Ok(()) => {
                 self.handling.waiting.pass();
                 Turn::Went

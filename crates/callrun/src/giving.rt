@@ -10,15 +10,14 @@ ghost use Rattle.handlers.specs.Replies.{reply_bytes};
 ghost use Rattle.callrun.specs.Responses.{head_item, reply_item};
 ghost use Rattle.callrun.specs.Giving.{Gives, without_item};
 
+use crate::waiting::Waiting;
 use account::OutItem;
-use bytes::Bytes;
 use callbox::{FramedFault, GiveFault, Giver};
 use callhead::{CallHead, response_fields};
 use handlers::Reply;
 use lane::{Lane, PutFault};
 use lists::Sequence;
-use lpm::{MAX_MESSAGE_LEN, write_prefix};
-use std::alloc::{AllocError, Global};
+use std::alloc::Global;
 
 /// Why an item was not given.
 #[derive(Clone, Copy, Debug, PartialEq, Eq)]
@@ -30,9 +29,6 @@ pub(crate) enum Refused {
     /// Its place was taken.
     NotTaken,
 }
-
-/// How many bytes stand before a message: a flag and four bytes of length.
-const PREFIX_LEN: usize = 5;
 
 /// What came of it, without what was handed back.
 fn without_item<T: Drop>(given: Result<(), GiveFault<T>>) -> Result<(), Refused>
@@ -70,16 +66,18 @@ pub(crate) fn give_head<O: Lane<Item = OutItem>>(
 pub(crate) fn give_reply<O: Lane<Item = OutItem>>(
     giver: &mut Giver<O>,
     alloc: Global,
+    waiting: &mut Waiting,
     reply: Reply,
 ) -> Result<(), Refused>
     requires { has_head (O.put_in giver.old.tx) ≡ true }
+    ensures waiting { waiting.new ≡ waiting.old }
     ensures name { O.in_name giver.new.tx ≡ O.in_name giver.old.tx }
     ensures gives { Gives result O.only_fills (O.room_of (O.in_name giver.old.tx)) (O.seen_taken giver.new.tx) (O.put_in giver.old.tx) (reply_item reply) (O.put_in giver.new.tx) }
 {
     if let Err(_waiting) = giver.check_room() {
         return Err(Refused::Full);
     }
-    let Ok(framed) = framed(alloc, reply) else {
+    let Ok(framed) = waiting.framed(alloc, reply) else {
         return Err(Refused::OutOfMemory);
     };
     match giver.give_framed(framed) {
@@ -87,20 +85,4 @@ pub(crate) fn give_reply<O: Lane<Item = OutItem>>(
         Err(FramedFault::Refused(fault)) => without_item(Err(fault)),
         Err(FramedFault::NotAFrame(_)) => Err(Refused::OutOfMemory),
     }
-}
-
-/// A reply with its prefix, in one piece of memory, which is filled once.
-fn framed(alloc: Global, reply: Reply) -> Result<Bytes, AllocError>
-    ensures { IfOk result (λ bytes. bytes ≡ frame (reply_bytes reply)) }
-{
-    let len = reply.len();
-    if len > MAX_MESSAGE_LEN {
-        return Err(AllocError);
-    }
-    let mut bytes = Vec::with_capacity(alloc, PREFIX_LEN + len)?;
-    if let Err(_fault) = write_prefix(len, &mut bytes) {
-        return Err(AllocError);
-    }
-    reply.write(&mut bytes)?;
-    Ok(Bytes::from_vec(bytes)?)
 }

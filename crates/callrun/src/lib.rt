@@ -8,14 +8,15 @@
 //! and each cause for which the server ends a call by itself stood (gRPC over HTTP/2, "Responses"; the texts of such
 //! statuses are our own).
 //!
-//! Read `cause` and `ending` first: with what a call ends. Then `specs/Responses.antt` and `specs/Outcomes.antt`; `waiting`,
-//! `handling` and `response`, the parts; `call_run`, the whole; and `uses::call_list`, calls one after another.
+//! Read `cause` and `ending` first: with what a call ends. Then `specs/Responses.antt` and `specs/Outcomes.antt`; `framed`,
+//! `waiting`, `handling` and `response`, the parts; `call_run`, the whole; and `uses::call_list`, calls one after another.
 #![tactic(auto)]
 
 mod call;
 pub mod call_run;
 pub mod cause;
 mod ending;
+mod framed;
 mod giving;
 mod handling;
 mod response;

@@ -1,10 +1,14 @@
 //! The replies that a call has still to give.
 
-ghost use Rattle.std.specs.Prelude.{◌≡◌, ◌↔◌, IsTrue, [], ◌∷◌, MatchOption, List};
+ghost use Rattle.std.specs.Prelude.{◌≡◌, ◌↔◌, IsTrue, [], ◌∷◌, IfOk, MatchOption, List};
+ghost use Rattle.lpm.specs.Messages.{frame};
+ghost use Rattle.handlers.specs.Replies.{reply_bytes};
 ghost use Rattle.handlers.specs.declared.reply.Reply.{Reply as ReplyOf};
 
+use crate::framed::{FramedReply, framed};
+use bytes::Bytes;
 use handlers::{Replies, Reply};
-use std::alloc::Global;
+use std::alloc::{AllocError, Global};
 use std::marker::Model;
 
 /// Replies in order, of which the first ones were given. In a contract they are the list of the others.
@@ -12,6 +16,8 @@ use std::marker::Model;
 pub(crate) struct Waiting {
     replies: Replies,
     given: usize,
+    /// The message of a reply that is given more than once.
+    shared: Option<FramedReply>,
 }
 
 impl Model for Waiting {
@@ -33,7 +39,11 @@ impl Waiting {
     pub(crate) fn of(replies: Replies) -> Waiting
         ensures { result ≡ replies }
     {
-        Waiting { replies, given: 0 }
+        Waiting {
+            replies,
+            given: 0,
+            shared: None,
+        }
     }
 
     /// The next reply.
@@ -58,5 +68,25 @@ impl Waiting {
         if self.given < self.replies.as_slice().len() {
             self.given += 1;
         }
+    }
+
+    /// The message of the next reply, with its prefix. Where the reply behind it is the same, it is made once for both.
+    pub(crate) fn framed(&mut self, alloc: Global, reply: Reply) -> Result<Bytes, AllocError>
+        ensures waits { self.new ≡ self.old }
+        ensures frame { IfOk result (λ bytes. bytes ≡ frame (reply_bytes reply)) }
+    {
+        if let Some(shared) = &self.shared {
+            if shared.reply == reply {
+                return shared.bytes.clone();
+            }
+        }
+        let bytes = framed(alloc, reply)?;
+        if self.replies.as_slice().get(self.given.saturating_add(1)) == Some(&reply) {
+            self.shared = Some(FramedReply {
+                reply,
+                bytes: bytes.clone()?,
+            });
+        }
+        Ok(bytes)
     }
 }

@@ -133,7 +133,7 @@ pub fn run_call<I: Lane<Item = InPiece>, O: Lane<Item = OutItem>, P: Pace>(
     ensures in_name { I.out_name result.taker.rx ≡ I.out_name call.taker.rx }
     ensures name { of_end (λ g. O.in_name g.tx) (λ s. O.shut_name s.shut) result.end ≡ O.in_name call.giver.tx }
     ensures stays { P.latest pace.old ≤ P.latest pace.new }
-    // Its pace was asked for each turn, and it is left only where the pace had it left, or it had as many turns as it may have.
+    // It is left only where its pace had it left, or its pace had as many turns as it may have.
     ensures turns { CountsOn (P.turns pace.old) (P.turns pace.new) result.turns }
     ensures lefts { CountsOn (P.lefts pace.old) (P.lefts pace.new) (leaves result.why) }
     ensures had { HadTurns turns result.turns result.why (of_end (λ g. false) (λ s. true) result.end) result.ran_out O.only_fills }

@@ -1,6 +1,6 @@
 use Rattle.std.proofs.Common.{◌≡◌, ◌++◌, ◌∙◌, ap, ℕ, List, [], length}
 use Rattle.lpm.specs.Messages.{frame, prefix_of}
-use Rattle.callrun.proofs.giving.framed.Goals as goal
+use Rattle.callrun.proofs.framed.framed.Goals as goal
 
 -- a prefix and the message behind it
 whole_frame : (message : List ℕ) (len : ℕ) (none before after bytes : List ℕ) → len ≡ length message → none ≡ [] → before ≡ none ++ prefix_of len → after ≡ before ++ message
