@@ -14,6 +14,7 @@ mod messages;
 mod methods;
 mod out_ends;
 mod rings;
+mod slots;
 mod threads;
 mod values;
 
@@ -126,5 +127,10 @@ fn run_threads<R: Threads + Wait + Sync + Clock + Print + AllocGlobal>(rt: &R) -
         rt,
         "a sender goes to another thread",
         threads::sender_elsewhere(rt, alloc)?,
+    )?;
+    tell(
+        rt,
+        "one slot serves three calls",
+        slots::one_after_another(rt, alloc)?,
     )
 }
