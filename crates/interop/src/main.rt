@@ -13,7 +13,7 @@
 //! - `call`: the events of a call whose bytes come in pieces.
 //! - `report`: the lines that tell messages, the end and faults.
 //! - `client` and `target`: `interop case`.
-//! - `server`: `interop serve` and `interop self`. `parts`, `memory` and `streams`: `interop parts`.
+//! - `server` and `port`: `interop serve` and `interop self`. `parts`, `memory` and `streams`: `interop parts`.
 #![tactic(auto)]
 
 ghost use Rattle.std.specs.Prelude.{◌<◌};
@@ -23,6 +23,7 @@ mod call;
 mod client;
 mod memory;
 mod parts;
+mod port;
 mod report;
 mod server;
 mod streams;

@@ -6,20 +6,17 @@ ghost use Rattle.cases.specs.Report.{all_cases, have_passed, lines_of};
 ghost use Rattle.cases.specs.declared.report.Outcome.{Outcome};
 
 use crate::client::run_all_cases;
+use crate::port::{serve_all, serve_stream};
 use crate::target::{LOOPBACK, Target, read_number};
 use cases::ReportFault;
-use connection::serve_connection;
-use device::{ConnWrite, Marked};
+use device::ConnWrite;
 use handlers::Methods;
 use std::alloc::Global;
 use std::net::{Net, TcpListener, TcpStream};
 use std::sync::{Arc, Wait};
 use std::thread::{JoinHandle, Threads};
-use std::time::{Clock, Duration};
+use std::time::Clock;
 use std::{io, thread};
-
-/// How long no connection is taken after one could not be, in milliseconds.
-const PAUSE: u64 = 10;
 
 /// The port of `self` where no other is given.
 const OWN_PORT: u16 = 50_051;
@@ -93,7 +90,7 @@ where
     println!(rt; "listening {LOOPBACK}:{port}")?;
     match words.connections {
         Some(count) => serve_some(rt, alloc, &listener, methods, count),
-        None => serve_all(rt, alloc, &listener, methods),
+        None => Ok(serve_all(rt, alloc, listener, methods)?),
     }
 }
 
@@ -123,7 +120,7 @@ where
 {
     let alloc = rt.alloc();
     let serving = thread::spawn(&rt, move || {
-        let _ended = serve_all(rt, alloc, &listener, &methods);
+        let _ended = serve_all(rt, alloc, listener, &methods);
     });
     if serving.is_err() {
         return Err(ReportFault::OutOfMemory);
@@ -133,24 +130,6 @@ where
         port,
     };
     run_all_cases(&rt, alloc, target, output)
-}
-
-/// Serves all connections that come.
-fn serve_all<R>(
-    rt: R,
-    alloc: Global,
-    listener: &TcpListener,
-    methods: &Arc<Methods>,
-) -> io::Result<()>
-where
-    R: Threads + Wait + Clock + Copy + Send + Sync + Drop + 'static,
-{
-    for _ in rt.forever() {
-        if serve_next(rt, alloc, listener, methods).is_err() {
-            let _ = thread::sleep(&rt, Duration::from_millis(PAUSE));
-        }
-    }
-    unreachable!()
 }
 
 /// Serves so many connections, to the end of each.
@@ -184,14 +163,10 @@ fn serve_next<R>(
 where
     R: Threads + Wait + Clock + Copy + Send + Sync + Drop + 'static,
 {
-    let (input, _peer) = listener.accept()?;
-    // So that a small frame leaves at once.
-    input.set_nodelay(true)?;
-    let output = input.try_clone()?;
+    let (stream, _peer) = listener.accept()?;
     let methods = Arc::try_clone(methods)?;
     let serving = thread::spawn(&rt, move || {
-        let mut input = Marked::new(input);
-        let _served = serve_connection(rt, alloc, &mut input, Marked::new(output), methods);
+        let _served = serve_stream(rt, alloc, stream, &methods);
     });
     match serving {
         Ok(handle) => Ok(handle),

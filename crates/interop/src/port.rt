@@ -1,0 +1,134 @@
+//! The threads that serve a port.
+//!
+//! Each takes a connection, serves it to its end, and takes the next one. So a client that makes a connection a call waits
+//! for no thread to start. A connection that stays keeps its thread, and one more is started for those that come.
+
+use connection::serve_connection;
+use device::Marked;
+use handlers::Methods;
+use lane::Bell;
+use std::alloc::{AllocError, Global};
+use std::net::{TcpListener, TcpStream};
+use std::sync::atomic::{AtomicUsize, Ordering};
+use std::sync::{Arc, Wait};
+use std::thread::Threads;
+use std::time::{Clock, Duration};
+use std::{io, thread};
+
+/// How many threads are to wait for a connection where there were too few.
+const WAITING: usize = 4;
+
+/// How many threads wait for a connection at most. One more ends once its connection has.
+const MOST_WAITING: usize = 16;
+
+/// How long no connection is taken after one could not be, in milliseconds.
+const PAUSE: u64 = 10;
+
+/// How long a thread sleeps at most before it looks whether more are wanted, in seconds.
+const LOOK: u64 = 3600;
+
+/// A port, and the threads that wait for a connection to it.
+#[derive(Drop)]
+struct Port {
+    listener: TcpListener,
+    waiting: AtomicUsize,
+    /// Rung where the last one that waited has taken a connection.
+    wanted: Bell,
+}
+
+/// Serves all connections that come.
+pub fn serve_all<R>(
+    rt: R,
+    alloc: Global,
+    listener: TcpListener,
+    methods: &Arc<Methods>,
+) -> Result<(), AllocError>
+where
+    R: Threads + Wait + Clock + Copy + Send + Sync + Drop + 'static,
+{
+    let port = Arc::new(
+        alloc,
+        Port {
+            listener,
+            waiting: AtomicUsize::new(0),
+            wanted: Bell::new(),
+        },
+    )?;
+    for _ in rt.forever() {
+        let mark = port.wanted.mark();
+        if port.waiting.load(Ordering::SeqCst) >= WAITING {
+            port.wanted.wait_past(&rt, mark, Duration::from_secs(LOOK));
+        } else if start(rt, alloc, &port, methods).is_err() {
+            let _ = thread::sleep(&rt, Duration::from_millis(PAUSE));
+        }
+    }
+    unreachable!()
+}
+
+/// Starts one more thread. That none can be made counts as want of memory.
+fn start<R>(
+    rt: R,
+    alloc: Global,
+    port: &Arc<Port>,
+    methods: &Arc<Methods>,
+) -> Result<(), AllocError>
+where
+    R: Threads + Wait + Clock + Copy + Send + Sync + Drop + 'static,
+{
+    let shared = Arc::try_clone(port)?;
+    let methods = Arc::try_clone(methods)?;
+    port.waiting.fetch_add(1, Ordering::SeqCst);
+    let serving = thread::spawn(&rt, move || {
+        take_connections(rt, alloc, &shared, &methods);
+    });
+    if serving.is_err() {
+        port.waiting.fetch_sub(1, Ordering::SeqCst);
+        return Err(AllocError);
+    }
+    Ok(())
+}
+
+/// Takes one connection after another, and serves each to its end. It ends where enough others wait.
+fn take_connections<R>(rt: R, alloc: Global, port: &Port, methods: &Arc<Methods>)
+where
+    R: Threads + Wait + Clock + Copy + Send + Sync + Drop + 'static,
+{
+    for _ in rt.forever() {
+        let accepted = port.listener.accept();
+        let before = port.waiting.fetch_sub(1, Ordering::SeqCst);
+        if before <= 1 {
+            port.wanted.ring();
+        }
+        let served = match accepted {
+            Ok((stream, _peer)) => serve_stream(rt, alloc, stream, methods),
+            Err(error) => Err(error),
+        };
+        if served.is_err() {
+            let _ = thread::sleep(&rt, Duration::from_millis(PAUSE));
+        }
+        let waiting = port.waiting.fetch_add(1, Ordering::SeqCst);
+        if waiting >= MOST_WAITING {
+            port.waiting.fetch_sub(1, Ordering::SeqCst);
+            return;
+        }
+    }
+}
+
+/// Serves a connection to its end. It fails where nothing was read of it.
+pub fn serve_stream<R>(
+    rt: R,
+    alloc: Global,
+    stream: TcpStream,
+    methods: &Arc<Methods>,
+) -> io::Result<()>
+where
+    R: Threads + Wait + Clock + Copy + Send + Sync + Drop + 'static,
+{
+    // So that a small frame leaves at once.
+    stream.set_nodelay(true)?;
+    let output = Marked::new(stream.try_clone()?);
+    let methods = Arc::try_clone(methods)?;
+    let mut input = Marked::new(stream);
+    let _served = serve_connection(rt, alloc, &mut input, output, methods);
+    Ok(())
+}
