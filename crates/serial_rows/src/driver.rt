@@ -316,13 +316,25 @@ impl<'a> Serial<'a> {
                 !is_live
             }
             Turn::Over => {
-                let call = self.running.remove(place);
-                let id = call.id;
-                if call.into_status().is_none() {
-                    book.cut(id);
-                }
+                self.settle(book, place);
                 true
             }
+        }
+    }
+
+    /// A call is over. One without trailers is live no more.
+    fn settle<A: Ledger, B: Ledger, C: Ledger>(
+        &mut self,
+        book: &mut ConnBook<A, B, C>,
+        place: usize,
+    ) {
+        if place >= self.running.len() {
+            return;
+        }
+        let call = self.running.remove(place);
+        let id = call.id;
+        if call.into_status().is_none() {
+            book.cut(id);
         }
     }
 
