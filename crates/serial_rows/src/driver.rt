@@ -348,8 +348,9 @@ impl<'a> Serial<'a> {
         }
         match self.writer.take(order, self.table.last()) {
             Taking::Done => {}
-            Taking::Ended(0) | Taking::Unanswered(_) | Taking::HandedBack(_) => book.stop(),
+            Taking::Ended(0) => book.stop(),
             Taking::Ended(id) => book.cut(id),
+            Taking::Unanswered(_) | Taking::HandedBack(_) => book.stop(),
         }
     }
 
@@ -408,12 +409,13 @@ impl<'a> Serial<'a> {
         }
     }
 
-    /// No more comes: the halves that are open are cut, from this stream up to that.
+    /// No more comes: the halves that are open are cut.
     pub fn end_input<A: Ledger, B: Ledger, C: Ledger>(
         &mut self,
         book: &mut ConnBook<A, B, C>,
     ) -> Result<()> {
-        for id in 1..=self.table.last() {
+        for before in 0..self.table.last() {
+            let id = before.saturating_add(1);
             if let Some(order) = self.table.cut(id) {
                 book.cut(id);
                 self.put(order)?;
