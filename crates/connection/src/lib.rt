@@ -10,12 +10,13 @@
 //! - `shared`: what the threads of a connection share.
 //! - `intake`: the reader's hold on the credit book, `outlet` the writer's.
 //! - `slot`: a worker and how it is handed a call; `worker`: what it does with one.
-//! - `orders`: what the reader has the writer do.
+//! - `order`, `orders`: what the reader has the writer do.
 //! - `reader`: what becomes of each event; `writer`: orders and credit in, frames out.
 //! - `serve`: one connection from its first byte to its last.
 #![tactic(auto)]
 
 mod intake;
+mod order;
 mod orders;
 mod outlet;
 mod reader;

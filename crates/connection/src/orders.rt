@@ -1,17 +1,17 @@
 //! What the reader has the writer do.
 
+ghost use Rattle.std.specs.Prelude.{◌≡◌};
+ghost use Rattle.lane.specs.RingLane.{got};
+ghost use Rattle.connection.specs.Unused.{got_before};
+
+use crate::order::{Order, OrderOf};
 use crate::shared::Shared;
-use crate::slot::OutLane;
-use callbox::Sender;
 use h2frame::{ErrorCode, StreamId};
 use lane::{PutFault, RingIn};
 use outwriter::Control;
 use std::sync::ledger::Ledger;
 use std::sync::{Arc, Wait};
 use std::time::Duration;
-
-/// An order to the writer.
-pub(crate) type Order = Control<Sender<OutLane>>;
 
 /// How many orders may wait for the writer.
 pub(crate) const ORDERS: usize = 1024;
@@ -29,8 +29,11 @@ pub(crate) struct Orders<A: Ledger, B: Ledger, C: Ledger> {
 impl<A: Ledger, B: Ledger, C: Ledger> Orders<A, B, C> {
     /// Puts an order, and waits where there is no room. Behind a writer that has stopped it is dropped, but not the last one: such
     /// a writer takes orders still, and ends at that one.
-    pub(crate) fn put<R: Wait>(&mut self, rt: &R, order: Order) {
-        let mut order = order;
+    pub(crate) fn put<R: Wait>(&mut self, rt: &R, control: OrderOf)
+        requires unused { got_before got control ≡ 0 }
+    {
+        let is_last = matches!(control, Control::Close);
+        let mut order = Order::new(control);
         for _ in rt.forever() {
             let mark = self.shared.reader.mark();
             match self.ring.put(order) {
@@ -39,7 +42,7 @@ impl<A: Ledger, B: Ledger, C: Ledger> Orders<A, B, C> {
                 Err(PutFault::OutOfMemory(_) | PutFault::NotTaken(_)) => return,
             }
             self.shared.writer.ring();
-            if self.shared.has_stopped() && !matches!(order, Control::Close) {
+            if self.shared.has_stopped() && !is_last {
                 return;
             }
             self.shared

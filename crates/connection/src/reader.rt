@@ -1,8 +1,11 @@
 //! What becomes of each event of a connection.
 
 ghost use Rattle.std.specs.Prelude.{◌≡◌, ◌<◌};
+ghost use Rattle.lane.specs.RingLane.{got};
+ghost use Rattle.connection.specs.Unused.{got_before};
 
 use crate::intake::Intake;
+use crate::order::OrderOf;
 use crate::orders::Orders;
 use crate::report::Ending;
 use crate::shared::Shared;
@@ -383,7 +386,9 @@ where
 }
 
 /// What the writer is told of what the peer tells it.
-fn order_of(control: PeerControl) -> crate::orders::Order {
+fn order_of(control: PeerControl) -> OrderOf
+    ensures { got_before got result ≡ 0 }
+{
     match control {
         PeerControl::Settings(settings) => Control::Settings(settings),
         PeerControl::Ping(bytes) => Control::Ping(bytes),

@@ -1,6 +1,8 @@
 //! One connection from its first byte to its last.
 
-ghost use Rattle.std.specs.Prelude.{◌≡◌, ◌<◌};
+ghost use Rattle.std.specs.Prelude.{◌≡◌, ◌<◌, Some, IfOk, IfSome};
+ghost use Rattle.connection.specs.declared.report.Ending.TheVariants as ending;
+ghost use Rattle.connection.specs.Written.{HasWritten};
 
 use crate::intake::Intake;
 use crate::orders::{ORDERS, Orders};
@@ -16,10 +18,11 @@ use handlers::Methods;
 use lane::Ring;
 use std::alloc::{AllocError, Global};
 use std::marker::Brand;
+use std::snapshot::Snapshot;
 use std::sync::ledger::{Blank, Ledger};
 use std::sync::{Arc, Wait};
 use std::thread;
-use std::thread::Threads;
+use std::thread::{Promise, Threads};
 use std::time::{Clock, Instant};
 
 /// Serves one connection, and says what became of it. The caller's thread reads; one more writes, and up to 64 answer calls. It
@@ -37,6 +40,7 @@ where
     I: ConnRead,
     O: ConnWrite + Send + Drop + 'static,
     R: Threads + Wait + Clock + Copy + Send + Sync + Drop + 'static,
+    ensures served { IfSome result.output (HasWritten O.contents O.failed (O.contents output) (Some result.ending)) }
 {
     let blanks = (Blank::new(1), Blank::new(1), Blank::new(1));
     match serve_over::<Brand, Brand, Brand, I, O, R>(rt, alloc, blanks, input, output, methods) {
@@ -67,6 +71,7 @@ where
     requires received { (blanks.0.name ≡ A.name) × (blanks.0.parts ≡ A.parts) × (0 < A.parts) }
     requires admitted { (blanks.1.name ≡ B.name) × (blanks.1.parts ≡ B.parts) × (0 < B.parts) }
     requires announced { (blanks.2.name ≡ C.name) × (blanks.2.parts ≡ C.parts) × (0 < C.parts) }
+    ensures served { IfOk result (λ served. IfSome served.output (HasWritten O.contents O.failed (O.contents output) (Some served.ending))) }
 {
     let (received, came) = blanks.0.open::<A>();
     let (admitted, calls) = blanks.1.open::<B>();
@@ -75,6 +80,7 @@ where
     let shared = Shared::new(alloc, book)?;
     let (putting, taking) = Ring::open(alloc, ORDERS)?;
     let start = Instant::now(&rt).map_err(|_| AllocError)?;
+    let begun = Begun(Snapshot::of(&output));
     let writer = Writer {
         orders: taking,
         outlet: Outlet::new(Arc::try_clone(&shared)?, told),
@@ -91,20 +97,30 @@ where
     };
     let mut intake = Intake::new(shared, came, calls);
     let mut reader = Reader::new(rt, alloc, methods, orders, start);
-    let Ok(writing) = thread::spawn(&rt, move || writer.write(&rt)) else {
+    let Ok(writing) = thread::spawn_with(&rt, begun, move || writer.write(&rt)) else {
         return Err(AllocError);
     };
     let read = reader.read(&mut intake, input);
     reader.end();
-    let (written, output) = writing.join(&rt);
+    let (written, device) = writing.join(&rt);
     Ok(Served {
         ending: of_both(read, written),
-        output: Some(output),
+        output: Some(device),
     })
 }
 
+/// What a writer writes to, as it was before. What comes back of it has the frames of a lawful run behind that.
+#[derive(Drop)]
+struct Begun<O: ConnWrite>(Snapshot<O>);
+
+impl<O: ConnWrite> Promise<(Option<Ending>, O)> for Begun<O> {
+    ghost kept_by = { λ begun r. HasWritten O.contents O.failed (O.contents begun.0.value) r.0 r.1 };
+}
+
 /// How a connection ended, by what the reader and the writer see.
-fn of_both(read: Ending, written: Option<Ending>) -> Ending {
+fn of_both(read: Ending, written: Option<Ending>) -> Ending
+    ensures memory { written ≡ Some ending.OutOfMemory → result ≡ ending.OutOfMemory }
+{
     match (read, written) {
         (Ending::OutOfMemory, _) => Ending::OutOfMemory,
         (_, Some(ending)) => ending,
