@@ -1,11 +1,12 @@
 //! The writing thread of a connection.
 
-ghost use Rattle.std.specs.Prelude.{◌≡◌, ℕ, List, Option, Some, IfSome};
+ghost use Rattle.std.specs.Prelude.{◌≡◌, ℕ, true, List, Option, Some, IfSome};
 ghost use Rattle.lane.specs.RingLane.{got};
 ghost use Rattle.outwriter.specs.Cores.{IsUnused};
+ghost use Rattle.connwriter.specs.declared.filled.Filled.TheVariants as filling;
 ghost use Rattle.connwriter.specs.declared.standing.Standing.TheVariants as stands;
 ghost use Rattle.connection.specs.declared.report.Ending.TheVariants as ending;
-ghost use Rattle.connection.specs.Written.{HasWritten, IsFlushed, Runs, RunsOn};
+ghost use Rattle.connection.specs.Written.{HasWritten, IsFlushed, Runs, Ends, RunsOn, RunsOut, Stays};
 
 use crate::orders::Order;
 use crate::outlet::Outlet;
@@ -93,7 +94,7 @@ impl<A: Ledger, B: Ledger, C: Ledger, W: ConnWrite + Drop> Writer<A, B, C, W> {
     /// How the connection ended as far as the writer sees, and what it wrote to.
     fn into_end(self) -> (Option<Ending>, W)
         requires flushed { IsFlushed self.frames }
-        ensures written { (before : Option (List ℕ)) → Runs got W.contents W.failed before self.frames → HasWritten W.contents W.failed before result.0 result.1 }
+        ensures written { (before : Option (List ℕ)) → Ends got W.contents W.failed before self.frames → HasWritten W.contents W.failed before result.0 result.1 }
     {
         let ending = self.ending();
         let Writer { frames, .. } = self;
@@ -104,6 +105,7 @@ impl<A: Ledger, B: Ledger, C: Ledger, W: ConnWrite + Drop> Writer<A, B, C, W> {
     /// Writes what can be written, and waits where that is nothing. Whether no more is to be written.
     fn turn(&mut self, rt: &impl Wait) -> bool
         ensures runs { RunsOn got W.contents W.failed self.old.frames self.new.frames }
+        ensures over { result ≡ true → RunsOut got W.contents W.failed self.old.frames self.new.frames }
         ensures flushed { IsFlushed self.new.frames }
     {
         let mark = self.outlet.shared.writer.mark();
@@ -130,6 +132,8 @@ impl<A: Ledger, B: Ledger, C: Ledger, W: ConnWrite + Drop> Writer<A, B, C, W> {
     /// Takes what orders wait, and writes a buffer's worth of frames. Why there aren't more, and whether there was none.
     fn write_once(&mut self, rt: &impl Wait) -> (Filled, bool)
         ensures runs { RunsOn got W.contents W.failed self.old.frames self.new.frames }
+        ensures over { result.0 ≡ filling.Over → RunsOut got W.contents W.failed self.old.frames self.new.frames }
+        ensures stopped { result.0 ≡ filling.Stopped → RunsOut got W.contents W.failed self.old.frames self.new.frames }
         ensures flushed { IsFlushed self.new.frames }
     {
         self.drain(rt);
@@ -243,7 +247,7 @@ impl<A: Ledger, B: Ledger, C: Ledger, W: ConnWrite + Drop> Writer<A, B, C, W> {
 
     /// Writes what is in the buffer. The calls whose last frame is in it take no more DATA.
     fn flush(&mut self, rt: &impl Wait)
-        ensures runs { RunsOn got W.contents W.failed self.old.frames self.new.frames }
+        ensures stays { Stays got W.contents W.failed self.old.frames self.new.frames }
         ensures flushed { IsFlushed self.new.frames }
     {
         {
@@ -269,7 +273,7 @@ impl<A: Ledger, B: Ledger, C: Ledger, W: ConnWrite + Drop> Writer<A, B, C, W> {
     /// Lets go of the senders of calls that are through, before the peer can see that: so their slots are free for the calls that it
     /// begins then. A header block that a full buffer has cut is whole where nothing more can be written now.
     fn let_go(&mut self, filled: Filled)
-        ensures runs { RunsOn got W.contents W.failed self.old.frames self.new.frames }
+        ensures stays { Stays got W.contents W.failed self.old.frames self.new.frames }
     {
         'ended: for index in 0..self.frames.ended().len() {
             if let Some(id) = self.frames.ended().get(index).copied() {
@@ -293,7 +297,7 @@ impl<A: Ledger, B: Ledger, C: Ledger, W: ConnWrite + Drop> Writer<A, B, C, W> {
 
     /// Keeps the sender of a call that is through for the next call of its slot, and says whether it is.
     fn release(&mut self, id: StreamId, is_at_end: bool) -> bool
-        ensures runs { RunsOn got W.contents W.failed self.old.frames self.new.frames }
+        ensures stays { Stays got W.contents W.failed self.old.frames self.new.frames }
     {
         let Some(sender) = self.frames.release(id) else {
             return false;
@@ -305,7 +309,9 @@ impl<A: Ledger, B: Ledger, C: Ledger, W: ConnWrite + Drop> Writer<A, B, C, W> {
     }
 
     /// Whether nothing more can be written. Once the input has ended no window opens, so the calls that wait for one are cut.
-    fn has_ended(&self, rt: &impl Wait, filled: Filled) -> bool {
+    fn has_ended(&self, rt: &impl Wait, filled: Filled) -> bool
+        ensures stopped { result ≡ true → filled ≡ filling.Stopped }
+    {
         if filled == Filled::Stopped {
             self.stop(rt);
             return self.closed;
