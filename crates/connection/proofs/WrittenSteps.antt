@@ -19,6 +19,10 @@ standing-of stands.Going going memory broken = going refl
 standing-of stands.OutOfMemory going memory broken = memory refl
 standing-of stands.Broken going memory broken = broken refl
 
+unless-lost : {A : Type 0} (standing : Standing) (told : Option Ending) → (standing ≡ stands.OutOfMemory → told ≡ Some ending.OutOfMemory) → standing ≢ stands.Broken
+    → (standing ≡ stands.Going → A) → told ≢ Some ending.OutOfMemory → A
+unless-lost standing told memory sound on other = standing-of standing on (λ stood. absurd (other (memory stood))) (λ stood. absurd (sound stood))
+
 module _ {L In Out Shut W : Type 0} (got : Out → List OutItem) (contents : W → Option (List ℕ)) (failed : W → Bool) where
   -- these steps are taken
   pub runs-on : (steps : List Step) (old new : ConnWriter L W In Out Shut) → WritesOn got contents failed steps old new → RunsOn got contents failed old new
@@ -84,8 +88,6 @@ module _ {L In Out Shut W : Type 0} (got : Out → List OutItem) (contents : W �
       → HasWritten contents failed before told device
   has-written before writer device told same flushed ends returned others front whole all memory =
       let sound : failed device ≡ false → writer.standing ≢ stands.Broken = λ unmarked stood. true≢false (sym (ap failed same ∙ ends.1.marked stood) ∙ unmarked) in
-      let unless : {A : Type 0} → (writer.standing ≡ stands.Going → A) → failed device ≡ false → told ≢ Some ending.OutOfMemory → A =
-          λ then unmarked other. standing-of writer.standing then (λ stood. absurd (other (memory stood))) (λ stood. absurd (sound unmarked stood)) in
       record {
         run = ends.0;
         lawful = ends.1.lawful;
@@ -93,8 +95,8 @@ module _ {L In Out Shut W : Type 0} (got : Out → List OutItem) (contents : W �
         others = others;
         front = front;
         whole = λ unmarked. whole (sound unmarked) (flushed (sound unmarked));
-        all = λ unmarked other. unless (λ going. all going (flushed (sound unmarked))) unmarked other;
-        over = λ unmarked other. unless ends.2 unmarked other;
+        all = λ unmarked other. unless-lost writer.standing told memory (sound unmarked) (λ going. all going (flushed (sound unmarked))) other;
+        over = λ unmarked other. unless-lost writer.standing told memory (sound unmarked) ends.2 other;
       }
 
 -- the ending that is told names want of memory where this one does

@@ -63,10 +63,11 @@ impl<A: Ledger, B: Ledger, C: Ledger, W: ConnWrite + Drop> Writer<A, B, C, W> {
     ) -> Writer<A, B, C, W>
         ensures runs { Runs got W.contents W.failed (W.contents device) result.frames }
     {
+        let frames = ConnWriter::new(alloc, device);
         Writer {
             orders,
             outlet,
-            frames: ConnWriter::new(alloc, device),
+            frames,
             senders: Senders::new(alloc),
             set_aside: None,
             input_ended: false,
