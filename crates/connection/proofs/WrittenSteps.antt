@@ -33,16 +33,24 @@ module _ {L In Out Shut W : Type 0} (got : Out → List OutItem) (contents : W �
       → RunsOn got contents failed old new
   fills-on ahead filled old new fills before runs = let found = fills before runs.0 runs.1 in (map Written found.0 ++ runs.0, found.1)
 
-  -- so many that nothing is left to be written
-  pub fills-over : (ahead : Out → List OutItem) (old new : ConnWriter L W In Out Shut) → Fills got ahead contents failed (Some Over) old new → RunsOut got contents failed old new
-  fills-over ahead old new fills before runs =
+  over-filled : (ahead : Out → List OutItem) (old new : ConnWriter L W In Out Shut) → Fills got ahead contents failed (Some Over) old new → RunsOut got contents failed old new
+  over-filled ahead old new fills before runs =
       let found = fills before runs.0 runs.1 in
       let rest = found.2 in
       (map Written found.0 ++ runs.0, found.1, λ going. record { closed = found.1.serving.closed ∙ rest.1; answered = rest.0.answered })
 
+  stopped-filled : (ahead : Out → List OutItem) (old new : ConnWriter L W In Out Shut) → Fills got ahead contents failed (Some Stopped) old new → RunsOut got contents failed old new
+  stopped-filled ahead old new fills before runs = let found = fills before runs.0 runs.1 in (map Written found.0 ++ runs.0, found.1, λ going. absurd (found.2 going))
+
+  -- so many that nothing is left to be written
+  pub fills-over : (ahead : Out → List OutItem) (filled : Filled) (old new : ConnWriter L W In Out Shut) → Fills got ahead contents failed (Some filled) old new → filled ≡ Over
+      → RunsOut got contents failed old new
+  fills-over ahead filled old new fills over = over-filled ahead old new (subst (λ (found : Filled). Fills got ahead contents failed (Some found) old new) over fills)
+
   -- the writer makes no more
-  pub fills-stopped : (ahead : Out → List OutItem) (old new : ConnWriter L W In Out Shut) → Fills got ahead contents failed (Some Stopped) old new → RunsOut got contents failed old new
-  fills-stopped ahead old new fills before runs = let found = fills before runs.0 runs.1 in (map Written found.0 ++ runs.0, found.1, λ going. absurd (found.2 going))
+  pub fills-stopped : (ahead : Out → List OutItem) (filled : Filled) (old new : ConnWriter L W In Out Shut) → Fills got ahead contents failed (Some filled) old new → filled ≡ Stopped
+      → RunsOut got contents failed old new
+  fills-stopped ahead filled old new fills stopped = stopped-filled ahead old new (subst (λ (found : Filled). Fills got ahead contents failed (Some found) old new) stopped fills)
 
   -- one after another
   pub runs-then : (old mid new : ConnWriter L W In Out Shut) → RunsOn got contents failed old mid → RunsOn got contents failed mid new → RunsOn got contents failed old new

@@ -277,22 +277,38 @@ impl<A: Ledger, B: Ledger, C: Ledger, W: ConnWrite + Drop> Writer<A, B, C, W> {
         ensures stays { Stays got W.contents W.failed self.old.frames self.new.frames }
     {
         'ended: for index in 0..self.frames.ended().len() {
-            if let Some(id) = self.frames.ended().get(index).copied() {
-                if !self.release(id, true) {
-                    self.call_off(id);
-                }
-            }
+            self.let_go_ended(index);
         }
         'called_off: for index in (0..self.called_off.len()).rev() {
-            if let Some(id) = self.called_off.get(index).copied() {
-                let is_kept = self.release(id, false);
-                if (is_kept || filled != Filled::Full) && index < self.called_off.len() {
-                    self.called_off.swap_remove(index);
-                }
-            }
+            self.let_go_called_off(index, filled);
         }
         if self.senders.catch_up() {
             self.outlet.shared.reader.ring();
+        }
+    }
+
+    /// Lets go of the sender of a call by the place of its END_STREAM in the buffer. Where the call isn't through, it is noted.
+    fn let_go_ended(&mut self, index: usize)
+        ensures stays { Stays got W.contents W.failed self.old.frames self.new.frames }
+    {
+        let Some(id) = self.frames.ended().get(index).copied() else {
+            return;
+        };
+        if !self.release(id, true) {
+            self.call_off(id);
+        }
+    }
+
+    /// Lets go of the sender of a call by its place among the streams that were called off.
+    fn let_go_called_off(&mut self, index: usize, filled: Filled)
+        ensures stays { Stays got W.contents W.failed self.old.frames self.new.frames }
+    {
+        let Some(id) = self.called_off.get(index).copied() else {
+            return;
+        };
+        let is_kept = self.release(id, false);
+        if (is_kept || filled != Filled::Full) && index < self.called_off.len() {
+            self.called_off.swap_remove(index);
         }
     }
 
