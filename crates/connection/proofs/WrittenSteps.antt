@@ -23,6 +23,10 @@ unless-lost : {A : Type 0} (standing : Standing) (told : Option Ending) → (sta
     → (standing ≡ stands.Going → A) → told ≢ Some ending.OutOfMemory → A
 unless-lost standing told memory sound on other = standing-of standing on (λ stood. absurd (other (memory stood))) (λ stood. absurd (sound stood))
 
+went-on : {T E : Type 0} (result : Result T E) (old new : Standing) → OnOk result (new ≡ old) → OnErr result (new ≡ stands.Broken) → new ≡ stands.Going → old ≡ stands.Going
+went-on (Ok done) old new ok err going = sym ok ∙ going
+went-on (Err fault) old new ok err going = let broken = sym err ∙ going in cc
+
 module _ {L In Out Shut W : Type 0} (got : Out → List OutItem) (contents : W → Option (List ℕ)) (failed : W → Bool) where
   -- these steps are taken
   pub runs-on : (steps : List Step) (old new : ConnWriter L W In Out Shut) → WritesOn got contents failed steps old new → RunsOn got contents failed old new
@@ -56,6 +60,12 @@ module _ {L In Out Shut W : Type 0} (got : Out → List OutItem) (contents : W �
   pub runs-then : (old mid new : ConnWriter L W In Out Shut) → RunsOn got contents failed old mid → RunsOn got contents failed mid new → RunsOn got contents failed old new
   runs-then old mid new first second before runs = second before (first before runs)
 
+  -- the same between writers that are these
+  pub runs-between : (one old new two : ConnWriter L W In Out Shut) → old ≡ one → RunsOn got contents failed old new → two ≡ new → RunsOn got contents failed one two
+  runs-between one old new two same on after before runs =
+      subst (λ (writer : ConnWriter L W In Out Shut). Runs got contents failed before writer) (sym after)
+      (on before (subst (λ (writer : ConnWriter L W In Out Shut). Runs got contents failed before writer) (sym same) runs))
+
   -- a call's sender is given back
   pub returns-stay : (id : ℕ) (items : List OutItem) (old new : ConnWriter L W In Out Shut) → new.standing ≡ old.standing
       → WritesOn got contents failed (Returned id items ∷ []) old new → Stays got contents failed old new
@@ -63,10 +73,6 @@ module _ {L In Out Shut W : Type 0} (got : Out → List OutItem) (contents : W �
     runs = runs-on (Returned id items ∷ []) old new on;
     ends = λ before ends. (Returned id items ∷ ends.0, on before ends.0 ends.1, λ going. let over = ends.2 (sym same ∙ going) in record { closed = over.closed; answered = over.answered });
   }
-
-  went-on : {T E : Type 0} (result : Result T E) (old new : Standing) → OnOk result (new ≡ old) → OnErr result (new ≡ stands.Broken) → new ≡ stands.Going → old ≡ stands.Going
-  went-on (Ok done) old new ok err going = sym ok ∙ going
-  went-on (Err fault) old new ok err going = let broken = sym err ∙ going in cc
 
   -- the buffer is written
   pub flush-stays : {T E : Type 0} (result : Result T E) (old new : ConnWriter L W In Out Shut) → OnOk result (new.standing ≡ old.standing) → OnErr result (new.standing ≡ stands.Broken)
