@@ -1,6 +1,6 @@
 //! One connection from its first byte to its last.
 
-ghost use Rattle.std.specs.Prelude.{◌≡◌, ◌<◌, Some, IfOk, IfSome};
+ghost use Rattle.std.specs.Prelude.{◌≡◌, ◌<◌, ℕ, List, Option, Some, IfOk, IfSome};
 ghost use Rattle.connection.specs.declared.report.Ending.TheVariants as ending;
 ghost use Rattle.connection.specs.Written.{HasWritten};
 
@@ -11,6 +11,7 @@ use crate::reader::Reader;
 use crate::report::{Ending, Served};
 use crate::shared::Shared;
 use crate::writer;
+use crate::writer::Writing;
 use connbook::ConnBook;
 use device::{ConnRead, ConnWrite};
 use handlers::Methods;
@@ -84,14 +85,24 @@ where
     };
     let mut intake = Intake::new(shared, came, calls);
     let mut reader = Reader::new(rt, alloc, methods, orders, start);
-    let writing = writer::start(rt, alloc, taking, outlet, output).ok_or(AllocError)?;
+    let writing = writer::start(rt, alloc, taking, outlet, output)?;
     let read = reader.read(&mut intake, input);
     reader.end();
-    let (written, device) = writing.join(&rt);
-    Ok(Served {
-        ending: of_both(read, written),
+    Ok(meet(&rt, read, writing))
+}
+
+/// What became of a connection, where its reader meets its writer.
+fn meet<O>(rt: &impl Threads, read: Ending, writing: Writing<O>) -> Served<O>
+where
+    O: ConnWrite + Send + Drop + 'static,
+    ensures served { (before : Option (List ℕ)) → O.contents writing.promise.0.value ≡ before → IfSome result.output (HasWritten O.contents O.failed before (Some result.ending)) }
+{
+    let (written, device) = writing.join(rt);
+    let ending = of_both(read, written);
+    Served {
+        ending,
         output: Some(device),
-    })
+    }
 }
 
 /// How a connection ended, by what the reader and the writer see.

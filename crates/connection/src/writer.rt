@@ -1,6 +1,6 @@
 //! The writing thread of a connection.
 
-ghost use Rattle.std.specs.Prelude.{◌≡◌, ℕ, true, List, Option, Some, IfSome};
+ghost use Rattle.std.specs.Prelude.{◌≡◌, ℕ, true, List, Option, Some, IfOk};
 ghost use Rattle.lane.specs.RingLane.{got};
 ghost use Rattle.outwriter.specs.Cores.{IsUnused};
 ghost use Rattle.connwriter.specs.declared.filled.Filled.TheVariants as filling;
@@ -20,7 +20,7 @@ use flow::MAX_LIVE;
 use h2frame::{ErrorCode, StreamId};
 use lane::RingOut;
 use outwriter::Control;
-use std::alloc::Global;
+use std::alloc::{AllocError, Global};
 use std::snapshot::Snapshot;
 use std::sync::Wait;
 use std::sync::ledger::Ledger;
@@ -424,26 +424,26 @@ impl<W: ConnWrite> Promise<(Option<Ending>, W)> for Begun<W> {
 /// The thread that writes, and what it comes to.
 pub(crate) type Writing<W> = PromisedHandle<(Option<Ending>, W), Begun<W>>;
 
-/// Starts the thread that writes. None where it can't be made.
+/// Starts the thread that writes. That it can't be made counts as want of memory.
 pub(crate) fn start<A, B, C, W, R>(
     rt: R,
     alloc: Global,
     orders: RingOut<Order>,
     outlet: Outlet<A, B, C>,
     device: W,
-) -> Option<Writing<W>>
+) -> Result<Writing<W>, AllocError>
 where
     A: Ledger + Send + Sync + 'static,
     B: Ledger + Send + Sync + 'static,
     C: Ledger + Send + Sync + 'static,
     W: ConnWrite + Send + Drop + 'static,
     R: Threads + Wait + Copy + Send + Sync + Drop + 'static,
-    ensures begun { IfSome result (λ writing. writing.promise.0.value ≡ device) }
+    ensures begun { IfOk result (λ writing. W.contents writing.promise.0.value ≡ W.contents device) }
 {
     let was = Snapshot::of(&device);
     let writer = Writer::new(alloc, orders, outlet, device, &was);
     match thread::spawn_with(&rt, Begun(was), move || writer.write(&rt)) {
-        Ok(writing) => Some(writing),
-        Err(_fault) => None,
+        Ok(writing) => Ok(writing),
+        Err(_fault) => Err(AllocError),
     }
 }
