@@ -33,6 +33,8 @@ const STEP: u64 = 1;
 pub(crate) struct Orders<A: Ledger, B: Ledger, C: Ledger> {
     pub(crate) ring: RingIn<Order>,
     pub(crate) shared: Arc<Shared<A, B, C>>,
+    /// Whether there are orders for which the writer wasn't rung yet.
+    pub(crate) are_unrung: bool,
 }
 
 impl<A: Ledger, B: Ledger, C: Ledger> Orders<A, B, C> {
@@ -40,6 +42,7 @@ impl<A: Ledger, B: Ledger, C: Ledger> Orders<A, B, C> {
     /// a writer takes orders still, and ends at that one.
     pub(crate) fn put<R: Wait>(&mut self, rt: &R, order: Order) {
         let mut order = order;
+        self.are_unrung = true;
         for _ in rt.forever() {
             let mark = self.shared.reader.mark();
             match self.ring.put(order) {
@@ -55,6 +58,12 @@ impl<A: Ledger, B: Ledger, C: Ledger> Orders<A, B, C> {
                 .reader
                 .wait_past(rt, mark, Duration::from_millis(STEP));
         }
+    }
+
+    /// Rings the writer.
+    pub(crate) fn ring(&mut self) {
+        self.are_unrung = false;
+        self.shared.writer.ring();
     }
 
     /// Orders a stream to be reset; `written` where the peer is to be told.

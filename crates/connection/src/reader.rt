@@ -25,8 +25,11 @@ use std::sync::{Arc, Wait};
 use std::thread::Threads;
 use std::time::{Clock, Duration, Instant};
 
-/// How many bytes are read at a time.
-const PIECE: usize = 32_768;
+/// How many bytes are read at a time: the DATA that a window lets through, with the heads of its frames.
+const PIECE: usize = 65_664;
+
+/// From how many bytes on the writer isn't rung for what came: it is DATA, and the calls ring once they have taken that.
+const LARGE_PIECE: usize = 8_192;
 
 /// How long the reader waits for a slot before it looks again, in milliseconds.
 const STEP: u64 = 1;
@@ -172,7 +175,9 @@ where
         }
         self.slots.ring_noted();
         // The writer wakes while the calls are answered.
-        self.orders.shared.writer.ring();
+        if piece.len() < LARGE_PIECE || self.orders.are_unrung {
+            self.orders.ring();
+        }
         Ok(None)
     }
 

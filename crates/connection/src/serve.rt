@@ -91,6 +91,7 @@ where
     let orders = Orders {
         ring: putting,
         shared: Arc::try_clone(&shared)?,
+        are_unrung: false,
     };
     let mut intake = Intake::new(shared, came, calls);
     let mut reader = Reader::new(rt, alloc, methods, orders, start);

@@ -1,7 +1,7 @@
 //! The writer of a connection.
 //!
-//! `fill` stops where a frame of the greatest length might not fit, so the buffer never has more than 64 KiB, and it is
-//! used again for the next frames.
+//! `fill` stops where a frame of the greatest length might not fit, so the buffer never has more than eight of those, and it
+//! is used again for the next frames.
 
 ghost use Rattle.std.specs.Prelude.{◌≡◌, ◌≢◌, ◌≤◌, ◌<◌, ◌+◌, ℕ, true, List, [], ◌∷◌, Option, Some, IsErr, OnOk, OnErr, OnSome, IfSome, IfNone, length, nat_eq, vec_len, vec_capacity};
 ghost use Rattle.std.specs.Map.{lookup};
@@ -35,8 +35,8 @@ use outwriter::{Control, Next, OutCore, OutFault};
 use std::alloc::{AllocError, Global};
 use std::mem;
 
-/// The most bytes that the buffer has.
-const BUFFER: usize = 65_536;
+/// The most bytes that the buffer has: those of eight frames of the greatest length.
+const BUFFER: usize = 131_144;
 
 /// The bytes of the longest frame, its head included (RFC 9113, sections 4.1 and 4.2).
 const LONGEST_FRAME: usize = 16_393;
@@ -155,11 +155,11 @@ impl<L: Lane<Item = OutItem>, W: ConnWrite> ConnWriter<L, W> {
     }
 
     /// Puts frames into the buffer, until none comes or the longest might not fit. The buffer never has more than
-    /// 65,536 bytes by it.
+    /// 131,144 bytes by it.
     pub fn fill(&mut self) -> Filled
         // Frames are the next steps of the run. Where none comes, all is written that can be.
         ensures wrote { Fills L.got (coming L.got L.ahead) W.contents W.failed (Some result) self.old self.new }
-        ensures room { length self.old.buffer.items ≤ 65536 → length self.new.buffer.items ≤ 65536 }
+        ensures room { length self.old.buffer.items ≤ 131144 → length self.new.buffer.items ≤ 131144 }
         ensures device { self.new.device ≡ self.old.device }
         ensures left { self.new.left ≡ self.old.left }
         ensures goes { result ≢ filled.Stopped → self.new.standing ≡ stands.Going }
@@ -259,7 +259,7 @@ impl<L: Lane<Item = OutItem>, W: ConnWrite> ConnWriter<L, W> {
     fn fill_on(&mut self) -> Filled
         requires { self.old.standing ≡ stands.Going }
         ensures wrote { Fills L.got (coming L.got L.ahead) W.contents W.failed (Some result) self.old self.new }
-        ensures room { length self.old.buffer.items ≤ 65536 → length self.new.buffer.items ≤ 65536 }
+        ensures room { length self.old.buffer.items ≤ 131144 → length self.new.buffer.items ≤ 131144 }
         ensures device { self.new.device ≡ self.old.device }
         ensures left { self.new.left ≡ self.old.left }
         ensures goes { result ≢ filled.Stopped → self.new.standing ≡ stands.Going }
