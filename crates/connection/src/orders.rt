@@ -1,5 +1,9 @@
 //! What the reader has the writer do.
 
+ghost use Rattle.std.specs.Prelude.{◌≡◌, [], IfOk};
+ghost use Rattle.lane.specs.RingLane.{got};
+ghost use Rattle.outwriter.specs.Cores.{IsUnused};
+
 use crate::shared::Shared;
 use crate::slot::{OutLane, Slot};
 use callbox::Sender;
@@ -14,9 +18,25 @@ use std::time::Duration;
 #[derive(Drop)]
 pub(crate) enum Opened {
     /// That of a new slot, which stays with the writer. The slots come in the order of their numbers.
-    New(Arc<Slot>, Sender<OutLane>),
+    New(Fresh),
     /// That of the slot of this number, once more.
     Again(usize),
+}
+
+/// A new slot, and its sender, of which nothing was got.
+#[derive(Drop)]
+pub(crate) struct Fresh {
+    pub(crate) slot: Arc<Slot>,
+    pub(crate) sender: Sender<OutLane>,
+    ghost unused: { got sender.rx ≡ [] },
+}
+
+impl Fresh {
+    pub(crate) fn new(slot: Arc<Slot>, sender: Sender<OutLane>) -> Fresh
+        requires { got sender.rx ≡ [] }
+    {
+        Fresh { slot, sender }
+    }
 }
 
 /// An order to the writer.
@@ -73,7 +93,9 @@ impl<A: Ledger, B: Ledger, C: Ledger> Orders<A, B, C> {
 }
 
 /// The control that an order is where no call begins by it; else which call begins, and whose sender sends it.
-pub(crate) fn split(order: Order) -> Result<Control<Sender<OutLane>>, (StreamId, Opened)> {
+pub(crate) fn split(order: Order) -> Result<Control<Sender<OutLane>>, (StreamId, Opened)>
+    ensures unused { IfOk result (IsUnused got) }
+{
     match order {
         Control::Open(id, opened) => Err((id, opened)),
         Control::Settings(settings) => Ok(Control::Settings(settings)),

@@ -1,17 +1,17 @@
 //! One connection from its first byte to its last.
 
-ghost use Rattle.std.specs.Prelude.{◌≡◌, ◌<◌};
+ghost use Rattle.std.specs.Prelude.{◌≡◌, ◌<◌, Some, IfOk, IfSome};
+ghost use Rattle.connection.specs.declared.report.Ending.TheVariants as ending;
+ghost use Rattle.connection.specs.Written.{HasWritten};
 
 use crate::intake::Intake;
 use crate::orders::{ORDERS, Orders};
 use crate::outlet::Outlet;
 use crate::reader::Reader;
 use crate::report::{Ending, Served};
-use crate::senders::Senders;
 use crate::shared::Shared;
-use crate::writer::Writer;
+use crate::writer;
 use connbook::ConnBook;
-use connwriter::ConnWriter;
 use device::{ConnRead, ConnWrite};
 use handlers::Methods;
 use lane::Ring;
@@ -19,7 +19,6 @@ use std::alloc::{AllocError, Global};
 use std::marker::Brand;
 use std::sync::ledger::{Blank, Ledger};
 use std::sync::{Arc, Wait};
-use std::thread;
 use std::thread::Threads;
 use std::time::{Clock, Instant};
 
@@ -38,6 +37,7 @@ where
     I: ConnRead,
     O: ConnWrite + Send + Drop + 'static,
     R: Threads + Wait + Clock + Copy + Send + Sync + Drop + 'static,
+    ensures served { IfSome result.output (HasWritten O.contents O.failed (O.contents output) (Some result.ending)) }
 {
     let blanks = (Blank::new(1), Blank::new(1), Blank::new(1));
     match serve_over::<Brand, Brand, Brand, I, O, R>(rt, alloc, blanks, input, output, methods) {
@@ -68,6 +68,7 @@ where
     requires received { (blanks.0.name ≡ A.name) × (blanks.0.parts ≡ A.parts) × (0 < A.parts) }
     requires admitted { (blanks.1.name ≡ B.name) × (blanks.1.parts ≡ B.parts) × (0 < B.parts) }
     requires announced { (blanks.2.name ≡ C.name) × (blanks.2.parts ≡ C.parts) × (0 < C.parts) }
+    ensures served { IfOk result (λ served. IfSome served.output (HasWritten O.contents O.failed (O.contents output) (Some served.ending))) }
 {
     let (received, came) = blanks.0.open::<A>();
     let (admitted, calls) = blanks.1.open::<B>();
@@ -76,18 +77,7 @@ where
     let shared = Shared::new(alloc, book)?;
     let (putting, taking) = Ring::open(alloc, ORDERS)?;
     let start = Instant::now(&rt).map_err(|_| AllocError)?;
-    let writer = Writer {
-        orders: taking,
-        outlet: Outlet::new(Arc::try_clone(&shared)?, told),
-        frames: ConnWriter::new(alloc, output),
-        senders: Senders::new(alloc),
-        set_aside: None,
-        input_ended: false,
-        closed: false,
-        called_off: Vec::new(alloc),
-        lacks_memory: false,
-        failed: None,
-    };
+    let outlet = Outlet::new(Arc::try_clone(&shared)?, told);
     let orders = Orders {
         ring: putting,
         shared: Arc::try_clone(&shared)?,
@@ -95,20 +85,20 @@ where
     };
     let mut intake = Intake::new(shared, came, calls);
     let mut reader = Reader::new(rt, alloc, methods, orders, start);
-    let Ok(writing) = thread::spawn(&rt, move || writer.write(&rt)) else {
-        return Err(AllocError);
-    };
+    let writing = writer::start(rt, alloc, taking, outlet, output).ok_or(AllocError)?;
     let read = reader.read(&mut intake, input);
     reader.end();
-    let (written, output) = writing.join(&rt);
+    let (written, device) = writing.join(&rt);
     Ok(Served {
         ending: of_both(read, written),
-        output: Some(output),
+        output: Some(device),
     })
 }
 
 /// How a connection ended, by what the reader and the writer see.
-fn of_both(read: Ending, written: Option<Ending>) -> Ending {
+fn of_both(read: Ending, written: Option<Ending>) -> Ending
+    ensures memory { written ≡ Some ending.OutOfMemory → result ≡ ending.OutOfMemory }
+{
     match (read, written) {
         (Ending::OutOfMemory, _) => Ending::OutOfMemory,
         (_, Some(ending)) => ending,

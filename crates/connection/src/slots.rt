@@ -1,6 +1,6 @@
 //! The slots of a connection, as its reader has them.
 
-use crate::orders::Opened;
+use crate::orders::{Fresh, Opened};
 use crate::shared::Shared;
 use crate::slot::{InLane, Job, OutLane, Slot};
 use crate::worker::{WithEnds, Worker, start_thread};
@@ -118,7 +118,7 @@ impl Slots {
         self.handles.push_reserved(handle);
         let shut = None;
         self.seats.push_reserved(Seat { slot, id, shut });
-        let opened = Opened::New(told, sender);
+        let opened = Opened::New(Fresh::new(told, sender));
         Ok(Some(Engaged {
             place,
             feeder,

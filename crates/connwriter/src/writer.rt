@@ -20,7 +20,7 @@ ghost use Rattle.outwriter.specs.Steps.{Step, Taken, Granted, Returned, order_of
 ghost use Rattle.connwriter.specs.declared.standing.Standing.TheVariants as stands;
 ghost use Rattle.connwriter.specs.declared.filled.Filled.TheVariants as filled;
 ghost use Rattle.connwriter.specs.Orders.{own_control, own_order, steps_of, Blamed, Stops};
-ghost use Rattle.connwriter.specs.Spelled.{IsFront, IsAll};
+ghost use Rattle.connwriter.specs.Spelled.{IsFront, IsWhole, IsAll};
 ghost use Rattle.connwriter.specs.Wrote.{Wrote, WritesOn, Fills, PutsOr};
 
 use crate::filled::Filled;
@@ -205,7 +205,7 @@ impl<L: Lane<Item = OutItem>, W: ConnWrite> ConnWriter<L, W> {
         }
     }
 
-    /// Makes no more frames, as where memory ran out: for an owner who has none for what the writer was to be told.
+    /// Makes no more frames, as without memory: for an owner who has none for what it was to be told.
     pub fn stop(&mut self)
         ensures wrote { WritesOn L.got W.contents W.failed [] self.old self.new }
         ensures stops { self.new.standing ≢ stands.Going }
@@ -232,6 +232,10 @@ impl<L: Lane<Item = OutItem>, W: ConnWrite> ConnWriter<L, W> {
         ensures prefix { (before : Option (List ℕ)) (run : List Step) → Wrote L.got W.contents W.failed before run self → IsFront (frames_of run) before (W.contents result.1) }
         ensures all { self.standing ≡ stands.Going → self.buffer.items ≡ [] → (before : Option (List ℕ)) (run : List Step)
             → Wrote L.got W.contents W.failed before run self → IsAll (frames_of run) before (W.contents result.1) }
+
+        // Where memory ran out too, no frame of them is cut.
+        ensures whole { self.standing ≢ stands.Broken → self.buffer.items ≡ [] → (before : Option (List ℕ)) (run : List Step)
+            → Wrote L.got W.contents W.failed before run self → IsWhole (frames_of run) before (W.contents result.1) }
     {
         let ConnWriter { core, device, .. } = self;
         (core.into_senders(), device)
