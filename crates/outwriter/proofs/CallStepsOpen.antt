@@ -127,7 +127,7 @@ module _ (run : List Step) (o new : Outbound) (streams left : List (ℕ × OpenS
           cases (inr h) = absurd (not-some (lookup (nat_eq k) streams) stream e h)
 
   over : (k : ℕ) → lookup (nat_eq k) new.over.entries ≡ lookup (nat_eq k) o.over.entries
-  over = over-same [] (λ other. is_new_call o id && (other == id)) o new p.takes
+  over = over-same [] (λ other. is_new_call o id && (other == id)) [] o new p.takes
 
   knows-more : (k : ℕ) → knows o.credit k ≡ true → knows new.credit k ≡ true
   knows-more k e = p.takes.knows k ∙ by (is_new_call o id && (k == id))

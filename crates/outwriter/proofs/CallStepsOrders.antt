@@ -19,34 +19,35 @@ use Rattle.outwriter.specs.RunState.{Sets}
 use Rattle.outwriter.specs.Parts.{Mark}
 use Rattle.outwriter.specs.CallState.{Serves, Takes, MayBeDue, has_reason, none_is_new}
 use Rattle.outwriter.specs.Steps.{Step, Order, Taken}
+use Rattle.outwriter.specs.TableLimits.{limits_of}
 use Rattle.outwriter.proofs.CallSteps.{serves-other, serves-owing, serves-same}
 use Rattle.outwriter.proofs.Others.{later-taken}
 use Rattle.outwriter.proofs.TellSteps.{taken-tells}
 
 -- nothing changes
-pub takes-nothing : (o : Outbound) → Takes [] none_is_new o o
+pub takes-nothing : (o : Outbound) → Takes [] none_is_new [] o o
 takes-nothing o = record {
   due = sym (append-nil o.due.items);
   knows = λ id. refl;
   over = refl;
   begun = refl;
   block = refl;
-  table = λ table e. e;
+  encoder = refl;
 }
 
 module _ (run : List Step) (o new : Outbound) (streams : List (ℕ × OpenStream)) (others : List (ℕ × Bool)) (calls : List (ℕ × List OutItem)) (marks : List (ℕ × Mark)) where
   -- a control that is none of a stream's beginning
   pub serves-ordered : (taken : Order) (more : List Due) → ((id : ℕ) → opens_stream id taken ≡ false) → ((id : ℕ) → is_fresh id (Taken taken ∷ run) ≡ is_fresh id run)
-      → ((id : ℕ) → is_served id (Taken taken ∷ run) ≡ is_served id run) → All (MayBeDue (Taken taken ∷ run) new streams others) more → Takes more none_is_new o new
+      → ((id : ℕ) → is_served id (Taken taken ∷ run) ≡ is_served id run) → All (MayBeDue (Taken taken ∷ run) new streams others) more → Takes more none_is_new (limits_of taken) o new
       → Serves run o streams others calls marks → Serves (Taken taken ∷ run) new streams others calls marks
   serves-ordered taken more unopened fresh served due takes s =
-      serves-same run (Taken taken ∷ run) o new streams others calls marks more takes (taken-tells more none_is_new o new taken takes run marks s.spells)
+      serves-same run (Taken taken ∷ run) o new streams others calls marks more (limits_of taken) takes (taken-tells more none_is_new o new taken takes run marks s.spells)
       (λ id e. fresh id ∙ e) served (later-taken run taken unopened) due s
 
   -- a Reset is due, of a stream that isn't open any more
   pub serves-reset : (id : ℕ) (code : ErrorCode) (is_due : Bool)
       → (is_due ≡ true → (lookup (nat_eq id) streams ≡ None) × ((is_some (lookup (nat_eq id) others) || knows o.credit id) ≡ true))
-      → Takes (if is_due then due_kind.Reset id code ∷ [] else []) none_is_new o new
+      → Takes (if is_due then due_kind.Reset id code ∷ [] else []) none_is_new [] o new
       → Serves run o streams others calls marks → Serves run new streams others calls marks
   serves-reset id code is_due may takes s =
       serves-owing run o new streams others calls marks (if is_due then due_kind.Reset id code ∷ [] else []) takes (due is_due refl) s
@@ -59,7 +60,7 @@ module _ (run : List Step) (o new : Outbound) (streams : List (ℕ × OpenStream
       due false e = All-nil (MayBeDue run new streams others)
 
   -- a Reset is taken, before what it changes of the streams
-  pub serves-told : (id : ℕ) (code : ErrorCode) (written : Bool) → Takes [] none_is_new o new
+  pub serves-told : (id : ℕ) (code : ErrorCode) (written : Bool) → Takes [] none_is_new [] o new
       → Serves run o streams others calls marks → Serves (Taken (order.Reset id code written) ∷ run) new streams others calls marks
   serves-told id code written takes s =
       serves-ordered (order.Reset id code written) [] (λ k. refl) (λ k. refl) (λ k. refl) (All-nil (MayBeDue (Taken (order.Reset id code written) ∷ run) new streams others)) takes s
@@ -92,12 +93,12 @@ module _ (run : List Step) (o : Outbound) (streams : List (ℕ × OpenStream)) (
   -- of a stream that was opened, refused or reset before, and of none
   pub serves-unrefused : Serves run o streams others calls marks → Serves (Taken (order.Refuse id fields) ∷ run) o streams others calls marks
   serves-unrefused s =
-      serves-same run (Taken (order.Refuse id fields) ∷ run) o o streams others calls marks [] (takes-nothing o)
+      serves-same run (Taken (order.Refuse id fields) ∷ run) o o streams others calls marks [] [] (takes-nothing o)
       (taken-tells [] none_is_new o o (order.Refuse id fields) (takes-nothing o) run marks s.spells) (fresh-less run id fields) (λ k. refl) (later-taken run (order.Refuse id fields) (λ k. refl))
       (All-nil (MayBeDue (Taken (order.Refuse id fields) ∷ run) o streams others)) s
 
   pub serves-refused : (new : Outbound) (more : List (ℕ × Bool)) → is_stream id ≡ true → knows o.credit id ≡ false → Sets others id false more
-      → Takes (due_kind.Refuse id fields ∷ []) none_is_new o new
+      → Takes (due_kind.Refuse id fields ∷ []) none_is_new [] o new
       → Serves run o streams others calls marks → Serves (Taken (order.Refuse id fields) ∷ run) new streams more calls marks
   serves-refused new more there isnt sets takes s =
       let after : List Step = Taken (order.Refuse id fields) ∷ run in

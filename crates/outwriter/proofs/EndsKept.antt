@@ -108,14 +108,14 @@ block-ends old new at ends_it due sets id there (inr waits) = inr (ap (λ due. l
 -- ---- controls
 
 -- more is due
-pub takes-ends : (more : List Due) (is_new : ℕ → Bool) (old new : Outbound) → Takes more is_new old new → KeepsEnds old new
-takes-ends more is_new old new takes id there (inl ended) = inl (over-same old new takes.over id ended)
-takes-ends more is_new old new takes id there (inr waits) =
+pub takes-ends : (more : List Due) (is_new : ℕ → Bool) (limits : List ℕ) (old new : Outbound) → Takes more is_new limits old new → KeepsEnds old new
+takes-ends more is_new limits old new takes id there (inl ended) = inl (over-same old new takes.over id ended)
+takes-ends more is_new limits old new takes id there (inr waits) =
     inr (ap (list_any (is_due_of id)) takes.due ∙ list_any-append (is_due_of id) old.due.items more ∙ ap (λ b. b || list_any (is_due_of id) more) waits)
 
 -- the end that is due now
-pub takes-end : (more : List Due) (is_new : ℕ → Bool) (old new : Outbound) (id : ℕ) → Takes more is_new old new → list_any (is_due_of id) more ≡ true → IsEnding id new
-takes-end more is_new old new id takes e =
+pub takes-end : (more : List Due) (is_new : ℕ → Bool) (limits : List ℕ) (old new : Outbound) (id : ℕ) → Takes more is_new limits old new → list_any (is_due_of id) more ≡ true → IsEnding id new
+takes-end more is_new limits old new id takes e =
     inr (ap (list_any (is_due_of id)) takes.due ∙ list_any-append (is_due_of id) old.due.items more ∙ or-true (list_any (is_due_of id) old.due.items) (list_any (is_due_of id) more) e)
 
 -- ---- what was asked for
@@ -154,8 +154,8 @@ heeds-called run order old new keeps heeds here id there e = by (either-true (ca
 
 -- a Reset: its stream's end is due, or the stream had ended, or it was called off or dropped before
 pub reset-heeds : (run : List Step) (id : ℕ) (code : ErrorCode) (written was_open : Bool) (old mid new : Outbound) (streams : List (ℕ × OpenStream)) (others : List (ℕ × Bool))
-    (calls : List (ℕ × List OutItem)) (marks : List (ℕ × Mark)) → Takes [] none_is_new old mid
-    → Takes (if written && was_open then due_kind.Reset id code ∷ [] else []) none_is_new mid new
+    (calls : List (ℕ × List OutItem)) (marks : List (ℕ × Mark)) → Takes [] none_is_new [] old mid
+    → Takes (if written && was_open then due_kind.Reset id code ∷ [] else []) none_is_new [] mid new
     → (is_stream id ≡ true → was_open ≡ false → (lookup (nat_eq id) streams ≡ None) × ((is_some (lookup (nat_eq id) others) || knows old.credit id) ≡ true))
     → Serves run old streams others calls marks → Heeds run old → Heeds (Taken (order.Reset id code written) ∷ run) new
 reset-heeds run id code written was_open old mid new streams others calls marks kept takes closed s heeds =
@@ -165,7 +165,7 @@ reset-heeds run id code written was_open old mid new streams others calls marks 
     reset = order.Reset id code written
 
     keeps : KeepsEnds old new
-    keeps k there e = takes-ends (if written && was_open then due_kind.Reset id code ∷ [] else []) none_is_new mid new takes k there (takes-ends [] none_is_new old mid kept k there e)
+    keeps k there e = takes-ends (if written && was_open then due_kind.Reset id code ∷ [] else []) none_is_new [] mid new takes k there (takes-ends [] none_is_new [] old mid kept k there e)
 
     earlier : (k : ℕ) → is_stream k ≡ true → (is_some (lookup (nat_eq k) old.over.entries) ≡ true) ⊎ (has_reason k run ≡ true)
         → IsEnding k new ⊎ (is_dropped k (Taken reset ∷ run) ≡ true)
@@ -177,7 +177,7 @@ reset-heeds run id code written was_open old mid new streams others calls marks 
         by (inr dropped) = inr (dropped-taken run reset k dropped)
 
     here : (k : ℕ) → k ≡ id → is_stream k ≡ true → written ≡ true → (b : Bool) → was_open ≡ b → IsEnding k new ⊎ (is_dropped k (Taken reset ∷ run) ≡ true)
-    here k same there told true p = inl (takes-end (if written && was_open then due_kind.Reset id code ∷ [] else []) none_is_new mid new k takes
+    here k same there told true p = inl (takes-end (if written && was_open then due_kind.Reset id code ∷ [] else []) none_is_new [] mid new k takes
         (ap (λ b. list_any (is_due_of k) (if b && was_open then due_kind.Reset id code ∷ [] else [])) told
         ∙ ap (λ b. list_any (is_due_of k) (if b then due_kind.Reset id code ∷ [] else [])) p ∙ ap (λ b. b || false) (eq-eqb k id same)))
     here k same there told false p =

@@ -51,7 +51,7 @@ goes-returned o new id items same run reached =
 -- nothing more is told
 spells-returned : (run : List Step) (o : Outbound) (marks : List (ℕ × Mark)) (id : ℕ) (items : List OutItem) → SpellsOf run o marks → SpellsOf (Returned id items ∷ run) o marks
 spells-returned run o marks id items spells =
-    (spells.0, spells-same run (Returned id items ∷ run) o.block o.block o.encoder o.encoder marks (λ table told t. t) refl refl (λ table e. e) spells.1)
+    (spells.0, spells-same run (Returned id items ∷ run) o.block o.block o.encoder o.encoder marks (λ table told t. t) refl refl refl (λ table e. e) (λ least. least) spells.1)
 
 -- ---- lists
 

@@ -17,7 +17,8 @@ use Rattle.outwriter.specs.Histories.{is_stream}
 use Rattle.outwriter.specs.RunState.{Sets}
 use Rattle.outwriter.specs.Parts.{Mark, Byte, marks_on, spelled, IsFrontOf}
 use Rattle.outwriter.specs.Steps.{Step}
-use Rattle.outwriter.specs.ToldByNow.{SpellsOf, KeepsTable, TellsMore, TellsReset, block_marks}
+use Rattle.outwriter.specs.TableLimits.{limited_by}
+use Rattle.outwriter.specs.ToldByNow.{SpellsOf, TellsMore, TellsReset, block_marks}
 
 -- ---- one stream
 
@@ -116,15 +117,15 @@ pub record Serves (run : List Step) (o : Outbound) (streams : List (ℕ × OpenS
 
 -- ---- what an Outbound's calls change of it
 
--- these were put behind what was due, and these streams are a call's now; the streams that are over, the first frame, the header block and
--- the encoder's table are the same
-pub record Takes (more : List Due) (is_new : ℕ → Bool) (old new : Outbound) : Type 0 where
+-- these were put behind what was due, these streams are a call's now, and these limits of the header table were told to the encoder; the streams
+-- that are over, the first frame and the header block are the same
+pub record Takes (more : List Due) (is_new : ℕ → Bool) (limits : List ℕ) (old new : Outbound) : Type 0 where
   pub due : new.due.items ≡ old.due.items ++ more
   pub knows : (id : ℕ) → knows new.credit id ≡ (is_new id || knows old.credit id)
   pub over : new.over ≡ old.over
   pub begun : new.begun ≡ old.begun
   pub block : new.block ≡ old.block
-  pub table : KeepsTable old.encoder new.encoder
+  pub encoder : new.encoder ≡ limited_by old.encoder limits
 
 abbrev pub none_is_new : ℕ → Bool
 none_is_new id = false

@@ -39,7 +39,7 @@ stream_at place = record { place = place; in_hand = None; in_turn = false }
 
 -- all that a call needs but its sender
 pub record Prepares (id place : ℕ) (old new : Outbound) (others : List (ℕ × Bool)) (streams left : List (ℕ × OpenStream)) : Type 0 where
-  pub takes : Takes [] (λ other. is_new_call old id && (other == id)) old new
+  pub takes : Takes [] (λ other. is_new_call old id && (other == id)) [] old new
   pub opens : (k : ℕ) → lookup (nat_eq k) left ≡ (if becomes_open old others id && (k == id) then Some (stream_at place) else lookup (nat_eq k) streams)
 
 -- ---- a Reset

@@ -1,5 +1,5 @@
 -- What a run has told by now, with the rest of a header block that is begun.
-use Rattle.std.specs.Prelude.{◌≡◌, ℕ, Bool, true, false, List, [], ◌∷◌, ◌++◌, Option, None, Some, IfSome, nat_eq}
+use Rattle.std.specs.Prelude.{◌≡◌, ◌≤◌, ℕ, Bool, true, false, List, [], ◌∷◌, ◌++◌, Option, None, Some, IfSome, nat_eq}
 use Rattle.std.specs.Map.{lookup}
 use Rattle.h2frame.specs.declared.frame.Frame.{Frame}
 use Rattle.lists.specs.declared.field.Field.{Field}
@@ -15,6 +15,7 @@ use Rattle.outwriter.specs.RunState.{Sets}
 use Rattle.outwriter.specs.Parts.{Mark, Fields, Reset, end_mark, on_stream, Tells}
 use Rattle.outwriter.specs.Runs.{Fragments, unfinished}
 use Rattle.outwriter.specs.Steps.{Step, Written}
+use Rattle.outwriter.specs.TableLimits.{HasLeast, least_begun}
 
 -- the marks of a header block, on its stream
 abbrev pub block_marks : ℕ → List Field → Bool → List (ℕ × Mark)
@@ -24,24 +25,20 @@ block_marks id fields ends_it = on_stream id (Fields fields ∷ end_mark ends_it
 abbrev pub IsTableOf : Option Encoding → Table → Type 0
 IsTableOf kept table = IfSome kept (λ encoding. encoding.table ≡ table)
 
--- that table stays
-abbrev pub KeepsTable : Option Encoding → Option Encoding → Type 0
-KeepsTable old new = (table : Table) → IsTableOf old table → IsTableOf new table
-
 -- What a run has yet to tell of a header block that is begun: over the table that all blocks before it left, what was
--- written of it and the rest spell fields, and leave the encoder's table.
+-- written of it and the rest spell fields, and leave the encoder's table, whose limit is the least that was set when the block was begun.
 abbrev pub Owes : List Step → Option HeaderBlock → Option Encoding → Table → List (ℕ × Mark) → Type 0
 Owes run None kept table rest = IsTableOf kept table × (rest ≡ [])
 Owes run (Some block) kept table rest =
     (begun : Fragments) × (fields : List Field) × (next : Table)
     × (block.begun ≡ true) × (unfinished run ≡ Some begun) × (begun.stream ≡ block.id) × (begun.ends_it ≡ block.ends)
-    × IsBlock table (begun.bytes ++ block.rest) fields next × IsTableOf kept next × (rest ≡ block_marks block.id fields block.ends)
+    × IsBlock table (begun.bytes ++ block.rest) fields next × (next.limit ≤ least_begun run) × IsTableOf kept next × (rest ≡ block_marks block.id fields block.ends)
 
--- the run's frames tell these marks, once the header block that is begun is whole
+-- the run's frames tell these marks, once the header block that is begun is whole; and the encoder's next block sets the least limit by the run
 abbrev pub Spells : List Step → Option HeaderBlock → Option Encoding → List (ℕ × Mark) → Type 0
 Spells run block kept marks =
     (table : Table) × (told : List (ℕ × Mark)) × (rest : List (ℕ × Mark))
-    × Tells run table told × Owes run block kept table rest × (marks ≡ told ++ rest)
+    × Tells run table told × Owes run block kept table rest × (marks ≡ told ++ rest) × HasLeast run kept
 
 -- the same of what a writer keeps, which begins no header block before its first frame
 abbrev pub SpellsOf : List Step → Outbound → List (ℕ × Mark) → Type 0

@@ -12,7 +12,7 @@ ghost use Rattle.outwriter.specs.Credits.{Grants, knows, owed_on, nothing_owed};
 ghost use Rattle.outwriter.specs.RunState.{HasOver, HasSilence};
 ghost use Rattle.outwriter.specs.Histories.{table_sizes};
 ghost use Rattle.outwriter.specs.TableLimits.{limited_by};
-ghost use Rattle.outwriter.specs.ToldByNow.{KeepsTable, SpellsOf};
+ghost use Rattle.outwriter.specs.ToldByNow.{SpellsOf};
 ghost use Rattle.flow.specs.declared.send_windows.WindowFault.TheVariants as window_fault;
 
 use crate::blocks::HeaderBlock;
@@ -88,7 +88,7 @@ impl Outbound {
         ensures room { OnOk result (deque_len self.new.due < deque_capacity self.new.due) }
         ensures credit { self.new.credit ≡ self.old.credit }
         ensures windows { self.new.windows ≡ self.old.windows }
-        ensures takes { Takes [] none_is_new self.old self.new }
+        ensures takes { Takes [] none_is_new [] self.old self.new }
         ensures encoder { self.new.encoder ≡ self.old.encoder }
     {
         self.due.reserve(1)
@@ -99,7 +99,7 @@ impl Outbound {
     pub(crate) fn take_settings(&mut self, settings: &PeerSettings) -> Result<(), WindowFault>
         requires room { deque_len self.old.due < deque_capacity self.old.due }
         ensures taken { Leads (Taken (order.Settings settings.now)) self.old self.new }
-        ensures takes { Takes (due_kind.SettingsAck ∷ []) none_is_new self.old self.new }
+        ensures takes { Takes (due_kind.SettingsAck ∷ []) none_is_new (table_sizes settings.now) self.old self.new }
         ensures fits { OnOk result ((history : List WindowStep) → Follows history self.old.windows → All (CanResize history) (window_sizes settings.now)) }
         ensures over { OnErr result ((history : List WindowStep) → Follows history self.old.windows → ¬ All (CanResize history) (window_sizes settings.now)) }
         ensures limits { self.new.encoder ≡ limited_by self.old.encoder (table_sizes settings.now) }
@@ -113,7 +113,7 @@ impl Outbound {
     pub(crate) fn take_ping(&mut self, bytes: [u8; 8])
         requires room { deque_len self.old.due < deque_capacity self.old.due }
         ensures taken { Leads (Taken (order.Ping bytes)) self.old self.new }
-        ensures takes { Takes (due_kind.PingAck bytes ∷ []) none_is_new self.old self.new }
+        ensures takes { Takes (due_kind.PingAck bytes ∷ []) none_is_new [] self.old self.new }
         ensures encoder { self.new.encoder ≡ self.old.encoder }
     {
         self.due.push_back_reserved(Due::PingAck(bytes));
@@ -122,7 +122,7 @@ impl Outbound {
     /// Takes the peer's credit, and answers whether the window has room for it. A stream that isn't open is none to credit.
     pub(crate) fn take_window(&mut self, id: StreamId, increment: u32) -> bool
         ensures taken { Leads (Taken (order.Window id increment)) self.old self.new }
-        ensures takes { Takes [] none_is_new self.old self.new }
+        ensures takes { Takes [] none_is_new [] self.old self.new }
         ensures fits { result ≡ true → (history : List WindowStep) → Follows history self.old.windows → HasWindow history id → CanCredit history id increment }
         ensures over { result ≡ false → (history : List WindowStep) → Follows history self.old.windows → Overflows history id increment }
         ensures encoder { self.new.encoder ≡ self.old.encoder }
@@ -144,8 +144,8 @@ impl Outbound {
         requires unknown { is_new ≡ true → knows self.old.credit id ≡ false }
         ensures taken { OnOk result (Leads (Taken (order.Open id tt)) self.old self.new) }
         ensures stays { OnErr result (Stays self.old self.new) }
-        ensures takes { OnOk result (Takes [] (λ other. is_new && (other == id)) self.old self.new) }
-        ensures takes_none { OnErr result (Takes [] none_is_new self.old self.new) }
+        ensures takes { OnOk result (Takes [] (λ other. is_new && (other == id)) [] self.old self.new) }
+        ensures takes_none { OnErr result (Takes [] none_is_new [] self.old self.new) }
         ensures encoder { self.new.encoder ≡ self.old.encoder }
     {
         if !self.opens(id) {
@@ -176,7 +176,7 @@ impl Outbound {
     pub(crate) fn take_refuse(&mut self, id: StreamId, fields: Sequence<Field>)
         requires room { deque_len self.old.due < deque_capacity self.old.due }
         ensures taken { Leads (Taken (order.Refuse id fields)) self.old self.new }
-        ensures takes { Takes (due_kind.Refuse id fields ∷ []) none_is_new self.old self.new }
+        ensures takes { Takes (due_kind.Refuse id fields ∷ []) none_is_new [] self.old self.new }
         ensures encoder { self.new.encoder ≡ self.old.encoder }
     {
         self.due.push_back_reserved(Due::Refuse(id, fields));
@@ -193,7 +193,7 @@ impl Outbound {
     )
         requires room { deque_len self.old.due < deque_capacity self.old.due }
         ensures taken { Leads (Taken (order.Reset id code written)) self.old self.new }
-        ensures takes { Takes (if written && was_open then due_kind.Reset id code ∷ [] else []) none_is_new self.old self.new }
+        ensures takes { Takes (if written && was_open then due_kind.Reset id code ∷ [] else []) none_is_new [] self.old self.new }
         ensures encoder { self.new.encoder ≡ self.old.encoder }
     {
         self.windows.close(id);
@@ -207,7 +207,7 @@ impl Outbound {
         requires { 0 < id }
         ensures stays { Stays self.old self.new }
         ensures rest { self.new ≡ record self.old { credit = self.new.credit } }
-        ensures takes { Takes [] none_is_new self.old self.new }
+        ensures takes { Takes [] none_is_new [] self.old self.new }
     {
         self.credit.forget(id);
     }
@@ -216,7 +216,7 @@ impl Outbound {
     pub(crate) fn grant(&mut self, id: StreamId, n: u32)
         ensures granted { Leads (Granted id n) self.old self.new }
         ensures owes { Grants self.old.credit id n self.new.credit }
-        ensures takes { Takes [] none_is_new self.old self.new }
+        ensures takes { Takes [] none_is_new [] self.old self.new }
     {
         self.credit.grant(id, n);
     }
@@ -225,7 +225,7 @@ impl Outbound {
     pub(crate) fn take_goaway(&mut self, last: StreamId, code: ErrorCode)
         requires room { deque_len self.old.due < deque_capacity self.old.due }
         ensures taken { Leads (Taken (order.Goaway last code)) self.old self.new }
-        ensures takes { Takes (due_kind.Goaway last code ∷ []) none_is_new self.old self.new }
+        ensures takes { Takes (due_kind.Goaway last code ∷ []) none_is_new [] self.old self.new }
         ensures encoder { self.new.encoder ≡ self.old.encoder }
     {
         self.due.push_back_reserved(Due::Goaway(last, code));
@@ -278,8 +278,7 @@ fn open_credit(
 
 /// Tells the encoder the limits that SETTINGS have for its table.
 fn limit_table(encoder: &mut Encoder, settings: &[PeerSetting])
-    ensures table { KeepsTable encoder.old encoder.new }
-    ensures limits { encoder.new ≡ limited_by encoder.old (table_sizes settings.now) }
+    ensures { encoder.new ≡ limited_by encoder.old (table_sizes settings.now) }
 {
     for setting in settings {
         if let PeerSetting::TableSize(limit) = *setting {

@@ -23,9 +23,9 @@ returns-in-Err-clause-still g c = λ run marks s.
 pub returns-in-Ok-clause-heeds : goal.returns-in-Ok-clause-heeds
 returns-in-Ok-clause-heeds g c = λ run marks s heeds.
     heeds-kept run c.args.self.now.outbound c.prepare.new.self.outbound
-    (takes-ends [] _ c.args.self.now.outbound c.prepare.new.self.outbound c.in-Ok.ensures.call.takes) heeds
+    (takes-ends [] _ [] c.args.self.now.outbound c.prepare.new.self.outbound c.in-Ok.ensures.call.takes) heeds
 
 pub returns-in-Err-clause-heeds_still : goal.returns-in-Err-clause-heeds_still
 returns-in-Err-clause-heeds_still g c = λ run marks s heeds.
     heeds-kept run c.args.self.now.outbound c.prepare.new.self.outbound
-    (takes-ends [] none_is_new c.args.self.now.outbound c.prepare.new.self.outbound c.in-Err.ensures.none) heeds
+    (takes-ends [] none_is_new [] c.args.self.now.outbound c.prepare.new.self.outbound c.in-Err.ensures.none) heeds
