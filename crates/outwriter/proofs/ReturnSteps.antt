@@ -11,13 +11,13 @@ use Rattle.callbox.specs.declared.sender.Sender.{Sender}
 use Rattle.outwriter.specs.declared.out_core.OutCore.{OutCore}
 use Rattle.outwriter.specs.declared.outbound.Outbound.{Outbound}
 use Rattle.outwriter.specs.declared.stream.OpenStream.{OpenStream}
-use Rattle.outwriter.specs.Calls.{is_fresh, is_served, was_reset, IsReturned}
+use Rattle.outwriter.specs.Calls.{is_fresh, is_served, IsReturned}
 use Rattle.outwriter.specs.Histories.{is_over}
 use Rattle.outwriter.specs.Cores.{Serving, ServesOn, calls}
 use Rattle.outwriter.specs.Parts.{Mark, marks_on, spelled, IsPart, IsFrontOf}
 use Rattle.outwriter.specs.CallState.{IsEnded, IsExact, Serves, bytes_marks}
 use Rattle.outwriter.specs.Releases.{PlaceIs, with_place, IsAt, MovedTo, Releases, HasEnded}
-use Rattle.outwriter.specs.Runs.{granted_by}
+use Rattle.outwriter.specs.Runs.{granted_by, was_reset}
 use Rattle.outwriter.specs.RunState.{MirrorsOf, GoesOn}
 use Rattle.outwriter.specs.Steps.{Step, Returned}
 use Rattle.outwriter.specs.StreamLooks.{Shown, shown, shows}
@@ -41,6 +41,8 @@ mirrors-returned run o id items m = record {
   not_reset = m.not_reset;
   credits = λ k. omega (arith, m.credits k, sum_by-cons (granted_by k) (Returned id items) run);
   silent = m.silent;
+  hushed = m.hushed;
+  resets = m.resets;
   no_stream_0 = m.no_stream_0;
 }
 

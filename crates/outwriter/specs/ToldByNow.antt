@@ -10,7 +10,7 @@ use Rattle.outwriter.specs.declared.blocks.HeaderBlock.{HeaderBlock}
 use Rattle.outwriter.specs.declared.due.Due.{Due}
 use Rattle.outwriter.specs.declared.due.Due.TheVariants as due_kind
 use Rattle.outwriter.specs.declared.outbound.Outbound.{Outbound}
-use Rattle.outwriter.specs.Credits.{knows}
+use Rattle.outwriter.specs.Credits.{is_reset, knows}
 use Rattle.outwriter.specs.RunState.{Sets}
 use Rattle.outwriter.specs.Parts.{Mark, Fields, Reset, end_mark, on_stream, Tells}
 use Rattle.outwriter.specs.Runs.{Fragments, unfinished}
@@ -67,9 +67,13 @@ TellsReset id frame old new = (code : ℕ) × TellsMore frame ((id, Reset code) 
 
 -- ---- frames that were due
 
--- what else is due is the same, and of which streams there are calls
+-- of the same streams there are calls, and the same were reset
+abbrev pub SameStanding : Outbound → Outbound → Type 0
+SameStanding old new = (id : ℕ) → (knows new.credit id ≡ knows old.credit id) × (is_reset new.credit id ≡ is_reset old.credit id)
+
+-- what else is due is the same, and how the streams stand
 abbrev pub KeepsDue : Outbound → Outbound → Type 0
-KeepsDue old new = (new.due ≡ old.due) × ((id : ℕ) → knows new.credit id ≡ knows old.credit id)
+KeepsDue old new = (new.due ≡ old.due) × SameStanding old new
 
 -- a stream is over, on which nothing was
 abbrev pub EndsOne : ℕ → Bool → Outbound → Outbound → Type 0

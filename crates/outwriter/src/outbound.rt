@@ -8,9 +8,9 @@ ghost use Rattle.std.specs.Prelude.{Err, ◌==◌, ◌∷◌, if◌then◌else�
 ghost use Rattle.flow.specs.WindowHistory.{Follows, CanCredit, CanResize};
 ghost use Rattle.flow.specs.WindowHistory.{Step as WindowStep};
 ghost use Rattle.flow.specs.Windows.{balance};
-ghost use Rattle.outwriter.specs.Credits.{Grants, knows, owed_on, nothing_owed};
-ghost use Rattle.outwriter.specs.RunState.{HasOver, HasSilence};
-ghost use Rattle.outwriter.specs.Histories.{table_sizes};
+ghost use Rattle.outwriter.specs.Credits.{Grants, is_reset, knows, owed_on, nothing_owed, pays};
+ghost use Rattle.outwriter.specs.RunState.{HasOver, HasSilence, IsHushed};
+ghost use Rattle.outwriter.specs.Histories.{is_stream as is_number, table_sizes};
 ghost use Rattle.outwriter.specs.TableLimits.{limited_by};
 ghost use Rattle.outwriter.specs.ToldByNow.{SpellsOf};
 ghost use Rattle.flow.specs.declared.send_windows.WindowFault.TheVariants as window_fault;
@@ -51,6 +51,7 @@ impl Outbound {
     ghost use Rattle.outwriter.specs.Histories.{opens, HasWindow, Overflows, window_sizes};
     ghost use Rattle.outwriter.specs.RunState.{IsBetween, MirrorsOf, Leads, Stays};
     ghost use Rattle.outwriter.specs.CallState.{Takes, none_is_new};
+    ghost use Rattle.outwriter.specs.CoreChanges.{due_reset};
     ghost use Rattle.outwriter.specs.declared.control.Control.TheVariants as order;
     ghost use Rattle.outwriter.specs.declared.due.Due.TheVariants as due_kind;
 
@@ -137,7 +138,6 @@ impl Outbound {
         &mut self,
         id: StreamId,
         is_new: bool,
-        was_reset: bool,
     ) -> Result<(), AllocError>
         requires new_stream { is_new ≡ true → 0 < id }
         requires number { is_new ≡ true → id < 2 ^ 31 }
@@ -149,12 +149,12 @@ impl Outbound {
         ensures encoder { self.new.encoder ≡ self.old.encoder }
     {
         if !self.opens(id) {
-            return open_credit(&mut self.credit, &self.over, id, is_new, was_reset);
+            return open_credit(&mut self.credit, &self.over, id, is_new);
         }
         let Ok(()) = self.windows.open(id) else {
             return Err(AllocError);
         };
-        match open_credit(&mut self.credit, &self.over, id, is_new, was_reset) {
+        match open_credit(&mut self.credit, &self.over, id, is_new) {
             Ok(()) => Ok(()),
             Err(e) => {
                 self.windows.close(id);
@@ -182,34 +182,28 @@ impl Outbound {
         self.due.push_back_reserved(Due::Refuse(id, fields));
     }
 
-    /// Closes a stream's window, and owes RST_STREAM, where the Reset is to be written and its stream had neither ended nor been
-    /// reset.
+    /// Resets a stream: its window is closed, no credit is owed on it, and nothing is written on it any more but RST_STREAM, where the Reset
+    /// is to be written and the stream had neither ended nor been reset. Out of memory, it changes nothing.
     pub(crate) fn take_reset(
         &mut self,
         id: StreamId,
         code: ErrorCode,
         written: bool,
-        was_open: bool,
-    )
+    ) -> Result<(), AllocError>
         requires room { deque_len self.old.due < deque_capacity self.old.due }
-        ensures taken { Leads (Taken (order.Reset id code written)) self.old self.new }
-        ensures takes { Takes (if written && was_open then due_kind.Reset id code ∷ [] else []) none_is_new [] self.old self.new }
+        ensures taken { OnOk result (Leads (Taken (order.Reset id code written)) self.old self.new) }
+        ensures takes { OnOk result (Takes (due_reset self.old id code written) none_is_new [] (record self.old { credit = self.new.credit }) self.new) }
+        ensures marks { OnOk result ((k : ℕ) → (knows self.new.credit k ≡ knows self.old.credit k) × (is_reset self.new.credit k ≡ ((is_number id && (k == id)) || is_reset self.old.credit k))) }
+        ensures unchanged { OnErr result (self.new ≡ self.old) }
         ensures encoder { self.new.encoder ≡ self.old.encoder }
     {
+        let is_due = written && self.may_write(id);
+        reset_credit(&mut self.credit, id)?;
         self.windows.close(id);
-        if written && was_open {
+        if is_due {
             self.due.push_back_reserved(Due::Reset(id, code));
         }
-    }
-
-    /// Owes no more credit on a stream.
-    pub(crate) fn forget(&mut self, id: StreamId)
-        requires { 0 < id }
-        ensures stays { Stays self.old self.new }
-        ensures rest { self.new ≡ record self.old { credit = self.new.credit } }
-        ensures takes { Takes [] none_is_new [] self.old self.new }
-    {
-        self.credit.forget(id);
+        Ok(())
     }
 
     /// Owes n bytes more of credit.
@@ -259,21 +253,37 @@ fn open_credit(
     over: &IndexMap<StreamId, bool>,
     id: StreamId,
     is_new: bool,
-    was_reset: bool,
 ) -> Result<(), AllocError>
     requires new_stream { is_new ≡ true → 0 < id }
     requires number { is_new ≡ true → id < 2 ^ 31 }
     requires unknown { is_new ≡ true → knows credit.old id ≡ false }
     ensures owed { OnOk result ((other : ℕ) → owed_on credit.new other ≡ owed_on credit.old other) }
     ensures silent { OnOk result (HasSilence over.now.entries credit.old → HasSilence over.now.entries credit.new) }
+    ensures hushed { OnOk result (IsHushed credit.old → IsHushed credit.new) }
     ensures known { OnOk result ((other : ℕ) → knows credit.new other ≡ ((is_new && (other == id)) || knows credit.old other)) }
+    ensures resets { OnOk result ((other : ℕ) → is_reset credit.new other ≡ is_reset credit.old other) }
     ensures unchanged { OnErr result (credit.new ≡ credit.old) }
 {
     if !is_new {
         return Ok(());
     }
-    let is_silent = was_reset || over.get(&id).copied() == Some(true);
+    let is_silent = credit.is_reset(id) || over.get(&id).copied() == Some(true);
     credit.open(id, is_silent)
+}
+
+/// No more credit is owed on a stream that is reset.
+fn reset_credit(credit: &mut Credit, id: StreamId) -> Result<(), AllocError>
+    ensures owed { OnOk result ((k : ℕ) → owed_on credit.new k ≤ owed_on credit.old k) }
+    ensures silent { OnOk result ((k : ℕ) → pays credit.old k ≡ false → pays credit.new k ≡ false) }
+    ensures hushed { OnOk result (IsHushed credit.old → IsHushed credit.new) }
+    ensures known { OnOk result ((k : ℕ) → knows credit.new k ≡ knows credit.old k) }
+    ensures resets { OnOk result ((k : ℕ) → is_reset credit.new k ≡ ((is_number id && (k == id)) || is_reset credit.old k)) }
+    ensures unchanged { OnErr result (credit.new ≡ credit.old) }
+{
+    if !is_stream(id) {
+        return Ok(());
+    }
+    credit.reset(id)
 }
 
 /// Tells the encoder the limits that SETTINGS have for its table.

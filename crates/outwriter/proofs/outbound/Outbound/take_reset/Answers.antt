@@ -7,22 +7,6 @@ use Rattle.outwriter.specs.declared.due.Due.TheVariants as due_kind
 use Rattle.outwriter.specs.RunState.{HasDue}
 use Rattle.outwriter.specs.Runs.{Asks, IsAsked}
 use Rattle.outwriter.specs.Steps.{Order, Taken}
-use Rattle.outwriter.proofs.RunStateSteps.{taken, more-due, same-due}
+use Rattle.outwriter.proofs.RunStateSteps.{reset-led, more-due, same-due}
 use Rattle.outwriter.proofs.WindowRuns.{reset-taken}
 use Rattle.outwriter.proofs.outbound.Outbound.take_reset.Goals as goal
-
-pub returns-then-was_open-clause-taken : goal.returns-then-was_open-clause-taken
-returns-then-was_open-clause-taken c = λ run m.
-    let reset : Order = order.Reset c.args.id c.args.code c.args.written in
-    let P : ℕ × ErrorCode → Type 0 = λ asked. IsAsked asked.0 asked.1 (Taken reset ∷ run) in
-    taken reset run _ _ _ _ _ _ _ _ _ m (reset-taken run c.args.id c.args.code c.args.written c.args.self.now.windows c.close.new.self c.close.ensures.follows m.windows_follow)
-    (subst (λ (xs : List Due). HasDue (Taken reset ∷ run) xs) (sym c.push_back_reserved.ensures.items)
-    (more-due reset run c.args.self.now.due.items (due_kind.Reset c.args.id c.args.code) refl
-    (All-cons P (c.args.id, c.args.code) [] (inl (subst (λ b. Asks c.args.id c.args.code (order.Reset c.args.id c.args.code b)) (sym c.if-written.true) (refl, refl))) (All-nil P))
-    m.answers))
-
-pub returns-else-written-clause-taken : goal.returns-else-written-clause-taken
-returns-else-written-clause-taken c = λ run m.
-    let reset : Order = order.Reset c.args.id c.args.code c.args.written in
-    taken reset run _ _ _ _ _ _ _ _ _ m (reset-taken run c.args.id c.args.code c.args.written c.args.self.now.windows c.close.new.self c.close.ensures.follows m.windows_follow)
-    (same-due reset run c.args.self.now.due.items refl m.answers)
