@@ -23,6 +23,7 @@ use Rattle.outwriter.specs.Steps.{Step, Returned}
 use Rattle.outwriter.specs.StreamLooks.{Shown, shown, shows}
 use Rattle.outwriter.specs.ToldByNow.{SpellsOf}
 use Rattle.outwriter.proofs.CallSteps.{all-due}
+use Rattle.outwriter.proofs.EndsKept.{heeds-kept}
 use Rattle.outwriter.proofs.RunStateSteps.{same-block}
 use Rattle.outwriter.proofs.ServeSteps.{none-some, some-none, none-shown, from_some}
 use Rattle.outwriter.proofs.TellSteps.{spells-same}
@@ -333,7 +334,7 @@ module _ {L In Out Shut : Type 0} (got : Out → List OutItem) where
           m.0,
           serves-returned run old.outbound old.streams.entries new.streams.entries old.others.entries (calls got old.senders.items) (calls got new.senders.items) m.0
               place moved id items t moved_is f is none m.1,
-          m.2,
+          heeds-kept run old.outbound old.outbound old.streams.entries new.streams.entries old.others.entries (λ k there e. e) (λ k. (refl, refl)) f.closed m.2,
         );
       })
     where
