@@ -35,29 +35,27 @@ heeds-equal run o streams left others more a b heeds =
 -- ---- a Reset
 
 -- a stream that was reset was called off or dropped
+reason-step : (run : List Step) (o : Order) (k : ℕ) → (was_reset k run ≡ true → has_reason k run ≡ true) → (resets_stream k o ≡ true) ⊎ (was_reset k run ≡ true)
+    → has_reason k (Taken o ∷ run) ≡ true
+reason-step run o k before (inr was) = reason-taken run o k (before was)
+reason-step run (order.Reset id code true) k before (inl p) = ap (λ b. ((b && true) || is_called_off k run) || is_dropped k (Taken (order.Reset id code true) ∷ run)) p
+reason-step run (order.Reset id code false) k before (inl p) =
+    or-true (is_called_off k (Taken (order.Reset id code false) ∷ run)) (is_dropped k (Taken (order.Reset id code false) ∷ run)) (ap (λ b. (b && true) || is_dropped k run) p)
+reason-step run (order.Settings settings) k before (inl p) = absurd (true≢false (sym p))
+reason-step run (order.Ping bytes) k before (inl p) = absurd (true≢false (sym p))
+reason-step run (order.Window id n) k before (inl p) = absurd (true≢false (sym p))
+reason-step run (order.Open id sender) k before (inl p) = absurd (true≢false (sym p))
+reason-step run (order.Refuse id fields) k before (inl p) = absurd (true≢false (sym p))
+reason-step run (order.Goaway last code) k before (inl p) = absurd (true≢false (sym p))
+reason-step run order.InputEnded k before (inl p) = absurd (true≢false (sym p))
+reason-step run order.Close k before (inl p) = absurd (true≢false (sym p))
+
 reset-reason : (run : List Step) (k : ℕ) → was_reset k run ≡ true → has_reason k run ≡ true
-reset-reason [] k e = e
+reset-reason [] k e = absurd (true≢false (sym e))
 reset-reason (Granted id n ∷ run) k e = reset-reason run k e
 reset-reason (Returned id items ∷ run) k e = reset-reason run k e
 reset-reason (Written frame ∷ run) k e = reset-reason run k e
-reset-reason (Taken order ∷ run) k e = by order (either-true (resets_stream k order) (was_reset k run) e)
-  where
-    here : (id : ℕ) (code : ErrorCode) (written : Bool) → (k == id) ≡ true → has_reason k (Taken (order.Reset id code written) ∷ run) ≡ true
-    here id code true p = ap (λ b. ((b && true) || is_called_off k run) || is_dropped k (Taken (order.Reset id code true) ∷ run)) p
-    here id code false p = or-true (is_called_off k (Taken (order.Reset id code false) ∷ run)) (is_dropped k (Taken (order.Reset id code false) ∷ run))
-        (ap (λ b. (b && true) || is_dropped k run) p)
-
-    by : (o : Order) → (resets_stream k o ≡ true) ⊎ (was_reset k run ≡ true) → has_reason k (Taken o ∷ run) ≡ true
-    by o (inr before) = reason-taken run o k (reset-reason run k before)
-    by (order.Reset id code written) (inl p) = here id code written p
-    by (order.Settings settings) (inl p) = absurd (true≢false (sym p))
-    by (order.Ping bytes) (inl p) = absurd (true≢false (sym p))
-    by (order.Window id n) (inl p) = absurd (true≢false (sym p))
-    by (order.Open id sender) (inl p) = absurd (true≢false (sym p))
-    by (order.Refuse id fields) (inl p) = absurd (true≢false (sym p))
-    by (order.Goaway last code) (inl p) = absurd (true≢false (sym p))
-    by order.InputEnded (inl p) = absurd (true≢false (sym p))
-    by order.Close (inl p) = absurd (true≢false (sym p))
+reset-reason (Taken order ∷ run) k e = reason-step run order k (reset-reason run k) (either-true (resets_stream k order) (was_reset k run) e)
 
 -- what a Reset changes of how the streams stand
 abbrev pub Marks : ℕ → Outbound → Outbound → Type 0
@@ -200,7 +198,7 @@ module _ (run : List Step) (id : ℕ) (fields : List Field) (o : Outbound) (stre
   pub refuse-again : (is_stream id ≡ true → (is_some (lookup (nat_eq id) others) || knows o.credit id) ≡ true) → Heeds run o streams others → Heeds (Taken refuse ∷ run) o streams others
   refuse-again heard heeds =
       heeds-taken run refuse o o streams streams others others (λ k. refl)
-      (heeds-called run refuse o o (λ k there e. e) heeds.0 (λ k there e. now k there (and_true (k == id) (not (is_opened id run)) e)))
+      (heeds-called run refuse o o (λ k there e. e) heeds.0 (λ k there e. now k there (and_true (k == id) (not (is_opened k run)) e)))
       (λ k. refl) heeds.2 (λ k e. e) heeds
     where
       closed : (found : Option Bool) → lookup (nat_eq id) others ≡ found → (is_some found || knows o.credit id) ≡ true → not (is_opened id run) ≡ true → lookup (nat_eq id) streams ≡ None
@@ -215,9 +213,10 @@ module _ (run : List Step) (id : ℕ) (fields : List Field) (o : Outbound) (stre
           by (inl called) = heeds-before run refuse o o (λ k there e. e) heeds.0 id there called
           by (inr dropped) = inr (dropped-taken run refuse id dropped)
 
-      now : (k : ℕ) → is_stream k ≡ true → ((k == id) ≡ true) × (not (is_opened id run) ≡ true) → IsEnding k o ⊎ (is_dropped k (Taken refuse ∷ run) ≡ true)
-      now k there (p, unopened) =
+      now : (k : ℕ) → is_stream k ≡ true → ((k == id) ≡ true) × (not (is_opened k run) ≡ true) → IsEnding k o ⊎ (is_dropped k (Taken refuse ∷ run) ≡ true)
+      now k there (p, unopened_k) =
           let same : id ≡ k = sym (eqb-true k id p) in
+          let unopened : not (is_opened id run) ≡ true = ap (λ n. not (is_opened n run)) same ∙ unopened_k in
           let number : is_stream id ≡ true = ap is_stream same ∙ there in
           subst (λ n. IsEnding n o ⊎ (is_dropped n (Taken refuse ∷ run) ≡ true)) same
           (ended (s.reasons id number (closed (lookup (nat_eq id) others) refl (heard number) unopened) (heard number)) number)
@@ -228,7 +227,7 @@ module _ (run : List Step) (id : ℕ) (fields : List Field) (o : Outbound) (stre
   refuse-heeds new more unknown none sets takes heeds =
       heeds-taken run refuse o new streams streams others more (λ k. refl)
       (heeds-called run refuse o new (takes-ends (due_kind.Refuse id fields ∷ []) none_is_new [] o new takes) heeds.0
-      (λ k there e. inl (inr (now k there (and_true (k == id) (not (is_opened id run)) e).0))))
+      (λ k there e. inl (inr (now k there (and_true (k == id) (not (is_opened k run)) e).0))))
       takes.resets heeds.2 (λ k e. still k e (k == id) refl) heeds
     where
       unreset : is_stream id ≡ true → (b : Bool) → was_reset id run ≡ b → b ≡ false

@@ -96,7 +96,7 @@ after-a-reset m = true≢false m.not_reset
 abbrev dropped : List Step
 dropped = Taken (order.Reset 3 Cancel false) ∷ Granted 3 4 ∷ Taken (order.Open 3 tt) ∷ begun
 
-follows-reset : FrameKind → Bool
+abbrev follows-reset : FrameKind → Bool
 follows-reset kind.RstStream = true
 follows-reset kind.Continuation = true
 follows-reset _ = false
