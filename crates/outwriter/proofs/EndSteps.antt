@@ -23,7 +23,7 @@ use Rattle.outwriter.specs.Blocks.{frame_of, rest_of, is_short}
 use Rattle.outwriter.specs.Credits.{Owed, is_reset, owed_on, pays, TakesAll}
 use Rattle.outwriter.specs.Frames.{resets, ends, update_on, reset_frame, data_frame, update_frame, headers_frame, continuation_frame, ends_stream, ends_block}
 use Rattle.outwriter.specs.Histories.{is_over, is_stream, closing_of, spending_of}
-use Rattle.outwriter.specs.RunState.{Mirrors, resets_of, HasWindows, HasOver, HasDue, HasBlock, HasHead, HasCredit, HasResets, HasSilence, Sets, spent, closing, Keeps, Ends}
+use Rattle.outwriter.specs.RunState.{Mirrors, resets_of, HasWindows, HasOver, HasDue, HasBlock, HasHead, HasResets, HasSilence, Sets, spent, closing, Keeps, Ends}
 use Rattle.outwriter.specs.Runs.{due, IsAsked, Fragments, Continues, MayWrite, fragments, unfinished, updated, granted, resets_stream, was_reset}
 use Rattle.outwriter.specs.Steps.{Step, Taken, Granted, Written, Returned, frames_of}
 use Rattle.outwriter.proofs.Others.{or-true}

@@ -10,7 +10,6 @@ use Rattle.h2frame.specs.declared.error_code.ErrorCode.{ErrorCode}
 use Rattle.hpack_codec.proofs.HuffmanTable.{and_true}
 use Rattle.lists.specs.declared.field.Field.{Field}
 use Rattle.outwriter.specs.declared.control.Control.TheVariants as order
-use Rattle.outwriter.specs.declared.due.Due.{Due}
 use Rattle.outwriter.specs.declared.due.Due.TheVariants as due_kind
 use Rattle.outwriter.specs.declared.outbound.Outbound.{Outbound}
 use Rattle.outwriter.specs.declared.stream.OpenStream.{OpenStream}
@@ -23,7 +22,7 @@ use Rattle.outwriter.specs.Parts.{Mark}
 use Rattle.outwriter.specs.RunState.{Sets, HasResets}
 use Rattle.outwriter.specs.Runs.{resets_stream, was_reset}
 use Rattle.outwriter.specs.Steps.{Step, Order, Taken, Granted, Written, Returned}
-use Rattle.outwriter.proofs.EndsKept.{either-true, heeds-before, heeds-called, heeds-kept, heeds-taken, more-dues, over-same, takes-ends}
+use Rattle.outwriter.proofs.EndsKept.{either-true, heeds-before, heeds-called, heeds-taken, more-dues, over-same, takes-ends}
 use Rattle.outwriter.proofs.Others.{or-true, dropped-taken, reason-taken}
 
 -- the same streams

@@ -48,22 +48,30 @@ module _ {L In Out Shut : Type 0} where
   -- a frame that is none of an open stream
   own-serves : (got : Out → List OutItem) (core : OutCore L In Out Shut) (after : Outbound) (frame : Frame) → IsOwn frame core.outbound after
       → (run : List Step) → Holds got run core → Holds got (Written frame ∷ run) (record core { outbound = after })
-  own-serves got core after frame (known, inl plain) run (marks, s, heeds) =
-      (marks ++ [], serves-plain run core.outbound after core.streams.entries core.others.entries (calls got core.senders.items) marks frame (λ k. (known k).0) plain s,
-      heeds-own run core.outbound after core.streams.entries core.others.entries (own-ends frame core.outbound after (known, inl plain)) known heeds)
-  own-serves got core after frame (known, inr (inl r)) run (marks, s, heeds) =
-      (marks ++ on_stream r.0 (Reset r.4.0 ∷ []), serves-reset run core.outbound after core.streams.entries core.others.entries (calls got core.senders.items) marks frame (λ k. (known k).0) r s,
-      heeds-own run core.outbound after core.streams.entries core.others.entries (own-ends frame core.outbound after (known, inr (inl r))) known heeds)
-  own-serves got core after frame (known, inr (inr r)) run (marks, s, heeds) =
-      (marks ++ block_marks r.0 r.1 true, serves-refusal run core.outbound after core.streams.entries core.others.entries (calls got core.senders.items) marks frame (λ k. (known k).0) r s,
-      heeds-own run core.outbound after core.streams.entries core.others.entries (own-ends frame core.outbound after (known, inr (inr r))) known heeds)
+  own-serves got core after frame (known, inl plain) run (marks, s, heeds) = (
+    marks ++ [],
+    serves-plain run core.outbound after core.streams.entries core.others.entries (calls got core.senders.items) marks frame (λ k. (known k).0) plain s,
+    heeds-own run core.outbound after core.streams.entries core.others.entries (own-ends frame core.outbound after (known, inl plain)) known heeds,
+  )
+  own-serves got core after frame (known, inr (inl r)) run (marks, s, heeds) = (
+    marks ++ on_stream r.0 (Reset r.4.0 ∷ []),
+    serves-reset run core.outbound after core.streams.entries core.others.entries (calls got core.senders.items) marks frame (λ k. (known k).0) r s,
+    heeds-own run core.outbound after core.streams.entries core.others.entries (own-ends frame core.outbound after (known, inr (inl r))) known heeds,
+  )
+  own-serves got core after frame (known, inr (inr r)) run (marks, s, heeds) = (
+    marks ++ block_marks r.0 r.1 true,
+    serves-refusal run core.outbound after core.streams.entries core.others.entries (calls got core.senders.items) marks frame (λ k. (known k).0) r s,
+    heeds-own run core.outbound after core.streams.entries core.others.entries (own-ends frame core.outbound after (known, inr (inr r))) known heeds,
+  )
 
   pub own-holds : (got : Out → List OutItem) (core : OutCore L In Out Shut) (after : Outbound) (o : Option Frame) → OwnOrRests o core.outbound after
       → HoldsOn got o core (record core { outbound = after })
   own-holds got core after (Some frame) own = own-serves got core after frame own
-  own-holds got core after None rests = λ run h.
-      (h.0, serves-rests run core.outbound after core.streams.entries core.others.entries (calls got core.senders.items) h.0 rests h.1,
-      heeds-own run core.outbound after core.streams.entries core.others.entries (rests-ends core.outbound after rests) rests.standing h.2)
+  own-holds got core after None rests = λ run h. (
+    h.0,
+    serves-rests run core.outbound after core.streams.entries core.others.entries (calls got core.senders.items) h.0 rests h.1,
+    heeds-own run core.outbound after core.streams.entries core.others.entries (rests-ends core.outbound after rests) rests.standing h.2,
+  )
 
   -- ---- what callers see
 

@@ -134,11 +134,7 @@ impl Outbound {
 
     /// Opens the window of a call's stream, unless it is open or over, and its credit, if the stream is new. Out of
     /// memory, it changes nothing.
-    pub(crate) fn take_open(
-        &mut self,
-        id: StreamId,
-        is_new: bool,
-    ) -> Result<(), AllocError>
+    pub(crate) fn take_open(&mut self, id: StreamId, is_new: bool) -> Result<(), AllocError>
         requires new_stream { is_new ≡ true → 0 < id }
         requires number { is_new ≡ true → id < 2 ^ 31 }
         requires unknown { is_new ≡ true → knows self.old.credit id ≡ false }

@@ -1,4 +1,3 @@
-use Rattle.std.proofs.Common.{◌∙◌}
 use Rattle.outwriter.proofs.TableLemmas.{limited-more, limited-same}
 use Rattle.outwriter.proofs.outbound.limit_table.Goals.{in-TableSize, in_default}
 use Rattle.outwriter.proofs.outbound.limit_table.Goals as goal
