@@ -23,6 +23,10 @@ unless-lost : {A : Type 0} (standing : Standing) (told : Option Ending) → (sta
     → (standing ≡ stands.Going → A) → told ≢ Some ending.OutOfMemory → A
 unless-lost standing told memory sound on other = standing-of standing on (λ stood. absurd (other (memory stood))) (λ stood. absurd (sound stood))
 
+went-on : {T E : Type 0} (result : Result T E) (old new : Standing) → OnOk result (new ≡ old) → OnErr result (new ≡ stands.Broken) → new ≡ stands.Going → old ≡ stands.Going
+went-on (Ok done) old new ok err going = sym ok ∙ going
+went-on (Err fault) old new ok err going = let broken = sym err ∙ going in cc
+
 module _ {L In Out Shut W : Type 0} (got : Out → List OutItem) (contents : W → Option (List ℕ)) (failed : W → Bool) where
   -- these steps are taken
   pub runs-on : (steps : List Step) (old new : ConnWriter L W In Out Shut) → WritesOn got contents failed steps old new → RunsOn got contents failed old new
@@ -33,20 +37,34 @@ module _ {L In Out Shut W : Type 0} (got : Out → List OutItem) (contents : W �
       → RunsOn got contents failed old new
   fills-on ahead filled old new fills before runs = let found = fills before runs.0 runs.1 in (map Written found.0 ++ runs.0, found.1)
 
-  -- so many that nothing is left to be written
-  pub fills-over : (ahead : Out → List OutItem) (old new : ConnWriter L W In Out Shut) → Fills got ahead contents failed (Some Over) old new → RunsOut got contents failed old new
-  fills-over ahead old new fills before runs =
+  over-filled : (ahead : Out → List OutItem) (old new : ConnWriter L W In Out Shut) → Fills got ahead contents failed (Some Over) old new → RunsOut got contents failed old new
+  over-filled ahead old new fills before runs =
       let found = fills before runs.0 runs.1 in
       let rest = found.2 in
       (map Written found.0 ++ runs.0, found.1, λ going. record { closed = found.1.serving.closed ∙ rest.1; answered = rest.0.answered })
 
+  stopped-filled : (ahead : Out → List OutItem) (old new : ConnWriter L W In Out Shut) → Fills got ahead contents failed (Some Stopped) old new → RunsOut got contents failed old new
+  stopped-filled ahead old new fills before runs = let found = fills before runs.0 runs.1 in (map Written found.0 ++ runs.0, found.1, λ going. absurd (found.2 going))
+
+  -- so many that nothing is left to be written
+  pub fills-over : (ahead : Out → List OutItem) (filled : Filled) (old new : ConnWriter L W In Out Shut) → Fills got ahead contents failed (Some filled) old new → filled ≡ Over
+      → RunsOut got contents failed old new
+  fills-over ahead filled old new fills over = over-filled ahead old new (subst (λ (found : Filled). Fills got ahead contents failed (Some found) old new) over fills)
+
   -- the writer makes no more
-  pub fills-stopped : (ahead : Out → List OutItem) (old new : ConnWriter L W In Out Shut) → Fills got ahead contents failed (Some Stopped) old new → RunsOut got contents failed old new
-  fills-stopped ahead old new fills before runs = let found = fills before runs.0 runs.1 in (map Written found.0 ++ runs.0, found.1, λ going. absurd (found.2 going))
+  pub fills-stopped : (ahead : Out → List OutItem) (filled : Filled) (old new : ConnWriter L W In Out Shut) → Fills got ahead contents failed (Some filled) old new → filled ≡ Stopped
+      → RunsOut got contents failed old new
+  fills-stopped ahead filled old new fills stopped = stopped-filled ahead old new (subst (λ (found : Filled). Fills got ahead contents failed (Some found) old new) stopped fills)
 
   -- one after another
   pub runs-then : (old mid new : ConnWriter L W In Out Shut) → RunsOn got contents failed old mid → RunsOn got contents failed mid new → RunsOn got contents failed old new
   runs-then old mid new first second before runs = second before (first before runs)
+
+  -- the same between writers that are these
+  pub runs-between : (one old new two : ConnWriter L W In Out Shut) → old ≡ one → RunsOn got contents failed old new → two ≡ new → RunsOn got contents failed one two
+  runs-between one old new two same on after before runs =
+      subst (λ (writer : ConnWriter L W In Out Shut). Runs got contents failed before writer) (sym after)
+      (on before (subst (λ (writer : ConnWriter L W In Out Shut). Runs got contents failed before writer) (sym same) runs))
 
   -- a call's sender is given back
   pub returns-stay : (id : ℕ) (items : List OutItem) (old new : ConnWriter L W In Out Shut) → new.standing ≡ old.standing
@@ -55,10 +73,6 @@ module _ {L In Out Shut W : Type 0} (got : Out → List OutItem) (contents : W �
     runs = runs-on (Returned id items ∷ []) old new on;
     ends = λ before ends. (Returned id items ∷ ends.0, on before ends.0 ends.1, λ going. let over = ends.2 (sym same ∙ going) in record { closed = over.closed; answered = over.answered });
   }
-
-  went-on : {T E : Type 0} (result : Result T E) (old new : Standing) → OnOk result (new ≡ old) → OnErr result (new ≡ stands.Broken) → new ≡ stands.Going → old ≡ stands.Going
-  went-on (Ok done) old new ok err going = sym ok ∙ going
-  went-on (Err fault) old new ok err going = let broken = sym err ∙ going in cc
 
   -- the buffer is written
   pub flush-stays : {T E : Type 0} (result : Result T E) (old new : ConnWriter L W In Out Shut) → OnOk result (new.standing ≡ old.standing) → OnErr result (new.standing ≡ stands.Broken)

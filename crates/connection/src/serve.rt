@@ -1,6 +1,6 @@
 //! One connection from its first byte to its last.
 
-ghost use Rattle.std.specs.Prelude.{◌≡◌, ◌<◌, ℕ, List, Bool, All, Some, IfOk, IfSome, IsSomeAnd, slice_get};
+ghost use Rattle.std.specs.Prelude.{◌≡◌, ◌<◌, ℕ, List, Bool, All, Option, Some, IfOk, IfSome, IsSomeAnd, slice_get};
 ghost use Rattle.std.specs.Arc.{arc_value};
 ghost use Rattle.handlers.specs.Listed.{listed};
 ghost use Rattle.handlers.specs.declared.step.Step.{Step};
@@ -13,9 +13,10 @@ use crate::intake::Intake;
 use crate::orders::{ORDERS, Orders};
 use crate::outlet::Outlet;
 use crate::reader::Reader;
-use crate::report::{Ending, Served};
+use crate::report::{CallReport, Ending, Served};
 use crate::shared::Shared;
 use crate::writer;
+use crate::writer::Writing;
 use connbook::ConnBook;
 use device::{ConnRead, ConnWrite};
 use handlers::{Method, Methods};
@@ -98,15 +99,31 @@ where
     };
     let mut intake = Intake::new(shared, came, calls);
     let mut reader: Reader<A, B, C, M, R> = Reader::new(rt, alloc, orders, start);
-    let writing = writer::start(rt, alloc, taking, outlet, output).ok_or(AllocError)?;
+    let writing = writer::start(rt, alloc, taking, outlet, output)?;
     let read = reader.read(&mut intake, input, &methods);
     let calls = reader.end();
-    let (written, device) = writing.join(&rt);
-    Ok(Served {
-        ending: of_both(read, written),
+    Ok(meet(&rt, read, calls, writing))
+}
+
+/// What became of a connection, where its reader meets its writer.
+fn meet<O>(
+    rt: &impl Threads,
+    read: Ending,
+    calls: Option<Vec<CallReport>>,
+    writing: Writing<O>,
+) -> Served<O>
+where
+    O: ConnWrite + Send + Drop + 'static,
+    ensures served { (before : Option (List ℕ)) → O.contents writing.promise.0.value ≡ before → IfSome result.output (HasWritten O.contents O.failed before (Some result.ending)) }
+    ensures calls { result.calls ≡ calls }
+{
+    let (written, device) = writing.join(rt);
+    let ending = of_both(read, written);
+    Served {
+        ending,
         output: Some(device),
         calls,
-    })
+    }
 }
 
 /// How a connection ended, by what the reader and the writer see.

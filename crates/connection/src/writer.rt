@@ -1,6 +1,6 @@
 //! The writing thread of a connection.
 
-ghost use Rattle.std.specs.Prelude.{◌≡◌, ℕ, true, List, Option, Some, IfSome};
+ghost use Rattle.std.specs.Prelude.{◌≡◌, ℕ, true, List, Option, Some, IfOk};
 ghost use Rattle.lane.specs.RingLane.{got};
 ghost use Rattle.outwriter.specs.Cores.{IsUnused};
 ghost use Rattle.connwriter.specs.declared.filled.Filled.TheVariants as filling;
@@ -20,7 +20,7 @@ use flow::MAX_LIVE;
 use h2frame::{ErrorCode, StreamId};
 use lane::RingOut;
 use outwriter::Control;
-use std::alloc::Global;
+use std::alloc::{AllocError, Global};
 use std::snapshot::Snapshot;
 use std::sync::Wait;
 use std::sync::ledger::Ledger;
@@ -54,14 +54,16 @@ struct Writer<A: Ledger, B: Ledger, C: Ledger, W: ConnWrite> {
 }
 
 impl<A: Ledger, B: Ledger, C: Ledger, W: ConnWrite + Drop> Writer<A, B, C, W> {
-    /// A writer that has written nothing.
+    /// A writer that has written nothing to a device that was so.
     fn new(
         alloc: Global,
         orders: RingOut<Order>,
         outlet: Outlet<A, B, C>,
         device: W,
+        was: &Snapshot<W>,
     ) -> Writer<A, B, C, W>
-        ensures runs { Runs got W.contents W.failed (W.contents device) result.frames }
+        requires was { was.now.value ≡ device }
+        ensures runs { Runs got W.contents W.failed (W.contents was.now.value) result.frames }
     {
         let frames = ConnWriter::new(alloc, device);
         Writer {
@@ -86,10 +88,10 @@ impl<A: Ledger, B: Ledger, C: Ledger, W: ConnWrite + Drop> Writer<A, B, C, W> {
         let mut writer = self;
         'turns: for _ in rt.forever() {
             if writer.turn(rt) {
-                break;
+                return writer.into_end();
             }
         }
-        writer.into_end()
+        unreachable!()
     }
 
     /// How the connection ended as far as the writer sees, and what it wrote to.
@@ -154,22 +156,38 @@ impl<A: Ledger, B: Ledger, C: Ledger, W: ConnWrite + Drop> Writer<A, B, C, W> {
         ensures runs { RunsOn got W.contents W.failed self.old.frames self.new.frames }
     {
         let mut some = false;
-        'orders: for _ in 0..u64::MAX {
-            let Some(order) = self.next_order() else {
-                break;
-            };
-            some = true;
-            match self.senders.control_of(order) {
-                Ok(control) => self.take(rt, control),
-                Err(Untaken::OutOfMemory) => self.give_up(rt),
-                Err(Untaken::Early(order)) => {
-                    self.set_aside = Some(order);
-                    break;
+        'orders: for _ in rt.forever() {
+            if !self.take_next(rt) {
+                if some {
+                    self.outlet.shared.reader.ring();
                 }
+                return;
             }
+            some = true;
         }
-        if some {
-            self.outlet.shared.reader.ring();
+    }
+
+    /// Takes the next order. None may be taken where none waits, or where one is set aside.
+    fn take_next(&mut self, rt: &impl Wait) -> bool
+        ensures runs { RunsOn got W.contents W.failed self.old.frames self.new.frames }
+    {
+        let Some(order) = self.next_order() else {
+            return false;
+        };
+        match self.senders.control_of(order) {
+            Ok(control) => {
+                self.take(rt, control);
+                true
+            }
+            Err(Untaken::OutOfMemory) => {
+                self.give_up(rt);
+                true
+            }
+            Err(Untaken::Early(order)) => {
+                self.set_aside = Some(order);
+                self.outlet.shared.reader.ring();
+                false
+            }
         }
     }
 
@@ -191,15 +209,21 @@ impl<A: Ledger, B: Ledger, C: Ledger, W: ConnWrite + Drop> Writer<A, B, C, W> {
         self.note(&order);
         match self.give(order) {
             Taking::Done => {}
-            Taking::Ended(0) => {
-                self.failed = Some(ErrorCode::FlowControlError);
-                self.stop(rt);
-            }
-            Taking::Ended(id) => {
-                self.call_off(id);
-                self.outlet.shared.book.lock(rt).cut(id);
-            }
-            Taking::Unanswered(_) | Taking::HandedBack(_) => self.give_up(rt),
+            Taking::Ended(id) => self.end(rt, id),
+            Taking::Unanswered(_) | Taking::HandedBack(_) => return self.give_up(rt),
+        }
+    }
+
+    /// The writer has ended a stream, or at 0 the connection.
+    fn end(&mut self, rt: &impl Wait, id: StreamId)
+        ensures frames { self.new.frames ≡ self.old.frames }
+    {
+        if id == 0 {
+            self.failed = Some(ErrorCode::FlowControlError);
+            self.stop(rt);
+        } else {
+            self.call_off(id);
+            self.outlet.shared.book.lock(rt).cut(id);
         }
     }
 
@@ -229,13 +253,27 @@ impl<A: Ledger, B: Ledger, C: Ledger, W: ConnWrite + Drop> Writer<A, B, C, W> {
         ensures runs { RunsOn got W.contents W.failed self.old.frames self.new.frames }
     {
         self.lacks_memory = true;
+        self.end_frames();
+        self.stop(rt);
+    }
+
+    /// Ends the frames by a GOAWAY, or without one where there is no memory for it.
+    fn end_frames(&mut self)
+        ensures runs { RunsOn got W.contents W.failed self.old.frames self.new.frames }
+    {
         let last = self.outlet.shared.last();
         let code = ErrorCode::InternalError;
-        match self.give(Control::Goaway { last, code }) {
-            Taking::Done => {}
-            Taking::Ended(_) | Taking::Unanswered(_) | Taking::HandedBack(_) => self.frames.stop(),
+        let is_taken = matches!(self.give(Control::Goaway { last, code }), Taking::Done);
+        if !is_taken {
+            self.stop_frames();
         }
-        self.stop(rt);
+    }
+
+    /// Makes no more frames.
+    fn stop_frames(&mut self)
+        ensures runs { RunsOn got W.contents W.failed self.old.frames self.new.frames }
+    {
+        self.frames.stop();
     }
 
     /// Owes the peer what credit is due.
@@ -277,22 +315,38 @@ impl<A: Ledger, B: Ledger, C: Ledger, W: ConnWrite + Drop> Writer<A, B, C, W> {
         ensures stays { Stays got W.contents W.failed self.old.frames self.new.frames }
     {
         'ended: for index in 0..self.frames.ended().len() {
-            if let Some(id) = self.frames.ended().get(index).copied() {
-                if !self.release(id, true) {
-                    self.call_off(id);
-                }
-            }
+            self.let_go_ended(index);
         }
         'called_off: for index in (0..self.called_off.len()).rev() {
-            if let Some(id) = self.called_off.get(index).copied() {
-                let is_kept = self.release(id, false);
-                if (is_kept || filled != Filled::Full) && index < self.called_off.len() {
-                    self.called_off.swap_remove(index);
-                }
-            }
+            self.let_go_called_off(index, filled);
         }
         if self.senders.catch_up() {
             self.outlet.shared.reader.ring();
+        }
+    }
+
+    /// Lets go of the sender of a call by the place of its END_STREAM in the buffer. Where the call isn't through, it is noted.
+    fn let_go_ended(&mut self, index: usize)
+        ensures stays { Stays got W.contents W.failed self.old.frames self.new.frames }
+    {
+        let Some(id) = self.frames.ended().get(index).copied() else {
+            return;
+        };
+        if !self.release(id, true) {
+            self.call_off(id);
+        }
+    }
+
+    /// Lets go of the sender of a call by its place among the streams that were called off.
+    fn let_go_called_off(&mut self, index: usize, filled: Filled)
+        ensures stays { Stays got W.contents W.failed self.old.frames self.new.frames }
+    {
+        let Some(id) = self.called_off.get(index).copied() else {
+            return;
+        };
+        let is_kept = self.release(id, false);
+        if (is_kept || filled != Filled::Full) && index < self.called_off.len() {
+            self.called_off.swap_remove(index);
         }
     }
 
@@ -370,26 +424,26 @@ impl<W: ConnWrite> Promise<(Option<Ending>, W)> for Begun<W> {
 /// The thread that writes, and what it comes to.
 pub(crate) type Writing<W> = PromisedHandle<(Option<Ending>, W), Begun<W>>;
 
-/// Starts the thread that writes. None where it can't be made.
+/// Starts the thread that writes. That it can't be made counts as want of memory.
 pub(crate) fn start<A, B, C, W, R>(
     rt: R,
     alloc: Global,
     orders: RingOut<Order>,
     outlet: Outlet<A, B, C>,
     device: W,
-) -> Option<Writing<W>>
+) -> Result<Writing<W>, AllocError>
 where
     A: Ledger + Send + Sync + 'static,
     B: Ledger + Send + Sync + 'static,
     C: Ledger + Send + Sync + 'static,
     W: ConnWrite + Send + Drop + 'static,
     R: Threads + Wait + Copy + Send + Sync + Drop + 'static,
-    ensures begun { IfSome result (λ writing. writing.promise.0.value ≡ device) }
+    ensures begun { IfOk result (λ writing. W.contents writing.promise.0.value ≡ W.contents device) }
 {
-    let begun = Begun(Snapshot::of(&device));
-    let writer = Writer::new(alloc, orders, outlet, device);
-    match thread::spawn_with(&rt, begun, move || writer.write(&rt)) {
-        Ok(writing) => Some(writing),
-        Err(_fault) => None,
+    let was = Snapshot::of(&device);
+    let writer = Writer::new(alloc, orders, outlet, device, &was);
+    match thread::spawn_with(&rt, Begun(was), move || writer.write(&rt)) {
+        Ok(writing) => Ok(writing),
+        Err(_fault) => Err(AllocError),
     }
 }
