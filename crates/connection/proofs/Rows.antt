@@ -188,3 +188,24 @@ module _ (answers : ℕ → List (List ℕ) → Bool → Step → Type 0) {V : T
       → IfSome calls (λ rows. EachAnswers answers gots gives (items rows)) → IfSome calls (λ rows. HaveRows answers gots got new_gives (items rows))
   left_so calls gots gives new_gives got is_gives each =
       if_some calls (λ v has. inl (subst (λ (ys : List (List OutItem)). EachAnswers answers gots ys (items v)) (sym is_gives) has)) each
+
+-- what rows say of more answers they say of these
+each_fewer : (wide narrow : ℕ → List (List ℕ) → Bool → Step → Type 0) (gots : List (List InPiece)) (gives : List (List OutItem)) (rows : List CallReport)
+    → IsWithin narrow wide → EachAnswers wide gots gives rows → EachAnswers narrow gots gives rows
+each_fewer wide narrow [] [] [] within each = tt
+each_fewer wide narrow [] [] (row ∷ rows) within each = absurd each
+each_fewer wide narrow [] (given ∷ gives) rows within each = absurd each
+each_fewer wide narrow (got ∷ gots) [] rows within each = absurd each
+each_fewer wide narrow (got ∷ gots) (given ∷ gives) [] within each = absurd each
+each_fewer wide narrow (got ∷ gots) (given ∷ gives) (row ∷ rows) within each =
+    (of_fewer wide narrow got given row within each.0, each_fewer wide narrow gots gives rows within each.1)
+
+have_fewer : (wide narrow : ℕ → List (List ℕ) → Bool → Step → Type 0) (past : List (List InPiece)) (got : List InPiece) (gives : List (List OutItem)) (rows : List CallReport)
+    → IsWithin narrow wide → HaveRows wide past got gives rows → HaveRows narrow past got gives rows
+have_fewer wide narrow past got gives rows within (inl each) = inl (each_fewer wide narrow past gives rows within each)
+have_fewer wide narrow past got gives rows within (inr each) = inr (each_fewer wide narrow (past ++ got ∷ []) gives rows within each)
+
+pub rows_fewer : {V : Type 0} (items : V → List CallReport) (wide narrow : ℕ → List (List ℕ) → Bool → Step → Type 0) (calls : Option V) (past : List (List InPiece)) (got : List InPiece) (gives : List (List OutItem))
+    → IsWithin narrow wide → IfSome calls (λ rows. HaveRows wide past got gives (items rows)) → IfSome calls (λ rows. HaveRows narrow past got gives (items rows))
+rows_fewer items wide narrow None past got gives within has = tt
+rows_fewer items wide narrow (Some rows) past got gives within has = have_fewer wide narrow past got gives (items rows) within has

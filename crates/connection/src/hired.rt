@@ -13,7 +13,7 @@ use account::OutItem;
 use callbox::{GivenShut, Giver, InPiece, Taker};
 use handlers::{Method, Methods};
 use lane::{End, Lane};
-use std::marker::PhantomData;
+use std::marker::{Brand, PhantomData};
 use std::snapshot::Snapshot;
 use std::sync::ledger::Ledger;
 use std::sync::{Arc, Wait};
@@ -82,7 +82,12 @@ where
         giver: Snapshot::of(&giver),
         answering: PhantomData,
     };
-    let job = move || work::<A, B, C, I, O, M, R>(rt, worker, methods, taker, giver);
+    let job = move || -> Seen<I, O>
+        requires fresh { IsFresh (I.got taker.rx) taker.progress × (I.past_out taker.rx ≡ []) }
+        requires ungiven { (O.past_in giver.tx ≡ []) × (O.put_in giver.tx ≡ []) }
+        requires ring_in { (n : I.Name) → I.ring_of (I.next_name n) ≡ I.ring_of n }
+        requires ring_out { (n : O.Name) → O.ring_of (O.next_name n) ≡ O.ring_of n }
+    { work::<A, B, C, I, O, R>(rt, worker, methods, taker, giver) };
     match thread::spawn_with(&rt, hired, job) {
         Ok(handle) => Some(handle),
         Err(_refused) => None,
@@ -90,7 +95,7 @@ where
 }
 
 /// What the thread does.
-fn work<A, B, C, I, O, M, R>(
+fn work<A, B, C, I, O, R>(
     rt: R,
     worker: Worker<A, B, C>,
     methods: Arc<Methods>,
@@ -103,17 +108,15 @@ where
     C: Ledger,
     I: Lane<Item = InPiece>,
     O: Lane<Item = OutItem>,
-    M: Answering,
     R: Wait + Clock + Drop,
-    requires answers { IsWithin M.answers (answers_by (λ method. (⟦<dyn Method as Method>⟧ method.vtable).answers method.value) (listed (arc_value methods))) }
     requires fresh { IsFresh (I.got taker.rx) taker.progress × (I.past_out taker.rx ≡ []) }
     requires ungiven { (O.past_in giver.tx ≡ []) × (O.put_in giver.tx ≡ []) }
     requires ring_in { (n : I.Name) → I.ring_of (I.next_name n) ≡ I.ring_of n }
     requires ring_out { (n : O.Name) → O.ring_of (O.next_name n) ≡ O.ring_of n }
     ensures in_ring { I.ring_of (I.out_name result.taker.rx) ≡ I.ring_of (I.out_name taker.rx) }
     ensures out_ring { O.ring_of (of_end (λ g. O.in_name g.tx) (λ s. O.shut_name s.shut) result.end) ≡ O.ring_of (O.in_name giver.tx) }
-    ensures rows { IfSome result.calls (λ rows. HaveRows M.answers (I.past_out result.taker.rx) (I.got result.taker.rx)
+    ensures rows { IfSome result.calls (λ rows. HaveRows (answers_by (λ method. (⟦<dyn Method as Method>⟧ method.vtable).answers method.value) (listed (arc_value methods))) (I.past_out result.taker.rx) (I.got result.taker.rx)
         (of_end (λ g. O.past_in g.tx) (λ s. O.past_shut s.shut ++ O.put_shut s.shut ∷ []) result.end) rows.items) }
 {
-    worker.work::<I, O, M, R>(&rt, &methods, taker, giver)
+    worker.work::<I, O, Brand, R>(&rt, &methods, taker, giver)
 }
