@@ -98,18 +98,18 @@ module _ (answers : ℕ → List (List ℕ) → Bool → Step → Type 0) where
       (λ k. subst (λ (gs : List (List OutItem)). IsUnsent (segment feds k) (segment ((past ++ got ∷ []) ++ []) k) (segment gs k)) is_given
       (subst (λ (xs : List (List InPiece)). IsUnsent (segment feds k) (segment xs k) (segment given_all k)) (is_all ∙ sym (append-nil (past ++ got ∷ []))) (lawful k))) each n)
 
-  all_from : (rows : List CallReport) → ((n : ℕ) → IfSome (slice_get rows n) (λ row. HasAccount answers row)) → All (λ row. HasAccount answers row) rows
-  all_from [] each = All-nil (λ row. HasAccount answers row)
-  all_from (row ∷ rows) each = All-cons (λ row. HasAccount answers row) row rows (each 0) (all_from rows (λ n. each (suc n)))
+  all_from : (rows : List CallReport) → ((n : ℕ) → IfSome (slice_get rows n) (λ row. HasAccount row)) → All (λ row. HasAccount row) rows
+  all_from [] each = All-nil (λ row. HasAccount row)
+  all_from (row ∷ rows) each = All-cons (λ row. HasAccount row) row rows (each 0) (all_from rows (λ n. each (suc n)))
 
-  weaker : (rows : List CallReport) (n : ℕ) (fed : List InPiece) (given : List OutItem) → IfSome (slice_get rows n) (λ row. Stands answers fed given row) → IfSome (slice_get rows n) (λ row. HasAccount answers row)
+  weaker : (rows : List CallReport) (n : ℕ) (fed : List InPiece) (given : List OutItem) → IfSome (slice_get rows n) (λ row. Stands answers fed given row) → IfSome (slice_get rows n) (λ row. HasAccount row)
   weaker [] zero fed given has = tt
   weaker [] (suc n) fed given has = tt
-  weaker (row ∷ rows) zero fed given has = (unsent fed has.0 has.1 given, has.2)
+  weaker (row ∷ rows) zero fed given has = (unsent fed has.0 has.1 given, has.2.lawful, has.2.answered.taken, has.2.answered.told)
   weaker (row ∷ rows) (suc n) fed given has = weaker rows n fed given has
 
   -- each row of a slot has its account
-  pub all_have : (feds : List (List InPiece)) (gives : List (List OutItem)) (rows : List CallReport) → EachStands answers feds gives rows → All (λ row. HasAccount answers row) rows
+  pub all_have : (feds : List (List InPiece)) (gives : List (List OutItem)) (rows : List CallReport) → EachStands answers feds gives rows → All (λ row. HasAccount row) rows
   all_have feds gives rows each = all_from rows (λ n. weaker rows n (segment feds n) (segment gives n) (each n))
 
 -- ---- at the end
@@ -135,20 +135,20 @@ module _ (answers : ℕ → List (List ℕ) → Bool → Step → Type 0) {V : T
 
   pub rows_have : (calls : Option V) (half : Option (List (List InPiece)))
       → IfSome calls (λ rows. IsSomeAnd half (λ feds. (given : List (List OutItem)) × EachStands answers feds given (items rows)))
-      → IfSome calls (λ rows. All (λ row. HasAccount answers row) (items rows))
+      → IfSome calls (λ rows. All (λ row. HasAccount row) (items rows))
   rows_have None half has = tt
   rows_have (Some rows) None has = absurd has
   rows_have (Some rows) (Some feds) has = all_have answers feds has.0 (items rows) has.1
 
   pub joined_have : (all rows both : Option V)
       → IfSome both (λ b. IsSomeAnd all (λ before. IsSomeAnd rows (λ more. items b ≡ items before ++ items more)))
-      → IfSome all (λ rows. All (λ row. HasAccount answers row) (items rows)) → IfSome rows (λ rows. All (λ row. HasAccount answers row) (items rows))
-      → IfSome both (λ rows. All (λ row. HasAccount answers row) (items rows))
+      → IfSome all (λ rows. All (λ row. HasAccount row) (items rows)) → IfSome rows (λ rows. All (λ row. HasAccount row) (items rows))
+      → IfSome both (λ rows. All (λ row. HasAccount row) (items rows))
   joined_have all rows None is first second = tt
   joined_have None rows (Some b) is first second = absurd is
   joined_have (Some before) None (Some b) is first second = absurd is
   joined_have (Some before) (Some more) (Some b) is first second =
-      subst (λ (xs : List CallReport). All (λ row. HasAccount answers row) xs) (sym is) (All-append (λ row. HasAccount answers row) (items before) (items more) first second)
+      subst (λ (xs : List CallReport). All (λ row. HasAccount row) xs) (sym is) (All-append (λ row. HasAccount row) (items before) (items more) first second)
 
   pub no_rows : (calls : Option V) (rows : V) (gots : List (List InPiece)) (gives : List (List OutItem)) → calls ≡ Some rows → items rows ≡ [] → gots ≡ [] → gives ≡ []
       → IfSome calls (λ v. EachAnswers answers gots gives (items v))
@@ -188,24 +188,3 @@ module _ (answers : ℕ → List (List ℕ) → Bool → Step → Type 0) {V : T
       → IfSome calls (λ rows. EachAnswers answers gots gives (items rows)) → IfSome calls (λ rows. HaveRows answers gots got new_gives (items rows))
   left_so calls gots gives new_gives got is_gives each =
       if_some calls (λ v has. inl (subst (λ (ys : List (List OutItem)). EachAnswers answers gots ys (items v)) (sym is_gives) has)) each
-
--- what rows say of more answers they say of these
-each_fewer : (wide narrow : ℕ → List (List ℕ) → Bool → Step → Type 0) (gots : List (List InPiece)) (gives : List (List OutItem)) (rows : List CallReport)
-    → IsWithin narrow wide → EachAnswers wide gots gives rows → EachAnswers narrow gots gives rows
-each_fewer wide narrow [] [] [] within each = tt
-each_fewer wide narrow [] [] (row ∷ rows) within each = absurd each
-each_fewer wide narrow [] (given ∷ gives) rows within each = absurd each
-each_fewer wide narrow (got ∷ gots) [] rows within each = absurd each
-each_fewer wide narrow (got ∷ gots) (given ∷ gives) [] within each = absurd each
-each_fewer wide narrow (got ∷ gots) (given ∷ gives) (row ∷ rows) within each =
-    (of_fewer wide narrow got given row within each.0, each_fewer wide narrow gots gives rows within each.1)
-
-have_fewer : (wide narrow : ℕ → List (List ℕ) → Bool → Step → Type 0) (past : List (List InPiece)) (got : List InPiece) (gives : List (List OutItem)) (rows : List CallReport)
-    → IsWithin narrow wide → HaveRows wide past got gives rows → HaveRows narrow past got gives rows
-have_fewer wide narrow past got gives rows within (inl each) = inl (each_fewer wide narrow past gives rows within each)
-have_fewer wide narrow past got gives rows within (inr each) = inr (each_fewer wide narrow (past ++ got ∷ []) gives rows within each)
-
-pub rows_fewer : {V : Type 0} (items : V → List CallReport) (wide narrow : ℕ → List (List ℕ) → Bool → Step → Type 0) (calls : Option V) (past : List (List InPiece)) (got : List InPiece) (gives : List (List OutItem))
-    → IsWithin narrow wide → IfSome calls (λ rows. HaveRows wide past got gives (items rows)) → IfSome calls (λ rows. HaveRows narrow past got gives (items rows))
-rows_fewer items wide narrow None past got gives within has = tt
-rows_fewer items wide narrow (Some rows) past got gives within has = have_fewer wide narrow past got gives (items rows) within has

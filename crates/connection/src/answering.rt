@@ -1,9 +1,6 @@
-//! What the methods of a connection answer, as a word for clauses.
+//! What methods answer, as a word for clauses.
 
-use std::marker::Brand;
-
-/// What each method answers, by its index: to these messages, and to whether their end was told. Each connection picks it by its
-/// methods, so that what a worker promises need not name them.
+/// What each method answers, by its index: to these messages, and to whether their end was told.
 pub(crate) trait Answering {
     ghost use Rattle.std.specs.Prelude.{ℕ, List, Bool};
     ghost use Rattle.handlers.specs.declared.step.Step.{Step};
@@ -11,6 +8,11 @@ pub(crate) trait Answering {
     ghost answers: { ℕ → List (List ℕ) → Bool → Step → Type 0 };
 }
 
-impl Answering for Brand {
-    ghost answers = { λ index messages ended answer. ⊥ };
+/// Where nothing is said of what methods answer: no clause of a closure can name them, so a thread's promise can't.
+pub(crate) struct Unheard;
+
+impl Answering for Unheard {
+    ghost use Rattle.connection.specs.Accounts.{unheard};
+
+    ghost answers = { unheard };
 }

@@ -1,19 +1,17 @@
 //! A worker in a thread of its own, and what it promises.
 
 ghost use Rattle.std.specs.Prelude.{◌≡◌, [], ◌∷◌, ◌++◌, IfSome};
-ghost use Rattle.std.specs.Arc.{arc_value};
 ghost use Rattle.lane.specs.End.{of_end};
-ghost use Rattle.handlers.specs.Listed.{listed};
-ghost use Rattle.connection.specs.Accounts.{IsWithin, answers_by};
+ghost use Rattle.connection.specs.Accounts.{unheard};
 ghost use Rattle.connection.specs.Workers.{HaveRows, IsFresh};
 
-use crate::answering::Answering;
+use crate::answering::Unheard;
+use crate::slot::{InLane, OutLane};
 use crate::worker::{Seen, Worker};
 use account::OutItem;
 use callbox::{GivenShut, Giver, InPiece, Taker};
-use handlers::{Method, Methods};
-use lane::{End, Lane};
-use std::marker::{Brand, PhantomData};
+use handlers::Methods;
+use lane::{End, Lane, RingLane};
 use std::snapshot::Snapshot;
 use std::sync::ledger::Ledger;
 use std::sync::{Arc, Wait};
@@ -21,105 +19,119 @@ use std::thread;
 use std::thread::{Promise, PromisedHandle, Threads};
 use std::time::Clock;
 
-/// What a worker was given. It promises that the ends that it hands back are of the same lanes, and that the rows of its calls are
-/// as these ends say.
-pub(crate) struct Hired<I: Lane<Item = InPiece>, O: Lane<Item = OutItem>, M: Answering> {
-    pub(crate) taker: Snapshot<Taker<I>>,
-    pub(crate) giver: Snapshot<Giver<O>>,
-    answering: PhantomData<M>,
+/// What a thread does with the methods.
+trait Work<R, T> {
+    ghost can_work: { Self → Type 0 };
+
+    ghost comes_to: { Self → T → Type 0 };
+
+    fn work(self, rt: &R, methods: &Methods) -> T
+        requires { can_work self }
+        ensures { comes_to self result };
 }
 
-impl<I: Lane<Item = InPiece>, O: Lane<Item = OutItem>, M: Answering> Drop for Hired<I, O, M> {
-    fn drop(self) {
-        let Hired {
-            taker: _,
-            giver: _,
-            answering: _,
-        } = self;
-    }
-}
-
-impl<I, O, M> Promise<Seen<I, O>> for Hired<I, O, M>
-where
-    I: Lane<Item = InPiece>,
-    O: Lane<Item = OutItem>,
-    M: Answering,
-{
-    ghost kept_by = { λ hired seen. (I.ring_of (I.out_name seen.taker.rx) ≡ I.ring_of (I.out_name hired.taker.value.rx))
-        × (O.ring_of (of_end (λ g. O.in_name g.tx) (λ s. O.shut_name s.shut) seen.end) ≡ O.ring_of (O.in_name hired.giver.value.tx))
-        × IfSome seen.calls (λ rows. HaveRows M.answers (I.past_out seen.taker.rx) (I.got seen.taker.rx)
-        (of_end (λ g. O.past_in g.tx) (λ s. O.past_shut s.shut ++ O.put_shut s.shut ∷ []) seen.end) rows.items) };
-}
-
-/// Starts a worker with these ends. None where no thread can be had.
-pub(crate) fn hire<A, B, C, I, O, M, R>(
+/// Starts a thread that does this. None where no thread can be had: then the work is dropped.
+fn start<K, P, R, T>(
     rt: R,
-    worker: Worker<A, B, C>,
+    promise: P,
+    work: K,
     methods: Arc<Methods>,
-    taker: Taker<I>,
-    giver: Giver<O>,
-) -> Option<PromisedHandle<Seen<I, O>, Hired<I, O, M>>>
+) -> Option<PromisedHandle<T, P>>
 where
-    A: Ledger + Send + Sync + 'static,
-    B: Ledger + Send + Sync + 'static,
-    C: Ledger + Send + Sync + 'static,
-    I: Lane<Item = InPiece> + Send + 'static,
-    I::In: 'static,
-    I::Out: 'static,
-    I::Shut: 'static,
-    O: Lane<Item = OutItem> + Send + 'static,
-    O::In: 'static,
-    O::Out: 'static,
-    O::Shut: 'static,
-    M: Answering + Send + 'static,
-    R: Threads + Wait + Clock + Copy + Send + Sync + Drop + 'static,
-    requires answers { IsWithin M.answers (answers_by (λ method. (⟦<dyn Method as Method>⟧ method.vtable).answers method.value) (listed (arc_value methods))) }
-    requires fresh { IsFresh (I.got taker.rx) taker.progress × (I.past_out taker.rx ≡ []) }
-    requires ungiven { (O.past_in giver.tx ≡ []) × (O.put_in giver.tx ≡ []) }
-    requires ring_in { (n : I.Name) → I.ring_of (I.next_name n) ≡ I.ring_of n }
-    requires ring_out { (n : O.Name) → O.ring_of (O.next_name n) ≡ O.ring_of n }
-    ensures ends { IfSome result (λ handle. (handle.promise.taker.value ≡ taker) × (handle.promise.giver.value ≡ giver)) }
+    K: Work<R, T> + Send + Drop + 'static,
+    P: Promise<T> + Drop,
+    R: Threads + Copy + Send + Drop + 'static,
+    T: Send + Drop + 'static,
+    requires can { K.can_work work }
+    requires keeps { (end : T) → K.comes_to work end → P.kept_by promise end }
+    ensures promise { IfSome result (λ handle. handle.promise ≡ promise) }
 {
-    let hired: Hired<I, O, M> = Hired {
-        taker: Snapshot::of(&taker),
-        giver: Snapshot::of(&giver),
-        answering: PhantomData,
-    };
-    let job = move || -> Seen<I, O>
-        requires fresh { IsFresh (I.got taker.rx) taker.progress × (I.past_out taker.rx ≡ []) }
-        requires ungiven { (O.past_in giver.tx ≡ []) × (O.put_in giver.tx ≡ []) }
-        requires ring_in { (n : I.Name) → I.ring_of (I.next_name n) ≡ I.ring_of n }
-        requires ring_out { (n : O.Name) → O.ring_of (O.next_name n) ≡ O.ring_of n }
-    { work::<A, B, C, I, O, R>(rt, worker, methods, taker, giver) };
-    match thread::spawn_with(&rt, hired, job) {
+    let job = move || -> T
+        requires { K.can_work work }
+        ensures { K.comes_to work result }
+    { work.work(&rt, &methods) };
+    match thread::spawn_with(&rt, promise, job) {
         Ok(handle) => Some(handle),
         Err(_refused) => None,
     }
 }
 
-/// What the thread does.
-fn work<A, B, C, I, O, R>(
-    rt: R,
+/// A worker with its ends of the lanes of its slot, of which nothing was made use of.
+#[derive(Drop)]
+struct WithEnds<A: Ledger, B: Ledger, C: Ledger, I: Lane<Item = InPiece>, O: Lane<Item = OutItem>> {
     worker: Worker<A, B, C>,
-    methods: Arc<Methods>,
     taker: Taker<I>,
     giver: Giver<O>,
-) -> Seen<I, O>
+}
+
+impl<A, B, C, I, O, R> Work<R, Seen<I, O>> for WithEnds<A, B, C, I, O>
 where
     A: Ledger,
     B: Ledger,
     C: Ledger,
     I: Lane<Item = InPiece>,
     O: Lane<Item = OutItem>,
-    R: Wait + Clock + Drop,
-    requires fresh { IsFresh (I.got taker.rx) taker.progress × (I.past_out taker.rx ≡ []) }
-    requires ungiven { (O.past_in giver.tx ≡ []) × (O.put_in giver.tx ≡ []) }
-    requires ring_in { (n : I.Name) → I.ring_of (I.next_name n) ≡ I.ring_of n }
-    requires ring_out { (n : O.Name) → O.ring_of (O.next_name n) ≡ O.ring_of n }
-    ensures in_ring { I.ring_of (I.out_name result.taker.rx) ≡ I.ring_of (I.out_name taker.rx) }
-    ensures out_ring { O.ring_of (of_end (λ g. O.in_name g.tx) (λ s. O.shut_name s.shut) result.end) ≡ O.ring_of (O.in_name giver.tx) }
-    ensures rows { IfSome result.calls (λ rows. HaveRows (answers_by (λ method. (⟦<dyn Method as Method>⟧ method.vtable).answers method.value) (listed (arc_value methods))) (I.past_out result.taker.rx) (I.got result.taker.rx)
-        (of_end (λ g. O.past_in g.tx) (λ s. O.past_shut s.shut ++ O.put_shut s.shut ∷ []) result.end) rows.items) }
+    R: Wait + Clock,
 {
-    worker.work::<I, O, Brand, R>(&rt, &methods, taker, giver)
+    ghost can_work = { λ it. IsFresh (I.got it.taker.rx) it.taker.progress × (I.past_out it.taker.rx ≡ [])
+        × (O.past_in it.giver.tx ≡ []) × (O.put_in it.giver.tx ≡ [])
+        × ((n : I.Name) → I.ring_of (I.next_name n) ≡ I.ring_of n) × ((n : O.Name) → O.ring_of (O.next_name n) ≡ O.ring_of n) };
+
+    ghost comes_to = { λ it seen. (I.ring_of (I.out_name seen.taker.rx) ≡ I.ring_of (I.out_name it.taker.rx))
+        × (O.ring_of (of_end (λ g. O.in_name g.tx) (λ s. O.shut_name s.shut) seen.end) ≡ O.ring_of (O.in_name it.giver.tx))
+        × IfSome seen.calls (λ rows. HaveRows unheard (I.past_out seen.taker.rx) (I.got seen.taker.rx)
+        (of_end (λ g. O.past_in g.tx) (λ s. O.past_shut s.shut ++ O.put_shut s.shut ∷ []) seen.end) rows.items) };
+
+    fn work(self, rt: &R, methods: &Methods) -> Seen<I, O> {
+        let WithEnds {
+            worker,
+            taker,
+            giver,
+        } = self;
+        worker.work::<I, O, Unheard, R>(rt, methods, taker, giver)
+    }
+}
+
+/// What a worker was given. It promises that the ends that it hands back are of the same lanes, and that the rows of its calls are
+/// as these ends say.
+#[derive(Drop)]
+pub(crate) struct Hired<I: Lane<Item = InPiece>, O: Lane<Item = OutItem>> {
+    pub(crate) taker: Snapshot<Taker<I>>,
+    pub(crate) giver: Snapshot<Giver<O>>,
+}
+
+impl<I: Lane<Item = InPiece>, O: Lane<Item = OutItem>> Promise<Seen<I, O>> for Hired<I, O> {
+    ghost kept_by = { λ hired seen. (I.ring_of (I.out_name seen.taker.rx) ≡ I.ring_of (I.out_name hired.taker.value.rx))
+        × (O.ring_of (of_end (λ g. O.in_name g.tx) (λ s. O.shut_name s.shut) seen.end) ≡ O.ring_of (O.in_name hired.giver.value.tx))
+        × IfSome seen.calls (λ rows. HaveRows unheard (I.past_out seen.taker.rx) (I.got seen.taker.rx)
+        (of_end (λ g. O.past_in g.tx) (λ s. O.past_shut s.shut ++ O.put_shut s.shut ∷ []) seen.end) rows.items) };
+}
+
+/// Starts a worker with these ends. None where no thread can be had.
+pub(crate) fn hire<A, B, C, R>(
+    rt: R,
+    worker: Worker<A, B, C>,
+    methods: Arc<Methods>,
+    taker: Taker<InLane>,
+    giver: Giver<OutLane>,
+) -> Option<PromisedHandle<Seen<InLane, OutLane>, Hired<InLane, OutLane>>>
+where
+    A: Ledger + Send + Sync + 'static,
+    B: Ledger + Send + Sync + 'static,
+    C: Ledger + Send + Sync + 'static,
+    R: Threads + Wait + Clock + Copy + Send + Sync + Drop + 'static,
+    requires fresh { IsFresh (⟦<RingLane<InPiece> as Lane>⟧.got taker.rx) taker.progress × (⟦<RingLane<InPiece> as Lane>⟧.past_out taker.rx ≡ []) }
+    requires ungiven { (⟦<RingLane<OutItem> as Lane>⟧.past_in giver.tx ≡ []) × (⟦<RingLane<OutItem> as Lane>⟧.put_in giver.tx ≡ []) }
+    ensures ends { IfSome result (λ handle. (handle.promise.taker.value ≡ taker) × (handle.promise.giver.value ≡ giver)) }
+{
+    let hired = Hired {
+        taker: Snapshot::of(&taker),
+        giver: Snapshot::of(&giver),
+    };
+    let work = WithEnds {
+        worker,
+        taker,
+        giver,
+    };
+    start(rt, hired, work, methods)
 }

@@ -1,12 +1,8 @@
 //! What becomes of each event of a connection.
 
-ghost use Rattle.std.specs.Prelude.{◌≡◌, ◌<◌, ℕ, List, Bool, All, IfSome, IsSomeAnd, slice_get};
-ghost use Rattle.std.specs.Arc.{arc_value};
-ghost use Rattle.handlers.specs.Listed.{listed};
-ghost use Rattle.handlers.specs.declared.step.Step.{Step};
-ghost use Rattle.connection.specs.Accounts.{HasAccount, IsWithin, answers_by};
+ghost use Rattle.std.specs.Prelude.{◌≡◌, ◌<◌, All, IfSome};
+ghost use Rattle.connection.specs.Accounts.{HasAccount};
 
-use crate::answering::Answering;
 use crate::intake::Intake;
 use crate::orders::{Fresh, Opened, Orders};
 use crate::report::{CallReport, Ending};
@@ -18,7 +14,7 @@ use callhead::{CallHead, HeadFault, unknown_method};
 use connbook::{AdmitFault, Receipt};
 use device::ConnRead;
 use h2frame::{ErrorCode, StreamId};
-use handlers::{Method, Methods};
+use handlers::Methods;
 use indexmap::IndexMap;
 use lists::Sequence;
 use outwriter::Control;
@@ -50,11 +46,11 @@ struct Engaged {
 
 /// What the reading thread of a connection has.
 #[derive(Drop)]
-pub(crate) struct Reader<A: Ledger, B: Ledger, C: Ledger, M: Answering, R: Drop> {
+pub(crate) struct Reader<A: Ledger, B: Ledger, C: Ledger, R: Drop> {
     pub(crate) rt: R,
     pub(crate) alloc: Global,
     pub(crate) orders: Orders<A, B, C>,
-    pub(crate) slots: Slots<InLane, OutLane, M>,
+    pub(crate) slots: Slots<InLane, OutLane>,
     /// The slots of the calls whose halves are open, by their streams.
     places: IndexMap<StreamId, usize>,
     /// How many streams were begun.
@@ -65,12 +61,11 @@ pub(crate) struct Reader<A: Ledger, B: Ledger, C: Ledger, M: Answering, R: Drop>
     start: Instant,
 }
 
-impl<A, B, C, M, R> Reader<A, B, C, M, R>
+impl<A, B, C, R> Reader<A, B, C, R>
 where
     A: Ledger + Send + Sync + 'static,
     B: Ledger + Send + Sync + 'static,
     C: Ledger + Send + Sync + 'static,
-    M: Answering + Send + 'static,
     R: Threads + Wait + Clock + Copy + Send + Sync + Drop + 'static,
 {
     pub(crate) fn new(
@@ -78,7 +73,7 @@ where
         alloc: Global,
         orders: Orders<A, B, C>,
         start: Instant,
-    ) -> Reader<A, B, C, M, R> {
+    ) -> Reader<A, B, C, R> {
         Reader {
             rt,
             alloc,
@@ -98,7 +93,6 @@ where
         input: &mut I,
         methods: &Arc<Methods>,
     ) -> Ending
-        requires answers { IsWithin M.answers (answers_by (λ method. (⟦<dyn Method as Method>⟧ method.vtable).answers method.value) (listed (arc_value methods.now))) }
         requires whole { (intake.old.came.parts ≡ A.parts) × (0 < A.parts) × (intake.old.calls.parts ≡ B.parts) × (0 < B.parts) }
         ensures whole { (intake.new.came.parts ≡ A.parts) × (0 < A.parts) × (intake.new.calls.parts ≡ B.parts) × (0 < B.parts) }
     {
@@ -125,7 +119,7 @@ where
 
     /// Ends all halves and workers, and lets the writer end: the rows of all calls, or none for want of memory.
     pub(crate) fn end(self) -> Option<Vec<CallReport>>
-        ensures rows { IfSome result (λ rows. All (λ row. HasAccount M.answers row) rows.items) }
+        ensures rows { IfSome result (λ rows. All (λ row. HasAccount row) rows.items) }
     {
         let Reader {
             rt,
@@ -172,7 +166,6 @@ where
         piece: &[u8],
         methods: &Arc<Methods>,
     ) -> Result<Option<ErrorCode>, AllocError>
-        requires answers { IsWithin M.answers (answers_by (λ method. (⟦<dyn Method as Method>⟧ method.vtable).answers method.value) (listed (arc_value methods.now))) }
         requires whole { (intake.old.came.parts ≡ A.parts) × (0 < A.parts) × (intake.old.calls.parts ≡ B.parts) × (0 < B.parts) }
         ensures whole { (intake.new.came.parts ≡ A.parts) × (0 < A.parts) × (intake.new.calls.parts ≡ B.parts) × (0 < B.parts) }
     {
@@ -196,7 +189,6 @@ where
         event: InEvent,
         methods: &Arc<Methods>,
     ) -> Result<Option<ErrorCode>, AllocError>
-        requires answers { IsWithin M.answers (answers_by (λ method. (⟦<dyn Method as Method>⟧ method.vtable).answers method.value) (listed (arc_value methods.now))) }
         requires whole { (intake.old.came.parts ≡ A.parts) × (0 < A.parts) × (intake.old.calls.parts ≡ B.parts) × (0 < B.parts) }
         ensures whole { (intake.new.came.parts ≡ A.parts) × (0 < A.parts) × (intake.new.calls.parts ≡ B.parts) × (0 < B.parts) }
     {
@@ -235,7 +227,6 @@ where
         head: CallHead,
         methods: &Arc<Methods>,
     ) -> Result<(), AllocError>
-        requires answers { IsWithin M.answers (answers_by (λ method. (⟦<dyn Method as Method>⟧ method.vtable).answers method.value) (listed (arc_value methods.now))) }
         requires whole { (intake.old.came.parts ≡ A.parts) × (0 < A.parts) × (intake.old.calls.parts ≡ B.parts) × (0 < B.parts) }
         ensures whole { (intake.new.came.parts ≡ A.parts) × (0 < A.parts) × (intake.new.calls.parts ≡ B.parts) × (0 < B.parts) }
     {
@@ -263,9 +254,7 @@ where
         index: usize,
         head: CallHead,
         methods: &Arc<Methods>,
-    ) -> Result<(), AllocError>
-        requires answers { IsWithin M.answers (answers_by (λ method. (⟦<dyn Method as Method>⟧ method.vtable).answers method.value) (listed (arc_value methods.now))) }
-    {
+    ) -> Result<(), AllocError> {
         let rt = self.rt;
         let opened = match head.timeout {
             Some(_) => moment(&rt, self.start),
@@ -297,9 +286,7 @@ where
         &mut self,
         id: StreamId,
         methods: &Arc<Methods>,
-    ) -> Result<Option<Engaged>, AllocError>
-        requires answers { IsWithin M.answers (answers_by (λ method. (⟦<dyn Method as Method>⟧ method.vtable).answers method.value) (listed (arc_value methods.now))) }
-    {
+    ) -> Result<Option<Engaged>, AllocError> {
         let rt = self.rt;
         for _ in rt.forever() {
             let mark = self.orders.shared.reader.mark();

@@ -1,14 +1,10 @@
 //! One connection from its first byte to its last.
 
-ghost use Rattle.std.specs.Prelude.{◌≡◌, ◌<◌, ℕ, List, Bool, All, Option, Some, IfOk, IfSome, IsSomeAnd, slice_get};
-ghost use Rattle.std.specs.Arc.{arc_value};
-ghost use Rattle.handlers.specs.Listed.{listed};
-ghost use Rattle.handlers.specs.declared.step.Step.{Step};
+ghost use Rattle.std.specs.Prelude.{◌≡◌, ◌<◌, ℕ, List, All, Option, Some, IfOk, IfSome};
 ghost use Rattle.connection.specs.declared.report.Ending.TheVariants as ending;
-ghost use Rattle.connection.specs.Accounts.{HasAccount, IsWithin, answers_by};
+ghost use Rattle.connection.specs.Accounts.{HasAccount};
 ghost use Rattle.connection.specs.Written.{HasWritten};
 
-use crate::answering::Answering;
 use crate::intake::Intake;
 use crate::orders::{ORDERS, Orders};
 use crate::outlet::Outlet;
@@ -19,7 +15,7 @@ use crate::writer;
 use crate::writer::Writing;
 use connbook::ConnBook;
 use device::{ConnRead, ConnWrite};
-use handlers::{Method, Methods};
+use handlers::Methods;
 use lane::Ring;
 use std::alloc::{AllocError, Global};
 use std::marker::Brand;
@@ -44,13 +40,11 @@ where
     O: ConnWrite + Send + Drop + 'static,
     R: Threads + Wait + Clock + Copy + Send + Sync + Drop + 'static,
     ensures served { IfSome result.output (HasWritten O.contents O.failed (O.contents output) (Some result.ending)) }
-    // Each row stands on a lawful account of its call, of which what was given is an outcome of what the method answers.
-    ensures calls { IfSome result.calls (λ rows. All (λ row. HasAccount (answers_by (λ method. (⟦<dyn Method as Method>⟧ method.vtable).answers method.value) (listed (arc_value methods))) row) rows.items) }
+    // Each row stands on a lawful account of its call.
+    ensures calls { IfSome result.calls (λ rows. All (λ row. HasAccount row) rows.items) }
 {
     let blanks = (Blank::new(1), Blank::new(1), Blank::new(1));
-    match serve_over::<Brand, Brand, Brand, Brand, I, O, R>(
-        rt, alloc, blanks, input, output, methods,
-    ) {
+    match serve_over::<Brand, Brand, Brand, I, O, R>(rt, alloc, blanks, input, output, methods) {
         Ok(served) => served,
         Err(AllocError) => Served {
             ending: Ending::OutOfMemory,
@@ -61,7 +55,7 @@ where
 }
 
 /// The same, over ledgers of its own. Out of memory before the connection began nothing was read or written.
-fn serve_over<A, B, C, M, I, O, R>(
+fn serve_over<A, B, C, I, O, R>(
     rt: R,
     alloc: Global,
     blanks: (Blank, Blank, Blank),
@@ -73,16 +67,14 @@ where
     A: Ledger + Send + Sync + 'static,
     B: Ledger + Send + Sync + 'static,
     C: Ledger + Send + Sync + 'static,
-    M: Answering + Send + 'static,
     I: ConnRead,
     O: ConnWrite + Send + Drop + 'static,
     R: Threads + Wait + Clock + Copy + Send + Sync + Drop + 'static,
-    requires answers { IsWithin M.answers (answers_by (λ method. (⟦<dyn Method as Method>⟧ method.vtable).answers method.value) (listed (arc_value methods))) }
     requires received { (blanks.0.name ≡ A.name) × (blanks.0.parts ≡ A.parts) × (0 < A.parts) }
     requires admitted { (blanks.1.name ≡ B.name) × (blanks.1.parts ≡ B.parts) × (0 < B.parts) }
     requires announced { (blanks.2.name ≡ C.name) × (blanks.2.parts ≡ C.parts) × (0 < C.parts) }
     ensures served { IfOk result (λ served. IfSome served.output (HasWritten O.contents O.failed (O.contents output) (Some served.ending))) }
-    ensures calls { IfOk result (λ served. IfSome served.calls (λ rows. All (λ row. HasAccount M.answers row) rows.items)) }
+    ensures calls { IfOk result (λ served. IfSome served.calls (λ rows. All (λ row. HasAccount row) rows.items)) }
 {
     let (received, came) = blanks.0.open::<A>();
     let (admitted, calls) = blanks.1.open::<B>();
@@ -98,7 +90,7 @@ where
         are_unrung: false,
     };
     let mut intake = Intake::new(shared, came, calls);
-    let mut reader: Reader<A, B, C, M, R> = Reader::new(rt, alloc, orders, start);
+    let mut reader: Reader<A, B, C, R> = Reader::new(rt, alloc, orders, start);
     let writing = writer::start(rt, alloc, taking, outlet, output)?;
     let read = reader.read(&mut intake, input, &methods);
     let calls = reader.end();

@@ -1,28 +1,24 @@
 //! The slots of a connection, as its reader has them.
 
-ghost use Rattle.std.specs.Prelude.{◌≡◌, ℕ, List, Bool, [], ◌∷◌, ◌++◌, All, Some, IfOk, IfSome, IsSomeAnd, slice_get};
+ghost use Rattle.std.specs.Prelude.{◌≡◌, List, [], ◌∷◌, ◌++◌, All, Some, IfOk, IfSome, IsSomeAnd};
 ghost use Rattle.std.specs.Option.{IsSomeAnd-prop};
-ghost use Rattle.std.specs.Arc.{arc_value};
-ghost use Rattle.handlers.specs.Listed.{listed};
-ghost use Rattle.handlers.specs.declared.step.Step.{Step};
 ghost use Rattle.account.specs.declared.call.OutItem.{OutItem as Item};
-ghost use Rattle.connection.specs.Accounts.{IsWithin, answers_by};
+ghost use Rattle.connection.specs.Accounts.{unheard};
 ghost use Rattle.connection.specs.Halves.{half_by};
 
-use crate::answering::Answering;
 use crate::half::Half;
 use crate::hired::{Hired, hire};
 use crate::report::CallReport;
 use crate::shared::Shared;
-use crate::slot::{Job, Slot};
+use crate::slot::{InLane, Job, OutLane, Slot};
 use crate::worker::{Seen, Worker};
 use account::OutItem;
 use bytes::Bytes;
 use callbox::{FedShut, FeedFault, Feeder, InPiece, Sender, open_in, open_out};
 use flow::MAX_LIVE;
 use h2frame::StreamId;
-use handlers::{Method, Methods};
-use lane::Lane;
+use handlers::Methods;
+use lane::{Lane, RingLane};
 use std::alloc::{AllocError, Global};
 use std::sync::ledger::Ledger;
 use std::sync::{Arc, Wait};
@@ -37,12 +33,12 @@ const OUT_ROOM: usize = 16;
 
 /// A slot, and what the reader has of it: the half of its call, and its worker.
 #[derive(Drop)]
-struct Seat<I: Lane<Item = InPiece>, O: Lane<Item = OutItem>, M: Answering> {
+struct Seat<I: Lane<Item = InPiece>, O: Lane<Item = OutItem>> {
     slot: Arc<Slot>,
     /// The stream of its call, or of its last one.
     id: StreamId,
     half: Half<Feeder<I>, FedShut<I>>,
-    worker: PromisedHandle<Seen<I, O>, Hired<I, O, M>>,
+    worker: PromisedHandle<Seen<I, O>, Hired<I, O>>,
     /// The worker takes what the half is fed.
     ghost one_ring: { IsSomeAnd (half_by (λ f. I.ring_of (I.in_name f.tx)) (λ s. I.ring_of (I.shut_name s.shut)) half) (λ ring. ring ≡ I.ring_of (I.out_name worker.promise.taker.value.rx)) } by { IsSomeAnd-prop (half_by (λ f. I.ring_of (I.in_name f.tx)) (λ s. I.ring_of (I.shut_name s.shut)) half) (λ ring. ring ≡ I.ring_of (I.out_name worker.promise.taker.value.rx))
         (λ ring. I.name_set ring (I.ring_of (I.out_name worker.promise.taker.value.rx))) },
@@ -60,15 +56,15 @@ pub(crate) struct Made<O: Lane<Item = OutItem>> {
 
 /// The slots of a connection, at most as many as calls may be live, by their numbers.
 #[derive(Drop)]
-pub(crate) struct Slots<I: Lane<Item = InPiece>, O: Lane<Item = OutItem>, M: Answering> {
+pub(crate) struct Slots<I: Lane<Item = InPiece>, O: Lane<Item = OutItem>> {
     alloc: Global,
-    seats: Vec<Seat<I, O, M>>,
+    seats: Vec<Seat<I, O>>,
 }
 
-impl<I: Lane<Item = InPiece>, O: Lane<Item = OutItem>, M: Answering> Slots<I, O, M> {
+impl<I: Lane<Item = InPiece>, O: Lane<Item = OutItem>> Slots<I, O> {
     ghost use Rattle.connection.specs.Accounts.{HasAccount};
 
-    pub(crate) fn new(alloc: Global) -> Slots<I, O, M> {
+    pub(crate) fn new(alloc: Global) -> Slots<I, O> {
         Slots {
             alloc,
             seats: Vec::new(alloc),
@@ -88,59 +84,6 @@ impl<I: Lane<Item = InPiece>, O: Lane<Item = OutItem>, M: Answering> Slots<I, O,
             }
         }
         None
-    }
-
-    /// A new slot for a call of this stream. None where there are as many as there may be. That no thread can be made counts as
-    /// want of memory.
-    pub(crate) fn open<A, B, C, R>(
-        &mut self,
-        rt: R,
-        shared: &Arc<Shared<A, B, C>>,
-        methods: &Arc<Methods>,
-        start: Instant,
-        id: StreamId,
-    ) -> Result<Option<Made<O>>, AllocError>
-    where
-        A: Ledger + Send + Sync + 'static,
-        B: Ledger + Send + Sync + 'static,
-        C: Ledger + Send + Sync + 'static,
-        I: Send + 'static,
-        I::In: 'static,
-        I::Out: 'static,
-        I::Shut: 'static,
-        O: Send + 'static,
-        O::In: 'static,
-        O::Out: 'static,
-        O::Shut: 'static,
-        M: Send + 'static,
-        R: Threads + Wait + Clock + Copy + Send + Sync + Drop + 'static,
-        requires answers { IsWithin M.answers (answers_by (λ method. (⟦<dyn Method as Method>⟧ method.vtable).answers method.value) (listed (arc_value methods.now))) }
-        requires ring_in { (n : I.Name) → I.ring_of (I.next_name n) ≡ I.ring_of n }
-        requires ring_out { (n : O.Name) → O.ring_of (O.next_name n) ≡ O.ring_of n }
-    {
-        let place = self.seats.len();
-        if place >= MAX_LIVE {
-            return Ok(None);
-        }
-        self.seats.reserve(1)?;
-        let slot = Arc::new(self.alloc, Slot::new())?;
-        let told = Arc::try_clone(&slot)?;
-        let worker = Worker {
-            alloc: self.alloc,
-            slot: Arc::try_clone(&slot)?,
-            shared: Arc::try_clone(shared)?,
-            start,
-        };
-        let methods = Arc::try_clone(methods)?;
-        let (seat, sender) = open_seat::<A, B, C, I, O, M, R>(
-            rt, self.alloc, worker, methods, slot, id,
-        )?;
-        self.seats.push_reserved(seat);
-        Ok(Some(Made {
-            place,
-            slot: told,
-            sender,
-        }))
     }
 
     /// Hands a slot's worker its call. Its bell is still to be rung.
@@ -208,7 +151,7 @@ impl<I: Lane<Item = InPiece>, O: Lane<Item = OutItem>, M: Answering> Slots<I, O,
 
     /// Has each worker answer its call to the end, and waits for all: the rows of all calls, or none for want of memory.
     pub(crate) fn end(self, rt: &impl Threads) -> Option<Vec<CallReport>>
-        ensures rows { IfSome result (λ rows. All (λ row. HasAccount M.answers row) rows.items) }
+        ensures rows { IfSome result (λ rows. All (λ row. HasAccount row) rows.items) }
     {
         let Slots { alloc, seats } = self;
         for seat in &seats {
@@ -223,37 +166,66 @@ impl<I: Lane<Item = InPiece>, O: Lane<Item = OutItem>, M: Answering> Slots<I, O,
     }
 }
 
+impl Slots<InLane, OutLane> {
+    /// A new slot for a call of this stream. None where there are as many as there may be. That no thread can be made counts as
+    /// want of memory.
+    pub(crate) fn open<A, B, C, R>(
+        &mut self,
+        rt: R,
+        shared: &Arc<Shared<A, B, C>>,
+        methods: &Arc<Methods>,
+        start: Instant,
+        id: StreamId,
+    ) -> Result<Option<Made<OutLane>>, AllocError>
+    where
+        A: Ledger + Send + Sync + 'static,
+        B: Ledger + Send + Sync + 'static,
+        C: Ledger + Send + Sync + 'static,
+        R: Threads + Wait + Clock + Copy + Send + Sync + Drop + 'static,
+    {
+        let place = self.seats.len();
+        if place >= MAX_LIVE {
+            return Ok(None);
+        }
+        self.seats.reserve(1)?;
+        let slot = Arc::new(self.alloc, Slot::new())?;
+        let told = Arc::try_clone(&slot)?;
+        let worker = Worker {
+            alloc: self.alloc,
+            slot: Arc::try_clone(&slot)?,
+            shared: Arc::try_clone(shared)?,
+            start,
+        };
+        let methods = Arc::try_clone(methods)?;
+        let (seat, sender) = open_seat(rt, self.alloc, worker, methods, slot, id)?;
+        self.seats.push_reserved(seat);
+        Ok(Some(Made {
+            place,
+            slot: told,
+            sender,
+        }))
+    }
+}
+
 /// A slot of this stream's call with a worker of its own, and its sender.
-fn open_seat<A, B, C, I, O, M, R>(
+fn open_seat<A, B, C, R>(
     rt: R,
     alloc: Global,
     worker: Worker<A, B, C>,
     methods: Arc<Methods>,
     slot: Arc<Slot>,
     id: StreamId,
-) -> Result<(Seat<I, O, M>, Sender<O>), AllocError>
+) -> Result<(Seat<InLane, OutLane>, Sender<OutLane>), AllocError>
 where
     A: Ledger + Send + Sync + 'static,
     B: Ledger + Send + Sync + 'static,
     C: Ledger + Send + Sync + 'static,
-    I: Lane<Item = InPiece> + Send + 'static,
-    I::In: 'static,
-    I::Out: 'static,
-    I::Shut: 'static,
-    O: Lane<Item = OutItem> + Send + 'static,
-    O::In: 'static,
-    O::Out: 'static,
-    O::Shut: 'static,
-    M: Answering + Send + 'static,
     R: Threads + Wait + Clock + Copy + Send + Sync + Drop + 'static,
-    requires answers { IsWithin M.answers (answers_by (λ method. (⟦<dyn Method as Method>⟧ method.vtable).answers method.value) (listed (arc_value methods))) }
-    requires ring_in { (n : I.Name) → I.ring_of (I.next_name n) ≡ I.ring_of n }
-    requires ring_out { (n : O.Name) → O.ring_of (O.next_name n) ≡ O.ring_of n }
-    ensures unused { IfOk result (λ r. O.got r.1.rx ≡ []) }
+    ensures unused { IfOk result (λ r. ⟦<RingLane<OutItem> as Lane>⟧.got r.1.rx ≡ []) }
 {
-    let (feeder, taker) = open_in::<I>(alloc, IN_ROOM)?;
-    let (giver, sender) = open_out::<O>(alloc, id, OUT_ROOM)?;
-    let Some(worker) = hire::<A, B, C, I, O, M, R>(rt, worker, methods, taker, giver) else {
+    let (feeder, taker) = open_in::<InLane>(alloc, IN_ROOM)?;
+    let (giver, sender) = open_out::<OutLane>(alloc, id, OUT_ROOM)?;
+    let Some(worker) = hire(rt, worker, methods, taker, giver) else {
         return Err(AllocError);
     };
     let seat = Seat {
@@ -277,7 +249,7 @@ fn joined(all: Option<Vec<CallReport>>, rows: Option<Vec<CallReport>>) -> Option
     }
 }
 
-impl<I: Lane<Item = InPiece>, O: Lane<Item = OutItem>, M: Answering> Seat<I, O, M> {
+impl<I: Lane<Item = InPiece>, O: Lane<Item = OutItem>> Seat<I, O> {
     ghost use Rattle.connection.specs.Workers.{EachStands};
 
     /// Where the slot is free it is engaged for a call of this stream.
@@ -295,7 +267,7 @@ impl<I: Lane<Item = InPiece>, O: Lane<Item = OutItem>, M: Answering> Seat<I, O, 
     /// Waits for the worker, and brings the half and what the worker had together: the rows of the slot's calls.
     fn end(self, rt: &impl Threads) -> Option<Vec<CallReport>>
         ensures rows { IfSome result (λ rows. IsSomeAnd (half_by (λ f. I.past_in f.tx ++ I.put_in f.tx ∷ []) (λ s. I.past_shut s.shut ++ I.put_shut s.shut ∷ []) self.half)
-            (λ feds. (gives : List (List Item)) × EachStands M.answers feds gives rows.items)) }
+            (λ feds. (gives : List (List Item)) × EachStands unheard feds gives rows.items)) }
     {
         let Seat { half, worker, .. } = self;
         let Seen { taker, end, calls } = worker.join(rt);
