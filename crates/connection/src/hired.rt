@@ -58,37 +58,29 @@ where
 
 /// A worker with its ends of the lanes of its slot, of which nothing was made use of.
 #[derive(Drop)]
-struct WithEnds<A: Ledger, B: Ledger, C: Ledger, I: Lane<Item = InPiece>, O: Lane<Item = OutItem>> {
+struct WithEnds<A: Ledger, B: Ledger, C: Ledger> {
     worker: Worker<A, B, C>,
-    taker: Taker<I>,
-    giver: Giver<O>,
+    taker: Taker<InLane>,
+    giver: Giver<OutLane>,
 }
 
-impl<A, B, C, I, O, R> Work<R, Seen<I, O>> for WithEnds<A, B, C, I, O>
-where
-    A: Ledger,
-    B: Ledger,
-    C: Ledger,
-    I: Lane<Item = InPiece>,
-    O: Lane<Item = OutItem>,
-    R: Wait + Clock,
-{
-    ghost can_work = { λ it. IsFresh (I.got it.taker.rx) it.taker.progress × (I.past_out it.taker.rx ≡ [])
-        × (O.past_in it.giver.tx ≡ []) × (O.put_in it.giver.tx ≡ [])
-        × ((n : I.Name) → I.ring_of (I.next_name n) ≡ I.ring_of n) × ((n : O.Name) → O.ring_of (O.next_name n) ≡ O.ring_of n) };
+impl<A: Ledger, B: Ledger, C: Ledger, R: Wait + Clock> Work<R, Seen<InLane, OutLane>>
+    for WithEnds<A, B, C> {
+    ghost can_work = { λ it. IsFresh (⟦<RingLane<InPiece> as Lane>⟧.got it.taker.rx) it.taker.progress × (⟦<RingLane<InPiece> as Lane>⟧.past_out it.taker.rx ≡ [])
+        × (⟦<RingLane<OutItem> as Lane>⟧.past_in it.giver.tx ≡ []) × (⟦<RingLane<OutItem> as Lane>⟧.put_in it.giver.tx ≡ []) };
 
-    ghost comes_to = { λ it seen. (I.ring_of (I.out_name seen.taker.rx) ≡ I.ring_of (I.out_name it.taker.rx))
-        × (O.ring_of (of_end (λ g. O.in_name g.tx) (λ s. O.shut_name s.shut) seen.end) ≡ O.ring_of (O.in_name it.giver.tx))
-        × IfSome seen.calls (λ rows. HaveRows unheard (I.past_out seen.taker.rx) (I.got seen.taker.rx)
-        (of_end (λ g. O.past_in g.tx) (λ s. O.past_shut s.shut ++ O.put_shut s.shut ∷ []) seen.end) rows.items) };
+    ghost comes_to = { λ it seen. (⟦<RingLane<InPiece> as Lane>⟧.ring_of (⟦<RingLane<InPiece> as Lane>⟧.out_name seen.taker.rx) ≡ ⟦<RingLane<InPiece> as Lane>⟧.ring_of (⟦<RingLane<InPiece> as Lane>⟧.out_name it.taker.rx))
+        × (⟦<RingLane<OutItem> as Lane>⟧.ring_of (of_end (λ g. ⟦<RingLane<OutItem> as Lane>⟧.in_name g.tx) (λ s. ⟦<RingLane<OutItem> as Lane>⟧.shut_name s.shut) seen.end) ≡ ⟦<RingLane<OutItem> as Lane>⟧.ring_of (⟦<RingLane<OutItem> as Lane>⟧.in_name it.giver.tx))
+        × IfSome seen.calls (λ rows. HaveRows unheard (⟦<RingLane<InPiece> as Lane>⟧.past_out seen.taker.rx) (⟦<RingLane<InPiece> as Lane>⟧.got seen.taker.rx)
+        (of_end (λ g. ⟦<RingLane<OutItem> as Lane>⟧.past_in g.tx) (λ s. ⟦<RingLane<OutItem> as Lane>⟧.past_shut s.shut ++ ⟦<RingLane<OutItem> as Lane>⟧.put_shut s.shut ∷ []) seen.end) rows.items) };
 
-    fn work(self, rt: &R, methods: &Methods) -> Seen<I, O> {
+    fn work(self, rt: &R, methods: &Methods) -> Seen<InLane, OutLane> {
         let WithEnds {
             worker,
             taker,
             giver,
         } = self;
-        worker.work::<I, O, Unheard, R>(rt, methods, taker, giver)
+        worker.work::<InLane, OutLane, Unheard, R>(rt, methods, taker, giver)
     }
 }
 
