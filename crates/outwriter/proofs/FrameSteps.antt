@@ -193,6 +193,7 @@ first-written run begun gone w over waiting block owed frame is not_begun not_go
         silent = m.silent;
         hushed = m.hushed;
         resets = m.resets;
+        owes = owes-same run first_settings owed no_update m.owes;
         no_stream_0 = m.no_stream_0;
       },
     )
@@ -249,6 +250,7 @@ plain-written run begun gone after w over waiting left block owed less frame is_
         silent = silent;
         hushed = hushed;
         resets = resets;
+        owes = owes;
         no_stream_0 = m.no_stream_0;
       },
     )

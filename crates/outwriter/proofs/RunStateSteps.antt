@@ -64,8 +64,8 @@ more-due order run waiting one e asked h =
 -- a control changes the windows and what is due, and nothing else
 pub taken : (order : Order) (run : List Step) (begun gone : Bool) (w windows : Windows) (over : List (ℕ × Bool)) (waiting after : List Due)
     (block : Option HeaderBlock) (owed : Owed) → Mirrors run begun gone w over waiting block owed → HasWindows (Taken order ∷ run) windows
-    → HasDue (Taken order ∷ run) after → HasResets (Taken order ∷ run) owed → Mirrors (Taken order ∷ run) begun gone windows over after block owed
-taken order run begun gone w windows over waiting after block owed m follow dues resets = record {
+    → HasDue (Taken order ∷ run) after → HasResets (Taken order ∷ run) owed → HasOwed (Taken order ∷ run) owed → Mirrors (Taken order ∷ run) begun gone windows over after block owed
+taken order run begun gone w windows over waiting after block owed m follow dues resets owes = record {
   begins = m.begins;
   goes = m.goes;
   windows_follow = follow;
@@ -77,6 +77,7 @@ taken order run begun gone w windows over waiting after block owed m follow dues
   silent = m.silent;
   hushed = m.hushed;
   resets = resets;
+  owes = owes;
   no_stream_0 = m.no_stream_0;
 }
 
@@ -165,5 +166,6 @@ skipped run begun gone w over one waiting block owed none m =
       silent = m.silent;
       hushed = m.hushed;
       resets = m.resets;
+      owes = m.owes;
       no_stream_0 = m.no_stream_0;
     }
