@@ -11,8 +11,8 @@ use callhead::CallHead;
 use callrun::Turn;
 use calltable::CallTable;
 use calltable::orders::{end_connection, pass_on, refuse_head, refuse_unknown, turn_away};
-use connbook::{ConnBook, Receipt};
-use connwriter::{ConnWriter, Filled, Taking};
+use connbook::{AdmitFault, ConnBook, Receipt};
+use connwriter::{ConnWriter, Filled, Standing, Taking};
 use device::Marked;
 use flow::MAX_LIVE;
 use h2frame::{ErrorCode, StreamId};
@@ -64,6 +64,8 @@ pub struct Serial<'a> {
     filled: Filled,
     /// Whether the reader has seen an error that ends the connection.
     failed: bool,
+    /// Whether there was no memory for what the connection needs.
+    lacks_memory: bool,
     /// Whether the client opens no more streams.
     peer_goaway: bool,
     /// Whether the writer was told that no more comes from the peer.
@@ -87,6 +89,7 @@ impl<'a> Serial<'a> {
             writer: ConnWriter::new(alloc, Marked::new(output)),
             filled: Filled::Idle,
             failed: false,
+            lacks_memory: false,
             peer_goaway: false,
             input_ended: false,
             clock: 0,
@@ -114,9 +117,15 @@ impl<'a> Serial<'a> {
         self.table.last()
     }
 
-    /// How the connection ended: 1 with its input, 2 behind a GOAWAY of the client, 3 with an error.
+    /// How the connection ended: 1 with its input, 2 behind a GOAWAY of the client, 3 with an error, 5 with a failed write, 6 for want
+    /// of memory.
     pub fn ending(&self) -> u32 {
-        if self.failed {
+        let standing = self.writer.standing();
+        if self.lacks_memory || standing == Standing::OutOfMemory {
+            6
+        } else if standing == Standing::Broken {
+            5
+        } else if self.failed {
             3
         } else if self.peer_goaway {
             2
@@ -227,6 +236,10 @@ impl<'a> Serial<'a> {
             return self.put(order);
         };
         if let Err(fault) = credit.admit(id) {
+            if fault == AdmitFault::OutOfMemory {
+                self.lacks_memory = true;
+                credit.book.stop();
+            }
             let order = turn_away(self.table.last(), id, fault);
             return self.put(order);
         }
@@ -292,10 +305,10 @@ impl<'a> Serial<'a> {
         &mut self,
         book: &mut ConnBook<A, B, C>,
         place: usize,
-    ) -> bool {
+    ) -> Result<bool> {
         let methods = self.methods;
         let Some(call) = self.running.get_mut(place) else {
-            return false;
+            return Ok(false);
         };
         self.turns = self.turns.saturating_add(1);
         let turn = call.turn(methods, self.clock);
@@ -305,35 +318,45 @@ impl<'a> Serial<'a> {
             let _ = book.give_back(call.id, credit);
         }
         match turn {
-            Turn::Went => true,
+            Turn::Went => Ok(true),
             Turn::Nothing | Turn::Full => {
                 let is_live = book.is_live(call.id);
                 if !is_live {
                     call.leave(methods);
                 }
-                !is_live
+                Ok(!is_live)
             }
             Turn::Over => {
-                self.settle(book, place);
-                true
+                self.settle(book, place)?;
+                Ok(true)
             }
         }
     }
 
-    /// A call is over. One without trailers is live no more.
+    /// A call is over. One without trailers is live no more; where there was no memory for them, its stream is reset.
     fn settle<A: Ledger, B: Ledger, C: Ledger>(
         &mut self,
         book: &mut ConnBook<A, B, C>,
         place: usize,
-    ) {
+    ) -> Result<()> {
         if place >= self.running.len() {
-            return;
+            return Ok(());
         }
         let call = self.running.remove(place);
-        let id = call.id;
-        if call.into_status().is_none() {
-            book.cut(id);
+        let (id, ran_out) = (call.id, call.ran_out());
+        if call.into_status().is_some() {
+            return Ok(());
         }
+        book.cut(id);
+        if ran_out {
+            let code = ErrorCode::InternalError;
+            self.put(Control::Reset {
+                id,
+                code,
+                written: true,
+            })?;
+        }
+        Ok(())
     }
 
     /// Has the writer take an order, if one waits.
@@ -348,7 +371,10 @@ impl<'a> Serial<'a> {
             Taking::Done => {}
             Taking::Ended(0) => book.stop(),
             Taking::Ended(id) => book.cut(id),
-            Taking::Unanswered(_) | Taking::HandedBack(_) => book.stop(),
+            Taking::Unanswered(_) | Taking::HandedBack(_) => {
+                self.lacks_memory = true;
+                book.stop();
+            }
         }
     }
 

@@ -2,7 +2,7 @@
 //! follows from a number. `data/README.md` says how rows are written.
 //!
 //! To be read in this order: `driver`, the connection with its steps; `credit`, `running` and `pipe`, its parts; `schedule` and
-//! `runs`, the orders; `told`, what a peer reads of what was written; `subject`, the rows.
+//! `runs`, the orders; `told`, what a peer reads of what was written; `digits` and `subject`, the rows.
 #![tactic(auto)]
 
 use anyhow::{Result, ensure};
@@ -14,6 +14,7 @@ use rows::try_file;
 use std::rt::Files;
 
 mod credit;
+mod digits;
 mod driver;
 mod pipe;
 mod running;

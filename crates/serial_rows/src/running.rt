@@ -66,6 +66,11 @@ impl Running {
         self.run.credit()
     }
 
+    /// Whether it ends for want of memory.
+    pub fn ran_out(&self) -> bool {
+        self.run.ran_out()
+    }
+
     /// The status that it was ended with.
     pub fn into_status(self) -> Option<u32> {
         let Running { run, .. } = self;

@@ -19,6 +19,9 @@ const ROUNDS: u32 = 4096;
 /// How many frames a connection has at most.
 const FRAMES: u32 = 65_536;
 
+/// How many bytes most runs write at most.
+const WRITTEN: usize = 65_536;
+
 /// The bytes of a connection before its frames (RFC 9113, section 3.4).
 const PREFACE_LEN: usize = 24;
 
@@ -101,7 +104,8 @@ fn run_over<A: Ledger, B: Ledger, C: Ledger>(
     requires one_part { (A.parts ≡ 1) × (B.parts ≡ 1) × (C.parts ≡ 1) }
 {
     let mut credit = Credit::<A, B, C>::open(alloc, blanks);
-    let pipe = Pipe::new(Vec::new(alloc), course.most, course.fails_at);
+    let bytes = Vec::with_capacity(alloc, WRITTEN)?;
+    let pipe = Pipe::new(bytes, course.most, course.fails_at);
     let mut run = Run {
         serial: Serial::new(alloc, methods, pipe),
         frames,
@@ -211,7 +215,7 @@ impl Run<'_> {
             }
             Step::Turn(place) => {
                 self.disturb(credit)?;
-                return Ok(self.serial.turn(&mut credit.book, place));
+                return self.serial.turn(&mut credit.book, place);
             }
             Step::Order => self.serial.order(&mut credit.book),
             Step::Announce => self.serial.announce(credit),

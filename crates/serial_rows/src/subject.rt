@@ -1,12 +1,13 @@
 //! Rows of connections.
 
+use crate::digits::bytes_of;
 use crate::runs::{Course, Ran, frames_of, run_connection};
 use crate::schedule::Schedule;
 use crate::told::Streams;
 use anyhow::{Context, Result, bail};
 use h2frame::StreamId;
 use handlers::Methods;
-use rows::{Given, Subject, bytes_of};
+use rows::{Given, Subject};
 use std::alloc::Global;
 use std::fs;
 use std::rt::Files;
@@ -21,6 +22,10 @@ struct Words<'a> {
     steps: &'a str,
     /// Whether what is wanted is what the plain run gives.
     is_recorded: bool,
+    /// Whether the plain run is compared with nothing.
+    is_alone: bool,
+    /// Whether the order of all frames is compared too.
+    in_order: bool,
     /// How many runs follow from numbers.
     seeds: u64,
     most: usize,
@@ -69,7 +74,7 @@ impl<R: Files + AllocGlobal> Subject for Connections<'_, R> {
         let plain = trial.run(Schedule::Plain, None, None)?;
         let streams = Streams::read(alloc, plain.written.as_slice())?;
         if words.is_recorded {
-            let wanted = text_of(&streams, &plain)?;
+            let wanted = trial.text_of(&streams, &plain)?;
             return trial.answer(&plain, &streams, wanted.as_str(), answer);
         }
         let name = format!(in alloc; "{}.out", words.name)?;
@@ -86,6 +91,8 @@ fn words_of(given: Given<'_>) -> Result<Words<'_>> {
         name,
         steps,
         is_recorded: false,
+        is_alone: false,
+        in_order: false,
         seeds: 0,
         most: usize::MAX,
         fails: false,
@@ -96,6 +103,8 @@ fn words_of(given: Given<'_>) -> Result<Words<'_>> {
     for word in options.split_ascii_whitespace() {
         match word.split_once('=') {
             None if word == "recorded" => words.is_recorded = true,
+            None if word == "alone" => words.is_alone = true,
+            None if word == "in_order" => words.in_order = true,
             None if word == "fails" => words.fails = true,
             Some(("seeds", count)) => words.seeds = count.parse::<u64>()?,
             Some(("most", count)) => words.most = count.parse::<usize>()?,
@@ -111,14 +120,6 @@ fn words_of(given: Given<'_>) -> Result<Words<'_>> {
     Ok(words)
 }
 
-/// The text of what a peer reads, and how the connection ended.
-fn text_of(streams: &Streams, ran: &Ran) -> Result<String> {
-    let mut text = streams.text()?;
-    let ending = ran.ending;
-    writeln!(text, "ending {ending}")?;
-    Ok(text)
-}
-
 /// The runs of a row.
 #[derive(Drop)]
 struct Trial<'a> {
@@ -129,6 +130,18 @@ struct Trial<'a> {
 }
 
 impl Trial<'_> {
+    /// The text of what a peer reads, and how the connection ended.
+    fn text_of(&self, streams: &Streams, ran: &Ran) -> Result<String> {
+        let mut text = streams.text()?;
+        if self.words.in_order {
+            text.push_str("in order\n")?;
+            text.push_str(streams.frames())?;
+        }
+        let ending = ran.ending;
+        writeln!(text, "ending {ending}")?;
+        Ok(text)
+    }
+
     /// A run, which is disturbed behind so many turns, or whose writes fail behind so many.
     fn run(&self, schedule: Schedule<'_>, turn: Option<u64>, fails_at: Option<u64>) -> Result<Ran> {
         let words = self.words;
@@ -164,7 +177,10 @@ impl Trial<'_> {
     ) -> Result<()> {
         let words = self.words;
         let is_disturbed = words.resets || words.jump.is_some();
-        let mut worst = self.verdict(plain, plain, streams, wanted, answer)?;
+        let mut worst = Verdict::Same;
+        if !words.is_alone {
+            worst = self.verdict(plain, plain, streams, wanted, answer)?;
+        }
         if !words.steps.is_empty() {
             let ran = self.run(Schedule::Listed(words.steps), None, None)?;
             worst = worst.max(self.verdict(&ran, plain, streams, wanted, answer)?);
@@ -199,7 +215,7 @@ impl Trial<'_> {
         answer: &mut String,
     ) -> Result<Verdict> {
         let streams = Streams::read(self.alloc, ran.written.as_slice())?;
-        let text = text_of(&streams, ran)?;
+        let text = self.text_of(&streams, ran)?;
         if streams.is_lawful() && text.as_str() == wanted {
             return Ok(Verdict::Same);
         }
@@ -210,6 +226,9 @@ impl Trial<'_> {
         };
         if streams.is_lawful() && begins {
             return Ok(Verdict::Begins);
+        }
+        if !streams.is_lawful() {
+            answer.push_str("unlawful; ")?;
         }
         for line in text.lines() {
             write!(answer, "{line}; ")?;

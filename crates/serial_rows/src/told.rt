@@ -39,6 +39,8 @@ pub struct Streams {
     block: Vec<u8>,
     ends_stream: bool,
     streams: BTreeMap<StreamId, StreamText>,
+    /// All frames in order, a line each.
+    frames: String,
     /// Whether a frame came where none may.
     is_unlawful: bool,
 }
@@ -52,6 +54,7 @@ impl Streams {
             block: Vec::new(alloc),
             ends_stream: false,
             streams: BTreeMap::new(alloc),
+            frames: String::new(alloc),
             is_unlawful: false,
         };
         let mut reader = FrameReader::new(alloc);
@@ -80,7 +83,7 @@ impl Streams {
             if !whole.data.as_slice().starts_with(stream.data.as_slice()) {
                 return false;
             }
-            if *id != reset && stream.text.as_str() != whole.text.as_str() {
+            if *id != reset && !stream.is_same(whole) {
                 return false;
             }
         }
@@ -93,18 +96,46 @@ impl Streams {
         for (id, stream) in self.streams.iter() {
             writeln!(text, "stream {id}")?;
             text.push_str(stream.text.as_str())?;
+            push_data(&mut text, stream.piece.as_slice())?;
         }
         Ok(text)
     }
 
-    /// Tells a frame, but for WINDOW_UPDATE.
+    /// All frames in the order in which they came: the stream and the kind of each; how many bytes DATA have, and by how much a
+    /// WINDOW_UPDATE opens a window.
+    pub fn frames(&self) -> &str {
+        self.frames.as_str()
+    }
+
+    /// Tells a frame.
     fn tell(&mut self, frame: &Frame) -> Result<()> {
+        self.note(frame)?;
         match frame.head.kind {
             FrameKind::WindowUpdate => Ok(()),
             FrameKind::Data => self.tell_data(frame),
             FrameKind::Headers | FrameKind::Continuation => self.tell_block(frame),
             _ => self.tell_other(frame),
         }
+    }
+
+    /// Tells a frame's place among all frames.
+    fn note(&mut self, frame: &Frame) -> Result<()> {
+        let (stream, kind) = (frame.head.stream, frame.head.kind);
+        write!(self.frames, "{stream} {kind:?}")?;
+        let content = frame.content.as_slice();
+        match kind {
+            FrameKind::Data => {
+                let len = content.len();
+                write!(self.frames, " {len}")?;
+            }
+            FrameKind::WindowUpdate => {
+                let increment = number_at(content, 0);
+                write!(self.frames, " {increment}")?;
+            }
+            _ => {}
+        }
+        self.frames.push('\n')?;
+        Ok(())
     }
 
     fn entry(&mut self, id: StreamId) -> Result<&mut StreamText> {
@@ -213,15 +244,27 @@ fn course_behind(course: Course, ends: bool) -> Option<Course> {
 impl StreamText {
     /// Tells the DATA that came since the last other frame.
     fn end_piece(&mut self) -> Result<()> {
-        if self.piece.is_empty() {
-            return Ok(());
-        }
-        write!(self.text, "data {} ", self.piece.len())?;
-        push_hex(&mut self.text, self.piece.as_slice())?;
+        push_data(&mut self.text, self.piece.as_slice())?;
         self.piece.clear();
-        self.text.push('\n')?;
         Ok(())
     }
+
+    /// Whether the same came on both.
+    fn is_same(&self, other: &StreamText) -> bool {
+        self.text.as_str() == other.text.as_str() && self.data.as_slice() == other.data.as_slice()
+    }
+}
+
+/// Tells DATA, if there are some.
+fn push_data(text: &mut String, data: &[u8]) -> Result<()> {
+    if data.is_empty() {
+        return Ok(());
+    }
+    let len = data.len();
+    write!(text, "data {len} ")?;
+    push_hex(text, data)?;
+    text.push('\n')?;
+    Ok(())
 }
 
 /// Tells the parameters of SETTINGS, by their numbers.
