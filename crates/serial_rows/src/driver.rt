@@ -66,6 +66,8 @@ pub struct Serial<'a> {
     failed: bool,
     /// Whether there was no memory for what the connection needs.
     lacks_memory: bool,
+    /// Whether a call ended for want of memory.
+    call_ran_out: bool,
     /// Whether the client opens no more streams.
     peer_goaway: bool,
     /// Whether the writer was told that no more comes from the peer.
@@ -90,6 +92,7 @@ impl<'a> Serial<'a> {
             filled: Filled::Idle,
             failed: false,
             lacks_memory: false,
+            call_ran_out: false,
             peer_goaway: false,
             input_ended: false,
             clock: 0,
@@ -132,6 +135,11 @@ impl<'a> Serial<'a> {
         } else {
             1
         }
+    }
+
+    /// Whether there was no memory for the connection or for one of its calls.
+    pub fn ran_out(&self) -> bool {
+        self.call_ran_out || self.ending() == 6
     }
 
     /// Whether nothing waits, and the writer's last look found nothing to write, or it writes no more.
@@ -312,6 +320,7 @@ impl<'a> Serial<'a> {
         };
         self.turns = self.turns.saturating_add(1);
         let turn = call.turn(methods, self.clock);
+        self.call_ran_out = self.call_ran_out || call.ran_out();
         let credit = call.credit();
         if credit > 0 {
             // Where the call is no longer live, its bytes were returned already.

@@ -50,6 +50,8 @@ pub struct Course<'a> {
 pub struct Ran {
     pub written: Vec<u8>,
     pub ending: u32,
+    /// Whether there was no memory for the connection or for one of its calls.
+    pub ran_out: bool,
     /// How many turns calls had.
     pub turns: u64,
     /// How many writes there were.
@@ -142,11 +144,12 @@ impl Run<'_> {
     /// What came of it.
     fn into_ran(self) -> Ran {
         let Run { serial, .. } = self;
-        let (ending, turns) = (serial.ending(), serial.turns);
+        let (ending, ran_out, turns) = (serial.ending(), serial.ran_out(), serial.turns);
         let Pipe { bytes, calls, .. } = serial.into_output();
         Ran {
             written: bytes,
             ending,
+            ran_out,
             turns,
             writes: calls,
         }

@@ -219,6 +219,9 @@ impl Trial<'_> {
         if streams.is_lawful() && text.as_str() == wanted {
             return Ok(Verdict::Same);
         }
+        if streams.is_lawful() && ran.ran_out {
+            bail!("out of memory");
+        }
         let begins = if self.words.fails {
             plain.written.as_slice().starts_with(ran.written.as_slice())
         } else {
