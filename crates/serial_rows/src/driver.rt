@@ -50,6 +50,34 @@ pub enum Step {
     Flush,
 }
 
+/// How a connection ended.
+#[derive(Clone, Copy, Debug, PartialEq, Eq)]
+pub enum Ending {
+    /// With its input.
+    InputEnded,
+    /// The same, behind a GOAWAY of the client.
+    PeerGoaway,
+    /// With an error that the client was told.
+    ProtocolError,
+    /// With a write that failed.
+    WriteFailed,
+    /// For want of memory.
+    OutOfMemory,
+}
+
+impl Ending {
+    /// Its number in the texts that are wanted.
+    pub fn code(self) -> u32 {
+        match self {
+            Ending::InputEnded => 1,
+            Ending::PeerGoaway => 2,
+            Ending::ProtocolError => 3,
+            Ending::WriteFailed => 5,
+            Ending::OutOfMemory => 6,
+        }
+    }
+}
+
 /// What a connection in one thread has, beside its credit book.
 #[derive(Drop)]
 pub struct Serial<'a> {
@@ -120,26 +148,25 @@ impl<'a> Serial<'a> {
         self.table.last()
     }
 
-    /// How the connection ended: 1 with its input, 2 behind a GOAWAY of the client, 3 with an error, 5 with a failed write, 6 for want
-    /// of memory.
-    pub fn ending(&self) -> u32 {
+    /// How the connection ended.
+    pub fn ending(&self) -> Ending {
         let standing = self.writer.standing();
         if self.lacks_memory || standing == Standing::OutOfMemory {
-            6
+            Ending::OutOfMemory
         } else if standing == Standing::Broken {
-            5
+            Ending::WriteFailed
         } else if self.failed {
-            3
+            Ending::ProtocolError
         } else if self.peer_goaway {
-            2
+            Ending::PeerGoaway
         } else {
-            1
+            Ending::InputEnded
         }
     }
 
     /// Whether there was no memory for the connection or for one of its calls.
     pub fn ran_out(&self) -> bool {
-        self.call_ran_out || self.ending() == 6
+        self.call_ran_out || self.ending() == Ending::OutOfMemory
     }
 
     /// Whether nothing waits, and the writer's last look found nothing to write, or it writes no more.

@@ -3,7 +3,7 @@
 ghost use Rattle.std.specs.Prelude.{◌≡◌};
 
 use crate::credit::Credit;
-use crate::driver::{Serial, Step};
+use crate::driver::{Ending, Serial, Step};
 use crate::pipe::Pipe;
 use crate::schedule::{Schedule, Seed, step_of};
 use anyhow::Result;
@@ -49,7 +49,7 @@ pub struct Course<'a> {
 #[derive(Drop)]
 pub struct Ran {
     pub written: Vec<u8>,
-    pub ending: u32,
+    pub ending: Ending,
     /// Whether there was no memory for the connection or for one of its calls.
     pub ran_out: bool,
     /// How many turns calls had.

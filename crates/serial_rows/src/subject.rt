@@ -137,7 +137,7 @@ impl Trial<'_> {
             text.push_str("in order\n")?;
             text.push_str(streams.frames())?;
         }
-        let ending = ran.ending;
+        let ending = ran.ending.code();
         writeln!(text, "ending {ending}")?;
         Ok(text)
     }
