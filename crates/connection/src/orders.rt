@@ -1,5 +1,9 @@
 //! What the reader has the writer do.
 
+ghost use Rattle.std.specs.Prelude.{◌≡◌, [], IfOk};
+ghost use Rattle.lane.specs.RingLane.{got};
+ghost use Rattle.outwriter.specs.Cores.{IsUnused};
+
 use crate::shared::Shared;
 use crate::slot::{OutLane, Slot};
 use callbox::Sender;
@@ -14,9 +18,25 @@ use std::time::Duration;
 #[derive(Drop)]
 pub(crate) enum Opened {
     /// That of a new slot, which stays with the writer. The slots come in the order of their numbers.
-    New(Arc<Slot>, Sender<OutLane>),
+    New(Fresh),
     /// That of the slot of this number, once more.
     Again(usize),
+}
+
+/// A new slot, and its sender, of which nothing was got.
+#[derive(Drop)]
+pub(crate) struct Fresh {
+    pub(crate) slot: Arc<Slot>,
+    pub(crate) sender: Sender<OutLane>,
+    ghost unused: { got sender.rx ≡ [] },
+}
+
+impl Fresh {
+    pub(crate) fn new(slot: Arc<Slot>, sender: Sender<OutLane>) -> Fresh
+        requires { got sender.rx ≡ [] }
+    {
+        Fresh { slot, sender }
+    }
 }
 
 /// An order to the writer.
@@ -33,6 +53,8 @@ const STEP: u64 = 1;
 pub(crate) struct Orders<A: Ledger, B: Ledger, C: Ledger> {
     pub(crate) ring: RingIn<Order>,
     pub(crate) shared: Arc<Shared<A, B, C>>,
+    /// Whether there are orders for which the writer wasn't rung yet.
+    pub(crate) are_unrung: bool,
 }
 
 impl<A: Ledger, B: Ledger, C: Ledger> Orders<A, B, C> {
@@ -40,6 +62,7 @@ impl<A: Ledger, B: Ledger, C: Ledger> Orders<A, B, C> {
     /// a writer takes orders still, and ends at that one.
     pub(crate) fn put<R: Wait>(&mut self, rt: &R, order: Order) {
         let mut order = order;
+        self.are_unrung = true;
         for _ in rt.forever() {
             let mark = self.shared.reader.mark();
             match self.ring.put(order) {
@@ -57,6 +80,12 @@ impl<A: Ledger, B: Ledger, C: Ledger> Orders<A, B, C> {
         }
     }
 
+    /// Rings the writer.
+    pub(crate) fn ring(&mut self) {
+        self.are_unrung = false;
+        self.shared.writer.ring();
+    }
+
     /// Orders a stream to be reset; `written` where the peer is to be told.
     pub(crate) fn reset(&mut self, rt: &impl Wait, id: StreamId, code: ErrorCode, written: bool) {
         self.put(rt, Control::Reset { id, code, written });
@@ -64,7 +93,9 @@ impl<A: Ledger, B: Ledger, C: Ledger> Orders<A, B, C> {
 }
 
 /// The control that an order is where no call begins by it; else which call begins, and whose sender sends it.
-pub(crate) fn split(order: Order) -> Result<Control<Sender<OutLane>>, (StreamId, Opened)> {
+pub(crate) fn split(order: Order) -> Result<Control<Sender<OutLane>>, (StreamId, Opened)>
+    ensures unused { IfOk result (IsUnused got) }
+{
     match order {
         Control::Open(id, opened) => Err((id, opened)),
         Control::Settings(settings) => Ok(Control::Settings(settings)),

@@ -1,7 +1,11 @@
 //! The senders of a connection's slots, as its writer has them: each comes once, with its slot's first call, is with the writer's
 //! core while a call is sent, and here between two calls.
 
-use crate::orders::{Opened, Order, split};
+ghost use Rattle.std.specs.Prelude.{◌≡◌, [], IfOk, IfSome};
+ghost use Rattle.lane.specs.RingLane.{got};
+ghost use Rattle.outwriter.specs.Cores.{IsUnused};
+
+use crate::orders::{Fresh, Opened, Order, split};
 use crate::slot::{OutLane, Slot};
 use callbox::Sender;
 use h2frame::StreamId;
@@ -47,10 +51,13 @@ impl Senders {
     }
 
     /// The control that an order is, with the sender of its slot where a call begins.
-    pub(crate) fn control_of(&mut self, order: Order) -> Result<Control<Sender<OutLane>>, Untaken> {
+    pub(crate) fn control_of(&mut self, order: Order) -> Result<Control<Sender<OutLane>>, Untaken>
+        // Of that sender nothing of the call was got.
+        ensures unused { IfOk result (IsUnused got) }
+    {
         match split(order) {
             Ok(control) => Ok(control),
-            Err((id, Opened::New(slot, sender))) => self.add(id, slot, sender),
+            Err((id, Opened::New(fresh))) => self.add(id, fresh),
             Err((id, Opened::Again(number))) => match self.begin(id, number) {
                 Some(sender) => Ok(Control::Open(id, sender)),
                 None => Err(Untaken::Early(Control::Open(id, Opened::Again(number)))),
@@ -94,12 +101,10 @@ impl Senders {
     }
 
     /// A slot's first call begins.
-    fn add(
-        &mut self,
-        id: StreamId,
-        slot: Arc<Slot>,
-        sender: Sender<OutLane>,
-    ) -> Result<Control<Sender<OutLane>>, Untaken> {
+    fn add(&mut self, id: StreamId, fresh: Fresh) -> Result<Control<Sender<OutLane>>, Untaken>
+        ensures unused { IfOk result (IsUnused got) }
+    {
+        let Fresh { slot, sender, .. } = fresh;
         let place = Place {
             slot,
             id,
@@ -113,7 +118,9 @@ impl Senders {
     }
 
     /// A further call of a slot begins. None where its sender isn't back.
-    fn begin(&mut self, id: StreamId, number: usize) -> Option<Sender<OutLane>> {
+    fn begin(&mut self, id: StreamId, number: usize) -> Option<Sender<OutLane>>
+        ensures unused { IfSome result (λ sender. got sender.rx ≡ []) }
+    {
         let place = self.places.get_mut(number)?;
         let mut sender = place.sender.take()?;
         if !sender.begin(id) {

@@ -1,25 +1,29 @@
 //! One connection from its first byte to its last.
 
-ghost use Rattle.std.specs.Prelude.{◌≡◌, ◌<◌};
+ghost use Rattle.std.specs.Prelude.{◌≡◌, ◌<◌, ℕ, List, Bool, All, Some, IfOk, IfSome, IsSomeAnd, slice_get};
+ghost use Rattle.std.specs.Arc.{arc_value};
+ghost use Rattle.handlers.specs.Listed.{listed};
+ghost use Rattle.handlers.specs.declared.step.Step.{Step};
+ghost use Rattle.connection.specs.declared.report.Ending.TheVariants as ending;
+ghost use Rattle.connection.specs.Accounts.{HasAccount, IsWithin, answers_by};
+ghost use Rattle.connection.specs.Written.{HasWritten};
 
+use crate::answering::Answering;
 use crate::intake::Intake;
 use crate::orders::{ORDERS, Orders};
 use crate::outlet::Outlet;
 use crate::reader::Reader;
 use crate::report::{Ending, Served};
-use crate::senders::Senders;
 use crate::shared::Shared;
-use crate::writer::Writer;
+use crate::writer;
 use connbook::ConnBook;
-use connwriter::ConnWriter;
 use device::{ConnRead, ConnWrite};
-use handlers::Methods;
+use handlers::{Method, Methods};
 use lane::Ring;
 use std::alloc::{AllocError, Global};
 use std::marker::Brand;
 use std::sync::ledger::{Blank, Ledger};
 use std::sync::{Arc, Wait};
-use std::thread;
 use std::thread::Threads;
 use std::time::{Clock, Instant};
 
@@ -38,19 +42,25 @@ where
     I: ConnRead,
     O: ConnWrite + Send + Drop + 'static,
     R: Threads + Wait + Clock + Copy + Send + Sync + Drop + 'static,
+    ensures served { IfSome result.output (HasWritten O.contents O.failed (O.contents output) (Some result.ending)) }
+    // Each row stands on a lawful account of its call, of which what was given is an outcome of what the method answers.
+    ensures calls { IfSome result.calls (λ rows. All (λ row. HasAccount (answers_by (λ method. (⟦<dyn Method as Method>⟧ method.vtable).answers method.value) (listed (arc_value methods))) row) rows.items) }
 {
     let blanks = (Blank::new(1), Blank::new(1), Blank::new(1));
-    match serve_over::<Brand, Brand, Brand, I, O, R>(rt, alloc, blanks, input, output, methods) {
+    match serve_over::<Brand, Brand, Brand, Brand, I, O, R>(
+        rt, alloc, blanks, input, output, methods,
+    ) {
         Ok(served) => served,
         Err(AllocError) => Served {
             ending: Ending::OutOfMemory,
             output: None,
+            calls: None,
         },
     }
 }
 
 /// The same, over ledgers of its own. Out of memory before the connection began nothing was read or written.
-fn serve_over<A, B, C, I, O, R>(
+fn serve_over<A, B, C, M, I, O, R>(
     rt: R,
     alloc: Global,
     blanks: (Blank, Blank, Blank),
@@ -62,12 +72,16 @@ where
     A: Ledger + Send + Sync + 'static,
     B: Ledger + Send + Sync + 'static,
     C: Ledger + Send + Sync + 'static,
+    M: Answering + Send + 'static,
     I: ConnRead,
     O: ConnWrite + Send + Drop + 'static,
     R: Threads + Wait + Clock + Copy + Send + Sync + Drop + 'static,
+    requires answers { IsWithin M.answers (answers_by (λ method. (⟦<dyn Method as Method>⟧ method.vtable).answers method.value) (listed (arc_value methods))) }
     requires received { (blanks.0.name ≡ A.name) × (blanks.0.parts ≡ A.parts) × (0 < A.parts) }
     requires admitted { (blanks.1.name ≡ B.name) × (blanks.1.parts ≡ B.parts) × (0 < B.parts) }
     requires announced { (blanks.2.name ≡ C.name) × (blanks.2.parts ≡ C.parts) × (0 < C.parts) }
+    ensures served { IfOk result (λ served. IfSome served.output (HasWritten O.contents O.failed (O.contents output) (Some served.ending))) }
+    ensures calls { IfOk result (λ served. IfSome served.calls (λ rows. All (λ row. HasAccount M.answers row) rows.items)) }
 {
     let (received, came) = blanks.0.open::<A>();
     let (admitted, calls) = blanks.1.open::<B>();
@@ -76,38 +90,29 @@ where
     let shared = Shared::new(alloc, book)?;
     let (putting, taking) = Ring::open(alloc, ORDERS)?;
     let start = Instant::now(&rt).map_err(|_| AllocError)?;
-    let writer = Writer {
-        orders: taking,
-        outlet: Outlet::new(Arc::try_clone(&shared)?, told),
-        frames: ConnWriter::new(alloc, output),
-        senders: Senders::new(alloc),
-        set_aside: None,
-        input_ended: false,
-        closed: false,
-        called_off: Vec::new(alloc),
-        lacks_memory: false,
-        failed: None,
-    };
+    let outlet = Outlet::new(Arc::try_clone(&shared)?, told);
     let orders = Orders {
         ring: putting,
         shared: Arc::try_clone(&shared)?,
+        are_unrung: false,
     };
     let mut intake = Intake::new(shared, came, calls);
-    let mut reader = Reader::new(rt, alloc, methods, orders, start);
-    let Ok(writing) = thread::spawn(&rt, move || writer.write(&rt)) else {
-        return Err(AllocError);
-    };
-    let read = reader.read(&mut intake, input);
-    reader.end();
-    let (written, output) = writing.join(&rt);
+    let mut reader: Reader<A, B, C, M, R> = Reader::new(rt, alloc, orders, start);
+    let writing = writer::start(rt, alloc, taking, outlet, output).ok_or(AllocError)?;
+    let read = reader.read(&mut intake, input, &methods);
+    let calls = reader.end();
+    let (written, device) = writing.join(&rt);
     Ok(Served {
         ending: of_both(read, written),
-        output: Some(output),
+        output: Some(device),
+        calls,
     })
 }
 
 /// How a connection ended, by what the reader and the writer see.
-fn of_both(read: Ending, written: Option<Ending>) -> Ending {
+fn of_both(read: Ending, written: Option<Ending>) -> Ending
+    ensures memory { written ≡ Some ending.OutOfMemory → result ≡ ending.OutOfMemory }
+{
     match (read, written) {
         (Ending::OutOfMemory, _) => Ending::OutOfMemory,
         (_, Some(ending)) => ending,

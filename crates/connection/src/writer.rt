@@ -1,5 +1,13 @@
 //! The writing thread of a connection.
 
+ghost use Rattle.std.specs.Prelude.{◌≡◌, ℕ, true, List, Option, Some, IfSome};
+ghost use Rattle.lane.specs.RingLane.{got};
+ghost use Rattle.outwriter.specs.Cores.{IsUnused};
+ghost use Rattle.connwriter.specs.declared.filled.Filled.TheVariants as filling;
+ghost use Rattle.connwriter.specs.declared.standing.Standing.TheVariants as stands;
+ghost use Rattle.connection.specs.declared.report.Ending.TheVariants as ending;
+ghost use Rattle.connection.specs.Written.{HasWritten, IsFlushed, Runs, Ends, RunsOn, RunsOut, Stays};
+
 use crate::orders::Order;
 use crate::outlet::Outlet;
 use crate::report::Ending;
@@ -12,8 +20,12 @@ use flow::MAX_LIVE;
 use h2frame::{ErrorCode, StreamId};
 use lane::RingOut;
 use outwriter::Control;
+use std::alloc::Global;
+use std::snapshot::Snapshot;
 use std::sync::Wait;
 use std::sync::ledger::Ledger;
+use std::thread;
+use std::thread::{Promise, PromisedHandle, Threads};
 use std::time::Duration;
 
 /// How long the writer waits at most before it looks again, in milliseconds.
@@ -21,70 +33,128 @@ const STEP: u64 = 100;
 
 /// What the writing thread of a connection has.
 #[derive(Drop)]
-pub(crate) struct Writer<A: Ledger, B: Ledger, C: Ledger, W: ConnWrite> {
-    pub(crate) orders: RingOut<Order>,
-    pub(crate) outlet: Outlet<A, B, C>,
-    pub(crate) frames: ConnWriter<OutLane, W>,
+struct Writer<A: Ledger, B: Ledger, C: Ledger, W: ConnWrite> {
+    orders: RingOut<Order>,
+    outlet: Outlet<A, B, C>,
+    frames: ConnWriter<OutLane, W>,
     /// The senders of slots between two calls.
-    pub(crate) senders: Senders,
+    senders: Senders,
     /// An order that can't be taken yet. The others wait behind it.
-    pub(crate) set_aside: Option<Order>,
+    set_aside: Option<Order>,
     /// Whether no more comes from the peer.
-    pub(crate) input_ended: bool,
+    input_ended: bool,
     /// Whether no more orders come.
-    pub(crate) closed: bool,
+    closed: bool,
     /// Streams that were called off or have ended, and whose senders may be with the core still.
-    pub(crate) called_off: Vec<StreamId>,
+    called_off: Vec<StreamId>,
     /// Whether there was no memory for an order.
-    pub(crate) lacks_memory: bool,
+    lacks_memory: bool,
     /// The error of its own that the writer ended the connection with.
-    pub(crate) failed: Option<ErrorCode>,
+    failed: Option<ErrorCode>,
 }
 
 impl<A: Ledger, B: Ledger, C: Ledger, W: ConnWrite + Drop> Writer<A, B, C, W> {
+    /// A writer that has written nothing.
+    fn new(
+        alloc: Global,
+        orders: RingOut<Order>,
+        outlet: Outlet<A, B, C>,
+        device: W,
+    ) -> Writer<A, B, C, W>
+        ensures runs { Runs got W.contents W.failed (W.contents device) result.frames }
+    {
+        let frames = ConnWriter::new(alloc, device);
+        Writer {
+            orders,
+            outlet,
+            frames,
+            senders: Senders::new(alloc),
+            set_aside: None,
+            input_ended: false,
+            closed: false,
+            called_off: Vec::new(alloc),
+            lacks_memory: false,
+            failed: None,
+        }
+    }
+
     /// Writes until no more is to be written. It says how the connection ended as far as the writer sees, and gives back what
     /// it wrote to.
-    pub(crate) fn write(self, rt: &impl Wait) -> (Option<Ending>, W) {
+    fn write(self, rt: &impl Wait) -> (Option<Ending>, W)
+        ensures written { (before : Option (List ℕ)) → Runs got W.contents W.failed before self.frames → HasWritten W.contents W.failed before result.0 result.1 }
+    {
         let mut writer = self;
-        for _ in rt.forever() {
-            let mark = writer.outlet.shared.writer.mark();
-            writer.drain(rt);
-            writer.announce(rt);
-            let filled = writer.frames.fill();
-            let is_silent = writer.frames.is_flushed();
-            if !is_silent {
-                writer.outlet.shared.room.ring();
-            }
-            writer.let_go(filled);
-            writer.flush(rt);
-            match filled {
-                Filled::Over => break,
-                Filled::Full => {}
-                Filled::Idle | Filled::Stopped => {
-                    if writer.has_ended(rt, filled) {
-                        break;
-                    }
-                    // What is left in the buffer of a writer that has stopped is never written.
-                    if is_silent || filled == Filled::Stopped {
-                        writer
-                            .outlet
-                            .shared
-                            .writer
-                            .wait_past(rt, mark, Duration::from_millis(STEP));
-                    }
-                }
+        'turns: for _ in rt.forever() {
+            if writer.turn(rt) {
+                break;
             }
         }
-        let ending = writer.ending();
-        let Writer { frames, .. } = writer;
+        writer.into_end()
+    }
+
+    /// How the connection ended as far as the writer sees, and what it wrote to.
+    fn into_end(self) -> (Option<Ending>, W)
+        requires flushed { IsFlushed self.frames }
+        ensures written { (before : Option (List ℕ)) → Ends got W.contents W.failed before self.frames → HasWritten W.contents W.failed before result.0 result.1 }
+    {
+        let ending = self.ending();
+        let Writer { frames, .. } = self;
         let (_senders, device) = frames.into_parts();
         (ending, device)
     }
 
+    /// Writes what can be written, and waits where that is nothing. Whether no more is to be written.
+    fn turn(&mut self, rt: &impl Wait) -> bool
+        ensures runs { RunsOn got W.contents W.failed self.old.frames self.new.frames }
+        ensures over { result ≡ true → RunsOut got W.contents W.failed self.old.frames self.new.frames }
+        ensures flushed { IsFlushed self.new.frames }
+    {
+        let mark = self.outlet.shared.writer.mark();
+        let (filled, is_silent) = self.write_once(rt);
+        match filled {
+            Filled::Over => return true,
+            Filled::Full => {}
+            Filled::Idle | Filled::Stopped => {
+                if self.has_ended(rt, filled) {
+                    return true;
+                }
+                // What is left in the buffer of a writer that has stopped is never written.
+                if is_silent || filled == Filled::Stopped {
+                    self.outlet
+                        .shared
+                        .writer
+                        .wait_past(rt, mark, Duration::from_millis(STEP));
+                }
+            }
+        }
+        false
+    }
+
+    /// Takes what orders wait, and writes a buffer's worth of frames. Why there aren't more, and whether there was none.
+    fn write_once(&mut self, rt: &impl Wait) -> (Filled, bool)
+        ensures runs { RunsOn got W.contents W.failed self.old.frames self.new.frames }
+        ensures over { result.0 ≡ filling.Over → RunsOut got W.contents W.failed self.old.frames self.new.frames }
+        ensures stopped { result.0 ≡ filling.Stopped → RunsOut got W.contents W.failed self.old.frames self.new.frames }
+        ensures flushed { IsFlushed self.new.frames }
+    {
+        self.drain(rt);
+        self.announce(rt);
+        let filled = self.frames.fill();
+        let is_silent = self.frames.is_flushed();
+        if !is_silent {
+            self.outlet.shared.room.ring();
+        }
+        self.let_go(filled);
+        self.flush(rt);
+        (filled, is_silent)
+    }
+
     /// Takes all orders that wait.
-    fn drain(&mut self, rt: &impl Wait) {
+    fn drain(&mut self, rt: &impl Wait)
+        ensures runs { RunsOn got W.contents W.failed self.old.frames self.new.frames }
+    {
         let mut some = false;
-        for _ in 0..u64::MAX {
+        'orders: for _ in 0..u64::MAX {
             let Some(order) = self.next_order() else {
                 break;
             };
@@ -104,7 +174,9 @@ impl<A: Ledger, B: Ledger, C: Ledger, W: ConnWrite + Drop> Writer<A, B, C, W> {
     }
 
     /// The order that was set aside, or else the next that waits.
-    fn next_order(&mut self) -> Option<Order> {
+    fn next_order(&mut self) -> Option<Order>
+        ensures frames { self.new.frames ≡ self.old.frames }
+    {
         match self.set_aside.take() {
             Some(order) => Some(order),
             None => self.orders.take(),
@@ -112,15 +184,12 @@ impl<A: Ledger, B: Ledger, C: Ledger, W: ConnWrite + Drop> Writer<A, B, C, W> {
     }
 
     /// Takes an order.
-    fn take(&mut self, rt: &impl Wait, order: Control<Sender<OutLane>>) {
-        match &order {
-            Control::InputEnded => self.input_ended = true,
-            Control::Close => self.closed = true,
-            Control::Reset { id, .. } => self.call_off(*id),
-            _ => {}
-        }
-        let last = self.outlet.shared.last();
-        match self.frames.take(order, last) {
+    fn take(&mut self, rt: &impl Wait, order: Control<Sender<OutLane>>)
+        requires unused { IsUnused got order }
+        ensures runs { RunsOn got W.contents W.failed self.old.frames self.new.frames }
+    {
+        self.note(&order);
+        match self.give(order) {
             Taking::Done => {}
             Taking::Ended(0) => {
                 self.failed = Some(ErrorCode::FlowControlError);
@@ -134,12 +203,35 @@ impl<A: Ledger, B: Ledger, C: Ledger, W: ConnWrite + Drop> Writer<A, B, C, W> {
         }
     }
 
+    /// Keeps in mind what ends by an order.
+    fn note(&mut self, order: &Control<Sender<OutLane>>)
+        ensures frames { self.new.frames ≡ self.old.frames }
+    {
+        match order {
+            Control::InputEnded => self.input_ended = true,
+            Control::Close => self.closed = true,
+            Control::Reset { id, .. } => self.call_off(*id),
+            _ => {}
+        }
+    }
+
+    /// Gives an order to the core.
+    fn give(&mut self, order: Control<Sender<OutLane>>) -> Taking<Sender<OutLane>>
+        requires unused { IsUnused got order }
+        ensures runs { RunsOn got W.contents W.failed self.old.frames self.new.frames }
+    {
+        let last = self.outlet.shared.last();
+        self.frames.take(order, last)
+    }
+
     /// Ends the connection for want of memory: by GOAWAY where there is memory for that, and behind it nothing is written.
-    fn give_up(&mut self, rt: &impl Wait) {
+    fn give_up(&mut self, rt: &impl Wait)
+        ensures runs { RunsOn got W.contents W.failed self.old.frames self.new.frames }
+    {
         self.lacks_memory = true;
         let last = self.outlet.shared.last();
         let code = ErrorCode::InternalError;
-        match self.frames.take(Control::Goaway { last, code }, last) {
+        match self.give(Control::Goaway { last, code }) {
             Taking::Done => {}
             Taking::Ended(_) | Taking::Unanswered(_) | Taking::HandedBack(_) => self.frames.stop(),
         }
@@ -147,13 +239,18 @@ impl<A: Ledger, B: Ledger, C: Ledger, W: ConnWrite + Drop> Writer<A, B, C, W> {
     }
 
     /// Owes the peer what credit is due.
-    fn announce(&mut self, rt: &impl Wait) {
+    fn announce(&mut self, rt: &impl Wait)
+        ensures runs { RunsOn got W.contents W.failed self.old.frames self.new.frames }
+    {
         let Writer { outlet, frames, .. } = self;
         outlet.announce(rt, frames);
     }
 
     /// Writes what is in the buffer. The calls whose last frame is in it take no more DATA.
-    fn flush(&mut self, rt: &impl Wait) {
+    fn flush(&mut self, rt: &impl Wait)
+        ensures stays { Stays got W.contents W.failed self.old.frames self.new.frames }
+        ensures flushed { IsFlushed self.new.frames }
+    {
         {
             let outlet = &self.outlet;
             let mut book = outlet.shared.book.lock(rt);
@@ -161,27 +258,32 @@ impl<A: Ledger, B: Ledger, C: Ledger, W: ConnWrite + Drop> Writer<A, B, C, W> {
                 book.end_local(*id);
             }
         }
-        if self.frames.flush().is_err() {
-            self.stop(rt);
+        match self.frames.flush() {
+            Ok(()) => {}
+            Err(_fault) => self.stop(rt),
         }
     }
 
     /// Notes that a stream was called off, or has ended. Without memory for that its sender is kept to the end.
-    fn call_off(&mut self, id: StreamId) {
+    fn call_off(&mut self, id: StreamId)
+        ensures frames { self.new.frames ≡ self.old.frames }
+    {
         let _ = self.called_off.push(id);
     }
 
     /// Lets go of the senders of calls that are through, before the peer can see that: so their slots are free for the calls that it
     /// begins then. A header block that a full buffer has cut is whole where nothing more can be written now.
-    fn let_go(&mut self, filled: Filled) {
-        for index in 0..self.frames.ended().len() {
+    fn let_go(&mut self, filled: Filled)
+        ensures stays { Stays got W.contents W.failed self.old.frames self.new.frames }
+    {
+        'ended: for index in 0..self.frames.ended().len() {
             if let Some(id) = self.frames.ended().get(index).copied() {
                 if !self.release(id, true) {
                     self.call_off(id);
                 }
             }
         }
-        for index in (0..self.called_off.len()).rev() {
+        'called_off: for index in (0..self.called_off.len()).rev() {
             if let Some(id) = self.called_off.get(index).copied() {
                 let is_kept = self.release(id, false);
                 if (is_kept || filled != Filled::Full) && index < self.called_off.len() {
@@ -195,7 +297,9 @@ impl<A: Ledger, B: Ledger, C: Ledger, W: ConnWrite + Drop> Writer<A, B, C, W> {
     }
 
     /// Keeps the sender of a call that is through for the next call of its slot, and says whether it is.
-    fn release(&mut self, id: StreamId, is_at_end: bool) -> bool {
+    fn release(&mut self, id: StreamId, is_at_end: bool) -> bool
+        ensures stays { Stays got W.contents W.failed self.old.frames self.new.frames }
+    {
         let Some(sender) = self.frames.release(id) else {
             return false;
         };
@@ -206,7 +310,9 @@ impl<A: Ledger, B: Ledger, C: Ledger, W: ConnWrite + Drop> Writer<A, B, C, W> {
     }
 
     /// Whether nothing more can be written. Once the input has ended no window opens, so the calls that wait for one are cut.
-    fn has_ended(&mut self, rt: &impl Wait, filled: Filled) -> bool {
+    fn has_ended(&self, rt: &impl Wait, filled: Filled) -> bool
+        ensures stopped { result ≡ true → filled ≡ filling.Stopped }
+    {
         if filled == Filled::Stopped {
             self.stop(rt);
             return self.closed;
@@ -218,7 +324,7 @@ impl<A: Ledger, B: Ledger, C: Ledger, W: ConnWrite + Drop> Writer<A, B, C, W> {
     }
 
     /// Cuts the calls that wait for a window.
-    fn cut_held(&mut self, rt: &impl Wait) {
+    fn cut_held(&self, rt: &impl Wait) {
         let outlet = &self.outlet;
         let mut book = outlet.shared.book.lock(rt);
         for place in (0..MAX_LIVE).rev() {
@@ -231,12 +337,14 @@ impl<A: Ledger, B: Ledger, C: Ledger, W: ConnWrite + Drop> Writer<A, B, C, W> {
     }
 
     /// Nothing more is written: no call is live.
-    fn stop(&mut self, rt: &impl Wait) {
+    fn stop(&self, rt: &impl Wait) {
         self.outlet.shared.book.lock(rt).stop();
         self.outlet.shared.stop();
     }
 
-    fn ending(&self) -> Option<Ending> {
+    fn ending(&self) -> Option<Ending>
+        ensures memory { self.now.frames.standing ≡ stands.OutOfMemory → result ≡ Some ending.OutOfMemory }
+    {
         if self.lacks_memory {
             return Some(Ending::OutOfMemory);
         }
@@ -248,5 +356,40 @@ impl<A: Ledger, B: Ledger, C: Ledger, W: ConnWrite + Drop> Writer<A, B, C, W> {
                 None => None,
             },
         }
+    }
+}
+
+/// What a writer writes to, as it was before. What comes back of it has the frames of a lawful run behind that.
+#[derive(Drop)]
+pub(crate) struct Begun<W: ConnWrite>(Snapshot<W>);
+
+impl<W: ConnWrite> Promise<(Option<Ending>, W)> for Begun<W> {
+    ghost kept_by = { λ begun r. HasWritten W.contents W.failed (W.contents begun.0.value) r.0 r.1 };
+}
+
+/// The thread that writes, and what it comes to.
+pub(crate) type Writing<W> = PromisedHandle<(Option<Ending>, W), Begun<W>>;
+
+/// Starts the thread that writes. None where it can't be made.
+pub(crate) fn start<A, B, C, W, R>(
+    rt: R,
+    alloc: Global,
+    orders: RingOut<Order>,
+    outlet: Outlet<A, B, C>,
+    device: W,
+) -> Option<Writing<W>>
+where
+    A: Ledger + Send + Sync + 'static,
+    B: Ledger + Send + Sync + 'static,
+    C: Ledger + Send + Sync + 'static,
+    W: ConnWrite + Send + Drop + 'static,
+    R: Threads + Wait + Copy + Send + Sync + Drop + 'static,
+    ensures begun { IfSome result (λ writing. writing.promise.0.value ≡ device) }
+{
+    let begun = Begun(Snapshot::of(&device));
+    let writer = Writer::new(alloc, orders, outlet, device);
+    match thread::spawn_with(&rt, begun, move || writer.write(&rt)) {
+        Ok(writing) => Some(writing),
+        Err(_fault) => None,
     }
 }

@@ -17,7 +17,7 @@ use Rattle.std.specs.Prelude.{if◌then◌else◌}
 use Rattle.outwriter.specs.Frames.{ends_stream}
 use Rattle.connwriter.specs.declared.standing.Standing.{Standing}
 use Rattle.connwriter.specs.declared.standing.Standing.TheVariants.{Going, OutOfMemory, Broken}
-use Rattle.connwriter.specs.Spelled.{spelled_all, ended_by, Parted, IsFront, Holds}
+use Rattle.connwriter.specs.Spelled.{spelled_all, ended_by, Parted, IsFront, IsAll, IsWhole, Holds}
 
 -- the earlier frames are spelled first
 pub spelled-append : (later earlier : List Frame) → spelled_all (later ++ earlier) ≡ spelled_all earlier ++ spelled_all later
@@ -112,6 +112,12 @@ pub holds-all : (frames : List Frame) (before now : Option (List ℕ)) (buffer e
 holds-all frames before now buffer ended p empty =
     subst (λ (bytes : List ℕ). Appends before now bytes)
     (sym (parted-spelled frames before now buffer ended p ∙ (ap (λ (bytes : List ℕ). spelled_all p.written ++ bytes) empty ∙ append-nil (spelled_all p.written)))) p.device
+
+pub holds-whole : (standing : Standing) (frames : List Frame) (before now : Option (List ℕ)) (buffer ended : List ℕ) → standing ≢ Broken
+    → Holds standing frames before now buffer ended → buffer ≡ [] → IsWhole frames before now
+holds-whole Going frames before now buffer ended whole h empty = ([], frames, refl, holds-all frames before now buffer ended h empty)
+holds-whole OutOfMemory frames before now buffer ended whole h empty = (h.0, h.1, h.2, holds-all h.1 before now buffer ended h.3 empty)
+holds-whole Broken frames before now buffer ended whole h empty = absurd (whole refl)
 
 -- ---- how long a frame is
 

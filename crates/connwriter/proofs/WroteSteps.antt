@@ -26,9 +26,9 @@ use Rattle.connwriter.specs.declared.standing.Standing.{Standing}
 use Rattle.connwriter.specs.declared.standing.Standing.TheVariants.{Going, OutOfMemory, Broken}
 use Rattle.connwriter.specs.declared.writer.ConnWriter.{ConnWriter}
 use Rattle.connwriter.specs.Orders.{own_control, own_order}
-use Rattle.connwriter.specs.Spelled.{Holds, IsFront, IsAll}
+use Rattle.connwriter.specs.Spelled.{Holds, IsFront, IsAll, IsWhole}
 use Rattle.connwriter.specs.Wrote.{Wrote, WritesOn, Fills, IsAtRest, Puts, Loses, PutsOr, RestsIf}
-use Rattle.connwriter.proofs.SpelledLemmas.{parted-more, holds-all, holds-cut, holds-flushed, holds-front}
+use Rattle.connwriter.proofs.SpelledLemmas.{parted-more, holds-all, holds-cut, holds-flushed, holds-front, holds-whole}
 
 appends-nothing : (bytes : Option (List ℕ)) → Appends bytes bytes []
 appends-nothing None = tt
@@ -254,6 +254,11 @@ module _ {L In Out Shut W : Type 0} (got : Out → List OutItem) (contents : W �
   wrote-all before run writer going empty w =
       holds-all (frames_of run) before (contents writer.device) writer.buffer.items writer.ended.items
       (subst (λ (s : Standing). Holds s (frames_of run) before (contents writer.device) writer.buffer.items writer.ended.items) going w.bytes) empty
+
+  pub wrote-whole : (before : Option (List ℕ)) (run : List Step) (writer : ConnWriter L W In Out Shut) → writer.standing ≢ Broken → writer.buffer.items ≡ []
+      → Wrote got contents failed before run writer → IsWhole (frames_of run) before (contents writer.device)
+  wrote-whole before run writer sound empty w =
+      holds-whole writer.standing (frames_of run) before (contents writer.device) writer.buffer.items writer.ended.items sound w.bytes empty
 
   -- ---- no frame comes
 

@@ -31,6 +31,10 @@ pub record Parted (frames : List Frame) (before now : Option (List ℕ)) (buffer
 abbrev pub IsAll : List Frame → Option (List ℕ) → Option (List ℕ) → Type 0
 IsAll frames before now = Appends before now (spelled_all frames)
 
+-- Whole frames were written: all of them, but for the last ones.
+abbrev pub IsWhole : List Frame → Option (List ℕ) → Option (List ℕ) → Type 0
+IsWhole frames before now = (lost : List Frame) × (made : List Frame) × (frames ≡ lost ++ made) × IsAll made before now
+
 -- what was written begins what they spell
 abbrev pub IsFront : List Frame → Option (List ℕ) → Option (List ℕ) → Type 0
 IsFront frames before now = (front : List ℕ) × Begins front (spelled_all frames) × Appends before now front

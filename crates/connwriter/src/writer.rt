@@ -1,7 +1,7 @@
 //! The writer of a connection.
 //!
-//! `fill` stops where a frame of the greatest length might not fit, so the buffer never has more than 64 KiB, and it is
-//! used again for the next frames.
+//! `fill` stops where a frame of the greatest length might not fit, so the buffer never has more than eight of those, and it
+//! is used again for the next frames.
 
 ghost use Rattle.std.specs.Prelude.{◌≡◌, ◌≢◌, ◌≤◌, ◌<◌, ◌+◌, ℕ, true, List, [], ◌∷◌, Option, Some, IsErr, OnOk, OnErr, OnSome, IfSome, IfNone, length, nat_eq, vec_len, vec_capacity};
 ghost use Rattle.std.specs.Map.{lookup};
@@ -20,7 +20,7 @@ ghost use Rattle.outwriter.specs.Steps.{Step, Taken, Granted, Returned, order_of
 ghost use Rattle.connwriter.specs.declared.standing.Standing.TheVariants as stands;
 ghost use Rattle.connwriter.specs.declared.filled.Filled.TheVariants as filled;
 ghost use Rattle.connwriter.specs.Orders.{own_control, own_order, steps_of, Blamed, Stops};
-ghost use Rattle.connwriter.specs.Spelled.{IsFront, IsAll};
+ghost use Rattle.connwriter.specs.Spelled.{IsFront, IsWhole, IsAll};
 ghost use Rattle.connwriter.specs.Wrote.{Wrote, WritesOn, Fills, PutsOr};
 
 use crate::filled::Filled;
@@ -35,8 +35,8 @@ use outwriter::{Control, Next, OutCore, OutFault};
 use std::alloc::{AllocError, Global};
 use std::mem;
 
-/// The most bytes that the buffer has.
-const BUFFER: usize = 65_536;
+/// The most bytes that the buffer has: those of eight frames of the greatest length.
+const BUFFER: usize = 131_144;
 
 /// The bytes of the longest frame, its head included (RFC 9113, sections 4.1 and 4.2).
 const LONGEST_FRAME: usize = 16_393;
@@ -155,11 +155,11 @@ impl<L: Lane<Item = OutItem>, W: ConnWrite> ConnWriter<L, W> {
     }
 
     /// Puts frames into the buffer, until none comes or the longest might not fit. The buffer never has more than
-    /// 65,536 bytes by it.
+    /// 131,144 bytes by it.
     pub fn fill(&mut self) -> Filled
         // Frames are the next steps of the run. Where none comes, all is written that can be.
         ensures wrote { Fills L.got (coming L.got L.ahead) W.contents W.failed (Some result) self.old self.new }
-        ensures room { length self.old.buffer.items ≤ 65536 → length self.new.buffer.items ≤ 65536 }
+        ensures room { length self.old.buffer.items ≤ 131144 → length self.new.buffer.items ≤ 131144 }
         ensures device { self.new.device ≡ self.old.device }
         ensures left { self.new.left ≡ self.old.left }
         ensures goes { result ≢ filled.Stopped → self.new.standing ≡ stands.Going }
@@ -205,7 +205,7 @@ impl<L: Lane<Item = OutItem>, W: ConnWrite> ConnWriter<L, W> {
         }
     }
 
-    /// Makes no more frames, as where memory ran out: for an owner who has none for what the writer was to be told.
+    /// Makes no more frames, as without memory: for an owner who has none for what it was to be told.
     pub fn stop(&mut self)
         ensures wrote { WritesOn L.got W.contents W.failed [] self.old self.new }
         ensures stops { self.new.standing ≢ stands.Going }
@@ -232,6 +232,10 @@ impl<L: Lane<Item = OutItem>, W: ConnWrite> ConnWriter<L, W> {
         ensures prefix { (before : Option (List ℕ)) (run : List Step) → Wrote L.got W.contents W.failed before run self → IsFront (frames_of run) before (W.contents result.1) }
         ensures all { self.standing ≡ stands.Going → self.buffer.items ≡ [] → (before : Option (List ℕ)) (run : List Step)
             → Wrote L.got W.contents W.failed before run self → IsAll (frames_of run) before (W.contents result.1) }
+
+        // Where memory ran out too, no frame of them is cut.
+        ensures whole { self.standing ≢ stands.Broken → self.buffer.items ≡ [] → (before : Option (List ℕ)) (run : List Step)
+            → Wrote L.got W.contents W.failed before run self → IsWhole (frames_of run) before (W.contents result.1) }
     {
         let ConnWriter { core, device, .. } = self;
         (core.into_senders(), device)
@@ -259,7 +263,7 @@ impl<L: Lane<Item = OutItem>, W: ConnWrite> ConnWriter<L, W> {
     fn fill_on(&mut self) -> Filled
         requires { self.old.standing ≡ stands.Going }
         ensures wrote { Fills L.got (coming L.got L.ahead) W.contents W.failed (Some result) self.old self.new }
-        ensures room { length self.old.buffer.items ≤ 65536 → length self.new.buffer.items ≤ 65536 }
+        ensures room { length self.old.buffer.items ≤ 131144 → length self.new.buffer.items ≤ 131144 }
         ensures device { self.new.device ≡ self.old.device }
         ensures left { self.new.left ≡ self.old.left }
         ensures goes { result ≢ filled.Stopped → self.new.standing ≡ stands.Going }

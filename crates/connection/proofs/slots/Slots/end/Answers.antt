@@ -1,0 +1,5 @@
+use Rattle.connection.proofs.Rows.{joined_have, rows_have}
+use Rattle.connection.proofs.slots.Slots.end.Goals as goal
+
+pub seats-preserved : goal.seats-preserved
+seats-preserved g c = joined_have g.M.Answering.answers (λ v. v.items) _ _ _ c.joined.ensures c.seats.invariant (rows_have g.M.Answering.answers (λ v. v.items) _ _ c.end.ensures.rows)
