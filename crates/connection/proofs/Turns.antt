@@ -1,6 +1,6 @@
 -- The turns of a call, and what stands at its end.
-use Rattle.std.proofs.Common.{◌≡◌, ◌∙◌, inl, ap, refl, subst, sym, ℕ, Bool, true, false, List, [], ◌∷◌, ◌++◌, Option, None, Some, append-nil, append_assoc}
-use Rattle.std.specs.Prelude.{IfSome, IsSomeAnd, slice_get}
+use Rattle.std.proofs.Common.{◌≡◌, ◌∙◌, inl, inr, ap, refl, subst, sym, ℕ, Bool, true, false, List, [], ◌∷◌, ◌++◌, Option, None, Some, append-nil, append_assoc}
+use Rattle.std.specs.Prelude.{IfSome, IsSomeAnd, MatchBool, slice_get}
 use mathlib.Core.List.{IsPrefix}
 use Rattle.lane.specs.Lawful.{count_of}
 use Rattle.account.specs.declared.call.OutItem.{OutItem}
@@ -158,3 +158,17 @@ row_without {A} answers methods index got p given row head none took untold says
     told = says.2 ∙ untold;
   };
 }
+
+-- what stands of a call stands of the same
+pub same_outcome : (said0 said1 : Option Told) (call0 call1 : Call) (shown0 shown1 : Shown) (items : List OutItem) (status : Option ℕ) → said1 ≡ said0 → call1 ≡ call0 → shown1 ≡ shown0
+    → ((answer : Step) → GivesOf said1 answer call1 shown1 → IsOutcome call1.head call1.overdue said1 answer items status)
+    → (answer : Step) → GivesOf said0 answer call0 shown0 → IsOutcome call0.head call0.overdue said0 answer items status
+same_outcome said0 said1 call0 call1 shown0 shown1 items status e_said e_call e_shown outcome =
+    subst (λ (t : Option Told). (answer : Step) → GivesOf t answer call0 shown0 → IsOutcome call0.head call0.overdue t answer items status) e_said
+    (subst (λ (c : Call). (answer : Step) → GivesOf said1 answer c shown0 → IsOutcome c.head c.overdue said1 answer items status) e_call
+    (subst (λ (s : Shown). (answer : Step) → GivesOf said1 answer call1 s → IsOutcome call1.head call1.overdue said1 answer items status) e_shown outcome))
+
+-- the item of a call that is left, where it was placed
+pub left_as : (placed : Bool) (items given : List OutItem) → MatchBool placed (given ≡ items ++ Left ∷ []) (given ≡ items) → IsGivenAs items given
+left_as true items given is = inr is
+left_as false items given is = inl is

@@ -9,7 +9,7 @@ pub struct Served<O: Drop> {
     pub ending: Ending,
     /// What was written to. None where no memory or no thread was to be had before anything was read.
     pub output: Option<O>,
-    /// A row for each call that a worker answered. None where there was no memory for all of them.
+    /// A row for each call that a worker answered, in no order. None where there was no memory for all of them.
     pub calls: Option<Vec<CallReport>>,
 }
 

@@ -551,15 +551,7 @@ impl<A: Ledger, B: Ledger, C: Ledger> Worker<A, B, C> {
     {
         'rests: for _ in rt.forever() {
             let mark = self.slot.bell.mark();
-            taker.drain();
-            let is_idle = taker.begin(self.alloc);
-            if is_idle {
-                self.slot.rest();
-            }
-            // Only now, so that the slot is free by the time that the peer sees the end of the call.
-            self.shared.writer.ring();
-            self.shared.reader.ring();
-            if is_idle {
+            if self.gets_all(taker) {
                 return true;
             }
             if self.slot.is_over() {
@@ -570,6 +562,25 @@ impl<A: Ledger, B: Ledger, C: Ledger> Worker<A, B, C> {
                 .wait_past(rt, mark, Duration::from_secs(IDLE));
         }
         unreachable!()
+    }
+
+    /// Gets what there is of a call that was answered, and is idle where that is all of it.
+    fn gets_all<I: Lane<Item = InPiece>>(&self, taker: &mut Taker<I>) -> bool
+        ensures name { result ≡ true → I.out_name taker.new.rx ≡ I.next_name (I.out_name taker.old.rx) }
+        ensures past { result ≡ true → (got : List PieceOf) × IsPrefix (I.got taker.old.rx) got × (I.past_out taker.new.rx ≡ I.past_out taker.old.rx ++ got ∷ []) }
+        ensures fresh { result ≡ true → IsFresh (I.got taker.new.rx) taker.new.progress }
+        ensures stays { result ≡ false → (I.out_name taker.new.rx ≡ I.out_name taker.old.rx) × (I.past_out taker.new.rx ≡ I.past_out taker.old.rx)
+            × IsPrefix (I.got taker.old.rx) (I.got taker.new.rx) }
+    {
+        taker.drain();
+        let is_idle = taker.begin(self.alloc);
+        if is_idle {
+            self.slot.rest();
+        }
+        // Only now, so that the slot is free by the time that the peer sees the end of the call.
+        self.shared.writer.ring();
+        self.shared.reader.ring();
+        is_idle
     }
 
     /// The moment, in nanoseconds of the connection. No clock is read for a call without a deadline.

@@ -16,10 +16,11 @@ pub fn report_of(
 ) -> Result<String, AllocError> {
     let mut text = String::new(alloc);
     let how = text_of(ending);
-    let Some(calls) = calls else {
+    let Some(mut calls) = calls else {
         writeln!(text, "connection {peer} {how} calls unknown")?;
         return Ok(text);
     };
+    calls.sort_unstable_by_key(|call| call.id);
     let count = calls.len();
     writeln!(text, "connection {peer} {how} calls {count}")?;
     for call in &calls {

@@ -15,3 +15,8 @@ returns-clause-answers g c =
     (ap g.I.Lane.got c.end.ensures.rx)
     (run_all _ _ _ _ _ _ _ _ _ _ _ _ _ _ _ _ _ _ _ (ap at c.new-run.ensures.index_is) untouched untold c.requires.fresh.2 c.requires.ungiven c.new-run.ensures.hand c.run.ensures.over c.new-run.ensures.run c.run.ensures.run)
     c.end.ensures.given c.end.ensures.row
+
+pub returns-then-is_none-clause-answers : goal.returns-then-is_none-clause-answers
+returns-then-is_none-clause-answers g c =
+    rw c.pass_over.ensures.taker (row_without _ (listed c.args.methods.now) _ _ c.args.taker.progress _ _ c.args.job.head (search rules)
+    (subst (λ (got : List InPiece). Took got c.args.taker.progress []) (sym c.requires.fresh.0) c.requires.fresh.1) c.requires.fresh.2 c.pass_over.ensures.row)

@@ -15,4 +15,4 @@ invariant-frames g l = record {
 }
 
 abbrev pub decreases-frames : goal.decreases-frames
-decreases-frames g l = 49144 - length l.self.buffer.items
+decreases-frames g l = 114752 - length l.self.buffer.items
