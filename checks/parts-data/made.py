@@ -13,6 +13,7 @@ import wire
 
 BEGIN = wire.PREFACE + wire.settings()
 CONNECTION = "stream 0\nsettings 3=64 6=16384\nsettings ack\n"
+STREAMS = 4096
 RESPONSE = ":status: 200\ncontent-type: application/grpc\n"
 
 
@@ -159,6 +160,17 @@ def goaway(code, frames):
     return BEGIN + frames, f"{CONNECTION}goaway 0 {code}\nending 3\n"
 
 
+def past_the_last_stream():
+    """As many calls as a client may open streams, all of them answered; most have no method, so that never more than 64 are live.
+    GOAWAY without an error names the last. What comes on streams above it is dropped, and the connection goes on."""
+    replied = (("EmptyCall", wire.message(), ()), answer(bytes(5)))
+    unknown = (("NoCall", ()), ended(12, "unknown method"))
+    joined, text = connection(*[replied] * 63, *[unknown] * (STREAMS - 64), replied)
+    last = 2 * STREAMS - 1
+    joined += call("EmptyCall", wire.message(), stream=last + 2) + call("NoCall", stream=last + 6) + wire.data(last + 4, b"\0") + wire.ping(7)
+    return joined, text.replace(CONNECTION, f"{CONNECTION}goaway {last} 0\nping ack {7:016x}\n")
+
+
 def made():
     yield "a_thousand_replies", replies_past_the_room_of_a_lane(1000)
     yield "five_thousand_replies", replies_past_the_room_of_a_lane(5000)
@@ -172,6 +184,7 @@ def made():
     yield "reset_behind_a_message", reset_behind_a_message()
     yield "reset_inside_a_message", reset_inside_a_message()
     yield "heads_of_no_call", heads_of_no_call()
+    yield "past_the_last_stream", past_the_last_stream()
     yield "ping_on_a_stream", goaway(1, wire.frame(wire.PING, 0, 1, bytes(8)))
     yield "ping_of_seven_bytes", goaway(6, wire.frame(wire.PING, 0, 0, bytes(7)))
     yield "credit_of_nothing", goaway(1, wire.credit(0, 0))
