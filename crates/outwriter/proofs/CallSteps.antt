@@ -10,7 +10,8 @@ use Rattle.outwriter.specs.declared.due.Due.{Due}
 use Rattle.outwriter.specs.declared.due.Due.TheVariants as due_kind
 use Rattle.outwriter.specs.declared.outbound.Outbound.{Outbound}
 use Rattle.outwriter.specs.declared.stream.OpenStream.{OpenStream}
-use Rattle.outwriter.specs.Calls.{is_fresh, is_served, was_reset, IsRefused}
+use Rattle.outwriter.specs.Calls.{is_fresh, is_served, IsRefused}
+use Rattle.outwriter.specs.Runs.{was_reset}
 use Rattle.outwriter.specs.Credits.{Owed, knows, nothing_owed}
 use Rattle.outwriter.specs.Histories.{is_stream}
 use Rattle.outwriter.specs.CoreChanges.{Closes}
@@ -25,9 +26,9 @@ use Rattle.outwriter.proofs.TellSteps.{takes-tells}
 
 -- ---- tests
 
-pub over-same : (more : List Due) (is_new : ℕ → Bool) (o new : Outbound) → Takes more is_new o new → (id : ℕ)
+pub over-same : (more : List Due) (is_new : ℕ → Bool) (limits : List ℕ) (o new : Outbound) → Takes more is_new limits o new → (id : ℕ)
     → lookup (nat_eq id) new.over.entries ≡ lookup (nat_eq id) o.over.entries
-over-same more is_new o new takes id = cc (takes.over)
+over-same more is_new limits o new takes id = cc (takes.over)
 
 -- a test that keeps its no was passed where it is passed
 pub was-true : (b c : Bool) → (b ≡ false → c ≡ false) → c ≡ true → b ≡ true
@@ -74,12 +75,12 @@ module _ (run after : List Step) (o new : Outbound) (streams left : List (ℕ ×
 -- ---- a step that opens and ends no stream
 
 pub serves-same : (run after : List Step) (o new : Outbound) (streams : List (ℕ × OpenStream)) (others : List (ℕ × Bool)) (calls : List (ℕ × List OutItem))
-    (marks : List (ℕ × Mark)) (more : List Due) → Takes more none_is_new o new → SpellsOf after new marks
+    (marks : List (ℕ × Mark)) (more : List Due) (limits : List ℕ) → Takes more none_is_new limits o new → SpellsOf after new marks
     → ((id : ℕ) → is_fresh id run ≡ false → is_fresh id after ≡ false) → ((id : ℕ) → is_served id after ≡ is_served id run) → Later run after
     → All (MayBeDue after new streams others) more
     → Serves run o streams others calls marks → Serves after new streams others calls marks
-serves-same run after o new streams others calls marks more takes spells fresh served later due s =
-    let over = over-same more none_is_new o new takes in
+serves-same run after o new streams others calls marks more limits takes spells fresh served later due s =
+    let over = over-same more none_is_new limits o new takes in
     let knowing : (id : ℕ) → knows new.credit id ≡ knows o.credit id = takes.knows in
     let still : StaysDue run after o new streams streams others others = record {
       refused = λ id e f g. (fresh id e, served id ∙ f, g);
@@ -340,17 +341,17 @@ updated old new id value updates k = updates k ∙ ap (λ b. if b then value els
 -- ---- without a step
 
 pub serves-kept : (run : List Step) (o new : Outbound) (streams : List (ℕ × OpenStream)) (others : List (ℕ × Bool)) (calls : List (ℕ × List OutItem))
-    (marks : List (ℕ × Mark)) → Takes [] none_is_new o new → Serves run o streams others calls marks → Serves run new streams others calls marks
+    (marks : List (ℕ × Mark)) → Takes [] none_is_new [] o new → Serves run o streams others calls marks → Serves run new streams others calls marks
 serves-kept run o new streams others calls marks takes s =
-    serves-same run run o new streams others calls marks [] takes (takes-tells [] none_is_new o new takes run marks s.spells) (λ id e. e) (λ id. refl) (later-none run)
+    serves-same run run o new streams others calls marks [] [] takes (takes-tells [] none_is_new o new takes run marks s.spells) (λ id e. e) (λ id. refl) (later-none run)
     (All-nil (MayBeDue run new streams others)) s
 
 -- more is due
 pub serves-owing : (run : List Step) (o new : Outbound) (streams : List (ℕ × OpenStream)) (others : List (ℕ × Bool)) (calls : List (ℕ × List OutItem))
-    (marks : List (ℕ × Mark)) (more : List Due) → Takes more none_is_new o new → All (MayBeDue run new streams others) more
+    (marks : List (ℕ × Mark)) (more : List Due) → Takes more none_is_new [] o new → All (MayBeDue run new streams others) more
     → Serves run o streams others calls marks → Serves run new streams others calls marks
 serves-owing run o new streams others calls marks more takes due s =
-    serves-same run run o new streams others calls marks more takes (takes-tells more none_is_new o new takes run marks s.spells) (λ id e. e) (λ id. refl) (later-none run) due s
+    serves-same run run o new streams others calls marks more [] takes (takes-tells more none_is_new o new takes run marks s.spells) (λ id e. e) (λ id. refl) (later-none run) due s
 
 -- the same streams
 pub serves-equal : (run : List Step) (o : Outbound) (streams left : List (ℕ × OpenStream)) (others more : List (ℕ × Bool)) (calls now : List (ℕ × List OutItem))

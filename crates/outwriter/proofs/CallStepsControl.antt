@@ -16,12 +16,14 @@ use Rattle.outwriter.specs.Calls.{is_closed, closes, is_fresh, is_served, calls_
 use Rattle.outwriter.specs.Cores.{ServesControl, ServesOn, ServesStill, IsUnused, calls}
 use Rattle.outwriter.specs.CoreChanges.{KeepsServing, KeepsHeeds}
 use Rattle.outwriter.specs.RunState.{IsMemory}
-use Rattle.outwriter.specs.CallState.{Takes, MayBeDue, none_is_new}
+use Rattle.outwriter.specs.Runs.{resets_stream}
+use Rattle.outwriter.specs.CallState.{Heeds, Takes, MayBeDue, none_is_new}
 use Rattle.outwriter.specs.Steps.{Step, Taken, order_of}
+use Rattle.outwriter.specs.TableLimits.{limits_of}
 use Rattle.outwriter.proofs.CallSteps.{serves-equal, serves-kept}
 use Rattle.outwriter.proofs.CallStepsCores.{serving-on}
 use Rattle.outwriter.proofs.CallStepsOrders.{serves-ordered}
-use Rattle.outwriter.proofs.EndsKept.{heeds-kept, heeds-calm, takes-ends}
+use Rattle.outwriter.proofs.EndsKept.{heeds-calm, heeds-takes}
 
 -- ---- what is due of no stream
 
@@ -53,22 +55,22 @@ ok-from (Err y) P Q h = h
 
 module _ {L In Out Shut : Type 0} (got : Out → List OutItem) (old : OutCore L In Out Shut) (alive : old.is_dead ≡ false) where
   -- room for what is due
-  pub keeps-room : (made : Outbound) → Takes [] none_is_new old.outbound made → KeepsServing got [] old (record old { outbound = made })
+  pub keeps-room : (made : Outbound) → Takes [] none_is_new [] old.outbound made → KeepsServing got [] old (record old { outbound = made })
   keeps-room made takes run marks s =
       serves-kept run old.outbound made old.streams.entries old.others.entries (calls got old.senders.items) marks takes s
 
-  heeds-room : (made : Outbound) → Takes [] none_is_new old.outbound made → KeepsHeeds got [] old (record old { outbound = made })
-  heeds-room made takes run marks s heeds = heeds-kept run old.outbound made (takes-ends [] none_is_new old.outbound made takes) heeds
+  heeds-room : (made : Outbound) → Takes [] none_is_new [] old.outbound made → KeepsHeeds got [] old (record old { outbound = made })
+  heeds-room made takes run marks s heeds = heeds-takes run [] [] old.outbound made old.streams.entries old.others.entries takes heeds
 
-  pub serving-room : (made : Outbound) → Takes [] none_is_new old.outbound made → ServesStill got old (record old { outbound = made })
+  pub serving-room : (made : Outbound) → Takes [] none_is_new [] old.outbound made → ServesStill got old (record old { outbound = made })
   serving-room made takes = serving-on got old (record old { outbound = made }) [] alive (λ run e. e) (keeps-room made takes) (heeds-room made takes)
 
   -- a control that is none of a stream
   pub serving-plain : (new : OutCore L In Out Shut) (made : Outbound) (control given : Control (Sender L In Out Shut)) (more : List Due)
-      → control ≡ given → ((id : ℕ) → opens_stream id (order_of given) ≡ false) → ((id : ℕ) → refuses_stream id (order_of given) ≡ false) → ((id : ℕ) (opened : Bool) → calls_off id opened (order_of given) ≡ false) → All IsPlainDue more
+      → control ≡ given → ((id : ℕ) → opens_stream id (order_of given) ≡ false) → ((id : ℕ) → refuses_stream id (order_of given) ≡ false) → ((id : ℕ) (opened : Bool) → calls_off id opened (order_of given) ≡ false) → ((id : ℕ) → resets_stream id (order_of given) ≡ false) → All IsPlainDue more
       → (closes (order_of given) || old.closed) ≡ new.closed → new.streams ≡ old.streams → new.others ≡ old.others → new.senders ≡ old.senders
-      → Takes [] none_is_new old.outbound made → Takes more none_is_new made new.outbound → ServesOn got (Taken (order_of control)) old new
-  serving-plain new made control given more is opens refuses calm plain closed streams others senders room takes =
+      → Takes [] none_is_new [] old.outbound made → Takes more none_is_new (limits_of (order_of given)) made new.outbound → ServesOn got (Taken (order_of control)) old new
+  serving-plain new made control given more is opens refuses calm unreset plain closed streams others senders room takes =
       subst (λ (c : Control (Sender L In Out Shut)). ServesOn got (Taken (order_of c)) old new) (sym is)
       (serving-on got old new (Taken (order_of given) ∷ []) alive (λ run e. ap (λ b. closes (order_of given) || b) e ∙ closed) (λ run marks s.
       serves-equal (Taken (order_of given) ∷ run) new.outbound old.streams.entries new.streams.entries old.others.entries new.others.entries
@@ -82,11 +84,14 @@ module _ {L In Out Shut : Type 0} (got : Out → List OutItem) (old : OutCore L 
       (plain-may (Taken (order_of given) ∷ run) new.outbound old.streams.entries old.others.entries) more plain)
       takes
       (keeps-room made room run marks s)))
-      (λ run marks s heeds. heeds-calm run (order_of given) made new.outbound calm (takes-ends more none_is_new made new.outbound takes) (heeds-room made room run marks s heeds)))
+      (λ run marks s heeds.
+      subst (λ streams. Heeds (Taken (order_of given) ∷ run) new.outbound streams.entries new.others.entries) (sym streams)
+      (subst (λ others. Heeds (Taken (order_of given) ∷ run) new.outbound old.streams.entries others.entries) (sym others)
+      (heeds-calm run (order_of given) more (limits_of (order_of given)) made new.outbound old.streams.entries old.others.entries calm unreset takes (heeds-room made room run marks s heeds)))))
 
   -- one that is, as it is answered
   pub serving-answered : (new : OutCore L In Out Shut) (made : Outbound) (result : Result (Unit {0}) (OutFault (Sender L In Out Shut)))
-      (control given : Control (Sender L In Out Shut)) → control ≡ given → closes (order_of given) ≡ false → new.closed ≡ old.closed → Takes [] none_is_new old.outbound made
+      (control given : Control (Sender L In Out Shut)) → control ≡ given → closes (order_of given) ≡ false → new.closed ≡ old.closed → Takes [] none_is_new [] old.outbound made
       → OnOk result (IsUnused got given → KeepsServing got (Taken (order_of given) ∷ []) (record old { outbound = made }) new)
       → OnErr result (KeepsServing got [] (record old { outbound = made }) new)
       → OnOk result (KeepsHeeds got (Taken (order_of given) ∷ []) (record old { outbound = made }) new) → OnErr result (KeepsHeeds got [] (record old { outbound = made }) new)

@@ -9,7 +9,7 @@ use Rattle.outwriter.specs.declared.outbound.Outbound.{Outbound}
 use Rattle.outwriter.specs.declared.stream.OpenStream.{OpenStream}
 use Rattle.outwriter.specs.Calls.{TellFronts, is_closed}
 use Rattle.outwriter.specs.Cores.{Serving, calls, ServesOn}
-use Rattle.outwriter.specs.Credits.{nothing_owed}
+use Rattle.outwriter.specs.Credits.{Owed, is_reset, nothing_owed}
 use Rattle.outwriter.specs.CoreChanges.{KeepsServing, KeepsHeeds, Prepares}
 use Rattle.outwriter.specs.Parts.{Mark}
 use Rattle.outwriter.specs.CallState.{Serves}
@@ -58,7 +58,16 @@ module _ {L In Out Shut : Type 0} (got : Out → List OutItem) (core : OutCore L
         returned = returned_of [] core.outbound core.streams.entries core.others.entries (calls got core.senders.items) [] serves;
         others = others_of [] core.outbound core.streams.entries core.others.entries (calls got core.senders.items) [] serves;
         closed = sym closed;
-        serves = λ still. ([], serves, λ id there e. absurd (true≢false (sym e)));
+        serves = λ still. (
+          [],
+          serves,
+          (
+            λ id there e. absurd (true≢false (sym e)),
+            λ id there. ap (λ (owed : Owed). is_reset owed id) credit,
+            λ id is. refl,
+            λ id there e. absurd (true≢false (sym e)),
+          ),
+        );
       }
 
 -- ---- calls

@@ -9,7 +9,8 @@ use Rattle.account.specs.declared.call.OutItem.{OutItem}
 use Rattle.outwriter.specs.declared.control.Control.TheVariants as order
 use Rattle.outwriter.specs.declared.outbound.Outbound.{Outbound}
 use Rattle.outwriter.specs.declared.stream.OpenStream.{OpenStream}
-use Rattle.outwriter.specs.Calls.{is_fresh, is_served, is_opened, was_reset}
+use Rattle.outwriter.specs.Calls.{is_fresh, is_served, is_opened}
+use Rattle.outwriter.specs.Runs.{was_reset}
 use Rattle.outwriter.specs.Credits.{knows}
 use Rattle.outwriter.specs.Histories.{is_stream}
 use Rattle.outwriter.specs.CoreChanges.{Prepares, is_new_call, becomes_open, stream_at}
@@ -127,7 +128,7 @@ module _ (run : List Step) (o new : Outbound) (streams left : List (ℕ × OpenS
           cases (inr h) = absurd (not-some (lookup (nat_eq k) streams) stream e h)
 
   over : (k : ℕ) → lookup (nat_eq k) new.over.entries ≡ lookup (nat_eq k) o.over.entries
-  over = over-same [] (λ other. is_new_call o id && (other == id)) o new p.takes
+  over = over-same [] (λ other. is_new_call o id && (other == id)) [] o new p.takes
 
   knows-more : (k : ℕ) → knows o.credit k ≡ true → knows new.credit k ≡ true
   knows-more k e = p.takes.knows k ∙ by (is_new_call o id && (k == id))

@@ -3,6 +3,7 @@ use Rattle.std.proofs.Common.{◌≡◌, ◌≢◌, ℕ, zero, suc, ◌+◌, ◌
 use Rattle.std.specs.Map.{lookup, set_value}
 use Rattle.std.proofs.lemmas.Map.{length-set_value}
 use Rattle.std.specs.Prelude.{if◌then◌else◌, ◌==◌, IfSome}
+use Rattle.std.specs.List.{list_any}
 use Rattle.std.specs.Map.{lookup_key}
 use Rattle.std.proofs.lemmas.Bool.{eqb-true, ne_eqb, eq-eqb}
 use Rattle.std.proofs.lemmas.Bool.Decides.{nat_tests}
@@ -256,8 +257,8 @@ fits_there : (es : List Entry) (id n : ℕ) → AllFit es → lookup (nat_eq id)
 fits_there es id n fit found = subst (λ (o : Option (Option ℕ)). IfSome o Fits) found (All-lookup Fits (nat_eq id) es fit)
 
 -- the connection is owed nothing
-module _ (old new : List Entry) where
-  nothing : (es : List Entry) → IsSettledFrom 0 es → (id : ℕ) → owed_on (record { connection = 0; streams = es }) id ≡ 0
+module _ (old new : List Entry) (resets : List ℕ) where
+  nothing : (es : List Entry) → IsSettledFrom 0 es → (id : ℕ) → owed_on (record { connection = 0; streams = es; resets = resets }) id ≡ 0
   nothing es settled id = by (id == 0)
     where
       by : (b : Bool) → (if b then 0 else number_of (lookup (nat_eq id) es)) ≡ 0
@@ -265,62 +266,64 @@ module _ (old new : List Entry) where
       by false = all_settled es settled id
 
   left : (id : ℕ) → 0 < id → Puts old id (Some 0) new → (other : ℕ)
-      → owed_on (record { connection = 0; streams = new }) other ≡ (if other == id then 0 else owed_on (record { connection = 0; streams = old }) other)
+      → owed_on (record { connection = 0; streams = new; resets = resets }) other ≡ (if other == id then 0 else owed_on (record { connection = 0; streams = old; resets = resets }) other)
   left id positive puts other = by (nat_eq id other) refl
     where
       by : (b : Bool) → nat_eq id other ≡ b
-          → owed_on (record { connection = 0; streams = new }) other ≡ (if other == id then 0 else owed_on (record { connection = 0; streams = old }) other)
+          → owed_on (record { connection = 0; streams = new; resets = resets }) other ≡ (if other == id then 0 else owed_on (record { connection = 0; streams = old; resets = resets }) other)
       by true e =
           let same : id ≡ other = eqb-true id other e in
           let here : (other == id) ≡ true = eq-eqb other id (sym same) in
           let away : (other == 0) ≡ false = ne_eqb other 0 (λ z. omega (arith, z, same, positive)) in
           let found : lookup (nat_eq other) new ≡ Some (Some 0) = puts other ∙ ap (λ b. if b then Some (Some 0) else lookup (nat_eq other) old) e in
           ap (λ b. if b then 0 else number_of (lookup (nat_eq other) new)) away ∙ ap number_of found
-          ∙ sym (ap (λ b. if b then 0 else owed_on (record { connection = 0; streams = old }) other) here)
+          ∙ sym (ap (λ b. if b then 0 else owed_on (record { connection = 0; streams = old; resets = resets }) other) here)
       by false e =
           let apart : (other == id) ≡ false = ne_eqb other id (λ z. true≢false (sym (eq-eqb id other (sym z)) ∙ e)) in
           let found : lookup (nat_eq other) new ≡ lookup (nat_eq other) old = puts other ∙ ap (λ b. if b then Some (Some 0) else lookup (nat_eq other) old) e in
           ap (λ (o : Option (Option ℕ)). if other == 0 then 0 else number_of o) found
-          ∙ sym (ap (λ b. if b then 0 else owed_on (record { connection = 0; streams = old }) other) apart)
+          ∙ sym (ap (λ b. if b then 0 else owed_on (record { connection = 0; streams = old; resets = resets }) other) apart)
 
 -- the same streams are known, and may be owed something
-same_streams : (old new : List Entry) (id n connection : ℕ) → lookup (nat_eq id) old ≡ Some (Some n) → Puts old id (Some 0) new
-    → SameStreams (record { connection = connection; streams = old }) (record { connection = connection; streams = new })
-same_streams old new id n connection found puts other = by (nat_eq id other) refl
+same_streams : (old new : List Entry) (id n connection : ℕ) (resets : List ℕ) → lookup (nat_eq id) old ≡ Some (Some n) → Puts old id (Some 0) new
+    → SameStreams (record { connection = connection; streams = old; resets = resets }) (record { connection = connection; streams = new; resets = resets })
+same_streams old new id n connection resets found puts other = by (nat_eq id other) refl
   where
     by : (b : Bool) → nat_eq id other ≡ b
-        → (knows (record { connection = connection; streams = new }) other ≡ knows (record { connection = connection; streams = old }) other)
-        × (pays (record { connection = connection; streams = new }) other ≡ pays (record { connection = connection; streams = old }) other)
+        → (knows (record { connection = connection; streams = new; resets = resets }) other ≡ knows (record { connection = connection; streams = old; resets = resets }) other)
+        × (pays (record { connection = connection; streams = new; resets = resets }) other ≡ pays (record { connection = connection; streams = old; resets = resets }) other)
+        × (list_any (nat_eq other) resets ≡ list_any (nat_eq other) resets)
     by true e =
         let P : ℕ → Type 0 = λ k. lookup (nat_eq k) old ≡ Some (Some n) in
         let before : lookup (nat_eq other) old ≡ Some (Some n) = subst P (eqb-true id other e) found in
         let after : lookup (nat_eq other) new ≡ Some (Some 0) = puts other ∙ ap (λ b. if b then Some (Some 0) else lookup (nat_eq other) old) e in (
           ap is_some after ∙ sym (ap is_some before),
           ap (λ (o : Option (Option ℕ)). if other == 0 then true else is_paid o) after ∙ sym (ap (λ (o : Option (Option ℕ)). if other == 0 then true else is_paid o) before),
+          refl,
         )
     by false e =
         let same : lookup (nat_eq other) new ≡ lookup (nat_eq other) old = puts other ∙ ap (λ b. if b then Some (Some 0) else lookup (nat_eq other) old) e in
-        (ap is_some same, ap (λ (o : Option (Option ℕ)). if other == 0 then true else is_paid o) same)
+        (ap is_some same, ap (λ (o : Option (Option ℕ)). if other == 0 then true else is_paid o) same, refl)
 
-pub takes_all : (old : List Entry) (owing place : ℕ) (taken : Option (ℕ × ℕ)) (new : List Entry) (connection : ℕ) → connection ≡ 0 → IsWithin connection old owing
+pub takes_all : (old : List Entry) (owing place : ℕ) (taken : Option (ℕ × ℕ)) (new : List Entry) (connection : ℕ) (resets : List ℕ) → connection ≡ 0 → IsWithin connection old owing
     → TakesLast old place taken new → IsSettledFrom place new
-    → TakesAll (record { connection = connection; streams = old }) taken (record { connection = connection; streams = new })
-takes_all old owing place None new connection none w t settled =
-    subst (λ n. TakesAll (record { connection = n; streams = old }) None (record { connection = n; streams = new })) (sym none) (
-      nothing old new old (subst (λ (l : List Entry). IsSettledFrom 0 l) t.0 (subst (λ n. IsSettledFrom n new) t.1 settled)),
-      nothing old new new (subst (λ n. IsSettledFrom n new) t.1 settled),
-      subst (λ (l : List Entry). SameStreams (record { connection = 0; streams = old }) (record { connection = 0; streams = l })) (sym t.0) (λ k. (refl, refl)),
+    → TakesAll (record { connection = connection; streams = old; resets = resets }) taken (record { connection = connection; streams = new; resets = resets })
+takes_all old owing place None new connection resets none w t settled =
+    subst (λ n. TakesAll (record { connection = n; streams = old; resets = resets }) None (record { connection = n; streams = new; resets = resets })) (sym none) (
+      nothing old new resets old (subst (λ (l : List Entry). IsSettledFrom 0 l) t.0 (subst (λ n. IsSettledFrom n new) t.1 settled)),
+      nothing old new resets new (subst (λ n. IsSettledFrom n new) t.1 settled),
+      subst (λ (l : List Entry). SameStreams (record { connection = 0; streams = old; resets = resets }) (record { connection = 0; streams = l; resets = resets })) (sym t.0) (λ k. (refl, refl, refl)),
     )
-takes_all old owing place (Some taken) new connection none w t settled =
+takes_all old owing place (Some taken) new connection resets none w t settled =
     let positive : 0 < taken.0 = not_0 old taken.0 (Some taken.1) w.apart t.1 in
     let away : (taken.0 == 0) ≡ false = ne_eqb taken.0 0 (λ z. omega (arith, z, positive)) in
-    subst (λ n. TakesAll (record { connection = n; streams = old }) (Some taken) (record { connection = n; streams = new })) (sym none) (
+    subst (λ n. TakesAll (record { connection = n; streams = old; resets = resets }) (Some taken) (record { connection = n; streams = new; resets = resets })) (sym none) (
       t.0,
       fits_there old taken.0 taken.1 w.fit t.1,
       ap (λ b. if b then true else is_paid (lookup (nat_eq taken.0) old)) away ∙ ap is_paid t.1,
       ap (λ b. if b then 0 else number_of (lookup (nat_eq taken.0) old)) away ∙ ap number_of t.1,
-      left old new taken.0 positive t.2,
-      same_streams old new taken.0 taken.1 0 t.1 t.2,
+      left old new resets taken.0 positive t.2,
+      same_streams old new taken.0 taken.1 0 resets t.1 t.2,
     )
 
 -- what is taken is a stream's, or the connection's

@@ -5,7 +5,7 @@ use Rattle.std.specs.List.{list_any}
 use Rattle.std.specs.Map.{lookup}
 use Rattle.std.specs.Int.{bytes_high_first}
 use Rattle.std.proofs.lemmas.Nat.{from_be_bytes-to_be_bytes_4}
-use Rattle.std.proofs.lemmas.Bool.{eqb-true, ne_eqb}
+use Rattle.std.proofs.lemmas.Bool.{eqb-true, eq-eqb, ne_eqb}
 use Rattle.h2frame.specs.Faults.{increment_of}
 use Rattle.hpack_codec.proofs.Bits.{small_mod}
 use Rattle.std.proofs.lemmas.List.Elements.{All-head}
@@ -16,15 +16,17 @@ use Rattle.flow.specs.Windows.{Windows}
 use Rattle.h2frame.specs.declared.error_code.ErrorCode.{ErrorCode}
 use Rattle.h2frame.specs.declared.frame.Frame.{Frame}
 use Rattle.outwriter.specs.declared.blocks.HeaderBlock.{HeaderBlock}
+use Rattle.outwriter.specs.declared.control.Control.TheVariants as order
 use Rattle.outwriter.specs.declared.due.Due.{Due}
 use Rattle.outwriter.specs.declared.due.Due.TheVariants as due_kind
 use Rattle.outwriter.specs.Blocks.{frame_of, rest_of, is_short}
-use Rattle.outwriter.specs.Credits.{Owed, owed_on, pays, Forgets, TakesAll}
+use Rattle.outwriter.specs.Credits.{Owed, is_reset, owed_on, pays, TakesAll}
 use Rattle.outwriter.specs.Frames.{resets, ends, update_on, reset_frame, data_frame, update_frame, headers_frame, continuation_frame, ends_stream, ends_block}
-use Rattle.outwriter.specs.Histories.{is_over, closing_of, spending_of}
-use Rattle.outwriter.specs.RunState.{Mirrors, resets_of, HasWindows, HasOver, HasDue, HasBlock, HasHead, HasCredit, HasSilence, Sets, spent, closing, Keeps, Ends}
-use Rattle.outwriter.specs.Runs.{due, IsAsked, Fragments, Continues, MayWrite, fragments, unfinished, updated, granted}
-use Rattle.outwriter.specs.Steps.{Step, Written, frames_of}
+use Rattle.outwriter.specs.Histories.{is_over, is_stream, closing_of, spending_of}
+use Rattle.outwriter.specs.RunState.{Mirrors, resets_of, HasWindows, HasOver, HasDue, HasBlock, HasHead, HasResets, HasSilence, Sets, spent, closing, Keeps, Ends}
+use Rattle.outwriter.specs.Runs.{due, IsAsked, Fragments, Continues, MayWrite, fragments, unfinished, updated, granted, resets_stream, was_reset}
+use Rattle.outwriter.specs.Steps.{Step, Taken, Granted, Written, Returned, frames_of}
+use Rattle.outwriter.proofs.Others.{or-true}
 use Rattle.outwriter.proofs.RunStateSteps.{same-block}
 use Rattle.outwriter.proofs.FrameSteps.{in-answers, in-goaways, not-over, none-over, none-begun, no-updates, credits-none, tells-first, due-told, no-block, over-same, due-same, tells-none, credit-same, windows-same, head-same, plain-written, IsPlain}
 
@@ -68,47 +70,61 @@ pub still-no-0 : (over after : List (ℕ × Bool)) (id : ℕ) (value : Bool) →
 still-no-0 over after id value there sets none =
     sets 0 ∙ ap (λ b. if b then Some value else lookup (nat_eq 0) over) (ne_eqb 0 id (λ e. omega (arith, e, there))) ∙ none
 
-if-less : (b : Bool) (n : ℕ) → (if b then 0 else n) ≤ n
-if-less true n = omega arith
-if-less false n = omega arith
-
--- less is owed
-pub credit-less : (run : List Step) (frame : Frame) (owed less : Owed) → ((k : ℕ) → update_on k frame ≡ 0) → ((k : ℕ) → owed_on less k ≤ owed_on owed k)
-    → HasCredit run owed → HasCredit (Written frame ∷ run) less
-credit-less run frame owed less none fewer h k = omega (arith, h k, none k, fewer k, sum_by-cons (update_on k) frame (frames_of run))
-
--- what was forgotten is silent
-silent-more : (over after : List (ℕ × Bool)) (id : ℕ) (owed less : Owed) → Sets over id true after → Forgets owed id less → HasSilence over owed → HasSilence after less
-silent-more over after id owed less sets forgets silent k e = by (k == id) refl
+-- what isn't paid is silent
+silent-more : (over after : List (ℕ × Bool)) (id : ℕ) (owed : Owed) → Sets over id true after → pays owed id ≡ false → HasSilence over owed → HasSilence after owed
+silent-more over after id owed sets unpaid silent k e = by (k == id) refl
   where
-    by : (b : Bool) → (k == id) ≡ b → pays less k ≡ false
-    by true p = (forgets k).2 ∙ ap (λ b. if b then false else pays owed k) p
-    by false p = (forgets k).2 ∙ ap (λ b. if b then false else pays owed k) p
-        ∙ silent k (sym (sets k ∙ ap (λ b. if b then Some true else lookup (nat_eq k) over) p) ∙ e)
+    by : (b : Bool) → (k == id) ≡ b → pays owed k ≡ false
+    by true p = ap (λ n. pays owed n) (eqb-true k id p) ∙ unpaid
+    by false p = silent k (sym (sets k ∙ ap (λ b. if b then Some true else lookup (nat_eq k) over) p) ∙ e)
+
+-- a stream was reset where its RST_STREAM was asked for
+asked-reset : (run : List Step) (id : ℕ) (code : ErrorCode) → IsAsked id code run → was_reset id run ≡ true
+asked-reset [] id code asked = absurd asked
+asked-reset (Granted stream n ∷ run) id code asked = asked-reset run id code asked
+asked-reset (Returned stream items ∷ run) id code asked = asked-reset run id code asked
+asked-reset (Written frame ∷ run) id code asked = asked-reset run id code asked
+asked-reset (Taken one ∷ run) id code (inr before) = or-true (resets_stream id one) (was_reset id run) (asked-reset run id code before)
+asked-reset (Taken (order.Reset stream found true) ∷ run) id code (inl asked) = ap (λ b. b || was_reset id run) (eq-eqb id stream asked.0)
+asked-reset (Taken (order.Reset stream found false) ∷ run) id code (inl asked) = absurd asked
+asked-reset (Taken (order.Settings settings) ∷ run) id code (inl asked) = absurd asked
+asked-reset (Taken (order.Ping bytes) ∷ run) id code (inl asked) = absurd asked
+asked-reset (Taken (order.Window stream n) ∷ run) id code (inl asked) = absurd asked
+asked-reset (Taken (order.Open stream sender) ∷ run) id code (inl asked) = absurd asked
+asked-reset (Taken (order.Refuse stream fields) ∷ run) id code (inl asked) = absurd asked
+asked-reset (Taken (order.Goaway last found) ∷ run) id code (inl asked) = absurd asked
+asked-reset (Taken order.InputEnded ∷ run) id code (inl asked) = absurd asked
+asked-reset (Taken order.Close ∷ run) id code (inl asked) = absurd asked
+
+-- and wasn't, where that isn't kept
+pub unreset : (run : List Step) (id : ℕ) (owed : Owed) → HasResets run owed → is_reset owed id ≡ false → is_stream id ≡ true → was_reset id run ≡ true → ⊥
+unreset run id owed resets none there was = true≢false (sym was ∙ sym (resets id there) ∙ none)
 
 or-none : (b : Bool) → (b || false) ≡ b
 or-none true = refl
 or-none false = refl
 
 pub reset-written : (run : List Step) (begun gone : Bool) (w windows : Windows) (over after : List (ℕ × Bool)) (waiting : List Due) (block : Option HeaderBlock)
-    (owed less : Owed) (id : ℕ) (code : ErrorCode) (made : Frame) → made ≡ reset_frame id code → begun ≡ true → gone ≡ false → block ≡ None
-    → 0 < id → lookup (nat_eq id) over ≡ None → ((history : List WindowStep) → Follows history w → Follows (Closing id ∷ history) windows)
-    → Sets over id true after → Forgets owed id less
+    (owed : Owed) (id : ℕ) (code : ErrorCode) (made : Frame) → made ≡ reset_frame id code → begun ≡ true → gone ≡ false → block ≡ None
+    → 0 < id → is_stream id ≡ true → lookup (nat_eq id) over ≡ None → ((history : List WindowStep) → Follows history w → Follows (Closing id ∷ history) windows)
+    → Sets over id true after
     → Mirrors run begun gone w over (due_kind.Reset id code ∷ waiting) block owed
-    → MayWrite run made × Mirrors (Written made ∷ run) begun gone windows after waiting block less
-reset-written run begun gone w windows over after waiting block owed less id code made is is_begun not_gone no_block there is_open follows sets forgets m =
+    → MayWrite run made × Mirrors (Written made ∷ run) begun gone windows after waiting block owed
+reset-written run begun gone w windows over after waiting block owed id code made is is_begun not_gone no_block there number is_open follows sets m =
     let Asked : ℕ × ErrorCode → Type 0 = λ reset. IsAsked reset.0 reset.1 run in
     let nothing : unfinished run ≡ None = subst (HasBlock run) no_block m.goes_on in
     let still = not-over run id (sym (m.is_over id).0 ∙ none-over (lookup (nat_eq id) over) is_open) in
     let none = no-updates run (reset_frame id code) refl in
-    subst (λ (f : Frame). MayWrite run f × Mirrors (Written f ∷ run) begun gone windows after waiting block less) (sym is) (
+    let asked = All-head Asked (id, code) (flat_map resets_of waiting) m.answers.1 in
+    subst (λ (f : Frame). MayWrite run f × Mirrors (Written f ∷ run) begun gone windows after waiting block owed) (sym is) (
       record {
         first = λ e. absurd (none-begun (frames_of run) (m.begins ∙ is_begun) e);
         windows = λ e. cc;
         content = λ e. cc;
         answers = in-answers _ (due run) (tells-first run (reset_frame id code) (due_kind.Reset id code) waiting refl m.answers);
         parts = in-goaways _ (due run) (tells-first run (reset_frame id code) (due_kind.Reset id code) waiting refl m.answers);
-        asked = λ e. (code, All-head Asked (id, code) (flat_map resets_of waiting) m.answers.1, refl);
+        asked = λ e. (code, asked, refl);
+        after_reset = λ is_one was. inl refl;
         block = subst (λ (o : Option Fragments). Continues o (reset_frame id code)) (sym nothing) (λ e. cc);
         not_reset = still.0;
         not_ended = λ e. absurd (true≢false (sym e ∙ still.1));
@@ -124,8 +140,10 @@ reset-written run begun gone w windows over after waiting block owed less id cod
         answers = due-told run (reset_frame id code) (due_kind.Reset id code) waiting refl m.answers;
         goes_on = same-block run (Written (reset_frame id code) ∷ run) block (no-block run (reset_frame id code) refl ∙ sym nothing) m.goes_on;
         not_reset = subst (HasHead (reset_frame id code ∷ frames_of run)) (sym no_block) tt;
-        credits = credit-less run (reset_frame id code) owed less none (λ k. subst (λ n. n ≤ owed_on owed k) (sym (forgets k).1) (if-less (k == id) (owed_on owed k))) m.credits;
-        silent = silent-more over after id owed less sets forgets m.silent;
+        credits = credit-same run (reset_frame id code) owed none m.credits;
+        silent = silent-more over after id owed sets (m.hushed id (m.resets id number ∙ asked-reset run id code asked)) m.silent;
+        hushed = m.hushed;
+        resets = m.resets;
         no_stream_0 = still-no-0 over after id true there sets m.no_stream_0;
       },
     )
@@ -210,12 +228,12 @@ keeps-rest block = by (is_short block)
 pub headers-written : (run : List Step) (begun gone : Bool) (w windows : Windows) (over after : List (ℕ × Bool)) (waiting left : List Due)
     (block rest : Option HeaderBlock) (owed : Owed) (id : ℕ) (ends_it whole : Bool) (fragment : List ℕ) (made : Frame)
     → made ≡ headers_frame id ends_it whole fragment → begun ≡ true → gone ≡ false → block ≡ None
-    → 0 < id → lookup (nat_eq id) over ≡ None
+    → 0 < id → lookup (nat_eq id) over ≡ None → is_reset owed id ≡ false
     → ((history : List WindowStep) → Follows history w → Follows (closing id ends_it ++ history) windows)
     → Ends over id ends_it after → Keeps id whole rest → HasDue run left
     → Mirrors run begun gone w over waiting block owed
     → MayWrite run made × Mirrors (Written made ∷ run) begun gone windows after left rest owed
-headers-written run begun gone w windows over after waiting left block rest owed id ends_it whole fragment made is is_begun not_gone no_block there is_open follows sets keeps dues m =
+headers-written run begun gone w windows over after waiting left block rest owed id ends_it whole fragment made is is_begun not_gone no_block there is_open not_reset follows sets keeps dues m =
     let nothing : unfinished run ≡ None = subst (HasBlock run) no_block m.goes_on in
     let still = not-over run id (sym (m.is_over id).0 ∙ none-over (lookup (nat_eq id) over) is_open) in
     let none = no-updates run (headers_frame id ends_it whole fragment) refl in
@@ -227,6 +245,7 @@ headers-written run begun gone w windows over after waiting left block rest owed
         answers = in-answers _ (due run) (tells-none run (headers_frame id ends_it whole fragment) left refl dues);
         parts = in-goaways _ (due run) (tells-none run (headers_frame id ends_it whole fragment) left refl dues);
         asked = λ e. cc;
+        after_reset = λ is_one was. absurd (unreset run id owed m.resets not_reset is_one was);
         block = subst (λ (o : Option Fragments). Continues o (headers_frame id ends_it whole fragment)) (sym nothing) (λ e. cc);
         not_reset = still.0;
         not_ended = λ e. absurd (true≢false (sym e ∙ still.1));
@@ -244,6 +263,8 @@ headers-written run begun gone w windows over after waiting left block rest owed
         not_reset = headed-head run id ends_it whole fragment rest keeps still.0;
         credits = credit-same run (headers_frame id ends_it whole fragment) owed none m.credits;
         silent = headed-silent id ends_it over after owed sets m.silent;
+        hushed = m.hushed;
+        resets = m.resets;
         no_stream_0 = headed-no-0 id ends_it over after there sets m.no_stream_0;
       },
     )
@@ -290,6 +311,7 @@ continuation-written run begun gone w over waiting block rest owed made is is_re
         answers = in-answers _ (due run) (tells-none run (continuation_frame block.id (is_short block) (take 16384 block.rest)) waiting refl m.answers);
         parts = in-goaways _ (due run) (tells-none run (continuation_frame block.id (is_short block) (take 16384 block.rest)) waiting refl m.answers);
         asked = λ e. cc;
+        after_reset = λ is_one was. inr refl;
         block = goes-on (unfinished run) block.id (is_short block) (take 16384 block.rest) m.goes_on.1 m.goes_on.2;
         not_reset = m.not_reset;
         not_ended = λ e. inr refl;
@@ -307,6 +329,8 @@ continuation-written run begun gone w over waiting block rest owed made is is_re
         not_reset = continued-head run block.id (is_short block) (take 16384 block.rest) rest keeps m.not_reset;
         credits = credit-same run (continuation_frame block.id (is_short block) (take 16384 block.rest)) owed none m.credits;
         silent = m.silent;
+        hushed = m.hushed;
+        resets = m.resets;
         no_stream_0 = m.no_stream_0;
       },
     )
@@ -315,12 +339,12 @@ continuation-written run begun gone w over waiting block rest owed made is is_re
 
 pub data-written : (run : List Step) (begun gone : Bool) (w windows : Windows) (over : List (ℕ × Bool)) (waiting : List Due)
     (block : Option HeaderBlock) (owed : Owed) (id : ℕ) (bytes : List ℕ) (made : Frame)
-    → made ≡ data_frame id bytes → begun ≡ true → gone ≡ false → block ≡ None → lookup (nat_eq id) over ≡ None → 0 < length bytes → length bytes ≤ 16384
+    → made ≡ data_frame id bytes → begun ≡ true → gone ≡ false → block ≡ None → lookup (nat_eq id) over ≡ None → is_reset owed id ≡ false → 0 < length bytes → length bytes ≤ 16384
     → ((history : List WindowStep) → Follows history w → length bytes ≤ room_after history id)
     → ((history : List WindowStep) → Follows history w → Follows (spent id (length bytes) ++ history) windows)
     → Mirrors run begun gone w over waiting block owed
     → MayWrite run made × Mirrors (Written made ∷ run) begun gone windows over waiting block owed
-data-written run begun gone w windows over waiting block owed id bytes made is is_begun not_gone no_block is_open some short fits follows m =
+data-written run begun gone w windows over waiting block owed id bytes made is is_begun not_gone no_block is_open not_reset some short fits follows m =
     let nothing : unfinished run ≡ None = subst (HasBlock run) no_block m.goes_on in
     let still = not-over run id (sym (m.is_over id).0 ∙ none-over (lookup (nat_eq id) over) is_open) in
     let none = no-updates run (data_frame id bytes) refl in
@@ -332,6 +356,7 @@ data-written run begun gone w windows over waiting block owed id bytes made is i
         answers = in-answers _ (due run) (tells-none run (data_frame id bytes) waiting refl m.answers);
         parts = in-goaways _ (due run) (tells-none run (data_frame id bytes) waiting refl m.answers);
         asked = λ e. cc;
+        after_reset = λ is_one was. absurd (unreset run id owed m.resets not_reset is_one was);
         block = subst (λ (o : Option Fragments). Continues o (data_frame id bytes)) (sym nothing) (λ e. cc);
         not_reset = still.0;
         not_ended = λ e. absurd (true≢false (sym e ∙ still.1));
@@ -349,6 +374,8 @@ data-written run begun gone w windows over waiting block owed id bytes made is i
         not_reset = head-same (data_frame id bytes) (frames_of run) block refl m.not_reset;
         credits = credit-same run (data_frame id bytes) owed none m.credits;
         silent = m.silent;
+        hushed = m.hushed;
+        resets = m.resets;
         no_stream_0 = m.no_stream_0;
       },
     )
@@ -391,10 +418,13 @@ update-written run begun gone w over waiting block owed less taken made is is_be
     (tells-none run (update_frame taken.0 taken.1) waiting refl m.answers) (due-same run (update_frame taken.0 taken.1) waiting refl m.answers)
     ((m.is_over taken.0).1 (some-paid (lookup (nat_eq taken.0) over) (pays owed taken.0) (m.silent taken.0) takes.2))
     (λ e. inl refl)
+    (λ there was. true≢false (sym takes.2 ∙ m.hushed taken.0 (m.resets taken.0 there ∙ was)))
     (λ k. subst (λ n. updated k run + n ≤ granted k run) (sym (amount k)) (at-most (k == taken.0) taken.1 (updated k run) (owed_on owed k) (granted k run) (m.credits k) (here k)))
     (λ k. subst (λ n. n + owed_on less k ≤ granted k run) (sym (sum_by-cons (update_on k) (update_frame taken.0 taken.1) (frames_of run) ∙ ap (λ n. n + updated k run) (amount k)))
     (subst (λ n. ((if k == taken.0 then taken.1 else 0) + updated k run) + n ≤ granted k run) (sym (takes.4 k))
     (at-most-left (k == taken.0) taken.1 (updated k run) (owed_on owed k) (granted k run) (m.credits k) (here k))))
     (λ k e. (takes.5 k).1 ∙ m.silent k e)
+    (λ k e. (takes.5 k).1 ∙ m.hushed k (sym (takes.5 k).2 ∙ e))
+    (λ k there. (takes.5 k).2 ∙ m.resets k there)
     (λ e. (taken.1, takes.0, small, refl))
     (sym not_gone) m)

@@ -16,9 +16,9 @@ use Rattle.outwriter.specs.declared.control.Control.TheVariants.{Goaway}
 use Rattle.outwriter.specs.declared.due.Due.{Due}
 use Rattle.outwriter.specs.Credits.{Owed}
 use Rattle.outwriter.specs.Frames.{is_last, reset_frame, resets, ends, ends_stream, is_reset, update_on, update_kind, update_frame, ends_block, first_settings, settings_ack, ping_ack, goaway_frame}
-use Rattle.outwriter.specs.Histories.{closing_of, spending_of, is_over}
-use Rattle.outwriter.specs.RunState.{Mirrors, HasWindows, HasOver, HasDue, HasBlock, HasHead, HasCredit, HasSilence, duties_of, resets_of}
-use Rattle.outwriter.specs.Runs.{has_begun, IsAsked, Fragments, unfinished, granted, granted_by, updated, due, told, told_by, is_goaway, goaways, without_goaway, AreAmong, MayWrite, Continues, MayFollowEnd, fragments}
+use Rattle.outwriter.specs.Histories.{closing_of, spending_of, is_over, is_stream}
+use Rattle.outwriter.specs.RunState.{Mirrors, HasWindows, HasOver, HasDue, HasBlock, HasHead, HasCredit, HasResets, HasSilence, IsHushed, duties_of, resets_of}
+use Rattle.outwriter.specs.Runs.{has_begun, IsAsked, Fragments, unfinished, granted, granted_by, updated, due, told, told_by, is_goaway, goaways, without_goaway, AreAmong, MayWrite, Continues, MayFollowEnd, fragments, was_reset}
 use Rattle.outwriter.specs.Steps.{Step, Taken, Granted, Written, Returned, frames_of}
 use Rattle.outwriter.proofs.RunStateSteps.{same-block, all-behind}
 
@@ -173,6 +173,7 @@ first-written run begun gone w over waiting block owed frame is not_begun not_go
         answers = in-answers _ (due run) (tells-none run first_settings waiting no_duty m.answers);
         parts = in-goaways _ (due run) (tells-none run first_settings waiting no_duty m.answers);
         asked = λ e. cc;
+        after_reset = λ there was. cc;
         block = subst (λ (o : Option Fragments). Continues o first_settings) (sym nothing) (λ e. cc);
         not_reset = ap (list_any (resets 0)) none;
         not_ended = λ e. absurd (true≢false (sym e ∙ ap (list_any (ends 0)) none));
@@ -190,6 +191,8 @@ first-written run begun gone w over waiting block owed frame is not_begun not_go
         not_reset = head-same first_settings (frames_of run) block refl m.not_reset;
         credits = credit-same run first_settings owed no_update m.credits;
         silent = m.silent;
+        hushed = m.hushed;
+        resets = m.resets;
         no_stream_0 = m.no_stream_0;
       },
     )
@@ -211,12 +214,13 @@ pub plain-written : (run : List Step) (begun gone after : Bool) (w : Windows) (o
     → Begins (told run ++ told_by (has_begun (frames_of run)) frame) (due run) → HasDue (Written frame ∷ run) left
     → list_any (resets frame.head.stream) (frames_of run) ≡ false
     → (list_any (ends frame.head.stream) (frames_of run) ≡ true → MayFollowEnd frame.head.kind)
-    → ((id : ℕ) → updated id run + update_on id frame ≤ granted id run) → HasCredit (Written frame ∷ run) less → HasSilence over less
+    → (is_stream frame.head.stream ≡ true → was_reset frame.head.stream run ≡ true → ⊥)
+    → ((id : ℕ) → updated id run + update_on id frame ≤ granted id run) → HasCredit (Written frame ∷ run) less → HasSilence over less → IsHushed less → HasResets run less
     → (frame.head.kind ≡ kind.WindowUpdate → (n : ℕ) × (0 < n) × (n < 2 ^ 31) × (frame ≡ update_frame frame.head.stream n))
     → is_last frame ≡ after
     → Mirrors run begun gone w over waiting block owed
     → MayWrite run frame × Mirrors (Written frame ∷ run) begun after w over left block less
-plain-written run begun gone after w over waiting left block owed less frame is_begun not_gone no_block plain tells dues not_reset not_ended allowed credits silent whole last m =
+plain-written run begun gone after w over waiting left block owed less frame is_begun not_gone no_block plain tells dues not_reset not_ended unreset allowed credits silent hushed resets whole last m =
     let nothing : unfinished run ≡ None = subst (HasBlock run) no_block m.goes_on in (
       record {
         first = λ e. absurd (none-begun (frames_of run) (m.begins ∙ is_begun) e);
@@ -225,6 +229,7 @@ plain-written run begun gone after w over waiting left block owed less frame is_
         answers = in-answers _ (due run) tells;
         parts = in-goaways _ (due run) tells;
         asked = λ e. no-asked frame plain.no_reset e;
+        after_reset = λ there was. absurd (unreset there was);
         block = subst (λ (o : Option Fragments). Continues o frame) (sym nothing) plain.no_continuation;
         not_reset = not_reset;
         not_ended = not_ended;
@@ -242,6 +247,8 @@ plain-written run begun gone after w over waiting left block owed less frame is_
         not_reset = head-same frame (frames_of run) block plain.no_reset m.not_reset;
         credits = credits;
         silent = silent;
+        hushed = hushed;
+        resets = resets;
         no_stream_0 = m.no_stream_0;
       },
     )
@@ -273,6 +280,9 @@ connection-on : (run : List Step) (over : List (ℕ × Bool)) → HasOver run ov
     → (list_any (resets 0) (frames_of run) ≡ false) × (list_any (ends 0) (frames_of run) ≡ false)
 connection-on run over has none = not-over run 0 (sym (has 0).0 ∙ none-over (lookup (nat_eq 0) over) none)
 
+no-stream : (id : ℕ) → id ≡ 0 → is_stream id ≡ true → ⊥
+no-stream id e there = true≢false (sym there ∙ ap is_stream e)
+
 -- a frame of the connection that is due
 pub due-written : (run : List Step) (begun gone after : Bool) (w : Windows) (over : List (ℕ × Bool)) (one : Due) (waiting : List Due) (block : Option HeaderBlock)
     (owed : Owed) (made frame : Frame) → made ≡ frame → begun ≡ true → gone ≡ false → block ≡ None → IsPlain frame → frame.head.stream ≡ 0
@@ -288,7 +298,8 @@ due-written run begun gone after w over one waiting block owed made frame is is_
     (tells-first run frame one waiting is_told m.answers) (due-told run frame one waiting is_told m.answers)
     (ap (λ id. list_any (resets id) (frames_of run)) on_0 ∙ still.0)
     (λ e. absurd (true≢false (sym e ∙ ap (λ id. list_any (ends id) (frames_of run)) on_0 ∙ still.1)))
-    (credits-none run frame owed none m.credits) (credit-same run frame owed none m.credits) m.silent (λ e. absurd (no_credit e)) last m)
+    (λ there was. no-stream frame.head.stream on_0 there)
+    (credits-none run frame owed none m.credits) (credit-same run frame owed none m.credits) m.silent m.hushed m.resets (λ e. absurd (no_credit e)) last m)
 
 -- ---- the last word of a dead core
 
@@ -311,6 +322,7 @@ may-part run begun gone w over waiting block owed last code is_begun not_gone no
       parts = subst (λ (more : List Frame). AreAmong (goaways (told run ++ more)) (goaways (due run ++ frame ∷ []))) (sym tells)
           (more-goaways (told run) (due run) frame refl (in-goaways (told run) (due run) before));
       asked = λ e. cc;
+      after_reset = λ there was. cc;
       block = subst (λ (o : Option Fragments). Continues o frame) (sym nothing) (λ e. cc);
       not_reset = still.0;
       not_ended = λ e. absurd (true≢false (sym e ∙ still.1));

@@ -90,7 +90,7 @@ call-front run o streams others calls marks s k d within served = by (lookup (na
 -- and so is what the run tells by now
 front-now : (id : ℕ) (items : List OutItem) (run : List Step) (o : Outbound) (marks : List (ℕ × Mark)) → SpellsOf run o marks
     → IsFrontOf (marks_on id marks) (spelled items) → (part : List Mark) × IsPart id run part × IsFrontOf part (spelled items)
-front-now id items run o marks (begins, (table, told, rest, tells, owes, is)) front = (
+front-now id items run o marks (begins, (table, told, rest, tells, owes, is, least)) front = (
   marks_on id told,
   (table, told, tells, refl),
   front-less (marks_on id told) (marks_on id rest) (spelled items)
@@ -124,7 +124,7 @@ rest-on id at fields ends_it = by (id == at) refl
 block-rest : (id : ℕ) (run : List Step) (block : Option HeaderBlock) (kept : Option Encoding) (table : Table) (rest : List (ℕ × Mark)) → Owes run block kept table rest
     → IsBlockRest (marks_on id rest)
 block-rest id run None kept table rest owes = inl (ap (marks_on id) owes.1)
-block-rest id run (Some block) kept table rest (begun, fields, next, started, unfinished, on, ends, is_block, of_table, is) =
+block-rest id run (Some block) kept table rest (begun, fields, next, started, unfinished, on, ends, is_block, limited, of_table, is) =
     subst (λ (l : List (ℕ × Mark)). IsBlockRest (marks_on id l)) (sym is) (rest-on id block.id fields block.ends)
 
 not-nil : (front : List Mark) (x : Mark) (back : List Mark) → front ++ x ∷ back ≡ [] → ⊥

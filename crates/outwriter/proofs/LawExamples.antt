@@ -15,7 +15,7 @@ use Rattle.h2frame.specs.declared.kind.FrameKind.TheVariants as kind
 use Rattle.outwriter.specs.declared.control.Control.TheVariants as order
 use Rattle.outwriter.specs.Frames.{update_kind, update_on, first_settings, settings_ack, ping_ack, reset_frame, goaway_frame, update_frame, data_frame, headers_frame, continuation_frame, is_data}
 use Rattle.outwriter.specs.Histories.{HasHistory}
-use Rattle.outwriter.specs.Runs.{MayWrite, MayFollowEnd, IsLawful, updated, granted}
+use Rattle.outwriter.specs.Runs.{MayWrite, MayFollowEnd, MayFollowReset, IsLawful, updated, granted}
 use Rattle.outwriter.specs.Steps.{Step, Taken, Granted, Written, frames_of}
 use Rattle.hpack_codec.proofs.HuffmanTable.{and_true}
 use Rattle.outwriter.proofs.FrameSteps.{no-updates}
@@ -92,6 +92,28 @@ no-block m = m.block refl
 pub after-a-reset : ¬ MayWrite (Written (reset_frame 3 Cancel) ∷ Taken (order.Reset 3 Cancel true) ∷ begun) (update_frame 3 4)
 after-a-reset m = true≢false m.not_reset
 
+-- one of which a Reset was taken, though no RST_STREAM is to be written
+abbrev dropped : List Step
+dropped = Taken (order.Reset 3 Cancel false) ∷ Granted 3 4 ∷ Taken (order.Open 3 tt) ∷ begun
+
+abbrev follows-reset : FrameKind → Bool
+follows-reset kind.RstStream = true
+follows-reset kind.Continuation = true
+follows-reset _ = false
+
+may-not-follow : (found : FrameKind) → follows-reset found ≡ false → MayFollowReset found → ⊥
+may-not-follow found none (inl e) = true≢false (sym (ap follows-reset e) ∙ none)
+may-not-follow found none (inr e) = true≢false (sym (ap follows-reset e) ∙ none)
+
+pub credit-after-a-taken-reset : ¬ MayWrite dropped (update_frame 3 4)
+credit-after-a-taken-reset m = may-not-follow kind.WindowUpdate refl (m.after_reset refl refl)
+
+pub data-after-a-taken-reset : ¬ MayWrite dropped (data_frame 3 (7 ∷ []))
+data-after-a-taken-reset m = may-not-follow kind.Data refl (m.after_reset refl refl)
+
+pub trailers-after-a-taken-reset : ¬ MayWrite dropped (headers_frame 3 true true (130 ∷ []))
+trailers-after-a-taken-reset m = may-not-follow kind.Headers refl (m.after_reset refl refl)
+
 -- and one that has ended
 pub after-the-end : ¬ MayWrite (Written (headers_frame 1 true true (130 ∷ [])) ∷ begun) (headers_frame 1 true true (130 ∷ []))
 after-the-end m = by (m.not_ended refl)
@@ -152,6 +174,7 @@ first-may = record {
   answers = ([], refl);
   parts = refl;
   asked = λ e. cc;
+  after_reset = λ there was. cc;
   block = λ e. cc;
   not_reset = refl;
   not_ended = λ e. cc;
@@ -168,6 +191,7 @@ head-may = record {
   answers = ([], refl);
   parts = refl;
   asked = λ e. cc;
+  after_reset = λ there was. cc;
   block = λ e. cc;
   not_reset = refl;
   not_ended = λ e. cc;
@@ -187,6 +211,7 @@ data-may = record {
   answers = ([], refl);
   parts = refl;
   asked = λ e. cc;
+  after_reset = λ there was. cc;
   block = λ e. cc;
   not_reset = refl;
   not_ended = λ e. cc;
@@ -203,6 +228,7 @@ end-may = record {
   answers = ([], refl);
   parts = refl;
   asked = λ e. cc;
+  after_reset = λ there was. cc;
   block = λ e. cc;
   not_reset = refl;
   not_ended = λ e. cc;
@@ -213,3 +239,68 @@ end-may = record {
 
 pub one-call : IsLawful (Written (headers_frame 1 true true (130 ∷ [])) ∷ sent)
 one-call = (end-may, (data-may, (head-may, (first-may, tt))))
+
+-- ---- another: a Reset comes inside of a header block, of which the rest is written, and then RST_STREAM
+
+abbrev half : List Step
+half = Written (headers_frame 5 false false (130 ∷ [])) ∷ Taken (order.Open 5 tt) ∷ begun
+
+abbrev cut : List Step
+cut = Taken (order.Reset 5 Cancel true) ∷ half
+
+abbrev rest : List Step
+rest = Written (continuation_frame 5 true (131 ∷ [])) ∷ cut
+
+half-may : MayWrite (Taken (order.Open 5 tt) ∷ begun) (headers_frame 5 false false (130 ∷ []))
+half-may = record {
+  first = λ e. cc;
+  windows = λ e. cc;
+  content = λ e. cc;
+  answers = ([], refl);
+  parts = refl;
+  asked = λ e. cc;
+  after_reset = λ there was. cc;
+  block = λ e. cc;
+  not_reset = refl;
+  not_ended = λ e. cc;
+  goes_on = refl;
+  credit = calm (Taken (order.Open 5 tt) ∷ begun) (headers_frame 5 false false (130 ∷ [])) refl refl;
+  update = λ e. cc;
+}
+
+rest-may : MayWrite cut (continuation_frame 5 true (131 ∷ []))
+rest-may = record {
+  first = λ e. cc;
+  windows = λ e. cc;
+  content = λ e. cc;
+  answers = ([], refl);
+  parts = refl;
+  asked = λ e. cc;
+  after_reset = λ there was. inr refl;
+  block = (refl, refl);
+  not_reset = refl;
+  not_ended = λ e. cc;
+  goes_on = refl;
+  credit = calm cut (continuation_frame 5 true (131 ∷ [])) refl refl;
+  update = λ e. cc;
+}
+
+reset-may : MayWrite rest (reset_frame 5 Cancel)
+reset-may = record {
+  first = λ e. cc;
+  windows = λ e. cc;
+  content = λ e. cc;
+  answers = ([], refl);
+  parts = refl;
+  asked = λ e. (Cancel, inl (refl, refl), refl);
+  after_reset = λ there was. inl refl;
+  block = λ e. cc;
+  not_reset = refl;
+  not_ended = λ e. cc;
+  goes_on = refl;
+  credit = calm rest (reset_frame 5 Cancel) refl refl;
+  update = λ e. cc;
+}
+
+pub one-reset : IsLawful (Written (reset_frame 5 Cancel) ∷ rest)
+one-reset = (reset-may, (rest-may, (half-may, (first-may, tt))))

@@ -11,6 +11,7 @@ pub mod Fronts
 pub mod TellSteps
 pub mod TellStepsOwn
 pub mod EndsKept
+pub mod HeedSteps
 pub mod RunStateSteps
 pub mod Others
 pub mod Progresses

@@ -11,7 +11,8 @@ use Rattle.outwriter.specs.declared.out_core.OutCore.{OutCore}
 use Rattle.outwriter.specs.declared.stream.OpenStream.{OpenStream}
 use Rattle.h2frame.specs.declared.frame.Frame.{Frame}
 use Rattle.outwriter.specs.Cores.{calls, lanes, AreStuck, IsStuck, IsQuiet, HasNoFrame, Ended, WasReset, Stuck, HaveNoFrame}
-use Rattle.outwriter.specs.Calls.{is_served, was_reset}
+use Rattle.outwriter.specs.Calls.{is_served}
+use Rattle.outwriter.specs.Runs.{was_reset}
 use Rattle.outwriter.specs.Histories.{is_stream}
 use Rattle.outwriter.specs.Parts.{Mark}
 use Rattle.outwriter.specs.CallState.{Serves}

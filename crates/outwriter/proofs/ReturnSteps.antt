@@ -11,18 +11,19 @@ use Rattle.callbox.specs.declared.sender.Sender.{Sender}
 use Rattle.outwriter.specs.declared.out_core.OutCore.{OutCore}
 use Rattle.outwriter.specs.declared.outbound.Outbound.{Outbound}
 use Rattle.outwriter.specs.declared.stream.OpenStream.{OpenStream}
-use Rattle.outwriter.specs.Calls.{is_fresh, is_served, was_reset, IsReturned}
+use Rattle.outwriter.specs.Calls.{is_fresh, is_served, IsReturned}
 use Rattle.outwriter.specs.Histories.{is_over}
 use Rattle.outwriter.specs.Cores.{Serving, ServesOn, calls}
 use Rattle.outwriter.specs.Parts.{Mark, marks_on, spelled, IsPart, IsFrontOf}
 use Rattle.outwriter.specs.CallState.{IsEnded, IsExact, Serves, bytes_marks}
 use Rattle.outwriter.specs.Releases.{PlaceIs, with_place, IsAt, MovedTo, Releases, HasEnded}
-use Rattle.outwriter.specs.Runs.{granted_by}
+use Rattle.outwriter.specs.Runs.{granted_by, was_reset}
 use Rattle.outwriter.specs.RunState.{MirrorsOf, GoesOn}
 use Rattle.outwriter.specs.Steps.{Step, Returned}
 use Rattle.outwriter.specs.StreamLooks.{Shown, shown, shows}
 use Rattle.outwriter.specs.ToldByNow.{SpellsOf}
 use Rattle.outwriter.proofs.CallSteps.{all-due}
+use Rattle.outwriter.proofs.EndsKept.{heeds-kept}
 use Rattle.outwriter.proofs.RunStateSteps.{same-block}
 use Rattle.outwriter.proofs.ServeSteps.{none-some, some-none, none-shown, from_some}
 use Rattle.outwriter.proofs.TellSteps.{spells-same}
@@ -41,6 +42,8 @@ mirrors-returned run o id items m = record {
   not_reset = m.not_reset;
   credits = λ k. omega (arith, m.credits k, sum_by-cons (granted_by k) (Returned id items) run);
   silent = m.silent;
+  hushed = m.hushed;
+  resets = m.resets;
   no_stream_0 = m.no_stream_0;
 }
 
@@ -51,7 +54,7 @@ goes-returned o new id items same run reached =
 -- nothing more is told
 spells-returned : (run : List Step) (o : Outbound) (marks : List (ℕ × Mark)) (id : ℕ) (items : List OutItem) → SpellsOf run o marks → SpellsOf (Returned id items ∷ run) o marks
 spells-returned run o marks id items spells =
-    (spells.0, spells-same run (Returned id items ∷ run) o.block o.block o.encoder o.encoder marks (λ table told t. t) refl refl (λ table e. e) spells.1)
+    (spells.0, spells-same run (Returned id items ∷ run) o.block o.block o.encoder o.encoder marks (λ table told t. t) refl refl refl (λ table e. e) (λ least. least) spells.1)
 
 -- ---- lists
 
@@ -331,7 +334,7 @@ module _ {L In Out Shut : Type 0} (got : Out → List OutItem) where
           m.0,
           serves-returned run old.outbound old.streams.entries new.streams.entries old.others.entries (calls got old.senders.items) (calls got new.senders.items) m.0
               place moved id items t moved_is f is none m.1,
-          m.2,
+          heeds-kept run old.outbound old.outbound old.streams.entries new.streams.entries old.others.entries (λ k there e. e) (λ k. (refl, refl)) f.closed m.2,
         );
       })
     where

@@ -1,6 +1,7 @@
 -- What is kept follows from a run of one more step.
-use Rattle.std.proofs.Common.{◌≡◌, ℕ, ◌+◌, ◌≤◌, inr, refl, sym, ap, subst, ◌∙◌, Bool, true, List, [], ◌∷◌, ◌++◌, Option, Some, None, arith, append-nil, append_assoc}
-use Rattle.std.specs.Prelude.{IfSome, All, flat_map}
+use Rattle.std.proofs.Common.{◌≡◌, ℕ, ◌+◌, ◌≤◌, ◌==◌, inr, refl, sym, ap, subst, ◌∙◌, Bool, true, false, List, [], ◌∷◌, ◌++◌, Option, Some, None, arith, append-nil, append_assoc}
+use Rattle.std.specs.Prelude.{IfSome, All, flat_map, ◌||◌, ◌&&◌}
+use Rattle.std.proofs.lemmas.Bool.{eqb-true}
 use Rattle.std.proofs.lemmas.Grind.{flat_map-append}
 use Rattle.std.proofs.lemmas.List.Elements.{All-append, All-tail, All-weaker}
 use Rattle.std.proofs.lemmas.List.Sums.{sum_by-cons}
@@ -10,13 +11,13 @@ use Rattle.h2frame.specs.declared.error_code.ErrorCode.{ErrorCode}
 use Rattle.h2frame.specs.declared.frame.Frame.{Frame}
 use Rattle.outwriter.specs.declared.blocks.HeaderBlock.{HeaderBlock}
 use Rattle.outwriter.specs.declared.control.Control.{Control}
-use Rattle.outwriter.specs.declared.control.Control.TheVariants.{Open}
+use Rattle.outwriter.specs.declared.control.Control.TheVariants.{Open, Reset}
 use Rattle.outwriter.specs.declared.due.Due.{Due}
 use Rattle.outwriter.specs.declared.outbound.Outbound.{Outbound}
-use Rattle.outwriter.specs.Credits.{Owed, owed_on}
-use Rattle.outwriter.specs.Histories.{Takes}
-use Rattle.outwriter.specs.RunState.{Mirrors, HasWindows, HasDue, HasBlock, HasSilence, AreAsked, Reached, GoesOn, Stays, duties_of, resets_of}
-use Rattle.outwriter.specs.Runs.{IsAsked, Fragments, unfinished, granted, granted_by, updated, due, due_by, told}
+use Rattle.outwriter.specs.Credits.{Owed, is_reset, owed_on, pays}
+use Rattle.outwriter.specs.Histories.{Takes, is_stream}
+use Rattle.outwriter.specs.RunState.{Mirrors, HasWindows, HasDue, HasBlock, HasResets, HasSilence, IsHushed, AreAsked, Reached, GoesOn, Stays, duties_of, resets_of}
+use Rattle.outwriter.specs.Runs.{IsAsked, Fragments, unfinished, granted, granted_by, updated, due, due_by, told, resets_stream, was_reset}
 use Rattle.outwriter.specs.Steps.{Step, Order, Taken, order_of}
 use Rattle.outwriter.proofs.WindowRuns.{nothing-taken}
 
@@ -63,8 +64,8 @@ more-due order run waiting one e asked h =
 -- a control changes the windows and what is due, and nothing else
 pub taken : (order : Order) (run : List Step) (begun gone : Bool) (w windows : Windows) (over : List (ℕ × Bool)) (waiting after : List Due)
     (block : Option HeaderBlock) (owed : Owed) → Mirrors run begun gone w over waiting block owed → HasWindows (Taken order ∷ run) windows
-    → HasDue (Taken order ∷ run) after → Mirrors (Taken order ∷ run) begun gone windows over after block owed
-taken order run begun gone w windows over waiting after block owed m follow dues = record {
+    → HasDue (Taken order ∷ run) after → HasResets (Taken order ∷ run) owed → Mirrors (Taken order ∷ run) begun gone windows over after block owed
+taken order run begun gone w windows over waiting after block owed m follow dues resets = record {
   begins = m.begins;
   goes = m.goes;
   windows_follow = follow;
@@ -74,15 +75,18 @@ taken order run begun gone w windows over waiting after block owed m follow dues
   not_reset = m.not_reset;
   credits = λ id. omega (arith, m.credits id, sum_by-cons (granted_by id) (Taken order) run);
   silent = m.silent;
+  hushed = m.hushed;
+  resets = resets;
   no_stream_0 = m.no_stream_0;
 }
 
 -- an Open, which leaves what is owed, and what is silent
 pub open-led : (id : ℕ) (run : List Step) (begun gone : Bool) (w windows : Windows) (over : List (ℕ × Bool)) (waiting : List Due) (block : Option HeaderBlock)
     (owed left : Owed) → ((other : ℕ) → owed_on left other ≡ owed_on owed other) → (HasSilence over owed → HasSilence over left)
+    → (IsHushed owed → IsHushed left) → ((other : ℕ) → is_reset left other ≡ is_reset owed other)
     → HasWindows (Taken (Open id tt) ∷ run) windows → Mirrors run begun gone w over waiting block owed
     → Mirrors (Taken (Open id tt) ∷ run) begun gone windows over waiting block left
-open-led id run begun gone w windows over waiting block owed left same silent follow m =
+open-led id run begun gone w windows over waiting block owed left same silent hushed resets follow m =
     taken (Open id tt) run begun gone w windows over waiting waiting block left
     (record {
       begins = m.begins;
@@ -94,17 +98,51 @@ open-led id run begun gone w windows over waiting block owed left same silent fo
       not_reset = m.not_reset;
       credits = λ other. subst (λ n. updated other run + n ≤ granted other run) (sym (same other)) (m.credits other);
       silent = silent m.silent;
+      hushed = hushed m.hushed;
+      resets = λ other there. resets other ∙ m.resets other there;
       no_stream_0 = m.no_stream_0;
     })
-    follow (same-due (Open id tt) run waiting refl m.answers)
+    follow (same-due (Open id tt) run waiting refl m.answers) (λ other there. resets other ∙ m.resets other there)
+
+-- a Reset, after which less is owed, on fewer streams
+pub reset-led : (id : ℕ) (code : ErrorCode) (written : Bool) (run : List Step) (begun gone : Bool) (w windows : Windows) (over : List (ℕ × Bool)) (waiting after : List Due)
+    (block : Option HeaderBlock) (owed left : Owed) → ((k : ℕ) → owed_on left k ≤ owed_on owed k) → ((k : ℕ) → pays owed k ≡ false → pays left k ≡ false)
+    → (IsHushed owed → IsHushed left) → ((k : ℕ) → is_reset left k ≡ ((is_stream id && (k == id)) || is_reset owed k))
+    → HasWindows (Taken (Reset id code written) ∷ run) windows → HasDue (Taken (Reset id code written) ∷ run) after
+    → Mirrors run begun gone w over waiting block owed → Mirrors (Taken (Reset id code written) ∷ run) begun gone windows over after block left
+reset-led id code written run begun gone w windows over waiting after block owed left less silent hushed marks follow dues m = record {
+  begins = m.begins;
+  goes = m.goes;
+  windows_follow = follow;
+  is_over = m.is_over;
+  answers = dues;
+  goes_on = same-block run (Taken (Reset id code written) ∷ run) block refl m.goes_on;
+  not_reset = m.not_reset;
+  credits = λ k. omega (arith, m.credits k, less k, sum_by-cons (granted_by k) (Taken (Reset id code written)) run);
+  silent = λ k is. silent k (m.silent k is);
+  hushed = hushed m.hushed;
+  resets = λ k there. resets k there (k == id) refl;
+  no_stream_0 = m.no_stream_0;
+}
+  where
+    none : (b : Bool) (k : ℕ) → ((b && false) || is_reset owed k) ≡ is_reset owed k
+    none true k = refl
+    none false k = refl
+
+    resets : (k : ℕ) → is_stream k ≡ true → (b : Bool) → (k == id) ≡ b → is_reset left k ≡ was_reset k (Taken (Reset id code written) ∷ run)
+    resets k there true p = marks k ∙ ap (λ b. (b && (k == id)) || is_reset owed k) (ap is_stream (sym (eqb-true k id p)) ∙ there) ∙ ap (λ b. b || is_reset owed k) p
+        ∙ sym (ap (λ b. b || was_reset k run) p)
+    resets k there false p = marks k ∙ ap (λ b. (is_stream id && b) || is_reset owed k) p ∙ none (is_stream id) k ∙ m.resets k there ∙ sym (ap (λ b. b || was_reset k run) p)
 
 -- a control that obliges to nothing, and concerns no window
 pub quiet-led : {S : Type 0} (control given : Control S) (old mid : Outbound) → control ≡ given → due_by (order_of given) ≡ []
+    → ((id : ℕ) → resets_stream id (order_of given) ≡ false)
     → ((run : List Step) (history : List WindowStep) → Takes run history (order_of given) history) → Stays old mid → GoesOn (Taken (order_of control)) old mid
-quiet-led {S} control given old mid is none same stays run reached =
+quiet-led {S} control given old mid is none unreset same stays run reached =
     let m = stays run reached.0 in
     subst (λ (found : Control S). Reached (Taken (order_of found) ∷ run) mid) (sym is) (
-      taken (order_of given) run _ _ _ _ _ _ _ _ _ m (nothing-taken run (order_of given) mid.windows (same run) m.windows_follow) (same-due (order_of given) run mid.due.items none m.answers),
+      taken (order_of given) run _ _ _ _ _ _ _ _ _ m (nothing-taken run (order_of given) mid.windows (same run) m.windows_follow) (same-due (order_of given) run mid.due.items none m.answers)
+          (λ id there. m.resets id there ∙ sym (ap (λ b. b || was_reset id run) (unreset id))),
       reached.1,
     )
 
@@ -125,5 +163,7 @@ skipped run begun gone w over one waiting block owed none m =
       not_reset = m.not_reset;
       credits = m.credits;
       silent = m.silent;
+      hushed = m.hushed;
+      resets = m.resets;
       no_stream_0 = m.no_stream_0;
     }

@@ -10,7 +10,8 @@ use Rattle.outwriter.specs.declared.due.Due.{Due}
 use Rattle.outwriter.specs.declared.due.Due.TheVariants as due_kind
 use Rattle.outwriter.specs.declared.outbound.Outbound.{Outbound}
 use Rattle.outwriter.specs.declared.stream.OpenStream.{OpenStream}
-use Rattle.outwriter.specs.Calls.{is_fresh, is_served, was_reset}
+use Rattle.outwriter.specs.Calls.{is_fresh, is_served}
+use Rattle.outwriter.specs.Runs.{was_reset}
 use Rattle.outwriter.specs.Credits.{knows}
 use Rattle.outwriter.specs.Histories.{is_stream}
 use Rattle.outwriter.specs.Parts.{Mark, marks_on, on_stream, spelled}

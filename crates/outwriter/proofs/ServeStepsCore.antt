@@ -1,17 +1,19 @@
 -- The same of a core: one step after another.
-use Rattle.std.proofs.Common.{◌≡◌, sym, subst, ◌∙◌, true, false, List, [], ◌∷◌, ◌++◌, inl, inr, Option, Some, None, true≢false}
+use Rattle.std.specs.Map.{lookup}
+use Rattle.std.proofs.Common.{◌≡◌, refl, sym, ap, subst, ◌∙◌, nat_eq, true, false, List, [], ◌∷◌, ◌++◌, inl, inr, Option, Some, None, true≢false}
 use Rattle.account.specs.declared.call.OutItem.{OutItem}
 use Rattle.h2frame.specs.declared.frame.Frame.{Frame}
 use Rattle.outwriter.specs.declared.out_core.OutCore.{OutCore}
 use Rattle.outwriter.specs.declared.outbound.Outbound.{Outbound}
 use Rattle.outwriter.specs.Cores.{calls, ServesOn, ServesStill}
 use Rattle.outwriter.specs.Parts.{Reset, on_stream}
-use Rattle.outwriter.specs.StreamLooks.{SameHands, Holds, HoldsOn, KeepsFronts}
+use Rattle.outwriter.specs.StreamLooks.{shown, SameHands, Holds, HoldsOn, KeepsFronts}
 use Rattle.outwriter.specs.CallState.{Serves, Heeds, IsOwn, OwnOrRests}
 use Rattle.outwriter.specs.Steps.{Step, Written}
 use Rattle.outwriter.specs.ToldByNow.{block_marks}
-use Rattle.outwriter.proofs.EndsKept.{heeds-kept, own-ends, rests-ends}
+use Rattle.outwriter.proofs.EndsKept.{heeds-kept, heeds-own, own-ends, rests-ends}
 use Rattle.outwriter.proofs.Fronts.{fronts_of, returned_of, others_of}
+use Rattle.outwriter.proofs.ServeSteps.{none-shown}
 use Rattle.outwriter.proofs.ServeStepsOwn.{serves-hands, serves-rests, serves-plain, serves-reset, serves-refusal}
 
 module _ {L In Out Shut : Type 0} where
@@ -29,7 +31,10 @@ module _ {L In Out Shut : Type 0} where
         (subst (λ senders. Serves run old.outbound new.streams.entries new.others.entries (calls got senders.items) marks) (sym senders)
         (subst (λ others. Serves run old.outbound new.streams.entries others.entries (calls got old.senders.items) marks) (sym others)
         (serves-hands run old.outbound old.streams.entries new.streams.entries old.others.entries (calls got old.senders.items) marks hands s))),
-    subst (Heeds run) (sym outbound) heeds,
+    subst (λ (o : Outbound). Heeds run o new.streams.entries new.others.entries) (sym outbound)
+        (subst (λ others. Heeds run old.outbound new.streams.entries others.entries) (sym others)
+        (heeds-kept run old.outbound old.outbound old.streams.entries new.streams.entries old.others.entries (λ id there e. e) (λ id. (refl, refl))
+        (λ id none. none-shown (lookup (nat_eq id) new.streams.entries) (hands id ∙ ap shown none)) heeds)),
   )
 
   pub holds-after : (got : Out → List OutItem) (old mid new : OutCore L In Out Shut) (o : Option Frame) → HoldsOn got o old mid
@@ -43,18 +48,30 @@ module _ {L In Out Shut : Type 0} where
   -- a frame that is none of an open stream
   own-serves : (got : Out → List OutItem) (core : OutCore L In Out Shut) (after : Outbound) (frame : Frame) → IsOwn frame core.outbound after
       → (run : List Step) → Holds got run core → Holds got (Written frame ∷ run) (record core { outbound = after })
-  own-serves got core after frame (known, inl plain) run (marks, s, heeds) =
-      (marks ++ [], serves-plain run core.outbound after core.streams.entries core.others.entries (calls got core.senders.items) marks frame known plain s, heeds-kept run core.outbound after (own-ends frame core.outbound after (known, inl plain)) heeds)
-  own-serves got core after frame (known, inr (inl r)) run (marks, s, heeds) =
-      (marks ++ on_stream r.0 (Reset r.4.0 ∷ []), serves-reset run core.outbound after core.streams.entries core.others.entries (calls got core.senders.items) marks frame known r s, heeds-kept run core.outbound after (own-ends frame core.outbound after (known, inr (inl r))) heeds)
-  own-serves got core after frame (known, inr (inr r)) run (marks, s, heeds) =
-      (marks ++ block_marks r.0 r.1 true, serves-refusal run core.outbound after core.streams.entries core.others.entries (calls got core.senders.items) marks frame known r s, heeds-kept run core.outbound after (own-ends frame core.outbound after (known, inr (inr r))) heeds)
+  own-serves got core after frame (known, inl plain) run (marks, s, heeds) = (
+    marks ++ [],
+    serves-plain run core.outbound after core.streams.entries core.others.entries (calls got core.senders.items) marks frame (λ k. (known k).0) plain s,
+    heeds-own run core.outbound after core.streams.entries core.others.entries (own-ends frame core.outbound after (known, inl plain)) known heeds,
+  )
+  own-serves got core after frame (known, inr (inl r)) run (marks, s, heeds) = (
+    marks ++ on_stream r.0 (Reset r.4.0 ∷ []),
+    serves-reset run core.outbound after core.streams.entries core.others.entries (calls got core.senders.items) marks frame (λ k. (known k).0) r s,
+    heeds-own run core.outbound after core.streams.entries core.others.entries (own-ends frame core.outbound after (known, inr (inl r))) known heeds,
+  )
+  own-serves got core after frame (known, inr (inr r)) run (marks, s, heeds) = (
+    marks ++ block_marks r.0 r.1 true,
+    serves-refusal run core.outbound after core.streams.entries core.others.entries (calls got core.senders.items) marks frame (λ k. (known k).0) r s,
+    heeds-own run core.outbound after core.streams.entries core.others.entries (own-ends frame core.outbound after (known, inr (inr r))) known heeds,
+  )
 
   pub own-holds : (got : Out → List OutItem) (core : OutCore L In Out Shut) (after : Outbound) (o : Option Frame) → OwnOrRests o core.outbound after
       → HoldsOn got o core (record core { outbound = after })
   own-holds got core after (Some frame) own = own-serves got core after frame own
-  own-holds got core after None rests = λ run h.
-      (h.0, serves-rests run core.outbound after core.streams.entries core.others.entries (calls got core.senders.items) h.0 rests h.1, heeds-kept run core.outbound after (rests-ends core.outbound after rests) h.2)
+  own-holds got core after None rests = λ run h. (
+    h.0,
+    serves-rests run core.outbound after core.streams.entries core.others.entries (calls got core.senders.items) h.0 rests h.1,
+    heeds-own run core.outbound after core.streams.entries core.others.entries (rests-ends core.outbound after rests) rests.standing h.2,
+  )
 
   -- ---- what callers see
 

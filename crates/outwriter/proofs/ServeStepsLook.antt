@@ -18,16 +18,16 @@ use Rattle.outwriter.specs.declared.stream.Polled.{Polled}
 use Rattle.outwriter.specs.declared.stream.Polled.TheVariants as polled
 use Rattle.outwriter.specs.Calls.{is_served, TellFronts}
 use Rattle.outwriter.specs.Cores.{calls}
-use Rattle.outwriter.specs.Credits.{knows}
+use Rattle.outwriter.specs.Credits.{is_reset, knows}
 use Rattle.outwriter.specs.RunState.{Ends}
 use Rattle.outwriter.specs.Parts.{Mark, Byte, Fields, End, on_stream, spelled, marks_of_item, IsFrontOf, IsPart}
-use Rattle.outwriter.specs.StreamLooks.{Shown, shows, with_hand, one_more, HandIs, HandKeeps, Removes, TakesAt, TellsData, aheads, HoldsOn, KeepsFronts}
+use Rattle.outwriter.specs.StreamLooks.{Shown, shown, shows, with_hand, one_more, HandIs, HandKeeps, Removes, TakesAt, TellsData, aheads, HoldsOn, KeepsFronts}
 use Rattle.outwriter.specs.Polls.{block_item, GotNone}
 use Rattle.outwriter.specs.CallState.{Heeds, bytes_marks, Serves}
 use Rattle.outwriter.specs.Steps.{Step, Written}
 use Rattle.outwriter.specs.ToldByNow.{SpellsOf, TellsMore, TellsBlock, block_marks}
-use Rattle.outwriter.proofs.ServeSteps.{append-nil}
-use Rattle.outwriter.proofs.EndsKept.{heeds-kept, same-ends, block-ends}
+use Rattle.outwriter.proofs.ServeSteps.{append-nil, none-shown}
+use Rattle.outwriter.proofs.EndsKept.{KeepsEnds, heeds-kept, same-ends, block-ends}
 use Rattle.outwriter.proofs.Others.{later-none, later-written}
 use Rattle.outwriter.proofs.ServeStepsOpen.{Grows, grows-none, grows-one, goes-on, ends}
 use Rattle.outwriter.proofs.ServeStepsOwn.{serves-hands}
@@ -240,9 +240,49 @@ head-serves run o after streams middle left others calls now marks id place fiel
     spells due known (λ k. ap (λ (l : List (ℕ × Bool)). lookup (nat_eq k) l) over) view
     (λ k. removes k ∙ hand-then id place None None streams middle view none k) g refl s
 
+-- ---- no stream opens
+
+hand-closed : (id : ℕ) (hand : Option (List ℕ)) (streams left : List (ℕ × OpenStream)) → HandIs id hand streams left
+    → (k : ℕ) → lookup (nat_eq k) streams ≡ None → lookup (nat_eq k) left ≡ None
+hand-closed id hand streams left is k none = none-shown (lookup (nat_eq k) left) (is k ∙ by (k == id))
+  where
+    by : (b : Bool) → (if b then with_hand hand (shows streams k) else shows streams k) ≡ None
+    by true = ap (λ (o : Option OpenStream). with_hand hand (shown o)) none
+    by false = ap shown none
+
+keeps-closed : (id : ℕ) (bytes : List ℕ) (streams left : List (ℕ × OpenStream)) → HandKeeps id bytes streams left
+    → (k : ℕ) → lookup (nat_eq k) streams ≡ None → lookup (nat_eq k) left ≡ None
+keeps-closed id [] streams left same k none = none-shown (lookup (nat_eq k) left) (same k ∙ ap shown none)
+keeps-closed id (byte ∷ bytes) streams left is k none = hand-closed id (Some (byte ∷ bytes)) streams left is k none
+
+removes-closed : (id : ℕ) (ends_it : Bool) (streams left : List (ℕ × OpenStream)) → Removes id ends_it streams left
+    → (k : ℕ) → lookup (nat_eq k) streams ≡ None → lookup (nat_eq k) left ≡ None
+removes-closed id true streams left is k none = none-shown (lookup (nat_eq k) left) (is k ∙ by (k == id))
+  where
+    by : (b : Bool) → (if b then None else shows streams k) ≡ None
+    by true = refl
+    by false = ap shown none
+removes-closed id false streams left same k none = none-shown (lookup (nat_eq k) left) (same k ∙ ap shown none)
+
 -- ---- a core
 
 module _ {L In Out Shut : Type 0} where
+  -- Resets and Refuses are heeded still
+  heeds-look : (run : List Step) (old new : OutCore L In Out Shut) → KeepsEnds old.outbound new.outbound → new.outbound.credit ≡ old.outbound.credit → new.others ≡ old.others
+      → ((k : ℕ) → lookup (nat_eq k) old.streams.entries ≡ None → lookup (nat_eq k) new.streams.entries ≡ None)
+      → Heeds run old.outbound old.streams.entries old.others.entries → Heeds run new.outbound new.streams.entries new.others.entries
+  heeds-look run old new keeps credit others closed heeds =
+      subst (λ others. Heeds run new.outbound new.streams.entries others.entries) (sym others)
+      (heeds-kept run old.outbound new.outbound old.streams.entries new.streams.entries old.others.entries keeps
+      (λ k. (ap (λ owed. knows owed k) credit, ap (λ owed. is_reset owed k) credit)) closed heeds)
+
+  heeds-still : (run : List Step) (old new : OutCore L In Out Shut) → new.outbound ≡ old.outbound → new.others ≡ old.others
+      → ((k : ℕ) → lookup (nat_eq k) old.streams.entries ≡ None → lookup (nat_eq k) new.streams.entries ≡ None)
+      → Heeds run old.outbound old.streams.entries old.others.entries → Heeds run new.outbound new.streams.entries new.others.entries
+  heeds-still run old new same others closed heeds =
+      heeds-look run old new (same-ends old.outbound new.outbound (ap (λ (x : Outbound). x.due) same) (ap (λ (x : Outbound). x.credit) same) (ap (λ (x : Outbound). x.over) same))
+      (ap (λ (x : Outbound). x.credit) same) others closed heeds
+
   -- what was taken, and the encoder and the streams after it
   pub record Took (E : Type 0) (got ahead : Out → List OutItem) (old mid : OutCore L In Out Shut) (id : ℕ) (result : Result Polled E) : Type 0 where
     pub takes : TakesAt (shows old.streams.entries id) (calls got old.senders.items) (calls got mid.senders.items) (aheads ahead mid.senders.items)
@@ -264,7 +304,7 @@ module _ {L In Out Shut : Type 0} where
         all.0,
         subst (λ (o : Outbound). Serves run o mid.streams.entries mid.others.entries (calls got mid.senders.items) all.0) (sym same)
             (subst (λ others. Serves run old.outbound mid.streams.entries others.entries (calls got mid.senders.items) all.0) (sym took.others) all.1),
-        subst (Heeds run) (sym same) heeds,
+        heeds-still run old mid same took.others (hand-closed id None old.streams.entries mid.streams.entries took.hands) heeds,
       )
     where
       by : (k : ℕ) → with_hand None (shows old.streams.entries id) ≡ shows old.streams.entries id → (b : Bool) → (k == id) ≡ b
@@ -301,7 +341,9 @@ module _ {L In Out Shut : Type 0} where
             (subst (λ (x : Outbound). TellsMore frame (on_stream id (map Byte tells.0)) x new.outbound) same tells.4)
             (subst (λ (x : Outbound). new.outbound ≡ record x { windows = new.outbound.windows }) same tells.5) m.1)),
         let is : new.outbound ≡ record old.outbound { windows = new.outbound.windows } = subst (λ (x : Outbound). new.outbound ≡ record x { windows = new.outbound.windows }) same tells.5 in
-            heeds-kept run old.outbound new.outbound (same-ends old.outbound new.outbound (ap (λ (x : Outbound). x.due) is) (ap (λ (x : Outbound). x.over) is)) m.2,
+            heeds-look run old new (same-ends old.outbound new.outbound (ap (λ (x : Outbound). x.due) is) (ap (λ (x : Outbound). x.credit) is) (ap (λ (x : Outbound). x.over) is))
+            (ap (λ (x : Outbound). x.credit) is) (others_same ∙ took.others)
+            (λ k none. keeps-closed id tells.1 mid.streams.entries new.streams.entries tells.3 k (hand-closed id None old.streams.entries mid.streams.entries took.hands k none)) m.2,
       )
   look-data E got ahead old mid new id bytes result None took is tells senders others_same = λ run m.
       let t = subst (λ (p : Polled). TakesAt {E = E} (shows old.streams.entries id) (calls got old.senders.items) (calls got mid.senders.items) (aheads ahead mid.senders.items) old.outbound.encoder mid.outbound.encoder (Ok p)) is took.takes in
@@ -313,7 +355,8 @@ module _ {L In Out Shut : Type 0} where
             (subst (λ others. Serves run old.outbound new.streams.entries others.entries (calls got mid.senders.items) (m.0 ++ on_stream id [])) (sym (others_same ∙ took.others))
             (kept-serves run old.outbound old.streams.entries mid.streams.entries new.streams.entries old.others.entries
             (calls got old.senders.items) (calls got mid.senders.items) m.0 id found.0 found.1 found.2 bytes found.3 found.4 found.5 took.hands tells.0 m.1))),
-        subst (Heeds run) (sym (tells.1 ∙ same)) m.2,
+        heeds-still run old new (tells.1 ∙ same) (others_same ∙ took.others)
+            (λ k none. hand-closed id (Some bytes) mid.streams.entries new.streams.entries tells.0 k (hand-closed id None old.streams.entries mid.streams.entries took.hands k none)) m.2,
       )
 
   pub look-empty : (E : Type 0) (got ahead : Out → List OutItem) (old mid : OutCore L In Out Shut) (id : ℕ) (bytes : List ℕ) (result : Polled)
@@ -327,7 +370,7 @@ module _ {L In Out Shut : Type 0} where
             (subst (λ others. Serves run old.outbound mid.streams.entries others.entries (calls got mid.senders.items) (m.0 ++ on_stream id [])) (sym took.others)
             (empty-serves run old.outbound old.streams.entries mid.streams.entries old.others.entries
             (calls got old.senders.items) (calls got mid.senders.items) m.0 id found.0 found.1 found.2 bytes found.3 found.4 found.5 none took.hands m.1)),
-        subst (Heeds run) (sym same) m.2,
+        heeds-still run old mid same took.others (hand-closed id None old.streams.entries mid.streams.entries took.hands) m.2,
       )
 
   pub look-block : (E : Type 0) (got ahead : Out → List OutItem) (old mid fin : OutCore L In Out Shut) (after : Outbound) (id : ℕ) (bytes : List ℕ) (ends_it : Bool) (result : Polled) (frame : Frame)
@@ -352,6 +395,9 @@ module _ {L In Out Shut : Type 0} where
             (told run marks found.1 old.outbound.encoder s.spells.1 found.4)
             (ap (λ (x : Outbound). x.due.items) (sym rest)) (λ k. ap (λ (x : Outbound). knows x.credit k) rest)
             (subst (λ (x : Outbound). Ends x.over.entries id ends_it after.over.entries) same over) s)),
-        heeds-kept run old.outbound after
-            (block-ends old.outbound after id ends_it (ap (λ (x : Outbound). x.due) rest) (subst (λ (x : Outbound). Ends x.over.entries id ends_it after.over.entries) same over)) heeds,
+        heeds-look run old (record fin { outbound = after })
+            (block-ends old.outbound after id ends_it (ap (λ (x : Outbound). x.due) rest) (ap (λ (x : Outbound). x.credit) rest)
+            (subst (λ (x : Outbound). Ends x.over.entries id ends_it after.over.entries) same over))
+            (ap (λ (x : Outbound). x.credit) rest) (others_same ∙ took.others)
+            (λ k none. removes-closed id ends_it mid.streams.entries fin.streams.entries removes k (hand-closed id None old.streams.entries mid.streams.entries took.hands k none)) heeds,
       )

@@ -62,7 +62,7 @@ serves-hands run o streams left others calls marks hands s =
 pub serves-rests : (run : List Step) (o after : Outbound) (streams : List (ℕ × OpenStream)) (others : List (ℕ × Bool)) (calls : List (ℕ × List OutItem))
     (marks : List (ℕ × Mark)) → Rests o after → Serves run o streams others calls marks → Serves run after streams others calls marks
 serves-rests run o after streams others calls marks r s =
-    serves-same run run o after streams streams others calls marks marks (λ k. refl) (λ k. refl) (later-none run) (rests-tells o after r run marks s.spells) r.due.0 r.due.1 r.knows
+    serves-same run run o after streams streams others calls marks marks (λ k. refl) (λ k. refl) (later-none run) (rests-tells o after r run marks s.spells) r.due.0 r.due.1 (λ k. (r.standing k).0)
     (λ k. subst (λ over. lookup (nat_eq k) over.entries ≡ lookup (nat_eq k) o.over.entries) (sym r.over) refl) (λ k. refl) (λ k. refl) s
 
 pub serves-plain : (run : List Step) (o after : Outbound) (streams : List (ℕ × OpenStream)) (others : List (ℕ × Bool)) (calls : List (ℕ × List OutItem))

@@ -13,7 +13,8 @@ use Rattle.outwriter.specs.declared.stream.Polled.TheVariants as polled
 use Rattle.outwriter.specs.declared.stream.Looked.{Looked}
 use Rattle.outwriter.specs.declared.stream.Looked.TheVariants as looked
 use Rattle.outwriter.specs.Cores.{calls, IsStuck}
-use Rattle.outwriter.specs.Histories.{is_stream}
+use Rattle.outwriter.specs.CoreChanges.{may_write}
+use Rattle.outwriter.specs.Credits.{is_reset}
 use Rattle.outwriter.specs.StreamLooks.{Shown, shown, shows, with_hand, HandIs, TakesAt, SameAhead, TellsData, aheads, Holds, HoldsOn, StuckAt, GetsStuck, LeavesStuck, LooksAt, frame_in}
 use Rattle.outwriter.specs.Steps.{Step}
 use Rattle.outwriter.proofs.ServeSteps.{shown-some, from_some, none-some}
@@ -64,12 +65,14 @@ module _ {L In Out Shut : Type 0} where
       by None v same_all = ap (λ (l : List (List OutItem)). get_or l stream.place []) same_all
       by (Some x) v same_but = same_but stream.place (apart x v)
 
-  -- a stream that is over, or none
-  pub stuck-over : (got ahead : Out → List OutItem) (core : OutCore L In Out Shut) (id : ℕ) (may : Bool) → may ≡ false
-      → may ≡ (is_stream id && not (is_some (lookup (nat_eq id) core.outbound.over.entries))) → GetsStuck got ahead id core core
+  -- a stream that is over or was reset, or none
+  pub stuck-over : (got ahead : Out → List OutItem) (core : OutCore L In Out Shut) (id : ℕ) (may : Bool) → may ≡ false → may ≡ may_write core.outbound id → GetsStuck got ahead id core core
   stuck-over got ahead core id may denied is run (marks, s, heeds) = (
-    λ stream e. absurd (true≢false (sym (ap (λ b. b && not (is_some (lookup (nat_eq id) core.outbound.over.entries))) (s.numbered id stream e)
-        ∙ ap (λ (o : Option Bool). not (is_some o)) (s.not_over id stream e)) ∙ sym is ∙ denied)),
+    λ stream e.
+        let unreset : is_reset core.outbound.credit id ≡ false = heeds.1 id (s.numbered id stream e) ∙ heeds.2 id (ap is_some e) in
+        absurd (true≢false (sym (ap (λ b. (b && not (is_some (lookup (nat_eq id) core.outbound.over.entries))) && not (is_reset core.outbound.credit id)) (s.numbered id stream e)
+        ∙ ap (λ (o : Option Bool). not (is_some o) && not (is_reset core.outbound.credit id)) (s.not_over id stream e)
+        ∙ ap (λ b. not b) unreset) ∙ sym is ∙ denied)),
     λ k ne stuck. stuck,
   )
 

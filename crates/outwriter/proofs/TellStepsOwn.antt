@@ -12,13 +12,23 @@ use Rattle.outwriter.specs.declared.blocks.HeaderBlock.{HeaderBlock}
 use Rattle.outwriter.specs.declared.due.Due.{Due}
 use Rattle.outwriter.specs.declared.due.Due.TheVariants as due_kind
 use Rattle.outwriter.specs.declared.outbound.Outbound.{Outbound}
-use Rattle.outwriter.specs.Credits.{knows}
+use Rattle.outwriter.specs.CoreChanges.{may_write}
+use Rattle.outwriter.specs.Credits.{is_reset, knows}
 use Rattle.outwriter.specs.Histories.{is_stream}
 use Rattle.outwriter.specs.RunState.{Sets, Ends}
 use Rattle.outwriter.specs.Parts.{Mark}
 use Rattle.outwriter.specs.CallState.{AreOver, Rests, IsOwn, OwnOrRests, is_due_of}
-use Rattle.outwriter.specs.ToldByNow.{Spells, SpellsOf, KeepsTelling, TellsMore, TellsBlock, OwnByDue, block_marks}
+use Rattle.outwriter.specs.ToldByNow.{SameStanding, Spells, SpellsOf, KeepsTelling, TellsMore, TellsBlock, OwnByDue, block_marks}
+use Rattle.outwriter.proofs.EndsKept.{dues-same}
 use Rattle.outwriter.proofs.TellSteps.{rests-tells}
+
+-- how the streams stand, by one step behind another
+standing-then : (old mid new : Outbound) → SameStanding old mid → SameStanding mid new → SameStanding old new
+standing-then old mid new a b id = ((b id).0 ∙ (a id).0, (b id).1 ∙ (a id).1)
+
+-- and where what is owed is the same
+standing-same : (old new : Outbound) → new.credit ≡ old.credit → SameStanding old new
+standing-same old new e id = (ap (λ owed. knows owed id) e, ap (λ owed. is_reset owed id) e)
 
 -- ---- after steps that drop what was due at most
 
@@ -26,14 +36,15 @@ rests-due : (old mid new : List Due) (front more : List Due) → old ≡ front +
 rests-due old mid new front more a b = a ∙ ap (λ (xs : List Due). front ++ xs) b ∙ sym (append_assoc front more new)
 
 -- what was dropped here and then had ended before
-more-over : (old mid : Outbound) (front more : List Due) → mid.over ≡ old.over → AreOver old front → AreOver mid more → AreOver old (front ++ more)
-more-over old mid front more same a b id there e =
-    by (list_any (is_due_of id) front) refl
+more-over : (old mid : Outbound) (front more : List Due) → mid.over ≡ old.over → SameStanding old mid → AreOver old front → AreOver mid more → AreOver old (front ++ more)
+more-over old mid front more same standing a b id there e =
+    by (list_any (is_due_of old.credit id) front) refl
   where
-    by : (d : Bool) → list_any (is_due_of id) front ≡ d → is_some (lookup (nat_eq id) old.over.entries) ≡ true
+    by : (d : Bool) → list_any (is_due_of old.credit id) front ≡ d → is_some (lookup (nat_eq id) old.over.entries) ≡ true
     by true p = a id there p
     by false p = sym (ap (λ over. is_some (lookup (nat_eq id) over.entries)) same)
-        ∙ b id there (sym (list_any-append (is_due_of id) front more ∙ ap (λ d. d || list_any (is_due_of id) more) p) ∙ e)
+        ∙ b id there (dues-same old.credit mid.credit id (standing id).1 more
+        ∙ sym (list_any-append (is_due_of old.credit id) front more ∙ ap (λ d. d || list_any (is_due_of old.credit id) more) p) ∙ e)
 
 pub none-over : (o : Outbound) → AreOver o []
 none-over o id there e = absurd (true≢false (sym e))
@@ -43,9 +54,9 @@ rests-rests old mid new a b = record {
   due = (
     a.due.0 ++ b.due.0,
     rests-due old.due.items mid.due.items new.due.items a.due.0 b.due.0 a.due.1 b.due.1,
-    more-over old mid a.due.0 b.due.0 a.over a.due.2 b.due.2,
+    more-over old mid a.due.0 b.due.0 a.over a.standing a.due.2 b.due.2,
   );
-  knows = λ id. b.knows id ∙ a.knows id;
+  standing = standing-then old mid new a.standing b.standing;
   over = b.over ∙ a.over;
   begun = b.begun ∙ a.begun;
   block = b.block ∙ a.block;
@@ -60,19 +71,19 @@ still-open old mid id e none = sym (ap (λ over. lookup (nat_eq id) over.entries
 
 pub rests-own : (old mid new : Outbound) (frame : Frame) → Rests old mid → IsOwn frame mid new → IsOwn frame old new
 rests-own old mid new frame rests (known, inl (tells, over, (front, due, dropped))) = (
-  λ id. known id ∙ rests.knows id,
+  standing-then old mid new rests.standing known,
   inl (
     more-after frame [] old mid new (rests-tells old mid rests) tells,
     over ∙ rests.over,
     (
       rests.due.0 ++ front,
       rests-due old.due.items mid.due.items new.due.items rests.due.0 front rests.due.1 due,
-      more-over old mid rests.due.0 front rests.over rests.due.2 dropped,
+      more-over old mid rests.due.0 front rests.over rests.standing rests.due.2 dropped,
     ),
   ),
 )
 rests-own old mid new frame rests (known, inr (inl (id, code, front, due, tells, none, sets, dropped))) = (
-  λ k. known k ∙ rests.knows k,
+  standing-then old mid new rests.standing known,
   inr (inl (
     id,
     code,
@@ -81,11 +92,11 @@ rests-own old mid new frame rests (known, inr (inl (id, code, front, due, tells,
     (tells.0, more-after frame _ old mid new (rests-tells old mid rests) tells.1),
     still-open old mid id rests.over none,
     subst (λ over. Sets over.entries id true new.over.entries) rests.over sets,
-    more-over old mid rests.due.0 front rests.over rests.due.2 dropped,
+    more-over old mid rests.due.0 front rests.over rests.standing rests.due.2 dropped,
   )),
 )
 rests-own old mid new frame rests (known, inr (inr (id, fields, front, due, tells, none, sets, dropped))) = (
-  λ k. known k ∙ rests.knows k,
+  standing-then old mid new rests.standing known,
   inr (inr (
     id,
     fields,
@@ -94,7 +105,7 @@ rests-own old mid new frame rests (known, inr (inr (id, fields, front, due, tell
     more-after frame (block_marks id fields true) old mid new (rests-tells old mid rests) tells,
     still-open old mid id rests.over none,
     subst (λ over. Sets over.entries id false new.over.entries) rests.over sets,
-    more-over old mid rests.due.0 front rests.over rests.due.2 dropped,
+    more-over old mid rests.due.0 front rests.over rests.standing rests.due.2 dropped,
   )),
 )
 
@@ -107,7 +118,7 @@ rests-either old mid new (Some frame) rests own = rests-own old mid new frame re
 pub dropped-rests : (mid popped : Outbound) (one : Due) → mid.due.items ≡ one ∷ popped.due.items → popped ≡ record mid { due = popped.due } → AreOver mid (one ∷ []) → Rests mid popped
 dropped-rests mid popped one first is over = record {
   due = (one ∷ [], first, over);
-  knows = λ id. ap (λ (o : Outbound). knows o.credit id) is;
+  standing = standing-same mid popped (ap (λ (o : Outbound). o.credit) is);
   over = ap (λ (o : Outbound). o.over) is;
   begun = ap (λ (o : Outbound). o.begun) is;
   block = ap (λ (o : Outbound). o.block) is;
@@ -131,7 +142,7 @@ due-own mid popped new (due_kind.Goaway last code) frame first is ((same, known)
     rests-own mid popped new frame (dropped-rests mid popped (due_kind.Goaway last code) first is (λ id there e. absurd (true≢false (sym e))))
     (known, inl (tells, over, ([], ap (λ due. due.items) (sym same), none-over popped)))
 due-own mid popped new (due_kind.Reset id code) frame first is ((same, known), (tells, (none, sets))) = (
-  λ k. known k ∙ ap (λ (o : Outbound). knows o.credit k) is,
+  standing-then mid popped new (standing-same mid popped (ap (λ (o : Outbound). o.credit) is)) known,
   inr (inl (
     id,
     code,
@@ -144,7 +155,7 @@ due-own mid popped new (due_kind.Reset id code) frame first is ((same, known), (
   )),
 )
 due-own mid popped new (due_kind.Refuse id fields) frame first is ((same, known), (tells, (none, sets))) = (
-  λ k. known k ∙ ap (λ (o : Outbound). knows o.credit k) is,
+  standing-then mid popped new (standing-same mid popped (ap (λ (o : Outbound). o.credit) is)) known,
   inr (inr (
     id,
     fields,
@@ -163,7 +174,7 @@ due-first old mid popped new one frame rests first is own = rests-own old mid ne
 
 -- an end that isn't due any more, since its stream is over
 pub not-ending : (o : Outbound) (at : ℕ) (may : Bool) (one : Due) → may ≡ false → may ≡ (is_stream at && not (is_some (lookup (nat_eq at) o.over.entries)))
-    → ((id : ℕ) → list_any (is_due_of id) (one ∷ []) ≡ ((id == at) || false)) → AreOver o (one ∷ [])
+    → ((id : ℕ) → list_any (is_due_of o.credit id) (one ∷ []) ≡ ((id == at) || false)) → AreOver o (one ∷ [])
 not-ending o at may one denied is here id there e = by (id == at) refl
   where
     was : (b : Bool) → not b ≡ false → b ≡ true
@@ -178,6 +189,24 @@ not-ending o at may one denied is here id there e = by (id == at) refl
         (ap (λ b. b && not (is_some (lookup (nat_eq at) o.over.entries))) (sym (ap is_stream (sym same) ∙ there)) ∙ sym is ∙ denied)
     by false p = absurd (true≢false (sym e ∙ here id ∙ ap (λ b. b || false) p))
 
+-- or was reset
+pub not-refused : (o : Outbound) (at : ℕ) (fields : List Field) (may : Bool) → may ≡ false → may ≡ may_write o at → AreOver o (due_kind.Refuse at fields ∷ [])
+not-refused o at fields may denied is id there e = by (id == at) (is_reset o.credit at) refl refl
+  where
+    over : (b r : Bool) → r ≡ false → ((true && not b) && not r) ≡ false → b ≡ true
+    over true r f g = refl
+    over false true f g = absurd (true≢false f)
+    over false false f g = absurd (true≢false g)
+
+    by : (b r : Bool) → (id == at) ≡ b → is_reset o.credit at ≡ r → is_some (lookup (nat_eq id) o.over.entries) ≡ true
+    by false r p q = absurd (true≢false (sym e ∙ ap (λ b. (b && not (is_reset o.credit at)) || false) p))
+    by true true p q = absurd (true≢false (sym e ∙ ap (λ b. (b && not (is_reset o.credit at)) || false) p ∙ ap (λ b. not b || false) q))
+    by true false p q =
+        let same : id ≡ at = eqb-true id at p in
+        ap (λ n. is_some (lookup (nat_eq n) o.over.entries)) same
+        ∙ over (is_some (lookup (nat_eq at) o.over.entries)) (is_reset o.credit at) q
+        (ap (λ b. (b && not (is_some (lookup (nat_eq at) o.over.entries))) && not (is_reset o.credit at)) (sym (ap is_stream (sym same) ∙ there)) ∙ sym is ∙ denied)
+
 -- ---- a refusal
 
 pub refusal-own : {E : Type 0} (id : ℕ) (fields : List Field) (bytes : List ℕ) (result : Result Frame E) (old mid new : Outbound)
@@ -187,7 +216,7 @@ pub refusal-own : {E : Type 0} (id : ℕ) (fields : List Field) (bytes : List �
     → IfOk result (λ frame. OwnByDue (due_kind.Refuse id fields) frame old new)
 refusal-own id fields bytes (Err e) old mid new is none writes tells sets rest = tt
 refusal-own id fields bytes (Ok frame) old mid new is none writes tells sets rest = (
-  (ap (λ (o : Outbound). o.due) rest ∙ ap (λ (o : Outbound). o.due) is, λ k. ap (λ (o : Outbound). knows o.credit k) rest ∙ ap (λ (o : Outbound). knows o.credit k) is),
+  (ap (λ (o : Outbound). o.due) rest ∙ ap (λ (o : Outbound). o.due) is, standing-same old new (ap (λ (o : Outbound). o.credit) rest ∙ ap (λ (o : Outbound). o.credit) is)),
   (
     λ run marks spells. tells run marks fields old.encoder
         (subst (λ (b : Option HeaderBlock). Spells run b old.encoder marks) (sym (ap (λ (o : Outbound). o.block) is)) spells.1) writes,

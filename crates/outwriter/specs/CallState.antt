@@ -1,5 +1,5 @@
 -- What a writer keeps of its calls follows from its run.
-use Rattle.std.specs.Prelude.{◌≡◌, ◌≢◌, ◌⊎◌, ◌||◌, ℕ, ◌==◌, ◌<◌, Bool, true, false, All, List, [], ◌∷◌, ◌++◌, map, length, get_or, Option, None, Some, is_some, nat_eq}
+use Rattle.std.specs.Prelude.{◌≡◌, ◌≢◌, ◌⊎◌, ◌||◌, ◌&&◌, not, ℕ, ◌==◌, ◌<◌, Bool, true, false, All, List, [], ◌∷◌, ◌++◌, map, length, get_or, Option, None, Some, is_some, nat_eq}
 use Rattle.std.specs.List.{list_any}
 use Rattle.std.specs.Map.{lookup}
 use Rattle.account.specs.Accounts.{Begins}
@@ -11,13 +11,15 @@ use Rattle.outwriter.specs.declared.due.Due.{Due}
 use Rattle.outwriter.specs.declared.due.Due.TheVariants as due_kind
 use Rattle.outwriter.specs.declared.outbound.Outbound.{Outbound}
 use Rattle.outwriter.specs.declared.stream.OpenStream.{OpenStream}
-use Rattle.outwriter.specs.Calls.{is_fresh, is_served, is_opened, is_called_off, is_dropped, was_reset, IsRefused, IsOther, IsReturned}
-use Rattle.outwriter.specs.Credits.{knows}
+use Rattle.outwriter.specs.Calls.{is_fresh, is_served, is_opened, is_called_off, is_dropped, IsRefused, IsOther, IsReturned}
+use Rattle.outwriter.specs.Runs.{was_reset}
+use Rattle.outwriter.specs.Credits.{Owed, is_reset, knows}
 use Rattle.outwriter.specs.Histories.{is_stream}
-use Rattle.outwriter.specs.RunState.{Sets}
+use Rattle.outwriter.specs.RunState.{Sets, HasResets}
 use Rattle.outwriter.specs.Parts.{Mark, Byte, marks_on, spelled, IsFrontOf}
 use Rattle.outwriter.specs.Steps.{Step}
-use Rattle.outwriter.specs.ToldByNow.{SpellsOf, KeepsTable, TellsMore, TellsReset, block_marks}
+use Rattle.outwriter.specs.TableLimits.{limited_by}
+use Rattle.outwriter.specs.ToldByNow.{SpellsOf, SameStanding, TellsMore, TellsReset, block_marks}
 
 -- ---- one stream
 
@@ -49,23 +51,35 @@ MayBeDue run o streams others _ = Unit {0}
 
 -- ---- how streams end
 
--- the end of a stream, as it is due
-abbrev pub is_due_of : ℕ → Due → Bool
-is_due_of id (due_kind.Reset stream code) = id == stream
-is_due_of id (due_kind.Refuse stream fields) = id == stream
-is_due_of id _ = false
+-- the end of a stream, as it is due: a Refuse of one that was reset isn't written any more
+abbrev pub is_due_of : Owed → ℕ → Due → Bool
+is_due_of owed id (due_kind.Reset stream code) = id == stream
+is_due_of owed id (due_kind.Refuse stream fields) = (id == stream) && not (is_reset owed stream)
+is_due_of owed id _ = false
 
 -- a stream's end was written, or is due
 abbrev pub IsEnding : ℕ → Outbound → Type 0
-IsEnding id o = (is_some (lookup (nat_eq id) o.over.entries) ≡ true) ⊎ (list_any (is_due_of id) o.due.items ≡ true)
+IsEnding id o = (is_some (lookup (nat_eq id) o.over.entries) ≡ true) ⊎ (list_any (is_due_of o.credit id) o.due.items ≡ true)
 
 -- so it is of each stream that was called off, unless it was dropped
-abbrev pub Heeds : List Step → Outbound → Type 0
-Heeds run o = (id : ℕ) → is_stream id ≡ true → is_called_off id run ≡ true → IsEnding id o ⊎ (is_dropped id run ≡ true)
+abbrev pub HeedsEnds : List Step → Outbound → Type 0
+HeedsEnds run o = (id : ℕ) → is_stream id ≡ true → is_called_off id run ≡ true → IsEnding id o ⊎ (is_dropped id run ≡ true)
+
+-- an open stream wasn't reset
+abbrev pub HeedsOpen : List Step → List (ℕ × OpenStream) → Type 0
+HeedsOpen run streams = (id : ℕ) → is_some (lookup (nat_eq id) streams) ≡ true → was_reset id run ≡ false
+
+-- one that was is a call's, or among the others
+abbrev pub HeedsHeard : List Step → Outbound → List (ℕ × Bool) → Type 0
+HeedsHeard run o others = (id : ℕ) → is_stream id ≡ true → was_reset id run ≡ true → (is_some (lookup (nat_eq id) others) || knows o.credit id) ≡ true
+
+-- the Resets and Refuses of a run are heeded
+abbrev pub Heeds : List Step → Outbound → List (ℕ × OpenStream) → List (ℕ × Bool) → Type 0
+Heeds run o streams others = HeedsEnds run o × HasResets run o.credit × HeedsOpen run streams × HeedsHeard run o others
 
 -- the ends that were due here were written before
 abbrev pub AreOver : Outbound → List Due → Type 0
-AreOver o dues = (id : ℕ) → is_stream id ≡ true → list_any (is_due_of id) dues ≡ true → is_some (lookup (nat_eq id) o.over.entries) ≡ true
+AreOver o dues = (id : ℕ) → is_stream id ≡ true → list_any (is_due_of o.credit id) dues ≡ true → is_some (lookup (nat_eq id) o.over.entries) ≡ true
 
 -- a stream was called off or dropped
 abbrev pub has_reason : ℕ → List Step → Bool
@@ -116,15 +130,16 @@ pub record Serves (run : List Step) (o : Outbound) (streams : List (ℕ × OpenS
 
 -- ---- what an Outbound's calls change of it
 
--- these were put behind what was due, and these streams are a call's now; the streams that are over, the first frame, the header block and
--- the encoder's table are the same
-pub record Takes (more : List Due) (is_new : ℕ → Bool) (old new : Outbound) : Type 0 where
+-- these were put behind what was due, these streams are a call's now, and these limits of the header table were told to the encoder; the streams
+-- that are over, those that were reset, the first frame and the header block are the same
+pub record Takes (more : List Due) (is_new : ℕ → Bool) (limits : List ℕ) (old new : Outbound) : Type 0 where
   pub due : new.due.items ≡ old.due.items ++ more
   pub knows : (id : ℕ) → knows new.credit id ≡ (is_new id || knows old.credit id)
+  pub resets : (id : ℕ) → is_reset new.credit id ≡ is_reset old.credit id
   pub over : new.over ≡ old.over
   pub begun : new.begun ≡ old.begun
   pub block : new.block ≡ old.block
-  pub table : KeepsTable old.encoder new.encoder
+  pub encoder : new.encoder ≡ limited_by old.encoder limits
 
 abbrev pub none_is_new : ℕ → Bool
 none_is_new id = false
@@ -145,12 +160,12 @@ IsRefusal frame old new = (id : ℕ) × (fields : List Field) × (front : List D
 
 -- a frame that is none of an open stream
 abbrev pub IsOwn : Frame → Outbound → Outbound → Type 0
-IsOwn frame old new = ((id : ℕ) → knows new.credit id ≡ knows old.credit id) × (IsPlain frame old new ⊎ (IsReset frame old new ⊎ IsRefusal frame old new))
+IsOwn frame old new = SameStanding old new × (IsPlain frame old new ⊎ (IsReset frame old new ⊎ IsRefusal frame old new))
 
 -- no frame: what was due is dropped at most
 pub record Rests (old new : Outbound) : Type 0 where
   pub due : (front : List Due) × (old.due.items ≡ front ++ new.due.items) × AreOver old front
-  pub knows : (id : ℕ) → knows new.credit id ≡ knows old.credit id
+  pub standing : SameStanding old new
   pub over : new.over ≡ old.over
   pub begun : new.begun ≡ old.begun
   pub block : new.block ≡ old.block

@@ -35,18 +35,6 @@ is_served id (Granted stream n ∷ before) = is_served id before
 is_served id (Returned stream items ∷ before) = is_served id before
 is_served id (Written frame ∷ before) = is_served id before
 
-abbrev pub resets_stream : ℕ → Order → Bool
-resets_stream id (order.Reset stream code written) = id == stream
-resets_stream id _ = false
-
--- a Reset of the stream was taken, whether or not it is to be written
-abbrev pub was_reset : ℕ → List Step → Bool
-was_reset id [] = false
-was_reset id (Taken order ∷ before) = resets_stream id order || was_reset id before
-was_reset id (Granted stream n ∷ before) = was_reset id before
-was_reset id (Returned stream items ∷ before) = was_reset id before
-was_reset id (Written frame ∷ before) = was_reset id before
-
 -- Of each call, its stream and the items that its sender gave: what the stream's frames tell begins what the items spell, or is a
 -- front of that with a reset behind it.
 abbrev pub TellFronts : List Step → List (ℕ × List OutItem) → Type 0

@@ -15,12 +15,12 @@ use Rattle.outwriter.specs.declared.next.Next.TheVariants as next
 use Rattle.outwriter.specs.declared.out_core.OutCore.{OutCore}
 use Rattle.outwriter.specs.declared.outbound.Outbound.{Outbound}
 use Rattle.outwriter.specs.declared.stream.OpenStream.{OpenStream}
-use Rattle.outwriter.specs.Calls.{TellEnds, TellFronts, TellReturned, TellOthers, is_closed, is_served, was_reset}
+use Rattle.outwriter.specs.Calls.{TellEnds, TellFronts, TellReturned, TellOthers, is_closed, is_served}
 use Rattle.h2frame.specs.declared.error_code.ErrorCode.{ErrorCode}
 use Rattle.outwriter.specs.Frames.{goaway_frame}
 use Rattle.outwriter.specs.Histories.{is_stream, is_over}
 use Rattle.outwriter.specs.RunState.{Reached}
-use Rattle.outwriter.specs.Runs.{MayWrite}
+use Rattle.outwriter.specs.Runs.{MayWrite, was_reset}
 use Rattle.outwriter.specs.Parts.{Mark}
 use Rattle.outwriter.specs.CallState.{Serves, Heeds}
 use Rattle.outwriter.specs.Steps.{Step, Taken, Written, order_of}
@@ -65,7 +65,7 @@ module _ {L In Out Shut : Type 0} where
     pub others : TellOthers run
     pub closed : is_closed run ≡ core.closed
     pub serves : core.is_dead ≡ false
-        → (marks : List (ℕ × Mark)) × Serves run core.outbound core.streams.entries core.others.entries (calls got core.senders.items) marks × Heeds run core.outbound
+        → (marks : List (ℕ × Mark)) × Serves run core.outbound core.streams.entries core.others.entries (calls got core.senders.items) marks × Heeds run core.outbound core.streams.entries core.others.entries
 
   -- whatever run led to the core before, with this step it leads to the core after
   abbrev pub ServesOn : (Out → List OutItem) → Step → OutCore L In Out Shut → OutCore L In Out Shut → Type 0

@@ -1,13 +1,15 @@
 -- The credit that is owed to the peer (RFC 9113, section 6.9).
 use Rattle.std.specs.Prelude.{◌≡◌, ◌≢◌, ℕ, ◌+◌, ◌<◌, ◌≤◌, ◌^◌, ◌==◌, min, not, nat_eq, Bool, true, false, List, [], length, get_or, All, Option, None, Some, is_some, if◌then◌else◌}
+use Rattle.std.specs.List.{list_any}
 use Rattle.std.specs.Map.{lookup}
 use Rattle.indexmap.specs.IndexMap.{set_value_at}
 use Rattle.flow.specs.declared.TheConstants.{MAX_WINDOW}
 
--- what is owed on the connection, and on the stream of each call. None is owed on one that was reset
+-- what is owed on the connection, and on the stream of each call; and the streams that were reset, on which none is owed
 pub record Owed : Type 0 where
   pub connection : ℕ
   pub streams : List (ℕ × Option ℕ)
+  pub resets : List ℕ
 
 abbrev pub number_of : Option (Option ℕ) → ℕ
 number_of (Some (Some n)) = n
@@ -31,33 +33,39 @@ pays owed id = if id == 0 then true else is_paid (lookup (nat_eq id) owed.stream
 abbrev pub knows : Owed → ℕ → Bool
 knows owed id = is_some (lookup (nat_eq id) owed.streams)
 
+-- it was reset, whether or not it is a call's
+abbrev pub is_reset : Owed → ℕ → Bool
+is_reset owed id = list_any (nat_eq id) owed.resets
+
 abbrev pub nothing_owed : Owed
-nothing_owed = record { connection = 0; streams = [] }
+nothing_owed = record { connection = 0; streams = []; resets = [] }
 
 -- n more, of which at most 2^31 - 1 at once
 abbrev pub more : ℕ → ℕ → ℕ
 more owed n = min (owed + n) MAX_WINDOW
 
--- the same streams are known, and the same of them may be owed something
+-- the same streams are known, the same of them may be owed something, and the same were reset
 abbrev pub SameStreams : Owed → Owed → Type 0
-SameStreams old new = (id : ℕ) → (knows new id ≡ knows old id) × (pays new id ≡ pays old id)
+SameStreams old new = (id : ℕ) → (knows new id ≡ knows old id) × (pays new id ≡ pays old id) × (is_reset new id ≡ is_reset old id)
 
--- a call begins
+-- a call begins, on whose stream credit may be owed unless it is silent
 abbrev pub Opens : Owed → ℕ → Bool → Owed → Type 0
-Opens old id is_reset new = (other : ℕ) → (owed_on new other ≡ owed_on old other)
+Opens old id is_silent new = (other : ℕ) → (owed_on new other ≡ owed_on old other)
     × (knows new other ≡ (if other == id then true else knows old other))
-    × (pays new other ≡ (if other == id then not is_reset else pays old other))
+    × (pays new other ≡ (if other == id then not is_silent else pays old other))
+    × (is_reset new other ≡ is_reset old other)
 
 -- n bytes more are owed on a stream that may be owed something
 abbrev pub Grants : Owed → ℕ → ℕ → Owed → Type 0
 Grants old id n new = SameStreams old new
     × ((other : ℕ) → owed_on new other ≡ (if other == id then (if pays old id then more (owed_on old id) n else 0) else owed_on old other))
 
--- nothing is owed on a stream any more
-abbrev pub Forgets : Owed → ℕ → Owed → Type 0
-Forgets old id new = (other : ℕ) → (knows new other ≡ knows old other)
+-- a stream is reset, and nothing is owed on it any more
+abbrev pub Resets : Owed → ℕ → Owed → Type 0
+Resets old id new = (other : ℕ) → (knows new other ≡ knows old other)
     × (owed_on new other ≡ (if other == id then 0 else owed_on old other))
     × (pays new other ≡ (if other == id then false else pays old other))
+    × (is_reset new other ≡ (if other == id then true else is_reset old other))
 
 -- all that is owed on a stream is taken, or nothing is owed at all
 abbrev pub TakesAll : Owed → Option (ℕ × ℕ) → Owed → Type 0

@@ -18,7 +18,7 @@ use Rattle.outwriter.specs.Histories.{window_sizes, table_sizes, spending_of, cl
 use Rattle.outwriter.specs.Parts.{Byte, Fields, End, Reset, spelled, plain_marks, completed, marks_on, on_stream}
 use Rattle.outwriter.specs.Runs.{IsAsked, due, told, told_by, unfinished, granted, updated}
 use Rattle.outwriter.specs.Steps.{Step, Taken, Granted, Written}
-use Rattle.outwriter.specs.TableLimits.{limited_by}
+use Rattle.outwriter.specs.TableLimits.{least_begun, least_table, limited_by}
 
 -- SETTINGS of 12 bytes: 3 is 64, and 6 is 16,384
 pub first_bytes : spelling first_settings ≡ 0 ∷ 0 ∷ 12 ∷ 4 ∷ 0 ∷ 0 ∷ 0 ∷ 0 ∷ 0 ∷ 0 ∷ 3 ∷ 0 ∷ 0 ∷ 0 ∷ 64 ∷ 0 ∷ 6 ∷ 0 ∷ 0 ∷ 64 ∷ 0 ∷ []
@@ -108,6 +108,13 @@ whole = refl
 
 pub none_left : unfinished (Written (continuation_frame 5 true (3 ∷ [])) ∷ half_a_block) ≡ None
 none_left = refl
+
+-- SETTINGS that come between its frames set the limit of the next block's table, and not of its own
+pub least_by_now : least_table (Taken (Settings (TableSize 9 ∷ TableSize 7 ∷ TableSize 8 ∷ [])) ∷ half_a_block) ≡ 7
+least_by_now = refl
+
+pub least_of_the_block : least_begun (Taken (Settings (TableSize 9 ∷ TableSize 7 ∷ TableSize 8 ∷ [])) ∷ half_a_block) ≡ 4096
+least_of_the_block = refl
 
 -- its stream is over as soon as END_STREAM is written
 pub over : is_over 5 half_a_block ≡ true

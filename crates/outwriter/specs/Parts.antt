@@ -1,7 +1,7 @@
 -- What the frames of one stream tell, and what the items of a response spell (RFC 9113, section 8.1).
 -- The part of a stream is a list of marks: a byte of DATA is one, a whole header block one, END_STREAM and RST_STREAM
 -- one each. So that DATA are joined, and that one part is a prefix of another, is said by plain lists.
-use Rattle.std.specs.Prelude.{◌≡◌, ℕ, ◌==◌, ◌⊎◌, Bool, true, false, List, [], ◌∷◌, ◌++◌, map, filter, flat_map, Option, None, Some, if◌then◌else◌}
+use Rattle.std.specs.Prelude.{◌≡◌, ◌≤◌, ℕ, ◌==◌, ◌⊎◌, Bool, true, false, List, [], ◌∷◌, ◌++◌, map, filter, flat_map, Option, None, Some, if◌then◌else◌}
 use Rattle.std.specs.Int.{from_be_bytes, w32}
 use Rattle.account.specs.Accounts.{Begins}
 use Rattle.account.specs.declared.call.OutItem.{OutItem}
@@ -15,6 +15,7 @@ use Rattle.hpack_codec.specs.Table.{Table, empty_table}
 use Rattle.outwriter.specs.Frames.{ends_stream, ends_block}
 use Rattle.outwriter.specs.Runs.{Fragments, fragments, unfinished}
 use Rattle.outwriter.specs.Steps.{Step, Taken, Granted, Written, Returned}
+use Rattle.outwriter.specs.TableLimits.{least_begun}
 
 -- a byte of DATA; a whole header block, as the fields that it stands for; the end of the stream; its reset, with the error's
 -- number
@@ -58,20 +59,21 @@ abbrev pub on_stream : ℕ → List Mark → List (ℕ × Mark)
 on_stream id marks = map (λ mark. (id, mark)) marks
 
 -- A frame adds to the marks of all streams: those of a header block, where it is whole now, are the fields that it stands for
--- over the table that all blocks before it left.
-abbrev pub Adds : Option Fragments → Frame → Table → List (ℕ × Mark) → Table → List (ℕ × Mark) → Type 0
-Adds (Some block) frame table marks next more =
-    (fields : List Field) × IsBlock table block.bytes fields next × (more ≡ marks ++ on_stream block.stream (Fields fields ∷ end_mark block.ends_it))
-Adds None frame table marks next more = (next ≡ table) × (more ≡ marks ++ on_stream frame.head.stream (plain_marks frame))
+-- over the table that all blocks before it left. The table that it leaves has at most this limit.
+abbrev pub Adds : Option Fragments → ℕ → Frame → Table → List (ℕ × Mark) → Table → List (ℕ × Mark) → Type 0
+Adds (Some block) limit frame table marks next more =
+    (fields : List Field) × IsBlock table block.bytes fields next × (next.limit ≤ limit) × (more ≡ marks ++ on_stream block.stream (Fields fields ∷ end_mark block.ends_it))
+Adds None limit frame table marks next more = (next ≡ table) × (more ≡ marks ++ on_stream frame.head.stream (plain_marks frame))
 
--- the run's frames leave this table, and tell these marks, each on its stream
+-- The run's frames leave this table, and tell these marks, each on its stream. After a header block the table's limit is at most the least that
+-- SETTINGS had set when the block was begun (RFC 7541, section 4.2).
 abbrev pub Tells : List Step → Table → List (ℕ × Mark) → Type 0
 Tells [] table marks = (table ≡ empty_table) × (marks ≡ [])
 Tells (Taken order ∷ before) table marks = Tells before table marks
 Tells (Granted id n ∷ before) table marks = Tells before table marks
 Tells (Returned id items ∷ before) table marks = Tells before table marks
 Tells (Written frame ∷ before) table marks =
-    (earlier : Table) × (fewer : List (ℕ × Mark)) × Tells before earlier fewer × Adds (completed before frame) frame earlier fewer table marks
+    (earlier : Table) × (fewer : List (ℕ × Mark)) × Tells before earlier fewer × Adds (completed before frame) (least_begun (Written frame ∷ before)) frame earlier fewer table marks
 
 -- the marks of one stream
 abbrev pub marks_on : ℕ → List (ℕ × Mark) → List Mark

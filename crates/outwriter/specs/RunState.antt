@@ -18,10 +18,10 @@ use Rattle.outwriter.specs.declared.next.Next.TheVariants as next
 use Rattle.outwriter.specs.declared.due.Due.{Due}
 use Rattle.outwriter.specs.declared.due.Due.TheVariants as due_kind
 use Rattle.outwriter.specs.declared.outbound.Outbound.{Outbound}
-use Rattle.outwriter.specs.Credits.{Owed, owed_on, pays}
+use Rattle.outwriter.specs.Credits.{Owed, owed_on, pays, is_reset}
 use Rattle.outwriter.specs.Frames.{is_last, resets, settings_ack, ping_ack, goaway_frame}
-use Rattle.outwriter.specs.Histories.{HasHistory, HasWindow, Overflows, window_sizes, is_over}
-use Rattle.outwriter.specs.Runs.{IsLawful, has_begun, IsAsked, due, told, unfinished, granted, updated, MayWrite}
+use Rattle.outwriter.specs.Histories.{HasHistory, HasWindow, Overflows, window_sizes, is_over, is_stream}
+use Rattle.outwriter.specs.Runs.{IsLawful, has_begun, IsAsked, due, told, unfinished, granted, updated, was_reset, MayWrite}
 use Rattle.outwriter.specs.Steps.{Step, Taken, Written, frames_of, order_of}
 
 -- the windows follow from the history of the run's
@@ -66,9 +66,17 @@ HasHead frames (Some block) = list_any (resets block.id) frames ≡ false
 abbrev pub HasCredit : List Step → Owed → Type 0
 HasCredit run owed = (id : ℕ) → updated id run + owed_on owed id ≤ granted id run
 
--- nothing is owed on a stream that was reset
+-- nothing is owed on a stream whose RST_STREAM was written
 abbrev pub HasSilence : List (ℕ × Bool) → Owed → Type 0
 HasSilence over owed = (id : ℕ) → lookup (nat_eq id) over ≡ Some true → pays owed id ≡ false
+
+-- nor on one that was reset
+abbrev pub IsHushed : Owed → Type 0
+IsHushed owed = (id : ℕ) → is_reset owed id ≡ true → pays owed id ≡ false
+
+-- those are the streams of which a Reset was taken
+abbrev pub HasResets : List Step → Owed → Type 0
+HasResets run owed = (id : ℕ) → is_stream id ≡ true → is_reset owed id ≡ was_reset id run
 
 -- ---- what a frame changes
 
@@ -106,6 +114,8 @@ pub record Mirrors (run : List Step) (begun gone : Bool) (windows : Windows) (ov
   pub not_reset : HasHead (frames_of run) block
   pub credits : HasCredit run owed
   pub silent : HasSilence over owed
+  pub hushed : IsHushed owed
+  pub resets : HasResets run owed
   pub no_stream_0 : lookup (nat_eq 0) over ≡ None
 
 abbrev pub MirrorsOf : List Step → Outbound → Type 0

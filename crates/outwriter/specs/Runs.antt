@@ -1,5 +1,5 @@
--- Which runs of a server's writer are lawful (RFC 9113, sections 3.4, 4.3, 5.1, 6.5, 6.7 to 6.10 and 8.1).
-use Rattle.std.specs.Prelude.{◌≡◌, ◌≢◌, ℕ, ◌+◌, ◌<◌, ◌≤◌, ◌⊎◌, ◌==◌, ◌&&◌, ◌^◌, Bool, true, false, List, [], ◌∷◌, ◌++◌, Option, None, Some, not, filter, sum_by, if◌then◌else◌}
+-- Which runs of a server's writer are lawful (RFC 9113, sections 3.4, 4.3, 5.1, 5.4.2, 6.4, 6.5, 6.7 to 6.10 and 8.1).
+use Rattle.std.specs.Prelude.{◌≡◌, ◌≢◌, ℕ, ◌+◌, ◌<◌, ◌≤◌, ◌⊎◌, ◌==◌, ◌&&◌, ◌||◌, ◌^◌, Bool, true, false, List, [], ◌∷◌, ◌++◌, Option, None, Some, not, filter, sum_by, if◌then◌else◌}
 use Rattle.std.specs.List.{list_any}
 use Rattle.std.specs.Option.{option_map}
 use Rattle.account.specs.Accounts.{Begins}
@@ -11,7 +11,7 @@ use Rattle.h2frame.specs.declared.kind.FrameKind.{FrameKind}
 use Rattle.h2frame.specs.declared.kind.FrameKind.TheVariants as kind
 use Rattle.outwriter.specs.declared.control.Control.TheVariants.{Settings, Ping, Reset, Goaway}
 use Rattle.outwriter.specs.Frames.{first_settings, settings_ack, ping_ack, reset_frame, goaway_frame, update_frame, ends_stream, ends_block, is_last, update_on, resets, ends}
-use Rattle.outwriter.specs.Histories.{HasHistory}
+use Rattle.outwriter.specs.Histories.{HasHistory, is_stream}
 use Rattle.outwriter.specs.Steps.{Step, Order, Taken, Granted, Written, Returned, frames_of}
 
 -- ---- what controls oblige to write
@@ -89,6 +89,22 @@ IsAsked id code (Granted stream n ∷ before) = IsAsked id code before
 IsAsked id code (Returned stream items ∷ before) = IsAsked id code before
 IsAsked id code (Written frame ∷ before) = IsAsked id code before
 
+abbrev pub resets_stream : ℕ → Order → Bool
+resets_stream id (Reset stream code written) = id == stream
+resets_stream id _ = false
+
+-- a Reset of the stream was taken, whether or not it is to be written: by this side, or by the peer's RST_STREAM
+abbrev pub was_reset : ℕ → List Step → Bool
+was_reset id [] = false
+was_reset id (Taken order ∷ before) = resets_stream id order || was_reset id before
+was_reset id (Granted stream n ∷ before) = was_reset id before
+was_reset id (Returned stream items ∷ before) = was_reset id before
+was_reset id (Written frame ∷ before) = was_reset id before
+
+-- then a stream has its RST_STREAM, and before it the rest of a header block that was begun (sections 5.1 and 5.4.2)
+abbrev pub MayFollowReset : FrameKind → Type 0
+MayFollowReset found = (found ≡ kind.RstStream) ⊎ (found ≡ kind.Continuation)
+
 -- ---- header blocks (section 4.3)
 
 -- a header block as far as it was written, and whether it ends its stream
@@ -159,6 +175,8 @@ pub record MayWrite (before : List Step) (frame : Frame) : Type 0 where
   pub parts : AreAmong (goaways (told before ++ told_by (has_begun (frames_of before)) frame)) (goaways (due before))
   -- a reset comes after the control that asks for it
   pub asked : frame.head.kind ≡ kind.RstStream → (code : ErrorCode) × IsAsked frame.head.stream code before × (frame ≡ reset_frame frame.head.stream code)
+  -- after a Reset nothing else comes on its stream
+  pub after_reset : is_stream frame.head.stream ≡ true → was_reset frame.head.stream before ≡ true → MayFollowReset frame.head.kind
   pub block : Continues (unfinished before) frame
   pub not_reset : list_any (resets frame.head.stream) (frames_of before) ≡ false
   pub not_ended : list_any (ends frame.head.stream) (frames_of before) ≡ true → MayFollowEnd frame.head.kind

@@ -1,5 +1,5 @@
 -- What a run has told by now, with the rest of a header block that is begun.
-use Rattle.std.specs.Prelude.{◌≡◌, ℕ, Bool, true, false, List, [], ◌∷◌, ◌++◌, Option, None, Some, IfSome, nat_eq}
+use Rattle.std.specs.Prelude.{◌≡◌, ◌≤◌, ℕ, Bool, true, false, List, [], ◌∷◌, ◌++◌, Option, None, Some, IfSome, nat_eq}
 use Rattle.std.specs.Map.{lookup}
 use Rattle.h2frame.specs.declared.frame.Frame.{Frame}
 use Rattle.lists.specs.declared.field.Field.{Field}
@@ -10,11 +10,12 @@ use Rattle.outwriter.specs.declared.blocks.HeaderBlock.{HeaderBlock}
 use Rattle.outwriter.specs.declared.due.Due.{Due}
 use Rattle.outwriter.specs.declared.due.Due.TheVariants as due_kind
 use Rattle.outwriter.specs.declared.outbound.Outbound.{Outbound}
-use Rattle.outwriter.specs.Credits.{knows}
+use Rattle.outwriter.specs.Credits.{is_reset, knows}
 use Rattle.outwriter.specs.RunState.{Sets}
 use Rattle.outwriter.specs.Parts.{Mark, Fields, Reset, end_mark, on_stream, Tells}
 use Rattle.outwriter.specs.Runs.{Fragments, unfinished}
 use Rattle.outwriter.specs.Steps.{Step, Written}
+use Rattle.outwriter.specs.TableLimits.{HasLeast, least_begun}
 
 -- the marks of a header block, on its stream
 abbrev pub block_marks : ℕ → List Field → Bool → List (ℕ × Mark)
@@ -24,24 +25,20 @@ block_marks id fields ends_it = on_stream id (Fields fields ∷ end_mark ends_it
 abbrev pub IsTableOf : Option Encoding → Table → Type 0
 IsTableOf kept table = IfSome kept (λ encoding. encoding.table ≡ table)
 
--- that table stays
-abbrev pub KeepsTable : Option Encoding → Option Encoding → Type 0
-KeepsTable old new = (table : Table) → IsTableOf old table → IsTableOf new table
-
 -- What a run has yet to tell of a header block that is begun: over the table that all blocks before it left, what was
--- written of it and the rest spell fields, and leave the encoder's table.
+-- written of it and the rest spell fields, and leave the encoder's table, whose limit is the least that was set when the block was begun.
 abbrev pub Owes : List Step → Option HeaderBlock → Option Encoding → Table → List (ℕ × Mark) → Type 0
 Owes run None kept table rest = IsTableOf kept table × (rest ≡ [])
 Owes run (Some block) kept table rest =
     (begun : Fragments) × (fields : List Field) × (next : Table)
     × (block.begun ≡ true) × (unfinished run ≡ Some begun) × (begun.stream ≡ block.id) × (begun.ends_it ≡ block.ends)
-    × IsBlock table (begun.bytes ++ block.rest) fields next × IsTableOf kept next × (rest ≡ block_marks block.id fields block.ends)
+    × IsBlock table (begun.bytes ++ block.rest) fields next × (next.limit ≤ least_begun run) × IsTableOf kept next × (rest ≡ block_marks block.id fields block.ends)
 
--- the run's frames tell these marks, once the header block that is begun is whole
+-- the run's frames tell these marks, once the header block that is begun is whole; and the encoder's next block sets the least limit by the run
 abbrev pub Spells : List Step → Option HeaderBlock → Option Encoding → List (ℕ × Mark) → Type 0
 Spells run block kept marks =
     (table : Table) × (told : List (ℕ × Mark)) × (rest : List (ℕ × Mark))
-    × Tells run table told × Owes run block kept table rest × (marks ≡ told ++ rest)
+    × Tells run table told × Owes run block kept table rest × (marks ≡ told ++ rest) × HasLeast run kept
 
 -- the same of what a writer keeps, which begins no header block before its first frame
 abbrev pub SpellsOf : List Step → Outbound → List (ℕ × Mark) → Type 0
@@ -70,9 +67,13 @@ TellsReset id frame old new = (code : ℕ) × TellsMore frame ((id, Reset code) 
 
 -- ---- frames that were due
 
--- what else is due is the same, and of which streams there are calls
+-- of the same streams there are calls, and the same were reset
+abbrev pub SameStanding : Outbound → Outbound → Type 0
+SameStanding old new = (id : ℕ) → (knows new.credit id ≡ knows old.credit id) × (is_reset new.credit id ≡ is_reset old.credit id)
+
+-- what else is due is the same, and how the streams stand
 abbrev pub KeepsDue : Outbound → Outbound → Type 0
-KeepsDue old new = (new.due ≡ old.due) × ((id : ℕ) → knows new.credit id ≡ knows old.credit id)
+KeepsDue old new = (new.due ≡ old.due) × SameStanding old new
 
 -- a stream is over, on which nothing was
 abbrev pub EndsOne : ℕ → Bool → Outbound → Outbound → Type 0

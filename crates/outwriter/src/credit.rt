@@ -1,12 +1,12 @@
-//! The credit that is owed to the peer (RFC 9113, section 6.9).
+//! The credit that is owed to the peer (RFC 9113, section 6.9), and the streams that were reset, on which none is.
 
 ghost use Rattle.std.specs.Prelude.{◌≡◌, ◌<◌, ◌≤◌, ◌^◌, ℕ, false, IfSome, OnOk, OnErr, length, nat_eq};
 ghost use Rattle.std.specs.Map.{lookup};
-ghost use Rattle.outwriter.specs.Credits.{nothing_owed, knows, more, Opens, Grants, Forgets, TakesAll, Adds, AllFit, IsSettledBut, IsSettledFrom, TakesAt, TakesLast};
+ghost use Rattle.outwriter.specs.Credits.{nothing_owed, knows, is_reset as was_reset, more, Opens, Grants, Resets, TakesAll, Adds, AllFit, IsSettledBut, IsSettledFrom, TakesAt, TakesLast};
 
 use flow::MAX_WINDOW;
 use h2frame::StreamId;
-use indexmap::IndexMap;
+use indexmap::{IndexMap, IndexSet};
 use std::alloc::{AllocError, Global};
 use std::marker::Model;
 
@@ -18,6 +18,8 @@ pub(crate) struct Credit {
     streams: IndexMap<StreamId, Option<u32>>,
     /// Nothing is owed on those from here on.
     owing: usize,
+    /// The streams that were reset, a call's or not.
+    resets: IndexSet<StreamId>,
 }
 
 impl Model for Credit {
@@ -25,7 +27,7 @@ impl Model for Credit {
 
     ghost Value = { Owed };
 
-    ghost view = { λ c. record { connection = c.connection; streams = c.streams.entries } };
+    ghost view = { λ c. record { connection = c.connection; streams = c.streams.entries; resets = c.resets.keys } };
 
     ghost invariant = { λ c. IsWithin c.connection c.streams.entries c.owing };
 }
@@ -39,6 +41,7 @@ impl Credit {
             connection: 0,
             streams: IndexMap::new(alloc),
             owing: 0,
+            resets: IndexSet::new(alloc),
         }
     }
 
@@ -49,15 +52,22 @@ impl Credit {
         self.streams.contains_key(&id)
     }
 
-    /// The stream of a call that begins.
-    pub(crate) fn open(&mut self, id: StreamId, is_reset: bool) -> Result<(), AllocError>
+    /// Whether it was reset.
+    pub(crate) fn is_reset(&self, id: StreamId) -> bool
+        ensures { result ≡ was_reset self.now id }
+    {
+        self.resets.contains(&id)
+    }
+
+    /// The stream of a call that begins. None is owed on a silent one.
+    pub(crate) fn open(&mut self, id: StreamId, is_silent: bool) -> Result<(), AllocError>
         requires stream { 0 < id }
         requires number { id < 2 ^ 31 }
         requires not_open { knows self.old id ≡ false }
-        ensures ok { OnOk result (Opens self.old id is_reset self.new) }
+        ensures ok { OnOk result (Opens self.old id is_silent self.new) }
         ensures unchanged { OnErr result (self.new ≡ self.old) }
     {
-        let first = if is_reset { None } else { Some(0) };
+        let first = if is_silent { None } else { Some(0) };
         match self.streams.insert(id, first) {
             Ok(_none) => Ok(()),
             Err(_refused) => Err(AllocError),
@@ -76,14 +86,19 @@ impl Credit {
         }
     }
 
-    /// Owes nothing on a stream, now and later.
-    pub(crate) fn forget(&mut self, id: StreamId)
+    /// A stream is reset: nothing is owed on it, now and later. Out of memory, nothing changes.
+    pub(crate) fn reset(&mut self, id: StreamId) -> Result<(), AllocError>
         requires { 0 < id }
-        ensures { Forgets self.old id self.new }
+        ensures ok { OnOk result (Resets self.old id self.new) }
+        ensures unchanged { OnErr result (self.new ≡ self.old) }
     {
+        if self.resets.insert(id).is_err() {
+            return Err(AllocError);
+        }
         if let Some(owed) = self.streams.get_mut(&id) {
             *owed = None;
         }
+        Ok(())
     }
 
     /// Takes all that is owed on the connection, or else on one of the streams.

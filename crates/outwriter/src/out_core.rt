@@ -7,7 +7,7 @@
 //! `control`: A dead core hands each control back, since nothing that it keeps is known to follow from its run; what
 //! was told of each call stays a prefix, so its senders can be brought back.
 
-ghost use Rattle.std.specs.Prelude.{◌≡◌, ◌<◌, ◌++◌, Bool, List, [], ◌∷◌, Some, None, Err, false, true, OnOk, OnErr, IfOk, IfErr, IfSome, nat_eq, map, length};
+ghost use Rattle.std.specs.Prelude.{◌≡◌, ◌<◌, ◌++◌, ◌==◌, ◌&&◌, ◌||◌, ℕ, List, [], ◌∷◌, Some, None, Err, false, true, OnOk, OnErr, IfOk, IfErr, IfSome, nat_eq, map, length};
 ghost use Rattle.std.specs.VecDeque.{deque_len, deque_capacity};
 ghost use Rattle.std.specs.Prelude.{vec_len, vec_capacity};
 ghost use Rattle.outwriter.specs.Cores.{calls, Serving, ServesOn, ServesControl, Brings, Parts};
@@ -16,16 +16,16 @@ ghost use Rattle.outwriter.specs.RunState.{Reached, GoesOn, Takes, Leads, Stays,
 ghost use Rattle.std.specs.Map.{lookup};
 ghost use Rattle.flow.specs.Windows.{room};
 ghost use Rattle.outwriter.specs.Calls.{TellFronts, TellReturned, TellOthers};
-ghost use Rattle.outwriter.specs.Credits.{Grants};
+ghost use Rattle.outwriter.specs.Credits.{Grants, is_reset, knows};
+ghost use Rattle.outwriter.specs.Histories.{is_stream as is_number};
 ghost use Rattle.h2frame.specs.Spelling.{IsWritable};
 ghost use Rattle.outwriter.specs.Frames.{goaway_frame};
 ghost use Rattle.outwriter.specs.Runs.{MayWrite};
-ghost use Rattle.outwriter.specs.CoreChanges.{KeepsServing, KeepsHeeds, Prepares, MayReset, WasClosed};
+ghost use Rattle.outwriter.specs.CoreChanges.{KeepsServing, KeepsHeeds, Prepares, Shuts, due_reset};
 ghost use Rattle.outwriter.specs.CallState.{none_is_new};
 ghost use Rattle.outwriter.specs.CallState.{Takes as KeepsCalls};
 ghost use Rattle.outwriter.specs.Steps.{Step, Taken, Granted};
 ghost use Rattle.outwriter.specs.TableLimits.{TakesLimits};
-ghost use Rattle.h2frame.specs.declared.error_code.ErrorCode.{ErrorCode as ErrorCodeOf};
 ghost use Rattle.outwriter.specs.declared.control.Control.TheVariants as order;
 
 use crate::control::{Control, OutFault};
@@ -242,7 +242,7 @@ impl<L: Lane<Item = OutItem>> OutCore<L> {
         ensures room { OnOk result (vec_len self.new.senders < vec_capacity self.new.senders) }
         ensures stays { OnErr result (Stays self.old.outbound self.new.outbound) }
         ensures call { OnOk result (Prepares id (length self.old.senders.items) self.old.outbound self.new.outbound self.old.others.entries self.old.streams.entries self.new.streams.entries) }
-        ensures none { OnErr result (KeepsCalls [] none_is_new self.old.outbound self.new.outbound) }
+        ensures none { OnErr result (KeepsCalls [] none_is_new [] self.old.outbound self.new.outbound) }
         ensures streams { OnErr result (self.new.streams.entries ≡ self.old.streams.entries) }
         ensures others { self.new.others.entries ≡ self.old.others.entries }
         ensures senders { self.new.senders.items ≡ self.old.senders.items }
@@ -254,9 +254,9 @@ impl<L: Lane<Item = OutItem>> OutCore<L> {
         self.ready.reserve(self.streams.len().saturating_add(1))?;
         self.streams.reserve(1)?;
         let is_new = is_stream(id) && !self.outbound.credit.has(id);
-        let other = self.others.get(&id).copied();
-        self.outbound.take_open(id, is_new, other == Some(true))?;
-        if is_new && other.is_none() {
+        let is_other = self.others.contains_key(&id);
+        self.outbound.take_open(id, is_new)?;
+        if is_new && !is_other {
             let stream = OpenStream {
                 place: self.senders.len(),
                 in_hand: None,
@@ -310,39 +310,37 @@ impl<L: Lane<Item = OutItem>> OutCore<L> {
         ensures alive { self.new.is_dead ≡ self.old.is_dead }
         ensures encoder { self.new.outbound.encoder ≡ self.old.outbound.encoder }
     {
-        match self.ends(id) {
-            Ok(was_open) => {
-                self.outbound.take_reset(id, code, written, was_open);
-                Ok(())
-            }
+        match self.ends(id, code, written) {
+            Ok(()) => Ok(()),
             Err(_e) => Err(OutFault::OutOfMemory(Some(Control::Reset { id, code, written }))),
         }
     }
 
-    /// Ends a stream by a reset, and answers whether it had neither ended nor been reset.
-    fn ends(&mut self, id: StreamId) -> Result<bool, AllocError>
-        ensures stays { Stays self.old.outbound self.new.outbound }
-        ensures due { self.new.outbound.due ≡ self.old.outbound.due }
-        ensures kept { KeepsCalls [] none_is_new self.old.outbound self.new.outbound }
-        ensures served { OnOk result ((code : ErrorCodeOf) (written : Bool) → KeepsServing L.got (Taken (order.Reset id code written) ∷ []) self.old self.new) }
-        ensures still { OnErr result (KeepsServing L.got [] self.old self.new) }
-        ensures was_open { IfOk result (λ was_open. MayReset L.got id was_open self.new) }
-        ensures was_closed { IfOk result (λ was_open. WasClosed L.got id was_open self.old) }
+    /// The same, if there is memory for it. The stream isn't open any more; if it is no call's, it is kept among the others.
+    fn ends(&mut self, id: StreamId, code: ErrorCode, written: bool) -> Result<(), AllocError>
+        requires room { deque_len self.old.outbound.due < deque_capacity self.old.outbound.due }
+        ensures taken { OnOk result (Leads (Taken (order.Reset id code written)) self.old.outbound self.new.outbound) }
+        ensures takes { OnOk result (KeepsCalls (due_reset self.old.outbound id code written) none_is_new [] (record self.old.outbound { credit = self.new.outbound.credit }) self.new.outbound) }
+        ensures marks { OnOk result ((k : ℕ) → (knows self.new.outbound.credit k ≡ knows self.old.outbound.credit k) × (is_reset self.new.outbound.credit k ≡ ((is_number id && (k == id)) || is_reset self.old.outbound.credit k))) }
+        ensures shuts { OnOk result (Shuts id self.old.outbound self.old.streams.entries self.new.streams.entries self.old.others.entries self.new.others.entries) }
+        ensures outbound { OnErr result (self.new.outbound ≡ self.old.outbound) }
+        ensures streams { OnErr result (self.new.streams.entries ≡ self.old.streams.entries) }
+        ensures others { OnErr result (self.new.others.entries ≡ self.old.others.entries) }
         ensures senders { self.new.senders.items ≡ self.old.senders.items }
         ensures closed { self.new.closed ≡ self.old.closed }
         ensures alive { self.new.is_dead ≡ self.old.is_dead }
         ensures encoder { self.new.outbound.encoder ≡ self.old.outbound.encoder }
     {
+        self.others.reserve(1)?;
+        self.outbound.take_reset(id, code, written)?;
         if !is_stream(id) {
-            return Ok(false);
+            return Ok(());
         }
         if self.outbound.credit.has(id) {
-            self.outbound.forget(id);
-            return Ok(self.streams.swap_remove(&id).is_some());
+            self.streams.swap_remove(&id);
+            return Ok(());
         }
-        match self.others.insert(id, true) {
-            Ok(before) => Ok(before.is_none()),
-            Err(_refused) => Err(AllocError),
-        }
+        let _ = self.others.insert(id, true);
+        Ok(())
     }
 }

@@ -8,11 +8,11 @@ ghost use Rattle.std.specs.Prelude.{Err, ◌==◌, ◌∷◌, if◌then◌else�
 ghost use Rattle.flow.specs.WindowHistory.{Follows, CanCredit, CanResize};
 ghost use Rattle.flow.specs.WindowHistory.{Step as WindowStep};
 ghost use Rattle.flow.specs.Windows.{balance};
-ghost use Rattle.outwriter.specs.Credits.{Grants, knows, owed_on, nothing_owed};
-ghost use Rattle.outwriter.specs.RunState.{HasOver, HasSilence};
-ghost use Rattle.outwriter.specs.Histories.{table_sizes};
+ghost use Rattle.outwriter.specs.Credits.{Grants, is_reset, knows, owed_on, nothing_owed, pays};
+ghost use Rattle.outwriter.specs.RunState.{HasOver, HasSilence, IsHushed};
+ghost use Rattle.outwriter.specs.Histories.{is_stream as is_number, table_sizes};
 ghost use Rattle.outwriter.specs.TableLimits.{limited_by};
-ghost use Rattle.outwriter.specs.ToldByNow.{KeepsTable, SpellsOf};
+ghost use Rattle.outwriter.specs.ToldByNow.{SpellsOf};
 ghost use Rattle.flow.specs.declared.send_windows.WindowFault.TheVariants as window_fault;
 
 use crate::blocks::HeaderBlock;
@@ -51,6 +51,7 @@ impl Outbound {
     ghost use Rattle.outwriter.specs.Histories.{opens, HasWindow, Overflows, window_sizes};
     ghost use Rattle.outwriter.specs.RunState.{IsBetween, MirrorsOf, Leads, Stays};
     ghost use Rattle.outwriter.specs.CallState.{Takes, none_is_new};
+    ghost use Rattle.outwriter.specs.CoreChanges.{due_reset};
     ghost use Rattle.outwriter.specs.declared.control.Control.TheVariants as order;
     ghost use Rattle.outwriter.specs.declared.due.Due.TheVariants as due_kind;
 
@@ -88,7 +89,7 @@ impl Outbound {
         ensures room { OnOk result (deque_len self.new.due < deque_capacity self.new.due) }
         ensures credit { self.new.credit ≡ self.old.credit }
         ensures windows { self.new.windows ≡ self.old.windows }
-        ensures takes { Takes [] none_is_new self.old self.new }
+        ensures takes { Takes [] none_is_new [] self.old self.new }
         ensures encoder { self.new.encoder ≡ self.old.encoder }
     {
         self.due.reserve(1)
@@ -99,7 +100,7 @@ impl Outbound {
     pub(crate) fn take_settings(&mut self, settings: &PeerSettings) -> Result<(), WindowFault>
         requires room { deque_len self.old.due < deque_capacity self.old.due }
         ensures taken { Leads (Taken (order.Settings settings.now)) self.old self.new }
-        ensures takes { Takes (due_kind.SettingsAck ∷ []) none_is_new self.old self.new }
+        ensures takes { Takes (due_kind.SettingsAck ∷ []) none_is_new (table_sizes settings.now) self.old self.new }
         ensures fits { OnOk result ((history : List WindowStep) → Follows history self.old.windows → All (CanResize history) (window_sizes settings.now)) }
         ensures over { OnErr result ((history : List WindowStep) → Follows history self.old.windows → ¬ All (CanResize history) (window_sizes settings.now)) }
         ensures limits { self.new.encoder ≡ limited_by self.old.encoder (table_sizes settings.now) }
@@ -113,7 +114,7 @@ impl Outbound {
     pub(crate) fn take_ping(&mut self, bytes: [u8; 8])
         requires room { deque_len self.old.due < deque_capacity self.old.due }
         ensures taken { Leads (Taken (order.Ping bytes)) self.old self.new }
-        ensures takes { Takes (due_kind.PingAck bytes ∷ []) none_is_new self.old self.new }
+        ensures takes { Takes (due_kind.PingAck bytes ∷ []) none_is_new [] self.old self.new }
         ensures encoder { self.new.encoder ≡ self.old.encoder }
     {
         self.due.push_back_reserved(Due::PingAck(bytes));
@@ -122,7 +123,7 @@ impl Outbound {
     /// Takes the peer's credit, and answers whether the window has room for it. A stream that isn't open is none to credit.
     pub(crate) fn take_window(&mut self, id: StreamId, increment: u32) -> bool
         ensures taken { Leads (Taken (order.Window id increment)) self.old self.new }
-        ensures takes { Takes [] none_is_new self.old self.new }
+        ensures takes { Takes [] none_is_new [] self.old self.new }
         ensures fits { result ≡ true → (history : List WindowStep) → Follows history self.old.windows → HasWindow history id → CanCredit history id increment }
         ensures over { result ≡ false → (history : List WindowStep) → Follows history self.old.windows → Overflows history id increment }
         ensures encoder { self.new.encoder ≡ self.old.encoder }
@@ -133,28 +134,23 @@ impl Outbound {
 
     /// Opens the window of a call's stream, unless it is open or over, and its credit, if the stream is new. Out of
     /// memory, it changes nothing.
-    pub(crate) fn take_open(
-        &mut self,
-        id: StreamId,
-        is_new: bool,
-        was_reset: bool,
-    ) -> Result<(), AllocError>
+    pub(crate) fn take_open(&mut self, id: StreamId, is_new: bool) -> Result<(), AllocError>
         requires new_stream { is_new ≡ true → 0 < id }
         requires number { is_new ≡ true → id < 2 ^ 31 }
         requires unknown { is_new ≡ true → knows self.old.credit id ≡ false }
         ensures taken { OnOk result (Leads (Taken (order.Open id tt)) self.old self.new) }
         ensures stays { OnErr result (Stays self.old self.new) }
-        ensures takes { OnOk result (Takes [] (λ other. is_new && (other == id)) self.old self.new) }
-        ensures takes_none { OnErr result (Takes [] none_is_new self.old self.new) }
+        ensures takes { OnOk result (Takes [] (λ other. is_new && (other == id)) [] self.old self.new) }
+        ensures takes_none { OnErr result (Takes [] none_is_new [] self.old self.new) }
         ensures encoder { self.new.encoder ≡ self.old.encoder }
     {
         if !self.opens(id) {
-            return open_credit(&mut self.credit, &self.over, id, is_new, was_reset);
+            return open_credit(&mut self.credit, &self.over, id, is_new);
         }
         let Ok(()) = self.windows.open(id) else {
             return Err(AllocError);
         };
-        match open_credit(&mut self.credit, &self.over, id, is_new, was_reset) {
+        match open_credit(&mut self.credit, &self.over, id, is_new) {
             Ok(()) => Ok(()),
             Err(e) => {
                 self.windows.close(id);
@@ -176,47 +172,41 @@ impl Outbound {
     pub(crate) fn take_refuse(&mut self, id: StreamId, fields: Sequence<Field>)
         requires room { deque_len self.old.due < deque_capacity self.old.due }
         ensures taken { Leads (Taken (order.Refuse id fields)) self.old self.new }
-        ensures takes { Takes (due_kind.Refuse id fields ∷ []) none_is_new self.old self.new }
+        ensures takes { Takes (due_kind.Refuse id fields ∷ []) none_is_new [] self.old self.new }
         ensures encoder { self.new.encoder ≡ self.old.encoder }
     {
         self.due.push_back_reserved(Due::Refuse(id, fields));
     }
 
-    /// Closes a stream's window, and owes RST_STREAM, where the Reset is to be written and its stream had neither ended nor been
-    /// reset.
+    /// Resets a stream: its window is closed, no credit is owed on it, and nothing is written on it any more but RST_STREAM, where the Reset
+    /// is to be written and the stream had neither ended nor been reset. Out of memory, it changes nothing.
     pub(crate) fn take_reset(
         &mut self,
         id: StreamId,
         code: ErrorCode,
         written: bool,
-        was_open: bool,
-    )
+    ) -> Result<(), AllocError>
         requires room { deque_len self.old.due < deque_capacity self.old.due }
-        ensures taken { Leads (Taken (order.Reset id code written)) self.old self.new }
-        ensures takes { Takes (if written && was_open then due_kind.Reset id code ∷ [] else []) none_is_new self.old self.new }
+        ensures taken { OnOk result (Leads (Taken (order.Reset id code written)) self.old self.new) }
+        ensures takes { OnOk result (Takes (due_reset self.old id code written) none_is_new [] (record self.old { credit = self.new.credit }) self.new) }
+        ensures marks { OnOk result ((k : ℕ) → (knows self.new.credit k ≡ knows self.old.credit k) × (is_reset self.new.credit k ≡ ((is_number id && (k == id)) || is_reset self.old.credit k))) }
+        ensures unchanged { OnErr result (self.new ≡ self.old) }
         ensures encoder { self.new.encoder ≡ self.old.encoder }
     {
+        let is_due = written && self.may_write(id);
+        reset_credit(&mut self.credit, id)?;
         self.windows.close(id);
-        if written && was_open {
+        if is_due {
             self.due.push_back_reserved(Due::Reset(id, code));
         }
-    }
-
-    /// Owes no more credit on a stream.
-    pub(crate) fn forget(&mut self, id: StreamId)
-        requires { 0 < id }
-        ensures stays { Stays self.old self.new }
-        ensures rest { self.new ≡ record self.old { credit = self.new.credit } }
-        ensures takes { Takes [] none_is_new self.old self.new }
-    {
-        self.credit.forget(id);
+        Ok(())
     }
 
     /// Owes n bytes more of credit.
     pub(crate) fn grant(&mut self, id: StreamId, n: u32)
         ensures granted { Leads (Granted id n) self.old self.new }
         ensures owes { Grants self.old.credit id n self.new.credit }
-        ensures takes { Takes [] none_is_new self.old self.new }
+        ensures takes { Takes [] none_is_new [] self.old self.new }
     {
         self.credit.grant(id, n);
     }
@@ -225,7 +215,7 @@ impl Outbound {
     pub(crate) fn take_goaway(&mut self, last: StreamId, code: ErrorCode)
         requires room { deque_len self.old.due < deque_capacity self.old.due }
         ensures taken { Leads (Taken (order.Goaway last code)) self.old self.new }
-        ensures takes { Takes (due_kind.Goaway last code ∷ []) none_is_new self.old self.new }
+        ensures takes { Takes (due_kind.Goaway last code ∷ []) none_is_new [] self.old self.new }
         ensures encoder { self.new.encoder ≡ self.old.encoder }
     {
         self.due.push_back_reserved(Due::Goaway(last, code));
@@ -259,27 +249,42 @@ fn open_credit(
     over: &IndexMap<StreamId, bool>,
     id: StreamId,
     is_new: bool,
-    was_reset: bool,
 ) -> Result<(), AllocError>
     requires new_stream { is_new ≡ true → 0 < id }
     requires number { is_new ≡ true → id < 2 ^ 31 }
     requires unknown { is_new ≡ true → knows credit.old id ≡ false }
     ensures owed { OnOk result ((other : ℕ) → owed_on credit.new other ≡ owed_on credit.old other) }
     ensures silent { OnOk result (HasSilence over.now.entries credit.old → HasSilence over.now.entries credit.new) }
+    ensures hushed { OnOk result (IsHushed credit.old → IsHushed credit.new) }
     ensures known { OnOk result ((other : ℕ) → knows credit.new other ≡ ((is_new && (other == id)) || knows credit.old other)) }
+    ensures resets { OnOk result ((other : ℕ) → is_reset credit.new other ≡ is_reset credit.old other) }
     ensures unchanged { OnErr result (credit.new ≡ credit.old) }
 {
     if !is_new {
         return Ok(());
     }
-    let is_silent = was_reset || over.get(&id).copied() == Some(true);
+    let is_silent = credit.is_reset(id) || over.get(&id).copied() == Some(true);
     credit.open(id, is_silent)
+}
+
+/// No more credit is owed on a stream that is reset.
+fn reset_credit(credit: &mut Credit, id: StreamId) -> Result<(), AllocError>
+    ensures owed { OnOk result ((k : ℕ) → owed_on credit.new k ≤ owed_on credit.old k) }
+    ensures silent { OnOk result ((k : ℕ) → pays credit.old k ≡ false → pays credit.new k ≡ false) }
+    ensures hushed { OnOk result (IsHushed credit.old → IsHushed credit.new) }
+    ensures known { OnOk result ((k : ℕ) → knows credit.new k ≡ knows credit.old k) }
+    ensures resets { OnOk result ((k : ℕ) → is_reset credit.new k ≡ ((is_number id && (k == id)) || is_reset credit.old k)) }
+    ensures unchanged { OnErr result (credit.new ≡ credit.old) }
+{
+    if !is_stream(id) {
+        return Ok(());
+    }
+    credit.reset(id)
 }
 
 /// Tells the encoder the limits that SETTINGS have for its table.
 fn limit_table(encoder: &mut Encoder, settings: &[PeerSetting])
-    ensures table { KeepsTable encoder.old encoder.new }
-    ensures limits { encoder.new ≡ limited_by encoder.old (table_sizes settings.now) }
+    ensures { encoder.new ≡ limited_by encoder.old (table_sizes settings.now) }
 {
     for setting in settings {
         if let PeerSetting::TableSize(limit) = *setting {

@@ -24,7 +24,8 @@ use std::alloc::AllocError;
 
 impl Outbound {
     ghost use Rattle.outwriter.specs.declared.due.Due.TheVariants as due_kind;
-    ghost use Rattle.outwriter.specs.Credits.{owed_on};
+    ghost use Rattle.outwriter.specs.CoreChanges.{may_write as may_write_on};
+    ghost use Rattle.outwriter.specs.Credits.{is_reset, owed_on};
     ghost use Rattle.outwriter.specs.Frames.{IsSound};
     ghost use Rattle.outwriter.specs.Steps.{Step};
     ghost use Rattle.outwriter.specs.Histories.{is_stream as is_number};
@@ -83,7 +84,7 @@ impl Outbound {
         Ok(Some(frame))
     }
 
-    /// The next frame that is due, if one is. A stream that is over isn't refused or reset any more.
+    /// The next frame that is due, if one is. A stream that is over isn't refused or reset any more, and one that was reset isn't refused.
     pub(crate) fn due_frame(&mut self) -> Result<Option<Frame>, AllocError>
         requires { IsBetween self.old }
         ensures sound { IfOk result (λ o. IfSome o IsSound) }
@@ -102,7 +103,7 @@ impl Outbound {
         Ok(None)
     }
 
-    /// The frame that is due, but for a stream that is over.
+    /// The frame that is due, but for a stream that is over, and for the refusal of one that was reset.
     fn frame_of_due(&mut self, due: Due) -> Result<Option<Frame>, AllocError>
         requires { IsBetween self.old }
         ensures sound { IfOk result (λ o. IfSome o IsSound) }
@@ -122,7 +123,7 @@ impl Outbound {
                 Ok(Some(self.reset_frame(id, code)?))
             }
             Due::Refuse(id, fields) => {
-                if !self.may_end(id) {
+                if !self.may_write(id) {
                     return Ok(None);
                 }
                 Ok(Some(self.refusal(id, fields)?))
@@ -167,15 +168,28 @@ impl Outbound {
         ensures number { result ≡ true → id < 2 ^ 31 }
         ensures stream { result ≡ true → 0 < id }
         ensures open { result ≡ true → lookup (nat_eq id) self.now.over.entries ≡ None }
+        ensures is { result ≡ true → is_number id ≡ true }
         ensures value { result ≡ (is_number id && not (is_some (lookup (nat_eq id) self.now.over.entries))) }
     {
         is_stream(id) && !self.over.contains_key(&id)
+    }
+
+    /// Whether it is a stream that neither is over nor was reset.
+    pub(crate) fn may_write(&self, id: StreamId) -> bool
+        ensures number { result ≡ true → id < 2 ^ 31 }
+        ensures stream { result ≡ true → 0 < id }
+        ensures open { result ≡ true → lookup (nat_eq id) self.now.over.entries ≡ None }
+        ensures unreset { result ≡ true → is_reset self.now.credit id ≡ false }
+        ensures value { result ≡ may_write_on self.now id }
+    {
+        self.may_end(id) && !self.credit.is_reset(id)
     }
 
     fn reset_frame(&mut self, id: StreamId, code: ErrorCode) -> Result<Frame, AllocError>
         requires between { IsBetween self.old }
         requires stream { 0 < id }
         requires number { id < 2 ^ 31 }
+        requires is { is_number id ≡ true }
         requires open { lookup (nat_eq id) self.old.over.entries ≡ None }
         ensures sound { IfOk result IsSound }
         ensures numbered { IfOk result (λ frame. frame.head.stream < 2 ^ 31) }
@@ -183,7 +197,6 @@ impl Outbound {
         ensures own { IfOk result (λ frame. OwnByDue (due_kind.Reset id code) frame self.old self.new) }
     {
         let frame = make_reset(self.alloc, id, code)?;
-        self.credit.forget(id);
         close(&mut self.windows, &mut self.over, id, true)?;
         Ok(frame)
     }
@@ -194,6 +207,7 @@ impl Outbound {
         requires stream { 0 < id }
         requires number { id < 2 ^ 31 }
         requires open { lookup (nat_eq id) self.old.over.entries ≡ None }
+        requires unreset { is_reset self.old.credit id ≡ false }
         ensures sound { IfOk result IsSound }
         ensures numbered { IfOk result (λ frame. frame.head.stream < 2 ^ 31) }
         ensures written { IfOk result (λ frame. WritesDue (due_kind.Refuse id fields) frame self.old self.new) }
@@ -231,6 +245,7 @@ impl Outbound {
         requires stream { 0 < id }
         requires number { id < 2 ^ 31 }
         requires open { lookup (nat_eq id) self.old.over.entries ≡ None }
+        requires unreset { is_reset self.old.credit id ≡ false }
         ensures sound { IfOk result IsSound }
         ensures numbered { IfOk result (λ frame. frame.head.stream < 2 ^ 31) }
         ensures written { IfOk result (λ frame. Heads frame self.old self.new) }
@@ -266,6 +281,7 @@ impl Outbound {
         requires between { IsBetween self.old }
         requires number { id < 2 ^ 31 }
         requires open { lookup (nat_eq id) self.old.over.entries ≡ None }
+        requires unreset { is_reset self.old.credit id ≡ false }
         requires some { 0 < length piece }
         requires payload { length piece ≤ 16384 }
         requires room { length piece ≤ room self.old.windows id }

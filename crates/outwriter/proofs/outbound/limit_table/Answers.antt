@@ -1,5 +1,4 @@
-use Rattle.std.proofs.Common.{◌∙◌}
-use Rattle.outwriter.proofs.TableLemmas.{limited-more, limited-same, keeps-limits}
+use Rattle.outwriter.proofs.TableLemmas.{limited-more, limited-same}
 use Rattle.outwriter.proofs.outbound.limit_table.Goals.{in-TableSize, in_default}
 use Rattle.outwriter.proofs.outbound.limit_table.Goals as goal
 
@@ -10,6 +9,3 @@ loop-setting-preserved c = elim c.match-setting.branch [
   | in_default w ↦ rw w.encoder-is (limited-same c.args.settings.now c.loop-setting.setting-index _ c.args.encoder.now c.loop-setting.encoder w.in_default.field-0
       c.loop-setting-test.true w.in_default.is c.loop-setting.invariant)
 ]
-
-pub returns-clause-table : goal.returns-clause-table
-returns-clause-table c = keeps-limits _ _ _ c.loop-setting.invariant

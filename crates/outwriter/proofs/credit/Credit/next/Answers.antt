@@ -8,9 +8,9 @@ invariant_of-self-2 c = within-taken c.self.inside.connection c.self.inside.stre
     c.take_last-owing.new.streams.entries c.self.invariant c.take_last-owing.ensures.takes c.take_last-owing.ensures.owing c.take_last-owing.ensures.settled
 
 pub returns-clause-takes : goal.returns-clause-takes
-returns-clause-takes c = subst (λ (o : Owed). TakesAll o c.take_last-owing.result.1 (record { connection = c.self.inside.connection; streams = c.take_last-owing.new.streams.entries })) c.self.view_is
+returns-clause-takes c = subst (λ (o : Owed). TakesAll o c.take_last-owing.result.1 (record { connection = c.self.inside.connection; streams = c.take_last-owing.new.streams.entries; resets = c.self.inside.resets.keys })) c.self.view_is
     (takes_all c.self.inside.streams.entries c.self.inside.owing c.take_last-owing.result.0 c.take_last-owing.result.1 c.take_last-owing.new.streams.entries
-    c.self.inside.connection (omega (arith, c.if-self-gt0.false)) c.self.invariant c.take_last-owing.ensures.takes c.take_last-owing.ensures.settled)
+    c.self.inside.connection c.self.inside.resets.keys (omega (arith, c.if-self-gt0.false)) c.self.invariant c.take_last-owing.ensures.takes c.take_last-owing.ensures.settled)
 
 pub returns-clause-numbered : goal.returns-clause-numbered
 returns-clause-numbered c = taken-numbered c.self.inside.streams.entries c.take_last-owing.result.0 c.take_last-owing.result.1 c.take_last-owing.new.streams.entries

@@ -1,9 +1,11 @@
-use Rattle.std.proofs.Common.{ap, []}
+use Rattle.std.proofs.Common.{ap, refl, length, [], ◌∷◌}
 use Rattle.outwriter.specs.Cores.{calls}
 use Rattle.outwriter.proofs.CallSteps.{serves-equal, serves-kept}
 use Rattle.outwriter.proofs.CallStepsCores.{serves-began}
-use Rattle.outwriter.specs.CallState.{none_is_new}
-use Rattle.outwriter.proofs.EndsKept.{heeds-kept, takes-ends}
+use Rattle.outwriter.specs.declared.control.Control.TheVariants as order
+use Rattle.outwriter.specs.Steps.{Taken}
+use Rattle.outwriter.proofs.EndsKept.{heeds-takes}
+use Rattle.outwriter.proofs.HeedSteps.{heeds-equal, open-heeds}
 use Rattle.outwriter.proofs.out_core.OutCore.begin.Goals as goal
 
 pub returns-in-Ok-clause-served : goal.returns-in-Ok-clause-served
@@ -22,10 +24,13 @@ returns-in-Err-clause-still g c = λ run marks s.
 
 pub returns-in-Ok-clause-heeds : goal.returns-in-Ok-clause-heeds
 returns-in-Ok-clause-heeds g c = λ run marks s heeds.
-    heeds-kept run c.args.self.now.outbound c.prepare.new.self.outbound
-    (takes-ends [] _ c.args.self.now.outbound c.prepare.new.self.outbound c.in-Ok.ensures.call.takes) heeds
+    heeds-equal (Taken (order.Open c.args.id tt) ∷ run) c.prepare.new.self.outbound c.prepare.new.self.streams.entries c.prepare.new.self.streams.entries
+    c.args.self.now.others.entries c.prepare.new.self.others.entries refl c.in-Ok.ensures.others
+    (open-heeds run c.args.id (length c.args.self.now.senders.items) c.args.self.now.outbound c.prepare.new.self.outbound c.args.self.now.streams.entries c.prepare.new.self.streams.entries
+    c.args.self.now.others.entries c.in-Ok.ensures.call heeds)
 
 pub returns-in-Err-clause-heeds_still : goal.returns-in-Err-clause-heeds_still
 returns-in-Err-clause-heeds_still g c = λ run marks s heeds.
-    heeds-kept run c.args.self.now.outbound c.prepare.new.self.outbound
-    (takes-ends [] none_is_new c.args.self.now.outbound c.prepare.new.self.outbound c.in-Err.ensures.none) heeds
+    heeds-equal run c.prepare.new.self.outbound c.args.self.now.streams.entries c.prepare.new.self.streams.entries
+    c.args.self.now.others.entries c.prepare.new.self.others.entries c.in-Err.ensures.streams c.in-Err.ensures.others
+    (heeds-takes run [] [] c.args.self.now.outbound c.prepare.new.self.outbound c.args.self.now.streams.entries c.args.self.now.others.entries c.in-Err.ensures.none heeds)

@@ -1,5 +1,5 @@
 use Rattle.std.proofs.Common.{◌≡◌, ◌∙◌, refl, sym, false, Some, arith, Result, Ok, Err, true≢false}
-use Rattle.std.specs.Prelude.{OnOk}
+use Rattle.std.specs.Prelude.{OnOk, Bool, Option, None, is_some}
 use Rattle.std.specs.Result.{is_err}
 use Rattle.std.proofs.lemmas.Grind.{common_steps}
 use Rattle.outwriter.specs.declared.control.Control.{Control}
@@ -7,6 +7,7 @@ use Rattle.outwriter.specs.declared.control.Control.TheVariants as order
 use Rattle.outwriter.specs.Cores.{calls}
 use Rattle.outwriter.proofs.CallSteps.{serves-equal, updated}
 use Rattle.outwriter.proofs.CallStepsOrders.{serves-refused, serves-unrefused}
+use Rattle.outwriter.proofs.HeedSteps.{refuse-heeds}
 use Rattle.outwriter.proofs.RunStateSteps.{quiet-led}
 use Rattle.outwriter.proofs.out_core.OutCore.refuse.Goals as goal
 
@@ -26,6 +27,10 @@ on-ok : {X E : Type 0} (r : Result X E) (P : Type 0) → is_err r ≡ false → 
 on-ok (Ok x) P e h = h
 on-ok (Err y) P e h = absurd (true≢false e)
 
+none-there : (found : Option Bool) → is_some found ≡ false → found ≡ None
+none-there None e = refl
+none-there (Some b) e = absurd (true≢false e)
+
 pub returns-clause-served : goal.returns-clause-served
 returns-clause-served g c = λ run marks s.
     let updates = on-ok c.insert.result _ (sym c.is_err.ensures.value ∙ c.if-is_err.false) c.insert.ensures.updates in
@@ -36,4 +41,11 @@ returns-clause-served g c = λ run marks s.
 pub returns-then-not-is_stream-clause-taken : goal.returns-then-not-is_stream-clause-taken
 returns-then-not-is_stream-clause-taken g c =
     let refuse : Control (Unit {0}) = order.Refuse c.args.id c.args.fields in
-    quiet-led refuse refuse c.args.self.now.outbound c.args.self.now.outbound refl refl (λ run history. refl) (λ run m. m)
+    quiet-led refuse refuse c.args.self.now.outbound c.args.self.now.outbound refl refl (λ id. refl) (λ run history. refl) (λ run m. m)
+
+pub returns-clause-heeds : goal.returns-clause-heeds
+returns-clause-heeds g c = λ run marks s heeds.
+    let updates = on-ok c.insert.result _ (sym c.is_err.ensures.value ∙ c.if-is_err.false) c.insert.ensures.updates in
+    refuse-heeds run c.args.id c.args.fields c.args.self.now.outbound c.args.self.now.streams.entries c.args.self.now.others.entries (calls g.L.Lane.got c.args.self.now.senders.items) marks s
+    c.take_refuse.new.self c.insert.new.self.entries (sym c.has.ensures ∙ c.if-has.false) (none-there _ (sym c.contains_key.ensures ∙ c.if-contains_key.false))
+    (updated c.args.self.now.others.entries c.insert.new.self.entries c.args.id (Some false) updates.0) c.take_refuse.ensures.takes heeds

@@ -1,23 +1,37 @@
-use Rattle.std.proofs.Common.{List, ◌∷◌}
-use Rattle.std.specs.Prelude.{◌&&◌}
-use Rattle.hpack_codec.proofs.HuffmanTable.{and_true}
-use Rattle.outwriter.specs.Cores.{calls}
-use Rattle.outwriter.specs.Steps.{Step, Taken}
+use Rattle.std.proofs.Common.{◌∷◌, ap, refl, subst, sym}
 use Rattle.outwriter.specs.declared.control.Control.TheVariants as order
-use Rattle.outwriter.proofs.CallStepsOrders.{serves-reset}
-use Rattle.outwriter.proofs.EndsKept.{reset-heeds}
+use Rattle.outwriter.specs.declared.outbound.Outbound.{Outbound}
+use Rattle.outwriter.specs.CallState.{Heeds, Serves}
+use Rattle.outwriter.specs.Cores.{calls}
+use Rattle.outwriter.specs.Steps.{Taken}
+use Rattle.outwriter.proofs.CallSteps.{serves-equal}
+use Rattle.outwriter.proofs.CallStepsOrders.{serves-ended}
+use Rattle.outwriter.proofs.HeedSteps.{heeds-equal, reset-heeds}
 use Rattle.outwriter.proofs.out_core.OutCore.reset.Goals as goal
 
 pub returns-in-Ok-clause-served : goal.returns-in-Ok-clause-served
 returns-in-Ok-clause-served g c = λ run marks s.
-    let after : List Step = Taken (order.Reset c.args.id c.args.code c.args.written) ∷ run in
-    let ended = c.in-Ok.ensures.served c.args.code c.args.written run marks s in
-    serves-reset after c.ends.new.self.outbound c.take_reset.new.self c.ends.new.self.streams.entries c.ends.new.self.others.entries (calls g.L.Lane.got c.ends.new.self.senders.items) marks
-    c.args.id c.args.code (c.args.written && c.in-Ok.was_open)
-    (λ e. c.in-Ok.ensures.was_open after marks ended (and_true c.args.written c.in-Ok.was_open e).1) c.take_reset.ensures.takes ended
+    serves-equal (Taken (order.Reset c.args.id c.args.code c.args.written) ∷ run) c.ends.new.self.outbound c.ends.new.self.streams.entries c.ends.new.self.streams.entries
+    c.ends.new.self.others.entries c.ends.new.self.others.entries (calls g.L.Lane.got c.args.self.now.senders.items) (calls g.L.Lane.got c.ends.new.self.senders.items) marks
+    refl refl (ap (calls g.L.Lane.got) c.in-Ok.ensures.senders)
+    (serves-ended run c.args.self.now.outbound c.ends.new.self.outbound c.args.self.now.streams.entries c.ends.new.self.streams.entries
+    c.args.self.now.others.entries c.ends.new.self.others.entries (calls g.L.Lane.got c.args.self.now.senders.items) marks
+    c.args.id c.args.code c.args.written c.in-Ok.ensures.takes (λ k. (c.in-Ok.ensures.marks k).0) c.in-Ok.ensures.shuts s)
 
 pub returns-in-Ok-clause-heeds : goal.returns-in-Ok-clause-heeds
 returns-in-Ok-clause-heeds g c = λ run marks s heeds.
-    reset-heeds run c.args.id c.args.code c.args.written c.in-Ok.was_open c.args.self.now.outbound c.ends.new.self.outbound c.take_reset.new.self
-    c.args.self.now.streams.entries c.args.self.now.others.entries (calls g.L.Lane.got c.args.self.now.senders.items) marks
-    c.ends.ensures.kept c.take_reset.ensures.takes (c.in-Ok.ensures.was_closed run marks s) s heeds
+    reset-heeds run c.args.id c.args.code c.args.written c.args.self.now.outbound c.ends.new.self.outbound c.in-Ok.ensures.marks c.in-Ok.ensures.takes.due c.in-Ok.ensures.takes.over
+    c.args.self.now.streams.entries c.ends.new.self.streams.entries c.args.self.now.others.entries c.ends.new.self.others.entries c.in-Ok.ensures.shuts s.numbered s.known heeds
+
+pub returns-in-Err-clause-still : goal.returns-in-Err-clause-still
+returns-in-Err-clause-still g c = λ run marks s.
+    subst (λ (o : Outbound). Serves run o c.ends.new.self.streams.entries c.ends.new.self.others.entries (calls g.L.Lane.got c.ends.new.self.senders.items) marks) (sym c.in-Err.ensures.outbound)
+    (serves-equal run c.args.self.now.outbound c.args.self.now.streams.entries c.ends.new.self.streams.entries c.args.self.now.others.entries c.ends.new.self.others.entries
+    (calls g.L.Lane.got c.args.self.now.senders.items) (calls g.L.Lane.got c.ends.new.self.senders.items) marks
+    c.in-Err.ensures.streams c.in-Err.ensures.others (ap (calls g.L.Lane.got) c.in-Err.ensures.senders) s)
+
+pub returns-in-Err-clause-heeds_still : goal.returns-in-Err-clause-heeds_still
+returns-in-Err-clause-heeds_still g c = λ run marks s heeds.
+    subst (λ (o : Outbound). Heeds run o c.ends.new.self.streams.entries c.ends.new.self.others.entries) (sym c.in-Err.ensures.outbound)
+    (heeds-equal run c.args.self.now.outbound c.args.self.now.streams.entries c.ends.new.self.streams.entries c.args.self.now.others.entries c.ends.new.self.others.entries
+    c.in-Err.ensures.streams c.in-Err.ensures.others heeds)

@@ -18,7 +18,7 @@ returns-clause-frame c = λ run m.
 pub returns-clause-own : goal.returns-clause-own
 returns-clause-own c =
     let is : c.args.self.now.block ≡ Some c.in-Some.block = sym c.take.ensures.value ∙ c.in-Some.is in (
-      λ id. refl,
+      λ id. (refl, refl),
       inl (
         λ run marks spells. (
           λ e. absurd (true≢false (sym c.requires.begun ∙ e)),

@@ -11,7 +11,7 @@ returns-clause-frame c = λ run m. update-written run _ _ _ _ _ _ _ _ (c.in-Some
 
 pub returns-clause-own : goal.returns-clause-own
 returns-clause-own c = (
-  λ id. (c.in-Some.ensures.takes.5 id).0,
+  λ id. ((c.in-Some.ensures.takes.5 id).0, (c.in-Some.ensures.takes.5 id).2),
   inl (
     λ run marks spells. (
       spells.0,

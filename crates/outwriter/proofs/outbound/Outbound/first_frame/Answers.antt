@@ -10,7 +10,7 @@ returns-clause-written c = λ run m. first-written run _ _ _ _ _ _ _ _ c.make_fi
 
 pub returns-clause-own : goal.returns-clause-own
 returns-clause-own c = (
-  λ id. refl,
+  λ id. (refl, refl),
   inl (
     λ run marks spells. (
       λ e. cc,

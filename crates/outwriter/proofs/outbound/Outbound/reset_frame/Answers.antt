@@ -5,12 +5,12 @@ use Rattle.outwriter.proofs.EndSteps.{reset-written}
 use Rattle.outwriter.proofs.outbound.Outbound.reset_frame.Goals as goal
 
 pub returns-clause-written : goal.returns-clause-written
-returns-clause-written c = λ run m. reset-written run _ _ _ _ _ _ _ _ _ _ c.args.id c.args.code _ c.in_ok-frame.ensures c.requires.between.begun c.requires.between.going c.requires.between.no_block
-    c.requires.stream c.requires.open c.in_ok-close.ensures.windows c.in_ok-close.ensures.over c.forget.ensures m
+returns-clause-written c = λ run m. reset-written run _ _ _ _ _ _ _ _ _ c.args.id c.args.code _ c.in_ok-frame.ensures c.requires.between.begun c.requires.between.going c.requires.between.no_block
+    c.requires.stream c.requires.is c.requires.open c.in_ok-close.ensures.windows c.in_ok-close.ensures.over m
 
 pub returns-clause-own : goal.returns-clause-own
 returns-clause-own c = (
-  (refl, λ id. (c.forget.ensures id).0),
+  (refl, λ id. (refl, refl)),
   (
     (
       _,

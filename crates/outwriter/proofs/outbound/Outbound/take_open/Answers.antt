@@ -16,21 +16,22 @@ returns-in-Err-clause-stays c = λ run m.
     subst (λ (w : Windows). Mirrors run c.args.self.now.begun c.args.self.now.gone w c.args.self.now.over.entries c.args.self.now.due.items c.args.self.now.block c.open_credit-2.new.credit) (sym windows)
     (subst (λ (owed : Owed). Mirrors run c.args.self.now.begun c.args.self.now.gone c.args.self.now.windows c.args.self.now.over.entries c.args.self.now.due.items c.args.self.now.block owed) (sym c.in-Err.ensures.unchanged) m)
 
-both : {X E A B C : Type 0} (r : Result X E) → (A → B → C) → OnOk r A → OnOk r B → OnOk r C
-both (Ok x) f a b = f a b
-both (Err e) f a b = tt
+all : {X E A B C D F : Type 0} (r : Result X E) → (A → B → C → D → F) → OnOk r A → OnOk r B → OnOk r C → OnOk r D → OnOk r F
+all (Ok x) f a b c d = f a b c d
+all (Err e) f a b c d = tt
 
 pub returns-then-not-opens-clause-taken : goal.returns-then-not-opens-clause-taken
-returns-then-not-opens-clause-taken c = both c.open_credit.result
-    (λ owed silent run m. open-led c.args.id run _ _ _ _ _ _ _ c.args.self.now.credit c.open_credit.new.credit owed silent
+returns-then-not-opens-clause-taken c = all c.open_credit.result
+    (λ owed silent hushed resets run m. open-led c.args.id run _ _ _ _ _ _ _ c.args.self.now.credit c.open_credit.new.credit owed silent hushed resets
     (open-taken run c.args.id c.args.self.now.windows c.args.self.now.windows c.opens.result (λ h f. c.opens.ensures.value run h m.is_over f)
     (λ h f. subst (λ b. Follows (if b then Opening c.args.id ∷ h else h) c.args.self.now.windows) (sym c.if-not-opens.true) f)
     m.windows_follow) m)
-    c.open_credit.ensures.owed c.open_credit.ensures.silent
+    c.open_credit.ensures.owed c.open_credit.ensures.silent c.open_credit.ensures.hushed c.open_credit.ensures.resets
 
 pub returns-in-Ok-open_credit-clause-taken : goal.returns-in-Ok-open_credit-clause-taken
 returns-in-Ok-open_credit-clause-taken c = λ run m.
     open-led c.args.id run _ _ _ _ _ _ _ c.args.self.now.credit c.open_credit-2.new.credit c.in-Ok-open_credit.ensures.owed c.in-Ok-open_credit.ensures.silent
+    c.in-Ok-open_credit.ensures.hushed c.in-Ok-open_credit.ensures.resets
     (open-taken run c.args.id c.args.self.now.windows c.open.new.self c.opens.result (λ h f. c.opens.ensures.value run h m.is_over f)
     (λ h f. subst (λ b. Follows (if b then Opening c.args.id ∷ h else h) c.open.new.self) (sym c.if-not-opens.false) (c.in-Ok.ensures.follows h f))
     m.windows_follow) m
