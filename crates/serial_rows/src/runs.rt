@@ -1,0 +1,268 @@
+//! Runs of a connection from its first byte to its last.
+
+ghost use Rattle.std.specs.Prelude.{◌≡◌};
+
+use crate::credit::Credit;
+use crate::driver::{Ending, Serial, Step};
+use crate::pipe::Pipe;
+use crate::schedule::{Schedule, Seed, step_of};
+use anyhow::Result;
+use h2frame::StreamId;
+use handlers::Methods;
+use std::alloc::Global;
+use std::marker::Brand;
+use std::sync::ledger::{Blank, Ledger};
+
+/// How many rounds a run has at most behind its schedule, of a step of each kind.
+const ROUNDS: u32 = 4096;
+
+/// How many frames a connection has at most.
+const FRAMES: u32 = 65_536;
+
+/// How many bytes most runs write at most.
+const WRITTEN: usize = 65_536;
+
+/// The bytes of a connection before its frames (RFC 9113, section 3.4).
+const PREFACE_LEN: usize = 24;
+
+/// The bytes of a frame's head.
+const HEAD_LEN: usize = 9;
+
+/// RST_STREAM with CANCEL (RFC 9113, sections 6.4 and 7), but for its stream.
+const CANCEL: [u8; 13] = [0, 0, 4, 3, 0, 0, 0, 0, 0, 0, 0, 0, 8];
+
+/// How a run goes.
+#[derive(Clone, Copy)]
+pub struct Course<'a> {
+    pub schedule: Schedule<'a>,
+    /// How many bytes a write takes at most.
+    pub most: usize,
+    /// How many writes go well, where one fails.
+    pub fails_at: Option<u64>,
+    /// A stream that the client resets, and behind how many turns of calls.
+    pub reset: Option<(StreamId, u64)>,
+    /// A moment to which the clock jumps, and behind how many turns of calls.
+    pub jump: Option<(u64, u64)>,
+}
+
+/// What came of a run.
+#[derive(Drop)]
+pub struct Ran {
+    pub written: Vec<u8>,
+    pub ending: Ending,
+    /// Whether there was no memory for the connection or for one of its calls.
+    pub ran_out: bool,
+    /// How many turns calls had.
+    pub turns: u64,
+    /// How many writes there were.
+    pub writes: u64,
+}
+
+/// The preface of a connection's bytes, and each of its frames. What doesn't end a frame is the last.
+pub fn frames_of(alloc: Global, bytes: &[u8]) -> Result<Vec<Vec<u8>>> {
+    let mut frames = Vec::new(alloc);
+    let (preface, mut rest) = bytes.split_at(PREFACE_LEN.min(bytes.len()));
+    frames.push(Vec::from_slice(alloc, preface)?)?;
+    for _ in 0..FRAMES {
+        if rest.is_empty() {
+            break;
+        }
+        let (frame, behind) = rest.split_at(frame_len(rest).min(rest.len()));
+        frames.push(Vec::from_slice(alloc, frame)?)?;
+        rest = behind;
+    }
+    Ok(frames)
+}
+
+/// How many bytes the frame has that begins here.
+fn frame_len(bytes: &[u8]) -> usize {
+    match bytes {
+        [a, b, c, ..] => HEAD_LEN + u32::from_be_bytes([0, *a, *b, *c]) as usize,
+        _ => HEAD_LEN,
+    }
+}
+
+/// A run over ledgers of its own.
+pub fn run_connection(
+    alloc: Global,
+    methods: &Methods,
+    frames: &[Vec<u8>],
+    course: Course<'_>,
+) -> Result<Ran> {
+    let blanks = (Blank::new(1), Blank::new(1), Blank::new(1));
+    run_over::<Brand, Brand, Brand>(alloc, blanks, methods, frames, course)
+}
+
+fn run_over<A: Ledger, B: Ledger, C: Ledger>(
+    alloc: Global,
+    blanks: (Blank, Blank, Blank),
+    methods: &Methods,
+    frames: &[Vec<u8>],
+    course: Course<'_>,
+) -> Result<Ran>
+    requires received { (blanks.0.name ≡ A.name) × (blanks.0.parts ≡ A.parts) }
+    requires admitted { (blanks.1.name ≡ B.name) × (blanks.1.parts ≡ B.parts) }
+    requires announced { (blanks.2.name ≡ C.name) × (blanks.2.parts ≡ C.parts) }
+    requires one_part { (A.parts ≡ 1) × (B.parts ≡ 1) × (C.parts ≡ 1) }
+{
+    let mut credit = Credit::<A, B, C>::open(alloc, blanks);
+    let bytes = Vec::with_capacity(alloc, WRITTEN)?;
+    let pipe = Pipe::new(bytes, course.most, course.fails_at);
+    let mut run = Run {
+        serial: Serial::new(alloc, methods, pipe),
+        frames,
+        at: 0,
+        course,
+    };
+    run.go(&mut credit)?;
+    Ok(run.into_ran())
+}
+
+/// A run that goes on.
+#[derive(Drop)]
+struct Run<'a> {
+    serial: Serial<'a>,
+    frames: &'a [Vec<u8>],
+    /// How many of the frames were read.
+    at: usize,
+    course: Course<'a>,
+}
+
+impl Run<'_> {
+    /// The whole of it: the schedule, what the input leads to, its end, and the last that is written.
+    fn go<A: Ledger, B: Ledger, C: Ledger>(&mut self, credit: &mut Credit<A, B, C>) -> Result<()>
+        requires one_part { (A.parts ≡ 1) × (B.parts ≡ 1) }
+    {
+        self.follow(credit)?;
+        self.rest(credit)?;
+        self.serial.end_input(&mut credit.book)?;
+        self.rest(credit)?;
+        self.serial.close()?;
+        self.rest(credit)
+    }
+
+    /// What came of it.
+    fn into_ran(self) -> Ran {
+        let Run { serial, .. } = self;
+        let (ending, ran_out, turns) = (serial.ending(), serial.ran_out(), serial.turns);
+        let Pipe { bytes, calls, .. } = serial.into_output();
+        Ran {
+            written: bytes,
+            ending,
+            ran_out,
+            turns,
+            writes: calls,
+        }
+    }
+
+    /// Follows the schedule.
+    fn follow<A: Ledger, B: Ledger, C: Ledger>(
+        &mut self,
+        credit: &mut Credit<A, B, C>,
+    ) -> Result<()>
+        requires one_part { (A.parts ≡ 1) × (B.parts ≡ 1) }
+    {
+        match self.course.schedule {
+            Schedule::Plain => {}
+            Schedule::Listed(words) => {
+                'words: for word in words.split_ascii_whitespace() {
+                    self.step(credit, step_of(word)?)?;
+                }
+            }
+            Schedule::Seeded(seed, steps) => {
+                let mut seed = Seed(seed);
+                'steps: for _ in 0..steps {
+                    let step = seed.step(self.serial.calls());
+                    self.step(credit, step)?;
+                }
+            }
+        }
+        Ok(())
+    }
+
+    /// Takes steps of each kind in turn, until nothing is left to do.
+    fn rest<A: Ledger, B: Ledger, C: Ledger>(&mut self, credit: &mut Credit<A, B, C>) -> Result<()>
+        requires one_part { (A.parts ≡ 1) × (B.parts ≡ 1) }
+    {
+        'rounds: for _ in 0..ROUNDS {
+            self.step(credit, Step::Read)?;
+            let mut went = false;
+            'calls: for place in (0..self.serial.calls()).rev() {
+                went = self.step(credit, Step::Turn(place))? || went;
+            }
+            'orders: for _ in 0..self.serial.waiting() {
+                self.step(credit, Step::Order)?;
+            }
+            self.step(credit, Step::Announce)?;
+            self.step(credit, Step::Fill)?;
+            self.step(credit, Step::Flush)?;
+            if !went && self.at >= self.frames.len() && self.serial.is_idle() {
+                break;
+            }
+        }
+        Ok(())
+    }
+
+    /// Takes a step; whether a call did something by it.
+    fn step<A: Ledger, B: Ledger, C: Ledger>(
+        &mut self,
+        credit: &mut Credit<A, B, C>,
+        step: Step,
+    ) -> Result<bool>
+        requires one_part { (A.parts ≡ 1) × (B.parts ≡ 1) }
+    {
+        match step {
+            Step::Read => {
+                self.read()?;
+                self.serial.follow_next(credit)?;
+            }
+            Step::Turn(place) => {
+                self.disturb(credit)?;
+                return self.serial.turn(&mut credit.book, place);
+            }
+            Step::Order => self.serial.order(&mut credit.book),
+            Step::Announce => self.serial.announce(credit),
+            Step::Fill => self.serial.fill(&mut credit.book),
+            Step::Flush => self.serial.flush(&mut credit.book),
+        }
+        Ok(false)
+    }
+
+    /// Reads the next frame, where no event waits.
+    fn read(&mut self) -> Result<()> {
+        if !self.serial.is_reading() {
+            return Ok(());
+        }
+        let frames = self.frames;
+        if let Some(frame) = frames.get(self.at) {
+            self.at = self.at.saturating_add(1);
+            self.serial.feed(frame.as_slice())?;
+        }
+        Ok(())
+    }
+
+    /// Resets a stream, or lets the clock jump, where the time has come.
+    fn disturb<A: Ledger, B: Ledger, C: Ledger>(
+        &mut self,
+        credit: &mut Credit<A, B, C>,
+    ) -> Result<()>
+        requires one_part { (A.parts ≡ 1) × (B.parts ≡ 1) }
+    {
+        if let Some((moment, turn)) = self.course.jump {
+            if self.serial.turns >= turn {
+                self.serial.clock = moment;
+                self.course.jump = None;
+            }
+        }
+        if let Some((id, turn)) = self.course.reset {
+            if self.serial.turns >= turn && self.serial.last() >= id && self.serial.is_reading() {
+                self.course.reset = None;
+                let mut frame = CANCEL;
+                frame[5..9].copy_from_slice(&id.to_be_bytes());
+                self.serial.feed(&frame)?;
+                self.serial.follow_next(credit)?;
+            }
+        }
+        Ok(())
+    }
+}
