@@ -224,11 +224,11 @@ class Peer:
 class Server:
     """`interop serve`, which ends by itself behind so many connections."""
 
-    def __init__(self, program, connections, **environment):
+    def __init__(self, program, connections, *options, **environment):
         with socket.socket() as free:
             free.bind(("127.0.0.1", 0))
             self.port = free.getsockname()[1]
-        words = [program, "serve", "--port", str(self.port), "--conns", str(connections)]
+        words = [program, "serve", "--port", str(self.port), "--conns", str(connections), *options]
         how = {"stdin": subprocess.DEVNULL, "stdout": subprocess.PIPE, "env": {**os.environ, **environment}}
         self.process = subprocess.Popen(words, **how)
         self.process.stdout.readline()

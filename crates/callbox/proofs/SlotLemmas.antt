@@ -15,7 +15,7 @@ use Rattle.account.specs.Accounts.{Begins, IsResponse, MayTell}
 use Rattle.callbox.specs.declared.piece.InPiece.{InPiece}
 use Rattle.callbox.specs.InSides.{all_end_at_shut, bytes_of, ends_at_shut, shut_of}
 use Rattle.callbox.specs.OutSides.{EachResponse}
-use Rattle.callbox.specs.Slots.{EachLawful, EachTook, TakenCall, TookOf, call_at}
+use Rattle.callbox.specs.Slots.{EachLawful, EachTook, IsUnsent, TakenCall, TookOf, call_at}
 use Rattle.callbox.proofs.InLemmas.{counts_in, fits_end}
 
 module _ {T : Type 0} where
@@ -95,5 +95,16 @@ each_lawful fed past_fed got given past_sent sent calls follows_in last follows_
       taken = part.taken;
       told = part.told;
       sent = (begins.0, sym begins.1);
+      given = response_at given n each;
+    }
+
+pub each_unsent : (fed past_fed : List (List InPiece)) (got : List InPiece) (given : List (List OutItem)) → Follows fed past_fed got
+    → all_end_at_shut fed ≡ true → EachResponse given → (n : ℕ) → IsUnsent (segment fed n) (segment (past_fed ++ got ∷ []) n) (segment given n)
+each_unsent fed past_fed got given follows last each = λ n messages said took.
+    let part = in_part (segment fed n) (segment (past_fed ++ got ∷ []) n) messages said took (follows_at fed past_fed got n follows) (ends_at fed n last) in
+    record {
+      taken = part.taken;
+      told = part.told;
+      sent = (segment given n, refl);
       given = response_at given n each;
     }

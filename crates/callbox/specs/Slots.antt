@@ -49,3 +49,8 @@ account_at fed calls given sent n =
 -- each call's account is lawful, whatever the other calls did
 abbrev pub EachLawful : List (List InPiece) → List TakenCall → List (List OutItem) → List (List OutItem) → Type 0
 EachLawful fed calls given sent = (n : ℕ) → IsLawful (account_at fed calls given sent n)
+
+-- Of a call of which this was fed, got and given, whatever was taken makes a lawful account, of which nothing is known to be sent.
+abbrev pub IsUnsent : List InPiece → List InPiece → List OutItem → Type 0
+IsUnsent fed got given = (messages : List (List ℕ)) (said : Option Told) → TookOf got messages said
+    → IsLawful (record { fed = bytes_of fed; shut = shut_of fed; taken = messages; told = said; given = given; sent = [] })

@@ -83,6 +83,7 @@ pub fn open_in<L: Lane<Item = InPiece>>(
     ensures first { IfOk result (λ r. (L.past_in r.0.tx ≡ []) × (L.past_out r.1.rx ≡ []) × (L.got r.1.rx ≡ [])) }
     ensures took { IfOk result (λ r. Took (L.got r.1.rx) r.1.progress []) }
     ensures owed { IfOk result (λ r. r.1.progress.owed ≡ 0) }
+    ensures told { IfOk result (λ r. r.1.progress.told ≡ None) }
 {
     let (tx, rx) = L::open(alloc, room)?;
     Ok((Feeder::new(tx), Taker::new(alloc, rx)))

@@ -31,7 +31,7 @@ pub use in_side::{InAccount, open_in, settle_in};
 pub use out_side::{OutAccount, open_out, settle_out};
 pub use piece::InPiece;
 pub use sender::Sender;
-pub use slot::settle_slot;
+pub use slot::{settle_slot, settle_unsent};
 pub use taker::{Taken, Taker};
 pub use uses::four_threads::{Answer, Ran, Request, run_call};
 pub use uses::handed_over::answer_elsewhere;

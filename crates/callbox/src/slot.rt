@@ -1,11 +1,12 @@
 //! The four ends of a slot, which served one call after another, brought together.
 
-ghost use Rattle.std.specs.Prelude.{◌≡◌, true, List, [], ◌∷◌, ◌++◌};
+ghost use Rattle.std.specs.Prelude.{◌≡◌, ℕ, true, List, [], ◌∷◌, ◌++◌};
+ghost use Rattle.lane.specs.Cuts.{segment};
 ghost use Rattle.lane.specs.End.{of_end};
 ghost use Rattle.lane.specs.Follows.{Follows};
 ghost use Rattle.callbox.specs.InSides.{all_end_at_shut};
 ghost use Rattle.callbox.specs.OutSides.{EachResponse};
-ghost use Rattle.callbox.specs.Slots.{EachLawful, EachTook, TakenCall};
+ghost use Rattle.callbox.specs.Slots.{EachLawful, EachTook, IsUnsent, TakenCall};
 
 use crate::{FedShut, Feeder, GivenShut, Giver, InPiece, Sender, Taker};
 use account::OutItem;
@@ -30,6 +31,46 @@ pub fn settle_slot<I: Lane<Item = InPiece>, O: Lane<Item = OutItem>>(
 {
     meet_in(fed, taker);
     meet_out(given, sender);
+}
+
+/// Brings the ends of one slot together but for the sender, wherever they are: then each of its calls has a lawful account, of which
+/// nothing is known to be sent.
+///
+/// What was taken of a call is for the holder of the taker to say, of each call alone.
+pub fn settle_unsent<I: Lane<Item = InPiece>, O: Lane<Item = OutItem>>(
+    fed: End<Feeder<I>, FedShut<I>>,
+    taker: Taker<I>,
+    given: End<Giver<O>, GivenShut<O>>,
+)
+    requires one_in { I.ring_of (of_end (λ f. I.in_name f.tx) (λ s. I.shut_name s.shut) fed) ≡ I.ring_of (I.out_name taker.rx) }
+    ensures accounts { (n : ℕ) → IsUnsent
+        (segment (of_end (λ f. I.past_in f.tx) (λ s. I.past_shut s.shut) fed ++ of_end (λ f. I.put_in f.tx) (λ s. I.put_shut s.shut) fed ∷ []) n)
+        (segment (I.past_out taker.rx ++ I.got taker.rx ∷ []) n)
+        (segment (of_end (λ g. O.past_in g.tx) (λ s. O.past_shut s.shut) given ++ of_end (λ g. O.put_in g.tx) (λ s. O.put_shut s.shut) given ∷ []) n) }
+{
+    meet_in(fed, taker);
+    see_out(given);
+}
+
+/// What was given of each call is a response.
+fn see_out<L: Lane<Item = OutItem>>(end: End<Giver<L>, GivenShut<L>>)
+    ensures given { EachResponse
+        (of_end (λ g. L.past_in g.tx) (λ s. L.past_shut s.shut) end ++ of_end (λ g. L.put_in g.tx) (λ s. L.put_shut s.shut) end ∷ []) }
+{
+    match end {
+        End::Open(giver) => see_out_open(giver),
+        End::Shut(shut) => see_out_shut(shut),
+    }
+}
+
+fn see_out_open<L: Lane<Item = OutItem>>(_giver: Giver<L>)
+    ensures given { EachResponse (L.past_in _giver.tx ++ L.put_in _giver.tx ∷ []) }
+{
+}
+
+fn see_out_shut<L: Lane<Item = OutItem>>(_shut: GivenShut<L>)
+    ensures given { EachResponse (L.past_shut _shut.shut ++ L.put_shut _shut.shut ∷ []) }
+{
 }
 
 /// What was got of each call begins what was fed of it, and ends at its shut.

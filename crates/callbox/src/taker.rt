@@ -69,6 +69,7 @@ impl Progress {
     pub(crate) fn new(alloc: Global) -> Progress
         ensures took { Took [] result [] }
         ensures owed { result.owed ≡ 0 }
+        ensures told { result.told ≡ None }
     {
         Progress {
             splitter: Splitter::new(alloc),
@@ -264,6 +265,7 @@ impl<L: Lane<Item = InPiece>> Taker<L> {
         ensures rx { result.rx ≡ rx }
         ensures took { Took [] result.progress [] }
         ensures owed { result.progress.owed ≡ 0 }
+        ensures told { result.progress.told ≡ None }
     {
         let progress = Progress::new(alloc);
         Taker { rx, progress }
@@ -369,6 +371,7 @@ impl<L: Lane<Item = InPiece>> Taker<L> {
         ensures empty { result ≡ true → L.got self.new.rx ≡ [] }
         ensures took { result ≡ true → Took [] self.new.progress [] }
         ensures owed { result ≡ true → self.new.progress.owed ≡ 0 }
+        ensures told { result ≡ true → self.new.progress.told ≡ None }
         ensures stays { result ≡ false → (self.new.rx ≡ self.old.rx) × (self.new.progress ≡ self.old.progress) }
     {
         let Taker { rx, progress } = self;
@@ -388,5 +391,19 @@ impl<L: Lane<Item = InPiece>> Taker<L> {
         let owed = self.progress.owed;
         self.progress.owed = 0;
         owed
+    }
+
+    /// How many messages were taken of this call, or the greatest `u64` where they are more.
+    pub fn taken(&self) -> u64
+        ensures { result ≡ self.now.progress.taken }
+    {
+        self.progress.taken
+    }
+
+    /// What was told behind them.
+    pub fn told(&self) -> Option<Told>
+        ensures { result ≡ self.now.progress.told }
+    {
+        self.progress.told
     }
 }

@@ -55,7 +55,7 @@ module _ {G S : Type 0} where
   shown of_open of_shut was_placed (Shut end code) = record { is_live = false; given = of_shut end; code = if_placed (was_placed end) code }
   shown of_open of_shut was_placed Gone = record { is_live = false; given = []; code = None }
 
-  -- which lane it is an end of
+  -- what its end shows, as which lane it is an end of
   abbrev pub name_by : {X : Type 0} → (G → X) → (S → X) → Response G S → Option X
   name_by of_open of_shut (Open giver) = Some (of_open giver)
   name_by of_open of_shut (Left giver) = Some (of_open giver)

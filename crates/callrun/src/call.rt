@@ -124,6 +124,7 @@ impl Call {
         requires { IsDueReply reply self.old }
         ensures run { RunsOn self.old (shown (λ g. O.put_in g.tx) (λ s. O.put_shut s.shut) (λ s. O.was_placed s.shut) response.old) self.new (shown (λ g. O.put_in g.tx) (λ s. O.put_shut s.shut) (λ s. O.was_placed s.shut) response.new) }
         ensures name { name_by (λ g. O.in_name g.tx) (λ s. O.shut_name s.shut) response.new ≡ name_by (λ g. O.in_name g.tx) (λ s. O.shut_name s.shut) response.old }
+        ensures past { name_by (λ g. O.past_in g.tx) (λ s. O.past_shut s.shut) response.new ≡ name_by (λ g. O.past_in g.tx) (λ s. O.past_shut s.shut) response.old }
         ensures there { is_gone response.new ≡ is_gone response.old }
         ensures same { SameCall self.old self.new }
         ensures turn { result ≢ turn.Nothing }
@@ -157,6 +158,7 @@ impl Call {
         requires empty { IsOpenTo (λ g. O.put_in g.tx ≡ []) response.old }
         ensures run { RunsOn self.old (shown (λ g. O.put_in g.tx) (λ s. O.put_shut s.shut) (λ s. O.was_placed s.shut) response.old) self.new (shown (λ g. O.put_in g.tx) (λ s. O.put_shut s.shut) (λ s. O.was_placed s.shut) response.new) }
         ensures name { name_by (λ g. O.in_name g.tx) (λ s. O.shut_name s.shut) response.new ≡ name_by (λ g. O.in_name g.tx) (λ s. O.shut_name s.shut) response.old }
+        ensures past { name_by (λ g. O.past_in g.tx) (λ s. O.past_shut s.shut) response.new ≡ name_by (λ g. O.past_in g.tx) (λ s. O.past_shut s.shut) response.old }
         ensures there { is_gone response.new ≡ is_gone response.old }
         ensures same { SameCall self.old self.new }
         ensures turn { result ≢ turn.Nothing }
@@ -220,6 +222,7 @@ impl Call {
         requires { IsEnding self.old.handling }
         ensures run { RunsOn self.old (shown (λ g. O.put_in g.tx) (λ s. O.put_shut s.shut) (λ s. O.was_placed s.shut) response.old) self.new (shown (λ g. O.put_in g.tx) (λ s. O.put_shut s.shut) (λ s. O.was_placed s.shut) response.new) }
         ensures name { name_by (λ g. O.in_name g.tx) (λ s. O.shut_name s.shut) response.new ≡ name_by (λ g. O.in_name g.tx) (λ s. O.shut_name s.shut) response.old }
+        ensures past { name_by (λ g. O.past_in g.tx) (λ s. O.past_shut s.shut) response.new ≡ name_by (λ g. O.past_in g.tx) (λ s. O.past_shut s.shut) response.old }
         ensures there { is_gone response.new ≡ is_gone response.old }
         ensures same { SameCall self.old self.new }
         ensures turn { result ≢ turn.Nothing }

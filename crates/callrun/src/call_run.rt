@@ -54,6 +54,7 @@ impl<I: Lane<Item = InPiece>, O: Lane<Item = OutItem>> CallRun<I, O> {
             → HasRun ((⟦<dyn Method as Method>⟧ method.vtable).answers method.value) ((⟦<dyn Method as Method>⟧ method.vtable).stands method.value) None [] result.call (shown (λ g. O.put_in g.tx) (λ s. O.put_shut s.shut) (λ s. O.was_placed s.shut) result.response)) }
         ensures taker { result.taker ≡ taker }
         ensures name { name_by (λ g. O.in_name g.tx) (λ s. O.shut_name s.shut) result.response ≡ Some (O.in_name giver.tx) }
+        ensures past { name_by (λ g. O.past_in g.tx) (λ s. O.past_shut s.shut) result.response ≡ Some (O.past_in giver.tx) }
         ensures index_is { result.index ≡ index }
         ensures hand { result.in_hand ≡ None }
         ensures head { result.call.head ≡ head }
@@ -94,7 +95,9 @@ impl<I: Lane<Item = InPiece>, O: Lane<Item = OutItem>> CallRun<I, O> {
             → (more : List (List ℕ)) × Took (I.got self.new.taker.rx) self.new.taker.progress (messages ++ more)
             × HasCome ((⟦<dyn Method as Method>⟧ method.vtable).answers method.value) ((⟦<dyn Method as Method>⟧ method.vtable).stands method.value) self.new.taker.progress.told (messages ++ more) self.new.call self.new.in_hand (shown (λ g. O.put_in g.tx) (λ s. O.put_shut s.shut) (λ s. O.was_placed s.shut) self.new.response)) }
         ensures in_name { I.out_name self.new.taker.rx ≡ I.out_name self.old.taker.rx }
+        ensures in_past { I.past_out self.new.taker.rx ≡ I.past_out self.old.taker.rx }
         ensures name { name_by (λ g. O.in_name g.tx) (λ s. O.shut_name s.shut) self.new.response ≡ name_by (λ g. O.in_name g.tx) (λ s. O.shut_name s.shut) self.old.response }
+        ensures past { name_by (λ g. O.past_in g.tx) (λ s. O.past_shut s.shut) self.new.response ≡ name_by (λ g. O.past_in g.tx) (λ s. O.past_shut s.shut) self.old.response }
         ensures same { (self.new.index ≡ self.old.index) × (self.new.call.head ≡ self.old.call.head) × (self.new.call.deadline ≡ self.old.call.deadline) }
         // The deadline counts as come only where a moment was not before it.
         ensures overdue { self.new.call.overdue ≡ true → (self.old.call.overdue ≡ true) ⊎ IsSomeAnd self.old.call.deadline (λ deadline. deadline ≤ now) }
@@ -141,6 +144,7 @@ impl<I: Lane<Item = InPiece>, O: Lane<Item = OutItem>> CallRun<I, O> {
             self.old.in_hand self.old.taker.progress.told self.new.in_hand self.new.taker.progress.told }
         ensures may { (self.new.in_hand ≡ self.old.in_hand) ⊎ MayTake self.old.in_hand self.new.call (shown (λ g. O.put_in g.tx) (λ s. O.put_shut s.shut) (λ s. O.was_placed s.shut) self.new.response) }
         ensures in_name { I.out_name self.new.taker.rx ≡ I.out_name self.old.taker.rx }
+        ensures in_past { I.past_out self.new.taker.rx ≡ I.past_out self.old.taker.rx }
         ensures same { (self.new.index ≡ self.old.index) × (self.new.call ≡ self.old.call) × (self.new.response ≡ self.old.response) }
     {
         if self.in_hand.is_none() && self.response.is_open() && self.call.handling.is_ready() {
@@ -156,6 +160,7 @@ impl<I: Lane<Item = InPiece>, O: Lane<Item = OutItem>> CallRun<I, O> {
             → TakesAhead (λ all. Took (I.got self.new.taker.rx) self.new.taker.progress all) messages
             self.old.in_hand self.old.taker.progress.told self.new.in_hand self.new.taker.progress.told }
         ensures in_name { I.out_name self.new.taker.rx ≡ I.out_name self.old.taker.rx }
+        ensures in_past { I.past_out self.new.taker.rx ≡ I.past_out self.old.taker.rx }
         ensures same { (self.new.index ≡ self.old.index) × (self.new.call ≡ self.old.call) × (self.new.response ≡ self.old.response) }
     {
         match self.taker.take() {
@@ -173,6 +178,7 @@ impl<I: Lane<Item = InPiece>, O: Lane<Item = OutItem>> CallRun<I, O> {
         // What was given stays.
         ensures leaves { Leaves (shown (λ g. O.put_in g.tx) (λ s. O.put_shut s.shut) (λ s. O.was_placed s.shut) self.old.response) (shown (λ g. O.put_in g.tx) (λ s. O.put_shut s.shut) (λ s. O.was_placed s.shut) self.new.response) }
         ensures name { name_by (λ g. O.in_name g.tx) (λ s. O.shut_name s.shut) self.new.response ≡ name_by (λ g. O.in_name g.tx) (λ s. O.shut_name s.shut) self.old.response }
+        ensures past { name_by (λ g. O.past_in g.tx) (λ s. O.past_shut s.shut) self.new.response ≡ name_by (λ g. O.past_in g.tx) (λ s. O.past_shut s.shut) self.old.response }
         ensures over { is_open self.new.response ≡ false }
         ensures shut { is_shut self.new.response ≡ is_shut self.old.response }
         ensures same { (self.new.index ≡ self.old.index) × (self.new.taker ≡ self.old.taker) × SameCall self.old.call self.new.call }
@@ -209,6 +215,12 @@ impl<I: Lane<Item = InPiece>, O: Lane<Item = OutItem>> CallRun<I, O> {
         self.call.handling.lacks_memory()
     }
 
+    /// How many messages were given, and how many bytes they had without their prefixes. A number over the greatest `u64` counts
+    /// as that.
+    pub fn given(&self) -> (u64, u64) {
+        self.call.handling.waiting.passed()
+    }
+
     /// The two ends of the call, and the status of the trailers that were given.
     pub fn into_ends(self) -> (Taker<I>, End<Giver<O>, GivenShut<O>>, Option<u32>)
         // What was given is an outcome of what the method answers.
@@ -217,6 +229,7 @@ impl<I: Lane<Item = InPiece>, O: Lane<Item = OutItem>> CallRun<I, O> {
         ensures taker { result.0 ≡ self.taker }
         ensures shut { of_end (λ g. false) (λ s. true) result.1 ≡ is_shut self.response }
         ensures name { Some (of_end (λ g. O.in_name g.tx) (λ s. O.shut_name s.shut) result.1) ≡ name_by (λ g. O.in_name g.tx) (λ s. O.shut_name s.shut) self.response }
+        ensures past { Some (of_end (λ g. O.past_in g.tx) (λ s. O.past_shut s.shut) result.1) ≡ name_by (λ g. O.past_in g.tx) (λ s. O.past_shut s.shut) self.response }
     {
         let CallRun {
             taker,
@@ -243,6 +256,7 @@ impl<I: Lane<Item = InPiece>, O: Lane<Item = OutItem>> CallRun<I, O> {
             → (more : List (List ℕ)) × Took (I.got self.new.taker.rx) self.new.taker.progress (messages ++ more)
             × HasRun (answers method.now) (stands method.now) self.new.taker.progress.told (messages ++ more) self.new.call (shown (λ g. O.put_in g.tx) (λ s. O.put_shut s.shut) (λ s. O.was_placed s.shut) self.new.response) }
         ensures in_name { I.out_name self.new.taker.rx ≡ I.out_name self.old.taker.rx }
+        ensures in_past { I.past_out self.new.taker.rx ≡ I.past_out self.old.taker.rx }
         ensures same { (self.new.index ≡ self.old.index) × (self.new.in_hand ≡ self.old.in_hand) × (self.new.response ≡ self.old.response) × SameCall self.old.call self.new.call }
         ensures turn { (result ≡ turn.Went) ⊎ (result ≡ turn.Nothing) }
         ensures went { result ≡ turn.Went → TakesOne (λ all. Took (I.got self.old.taker.rx) self.old.taker.progress all) (λ all. Took (I.got self.new.taker.rx) self.new.taker.progress all) self.old.taker.progress.told self.new.taker.progress.told }

@@ -8,7 +8,7 @@ ghost use Rattle.handlers.specs.Steps.{nothing};
 use crate::cause::Cause;
 use crate::ending::Ending;
 use crate::waiting::Waiting;
-use handlers::{Method, MethodFault, MethodState, Step};
+use handlers::{Method, MethodFault, MethodState, Replies, Step};
 use std::alloc::Global;
 
 /// The state of a call's method, and what it answered that was not given yet.
@@ -61,7 +61,7 @@ impl Handling {
     {
         match step {
             Ok(Step { replies, ends }) => {
-                self.waiting = Waiting::of(replies);
+                self.waiting.set(replies);
                 self.ending = match ends {
                     Some(status) => Some(Ending::Method(status)),
                     None => None,
@@ -75,7 +75,7 @@ impl Handling {
     pub(crate) fn end_by(&mut self, alloc: Global, cause: Cause)
         ensures { EndsBy cause self.old self.new }
     {
-        self.waiting = Waiting::none(alloc);
+        self.waiting.set(Replies::new(alloc));
         self.ending = Some(Ending::Cause(cause));
     }
 

@@ -19,6 +19,7 @@ pub(crate) fn shut<O: Lane<Item = OutItem>>(
     code: u32,
 )
     ensures name { name_by (λ g. O.in_name g.tx) (λ s. O.shut_name s.shut) response.new ≡ name_by (λ g. O.in_name g.tx) (λ s. O.shut_name s.shut) response.old }
+    ensures past { name_by (λ g. O.past_in g.tx) (λ s. O.past_shut s.shut) response.new ≡ name_by (λ g. O.past_in g.tx) (λ s. O.past_shut s.shut) response.old }
     ensures there { is_gone response.new ≡ is_gone response.old }
     ensures ends { is_open response.old ≡ true → EndsWith
         (shown (λ g. O.put_in g.tx) (λ s. O.put_shut s.shut) (λ s. O.was_placed s.shut) response.old) (out_item.Trailers fields) code

@@ -16,6 +16,10 @@ use std::marker::Model;
 pub(crate) struct Waiting {
     replies: Replies,
     given: usize,
+    /// How many replies of the call were given in all.
+    passed: u64,
+    /// How many bytes those had.
+    bytes: u64,
     /// The message of a reply that is given more than once.
     shared: Option<FramedReply>,
 }
@@ -33,17 +37,27 @@ impl Waiting {
     pub(crate) fn none(alloc: Global) -> Waiting
         ensures { result ≡ [] }
     {
-        Waiting::of(Replies::new(alloc))
-    }
-
-    pub(crate) fn of(replies: Replies) -> Waiting
-        ensures { result ≡ replies }
-    {
         Waiting {
-            replies,
+            replies: Replies::new(alloc),
             given: 0,
+            passed: 0,
+            bytes: 0,
             shared: None,
         }
+    }
+
+    /// These wait, and no others.
+    pub(crate) fn set(&mut self, replies: Replies)
+        ensures { self.new ≡ replies }
+    {
+        self.replies = replies;
+        self.given = 0;
+        self.shared = None;
+    }
+
+    /// How many replies of the call were given in all, and how many bytes they had.
+    pub(crate) fn passed(&self) -> (u64, u64) {
+        (self.passed, self.bytes)
     }
 
     /// The next reply.
@@ -66,6 +80,8 @@ impl Waiting {
         ensures { (reply : ReplyOf) (rest : List ReplyOf) → self.old ≡ reply ∷ rest → self.new ≡ rest }
     {
         if self.given < self.replies.as_slice().len() {
+            self.passed = self.passed.saturating_add(1);
+            self.bytes = self.bytes.saturating_add(len_at(&self.replies, self.given));
             self.given += 1;
         }
     }
@@ -88,5 +104,13 @@ impl Waiting {
             });
         }
         Ok(bytes)
+    }
+}
+
+/// How many bytes the message of this reply has.
+fn len_at(replies: &Replies, index: usize) -> u64 {
+    match replies.as_slice().get(index) {
+        Some(reply) => reply.len() as u64,
+        None => 0,
     }
 }

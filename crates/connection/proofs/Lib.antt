@@ -1,1 +1,3 @@
 pub mod WrittenSteps
+pub mod Turns
+pub mod Rows

@@ -1,1 +1,4 @@
 pub mod Written
+pub mod Halves
+pub mod Accounts
+pub mod Workers

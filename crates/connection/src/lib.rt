@@ -9,13 +9,17 @@
 //!
 //! - `shared`: what the threads of a connection share.
 //! - `intake`: the reader's hold on the credit book, `outlet` the writer's.
-//! - `slot`: what the threads see of a slot; `slots`: what the reader has of all; `senders`: what the writer has.
-//! - `worker`: what a worker does with a call.
+//! - `slot`: what the threads see of a slot; `slots`: what the reader has of all, and `half` of each; `senders`: what the writer
+//!   has.
+//! - `worker`: what a worker does with its calls; `hired`: its thread, and what it promises; `answering`: what methods answer.
 //! - `orders`: what the reader has the writer do.
 //! - `reader`: what becomes of each event; `writer`: orders and credit in, frames out.
 //! - `serve`: one connection from its first byte to its last.
 #![tactic(auto)]
 
+mod answering;
+mod half;
+mod hired;
 mod intake;
 mod orders;
 mod outlet;
@@ -29,5 +33,5 @@ mod slots;
 mod worker;
 mod writer;
 
-pub use report::{Ending, Served};
+pub use report::{CallReport, Ending, Served};
 pub use serve::serve_connection;

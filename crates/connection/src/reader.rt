@@ -1,15 +1,15 @@
 //! What becomes of each event of a connection.
 
-ghost use Rattle.std.specs.Prelude.{◌≡◌, ◌<◌};
+ghost use Rattle.std.specs.Prelude.{◌≡◌, ◌<◌, All, IfSome};
+ghost use Rattle.connection.specs.Accounts.{HasAccount};
 
 use crate::intake::Intake;
-use crate::orders::Orders;
-use crate::report::Ending;
-use crate::slot::{InLane, Job};
-use crate::slots::{Engaged, Slots};
+use crate::orders::{Fresh, Opened, Orders};
+use crate::report::{CallReport, Ending};
+use crate::slot::{InLane, Job, OutLane};
+use crate::slots::{Made, Slots};
 use crate::worker::moment;
 use bytes::Bytes;
-use callbox::Feeder;
 use callhead::{CallHead, HeadFault, unknown_method};
 use connbook::{AdmitFault, Receipt};
 use device::ConnRead;
@@ -37,12 +37,11 @@ const STEP: u64 = 1;
 /// How many streams a client may begin (`flow::Halves`); at the last of them it is told to open no more.
 const STREAMS: u32 = 4096;
 
-/// A call whose half is open.
+/// A slot that serves a call: its number, and what the writer is told of it.
 #[derive(Drop)]
-struct Row {
-    feeder: Feeder<InLane>,
-    /// The number of its slot.
+struct Engaged {
     place: usize,
+    opened: Opened,
 }
 
 /// What the reading thread of a connection has.
@@ -50,11 +49,10 @@ struct Row {
 pub(crate) struct Reader<A: Ledger, B: Ledger, C: Ledger, R: Drop> {
     pub(crate) rt: R,
     pub(crate) alloc: Global,
-    pub(crate) methods: Arc<Methods>,
     pub(crate) orders: Orders<A, B, C>,
-    pub(crate) slots: Slots,
-    /// The calls whose halves are open, by their streams.
-    rows: IndexMap<StreamId, Row>,
+    pub(crate) slots: Slots<InLane, OutLane>,
+    /// The slots of the calls whose halves are open, by their streams.
+    places: IndexMap<StreamId, usize>,
     /// How many streams were begun.
     begun: u32,
     /// Whether the peer opens no more streams.
@@ -73,17 +71,15 @@ where
     pub(crate) fn new(
         rt: R,
         alloc: Global,
-        methods: Arc<Methods>,
         orders: Orders<A, B, C>,
         start: Instant,
     ) -> Reader<A, B, C, R> {
         Reader {
             rt,
             alloc,
-            methods,
             orders,
             slots: Slots::new(alloc),
-            rows: IndexMap::new(alloc),
+            places: IndexMap::new(alloc),
             begun: 0,
             peer_goaway: false,
             start,
@@ -95,6 +91,7 @@ where
         &mut self,
         intake: &mut Intake<A, B, C>,
         input: &mut I,
+        methods: &Arc<Methods>,
     ) -> Ending
         requires whole { (intake.old.came.parts ≡ A.parts) × (0 < A.parts) × (intake.old.calls.parts ≡ B.parts) × (0 < B.parts) }
         ensures whole { (intake.new.came.parts ≡ A.parts) × (0 < A.parts) × (intake.new.calls.parts ≡ B.parts) × (0 < B.parts) }
@@ -109,7 +106,7 @@ where
             if count == 0 || self.orders.shared.has_stopped() {
                 return self.input_ended();
             }
-            match self.take(intake, &mut core, &piece[..count]) {
+            match self.take(intake, &mut core, &piece[..count], methods) {
                 Ok(None) => {}
                 Ok(Some(code)) => return self.fail(code, Ending::ProtocolError(code)),
                 Err(AllocError) => {
@@ -120,25 +117,28 @@ where
         unreachable!()
     }
 
-    /// Ends all halves and workers, and lets the writer end.
-    pub(crate) fn end(self) {
+    /// Ends all halves and workers, and lets the writer end: the rows of all calls, or none for want of memory.
+    pub(crate) fn end(self) -> Option<Vec<CallReport>>
+        ensures rows { IfSome result (λ rows. All (λ row. HasAccount row) rows.items) }
+    {
         let Reader {
             rt,
             mut orders,
             mut slots,
-            rows,
+            places,
             ..
         } = self;
-        for (id, row) in rows {
+        for (id, place) in places {
             orders.reset(&rt, id, ErrorCode::Cancel, false);
-            slots.keep(row.place, row.feeder.reset(ErrorCode::Cancel.code()));
+            slots.reset(place, ErrorCode::Cancel.code());
             orders.shared.book.lock(&rt).cut(id);
         }
         orders.put(&rt, Control::InputEnded);
         orders.shared.writer.ring();
-        slots.end(&rt);
+        let calls = slots.end(&rt);
         orders.put(&rt, Control::Close);
         orders.shared.writer.ring();
+        calls
     }
 
     fn input_ended(&self) -> Ending {
@@ -164,12 +164,13 @@ where
         intake: &mut Intake<A, B, C>,
         core: &mut InCore,
         piece: &[u8],
+        methods: &Arc<Methods>,
     ) -> Result<Option<ErrorCode>, AllocError>
         requires whole { (intake.old.came.parts ≡ A.parts) × (0 < A.parts) × (intake.old.calls.parts ≡ B.parts) × (0 < B.parts) }
         ensures whole { (intake.new.came.parts ≡ A.parts) × (0 < A.parts) × (intake.new.calls.parts ≡ B.parts) × (0 < B.parts) }
     {
         'events: for event in core.feed(piece)? {
-            if let Some(code) = self.follow(intake, event)? {
+            if let Some(code) = self.follow(intake, event, methods)? {
                 return Ok(Some(code));
             }
         }
@@ -186,13 +187,14 @@ where
         &mut self,
         intake: &mut Intake<A, B, C>,
         event: InEvent,
+        methods: &Arc<Methods>,
     ) -> Result<Option<ErrorCode>, AllocError>
         requires whole { (intake.old.came.parts ≡ A.parts) × (0 < A.parts) × (intake.old.calls.parts ≡ B.parts) × (0 < B.parts) }
         ensures whole { (intake.new.came.parts ≡ A.parts) × (0 < A.parts) × (intake.new.calls.parts ≡ B.parts) × (0 < B.parts) }
     {
         let rt = self.rt;
         match event {
-            InEvent::Open(id, head) => self.open(intake, id, head)?,
+            InEvent::Open(id, head) => self.open(intake, id, head, methods)?,
             InEvent::BadHead(id, fault) => self.refuse(id, fault)?,
             InEvent::Data(id, bytes, flow) => return Ok(self.data(intake, id, bytes, flow)),
             InEvent::Loose(flow) => return Ok(self.loose(intake, flow)),
@@ -223,19 +225,20 @@ where
         intake: &mut Intake<A, B, C>,
         id: StreamId,
         head: CallHead,
+        methods: &Arc<Methods>,
     ) -> Result<(), AllocError>
         requires whole { (intake.old.came.parts ≡ A.parts) × (0 < A.parts) × (intake.old.calls.parts ≡ B.parts) × (0 < B.parts) }
         ensures whole { (intake.new.came.parts ≡ A.parts) × (0 < A.parts) × (intake.new.calls.parts ≡ B.parts) × (0 < B.parts) }
     {
         let rt = self.rt;
         self.begin(id);
-        let Some(index) = self.methods.find(head.path.as_slice()) else {
+        let Some(index) = methods.find(head.path.as_slice()) else {
             let fields = Sequence::from(unknown_method(self.alloc)?);
             self.orders.put(&rt, Control::Refuse(id, fields));
             return Ok(());
         };
         match intake.admit(&rt, id) {
-            Ok(()) => self.start(id, index, head),
+            Ok(()) => self.start(id, index, head, methods),
             Err(AdmitFault::OutOfMemory) => Err(AllocError),
             Err(AdmitFault::NotNew | AdmitFault::Draining | AdmitFault::TooMany) => {
                 self.orders.reset(&rt, id, ErrorCode::RefusedStream, true);
@@ -245,19 +248,24 @@ where
     }
 
     /// Has a worker answer a call that was admitted.
-    fn start(&mut self, id: StreamId, index: usize, head: CallHead) -> Result<(), AllocError> {
+    fn start(
+        &mut self,
+        id: StreamId,
+        index: usize,
+        head: CallHead,
+        methods: &Arc<Methods>,
+    ) -> Result<(), AllocError> {
         let rt = self.rt;
         let opened = match head.timeout {
             Some(_) => moment(&rt, self.start),
             None => 0,
         };
-        self.rows.reserve(1)?;
-        let Some(engaged) = self.engage(id)? else {
+        self.places.reserve(1)?;
+        let Some(engaged) = self.engage(id, methods)? else {
             return Ok(());
         };
         let Engaged {
             place,
-            feeder,
             opened: whose,
         } = engaged;
         self.orders.put(&rt, Control::Open(id, whose));
@@ -268,23 +276,35 @@ where
             opened,
         };
         self.slots.hand_over(&rt, place, job);
-        self.rows.insert(id, Row { feeder, place })?;
+        self.places.insert(id, place)?;
         Ok(())
     }
 
     /// A slot for a call of this stream: a free one, or a new one. Where all are at calls, one of them is at a call that is no longer
     /// live, and the reader waits for it. None where the writer has stopped: then no call is live.
-    fn engage(&mut self, id: StreamId) -> Result<Option<Engaged>, AllocError> {
+    fn engage(
+        &mut self,
+        id: StreamId,
+        methods: &Arc<Methods>,
+    ) -> Result<Option<Engaged>, AllocError> {
         let rt = self.rt;
         for _ in rt.forever() {
             let mark = self.orders.shared.reader.mark();
-            if let Some(engaged) = self.slots.engage(id) {
-                return Ok(Some(engaged));
+            if let Some(place) = self.slots.engage(id) {
+                let opened = Opened::Again(place);
+                return Ok(Some(Engaged { place, opened }));
             }
             self.shut_answered();
             let shared = &self.orders.shared;
-            if let Some(engaged) = self.slots.open(rt, shared, &self.methods, self.start, id)? {
-                return Ok(Some(engaged));
+            if let Some(made) = self.slots.open(rt, shared, methods, self.start, id)? {
+                let Made {
+                    place,
+                    slot,
+                    sender,
+                    ..
+                } = made;
+                let opened = Opened::New(Fresh::new(slot, sender));
+                return Ok(Some(Engaged { place, opened }));
             }
             if shared.has_stopped() {
                 return Ok(None);
@@ -364,12 +384,11 @@ where
         if bytes.is_empty() {
             return;
         }
-        let Some(row) = self.rows.get_mut(&id) else {
+        let Some(place) = self.places.get(&id).copied() else {
             return;
         };
-        match row.feeder.feed(bytes) {
-            Ok(()) => self.slots.note(row.place),
-            Err(_fault) => self.cut(id, ErrorCode::EnhanceYourCalm, true),
+        if self.slots.feed(place, bytes).is_err() {
+            self.cut(id, ErrorCode::EnhanceYourCalm, true);
         }
     }
 
@@ -385,8 +404,8 @@ where
     fn end_half(&mut self, id: StreamId) {
         let rt = self.rt;
         self.orders.shared.book.lock(&rt).end_remote(id);
-        if let Some(row) = self.rows.swap_remove(&id) {
-            self.slots.keep(row.place, row.feeder.end());
+        if let Some(place) = self.places.swap_remove(&id) {
+            self.slots.end_half(place);
         }
     }
 
@@ -400,8 +419,8 @@ where
 
     /// Resets the half of a call, if it is open.
     fn let_go(&mut self, id: StreamId, code: ErrorCode) {
-        if let Some(row) = self.rows.swap_remove(&id) {
-            self.slots.keep(row.place, row.feeder.reset(code.code()));
+        if let Some(place) = self.places.swap_remove(&id) {
+            self.slots.reset(place, code.code());
         }
     }
 }

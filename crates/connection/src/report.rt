@@ -1,6 +1,7 @@
-//! How a connection ended.
+//! How a connection ended, and what became of its calls.
 
-use h2frame::ErrorCode;
+use account::Told;
+use h2frame::{ErrorCode, StreamId};
 
 /// What became of a connection.
 #[derive(Drop)]
@@ -8,6 +9,29 @@ pub struct Served<O: Drop> {
     pub ending: Ending,
     /// What was written to. None where no memory or no thread was to be had before anything was read.
     pub output: Option<O>,
+    /// A row for each call that a worker answered, in no order. None where there was no memory for all of them.
+    pub calls: Option<Vec<CallReport>>,
+}
+
+/// What became of a call that a worker answered. A number over the greatest `u64` counts as that.
+#[derive(Clone, Copy, Debug, PartialEq, Eq)]
+pub struct CallReport {
+    /// Its stream.
+    pub id: StreamId,
+    /// Which of the methods it called.
+    pub method: usize,
+    /// How many messages were taken.
+    pub messages: u64,
+    /// How many bytes of its DATA came for them.
+    pub bytes: u64,
+    /// What was told behind them.
+    pub told: Option<Told>,
+    /// How many messages it was answered with.
+    pub given: u64,
+    /// How many bytes these had, without their prefixes.
+    pub given_bytes: u64,
+    /// The status of its trailers. None where it was left without.
+    pub status: Option<u32>,
 }
 
 /// How a connection ended. Where several are true, the first of `OutOfMemory`, `WriteFailed`, `ProtocolError` and

@@ -1,14 +1,15 @@
 //! One connection from its first byte to its last.
 
-ghost use Rattle.std.specs.Prelude.{◌≡◌, ◌<◌, ℕ, List, Option, Some, IfOk, IfSome};
+ghost use Rattle.std.specs.Prelude.{◌≡◌, ◌<◌, ℕ, List, All, Option, Some, IfOk, IfSome};
 ghost use Rattle.connection.specs.declared.report.Ending.TheVariants as ending;
+ghost use Rattle.connection.specs.Accounts.{HasAccount};
 ghost use Rattle.connection.specs.Written.{HasWritten};
 
 use crate::intake::Intake;
 use crate::orders::{ORDERS, Orders};
 use crate::outlet::Outlet;
 use crate::reader::Reader;
-use crate::report::{Ending, Served};
+use crate::report::{CallReport, Ending, Served};
 use crate::shared::Shared;
 use crate::writer;
 use crate::writer::Writing;
@@ -39,6 +40,8 @@ where
     O: ConnWrite + Send + Drop + 'static,
     R: Threads + Wait + Clock + Copy + Send + Sync + Drop + 'static,
     ensures served { IfSome result.output (HasWritten O.contents O.failed (O.contents output) (Some result.ending)) }
+    // Each row stands on a lawful account of its call.
+    ensures calls { IfSome result.calls (λ rows. All (λ row. HasAccount row) rows.items) }
 {
     let blanks = (Blank::new(1), Blank::new(1), Blank::new(1));
     match serve_over::<Brand, Brand, Brand, I, O, R>(rt, alloc, blanks, input, output, methods) {
@@ -46,6 +49,7 @@ where
         Err(AllocError) => Served {
             ending: Ending::OutOfMemory,
             output: None,
+            calls: None,
         },
     }
 }
@@ -70,6 +74,7 @@ where
     requires admitted { (blanks.1.name ≡ B.name) × (blanks.1.parts ≡ B.parts) × (0 < B.parts) }
     requires announced { (blanks.2.name ≡ C.name) × (blanks.2.parts ≡ C.parts) × (0 < C.parts) }
     ensures served { IfOk result (λ served. IfSome served.output (HasWritten O.contents O.failed (O.contents output) (Some served.ending))) }
+    ensures calls { IfOk result (λ served. IfSome served.calls (λ rows. All (λ row. HasAccount row) rows.items)) }
 {
     let (received, came) = blanks.0.open::<A>();
     let (admitted, calls) = blanks.1.open::<B>();
@@ -85,24 +90,31 @@ where
         are_unrung: false,
     };
     let mut intake = Intake::new(shared, came, calls);
-    let mut reader = Reader::new(rt, alloc, methods, orders, start);
+    let mut reader: Reader<A, B, C, R> = Reader::new(rt, alloc, orders, start);
     let writing = writer::start(rt, alloc, taking, outlet, output)?;
-    let read = reader.read(&mut intake, input);
-    reader.end();
-    Ok(meet(&rt, read, writing))
+    let read = reader.read(&mut intake, input, &methods);
+    let calls = reader.end();
+    Ok(meet(&rt, read, calls, writing))
 }
 
 /// What became of a connection, where its reader meets its writer.
-fn meet<O>(rt: &impl Threads, read: Ending, writing: Writing<O>) -> Served<O>
+fn meet<O>(
+    rt: &impl Threads,
+    read: Ending,
+    calls: Option<Vec<CallReport>>,
+    writing: Writing<O>,
+) -> Served<O>
 where
     O: ConnWrite + Send + Drop + 'static,
     ensures served { (before : Option (List ℕ)) → O.contents writing.promise.0.value ≡ before → IfSome result.output (HasWritten O.contents O.failed before (Some result.ending)) }
+    ensures calls { result.calls ≡ calls }
 {
     let (written, device) = writing.join(rt);
     let ending = of_both(read, written);
     Served {
         ending,
         output: Some(device),
+        calls,
     }
 }
 

@@ -1,17 +1,28 @@
 //! The slots of a connection, as its reader has them.
 
-use crate::orders::{Fresh, Opened};
+ghost use Rattle.std.specs.Prelude.{◌≡◌, List, [], ◌∷◌, ◌++◌, All, Some, IfOk, IfSome, IsSomeAnd};
+ghost use Rattle.std.specs.Option.{IsSomeAnd-prop};
+ghost use Rattle.account.specs.declared.call.OutItem.{OutItem as Item};
+ghost use Rattle.connection.specs.Accounts.{unheard};
+ghost use Rattle.connection.specs.Halves.{half_by};
+
+use crate::half::Half;
+use crate::hired::{Hired, hire};
+use crate::report::CallReport;
 use crate::shared::Shared;
 use crate::slot::{InLane, Job, OutLane, Slot};
-use crate::worker::{WithEnds, Worker, start_thread};
-use callbox::{FedShut, Feeder, open_call};
+use crate::worker::{Seen, Worker};
+use account::OutItem;
+use bytes::Bytes;
+use callbox::{FedShut, FeedFault, Feeder, InPiece, Sender, open_in, open_out};
 use flow::MAX_LIVE;
 use h2frame::StreamId;
 use handlers::Methods;
+use lane::{Lane, RingLane};
 use std::alloc::{AllocError, Global};
 use std::sync::ledger::Ledger;
 use std::sync::{Arc, Wait};
-use std::thread::{JoinHandle, Threads};
+use std::thread::{PromisedHandle, Threads};
 use std::time::{Clock, Instant};
 
 /// Room for the pieces of a call's DATA: as many as the bytes that a window lets through.
@@ -20,110 +31,59 @@ const IN_ROOM: usize = 65_536;
 /// Room for what a call is answered with: so many messages wait at most to be written.
 const OUT_ROOM: usize = 16;
 
-/// A slot, and what the reader has of it between two calls.
+/// A slot, and what the reader has of it: the half of its call, and its worker.
 #[derive(Drop)]
-struct Seat {
+struct Seat<I: Lane<Item = InPiece>, O: Lane<Item = OutItem>> {
     slot: Arc<Slot>,
     /// The stream of its call, or of its last one.
     id: StreamId,
-    /// What is left of its feeder, once the half of that call was shut.
-    shut: Option<FedShut<InLane>>,
+    half: Half<Feeder<I>, FedShut<I>>,
+    worker: PromisedHandle<Seen<I, O>, Hired<I, O>>,
+    /// The worker takes what the half is fed.
+    ghost one_ring: { IsSomeAnd (half_by (λ f. I.ring_of (I.in_name f.tx)) (λ s. I.ring_of (I.shut_name s.shut)) half) (λ ring. ring ≡ I.ring_of (I.out_name worker.promise.taker.value.rx)) } by { IsSomeAnd-prop (half_by (λ f. I.ring_of (I.in_name f.tx)) (λ s. I.ring_of (I.shut_name s.shut)) half) (λ ring. ring ≡ I.ring_of (I.out_name worker.promise.taker.value.rx))
+        (λ ring. I.name_set ring (I.ring_of (I.out_name worker.promise.taker.value.rx))) },
 }
 
-/// A slot that serves a call, and what the reader has for that.
+/// A slot that was made for its first call. Of its sender nothing was got.
 #[derive(Drop)]
-pub(crate) struct Engaged {
+pub(crate) struct Made<O: Lane<Item = OutItem>> {
     /// The slot's number.
     pub(crate) place: usize,
-    pub(crate) feeder: Feeder<InLane>,
-    /// What the writer is told of it.
-    pub(crate) opened: Opened,
+    pub(crate) slot: Arc<Slot>,
+    pub(crate) sender: Sender<O>,
+    ghost unused: { O.got sender.rx ≡ [] },
 }
 
 /// The slots of a connection, at most as many as calls may be live, by their numbers.
 #[derive(Drop)]
-pub(crate) struct Slots {
+pub(crate) struct Slots<I: Lane<Item = InPiece>, O: Lane<Item = OutItem>> {
     alloc: Global,
-    seats: Vec<Seat>,
-    handles: Vec<JoinHandle<()>>,
+    seats: Vec<Seat<I, O>>,
 }
 
-impl Slots {
-    pub(crate) fn new(alloc: Global) -> Slots {
+impl<I: Lane<Item = InPiece>, O: Lane<Item = OutItem>> Slots<I, O> {
+    ghost use Rattle.connection.specs.Accounts.{HasAccount};
+
+    pub(crate) fn new(alloc: Global) -> Slots<I, O> {
         Slots {
             alloc,
             seats: Vec::new(alloc),
-            handles: Vec::new(alloc),
         }
     }
 
     /// A free slot for a call of this stream, the latest first.
-    pub(crate) fn engage(&mut self, id: StreamId) -> Option<Engaged> {
+    pub(crate) fn engage(&mut self, id: StreamId) -> Option<usize>
+        requires ring_in { (n : I.Name) → I.ring_of (I.next_name n) ≡ I.ring_of n }
+    {
         for place in (0..self.seats.len()).rev() {
             let Some(seat) = self.seats.get_mut(place) else {
                 continue;
             };
-            if let Some(feeder) = seat.begin(id) {
-                let opened = Opened::Again(place);
-                return Some(Engaged {
-                    place,
-                    feeder,
-                    opened,
-                });
+            if seat.begin(id) {
+                return Some(place);
             }
         }
         None
-    }
-
-    /// A new slot for a call of this stream. None where there are as many as there may be. That no thread can be made counts as
-    /// want of memory.
-    pub(crate) fn open<A, B, C, R>(
-        &mut self,
-        rt: R,
-        shared: &Arc<Shared<A, B, C>>,
-        methods: &Arc<Methods>,
-        start: Instant,
-        id: StreamId,
-    ) -> Result<Option<Engaged>, AllocError>
-    where
-        A: Ledger + Send + Sync + 'static,
-        B: Ledger + Send + Sync + 'static,
-        C: Ledger + Send + Sync + 'static,
-        R: Threads + Wait + Clock + Copy + Send + Sync + Drop + 'static,
-    {
-        let place = self.seats.len();
-        if place >= MAX_LIVE {
-            return Ok(None);
-        }
-        self.seats.reserve(1)?;
-        self.handles.reserve(1)?;
-        let slot = Arc::new(self.alloc, Slot::new())?;
-        let told = Arc::try_clone(&slot)?;
-        let methods = Arc::try_clone(methods)?;
-        let worker = Worker {
-            alloc: self.alloc,
-            slot: Arc::try_clone(&slot)?,
-            shared: Arc::try_clone(shared)?,
-            start,
-        };
-        let (feeder, taker, giver, sender) = open_call::<InLane, OutLane>(
-            self.alloc, id, IN_ROOM, OUT_ROOM,
-        )?;
-        let work = WithEnds {
-            worker,
-            taker,
-            giver,
-        };
-        let handle = start_thread(rt, work, methods).ok_or(AllocError)?;
-        self.handles.push_reserved(handle);
-        let shut = None;
-        self.seats.push_reserved(Seat { slot, id, shut });
-        let opened = Opened::New(Fresh::new(told, sender));
-        Ok(Some(Engaged {
-            place,
-            feeder,
-            opened,
-        }))
     }
 
     /// Hands a slot's worker its call. Its bell is still to be rung.
@@ -133,17 +93,28 @@ impl Slots {
         }
     }
 
-    /// Something came for the call of a slot, for which its bell is to be rung once all that came with it is there.
-    pub(crate) fn note(&self, place: usize) {
-        if let Some(seat) = self.seats.get(place) {
+    /// Feeds a piece to the call of a slot, whose bell is to be rung once all that came with it is there.
+    pub(crate) fn feed(&mut self, place: usize, bytes: Bytes) -> Result<(), FeedFault> {
+        let Some(seat) = self.seats.get_mut(place) else {
+            return Ok(());
+        };
+        seat.half.feed(bytes)?;
+        seat.slot.note();
+        Ok(())
+    }
+
+    /// The client has ended the half of a slot's call, which its worker is to see.
+    pub(crate) fn end_half(&mut self, place: usize) {
+        if let Some(seat) = self.seats.get_mut(place) {
+            seat.half.end();
             seat.slot.note();
         }
     }
 
-    /// The half of a slot's call was shut: what is left of its feeder is for the next one. Its worker is to see that.
-    pub(crate) fn keep(&mut self, place: usize, shut: FedShut<InLane>) {
+    /// Resets the half of a slot's call, which its worker is to see.
+    pub(crate) fn reset(&mut self, place: usize, code: u32) {
         if let Some(seat) = self.seats.get_mut(place) {
-            seat.shut = Some(shut);
+            seat.half.reset(code);
             seat.slot.note();
         }
     }
@@ -156,7 +127,7 @@ impl Slots {
     /// The stream of a slot's call, where it was answered and its half wasn't shut.
     pub(crate) fn answered(&self, place: usize) -> Option<StreamId> {
         let seat = self.seats.get(place)?;
-        if seat.shut.is_none() && seat.slot.is_answered() {
+        if seat.half.is_open() && seat.slot.is_answered() {
             return Some(seat.id);
         }
         None
@@ -178,34 +149,129 @@ impl Slots {
         }
     }
 
-    /// Has each worker answer its call to the end, and waits for all.
-    pub(crate) fn end(self, rt: &impl Threads) {
-        let Slots { seats, handles, .. } = self;
+    /// Has each worker answer its call to the end, and waits for all: the rows of all calls, or none for want of memory.
+    pub(crate) fn end(self, rt: &impl Threads) -> Option<Vec<CallReport>>
+        ensures rows { IfSome result (λ rows. All (λ row. HasAccount row) rows.items) }
+    {
+        let Slots { alloc, seats } = self;
         for seat in &seats {
             seat.slot.end();
         }
-        for handle in handles {
-            handle.join(rt);
+        let mut rest = seats;
+        let mut all = Some(Vec::new(alloc));
+        'seats: while let Some(seat) = rest.pop() {
+            all = joined(all, seat.end(rt));
         }
+        all
     }
 }
 
-impl Seat {
-    /// Where the slot is free it is engaged for a call of this stream, whose feeder is answered.
-    fn begin(&mut self, id: StreamId) -> Option<Feeder<InLane>> {
-        if !self.slot.is_free() {
-            return None;
+impl Slots<InLane, OutLane> {
+    /// A new slot for a call of this stream. None where there are as many as there may be. That no thread can be made counts as
+    /// want of memory.
+    pub(crate) fn open<A, B, C, R>(
+        &mut self,
+        rt: R,
+        shared: &Arc<Shared<A, B, C>>,
+        methods: &Arc<Methods>,
+        start: Instant,
+        id: StreamId,
+    ) -> Result<Option<Made<OutLane>>, AllocError>
+    where
+        A: Ledger + Send + Sync + 'static,
+        B: Ledger + Send + Sync + 'static,
+        C: Ledger + Send + Sync + 'static,
+        R: Threads + Wait + Clock + Copy + Send + Sync + Drop + 'static,
+    {
+        let place = self.seats.len();
+        if place >= MAX_LIVE {
+            return Ok(None);
         }
-        match self.shut.take()?.begin() {
-            Ok(feeder) => {
-                self.slot.engage();
-                self.id = id;
-                Some(feeder)
-            }
-            Err(shut) => {
-                self.shut = Some(shut);
-                None
-            }
+        self.seats.reserve(1)?;
+        let slot = Arc::new(self.alloc, Slot::new())?;
+        let told = Arc::try_clone(&slot)?;
+        let worker = Worker {
+            alloc: self.alloc,
+            slot: Arc::try_clone(&slot)?,
+            shared: Arc::try_clone(shared)?,
+            start,
+        };
+        let methods = Arc::try_clone(methods)?;
+        let (seat, sender) = open_seat(rt, self.alloc, worker, methods, slot, id)?;
+        self.seats.push_reserved(seat);
+        Ok(Some(Made {
+            place,
+            slot: told,
+            sender,
+        }))
+    }
+}
+
+/// A slot of this stream's call with a worker of its own, and its sender.
+fn open_seat<A, B, C, R>(
+    rt: R,
+    alloc: Global,
+    worker: Worker<A, B, C>,
+    methods: Arc<Methods>,
+    slot: Arc<Slot>,
+    id: StreamId,
+) -> Result<(Seat<InLane, OutLane>, Sender<OutLane>), AllocError>
+where
+    A: Ledger + Send + Sync + 'static,
+    B: Ledger + Send + Sync + 'static,
+    C: Ledger + Send + Sync + 'static,
+    R: Threads + Wait + Clock + Copy + Send + Sync + Drop + 'static,
+    ensures unused { IfOk result (λ r. ⟦<RingLane<OutItem> as Lane>⟧.got r.1.rx ≡ []) }
+{
+    let (feeder, taker) = open_in::<InLane>(alloc, IN_ROOM)?;
+    let (giver, sender) = open_out::<OutLane>(alloc, id, OUT_ROOM)?;
+    let Some(worker) = hire(rt, worker, methods, taker, giver) else {
+        return Err(AllocError);
+    };
+    let seat = Seat {
+        slot,
+        id,
+        half: Half::Open(feeder),
+        worker,
+    };
+    Ok((seat, sender))
+}
+
+/// All rows, where there are both and memory for them.
+fn joined(all: Option<Vec<CallReport>>, rows: Option<Vec<CallReport>>) -> Option<Vec<CallReport>>
+    ensures { IfSome result (λ both. IsSomeAnd all (λ before. IsSomeAnd rows (λ more. both.items ≡ before.items ++ more.items))) }
+{
+    let mut all = all?;
+    let mut rows = rows?;
+    match all.append(&mut rows) {
+        Ok(()) => Some(all),
+        Err(_e) => None,
+    }
+}
+
+impl<I: Lane<Item = InPiece>, O: Lane<Item = OutItem>> Seat<I, O> {
+    ghost use Rattle.connection.specs.Workers.{EachStands};
+
+    /// Where the slot is free it is engaged for a call of this stream.
+    fn begin(&mut self, id: StreamId) -> bool
+        requires ring_in { (n : I.Name) → I.ring_of (I.next_name n) ≡ I.ring_of n }
+    {
+        if !self.slot.is_free() || !self.half.begin() {
+            return false;
         }
+        self.slot.engage();
+        self.id = id;
+        true
+    }
+
+    /// Waits for the worker, and brings the half and what the worker had together: the rows of the slot's calls.
+    fn end(self, rt: &impl Threads) -> Option<Vec<CallReport>>
+        ensures rows { IfSome result (λ rows. IsSomeAnd (half_by (λ f. I.past_in f.tx ++ I.put_in f.tx ∷ []) (λ s. I.past_shut s.shut ++ I.put_shut s.shut ∷ []) self.half)
+            (λ feds. (gives : List (List Item)) × EachStands unheard feds gives rows.items)) }
+    {
+        let Seat { half, worker, .. } = self;
+        let Seen { taker, end, calls } = worker.join(rt);
+        half.settle(taker, end);
+        calls
     }
 }

@@ -1,20 +1,35 @@
-//! What a worker does with a call.
+//! What a worker does with its calls.
+//!
+//! `Worker::work` answers one call after another, and hands back the ends of its slot's lanes with a row for each call;
+//! `specs/Workers.antt` has what it promises of them.
 
-ghost use Rattle.std.specs.Prelude.{◌≡◌, ◌<◌, length};
+ghost use Rattle.std.specs.Prelude.{◌≡◌, ◌<◌, ℕ, List, [], ◌∷◌, ◌++◌, true, false, length, IfSome, IfOk, IfErr, IsSomeAnd, slice_get};
+ghost use mathlib.Core.List.{IsPrefix};
+ghost use Rattle.lane.specs.End.{of_end};
+ghost use Rattle.account.specs.declared.call.OutItem.{OutItem as Item};
+ghost use Rattle.callbox.specs.declared.piece.InPiece.{InPiece as PieceOf};
+ghost use Rattle.callbox.specs.InSides.{Took};
 ghost use Rattle.handlers.specs.Listed.{listed};
+ghost use Rattle.handlers.specs.declared.step.Step.{Step};
+ghost use Rattle.callrun.specs.Outcomes.{IsOutcome};
+ghost use Rattle.callrun.specs.Runs.{GivesOf, HasCome};
+ghost use Rattle.callrun.specs.Sides.{is_open, name_by, shown};
+ghost use Rattle.connection.specs.Accounts.{IsGivenAs, IsWithin, answers_by};
+ghost use Rattle.connection.specs.Workers.{Answers, HaveRows, EachAnswers, IsFresh};
 
+use crate::answering::Answering;
+use crate::report::CallReport;
 use crate::shared::Shared;
-use crate::slot::{IDLE, InLane, Job, OutLane, Slot};
-use callbox::{GivenShut, Giver, Taker};
+use crate::slot::{IDLE, Job, Slot};
+use account::OutItem;
+use callbox::{GivenShut, Giver, InPiece, Taker};
 use callrun::{CallRun, Turn};
 use h2frame::StreamId;
-use handlers::Methods;
-use lane::End;
+use handlers::{Method, Methods};
+use lane::{End, Lane};
 use std::alloc::Global;
 use std::sync::ledger::Ledger;
 use std::sync::{Arc, Wait};
-use std::thread;
-use std::thread::{JoinHandle, Threads};
 use std::time::{Clock, Duration, Instant};
 
 /// How long a call waits at most before it looks again: at the clock, and whether it is live; in milliseconds.
@@ -39,6 +54,8 @@ struct Pace {
     turns: u32,
     /// Whether the writer was rung for all that it did.
     is_told: bool,
+    /// How many bytes came of it, up to the greatest `u64`.
+    bytes: u64,
 }
 
 impl Pace {
@@ -47,7 +64,13 @@ impl Pace {
             step: STEP,
             turns: 0,
             is_told: true,
+            bytes: 0,
         }
+    }
+
+    /// So many bytes came.
+    fn came(&mut self, bytes: u32) {
+        self.bytes = self.bytes.saturating_add(u64::from(bytes));
     }
 
     /// A turn went. Whether the writer is to be rung for it at once.
@@ -85,79 +108,160 @@ pub(crate) struct Worker<A: Ledger, B: Ledger, C: Ledger> {
     pub(crate) start: Instant,
 }
 
-/// A worker, and its ends of the lanes of its slot, which stay with it.
+/// A worker's ends of the lanes of its slot, and the rows of the calls that it answered.
 #[derive(Drop)]
-pub(crate) struct WithEnds<A: Ledger, B: Ledger, C: Ledger> {
-    pub(crate) worker: Worker<A, B, C>,
-    pub(crate) taker: Taker<InLane>,
-    pub(crate) giver: Giver<OutLane>,
+pub(crate) struct Seen<I: Lane<Item = InPiece>, O: Lane<Item = OutItem>> {
+    pub(crate) taker: Taker<I>,
+    pub(crate) end: End<Giver<O>, GivenShut<O>>,
+    /// None where there was no memory for them.
+    pub(crate) calls: Option<Vec<CallReport>>,
 }
 
-/// What a thread does with the methods.
-pub(crate) trait Work<R> {
-    fn work(self, rt: &R, methods: &Methods);
-}
-
-/// Starts a thread that does this. None where no thread can be had: then the work is dropped.
-pub(crate) fn start_thread<K, R>(rt: R, work: K, methods: Arc<Methods>) -> Option<JoinHandle<()>>
-where
-    K: Work<R> + Send + Drop + 'static,
-    R: Threads + Copy + Send + Drop + 'static,
-{
-    match thread::spawn(&rt, move || work.work(&rt, &methods)) {
-        Ok(handle) => Some(handle),
-        Err(_refused) => None,
-    }
-}
-
-impl<A: Ledger, B: Ledger, C: Ledger, R: Wait + Clock> Work<R> for WithEnds<A, B, C> {
-    /// Answers one call after another, until no more come.
-    fn work(self, rt: &R, methods: &Methods) {
-        let WithEnds {
-            worker,
-            taker,
-            giver,
-        } = self;
-        let mut taker = taker;
-        let mut end = End::Open(giver);
-        for _ in rt.forever() {
-            let Some(job) = worker.slot.next(rt) else {
-                return;
-            };
-            let Some(giver) = worker.begin(rt, job.id, end) else {
-                return;
-            };
-            let (taken, given) = worker.answer(rt, methods, job, taker, giver);
-            taker = taken;
-            end = End::Shut(given);
-            if !worker.rest(rt, &mut taker) {
-                return;
-            }
-        }
-    }
+/// What is left of a call that was answered.
+#[derive(Drop)]
+struct Answered<I: Lane<Item = InPiece>, O: Lane<Item = OutItem>> {
+    taker: Taker<I>,
+    shut: GivenShut<O>,
+    row: CallReport,
 }
 
 impl<A: Ledger, B: Ledger, C: Ledger> Worker<A, B, C> {
+    /// Answers one call after another, until no more come.
+    pub(crate) fn work<I, O, M, R>(
+        &self,
+        rt: &R,
+        methods: &Methods,
+        taker: Taker<I>,
+        giver: Giver<O>,
+    ) -> Seen<I, O>
+    where
+        I: Lane<Item = InPiece>,
+        O: Lane<Item = OutItem>,
+        M: Answering,
+        R: Wait + Clock,
+        requires answers { IsWithin M.answers (answers_by (λ method. (⟦<dyn Method as Method>⟧ method.vtable).answers method.value) (listed methods.now)) }
+        requires fresh { IsFresh (I.got taker.rx) taker.progress × (I.past_out taker.rx ≡ []) }
+        requires ungiven { (O.past_in giver.tx ≡ []) × (O.put_in giver.tx ≡ []) }
+        requires ring_in { (n : I.Name) → I.ring_of (I.next_name n) ≡ I.ring_of n }
+        requires ring_out { (n : O.Name) → O.ring_of (O.next_name n) ≡ O.ring_of n }
+        ensures in_ring { I.ring_of (I.out_name result.taker.rx) ≡ I.ring_of (I.out_name taker.rx) }
+        ensures out_ring { O.ring_of (of_end (λ g. O.in_name g.tx) (λ s. O.shut_name s.shut) result.end) ≡ O.ring_of (O.in_name giver.tx) }
+        ensures rows { IfSome result.calls (λ rows. HaveRows M.answers (I.past_out result.taker.rx) (I.got result.taker.rx)
+            (of_end (λ g. O.past_in g.tx) (λ s. O.past_shut s.shut ++ O.put_shut s.shut ∷ []) result.end) rows.items) }
+    {
+        let mut seen = Seen {
+            taker,
+            end: End::Open(giver),
+            calls: Some(Vec::new(self.alloc)),
+        };
+        'calls: for _ in rt.forever() {
+            let Some(job) = self.slot.next(rt) else {
+                return seen;
+            };
+            match self.serve::<I, O, M, R>(rt, methods, job, seen) {
+                Ok(idle) => seen = idle,
+                Err(last) => return last,
+            }
+        }
+        unreachable!()
+    }
+
+    /// Answers the next call, and gets all of it. `Err` where no more calls are answered.
+    fn serve<I, O, M, R>(
+        &self,
+        rt: &R,
+        methods: &Methods,
+        job: Job,
+        seen: Seen<I, O>,
+    ) -> Result<Seen<I, O>, Seen<I, O>>
+    where
+        I: Lane<Item = InPiece>,
+        O: Lane<Item = OutItem>,
+        M: Answering,
+        R: Wait + Clock,
+        requires answers { IsWithin M.answers (answers_by (λ method. (⟦<dyn Method as Method>⟧ method.vtable).answers method.value) (listed methods.now)) }
+        requires fresh { IsFresh (I.got seen.taker.rx) seen.taker.progress }
+        requires ungiven { of_end (λ g. O.put_in g.tx) (λ s. []) seen.end ≡ [] }
+        requires rows { IfSome seen.calls (λ rows. EachAnswers M.answers (I.past_out seen.taker.rx)
+            (of_end (λ g. O.past_in g.tx) (λ s. O.past_shut s.shut ++ O.put_shut s.shut ∷ []) seen.end) rows.items) }
+        requires ring_in { (n : I.Name) → I.ring_of (I.next_name n) ≡ I.ring_of n }
+        requires ring_out { (n : O.Name) → O.ring_of (O.next_name n) ≡ O.ring_of n }
+        ensures in_ring_on { IfOk result (λ r. I.ring_of (I.out_name r.taker.rx) ≡ I.ring_of (I.out_name seen.taker.rx)) }
+        ensures in_ring { IfErr result (λ r. I.ring_of (I.out_name r.taker.rx) ≡ I.ring_of (I.out_name seen.taker.rx)) }
+        ensures out_ring_on { IfOk result (λ r. O.ring_of (of_end (λ g. O.in_name g.tx) (λ s. O.shut_name s.shut) r.end) ≡ O.ring_of (of_end (λ g. O.in_name g.tx) (λ s. O.shut_name s.shut) seen.end)) }
+        ensures out_ring { IfErr result (λ r. O.ring_of (of_end (λ g. O.in_name g.tx) (λ s. O.shut_name s.shut) r.end) ≡ O.ring_of (of_end (λ g. O.in_name g.tx) (λ s. O.shut_name s.shut) seen.end)) }
+        ensures fresh { IfOk result (λ r. IsFresh (I.got r.taker.rx) r.taker.progress) }
+        ensures ungiven { IfOk result (λ r. of_end (λ g. O.put_in g.tx) (λ s. []) r.end ≡ []) }
+        ensures rows_on { IfOk result (λ r. IfSome r.calls (λ rows. EachAnswers M.answers (I.past_out r.taker.rx)
+            (of_end (λ g. O.past_in g.tx) (λ s. O.past_shut s.shut ++ O.put_shut s.shut ∷ []) r.end) rows.items)) }
+        ensures rows { IfErr result (λ r. IfSome r.calls (λ rows. HaveRows M.answers (I.past_out r.taker.rx) (I.got r.taker.rx)
+            (of_end (λ g. O.past_in g.tx) (λ s. O.past_shut s.shut ++ O.put_shut s.shut ∷ []) r.end) rows.items)) }
+    {
+        let Seen { taker, end, calls } = seen;
+        let giver = match self.begin(rt, job.id, end) {
+            Ok(giver) => giver,
+            Err(shut) => {
+                return Err(Seen {
+                    taker,
+                    end: End::Shut(shut),
+                    calls,
+                });
+            }
+        };
+        let Answered { taker, shut, row } = self.answer(rt, methods, job, taker, giver);
+        let mut taker = taker;
+        let goes_on = self.rest(rt, &mut taker);
+        let seen = Seen {
+            taker,
+            end: End::Shut(shut),
+            calls: with_row(calls, row),
+        };
+        if goes_on { Ok(seen) } else { Err(seen) }
+    }
+
     /// The giver of the next call. All of the last was sent, or the slot wasn't free: where that isn't seen yet the worker looks
-    /// again while the call is live. None where it isn't.
-    fn begin(
+    /// again while the call is live. Where it isn't, the end stays as it is.
+    fn begin<O: Lane<Item = OutItem>>(
         &self,
         rt: &impl Wait,
         id: StreamId,
-        end: End<Giver<OutLane>, GivenShut<OutLane>>,
-    ) -> Option<Giver<OutLane>> {
-        let mut shut = match end {
-            End::Open(giver) => return Some(giver),
-            End::Shut(shut) => shut,
-        };
-        for _ in rt.forever() {
+        end: End<Giver<O>, GivenShut<O>>,
+    ) -> Result<Giver<O>, GivenShut<O>>
+        requires ungiven { of_end (λ g. O.put_in g.tx) (λ s. []) end ≡ [] }
+        requires ring_out { (n : O.Name) → O.ring_of (O.next_name n) ≡ O.ring_of n }
+        ensures ring { IfOk result (λ g. O.ring_of (O.in_name g.tx) ≡ O.ring_of (of_end (λ g. O.in_name g.tx) (λ s. O.shut_name s.shut) end)) }
+        ensures past { IfOk result (λ g. O.past_in g.tx ≡ of_end (λ g. O.past_in g.tx) (λ s. O.past_shut s.shut ++ O.put_shut s.shut ∷ []) end) }
+        ensures empty { IfOk result (λ g. O.put_in g.tx ≡ []) }
+        ensures ring_stays { IfErr result (λ s. O.ring_of (O.shut_name s.shut) ≡ O.ring_of (of_end (λ g. O.in_name g.tx) (λ s. O.shut_name s.shut) end)) }
+        ensures past_stays { IfErr result (λ s. O.past_shut s.shut ++ O.put_shut s.shut ∷ [] ≡ of_end (λ g. O.past_in g.tx) (λ s. O.past_shut s.shut ++ O.put_shut s.shut ∷ []) end) }
+    {
+        match end {
+            End::Open(giver) => Ok(giver),
+            End::Shut(shut) => self.begin_again(rt, id, shut),
+        }
+    }
+
+    /// The giver of the next call behind another.
+    fn begin_again<O: Lane<Item = OutItem>>(
+        &self,
+        rt: &impl Wait,
+        id: StreamId,
+        shut: GivenShut<O>,
+    ) -> Result<Giver<O>, GivenShut<O>>
+        ensures name { IfOk result (λ g. O.in_name g.tx ≡ O.next_name (O.shut_name shut.shut)) }
+        ensures past { IfOk result (λ g. O.past_in g.tx ≡ O.past_shut shut.shut ++ O.put_shut shut.shut ∷ []) }
+        ensures empty { IfOk result (λ g. O.put_in g.tx ≡ []) }
+        ensures stays { IfErr result (λ s. (O.shut_name s.shut ≡ O.shut_name shut.shut) × (O.past_shut s.shut ≡ O.past_shut shut.shut) × (O.put_shut s.shut ≡ O.put_shut shut.shut)) }
+    {
+        let mut end = shut;
+        'looks: for _ in rt.forever() {
             let mark = self.slot.bell.mark();
-            match shut.begin(self.alloc) {
-                Ok(giver) => return Some(giver),
-                Err(still) => shut = still,
+            match end.begin(self.alloc) {
+                Ok(giver) => return Ok(giver),
+                Err(still) => end = still,
             }
             if !self.shared.book.lock(rt).is_live(id) {
-                return None;
+                return Err(end);
             }
             self.slot
                 .bell
@@ -167,14 +271,23 @@ impl<A: Ledger, B: Ledger, C: Ledger> Worker<A, B, C> {
     }
 
     /// Answers a call.
-    fn answer<R: Wait + Clock>(
+    fn answer<I: Lane<Item = InPiece>, O: Lane<Item = OutItem>, R: Wait + Clock>(
         &self,
         rt: &R,
         methods: &Methods,
         job: Job,
-        taker: Taker<InLane>,
-        giver: Giver<OutLane>,
-    ) -> (Taker<InLane>, GivenShut<OutLane>) {
+        taker: Taker<I>,
+        giver: Giver<O>,
+    ) -> Answered<I, O>
+        requires fresh { IsFresh (I.got taker.rx) taker.progress }
+        requires ungiven { O.put_in giver.tx ≡ [] }
+        ensures in_name { I.out_name result.taker.rx ≡ I.out_name taker.rx }
+        ensures in_past { I.past_out result.taker.rx ≡ I.past_out taker.rx }
+        ensures name { O.shut_name result.shut.shut ≡ O.in_name giver.tx }
+        ensures past { O.past_shut result.shut.shut ≡ O.past_in giver.tx }
+        ensures answers { Answers (answers_by (λ method. (⟦<dyn Method as Method>⟧ method.vtable).answers method.value) (listed methods.now))
+            (I.got result.taker.rx) (O.put_shut result.shut.shut) result.row }
+    {
         let Job {
             id,
             index,
@@ -182,34 +295,119 @@ impl<A: Ledger, B: Ledger, C: Ledger> Worker<A, B, C> {
             opened,
         } = job;
         if methods.get(index).is_none() {
-            self.settle(rt, id, 0, false);
-            return (taker, giver.leave());
+            return self.pass_over(rt, id, index, taker, giver);
         }
         let mut run = CallRun::new(self.alloc, methods, index, head, taker, giver, opened);
         let mut pace = Pace::new();
+        self.run(rt, methods, id, &mut run, &mut pace);
+        self.end(rt, id, index, run, pace)
+    }
+
+    /// Leaves a call whose method isn't there.
+    fn pass_over<I: Lane<Item = InPiece>, O: Lane<Item = OutItem>>(
+        &self,
+        rt: &impl Wait,
+        id: StreamId,
+        index: usize,
+        taker: Taker<I>,
+        giver: Giver<O>,
+    ) -> Answered<I, O>
+        ensures taker { result.taker ≡ taker }
+        ensures name { O.shut_name result.shut.shut ≡ O.in_name giver.tx }
+        ensures past { O.past_shut result.shut.shut ≡ O.past_in giver.tx }
+        ensures row { (result.row.method ≡ index) × (result.row.messages ≡ taker.progress.taken) × (result.row.told ≡ taker.progress.told) }
+    {
+        self.settle(rt, id, 0, false);
+        let row = CallReport {
+            id,
+            method: index,
+            messages: taker.taken(),
+            bytes: 0,
+            told: taker.told(),
+            given: 0,
+            given_bytes: 0,
+            status: None,
+        };
+        Answered {
+            taker,
+            shut: giver.leave(),
+            row,
+        }
+    }
+
+    /// Gives the call turns to its end.
+    fn run<I: Lane<Item = InPiece>, O: Lane<Item = OutItem>, R: Wait + Clock>(
+        &self,
+        rt: &R,
+        methods: &Methods,
+        id: StreamId,
+        run: &mut CallRun<I, O>,
+        pace: &mut Pace,
+    )
+        requires index { run.old.index < length (listed methods.now) }
+        ensures run { IfSome (slice_get (listed methods.now) run.old.index) (λ method. (messages : List (List ℕ))
+            → Took (I.got run.old.taker.rx) run.old.taker.progress messages
+            → HasCome ((⟦<dyn Method as Method>⟧ method.vtable).answers method.value) ((⟦<dyn Method as Method>⟧ method.vtable).stands method.value) run.old.taker.progress.told messages run.old.call run.old.in_hand (shown (λ g. O.put_in g.tx) (λ s. O.put_shut s.shut) (λ s. O.was_placed s.shut) run.old.response)
+            → (more : List (List ℕ)) × Took (I.got run.new.taker.rx) run.new.taker.progress (messages ++ more)
+            × HasCome ((⟦<dyn Method as Method>⟧ method.vtable).answers method.value) ((⟦<dyn Method as Method>⟧ method.vtable).stands method.value) run.new.taker.progress.told (messages ++ more) run.new.call run.new.in_hand (shown (λ g. O.put_in g.tx) (λ s. O.put_shut s.shut) (λ s. O.was_placed s.shut) run.new.response)) }
+        ensures in_name { I.out_name run.new.taker.rx ≡ I.out_name run.old.taker.rx }
+        ensures in_past { I.past_out run.new.taker.rx ≡ I.past_out run.old.taker.rx }
+        ensures name { name_by (λ g. O.in_name g.tx) (λ s. O.shut_name s.shut) run.new.response ≡ name_by (λ g. O.in_name g.tx) (λ s. O.shut_name s.shut) run.old.response }
+        ensures past { name_by (λ g. O.past_in g.tx) (λ s. O.past_shut s.shut) run.new.response ≡ name_by (λ g. O.past_in g.tx) (λ s. O.past_shut s.shut) run.old.response }
+        ensures index { run.new.index ≡ run.old.index }
+        ensures over { is_open run.new.response ≡ false }
+    {
         'turns: for _ in rt.forever() {
-            let came = self.slot.bell.mark();
-            let room = self.shared.room.mark();
-            let now = self.now(rt, &run);
-            let turn = run.turn(methods, now);
-            match turn {
-                Turn::Went => {
-                    if pace.went() {
-                        self.shared.writer.ring();
-                    }
-                }
-                Turn::Over => break,
-                Turn::Nothing | Turn::Full => {
-                    if !self.is_live(rt, id, &mut run, pace.is_told) {
-                        self.give_up(rt, methods, &mut run);
-                        break;
-                    }
-                    self.wait(rt, turn, room, came, pace.step);
-                    pace.waited(turn, run.has_deadline());
-                }
+            if !self.step(rt, methods, id, run, pace) {
+                return;
             }
         }
-        self.end(rt, id, run)
+    }
+
+    /// Gives the call a turn, and waits where there was nothing to do; a call that is no longer live ends. Answers whether it goes on.
+    fn step<I: Lane<Item = InPiece>, O: Lane<Item = OutItem>, R: Wait + Clock>(
+        &self,
+        rt: &R,
+        methods: &Methods,
+        id: StreamId,
+        run: &mut CallRun<I, O>,
+        pace: &mut Pace,
+    ) -> bool
+        requires index { run.old.index < length (listed methods.now) }
+        ensures run { IfSome (slice_get (listed methods.now) run.old.index) (λ method. (messages : List (List ℕ))
+            → Took (I.got run.old.taker.rx) run.old.taker.progress messages
+            → HasCome ((⟦<dyn Method as Method>⟧ method.vtable).answers method.value) ((⟦<dyn Method as Method>⟧ method.vtable).stands method.value) run.old.taker.progress.told messages run.old.call run.old.in_hand (shown (λ g. O.put_in g.tx) (λ s. O.put_shut s.shut) (λ s. O.was_placed s.shut) run.old.response)
+            → (more : List (List ℕ)) × Took (I.got run.new.taker.rx) run.new.taker.progress (messages ++ more)
+            × HasCome ((⟦<dyn Method as Method>⟧ method.vtable).answers method.value) ((⟦<dyn Method as Method>⟧ method.vtable).stands method.value) run.new.taker.progress.told (messages ++ more) run.new.call run.new.in_hand (shown (λ g. O.put_in g.tx) (λ s. O.put_shut s.shut) (λ s. O.was_placed s.shut) run.new.response)) }
+        ensures in_name { I.out_name run.new.taker.rx ≡ I.out_name run.old.taker.rx }
+        ensures in_past { I.past_out run.new.taker.rx ≡ I.past_out run.old.taker.rx }
+        ensures name { name_by (λ g. O.in_name g.tx) (λ s. O.shut_name s.shut) run.new.response ≡ name_by (λ g. O.in_name g.tx) (λ s. O.shut_name s.shut) run.old.response }
+        ensures past { name_by (λ g. O.past_in g.tx) (λ s. O.past_shut s.shut) run.new.response ≡ name_by (λ g. O.past_in g.tx) (λ s. O.past_shut s.shut) run.old.response }
+        ensures index { run.new.index ≡ run.old.index }
+        ensures over { result ≡ false → is_open run.new.response ≡ false }
+    {
+        let came = self.slot.bell.mark();
+        let room = self.shared.room.mark();
+        let now = self.now(rt, run);
+        let turn = run.turn(methods, now);
+        match turn {
+            Turn::Went => {
+                if pace.went() {
+                    self.shared.writer.ring();
+                }
+                true
+            }
+            Turn::Over => false,
+            Turn::Nothing | Turn::Full => {
+                if !self.is_live(rt, id, run, pace) {
+                    self.give_up(rt, methods, run);
+                    return false;
+                }
+                self.wait(rt, turn, room, came, pace.step);
+                pace.waited(turn, run.has_deadline());
+                true
+            }
+        }
     }
 
     /// Waits so many milliseconds at most: for room where a turn lacked it, else for what comes for the call.
@@ -223,16 +421,19 @@ impl<A: Ledger, B: Ledger, C: Ledger> Worker<A, B, C> {
 
     /// Returns what was taken, and says whether the call is live still. The writer is rung where something was returned, or
     /// where it wasn't told yet of what was given.
-    fn is_live(
+    fn is_live<I: Lane<Item = InPiece>, O: Lane<Item = OutItem>>(
         &self,
         rt: &impl Wait,
         id: StreamId,
-        run: &mut CallRun<InLane, OutLane>,
-        is_told: bool,
+        run: &mut CallRun<I, O>,
+        pace: &mut Pace,
     ) -> bool
-        ensures { run.new.index ≡ run.old.index }
+        ensures none { run.new.taker.progress ≡ record run.old.taker.progress { owed = 0 } }
+        ensures rx { run.new.taker.rx ≡ run.old.taker.rx }
+        ensures same { (run.new.index ≡ run.old.index) × (run.new.call ≡ run.old.call) × (run.new.in_hand ≡ run.old.in_hand) × (run.new.response ≡ run.old.response) }
     {
         let credit = run.credit();
+        pace.came(credit);
         let is_live = {
             let mut book = self.shared.book.lock(rt);
             if credit > 0 {
@@ -242,20 +443,31 @@ impl<A: Ledger, B: Ledger, C: Ledger> Worker<A, B, C> {
             book.is_live(id)
         };
         // Only now, so that the writer sees what was returned.
-        if credit > 0 || !is_told {
+        if credit > 0 || !pace.is_told {
             self.shared.writer.ring();
         }
         is_live
     }
 
     /// Leaves a call that is no longer live, unless it was reset: then that is what it is told last.
-    fn give_up<R: Wait + Clock>(
+    fn give_up<I: Lane<Item = InPiece>, O: Lane<Item = OutItem>, R: Wait + Clock>(
         &self,
         rt: &R,
         methods: &Methods,
-        run: &mut CallRun<InLane, OutLane>,
+        run: &mut CallRun<I, O>,
     )
-        requires { run.old.index < length (listed methods.now) }
+        requires index { run.old.index < length (listed methods.now) }
+        ensures run { IfSome (slice_get (listed methods.now) run.old.index) (λ method. (messages : List (List ℕ))
+            → Took (I.got run.old.taker.rx) run.old.taker.progress messages
+            → HasCome ((⟦<dyn Method as Method>⟧ method.vtable).answers method.value) ((⟦<dyn Method as Method>⟧ method.vtable).stands method.value) run.old.taker.progress.told messages run.old.call run.old.in_hand (shown (λ g. O.put_in g.tx) (λ s. O.put_shut s.shut) (λ s. O.was_placed s.shut) run.old.response)
+            → (more : List (List ℕ)) × Took (I.got run.new.taker.rx) run.new.taker.progress (messages ++ more)
+            × HasCome ((⟦<dyn Method as Method>⟧ method.vtable).answers method.value) ((⟦<dyn Method as Method>⟧ method.vtable).stands method.value) run.new.taker.progress.told (messages ++ more) run.new.call run.new.in_hand (shown (λ g. O.put_in g.tx) (λ s. O.put_shut s.shut) (λ s. O.was_placed s.shut) run.new.response)) }
+        ensures in_name { I.out_name run.new.taker.rx ≡ I.out_name run.old.taker.rx }
+        ensures in_past { I.past_out run.new.taker.rx ≡ I.past_out run.old.taker.rx }
+        ensures name { name_by (λ g. O.in_name g.tx) (λ s. O.shut_name s.shut) run.new.response ≡ name_by (λ g. O.in_name g.tx) (λ s. O.shut_name s.shut) run.old.response }
+        ensures past { name_by (λ g. O.past_in g.tx) (λ s. O.past_shut s.shut) run.new.response ≡ name_by (λ g. O.past_in g.tx) (λ s. O.past_shut s.shut) run.old.response }
+        ensures index { run.new.index ≡ run.old.index }
+        ensures over { is_open run.new.response ≡ false }
     {
         'turns: for _ in rt.forever() {
             let now = self.now(rt, run);
@@ -271,21 +483,45 @@ impl<A: Ledger, B: Ledger, C: Ledger> Worker<A, B, C> {
     }
 
     /// Ends a call that is over, by its last item, and hands back its ends.
-    fn end(
+    fn end<I: Lane<Item = InPiece>, O: Lane<Item = OutItem>>(
         &self,
         rt: &impl Wait,
         id: StreamId,
-        run: CallRun<InLane, OutLane>,
-    ) -> (Taker<InLane>, GivenShut<OutLane>) {
+        index: usize,
+        run: CallRun<I, O>,
+        pace: Pace,
+    ) -> Answered<I, O>
+        ensures rx { result.taker.rx ≡ run.taker.rx }
+        ensures progress { result.taker.progress ≡ record run.taker.progress { owed = 0 } }
+        ensures name { Some (O.shut_name result.shut.shut) ≡ name_by (λ g. O.in_name g.tx) (λ s. O.shut_name s.shut) run.response }
+        ensures past { Some (O.past_shut result.shut.shut) ≡ name_by (λ g. O.past_in g.tx) (λ s. O.past_shut s.shut) run.response }
+        ensures given { (items : List Item) × IsGivenAs items (O.put_shut result.shut.shut)
+            × ((answer : Step) → GivesOf run.taker.progress.told answer run.call (shown (λ g. O.put_in g.tx) (λ s. O.put_shut s.shut) (λ s. O.was_placed s.shut) run.response)
+            → IsOutcome run.call.head run.call.overdue run.taker.progress.told answer items result.row.status) }
+        ensures row { (result.row.method ≡ index) × (result.row.messages ≡ run.taker.progress.taken) × (result.row.told ≡ run.taker.progress.told) }
+    {
         let mut run = run;
+        let mut pace = pace;
         let credit = run.credit();
-        let (taker, given, code) = run.into_ends();
-        let shut = match given {
-            End::Open(giver) => giver.leave(),
-            End::Shut(shut) => shut,
+        pace.came(credit);
+        let (given, given_bytes) = run.given();
+        let (taker, end, status) = run.into_ends();
+        self.settle(rt, id, credit, status.is_some());
+        let row = CallReport {
+            id,
+            method: index,
+            messages: taker.taken(),
+            bytes: pace.bytes,
+            told: taker.told(),
+            given,
+            given_bytes,
+            status,
         };
-        self.settle(rt, id, credit, code.is_some());
-        (taker, shut)
+        Answered {
+            taker,
+            shut: shut_of(end),
+            row,
+        }
     }
 
     /// Returns what was taken of a call that is over. One without trailers is live no more.
@@ -306,18 +542,16 @@ impl<A: Ledger, B: Ledger, C: Ledger> Worker<A, B, C> {
 
     /// Gets what is left of a call that was answered, up to its end, and is idle then: for the next call the taker goes on. Says
     /// whether more calls come.
-    fn rest(&self, rt: &impl Wait, taker: &mut Taker<InLane>) -> bool {
-        for _ in rt.forever() {
+    fn rest<I: Lane<Item = InPiece>>(&self, rt: &impl Wait, taker: &mut Taker<I>) -> bool
+        requires ring_in { (n : I.Name) → I.ring_of (I.next_name n) ≡ I.ring_of n }
+        ensures ring { I.ring_of (I.out_name taker.new.rx) ≡ I.ring_of (I.out_name taker.old.rx) }
+        ensures past { result ≡ true → (got : List PieceOf) × IsPrefix (I.got taker.old.rx) got × (I.past_out taker.new.rx ≡ I.past_out taker.old.rx ++ got ∷ []) }
+        ensures fresh { result ≡ true → IsFresh (I.got taker.new.rx) taker.new.progress }
+        ensures stays { result ≡ false → IsPrefix (I.got taker.old.rx) (I.got taker.new.rx) × (I.past_out taker.new.rx ≡ I.past_out taker.old.rx) }
+    {
+        'rests: for _ in rt.forever() {
             let mark = self.slot.bell.mark();
-            taker.drain();
-            let is_idle = taker.begin(self.alloc);
-            if is_idle {
-                self.slot.rest();
-            }
-            // Only now, so that the slot is free by the time that the peer sees the end of the call.
-            self.shared.writer.ring();
-            self.shared.reader.ring();
-            if is_idle {
+            if self.gets_all(taker) {
                 return true;
             }
             if self.slot.is_over() {
@@ -330,8 +564,31 @@ impl<A: Ledger, B: Ledger, C: Ledger> Worker<A, B, C> {
         unreachable!()
     }
 
+    /// Gets what there is of a call that was answered, and is idle where that is all of it.
+    fn gets_all<I: Lane<Item = InPiece>>(&self, taker: &mut Taker<I>) -> bool
+        ensures name { result ≡ true → I.out_name taker.new.rx ≡ I.next_name (I.out_name taker.old.rx) }
+        ensures past { result ≡ true → (got : List PieceOf) × IsPrefix (I.got taker.old.rx) got × (I.past_out taker.new.rx ≡ I.past_out taker.old.rx ++ got ∷ []) }
+        ensures fresh { result ≡ true → IsFresh (I.got taker.new.rx) taker.new.progress }
+        ensures stays { result ≡ false → (I.out_name taker.new.rx ≡ I.out_name taker.old.rx) × (I.past_out taker.new.rx ≡ I.past_out taker.old.rx)
+            × IsPrefix (I.got taker.old.rx) (I.got taker.new.rx) }
+    {
+        taker.drain();
+        let is_idle = taker.begin(self.alloc);
+        if is_idle {
+            self.slot.rest();
+        }
+        // Only now, so that the slot is free by the time that the peer sees the end of the call.
+        self.shared.writer.ring();
+        self.shared.reader.ring();
+        is_idle
+    }
+
     /// The moment, in nanoseconds of the connection. No clock is read for a call without a deadline.
-    fn now(&self, rt: &impl Clock, run: &CallRun<InLane, OutLane>) -> u64 {
+    fn now<I: Lane<Item = InPiece>, O: Lane<Item = OutItem>>(
+        &self,
+        rt: &impl Clock,
+        run: &CallRun<I, O>,
+    ) -> u64 {
         if run.has_deadline() {
             return moment(rt, self.start);
         }
@@ -344,5 +601,28 @@ pub(crate) fn moment(rt: &impl Clock, start: Instant) -> u64 {
     match start.elapsed(rt) {
         Ok(past) => u64::try_from(past.as_nanos()).unwrap_or(u64::MAX),
         Err(_) => u64::MAX,
+    }
+}
+
+/// The giving end once the call is left, where it wasn't answered.
+fn shut_of<O: Lane<Item = OutItem>>(end: End<Giver<O>, GivenShut<O>>) -> GivenShut<O>
+    ensures name { O.shut_name result.shut ≡ of_end (λ g. O.in_name g.tx) (λ s. O.shut_name s.shut) end }
+    ensures past { O.past_shut result.shut ≡ of_end (λ g. O.past_in g.tx) (λ s. O.past_shut s.shut) end }
+    ensures given { IsGivenAs (of_end (λ g. O.put_in g.tx) (λ s. O.put_shut s.shut) end) (O.put_shut result.shut) }
+{
+    match end {
+        End::Open(giver) => giver.leave(),
+        End::Shut(shut) => shut,
+    }
+}
+
+/// The rows with one more, if there is memory for it.
+fn with_row(calls: Option<Vec<CallReport>>, row: CallReport) -> Option<Vec<CallReport>>
+    ensures { IfSome result (λ rows. IsSomeAnd calls (λ before. rows.items ≡ before.items ++ row ∷ [])) }
+{
+    let mut rows = calls?;
+    match rows.push(row) {
+        Ok(()) => Some(rows),
+        Err(_e) => None,
     }
 }

@@ -13,7 +13,7 @@
 //! - `call`: the events of a call whose bytes come in pieces.
 //! - `report`: the lines that tell messages, the end and faults.
 //! - `client` and `target`: `interop case`.
-//! - `server` and `port`: `interop serve` and `interop self`. `parts`, `memory` and `streams`: `interop parts`.
+//! - `server` and `port`: `interop serve` and `interop self`; `served`: what `serve --report` tells. `parts`, `memory` and `streams`: `interop parts`.
 #![tactic(auto)]
 
 ghost use Rattle.std.specs.Prelude.{◌<◌};
@@ -25,6 +25,7 @@ mod memory;
 mod parts;
 mod port;
 mod report;
+mod served;
 mod server;
 mod streams;
 mod target;
@@ -67,7 +68,7 @@ Usage: interop [body --cut N]
        interop case NAME --port P [--host H]
        interop parts
        interop self [--port P]
-       interop serve --port P [--conns N]
+       interop serve --port P [--conns N] [--report]
 
   body --cut N   read the joined DATA bytes of one call as hexadecimal text, in pieces
                  of N bytes (1 to 65536), and print its messages; this with N = 3 is
@@ -80,7 +81,8 @@ Usage: interop [body --cut N]
   self           serve on port P of 127.0.0.1 (50051 if none is given), run all test cases
                  against this server, and print a line of each
   serve --port P serve grpc.testing.TestService on port P of 127.0.0.1, until it is
-                 interrupted, or N connections were served
+                 interrupted, or N connections were served; with --report print a line of
+                 each connection that ends, and of each call on it
   -h, --help     print this text
   --version      print the version
 

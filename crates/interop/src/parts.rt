@@ -38,6 +38,7 @@ where
     let Served {
         ending,
         output: written,
+        ..
     } = serve_connection(rt, alloc, &mut input, written, methods);
     let Some(written) = written else {
         return Err(RunFault::OutOfMemory);

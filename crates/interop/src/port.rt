@@ -3,12 +3,13 @@
 //! Each takes a connection, serves it to its end, and takes the next one. So a client that makes a connection a call waits
 //! for no thread to start. A connection that stays keeps its thread, and one more is started for those that come.
 
-use connection::serve_connection;
+use crate::served::report_of;
+use connection::{Served, serve_connection};
 use device::Marked;
 use handlers::Methods;
 use lane::Bell;
 use std::alloc::{AllocError, Global};
-use std::net::{TcpListener, TcpStream};
+use std::net::{SocketAddr, TcpListener, TcpStream};
 use std::sync::atomic::{AtomicUsize, Ordering};
 use std::sync::{Arc, Wait};
 use std::thread::Threads;
@@ -31,25 +32,28 @@ const LOOK: u64 = 3600;
 #[derive(Drop)]
 struct Port {
     listener: TcpListener,
+    has_report: bool,
     waiting: AtomicUsize,
     /// Rung where the last one that waited has taken a connection.
     wanted: Bell,
 }
 
-/// Serves all connections that come.
+/// Serves all connections that come; with `has_report` the report on each is printed.
 pub fn serve_all<R>(
     rt: R,
     alloc: Global,
     listener: TcpListener,
     methods: &Arc<Methods>,
+    has_report: bool,
 ) -> Result<(), AllocError>
 where
-    R: Threads + Wait + Clock + Copy + Send + Sync + Drop + 'static,
+    R: Print + Threads + Wait + Clock + Copy + Send + Sync + Drop + 'static,
 {
     let port = Arc::new(
         alloc,
         Port {
             listener,
+            has_report,
             waiting: AtomicUsize::new(0),
             wanted: Bell::new(),
         },
@@ -73,7 +77,7 @@ fn start<R>(
     methods: &Arc<Methods>,
 ) -> Result<(), AllocError>
 where
-    R: Threads + Wait + Clock + Copy + Send + Sync + Drop + 'static,
+    R: Print + Threads + Wait + Clock + Copy + Send + Sync + Drop + 'static,
 {
     let shared = Arc::try_clone(port)?;
     let methods = Arc::try_clone(methods)?;
@@ -91,7 +95,7 @@ where
 /// Takes one connection after another, and serves each to its end. It ends where enough others wait.
 fn take_connections<R>(rt: R, alloc: Global, port: &Port, methods: &Arc<Methods>)
 where
-    R: Threads + Wait + Clock + Copy + Send + Sync + Drop + 'static,
+    R: Print + Threads + Wait + Clock + Copy + Send + Sync + Drop + 'static,
 {
     for _ in rt.forever() {
         let accepted = port.listener.accept();
@@ -100,7 +104,7 @@ where
             port.wanted.ring();
         }
         let served = match accepted {
-            Ok((stream, _peer)) => serve_stream(rt, alloc, stream, methods),
+            Ok((stream, peer)) => serve_stream(rt, alloc, stream, peer, methods, port.has_report),
             Err(error) => Err(error),
         };
         if served.is_err() {
@@ -114,21 +118,27 @@ where
     }
 }
 
-/// Serves a connection to its end. It fails where nothing was read of it.
+/// Serves a connection to its end, and prints the report on it where there is to be one. It fails where nothing was read of it.
 pub fn serve_stream<R>(
     rt: R,
     alloc: Global,
     stream: TcpStream,
+    peer: SocketAddr,
     methods: &Arc<Methods>,
+    has_report: bool,
 ) -> io::Result<()>
 where
-    R: Threads + Wait + Clock + Copy + Send + Sync + Drop + 'static,
+    R: Print + Threads + Wait + Clock + Copy + Send + Sync + Drop + 'static,
 {
     // So that a small frame leaves at once.
     stream.set_nodelay(true)?;
     let output = Marked::new(stream.try_clone()?);
-    let methods = Arc::try_clone(methods)?;
+    let theirs = Arc::try_clone(methods)?;
     let mut input = Marked::new(stream);
-    let _served = serve_connection(rt, alloc, &mut input, output, methods);
+    let Served { ending, calls, .. } = serve_connection(rt, alloc, &mut input, output, theirs);
+    if has_report {
+        let report = report_of(alloc, peer, methods, ending, calls)?;
+        print!(rt; "{report}")?;
+    }
     Ok(())
 }

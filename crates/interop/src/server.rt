@@ -21,11 +21,13 @@ use std::{io, thread};
 /// The port of `self` where no other is given.
 const OWN_PORT: u16 = 50_051;
 
-/// What `serve` is told: the port, and how many connections it serves before it ends, where it ends.
+/// What `serve` is told: the port, how many connections it serves before it ends, where it ends, and whether it prints the report
+/// on each.
 #[derive(Clone, Copy, Debug, PartialEq, Eq)]
 pub struct ServeWords {
     pub port: u16,
     pub connections: Option<u16>,
+    pub has_report: bool,
 }
 
 /// What the server is to serve.
@@ -58,13 +60,20 @@ fn read_self_words(words: &[String]) -> Option<u16> {
     }
 }
 
-/// The words behind `serve`: `--port` and `--conns` with their values, in any order, each 1 to 65,535. The port has to be there.
+/// The words behind `serve`: `--port` and `--conns` with their values, each 1 to 65,535, and `--report`, in any order. The port has
+/// to be there.
 fn read_serve_words(words: &[String]) -> Option<ServeWords> {
     let mut port = None;
     let mut connections = None;
+    let mut has_report = false;
     let mut rest = words;
     while !rest.is_empty() {
         let (option, behind) = rest.split_first()?;
+        if option.as_str() == "--report" {
+            has_report = true;
+            rest = behind;
+            continue;
+        }
         let (value, behind) = behind.split_first()?;
         match option.as_str() {
             "--port" => port = Some(read_number(value.as_str())?),
@@ -74,7 +83,11 @@ fn read_serve_words(words: &[String]) -> Option<ServeWords> {
         rest = behind;
     }
     let port = port?;
-    Some(ServeWords { port, connections })
+    Some(ServeWords {
+        port,
+        connections,
+        has_report,
+    })
 }
 
 /// Listens on the port of 127.0.0.1, and serves `grpc.testing.TestService` on each connection in a thread of its own: on all
@@ -89,8 +102,8 @@ where
     let listener = listen(&rt, alloc, port)?;
     println!(rt; "listening {LOOPBACK}:{port}")?;
     match words.connections {
-        Some(count) => serve_some(rt, alloc, &listener, methods, count),
-        None => Ok(serve_all(rt, alloc, listener, methods)?),
+        Some(count) => serve_some(rt, alloc, &listener, methods, count, words.has_report),
+        None => Ok(serve_all(rt, alloc, listener, methods, words.has_report)?),
     }
 }
 
@@ -111,7 +124,7 @@ pub fn run_self<R, W>(
 ) -> Result<bool, ReportFault>
 where
     W: ConnWrite,
-    R: Net<Stream = TcpStream, Listener = TcpListener> + Eprint + AllocGlobal,
+    R: Net<Stream = TcpStream, Listener = TcpListener> + Print + Eprint + AllocGlobal,
     R: Threads + Wait + Clock + Copy + Send + Sync + Drop + 'static,
     ensures { IfOk result (λ passed. (outcomes : List Outcome)
         × (map (λ outcome. outcome.case) outcomes ≡ all_cases)
@@ -120,7 +133,7 @@ where
 {
     let alloc = rt.alloc();
     let serving = thread::spawn(&rt, move || {
-        let _ended = serve_all(rt, alloc, listener, &methods);
+        let _ended = serve_all(rt, alloc, listener, &methods, false);
     });
     if serving.is_err() {
         return Err(ReportFault::OutOfMemory);
@@ -139,13 +152,14 @@ fn serve_some<R>(
     listener: &TcpListener,
     methods: &Arc<Methods>,
     count: u16,
+    has_report: bool,
 ) -> io::Result<()>
 where
-    R: Threads + Wait + Clock + Copy + Send + Sync + Drop + 'static,
+    R: Print + Threads + Wait + Clock + Copy + Send + Sync + Drop + 'static,
 {
     let mut served = Vec::new(alloc);
     for _ in 0..count {
-        served.push(serve_next(rt, alloc, listener, methods)?)?;
+        served.push(serve_next(rt, alloc, listener, methods, has_report)?)?;
     }
     for connection in served {
         connection.join(&rt);
@@ -159,14 +173,15 @@ fn serve_next<R>(
     alloc: Global,
     listener: &TcpListener,
     methods: &Arc<Methods>,
+    has_report: bool,
 ) -> io::Result<JoinHandle<()>>
 where
-    R: Threads + Wait + Clock + Copy + Send + Sync + Drop + 'static,
+    R: Print + Threads + Wait + Clock + Copy + Send + Sync + Drop + 'static,
 {
-    let (stream, _peer) = listener.accept()?;
+    let (stream, peer) = listener.accept()?;
     let methods = Arc::try_clone(methods)?;
     let serving = thread::spawn(&rt, move || {
-        let _served = serve_stream(rt, alloc, stream, &methods);
+        let _served = serve_stream(rt, alloc, stream, peer, &methods, has_report);
     });
     match serving {
         Ok(handle) => Ok(handle),

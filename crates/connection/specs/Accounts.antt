@@ -1,0 +1,54 @@
+-- On what the row of a call stands.
+use Rattle.std.specs.Prelude.{◌≡◌, ◌⊎◌, ℕ, Bool, List, [], ◌∷◌, ◌++◌, Option, IsSomeAnd, slice_get}
+use Rattle.lane.specs.Lawful.{count_of}
+use Rattle.account.specs.declared.call.Account.{Account}
+use Rattle.account.specs.declared.call.OutItem.{OutItem}
+use Rattle.account.specs.declared.call.OutItem.TheVariants.{Left}
+use Rattle.account.specs.declared.call.Told.{Told}
+use Rattle.account.specs.Accounts.{IsLawful}
+use Rattle.callbox.specs.declared.piece.InPiece.{InPiece}
+use Rattle.callbox.specs.InSides.{bytes_of, shut_of}
+use Rattle.callhead.specs.declared.head.CallHead.{CallHead}
+use Rattle.handlers.specs.declared.step.Step.{Step}
+use Rattle.callrun.specs.Outcomes.{IsOutcome, is_end}
+use Rattle.connection.specs.declared.report.CallReport.{CallReport}
+
+-- what the method of this index answers to messages, and to whether their end was told; where there is none, nothing
+abbrev pub answers_by : {A : Type 0} → (A → List (List ℕ) → Bool → Step → Type 0) → List A → ℕ → List (List ℕ) → Bool → Step → Type 0
+answers_by of_method methods index messages ended answer = IsSomeAnd (slice_get methods index) (λ method. of_method method messages ended answer)
+
+-- nothing is said of what methods answer
+abbrev pub unheard : ℕ → List (List ℕ) → Bool → Step → Type 0
+unheard index messages ended answer = ⊥
+
+-- each answer of the first is one of the second
+abbrev pub IsWithin : (ℕ → List (List ℕ) → Bool → Step → Type 0) → (ℕ → List (List ℕ) → Bool → Step → Type 0) → Type 0
+IsWithin narrow wide = (index : ℕ) (messages : List (List ℕ)) (ended : Bool) (answer : Step) → narrow index messages ended answer → wide index messages ended answer
+
+-- the items of an outcome, and behind them at most that the call was left
+abbrev pub IsGivenAs : List OutItem → List OutItem → Type 0
+IsGivenAs items given = (given ≡ items) ⊎ (given ≡ items ++ Left ∷ [])
+
+-- Of a call these messages were taken, this was told behind them, and this was given: an outcome of what the method of the row's index answers to what
+-- was taken, whatever that is. The row's numbers are those of it.
+pub record IsAnswered (answers : ℕ → List (List ℕ) → Bool → Step → Type 0) (messages : List (List ℕ)) (said : Option Told) (given : List OutItem) (row : CallReport) : Type 0 where
+  pub head : CallHead
+  pub overdue : Bool
+  pub items : List OutItem
+  pub outcome : (answer : Step) → answers row.method messages (is_end said) answer → IsOutcome head overdue said answer items row.status
+  pub ends : IsGivenAs items given
+  pub taken : row.messages ≡ count_of messages
+  pub told : row.told ≡ said
+
+-- A row stands on a lawful account.
+pub record StandsOn (answers : ℕ → List (List ℕ) → Bool → Step → Type 0) (account : Account) (row : CallReport) : Type 0 where
+  pub lawful : IsLawful account
+  pub answered : IsAnswered answers account.taken account.told account.given row
+
+-- the account of a call of which nothing is known to be sent
+abbrev pub unsent : List InPiece → List (List ℕ) → Option Told → List OutItem → Account
+unsent fed messages said given = record { fed = bytes_of fed; shut = shut_of fed; taken = messages; told = said; given = given; sent = [] }
+
+-- A row stands on a lawful account of its call: the messages that were taken and what was told are those of the row.
+abbrev pub HasAccount : CallReport → Type 0
+HasAccount row = (account : Account) × IsLawful account × (row.messages ≡ count_of account.taken) × (row.told ≡ account.told)

@@ -1,0 +1,68 @@
+//! What `interop serve --report` tells of a connection: one line of it, and one of each call that was answered on it.
+
+use account::Told;
+use connection::{CallReport, Ending};
+use handlers::Methods;
+use std::alloc::{AllocError, Global};
+use std::net::SocketAddr;
+
+/// The lines on a connection of this peer that ended so, with these calls; none where there was no memory for all of them.
+pub fn report_of(
+    alloc: Global,
+    peer: SocketAddr,
+    methods: &Methods,
+    ending: Ending,
+    calls: Option<Vec<CallReport>>,
+) -> Result<String, AllocError> {
+    let mut text = String::new(alloc);
+    let how = text_of(ending);
+    let Some(mut calls) = calls else {
+        writeln!(text, "connection {peer} {how} calls unknown")?;
+        return Ok(text);
+    };
+    calls.sort_unstable_by_key(|call| call.id);
+    let count = calls.len();
+    writeln!(text, "connection {peer} {how} calls {count}")?;
+    for call in &calls {
+        tell(&mut text, methods, call)?;
+    }
+    Ok(text)
+}
+
+/// Tells a call: its stream and method, the messages and bytes that came in and went out, and how it ended.
+fn tell(text: &mut String, methods: &Methods, call: &CallReport) -> Result<(), AllocError> {
+    let path = match methods.get(call.method) {
+        Some(method) => method.path(),
+        None => "-",
+    };
+    let CallReport {
+        id,
+        messages,
+        bytes,
+        given,
+        given_bytes,
+        ..
+    } = call;
+    write!(
+        text,
+        "call {id:>10} {path:<46} in {messages:>8} {bytes:>12} out {given:>8} {given_bytes:>12} "
+    )?;
+    match (call.told, call.status) {
+        (Some(Told::Reset(code)), _) => writeln!(text, "reset {code}")?,
+        (_, Some(status)) => writeln!(text, "status {status}")?,
+        (_, None) => writeln!(text, "left")?,
+    }
+    Ok(())
+}
+
+/// How a connection ended, in a word.
+fn text_of(ending: Ending) -> &'static str {
+    match ending {
+        Ending::InputEnded => "input-ended",
+        Ending::PeerGoaway => "goaway",
+        Ending::ProtocolError(_) => "protocol-error",
+        Ending::ReadFailed => "read-failed",
+        Ending::WriteFailed => "write-failed",
+        Ending::OutOfMemory => "out-of-memory",
+    }
+}
