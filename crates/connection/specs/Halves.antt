@@ -1,6 +1,5 @@
 -- The half of a slot's call, open or shut.
-use Rattle.std.specs.Prelude.{Option, None, Some, IsSomeAnd}
-use Rattle.std.specs.Option.{IsSomeAnd-prop}
+use Rattle.std.specs.Prelude.{Option, None, Some}
 use Rattle.connection.specs.declared.half.Half.{Half}
 use Rattle.connection.specs.declared.half.Half.TheVariants.{Open, Shut, Moving}
 
