@@ -225,13 +225,17 @@ class Server:
     """`interop serve`, which ends by itself behind so many connections."""
 
     def __init__(self, program, connections, *options, **environment):
-        with socket.socket() as free:
-            free.bind(("127.0.0.1", 0))
-            self.port = free.getsockname()[1]
-        words = [program, "serve", "--port", str(self.port), "--conns", str(connections), *options]
-        how = {"stdin": subprocess.DEVNULL, "stdout": subprocess.PIPE, "env": {**os.environ, **environment}}
-        self.process = subprocess.Popen(words, **how)
-        self.process.stdout.readline()
+        # A port that was free a moment ago may be had by another program by now.
+        for _ in range(8):
+            with socket.socket() as free:
+                free.bind(("127.0.0.1", 0))
+                self.port = free.getsockname()[1]
+            words = [program, "serve", "--port", str(self.port), "--conns", str(connections), *options]
+            how = {"stdin": subprocess.DEVNULL, "stdout": subprocess.PIPE, "env": {**os.environ, **environment}}
+            self.process = subprocess.Popen(words, **how)
+            if self.process.stdout.readline() or self.ends(10) != 3:
+                return
+            self.close()
 
     def ends(self, limit):
         """Waits until all its connections have ended, and answers its exit status, None where it goes on."""

@@ -1,6 +1,7 @@
 //! One call as a state machine.
 
-ghost use Rattle.std.specs.Prelude.{Bool, ◌≡◌, ◌<◌, ◌≤◌, ◌+◌, ◌++◌, ◌⊎◌, ◌↔◌, [], false, true, None, Some, length, List, ℕ, min, IfSome, IsSome, IsSomeAnd, IsTrue, slice_get};
+ghost use Rattle.std.specs.Prelude.{Bool, ◌≡◌, ◌<◌, ◌≤◌, ◌+◌, ◌-◌, ◌++◌, ◌⊎◌, ◌↔◌, [], false, true, None, Some, length, List, ℕ, min, IfSome, IsSome, IsSomeAnd, IsTrue, slice_get};
+ghost use Rattle.std.specs.Option.{option_map};
 ghost use Rattle.lane.specs.End.{of_end};
 ghost use Rattle.lpm.specs.Messages.{IsUnfinished};
 ghost use Rattle.callbox.specs.InSides.{Took};
@@ -206,6 +207,14 @@ impl<I: Lane<Item = InPiece>, O: Lane<Item = OutItem>> CallRun<I, O> {
         ensures { IsTrue result ↔ IsSome self.now.call.deadline }
     {
         self.call.deadline.is_some()
+    }
+
+    /// How many nanoseconds are left at this moment, until it ends by itself.
+    pub fn time_left(&self, now: u64) -> Option<u128>
+        ensures { result ≡ option_map (λ deadline. deadline - now) self.now.call.deadline }
+    {
+        let deadline = self.call.deadline?;
+        Some(deadline.saturating_sub(u128::from(now)))
     }
 
     /// Whether the call ends for want of memory.

@@ -32,15 +32,11 @@ use std::sync::ledger::Ledger;
 use std::sync::{Arc, Wait};
 use std::time::{Clock, Duration, Instant};
 
-/// How long a call waits at most before it looks again: at the clock, and whether it is live; in milliseconds.
+/// How many milliseconds a worker waits at most, where the writer has to get what was given, before it looks again.
 const STEP: u64 = 1;
 
-/// The same, of a call without a deadline that lacks room for what it gives.
+/// The same, of a call that has waited again and again.
 const ROOM_STEP: u64 = 16;
-
-/// The same, of a call without a deadline for which nothing comes. What comes rings its bell, and so does the end of the
-/// connection.
-const LONG_STEP: u64 = 1024;
 
 /// How many turns a call goes on before the writer is rung. A short call has come to its end by then, and rings once.
 const FEW_TURNS: u32 = 4;
@@ -48,7 +44,7 @@ const FEW_TURNS: u32 = 4;
 /// How a call waits, and when the writer is rung for it.
 #[derive(Drop)]
 struct Pace {
-    /// How many milliseconds it waits at most the next time.
+    /// How many milliseconds it waits at most for room the next time.
     step: u64,
     /// How many turns it went on since it had nothing to do.
     turns: u32,
@@ -81,18 +77,23 @@ impl Pace {
         self.is_told
     }
 
-    /// The call has waited behind such a turn.
-    fn waited(&mut self, turn: Turn, has_deadline: bool) {
-        self.is_told = true;
+    /// How long it waits behind such a turn: for room a few milliseconds, else for what comes, whose bell is rung; but not past its
+    /// deadline.
+    fn limit(&self, turn: Turn, time_left: Option<u128>) -> Duration {
         let most = match turn {
-            Turn::Full => ROOM_STEP,
-            Turn::Went | Turn::Nothing | Turn::Over => {
-                self.turns = 0;
-                LONG_STEP
-            }
+            Turn::Full => Duration::from_millis(self.step),
+            Turn::Went | Turn::Nothing | Turn::Over => Duration::from_secs(IDLE),
         };
-        if !has_deadline {
-            self.step = most.min(self.step.saturating_mul(2));
+        let left = time_left.unwrap_or(u128::MAX);
+        most.min(Duration::from_nanos(u64::try_from(left).unwrap_or(u64::MAX)))
+    }
+
+    /// The call has waited behind such a turn.
+    fn waited(&mut self, turn: Turn) {
+        self.is_told = true;
+        match turn {
+            Turn::Full => self.step = ROOM_STEP.min(self.step.saturating_mul(2)),
+            Turn::Went | Turn::Nothing | Turn::Over => self.turns = 0,
         }
     }
 }
@@ -403,16 +404,16 @@ impl<A: Ledger, B: Ledger, C: Ledger> Worker<A, B, C> {
                     self.give_up(rt, methods, run);
                     return false;
                 }
-                self.wait(rt, turn, room, came, pace.step);
-                pace.waited(turn, run.has_deadline());
+                let limit = pace.limit(turn, run.time_left(now));
+                self.wait(rt, turn, room, came, limit);
+                pace.waited(turn);
                 true
             }
         }
     }
 
-    /// Waits so many milliseconds at most: for room where a turn lacked it, else for what comes for the call.
-    fn wait(&self, rt: &impl Wait, turn: Turn, room: u64, came: u64, step: u64) {
-        let limit = Duration::from_millis(step);
+    /// Waits so long at most: for room where a turn lacked it, else for what comes for the call.
+    fn wait(&self, rt: &impl Wait, turn: Turn, room: u64, came: u64, limit: Duration) {
         match turn {
             Turn::Full => self.shared.room.wait_past(rt, room, limit),
             Turn::Went | Turn::Nothing | Turn::Over => self.slot.bell.wait_past(rt, came, limit),

@@ -29,7 +29,7 @@ use std::thread::{Promise, PromisedHandle, Threads};
 use std::time::Duration;
 
 /// How long the writer waits at most before it looks again, in milliseconds.
-const STEP: u64 = 100;
+const STEP: u64 = 1000;
 
 /// What the writing thread of a connection has.
 #[derive(Drop)]
