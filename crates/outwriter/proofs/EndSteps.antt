@@ -28,7 +28,7 @@ use Rattle.outwriter.specs.Runs.{due, IsAsked, Fragments, Continues, MayWrite, f
 use Rattle.outwriter.specs.Steps.{Step, Taken, Granted, Written, Returned, frames_of}
 use Rattle.outwriter.proofs.Others.{or-true}
 use Rattle.outwriter.proofs.RunStateSteps.{same-block}
-use Rattle.outwriter.proofs.FrameSteps.{in-answers, in-goaways, not-over, none-over, none-begun, no-updates, credits-none, tells-first, due-told, no-block, over-same, due-same, tells-none, credit-same, windows-same, head-same, plain-written, IsPlain}
+use Rattle.outwriter.proofs.FrameSteps.{in-answers, in-goaways, not-over, none-over, none-begun, no-updates, credits-none, tells-first, due-told, no-block, over-same, due-same, tells-none, credit-same, owes-same, windows-same, head-same, plain-written, IsPlain}
 
 -- the windows go on by what a frame closes and spends
 pub windows-more : (run : List Step) (frame : Frame) (w windows : Windows) (more : List WindowStep)
@@ -130,6 +130,7 @@ reset-written run begun gone w windows over after waiting block owed id code mad
         not_ended = λ e. absurd (true≢false (sym e ∙ still.1));
         goes_on = m.goes ∙ not_gone;
         credit = credits-none run (reset_frame id code) owed none m.credits;
+        owes = λ k. omega (arith, none k);
         update = λ e. cc;
       },
       record {
@@ -141,6 +142,7 @@ reset-written run begun gone w windows over after waiting block owed id code mad
         goes_on = same-block run (Written (reset_frame id code) ∷ run) block (no-block run (reset_frame id code) refl ∙ sym nothing) m.goes_on;
         not_reset = subst (HasHead (reset_frame id code ∷ frames_of run)) (sym no_block) tt;
         credits = credit-same run (reset_frame id code) owed none m.credits;
+        owes = owes-same run (reset_frame id code) owed none m.owes;
         silent = silent-more over after id owed sets (m.hushed id (m.resets id number ∙ asked-reset run id code asked)) m.silent;
         hushed = m.hushed;
         resets = m.resets;
@@ -251,6 +253,7 @@ headers-written run begun gone w windows over after waiting left block rest owed
         not_ended = λ e. absurd (true≢false (sym e ∙ still.1));
         goes_on = m.goes ∙ not_gone;
         credit = credits-none run (headers_frame id ends_it whole fragment) owed none m.credits;
+        owes = λ k. omega (arith, none k);
         update = λ e. cc;
       },
       record {
@@ -262,6 +265,7 @@ headers-written run begun gone w windows over after waiting left block rest owed
         goes_on = headed-block run id ends_it whole fragment rest keeps;
         not_reset = headed-head run id ends_it whole fragment rest keeps still.0;
         credits = credit-same run (headers_frame id ends_it whole fragment) owed none m.credits;
+        owes = owes-same run (headers_frame id ends_it whole fragment) owed none m.owes;
         silent = headed-silent id ends_it over after owed sets m.silent;
         hushed = m.hushed;
         resets = m.resets;
@@ -317,6 +321,7 @@ continuation-written run begun gone w over waiting block rest owed made is is_re
         not_ended = λ e. inr refl;
         goes_on = m.goes ∙ not_gone;
         credit = credits-none run (continuation_frame block.id (is_short block) (take 16384 block.rest)) owed none m.credits;
+        owes = λ k. omega (arith, none k);
         update = λ e. cc;
       },
       record {
@@ -328,6 +333,7 @@ continuation-written run begun gone w over waiting block rest owed made is is_re
         goes_on = continued-block run block.id (is_short block) (take 16384 block.rest) rest keeps m.goes_on.1 m.goes_on.2;
         not_reset = continued-head run block.id (is_short block) (take 16384 block.rest) rest keeps m.not_reset;
         credits = credit-same run (continuation_frame block.id (is_short block) (take 16384 block.rest)) owed none m.credits;
+        owes = owes-same run (continuation_frame block.id (is_short block) (take 16384 block.rest)) owed none m.owes;
         silent = m.silent;
         hushed = m.hushed;
         resets = m.resets;
@@ -362,6 +368,7 @@ data-written run begun gone w windows over waiting block owed id bytes made is i
         not_ended = λ e. absurd (true≢false (sym e ∙ still.1));
         goes_on = m.goes ∙ not_gone;
         credit = credits-none run (data_frame id bytes) owed none m.credits;
+        owes = λ k. omega (arith, none k);
         update = λ e. cc;
       },
       record {
@@ -373,6 +380,7 @@ data-written run begun gone w windows over waiting block owed id bytes made is i
         goes_on = same-block run (Written (data_frame id bytes) ∷ run) block (no-block run (data_frame id bytes) refl ∙ sym nothing) m.goes_on;
         not_reset = head-same (data_frame id bytes) (frames_of run) block refl m.not_reset;
         credits = credit-same run (data_frame id bytes) owed none m.credits;
+        owes = owes-same run (data_frame id bytes) owed none m.owes;
         silent = m.silent;
         hushed = m.hushed;
         resets = m.resets;

@@ -16,7 +16,7 @@ use Rattle.outwriter.specs.declared.due.Due.{Due}
 use Rattle.outwriter.specs.declared.outbound.Outbound.{Outbound}
 use Rattle.outwriter.specs.Credits.{Owed, is_reset, owed_on, pays}
 use Rattle.outwriter.specs.Histories.{Takes, is_stream}
-use Rattle.outwriter.specs.RunState.{Mirrors, HasWindows, HasDue, HasBlock, HasResets, HasSilence, IsHushed, AreAsked, Reached, GoesOn, Stays, duties_of, resets_of}
+use Rattle.outwriter.specs.RunState.{Mirrors, HasWindows, HasDue, HasBlock, HasOwed, HasResets, HasSilence, IsHushed, AreAsked, Reached, GoesOn, Stays, duties_of, resets_of}
 use Rattle.outwriter.specs.Runs.{IsAsked, Fragments, unfinished, granted, granted_by, updated, due, due_by, told, resets_stream, was_reset}
 use Rattle.outwriter.specs.Steps.{Step, Order, Taken, order_of}
 use Rattle.outwriter.proofs.WindowRuns.{nothing-taken}
@@ -64,8 +64,8 @@ more-due order run waiting one e asked h =
 -- a control changes the windows and what is due, and nothing else
 pub taken : (order : Order) (run : List Step) (begun gone : Bool) (w windows : Windows) (over : List (ℕ × Bool)) (waiting after : List Due)
     (block : Option HeaderBlock) (owed : Owed) → Mirrors run begun gone w over waiting block owed → HasWindows (Taken order ∷ run) windows
-    → HasDue (Taken order ∷ run) after → HasResets (Taken order ∷ run) owed → Mirrors (Taken order ∷ run) begun gone windows over after block owed
-taken order run begun gone w windows over waiting after block owed m follow dues resets = record {
+    → HasDue (Taken order ∷ run) after → HasResets (Taken order ∷ run) owed → HasOwed (Taken order ∷ run) owed → Mirrors (Taken order ∷ run) begun gone windows over after block owed
+taken order run begun gone w windows over waiting after block owed m follow dues resets owes = record {
   begins = m.begins;
   goes = m.goes;
   windows_follow = follow;
@@ -77,16 +77,17 @@ taken order run begun gone w windows over waiting after block owed m follow dues
   silent = m.silent;
   hushed = m.hushed;
   resets = resets;
+  owes = owes;
   no_stream_0 = m.no_stream_0;
 }
 
 -- an Open, which leaves what is owed, and what is silent
 pub open-led : (id : ℕ) (run : List Step) (begun gone : Bool) (w windows : Windows) (over : List (ℕ × Bool)) (waiting : List Due) (block : Option HeaderBlock)
     (owed left : Owed) → ((other : ℕ) → owed_on left other ≡ owed_on owed other) → (HasSilence over owed → HasSilence over left)
-    → (IsHushed owed → IsHushed left) → ((other : ℕ) → is_reset left other ≡ is_reset owed other)
+    → (IsHushed owed → IsHushed left) → ((other : ℕ) → is_reset left other ≡ is_reset owed other) → (HasOwed run owed → HasOwed (Taken (Open id tt) ∷ run) left)
     → HasWindows (Taken (Open id tt) ∷ run) windows → Mirrors run begun gone w over waiting block owed
     → Mirrors (Taken (Open id tt) ∷ run) begun gone windows over waiting block left
-open-led id run begun gone w windows over waiting block owed left same silent hushed resets follow m =
+open-led id run begun gone w windows over waiting block owed left same silent hushed resets owes follow m =
     taken (Open id tt) run begun gone w windows over waiting waiting block left
     (record {
       begins = m.begins;
@@ -100,17 +101,19 @@ open-led id run begun gone w windows over waiting block owed left same silent hu
       silent = silent m.silent;
       hushed = hushed m.hushed;
       resets = λ other there. resets other ∙ m.resets other there;
+      owes = m.owes;
       no_stream_0 = m.no_stream_0;
     })
-    follow (same-due (Open id tt) run waiting refl m.answers) (λ other there. resets other ∙ m.resets other there)
+    follow (same-due (Open id tt) run waiting refl m.answers) (λ other there. resets other ∙ m.resets other there) (owes m.owes)
 
 -- a Reset, after which less is owed, on fewer streams
 pub reset-led : (id : ℕ) (code : ErrorCode) (written : Bool) (run : List Step) (begun gone : Bool) (w windows : Windows) (over : List (ℕ × Bool)) (waiting after : List Due)
     (block : Option HeaderBlock) (owed left : Owed) → ((k : ℕ) → owed_on left k ≤ owed_on owed k) → ((k : ℕ) → pays owed k ≡ false → pays left k ≡ false)
     → (IsHushed owed → IsHushed left) → ((k : ℕ) → is_reset left k ≡ ((is_stream id && (k == id)) || is_reset owed k))
+    → (HasOwed run owed → HasOwed (Taken (Reset id code written) ∷ run) left)
     → HasWindows (Taken (Reset id code written) ∷ run) windows → HasDue (Taken (Reset id code written) ∷ run) after
     → Mirrors run begun gone w over waiting block owed → Mirrors (Taken (Reset id code written) ∷ run) begun gone windows over after block left
-reset-led id code written run begun gone w windows over waiting after block owed left less silent hushed marks follow dues m = record {
+reset-led id code written run begun gone w windows over waiting after block owed left less silent hushed marks owes follow dues m = record {
   begins = m.begins;
   goes = m.goes;
   windows_follow = follow;
@@ -122,6 +125,7 @@ reset-led id code written run begun gone w windows over waiting after block owed
   silent = λ k is. silent k (m.silent k is);
   hushed = hushed m.hushed;
   resets = λ k there. resets k there (k == id) refl;
+  owes = owes m.owes;
   no_stream_0 = m.no_stream_0;
 }
   where
@@ -165,5 +169,6 @@ skipped run begun gone w over one waiting block owed none m =
       silent = m.silent;
       hushed = m.hushed;
       resets = m.resets;
+      owes = m.owes;
       no_stream_0 = m.no_stream_0;
     }
