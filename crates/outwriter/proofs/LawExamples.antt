@@ -15,7 +15,7 @@ use Rattle.h2frame.specs.declared.kind.FrameKind.TheVariants as kind
 use Rattle.outwriter.specs.declared.control.Control.TheVariants as order
 use Rattle.outwriter.specs.Frames.{update_kind, update_on, first_settings, settings_ack, ping_ack, reset_frame, goaway_frame, update_frame, data_frame, headers_frame, continuation_frame, is_data}
 use Rattle.outwriter.specs.Histories.{HasHistory}
-use Rattle.outwriter.specs.Runs.{MayWrite, MayFollowEnd, MayFollowReset, IsLawful, updated, granted}
+use Rattle.outwriter.specs.Runs.{MayWrite, MayFollowEnd, MayFollowReset, IsLawful, updated, granted, owed}
 use Rattle.outwriter.specs.Steps.{Step, Taken, Granted, Written, frames_of}
 use Rattle.hpack_codec.proofs.HuffmanTable.{and_true}
 use Rattle.outwriter.proofs.FrameSteps.{no-updates}
@@ -156,6 +156,9 @@ calm : (before : List Step) (frame : Frame) → list_all (λ f. update_kind f.he
     → (id : ℕ) → updated id before + update_on id frame ≤ granted id before
 calm before frame all none id = omega (arith, none-updated (frames_of before) id all, no-updates before frame none id)
 
+calm-now : (before : List Step) (frame : Frame) → update_kind frame.head.kind frame.content ≡ 0 → (id : ℕ) → update_on id frame ≤ owed id before
+calm-now before frame none id = omega (arith, no-updates before frame none id)
+
 -- a call is opened, and answered by headers, a message and trailers
 abbrev opened : List Step
 opened = Taken (order.Open 1 tt) ∷ begun
@@ -180,6 +183,7 @@ first-may = record {
   not_ended = λ e. cc;
   goes_on = refl;
   credit = calm [] first_settings refl refl;
+  owes = calm-now [] first_settings refl;
   update = λ e. cc;
 }
 
@@ -197,6 +201,7 @@ head-may = record {
   not_ended = λ e. cc;
   goes_on = refl;
   credit = calm opened (headers_frame 1 false true (130 ∷ [])) refl refl;
+  owes = calm-now opened (headers_frame 1 false true (130 ∷ [])) refl;
   update = λ e. cc;
 }
 
@@ -217,6 +222,7 @@ data-may = record {
   not_ended = λ e. cc;
   goes_on = refl;
   credit = calm headed (data_frame 1 (8 ∷ 9 ∷ [])) refl refl;
+  owes = calm-now headed (data_frame 1 (8 ∷ 9 ∷ [])) refl;
   update = λ e. cc;
 }
 
@@ -234,6 +240,7 @@ end-may = record {
   not_ended = λ e. cc;
   goes_on = refl;
   credit = calm sent (headers_frame 1 true true (130 ∷ [])) refl refl;
+  owes = calm-now sent (headers_frame 1 true true (130 ∷ [])) refl;
   update = λ e. cc;
 }
 
@@ -265,6 +272,7 @@ half-may = record {
   not_ended = λ e. cc;
   goes_on = refl;
   credit = calm (Taken (order.Open 5 tt) ∷ begun) (headers_frame 5 false false (130 ∷ [])) refl refl;
+  owes = calm-now (Taken (order.Open 5 tt) ∷ begun) (headers_frame 5 false false (130 ∷ [])) refl;
   update = λ e. cc;
 }
 
@@ -282,6 +290,7 @@ rest-may = record {
   not_ended = λ e. cc;
   goes_on = refl;
   credit = calm cut (continuation_frame 5 true (131 ∷ [])) refl refl;
+  owes = calm-now cut (continuation_frame 5 true (131 ∷ [])) refl;
   update = λ e. cc;
 }
 
@@ -299,6 +308,7 @@ reset-may = record {
   not_ended = λ e. cc;
   goes_on = refl;
   credit = calm rest (reset_frame 5 Cancel) refl refl;
+  owes = calm-now rest (reset_frame 5 Cancel) refl;
   update = λ e. cc;
 }
 

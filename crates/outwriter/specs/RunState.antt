@@ -74,10 +74,6 @@ HasOwed run kept = (id : ℕ) → (owed_on kept id ≡ owed id run) × (pays kep
 abbrev pub HasSilence : List (ℕ × Bool) → Owed → Type 0
 HasSilence over owed = (id : ℕ) → lookup (nat_eq id) over ≡ Some true → is_reset owed id ≡ true
 
--- nothing is owed on one that was reset
-abbrev pub IsHushed : Owed → Type 0
-IsHushed owed = (id : ℕ) → is_reset owed id ≡ true → pays owed id ≡ false
-
 -- those are the streams of which a Reset was taken
 abbrev pub HasResets : List Step → Owed → Type 0
 HasResets run owed = (id : ℕ) → is_stream id ≡ true → is_reset owed id ≡ was_reset id run
@@ -118,7 +114,6 @@ pub record Mirrors (run : List Step) (begun gone : Bool) (windows : Windows) (ov
   pub not_reset : HasHead (frames_of run) block
   pub credits : HasCredit run owed
   pub silent : HasSilence over owed
-  pub hushed : IsHushed owed
   pub resets : HasResets run owed
   pub owes : HasOwed run owed
   pub no_stream_0 : lookup (nat_eq 0) over ≡ None
