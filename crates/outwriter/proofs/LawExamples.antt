@@ -1,6 +1,6 @@
 -- The law of runs on examples: a run that is lawful, and for each rule a frame that isn't.
 use Rattle.std.proofs.Common.{◌≡◌, ℕ, ◌<◌, ◌≤◌, ◌⊎◌, inl, inr, refl, sym, ap, subst, Bool, true, false, List, [], ◌∷◌, ◌==◌, arith, ◌∙◌, true≢false}
-use Rattle.std.specs.Prelude.{sum_by, ◌+◌}
+use Rattle.std.specs.Prelude.{sum_by, ◌+◌, if◌then◌else◌}
 use Rattle.std.specs.List.{list_all}
 use Rattle.std.proofs.lemmas.Bool.{eqb-true}
 use Rattle.std.proofs.lemmas.List.Sums.{sum_by-cons}
@@ -17,6 +17,8 @@ use Rattle.outwriter.specs.Frames.{update_kind, update_on, first_settings, setti
 use Rattle.outwriter.specs.Histories.{HasHistory}
 use Rattle.outwriter.specs.Runs.{MayWrite, MayFollowEnd, MayFollowReset, IsLawful, updated, granted, owed}
 use Rattle.outwriter.specs.Steps.{Step, Taken, Granted, Written, frames_of}
+use Rattle.outwriter.specs.Examples.{crediting}
+use Rattle.outwriter.specs.RunState.{IsAnswered}
 use Rattle.hpack_codec.proofs.HuffmanTable.{and_true}
 use Rattle.outwriter.proofs.FrameSteps.{no-updates}
 use Rattle.outwriter.proofs.EndSteps.{told-amount}
@@ -134,6 +136,25 @@ after-the-last m = true≢false m.goes_on
 -- more credit than was granted
 pub ungranted : ¬ MayWrite (Granted 1 3 ∷ begun) (update_frame 1 4)
 ungranted m = omega (arith, m.credit 1)
+
+-- more than is owed: what was granted before the stream was opened is not, nor what is past 2^31 - 1 at once, nor what was told
+pub unowed-before-an-open : ¬ MayWrite (Taken (order.Open 1 tt) ∷ Granted 1 4 ∷ begun) (update_frame 1 4)
+unowed-before-an-open m = omega (arith, m.owes 1)
+
+pub more-than-is-owed : ¬ MayWrite crediting (update_frame 1 7)
+more-than-is-owed m = omega (arith, m.owes 1)
+
+pub told-twice : ¬ MayWrite (Written (update_frame 0 9) ∷ crediting) (update_frame 0 9)
+told-twice m = omega (arith, m.owes 0)
+
+-- on a stream that was reset nothing is owed
+pub unowed-after-a-reset : ¬ MayWrite dropped (update_frame 3 4)
+unowed-after-a-reset m = omega (arith, m.owes 3)
+
+-- and nobody may rest, as long as something is owed
+pub still-owed : ¬ IsAnswered crediting
+still-owed (inl last) = true≢false (sym last)
+still-owed (inr answered) = omega (arith, answered.2 1)
 
 -- and none
 pub no-credit : ¬ MayWrite begun (update_frame 1 0)
@@ -314,3 +335,51 @@ reset-may = record {
 
 pub one-reset : IsLawful (Written (reset_frame 5 Cancel) ∷ rest)
 one-reset = (reset-may, (rest-may, (half-may, (first-may, tt))))
+
+-- ---- a third: credit is granted on the connection and on a call's stream, and told as it is owed
+
+abbrev granted-once : List Step
+granted-once = Granted 1 6 ∷ Granted 0 9 ∷ Granted 1 4 ∷ Taken (order.Open 1 tt) ∷ begun
+
+told-once : (id : ℕ) → updated id granted-once + update_on id (update_frame 1 4) ≤ granted id granted-once
+told-once id = by (id == 1) refl
+  where
+    by : (b : Bool) → (id == 1) ≡ b → updated id granted-once + update_on id (update_frame 1 4) ≤ granted id granted-once
+    by true p =
+        let P : ℕ → Type 0 = λ k. updated k granted-once + update_on k (update_frame 1 4) ≤ granted k granted-once in
+        subst P (sym (eqb-true id 1 p)) (omega arith)
+    by false p =
+        let none : update_on id (update_frame 1 4) ≡ 0 = ap (λ b. if b then 4 else 0) p in
+        omega (arith, none, none-updated (frames_of granted-once) id refl)
+
+owed-once : (id : ℕ) → update_on id (update_frame 1 4) ≤ owed id granted-once
+owed-once id = by (id == 1) refl
+  where
+    by : (b : Bool) → (id == 1) ≡ b → update_on id (update_frame 1 4) ≤ owed id granted-once
+    by true p =
+        let P : ℕ → Type 0 = λ k. update_on k (update_frame 1 4) ≤ owed k granted-once in
+        subst P (sym (eqb-true id 1 p)) (omega arith)
+    by false p =
+        let none : update_on id (update_frame 1 4) ≡ 0 = ap (λ b. if b then 4 else 0) p in
+        omega (arith, none)
+
+credit-may : MayWrite granted-once (update_frame 1 4)
+credit-may = record {
+  first = λ e. cc;
+  windows = λ e. cc;
+  content = λ e. cc;
+  answers = ([], refl);
+  parts = refl;
+  asked = λ e. cc;
+  after_reset = λ there was. cc;
+  block = λ e. cc;
+  not_reset = refl;
+  not_ended = λ e. cc;
+  goes_on = refl;
+  credit = told-once;
+  owes = owed-once;
+  update = λ e. (4, omega arith, omega arith, refl);
+}
+
+pub one-credit : IsLawful crediting
+one-credit = (credit-may, (first-may, tt))

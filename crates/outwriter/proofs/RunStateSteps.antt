@@ -16,10 +16,10 @@ use Rattle.outwriter.specs.declared.control.Control.{Control}
 use Rattle.outwriter.specs.declared.control.Control.TheVariants.{Open, Reset}
 use Rattle.outwriter.specs.declared.due.Due.{Due}
 use Rattle.outwriter.specs.declared.outbound.Outbound.{Outbound}
-use Rattle.outwriter.specs.Credits.{Owed, Grants, is_paid, is_reset, knows, more, nothing_owed, number_of, owed_on, pays}
+use Rattle.outwriter.specs.Credits.{Owed, Grants, is_paid, is_reset, knows, more, number_of, owed_on, pays}
 use Rattle.outwriter.specs.Histories.{Takes, is_stream}
-use Rattle.outwriter.specs.RunState.{Mirrors, HasWindows, HasDue, HasBlock, HasOwed, HasResets, HasSilence, AreAsked, Reached, GoesOn, Stays, duties_of, resets_of}
-use Rattle.outwriter.specs.Runs.{IsAsked, Fragments, unfinished, granted, granted_by, is_opened, may_owe, opens_stream, owed, updated, due, due_by, told, resets_stream, was_reset}
+use Rattle.outwriter.specs.RunState.{Mirrors, HasWindows, HasDue, HasBlock, HasOwed, HasResets, AreAsked, Reached, GoesOn, Stays, duties_of, resets_of}
+use Rattle.outwriter.specs.Runs.{IsAsked, Fragments, unfinished, granted_by, is_opened, may_owe, opens_stream, owed, due, due_by, told, resets_stream, was_reset}
 use Rattle.outwriter.specs.Steps.{Step, Order, Taken, Granted, order_of}
 use Rattle.outwriter.proofs.Others.{or-true}
 use Rattle.outwriter.proofs.WindowRuns.{nothing-taken}
