@@ -5,7 +5,7 @@ use Rattle.account.specs.declared.call.OutItem.{OutItem}
 use Rattle.std.specs.Io.KnownBytes.{Appends}
 use Rattle.std.specs.Prelude.{◌==◌, ◌⊎◌, Ok, Err, IfSome, if◌then◌else◌}
 use Rattle.outwriter.specs.Calls.{TellEnds}
-use Rattle.outwriter.specs.RunState.{IsAnswered, IsSpent}
+use Rattle.outwriter.specs.RunState.{IsAnswered}
 use Rattle.outwriter.specs.Cores.{HaveNoFrame}
 use Rattle.callbox.specs.declared.sender.Sender.{Sender}
 use Rattle.device.specs.Bytes.{AppendsPrefix}
@@ -264,11 +264,11 @@ module _ {L In Out Shut W : Type 0} (got : Out → List OutItem) (contents : W �
 
   pub idle-on : (ahead : Out → List OutItem) (old mid : ConnWriter L W In Out Shut) → old.core.is_dead ≡ false → Remains old.core.outbound mid.core.outbound
       → ServesStill got old.core mid.core → mid.standing ≡ old.standing → mid.device ≡ old.device → mid.buffer.items ≡ old.buffer.items → mid.ended.items ≡ old.ended.items
-      → ((run : List Step) → Reached run mid.core.outbound → IsAnswered run) → IsSpent mid.core.outbound
+      → ((run : List Step) → Reached run mid.core.outbound → IsAnswered run)
       → ((run : List Step) → Reached run old.core.outbound → Serving got run old.core → HaveNoFrame ahead run mid.core)
       → ((run : List Step) → Reached run old.core.outbound → Serving got run old.core → (mid.core.outbound.gone ≡ true) ⊎ TellEnds run)
       → (before : Option (List ℕ)) (run : List Step) → Wrote got contents failed before run old → Wrote got contents failed before run mid × IsAtRest ahead run mid
-  idle-on ahead old mid alive remains serves standing device buffer ended answered spent no_frame ends before run w =
+  idle-on ahead old mid alive remains serves standing device buffer ended answered no_frame ends before run w =
       let reached = remains run (w.reached alive) in (
         record {
           lawful = w.lawful;
@@ -279,7 +279,6 @@ module _ {L In Out Shut W : Type 0} (got : Out → List OutItem) (contents : W �
         },
         record {
           answered = answered run reached;
-          spent = spent;
           no_frame = no_frame run (w.reached alive) w.serving;
           ended = ends run (w.reached alive) w.serving;
         },

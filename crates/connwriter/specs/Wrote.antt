@@ -6,7 +6,7 @@ use Rattle.h2frame.specs.Spelling.{spelled}
 use Rattle.outwriter.specs.Calls.{TellEnds}
 use Rattle.outwriter.specs.Cores.{Serving, HaveNoFrame}
 use Rattle.outwriter.specs.Runs.{IsLawful}
-use Rattle.outwriter.specs.RunState.{Reached, IsAnswered, IsSpent}
+use Rattle.outwriter.specs.RunState.{Reached, IsAnswered}
 use Rattle.outwriter.specs.Steps.{Step, Written, frames_of}
 use Rattle.connwriter.specs.declared.filled.Filled.{Filled}
 use Rattle.connwriter.specs.declared.filled.Filled.TheVariants.{Full, Idle, Over, Stopped}
@@ -34,7 +34,6 @@ module _ {L In Out Shut W : Type 0} where
   -- can be written now; each stream that was called off has ended. But nothing comes behind a GOAWAY with an error.
   pub record IsAtRest (ahead : Out → List OutItem) (run : List Step) (writer : ConnWriter L W In Out Shut) : Type 0 where
     pub answered : IsAnswered run
-    pub spent : IsSpent writer.core.outbound
     pub no_frame : HaveNoFrame ahead run writer.core
     pub ended : (writer.core.outbound.gone ≡ true) ⊎ TellEnds run
 

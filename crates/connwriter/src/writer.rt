@@ -10,7 +10,6 @@ ghost use Rattle.device.specs.Bytes.{AppendsPrefix};
 ghost use Rattle.flow.specs.Windows.{room};
 ghost use Rattle.outwriter.specs.Calls.{TellFronts, TellReturned, TellOthers};
 ghost use Rattle.outwriter.specs.Cores.{calls, IsUnused};
-ghost use Rattle.outwriter.specs.Credits.{Grants};
 ghost use Rattle.h2frame.specs.Spelling.{IsWritable};
 ghost use Rattle.outwriter.specs.Frames.{ends_stream};
 ghost use Rattle.outwriter.specs.Polls.{coming};
@@ -134,7 +133,6 @@ impl<L: Lane<Item = OutItem>, W: ConnWrite> ConnWriter<L, W> {
     /// Owes n bytes more of credit, on a stream, or on the connection where it is 0.
     pub fn grant(&mut self, id: StreamId, n: u32)
         ensures wrote { WritesOn L.got W.contents W.failed (Granted id n ∷ []) self.old self.new }
-        ensures owed { Grants self.old.core.outbound.credit id n self.new.core.outbound.credit }
         ensures rest { self.new ≡ record self.old { core = self.new.core } }
     {
         self.core.grant(id, n);

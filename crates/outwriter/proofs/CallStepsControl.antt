@@ -12,11 +12,11 @@ use Rattle.outwriter.specs.declared.due.Due.TheVariants as due_kind
 use Rattle.outwriter.specs.declared.out_core.OutCore.{OutCore}
 use Rattle.outwriter.specs.declared.outbound.Outbound.{Outbound}
 use Rattle.outwriter.specs.declared.stream.OpenStream.{OpenStream}
-use Rattle.outwriter.specs.Calls.{is_closed, closes, is_fresh, is_served, calls_off, opens_stream, refuses_stream}
+use Rattle.outwriter.specs.Calls.{is_closed, closes, is_fresh, is_served, calls_off, refuses_stream}
 use Rattle.outwriter.specs.Cores.{ServesControl, ServesOn, ServesStill, IsUnused, calls}
 use Rattle.outwriter.specs.CoreChanges.{KeepsServing, KeepsHeeds}
 use Rattle.outwriter.specs.RunState.{IsMemory}
-use Rattle.outwriter.specs.Runs.{resets_stream}
+use Rattle.outwriter.specs.Runs.{resets_stream, opens_stream}
 use Rattle.outwriter.specs.CallState.{Heeds, Takes, MayBeDue, none_is_new}
 use Rattle.outwriter.specs.Steps.{Step, Taken, order_of}
 use Rattle.outwriter.specs.TableLimits.{limits_of}

@@ -9,8 +9,8 @@ use Rattle.account.specs.declared.call.OutItem.{OutItem}
 use Rattle.outwriter.specs.declared.control.Control.TheVariants as order
 use Rattle.outwriter.specs.declared.outbound.Outbound.{Outbound}
 use Rattle.outwriter.specs.declared.stream.OpenStream.{OpenStream}
-use Rattle.outwriter.specs.Calls.{is_fresh, is_served, is_opened}
-use Rattle.outwriter.specs.Runs.{was_reset}
+use Rattle.outwriter.specs.Calls.{is_fresh, is_served}
+use Rattle.outwriter.specs.Runs.{was_reset, is_opened}
 use Rattle.outwriter.specs.Credits.{knows}
 use Rattle.outwriter.specs.Histories.{is_stream}
 use Rattle.outwriter.specs.CoreChanges.{Prepares, is_new_call, becomes_open, stream_at}

@@ -13,8 +13,8 @@ use Rattle.outwriter.specs.declared.due.Due.{Due}
 use Rattle.outwriter.specs.declared.due.Due.TheVariants as due_kind
 use Rattle.outwriter.specs.declared.outbound.Outbound.{Outbound}
 use Rattle.outwriter.specs.declared.stream.OpenStream.{OpenStream}
-use Rattle.outwriter.specs.Calls.{is_fresh, is_served, is_opened, is_called_off, is_dropped, opens_stream}
-use Rattle.outwriter.specs.Runs.{was_reset}
+use Rattle.outwriter.specs.Calls.{is_fresh, is_served, is_called_off, is_dropped}
+use Rattle.outwriter.specs.Runs.{was_reset, is_opened, opens_stream}
 use Rattle.outwriter.specs.CoreChanges.{Shuts, due_reset, may_write}
 use Rattle.outwriter.specs.Credits.{Owed, is_reset, knows}
 use Rattle.outwriter.specs.Histories.{is_stream}

@@ -1,6 +1,6 @@
 -- A frame that ends a stream or resets it.
-use Rattle.std.proofs.Common.{◌≡◌, ℕ, ◌+◌, ◌<◌, ◌≤◌, ◌==◌, inl, inr, refl, sym, ap, subst, ◌∙◌, Bool, true, false, List, [], ◌∷◌, ◌++◌, Option, Some, None, length, arith, nat_eq, true≢false}
-use Rattle.std.specs.Prelude.{IfSome, MatchOption, flat_map, take, drop, ◌%◌, ◌^◌, ◌||◌, ◌&&◌, is_some, if◌then◌else◌}
+use Rattle.std.proofs.Common.{◌≡◌, ◌⊎◌, ℕ, ◌+◌, ◌-◌, ◌<◌, ◌≤◌, ◌==◌, inl, inr, refl, sym, ap, subst, ◌∙◌, Bool, true, false, List, [], ◌∷◌, ◌++◌, Option, Some, None, length, arith, nat_eq, true≢false}
+use Rattle.std.specs.Prelude.{IfSome, MatchOption, flat_map, take, drop, ◌%◌, ◌^◌, ◌||◌, ◌&&◌, is_some, not, if◌then◌else◌}
 use Rattle.std.specs.List.{list_any}
 use Rattle.std.specs.Map.{lookup}
 use Rattle.std.specs.Int.{bytes_high_first}
@@ -20,15 +20,15 @@ use Rattle.outwriter.specs.declared.control.Control.TheVariants as order
 use Rattle.outwriter.specs.declared.due.Due.{Due}
 use Rattle.outwriter.specs.declared.due.Due.TheVariants as due_kind
 use Rattle.outwriter.specs.Blocks.{frame_of, rest_of, is_short}
-use Rattle.outwriter.specs.Credits.{Owed, is_reset, owed_on, pays, TakesAll}
+use Rattle.outwriter.specs.Credits.{Owed, is_reset, owed_on, TakesAll}
 use Rattle.outwriter.specs.Frames.{resets, ends, update_on, reset_frame, data_frame, update_frame, headers_frame, continuation_frame, ends_stream, ends_block}
 use Rattle.outwriter.specs.Histories.{is_over, is_stream, closing_of, spending_of}
 use Rattle.outwriter.specs.RunState.{Mirrors, resets_of, HasWindows, HasOver, HasDue, HasBlock, HasHead, HasResets, HasSilence, Sets, spent, closing, Keeps, Ends}
-use Rattle.outwriter.specs.Runs.{due, IsAsked, Fragments, Continues, MayWrite, fragments, unfinished, updated, granted, resets_stream, was_reset}
+use Rattle.outwriter.specs.Runs.{due, IsAsked, Fragments, Continues, MayWrite, fragments, unfinished, updated, granted, is_opened, may_owe, owed as given, resets_stream, was_reset}
 use Rattle.outwriter.specs.Steps.{Step, Taken, Granted, Written, Returned, frames_of}
 use Rattle.outwriter.proofs.Others.{or-true}
 use Rattle.outwriter.proofs.RunStateSteps.{same-block}
-use Rattle.outwriter.proofs.FrameSteps.{in-answers, in-goaways, not-over, none-over, none-begun, no-updates, credits-none, tells-first, due-told, no-block, over-same, due-same, tells-none, credit-same, windows-same, head-same, plain-written, IsPlain}
+use Rattle.outwriter.proofs.FrameSteps.{in-answers, in-goaways, not-over, none-over, none-begun, no-updates, credits-none, tells-first, due-told, no-block, over-same, due-same, tells-none, credit-same, owes-same, windows-same, head-same, plain-written, IsPlain}
 
 -- the windows go on by what a frame closes and spends
 pub windows-more : (run : List Step) (frame : Frame) (w windows : Windows) (more : List WindowStep)
@@ -70,12 +70,12 @@ pub still-no-0 : (over after : List (ℕ × Bool)) (id : ℕ) (value : Bool) →
 still-no-0 over after id value there sets none =
     sets 0 ∙ ap (λ b. if b then Some value else lookup (nat_eq 0) over) (ne_eqb 0 id (λ e. omega (arith, e, there))) ∙ none
 
--- what isn't paid is silent
-silent-more : (over after : List (ℕ × Bool)) (id : ℕ) (owed : Owed) → Sets over id true after → pays owed id ≡ false → HasSilence over owed → HasSilence after owed
-silent-more over after id owed sets unpaid silent k e = by (k == id) refl
+-- the stream is silent, which was reset
+silent-more : (over after : List (ℕ × Bool)) (id : ℕ) (owed : Owed) → Sets over id true after → is_reset owed id ≡ true → HasSilence over owed → HasSilence after owed
+silent-more over after id owed sets was silent k e = by (k == id) refl
   where
-    by : (b : Bool) → (k == id) ≡ b → pays owed k ≡ false
-    by true p = ap (λ n. pays owed n) (eqb-true k id p) ∙ unpaid
+    by : (b : Bool) → (k == id) ≡ b → is_reset owed k ≡ true
+    by true p = ap (λ n. is_reset owed n) (eqb-true k id p) ∙ was
     by false p = silent k (sym (sets k ∙ ap (λ b. if b then Some true else lookup (nat_eq k) over) p) ∙ e)
 
 -- a stream was reset where its RST_STREAM was asked for
@@ -130,6 +130,7 @@ reset-written run begun gone w windows over after waiting block owed id code mad
         not_ended = λ e. absurd (true≢false (sym e ∙ still.1));
         goes_on = m.goes ∙ not_gone;
         credit = credits-none run (reset_frame id code) owed none m.credits;
+        owes = λ k. omega (arith, none k);
         update = λ e. cc;
       },
       record {
@@ -141,8 +142,8 @@ reset-written run begun gone w windows over after waiting block owed id code mad
         goes_on = same-block run (Written (reset_frame id code) ∷ run) block (no-block run (reset_frame id code) refl ∙ sym nothing) m.goes_on;
         not_reset = subst (HasHead (reset_frame id code ∷ frames_of run)) (sym no_block) tt;
         credits = credit-same run (reset_frame id code) owed none m.credits;
-        silent = silent-more over after id owed sets (m.hushed id (m.resets id number ∙ asked-reset run id code asked)) m.silent;
-        hushed = m.hushed;
+        owes = owes-same run (reset_frame id code) owed none m.owes;
+        silent = silent-more over after id owed sets (m.resets id number ∙ asked-reset run id code asked) m.silent;
         resets = m.resets;
         no_stream_0 = still-no-0 over after id true there sets m.no_stream_0;
       },
@@ -202,7 +203,7 @@ headed-silent : (id : ℕ) (ends_it : Bool) (over after : List (ℕ × Bool)) (o
 headed-silent id false over after owed same silent k e = subst (λ (o : List (ℕ × Bool)). HasSilence o owed) (sym same) silent k e
 headed-silent id true over after owed sets silent k e = by (k == id) refl
   where
-    by : (b : Bool) → (k == id) ≡ b → pays owed k ≡ false
+    by : (b : Bool) → (k == id) ≡ b → is_reset owed k ≡ true
     by true p = let wrong : Some false ≡ Some true = sym (sets k ∙ ap (λ b. if b then Some false else lookup (nat_eq k) over) p) ∙ e in cc
     by false p = silent k (sym (sets k ∙ ap (λ b. if b then Some false else lookup (nat_eq k) over) p) ∙ e)
 
@@ -251,6 +252,7 @@ headers-written run begun gone w windows over after waiting left block rest owed
         not_ended = λ e. absurd (true≢false (sym e ∙ still.1));
         goes_on = m.goes ∙ not_gone;
         credit = credits-none run (headers_frame id ends_it whole fragment) owed none m.credits;
+        owes = λ k. omega (arith, none k);
         update = λ e. cc;
       },
       record {
@@ -262,8 +264,8 @@ headers-written run begun gone w windows over after waiting left block rest owed
         goes_on = headed-block run id ends_it whole fragment rest keeps;
         not_reset = headed-head run id ends_it whole fragment rest keeps still.0;
         credits = credit-same run (headers_frame id ends_it whole fragment) owed none m.credits;
+        owes = owes-same run (headers_frame id ends_it whole fragment) owed none m.owes;
         silent = headed-silent id ends_it over after owed sets m.silent;
-        hushed = m.hushed;
         resets = m.resets;
         no_stream_0 = headed-no-0 id ends_it over after there sets m.no_stream_0;
       },
@@ -317,6 +319,7 @@ continuation-written run begun gone w over waiting block rest owed made is is_re
         not_ended = λ e. inr refl;
         goes_on = m.goes ∙ not_gone;
         credit = credits-none run (continuation_frame block.id (is_short block) (take 16384 block.rest)) owed none m.credits;
+        owes = λ k. omega (arith, none k);
         update = λ e. cc;
       },
       record {
@@ -328,8 +331,8 @@ continuation-written run begun gone w over waiting block rest owed made is is_re
         goes_on = continued-block run block.id (is_short block) (take 16384 block.rest) rest keeps m.goes_on.1 m.goes_on.2;
         not_reset = continued-head run block.id (is_short block) (take 16384 block.rest) rest keeps m.not_reset;
         credits = credit-same run (continuation_frame block.id (is_short block) (take 16384 block.rest)) owed none m.credits;
+        owes = owes-same run (continuation_frame block.id (is_short block) (take 16384 block.rest)) owed none m.owes;
         silent = m.silent;
-        hushed = m.hushed;
         resets = m.resets;
         no_stream_0 = m.no_stream_0;
       },
@@ -362,6 +365,7 @@ data-written run begun gone w windows over waiting block owed id bytes made is i
         not_ended = λ e. absurd (true≢false (sym e ∙ still.1));
         goes_on = m.goes ∙ not_gone;
         credit = credits-none run (data_frame id bytes) owed none m.credits;
+        owes = λ k. omega (arith, none k);
         update = λ e. cc;
       },
       record {
@@ -373,8 +377,8 @@ data-written run begun gone w windows over waiting block owed id bytes made is i
         goes_on = same-block run (Written (data_frame id bytes) ∷ run) block (no-block run (data_frame id bytes) refl ∙ sym nothing) m.goes_on;
         not_reset = head-same (data_frame id bytes) (frames_of run) block refl m.not_reset;
         credits = credit-same run (data_frame id bytes) owed none m.credits;
+        owes = owes-same run (data_frame id bytes) owed none m.owes;
         silent = m.silent;
-        hushed = m.hushed;
         resets = m.resets;
         no_stream_0 = m.no_stream_0;
       },
@@ -391,8 +395,38 @@ told-amount n small = ap (λ k. k % 2 ^ 31) (from_be_bytes-to_be_bytes_4 n (omeg
 update-amount : (id n k : ℕ) → n < 2 ^ 31 → update_on k (update_frame id n) ≡ (if k == id then n else 0)
 update-amount id n k small = ap (λ amount. if k == id then amount else 0) (told-amount n small)
 
-some-paid : (over : Option Bool) (b : Bool) → (over ≡ Some true → b ≡ false) → b ≡ true → over ≡ Some true → ⊥
-some-paid over b silent paid e = true≢false (sym paid ∙ silent e)
+-- where credit may be owed, the stream was no more reset than the connection
+no-reset : (id : ℕ) (run : List Step) → may_owe id run ≡ true → (id ≡ 0) ⊎ ((is_stream id ≡ true) × (was_reset id run ≡ false))
+no-reset id run may = by (id == 0) refl (is_stream id) (is_opened id run) (was_reset id run) refl refl may
+  where
+    by : (zero : Bool) → (id == 0) ≡ zero → (stream opened was : Bool) → is_stream id ≡ stream → was_reset id run ≡ was → (zero || ((stream && opened) && not was)) ≡ true
+        → (id ≡ 0) ⊎ ((is_stream id ≡ true) × (was_reset id run ≡ false))
+    by true z stream opened was is still may = inl (eqb-true id 0 z)
+    by false z true true false is still may = inr (is, still)
+    by false z true true true is still may = absurd (true≢false (sym may))
+    by false z true false was is still may = absurd (true≢false (sym may))
+    by false z false opened was is still may = absurd (true≢false (sym may))
+
+-- nor has it had an RST_STREAM
+not-over-there : (run : List Step) (over : List (ℕ × Bool)) (kept : Owed) (id : ℕ) → HasSilence over kept → HasResets run kept → lookup (nat_eq 0) over ≡ None
+    → (id ≡ 0) ⊎ ((is_stream id ≡ true) × (was_reset id run ≡ false)) → lookup (nat_eq id) over ≡ Some true → ⊥
+not-over-there run over kept id silent marks none (inl zero) e =
+    let P : ℕ → Type 0 = λ k. lookup (nat_eq k) over ≡ None in
+    not-some (lookup (nat_eq id) over) (subst P (sym zero) none) e
+not-over-there run over kept id silent marks none (inr (is, still)) e = true≢false (sym (silent id e) ∙ marks id is ∙ still)
+
+unreset-there : (run : List Step) (id : ℕ) → (id ≡ 0) ⊎ ((is_stream id ≡ true) × (was_reset id run ≡ false)) → is_stream id ≡ true → was_reset id run ≡ true → ⊥
+unreset-there run id (inl zero) there was = true≢false (sym there ∙ ap is_stream zero)
+unreset-there run id (inr (is, still)) there was = true≢false (sym was ∙ still)
+
+-- what is owed is told, or else the same is owed as before
+owed-left : (b : Bool) (n kept owed left : ℕ) → kept ≡ owed → (b ≡ true → kept ≡ n) → left ≡ (if b then 0 else kept) → left ≡ owed - (if b then n else 0)
+owed-left true n kept owed left same is e = let all : kept ≡ n = is refl in omega (arith, same, all, e)
+owed-left false n kept owed left same is e = omega (arith, same, e)
+
+owed-told : (b : Bool) (n kept owed : ℕ) → kept ≡ owed → (b ≡ true → kept ≡ n) → (if b then n else 0) ≤ owed
+owed-told true n kept owed same is = let all : kept ≡ n = is refl in omega (arith, same, all)
+owed-told false n kept owed same is = omega arith
 
 at-most : (b : Bool) (n updates owed grants : ℕ) → updates + owed ≤ grants → (b ≡ true → owed ≡ n) → updates + (if b then n else 0) ≤ grants
 at-most true n updates owed grants h is = let e : owed ≡ n = is refl in omega (arith, h, e)
@@ -413,18 +447,24 @@ update-written run begun gone w over waiting block owed less taken made is is_be
     let here : (k : ℕ) → (k == taken.0) ≡ true → owed_on owed k ≡ taken.1 =
     λ k e. let P : ℕ → Type 0 = λ j. owed_on owed j ≡ taken.1 in subst P (sym (eqb-true k taken.0 e)) takes.3 in
     let amount = λ (k : ℕ). update-amount taken.0 taken.1 k small in
+    let free = no-reset taken.0 run (sym (m.owes taken.0).1 ∙ takes.2) in
     subst (λ (f : Frame). MayWrite run f × Mirrors (Written f ∷ run) begun gone w over waiting block less) (sym is)
     (plain-written run begun gone gone w over waiting waiting block owed less (update_frame taken.0 taken.1) is_begun not_gone no_block (update-plain taken.0 taken.1)
     (tells-none run (update_frame taken.0 taken.1) waiting refl m.answers) (due-same run (update_frame taken.0 taken.1) waiting refl m.answers)
-    ((m.is_over taken.0).1 (some-paid (lookup (nat_eq taken.0) over) (pays owed taken.0) (m.silent taken.0) takes.2))
+    ((m.is_over taken.0).1 (not-over-there run over owed taken.0 m.silent m.resets m.no_stream_0 free))
     (λ e. inl refl)
-    (λ there was. true≢false (sym takes.2 ∙ m.hushed taken.0 (m.resets taken.0 there ∙ was)))
+    (unreset-there run taken.0 free)
     (λ k. subst (λ n. updated k run + n ≤ granted k run) (sym (amount k)) (at-most (k == taken.0) taken.1 (updated k run) (owed_on owed k) (granted k run) (m.credits k) (here k)))
     (λ k. subst (λ n. n + owed_on less k ≤ granted k run) (sym (sum_by-cons (update_on k) (update_frame taken.0 taken.1) (frames_of run) ∙ ap (λ n. n + updated k run) (amount k)))
     (subst (λ n. ((if k == taken.0 then taken.1 else 0) + updated k run) + n ≤ granted k run) (sym (takes.4 k))
     (at-most-left (k == taken.0) taken.1 (updated k run) (owed_on owed k) (granted k run) (m.credits k) (here k))))
-    (λ k e. (takes.5 k).1 ∙ m.silent k e)
-    (λ k e. (takes.5 k).1 ∙ m.hushed k (sym (takes.5 k).2 ∙ e))
+    (λ k e. (takes.5 k).2 ∙ m.silent k e)
     (λ k there. (takes.5 k).2 ∙ m.resets k there)
+    (λ k. subst (λ n. n ≤ given k run) (sym (amount k)) (owed-told (k == taken.0) taken.1 (owed_on owed k) (given k run) (m.owes k).0 (here k)))
+    (λ k. (
+      subst (λ n. owed_on less k ≡ given k run - n) (sym (amount k)) (owed-left (k == taken.0) taken.1 (owed_on owed k) (given k run) (owed_on less k) (m.owes k).0 (here k) (takes.4 k)),
+      (takes.5 k).1 ∙ (m.owes k).1,
+      λ e. (m.owes k).2 (sym (takes.5 k).0 ∙ e),
+    ))
     (λ e. (taken.1, takes.0, small, refl))
     (sym not_gone) m)

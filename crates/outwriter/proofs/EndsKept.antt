@@ -12,11 +12,11 @@ use Rattle.outwriter.specs.declared.due.Due.{Due}
 use Rattle.outwriter.specs.declared.due.Due.TheVariants as due_kind
 use Rattle.outwriter.specs.declared.stream.OpenStream.{OpenStream}
 use Rattle.outwriter.specs.declared.outbound.Outbound.{Outbound}
-use Rattle.outwriter.specs.Calls.{calls_off, is_called_off, is_dropped, is_opened, TellEnds}
+use Rattle.outwriter.specs.Calls.{calls_off, is_called_off, is_dropped, TellEnds}
 use Rattle.outwriter.specs.Credits.{Owed, is_reset, knows}
 use Rattle.outwriter.specs.Histories.{is_stream, is_over}
 use Rattle.outwriter.specs.RunState.{Sets, Ends, HasOver, IsSpent}
-use Rattle.outwriter.specs.Runs.{resets_stream, was_reset}
+use Rattle.outwriter.specs.Runs.{resets_stream, was_reset, is_opened}
 use Rattle.outwriter.specs.CallState.{AreOver, Heeds, HeedsEnds, HeedsOpen, IsEnding, IsOwn, Rests, Takes, is_due_of, none_is_new}
 use Rattle.outwriter.specs.Steps.{Step, Order, Taken}
 use Rattle.outwriter.specs.ToldByNow.{SameStanding}

@@ -17,8 +17,8 @@ use Rattle.outwriter.specs.declared.due.Due.{Due}
 use Rattle.outwriter.specs.Credits.{Owed}
 use Rattle.outwriter.specs.Frames.{is_last, reset_frame, resets, ends, ends_stream, is_reset, update_on, update_kind, update_frame, ends_block, first_settings, settings_ack, ping_ack, goaway_frame}
 use Rattle.outwriter.specs.Histories.{closing_of, spending_of, is_over, is_stream}
-use Rattle.outwriter.specs.RunState.{Mirrors, HasWindows, HasOver, HasDue, HasBlock, HasHead, HasCredit, HasResets, HasSilence, IsHushed, duties_of, resets_of}
-use Rattle.outwriter.specs.Runs.{has_begun, IsAsked, Fragments, unfinished, granted, granted_by, updated, due, told, told_by, is_goaway, goaways, without_goaway, AreAmong, MayWrite, Continues, MayFollowEnd, fragments, was_reset}
+use Rattle.outwriter.specs.RunState.{Mirrors, HasWindows, HasOver, HasDue, HasBlock, HasHead, HasCredit, HasOwed, HasResets, HasSilence, duties_of, resets_of}
+use Rattle.outwriter.specs.Runs.{has_begun, IsAsked, Fragments, unfinished, granted, granted_by, updated, due, told, told_by, is_goaway, goaways, without_goaway, AreAmong, MayWrite, Continues, MayFollowEnd, fragments, owed as given, was_reset}
 use Rattle.outwriter.specs.Steps.{Step, Taken, Granted, Written, Returned, frames_of}
 use Rattle.outwriter.proofs.RunStateSteps.{same-block, all-behind}
 
@@ -102,6 +102,9 @@ module _ (run : List Step) (frame : Frame) where
   pub credit-same : (owed : Owed) → ((id : ℕ) → update_on id frame ≡ 0) → HasCredit run owed → HasCredit (Written frame ∷ run) owed
   credit-same owed none h id = omega (arith, h id, none id, sum_by-cons (update_on id) frame (frames_of run))
 
+  pub owes-same : (kept : Owed) → ((id : ℕ) → update_on id frame ≡ 0) → HasOwed run kept → HasOwed (Written frame ∷ run) kept
+  owes-same kept none h id = (omega (arith, (h id).0, none id), (h id).1, (h id).2)
+
   pub credits-none : (owed : Owed) → ((id : ℕ) → update_on id frame ≡ 0) → HasCredit run owed → (id : ℕ) → updated id run + update_on id frame ≤ granted id run
   credits-none owed none h id = omega (arith, h id, none id)
 
@@ -179,6 +182,7 @@ first-written run begun gone w over waiting block owed frame is not_begun not_go
         not_ended = λ e. absurd (true≢false (sym e ∙ ap (list_any (ends 0)) none));
         goes_on = m.goes ∙ not_gone;
         credit = credits-none run first_settings owed no_update m.credits;
+        owes = λ id. omega (arith, no_update id);
         update = λ e. cc;
       },
       record {
@@ -191,8 +195,8 @@ first-written run begun gone w over waiting block owed frame is not_begun not_go
         not_reset = head-same first_settings (frames_of run) block refl m.not_reset;
         credits = credit-same run first_settings owed no_update m.credits;
         silent = m.silent;
-        hushed = m.hushed;
         resets = m.resets;
+        owes = owes-same run first_settings owed no_update m.owes;
         no_stream_0 = m.no_stream_0;
       },
     )
@@ -215,12 +219,13 @@ pub plain-written : (run : List Step) (begun gone after : Bool) (w : Windows) (o
     → list_any (resets frame.head.stream) (frames_of run) ≡ false
     → (list_any (ends frame.head.stream) (frames_of run) ≡ true → MayFollowEnd frame.head.kind)
     → (is_stream frame.head.stream ≡ true → was_reset frame.head.stream run ≡ true → ⊥)
-    → ((id : ℕ) → updated id run + update_on id frame ≤ granted id run) → HasCredit (Written frame ∷ run) less → HasSilence over less → IsHushed less → HasResets run less
+    → ((id : ℕ) → updated id run + update_on id frame ≤ granted id run) → HasCredit (Written frame ∷ run) less → HasSilence over less → HasResets run less
+    → ((id : ℕ) → update_on id frame ≤ given id run) → HasOwed (Written frame ∷ run) less
     → (frame.head.kind ≡ kind.WindowUpdate → (n : ℕ) × (0 < n) × (n < 2 ^ 31) × (frame ≡ update_frame frame.head.stream n))
     → is_last frame ≡ after
     → Mirrors run begun gone w over waiting block owed
     → MayWrite run frame × Mirrors (Written frame ∷ run) begun after w over left block less
-plain-written run begun gone after w over waiting left block owed less frame is_begun not_gone no_block plain tells dues not_reset not_ended unreset allowed credits silent hushed resets whole last m =
+plain-written run begun gone after w over waiting left block owed less frame is_begun not_gone no_block plain tells dues not_reset not_ended unreset allowed credits silent resets within owes whole last m =
     let nothing : unfinished run ≡ None = subst (HasBlock run) no_block m.goes_on in (
       record {
         first = λ e. absurd (none-begun (frames_of run) (m.begins ∙ is_begun) e);
@@ -235,6 +240,7 @@ plain-written run begun gone after w over waiting left block owed less frame is_
         not_ended = not_ended;
         goes_on = m.goes ∙ not_gone;
         credit = allowed;
+        owes = within;
         update = whole;
       },
       record {
@@ -247,8 +253,8 @@ plain-written run begun gone after w over waiting left block owed less frame is_
         not_reset = head-same frame (frames_of run) block plain.no_reset m.not_reset;
         credits = credits;
         silent = silent;
-        hushed = hushed;
         resets = resets;
+        owes = owes;
         no_stream_0 = m.no_stream_0;
       },
     )
@@ -299,7 +305,8 @@ due-written run begun gone after w over one waiting block owed made frame is is_
     (ap (λ id. list_any (resets id) (frames_of run)) on_0 ∙ still.0)
     (λ e. absurd (true≢false (sym e ∙ ap (λ id. list_any (ends id) (frames_of run)) on_0 ∙ still.1)))
     (λ there was. no-stream frame.head.stream on_0 there)
-    (credits-none run frame owed none m.credits) (credit-same run frame owed none m.credits) m.silent m.hushed m.resets (λ e. absurd (no_credit e)) last m)
+    (credits-none run frame owed none m.credits) (credit-same run frame owed none m.credits) m.silent m.resets (λ k. omega (arith, none k)) (owes-same run frame owed none m.owes)
+    (λ e. absurd (no_credit e)) last m)
 
 -- ---- the last word of a dead core
 
@@ -328,6 +335,7 @@ may-part run begun gone w over waiting block owed last code is_begun not_gone no
       not_ended = λ e. absurd (true≢false (sym e ∙ still.1));
       goes_on = m.goes ∙ not_gone;
       credit = λ id. omega (arith, credits-none run frame owed none m.credits id, sum_by-cons (granted_by id) (Taken (Goaway last code)) run);
+      owes = λ id. omega (arith, none id);
       update = λ e. cc;
     }
   where

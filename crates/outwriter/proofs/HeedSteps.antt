@@ -13,14 +13,14 @@ use Rattle.outwriter.specs.declared.control.Control.TheVariants as order
 use Rattle.outwriter.specs.declared.due.Due.TheVariants as due_kind
 use Rattle.outwriter.specs.declared.outbound.Outbound.{Outbound}
 use Rattle.outwriter.specs.declared.stream.OpenStream.{OpenStream}
-use Rattle.outwriter.specs.Calls.{is_called_off, is_dropped, is_opened}
+use Rattle.outwriter.specs.Calls.{is_called_off, is_dropped}
 use Rattle.outwriter.specs.CallState.{Heeds, HeedsEnds, IsEnding, Serves, Takes, has_reason, is_due_of, none_is_new}
 use Rattle.outwriter.specs.CoreChanges.{Prepares, Shuts, becomes_open, due_reset, is_new_call, may_write, stream_at}
 use Rattle.outwriter.specs.Credits.{is_reset, knows}
 use Rattle.outwriter.specs.Histories.{is_stream}
 use Rattle.outwriter.specs.Parts.{Mark}
 use Rattle.outwriter.specs.RunState.{Sets, HasResets}
-use Rattle.outwriter.specs.Runs.{resets_stream, was_reset}
+use Rattle.outwriter.specs.Runs.{resets_stream, was_reset, is_opened}
 use Rattle.outwriter.specs.Steps.{Step, Order, Taken, Granted, Written, Returned}
 use Rattle.outwriter.proofs.EndsKept.{either-true, heeds-before, heeds-called, heeds-taken, more-dues, over-same, takes-ends}
 use Rattle.outwriter.proofs.Others.{or-true, dropped-taken, reason-taken}

@@ -1,6 +1,6 @@
 -- The law of runs on examples: a run that is lawful, and for each rule a frame that isn't.
 use Rattle.std.proofs.Common.{◌≡◌, ℕ, ◌<◌, ◌≤◌, ◌⊎◌, inl, inr, refl, sym, ap, subst, Bool, true, false, List, [], ◌∷◌, ◌==◌, arith, ◌∙◌, true≢false}
-use Rattle.std.specs.Prelude.{sum_by, ◌+◌}
+use Rattle.std.specs.Prelude.{sum_by, ◌+◌, if◌then◌else◌}
 use Rattle.std.specs.List.{list_all}
 use Rattle.std.proofs.lemmas.Bool.{eqb-true}
 use Rattle.std.proofs.lemmas.List.Sums.{sum_by-cons}
@@ -15,8 +15,10 @@ use Rattle.h2frame.specs.declared.kind.FrameKind.TheVariants as kind
 use Rattle.outwriter.specs.declared.control.Control.TheVariants as order
 use Rattle.outwriter.specs.Frames.{update_kind, update_on, first_settings, settings_ack, ping_ack, reset_frame, goaway_frame, update_frame, data_frame, headers_frame, continuation_frame, is_data}
 use Rattle.outwriter.specs.Histories.{HasHistory}
-use Rattle.outwriter.specs.Runs.{MayWrite, MayFollowEnd, MayFollowReset, IsLawful, updated, granted}
+use Rattle.outwriter.specs.Runs.{MayWrite, MayFollowEnd, MayFollowReset, IsLawful, updated, granted, owed}
 use Rattle.outwriter.specs.Steps.{Step, Taken, Granted, Written, frames_of}
+use Rattle.outwriter.specs.Examples.{crediting}
+use Rattle.outwriter.specs.RunState.{IsAnswered}
 use Rattle.hpack_codec.proofs.HuffmanTable.{and_true}
 use Rattle.outwriter.proofs.FrameSteps.{no-updates}
 use Rattle.outwriter.proofs.EndSteps.{told-amount}
@@ -135,6 +137,25 @@ after-the-last m = true≢false m.goes_on
 pub ungranted : ¬ MayWrite (Granted 1 3 ∷ begun) (update_frame 1 4)
 ungranted m = omega (arith, m.credit 1)
 
+-- more than is owed: what was granted before the stream was opened is not, nor what is past 2^31 - 1 at once, nor what was told
+pub unowed-before-an-open : ¬ MayWrite (Taken (order.Open 1 tt) ∷ Granted 1 4 ∷ begun) (update_frame 1 4)
+unowed-before-an-open m = omega (arith, m.owes 1)
+
+pub more-than-is-owed : ¬ MayWrite crediting (update_frame 1 7)
+more-than-is-owed m = omega (arith, m.owes 1)
+
+pub told-twice : ¬ MayWrite (Written (update_frame 0 9) ∷ crediting) (update_frame 0 9)
+told-twice m = omega (arith, m.owes 0)
+
+-- on a stream that was reset nothing is owed
+pub unowed-after-a-reset : ¬ MayWrite dropped (update_frame 3 4)
+unowed-after-a-reset m = omega (arith, m.owes 3)
+
+-- and nobody may rest, as long as something is owed
+pub still-owed : ¬ IsAnswered crediting
+still-owed (inl last) = true≢false (sym last)
+still-owed (inr answered) = omega (arith, answered.2 1)
+
 -- and none
 pub no-credit : ¬ MayWrite begun (update_frame 1 0)
 no-credit m =
@@ -155,6 +176,9 @@ none-updated (frame ∷ frames) id e =
 calm : (before : List Step) (frame : Frame) → list_all (λ f. update_kind f.head.kind f.content == 0) (frames_of before) ≡ true → update_kind frame.head.kind frame.content ≡ 0
     → (id : ℕ) → updated id before + update_on id frame ≤ granted id before
 calm before frame all none id = omega (arith, none-updated (frames_of before) id all, no-updates before frame none id)
+
+calm-now : (before : List Step) (frame : Frame) → update_kind frame.head.kind frame.content ≡ 0 → (id : ℕ) → update_on id frame ≤ owed id before
+calm-now before frame none id = omega (arith, no-updates before frame none id)
 
 -- a call is opened, and answered by headers, a message and trailers
 abbrev opened : List Step
@@ -180,6 +204,7 @@ first-may = record {
   not_ended = λ e. cc;
   goes_on = refl;
   credit = calm [] first_settings refl refl;
+  owes = calm-now [] first_settings refl;
   update = λ e. cc;
 }
 
@@ -197,6 +222,7 @@ head-may = record {
   not_ended = λ e. cc;
   goes_on = refl;
   credit = calm opened (headers_frame 1 false true (130 ∷ [])) refl refl;
+  owes = calm-now opened (headers_frame 1 false true (130 ∷ [])) refl;
   update = λ e. cc;
 }
 
@@ -217,6 +243,7 @@ data-may = record {
   not_ended = λ e. cc;
   goes_on = refl;
   credit = calm headed (data_frame 1 (8 ∷ 9 ∷ [])) refl refl;
+  owes = calm-now headed (data_frame 1 (8 ∷ 9 ∷ [])) refl;
   update = λ e. cc;
 }
 
@@ -234,6 +261,7 @@ end-may = record {
   not_ended = λ e. cc;
   goes_on = refl;
   credit = calm sent (headers_frame 1 true true (130 ∷ [])) refl refl;
+  owes = calm-now sent (headers_frame 1 true true (130 ∷ [])) refl;
   update = λ e. cc;
 }
 
@@ -265,6 +293,7 @@ half-may = record {
   not_ended = λ e. cc;
   goes_on = refl;
   credit = calm (Taken (order.Open 5 tt) ∷ begun) (headers_frame 5 false false (130 ∷ [])) refl refl;
+  owes = calm-now (Taken (order.Open 5 tt) ∷ begun) (headers_frame 5 false false (130 ∷ [])) refl;
   update = λ e. cc;
 }
 
@@ -282,6 +311,7 @@ rest-may = record {
   not_ended = λ e. cc;
   goes_on = refl;
   credit = calm cut (continuation_frame 5 true (131 ∷ [])) refl refl;
+  owes = calm-now cut (continuation_frame 5 true (131 ∷ [])) refl;
   update = λ e. cc;
 }
 
@@ -299,8 +329,57 @@ reset-may = record {
   not_ended = λ e. cc;
   goes_on = refl;
   credit = calm rest (reset_frame 5 Cancel) refl refl;
+  owes = calm-now rest (reset_frame 5 Cancel) refl;
   update = λ e. cc;
 }
 
 pub one-reset : IsLawful (Written (reset_frame 5 Cancel) ∷ rest)
 one-reset = (reset-may, (rest-may, (half-may, (first-may, tt))))
+
+-- ---- a third: credit is granted on the connection and on a call's stream, and told as it is owed
+
+abbrev granted-once : List Step
+granted-once = Granted 1 6 ∷ Granted 0 9 ∷ Granted 1 4 ∷ Taken (order.Open 1 tt) ∷ begun
+
+told-once : (id : ℕ) → updated id granted-once + update_on id (update_frame 1 4) ≤ granted id granted-once
+told-once id = by (id == 1) refl
+  where
+    by : (b : Bool) → (id == 1) ≡ b → updated id granted-once + update_on id (update_frame 1 4) ≤ granted id granted-once
+    by true p =
+        let P : ℕ → Type 0 = λ k. updated k granted-once + update_on k (update_frame 1 4) ≤ granted k granted-once in
+        subst P (sym (eqb-true id 1 p)) (omega arith)
+    by false p =
+        let none : update_on id (update_frame 1 4) ≡ 0 = ap (λ b. if b then 4 else 0) p in
+        omega (arith, none, none-updated (frames_of granted-once) id refl)
+
+owed-once : (id : ℕ) → update_on id (update_frame 1 4) ≤ owed id granted-once
+owed-once id = by (id == 1) refl
+  where
+    by : (b : Bool) → (id == 1) ≡ b → update_on id (update_frame 1 4) ≤ owed id granted-once
+    by true p =
+        let P : ℕ → Type 0 = λ k. update_on k (update_frame 1 4) ≤ owed k granted-once in
+        subst P (sym (eqb-true id 1 p)) (omega arith)
+    by false p =
+        let none : update_on id (update_frame 1 4) ≡ 0 = ap (λ b. if b then 4 else 0) p in
+        omega (arith, none)
+
+credit-may : MayWrite granted-once (update_frame 1 4)
+credit-may = record {
+  first = λ e. cc;
+  windows = λ e. cc;
+  content = λ e. cc;
+  answers = ([], refl);
+  parts = refl;
+  asked = λ e. cc;
+  after_reset = λ there was. cc;
+  block = λ e. cc;
+  not_reset = refl;
+  not_ended = λ e. cc;
+  goes_on = refl;
+  credit = told-once;
+  owes = owed-once;
+  update = λ e. (4, omega arith, omega arith, refl);
+}
+
+pub one-credit : IsLawful crediting
+one-credit = (credit-may, (first-may, tt))

@@ -4,8 +4,8 @@ use Rattle.std.specs.Prelude.{◌||◌, is_some}
 use Rattle.account.specs.declared.call.OutItem.{OutItem}
 use Rattle.h2frame.specs.declared.frame.Frame.{Frame}
 use Rattle.lists.specs.declared.field.Field.{Field}
-use Rattle.outwriter.specs.Calls.{is_opened, opens_stream, calls_off, is_called_off, drops, is_dropped, IsRefused, IsOther, IsReturned}
-use Rattle.outwriter.specs.Runs.{was_reset, resets_stream}
+use Rattle.outwriter.specs.Calls.{calls_off, is_called_off, drops, is_dropped, IsRefused, IsOther, IsReturned}
+use Rattle.outwriter.specs.Runs.{was_reset, resets_stream, is_opened, opens_stream}
 use Rattle.outwriter.specs.Parts.{Mark}
 use Rattle.outwriter.specs.CallState.{IsUncalled, has_reason}
 use Rattle.outwriter.specs.Steps.{Step, Order, Taken, Granted, Written}

@@ -42,8 +42,8 @@ mirrors-returned run o id items m = record {
   not_reset = m.not_reset;
   credits = λ k. omega (arith, m.credits k, sum_by-cons (granted_by k) (Returned id items) run);
   silent = m.silent;
-  hushed = m.hushed;
   resets = m.resets;
+  owes = m.owes;
   no_stream_0 = m.no_stream_0;
 }
 

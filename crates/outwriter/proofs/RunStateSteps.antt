@@ -1,10 +1,12 @@
 -- What is kept follows from a run of one more step.
-use Rattle.std.proofs.Common.{◌≡◌, ℕ, ◌+◌, ◌≤◌, ◌==◌, inr, refl, sym, ap, subst, ◌∙◌, Bool, true, false, List, [], ◌∷◌, ◌++◌, Option, Some, None, arith, append-nil, append_assoc}
-use Rattle.std.specs.Prelude.{IfSome, All, flat_map, ◌||◌, ◌&&◌}
-use Rattle.std.proofs.lemmas.Bool.{eqb-true}
+use Rattle.std.proofs.Common.{◌≡◌, ℕ, ◌+◌, ◌≤◌, ◌==◌, inr, refl, sym, ap, subst, ◌∙◌, Bool, true, false, true≢false, List, [], ◌∷◌, ◌++◌, Option, Some, None, arith, append-nil, append_assoc, nat_eq, min}
+use Rattle.std.specs.Prelude.{IfSome, All, flat_map, ◌||◌, ◌&&◌, not, if◌then◌else◌}
+use Rattle.std.specs.Map.{lookup}
+use Rattle.std.proofs.lemmas.Bool.{eqb-true, ne_eqb, eq-eqb}
 use Rattle.std.proofs.lemmas.Grind.{flat_map-append}
 use Rattle.std.proofs.lemmas.List.Elements.{All-append, All-tail, All-weaker}
 use Rattle.std.proofs.lemmas.List.Sums.{sum_by-cons}
+use Rattle.flow.specs.declared.TheConstants.{MAX_WINDOW}
 use Rattle.flow.specs.WindowHistory.{Step as WindowStep}
 use Rattle.flow.specs.Windows.{Windows}
 use Rattle.h2frame.specs.declared.error_code.ErrorCode.{ErrorCode}
@@ -14,11 +16,12 @@ use Rattle.outwriter.specs.declared.control.Control.{Control}
 use Rattle.outwriter.specs.declared.control.Control.TheVariants.{Open, Reset}
 use Rattle.outwriter.specs.declared.due.Due.{Due}
 use Rattle.outwriter.specs.declared.outbound.Outbound.{Outbound}
-use Rattle.outwriter.specs.Credits.{Owed, is_reset, owed_on, pays}
+use Rattle.outwriter.specs.Credits.{Owed, Grants, is_paid, is_reset, knows, more, number_of, owed_on, pays}
 use Rattle.outwriter.specs.Histories.{Takes, is_stream}
-use Rattle.outwriter.specs.RunState.{Mirrors, HasWindows, HasDue, HasBlock, HasResets, HasSilence, IsHushed, AreAsked, Reached, GoesOn, Stays, duties_of, resets_of}
-use Rattle.outwriter.specs.Runs.{IsAsked, Fragments, unfinished, granted, granted_by, updated, due, due_by, told, resets_stream, was_reset}
-use Rattle.outwriter.specs.Steps.{Step, Order, Taken, order_of}
+use Rattle.outwriter.specs.RunState.{Mirrors, HasWindows, HasDue, HasBlock, HasOwed, HasResets, AreAsked, Reached, GoesOn, Stays, duties_of, resets_of}
+use Rattle.outwriter.specs.Runs.{IsAsked, Fragments, unfinished, granted_by, is_opened, may_owe, opens_stream, owed, due, due_by, told, resets_stream, was_reset}
+use Rattle.outwriter.specs.Steps.{Step, Order, Taken, Granted, order_of}
+use Rattle.outwriter.proofs.Others.{or-true}
 use Rattle.outwriter.proofs.WindowRuns.{nothing-taken}
 
 -- the header block is as it was
@@ -64,8 +67,8 @@ more-due order run waiting one e asked h =
 -- a control changes the windows and what is due, and nothing else
 pub taken : (order : Order) (run : List Step) (begun gone : Bool) (w windows : Windows) (over : List (ℕ × Bool)) (waiting after : List Due)
     (block : Option HeaderBlock) (owed : Owed) → Mirrors run begun gone w over waiting block owed → HasWindows (Taken order ∷ run) windows
-    → HasDue (Taken order ∷ run) after → HasResets (Taken order ∷ run) owed → Mirrors (Taken order ∷ run) begun gone windows over after block owed
-taken order run begun gone w windows over waiting after block owed m follow dues resets = record {
+    → HasDue (Taken order ∷ run) after → HasResets (Taken order ∷ run) owed → HasOwed (Taken order ∷ run) owed → Mirrors (Taken order ∷ run) begun gone windows over after block owed
+taken order run begun gone w windows over waiting after block owed m follow dues resets owes = record {
   begins = m.begins;
   goes = m.goes;
   windows_follow = follow;
@@ -75,42 +78,160 @@ taken order run begun gone w windows over waiting after block owed m follow dues
   not_reset = m.not_reset;
   credits = λ id. omega (arith, m.credits id, sum_by-cons (granted_by id) (Taken order) run);
   silent = m.silent;
-  hushed = m.hushed;
   resets = resets;
+  owes = owes;
   no_stream_0 = m.no_stream_0;
 }
 
--- an Open, which leaves what is owed, and what is silent
-pub open-led : (id : ℕ) (run : List Step) (begun gone : Bool) (w windows : Windows) (over : List (ℕ × Bool)) (waiting : List Due) (block : Option HeaderBlock)
-    (owed left : Owed) → ((other : ℕ) → owed_on left other ≡ owed_on owed other) → (HasSilence over owed → HasSilence over left)
-    → (IsHushed owed → IsHushed left) → ((other : ℕ) → is_reset left other ≡ is_reset owed other)
-    → HasWindows (Taken (Open id tt) ∷ run) windows → Mirrors run begun gone w over waiting block owed
-    → Mirrors (Taken (Open id tt) ∷ run) begun gone windows over waiting block left
-open-led id run begun gone w windows over waiting block owed left same silent hushed resets follow m =
-    taken (Open id tt) run begun gone w windows over waiting waiting block left
-    (record {
-      begins = m.begins;
-      goes = m.goes;
-      windows_follow = m.windows_follow;
-      is_over = m.is_over;
-      answers = m.answers;
-      goes_on = m.goes_on;
-      not_reset = m.not_reset;
-      credits = λ other. subst (λ n. updated other run + n ≤ granted other run) (sym (same other)) (m.credits other);
-      silent = silent m.silent;
-      hushed = hushed m.hushed;
-      resets = λ other there. resets other ∙ m.resets other there;
-      no_stream_0 = m.no_stream_0;
-    })
-    follow (same-due (Open id tt) run waiting refl m.answers) (λ other there. resets other ∙ m.resets other there)
+-- ---- what is owed
 
--- a Reset, after which less is owed, on fewer streams
+-- a control that opens nothing and resets nothing
+pub quiet-owed : (order : Order) (run : List Step) (kept : Owed) → ((id : ℕ) → resets_stream id order ≡ false) → ((id : ℕ) → opens_stream id order ≡ false)
+    → HasOwed run kept → HasOwed (Taken order ∷ run) kept
+quiet-owed order run kept unreset unopened owes id = (
+  (owes id).0 ∙ sym (ap (λ b. if b && is_stream id then 0 else owed id run) (unreset id)),
+  (owes id).1 ∙ sym (ap (λ b. (id == 0) || ((is_stream id && (b || is_opened id run)) && not (resets_stream id order || was_reset id run))) (unopened id)
+      ∙ ap (λ b. (id == 0) || ((is_stream id && is_opened id run) && not (b || was_reset id run))) (unreset id)),
+  λ e. ap (λ b. b || is_opened id run) (unopened id) ∙ (owes id).2 e,
+)
+
+-- the connection is no stream
+pub not-0 : (id : ℕ) → is_stream id ≡ true → (id == 0) ≡ false
+not-0 id is = ne_eqb id 0 (λ e. true≢false (sym is ∙ ap is_stream e))
+
+-- an Open, of a stream that is new or not
+pub open-owed : (id : ℕ) (run : List Step) (is_new : Bool) (kept left : Owed) → is_new ≡ (is_stream id && not (knows kept id))
+    → ((k : ℕ) → owed_on left k ≡ owed_on kept k) → ((k : ℕ) → pays left k ≡ (if is_new && (k == id) then not (is_reset kept id) else pays kept k))
+    → ((k : ℕ) → knows left k ≡ ((is_new && (k == id)) || knows kept k)) → HasResets run kept → HasOwed run kept → HasOwed (Taken (Open id tt) ∷ run) left
+open-owed id run is_new kept left new same paid known resets owes k = (same k ∙ (owes k).0, paying (k == id) refl, opening (k == id) refl)
+  where
+    there : (zero stream opened was reset : Bool) (known : Bool) (n : Bool) → n ≡ (stream && not known) → (stream ≡ true → zero ≡ false) → (stream ≡ true → reset ≡ was) → (known ≡ true → opened ≡ true)
+        → (if n && true then not reset else (zero || ((stream && opened) && not was))) ≡ (zero || ((stream && true) && not was))
+    there zero false opened was reset known n is apart e o = ap (λ b. if b && true then not reset else (zero || false)) is
+    there zero true opened was reset false n is apart e o =
+        ap (λ b. if b && true then not reset else (zero || (opened && not was))) is ∙ ap not (e refl) ∙ sym (ap (λ b. b || not was) (apart refl))
+    there zero true opened was reset true n is apart e o =
+        ap (λ b. if b && true then not reset else (zero || (opened && not was))) is ∙ ap (λ b. zero || (b && not was)) (o refl)
+
+    never : (b : Bool) → (b && false) ≡ false
+    never true = refl
+    never false = refl
+
+    elsewhere : {X : Type 0} (n : Bool) (here away : X) → (if n && false then here else away) ≡ away
+    elsewhere true here away = refl
+    elsewhere false here away = refl
+
+    paying : (b : Bool) → (k == id) ≡ b → pays left k ≡ may_owe k (Taken (Open id tt) ∷ run)
+    paying true p =
+        let P : ℕ → Type 0 = λ j. pays left j ≡ may_owe j (Taken (Open id tt) ∷ run) in
+        subst P (sym (eqb-true k id p)) (
+        paid id ∙ ap (λ b. if is_new && b then not (is_reset kept id) else pays kept id) (eq-eqb id id refl)
+        ∙ ap (λ b. if is_new && true then not (is_reset kept id) else b) (owes id).1
+        ∙ there (id == 0) (is_stream id) (is_opened id run) (was_reset id run) (is_reset kept id) (knows kept id) is_new new (not-0 id) (resets id) (owes id).2
+        ∙ sym (ap (λ b. (id == 0) || ((is_stream id && (b || is_opened id run)) && not (was_reset id run))) (eq-eqb id id refl))
+        )
+    paying false p =
+        paid k ∙ ap (λ b. if is_new && b then not (is_reset kept id) else pays kept k) p ∙ elsewhere is_new (not (is_reset kept id)) (pays kept k) ∙ (owes k).1
+        ∙ sym (ap (λ b. (k == 0) || ((is_stream k && (b || is_opened k run)) && not (was_reset k run))) p)
+
+    opening : (b : Bool) → (k == id) ≡ b → knows left k ≡ true → is_opened k (Taken (Open id tt) ∷ run) ≡ true
+    opening true p e = ap (λ b. b || is_opened k run) p
+    opening false p e = ap (λ b. b || is_opened k run) p ∙ (owes k).2 (sym (ap (λ b. b || knows kept k) (ap (λ b. is_new && b) p ∙ never is_new)) ∙ sym (known k) ∙ e)
+
+-- a Reset, by which nothing is owed on its stream
+pub reset-owed : (id : ℕ) (code : ErrorCode) (written : Bool) (run : List Step) (kept left : Owed)
+    → ((k : ℕ) → owed_on left k ≡ (if is_stream id && (k == id) then 0 else owed_on kept k)) → ((k : ℕ) → pays left k ≡ (if is_stream id && (k == id) then false else pays kept k))
+    → ((k : ℕ) → knows left k ≡ knows kept k) → HasOwed run kept → HasOwed (Taken (Reset id code written) ∷ run) left
+reset-owed id code written run kept left less paid known owes k = (
+  less k ∙ ap (λ n. if is_stream id && (k == id) then 0 else n) (owes k).0 ∙ ap (λ b. if b then 0 else owed k run) (swapped (k == id) refl),
+  paid k ∙ ap (λ b. if is_stream id && (k == id) then false else b) (owes k).1 ∙ ap (λ b. if b then false else may_owe k run) (swapped (k == id) refl)
+      ∙ there (k == 0) (k == id) (is_stream k) (is_opened k run) (was_reset k run) (not-0 k),
+  λ e. (owes k).2 (sym (known k) ∙ e),
+)
+  where
+    never : (b : Bool) → (b && false) ≡ false
+    never true = refl
+    never false = refl
+
+    always : (b : Bool) → (b && true) ≡ b
+    always true = refl
+    always false = refl
+
+    swapped : (b : Bool) → (k == id) ≡ b → (is_stream id && (k == id)) ≡ ((k == id) && is_stream k)
+    swapped true p = ap (λ b. is_stream id && b) p ∙ always (is_stream id) ∙ ap is_stream (sym (eqb-true k id p)) ∙ sym (ap (λ b. b && is_stream k) p)
+    swapped false p = ap (λ b. is_stream id && b) p ∙ never (is_stream id) ∙ sym (ap (λ b. b && is_stream k) p)
+
+    there : (zero here stream opened was : Bool) → (stream ≡ true → zero ≡ false)
+        → (if here && stream then false else (zero || ((stream && opened) && not was))) ≡ (zero || ((stream && opened) && not (here || was)))
+    there zero false stream opened was apart = refl
+    there zero true false opened was apart = refl
+    there zero true true opened was apart = sym (ap (λ b. b || (opened && false)) (apart refl) ∙ never opened)
+
+-- what was granted is owed from then on
+pub grant-owed : (id n : ℕ) (run : List Step) (kept left : Owed) → Grants kept id n left → HasOwed run kept → HasOwed (Granted id n ∷ run) left
+grant-owed id n run kept left grants owes k = (
+  owing (k == id) refl,
+  (grants.0 k).1 ∙ (owes k).1,
+  λ e. (owes k).2 (sym (grants.0 k).0 ∙ e),
+)
+  where
+    unpaid : (o : Option (Option ℕ)) → is_paid o ≡ false → number_of o ≡ 0
+    unpaid None e = refl
+    unpaid (Some None) e = refl
+    unpaid (Some (Some m)) e = absurd (true≢false e)
+
+    none : (zero : Bool) (m : ℕ) (o : Option (Option ℕ)) → (if zero then true else is_paid o) ≡ false → (if zero then m else number_of o) ≡ 0
+    none true m o e = absurd (true≢false e)
+    none false m o e = unpaid o e
+
+    here : (b : Bool) → pays kept id ≡ b → (if b then more (owed_on kept id) n else 0) ≡ (if b then min (owed id run + n) MAX_WINDOW else owed id run)
+    here true p = ap (λ m. more m n) (owes id).0
+    here false p = sym (none (id == 0) kept.connection (lookup (nat_eq id) kept.streams) p) ∙ (owes id).0
+
+    owing : (b : Bool) → (k == id) ≡ b → owed_on left k ≡ owed k (Granted id n ∷ run)
+    owing true p =
+        let P : ℕ → Type 0 = λ j. owed_on left j ≡ owed j (Granted id n ∷ run) in
+        subst P (sym (eqb-true k id p)) (
+        grants.1 id ∙ ap (λ b. if b then (if pays kept id then more (owed_on kept id) n else 0) else owed_on kept id) (eq-eqb id id refl)
+        ∙ here (pays kept id) refl ∙ ap (λ b. if b then min (owed id run + n) MAX_WINDOW else owed id run) (owes id).1
+        ∙ sym (ap (λ b. if b && may_owe id run then min (owed id run + n) MAX_WINDOW else owed id run) (eq-eqb id id refl))
+        )
+    owing false p =
+        grants.1 k ∙ ap (λ b. if b then (if pays kept id then more (owed_on kept id) n else 0) else owed_on kept k) p ∙ (owes k).0
+        ∙ sym (ap (λ b. if b && may_owe k run then min (owed k run + n) MAX_WINDOW else owed k run) p)
+
+-- ---- controls
+
+-- an Open, which leaves what is owed, and what was reset
+pub open-led : (id : ℕ) (run : List Step) (begun gone : Bool) (w windows : Windows) (over : List (ℕ × Bool)) (waiting : List Due) (block : Option HeaderBlock)
+    (is_new : Bool) (kept left : Owed) → is_new ≡ (is_stream id && not (knows kept id)) → ((k : ℕ) → owed_on left k ≡ owed_on kept k)
+    → ((k : ℕ) → pays left k ≡ (if is_new && (k == id) then not (is_reset kept id) else pays kept k))
+    → ((k : ℕ) → knows left k ≡ ((is_new && (k == id)) || knows kept k)) → ((k : ℕ) → is_reset left k ≡ is_reset kept k)
+    → HasWindows (Taken (Open id tt) ∷ run) windows → Mirrors run begun gone w over waiting block kept
+    → Mirrors (Taken (Open id tt) ∷ run) begun gone windows over waiting block left
+open-led id run begun gone w windows over waiting block is_new kept left new same paid known marks follow m = record {
+  begins = m.begins;
+  goes = m.goes;
+  windows_follow = follow;
+  is_over = m.is_over;
+  answers = same-due (Open id tt) run waiting refl m.answers;
+  goes_on = same-block run (Taken (Open id tt) ∷ run) block refl m.goes_on;
+  not_reset = m.not_reset;
+  credits = λ k. omega (arith, m.credits k, same k, sum_by-cons (granted_by k) (Taken (Open id tt)) run);
+  silent = λ k is. marks k ∙ m.silent k is;
+  resets = λ k there. marks k ∙ m.resets k there;
+  owes = open-owed id run is_new kept left new same paid known m.resets m.owes;
+  no_stream_0 = m.no_stream_0;
+}
+
+-- a Reset, after which nothing is owed on its stream
 pub reset-led : (id : ℕ) (code : ErrorCode) (written : Bool) (run : List Step) (begun gone : Bool) (w windows : Windows) (over : List (ℕ × Bool)) (waiting after : List Due)
-    (block : Option HeaderBlock) (owed left : Owed) → ((k : ℕ) → owed_on left k ≤ owed_on owed k) → ((k : ℕ) → pays owed k ≡ false → pays left k ≡ false)
-    → (IsHushed owed → IsHushed left) → ((k : ℕ) → is_reset left k ≡ ((is_stream id && (k == id)) || is_reset owed k))
+    (block : Option HeaderBlock) (kept left : Owed) → ((k : ℕ) → owed_on left k ≡ (if is_stream id && (k == id) then 0 else owed_on kept k))
+    → ((k : ℕ) → pays left k ≡ (if is_stream id && (k == id) then false else pays kept k)) → ((k : ℕ) → knows left k ≡ knows kept k)
+    → ((k : ℕ) → is_reset left k ≡ ((is_stream id && (k == id)) || is_reset kept k))
     → HasWindows (Taken (Reset id code written) ∷ run) windows → HasDue (Taken (Reset id code written) ∷ run) after
-    → Mirrors run begun gone w over waiting block owed → Mirrors (Taken (Reset id code written) ∷ run) begun gone windows over after block left
-reset-led id code written run begun gone w windows over waiting after block owed left less silent hushed marks follow dues m = record {
+    → Mirrors run begun gone w over waiting block kept → Mirrors (Taken (Reset id code written) ∷ run) begun gone windows over after block left
+reset-led id code written run begun gone w windows over waiting after block kept left less paid known marks follow dues m = record {
   begins = m.begins;
   goes = m.goes;
   windows_follow = follow;
@@ -118,31 +239,64 @@ reset-led id code written run begun gone w windows over waiting after block owed
   answers = dues;
   goes_on = same-block run (Taken (Reset id code written) ∷ run) block refl m.goes_on;
   not_reset = m.not_reset;
-  credits = λ k. omega (arith, m.credits k, less k, sum_by-cons (granted_by k) (Taken (Reset id code written)) run);
-  silent = λ k is. silent k (m.silent k is);
-  hushed = hushed m.hushed;
+  credits = λ k. omega (arith, m.credits k, at-most (is_stream id && (k == id)) (owed_on kept k) (owed_on left k) (less k), sum_by-cons (granted_by k) (Taken (Reset id code written)) run);
+  silent = λ k is. marks k ∙ or-true (is_stream id && (k == id)) (is_reset kept k) (m.silent k is);
   resets = λ k there. resets k there (k == id) refl;
+  owes = reset-owed id code written run kept left less paid known m.owes;
   no_stream_0 = m.no_stream_0;
 }
   where
-    none : (b : Bool) (k : ℕ) → ((b && false) || is_reset owed k) ≡ is_reset owed k
+    at-most : (b : Bool) (n left : ℕ) → left ≡ (if b then 0 else n) → left ≤ n
+    at-most true n left e = omega (arith, e)
+    at-most false n left e = omega (arith, e)
+
+    none : (b : Bool) (k : ℕ) → ((b && false) || is_reset kept k) ≡ is_reset kept k
     none true k = refl
     none false k = refl
 
     resets : (k : ℕ) → is_stream k ≡ true → (b : Bool) → (k == id) ≡ b → is_reset left k ≡ was_reset k (Taken (Reset id code written) ∷ run)
-    resets k there true p = marks k ∙ ap (λ b. (b && (k == id)) || is_reset owed k) (ap is_stream (sym (eqb-true k id p)) ∙ there) ∙ ap (λ b. b || is_reset owed k) p
+    resets k there true p = marks k ∙ ap (λ b. (b && (k == id)) || is_reset kept k) (ap is_stream (sym (eqb-true k id p)) ∙ there) ∙ ap (λ b. b || is_reset kept k) p
         ∙ sym (ap (λ b. b || was_reset k run) p)
-    resets k there false p = marks k ∙ ap (λ b. (is_stream id && b) || is_reset owed k) p ∙ none (is_stream id) k ∙ m.resets k there ∙ sym (ap (λ b. b || was_reset k run) p)
+    resets k there false p = marks k ∙ ap (λ b. (is_stream id && b) || is_reset kept k) p ∙ none (is_stream id) k ∙ m.resets k there ∙ sym (ap (λ b. b || was_reset k run) p)
 
--- a control that obliges to nothing, and concerns no window
+-- credit is granted
+pub grant-led : (id n : ℕ) (run : List Step) (begun gone : Bool) (w : Windows) (over : List (ℕ × Bool)) (waiting : List Due) (block : Option HeaderBlock)
+    (kept left : Owed) → Grants kept id n left → Mirrors run begun gone w over waiting block kept → Mirrors (Granted id n ∷ run) begun gone w over waiting block left
+grant-led id n run begun gone w over waiting block kept left grants m = record {
+  begins = m.begins;
+  goes = m.goes;
+  windows_follow = m.windows_follow;
+  is_over = m.is_over;
+  answers = m.answers;
+  goes_on = same-block run (Granted id n ∷ run) block refl m.goes_on;
+  not_reset = m.not_reset;
+  credits = λ k. omega (
+    arith,
+    m.credits k,
+    at-most (k == id) (pays kept id) (owed_on kept id) (owed_on kept k) (owed_on left k) (λ e. ap (λ j. owed_on kept j) (sym (eqb-true k id e))) (grants.1 k),
+    sum_by-cons (granted_by k) (Granted id n) run,
+  );
+  silent = λ k is. (grants.0 k).2 ∙ m.silent k is;
+  resets = λ k there. (grants.0 k).2 ∙ m.resets k there;
+  owes = grant-owed id n run kept left grants m.owes;
+  no_stream_0 = m.no_stream_0;
+}
+  where
+    at-most : (b paid : Bool) (here there left : ℕ) → (b ≡ true → here ≡ there) → left ≡ (if b then (if paid then more here n else 0) else there)
+        → left ≤ there + (if b then n else 0)
+    at-most true true here there left same e = let h : here ≡ there = same refl in omega (arith, e, h)
+    at-most true false here there left same e = omega (arith, e)
+    at-most false paid here there left same e = omega (arith, e)
+
+-- a control that obliges to nothing, opens and resets nothing, and concerns no window
 pub quiet-led : {S : Type 0} (control given : Control S) (old mid : Outbound) → control ≡ given → due_by (order_of given) ≡ []
-    → ((id : ℕ) → resets_stream id (order_of given) ≡ false)
+    → ((id : ℕ) → resets_stream id (order_of given) ≡ false) → ((id : ℕ) → opens_stream id (order_of given) ≡ false)
     → ((run : List Step) (history : List WindowStep) → Takes run history (order_of given) history) → Stays old mid → GoesOn (Taken (order_of control)) old mid
-quiet-led {S} control given old mid is none unreset same stays run reached =
+quiet-led {S} control given old mid is none unreset unopened same stays run reached =
     let m = stays run reached.0 in
     subst (λ (found : Control S). Reached (Taken (order_of found) ∷ run) mid) (sym is) (
       taken (order_of given) run _ _ _ _ _ _ _ _ _ m (nothing-taken run (order_of given) mid.windows (same run) m.windows_follow) (same-due (order_of given) run mid.due.items none m.answers)
-          (λ id there. m.resets id there ∙ sym (ap (λ b. b || was_reset id run) (unreset id))),
+          (λ id there. m.resets id there ∙ sym (ap (λ b. b || was_reset id run) (unreset id))) (quiet-owed (order_of given) run mid.credit unreset unopened m.owes),
       reached.1,
     )
 
@@ -163,7 +317,7 @@ skipped run begun gone w over one waiting block owed none m =
       not_reset = m.not_reset;
       credits = m.credits;
       silent = m.silent;
-      hushed = m.hushed;
       resets = m.resets;
+      owes = m.owes;
       no_stream_0 = m.no_stream_0;
     }

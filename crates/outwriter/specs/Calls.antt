@@ -5,15 +5,12 @@
 use Rattle.std.specs.Prelude.{◌≡◌, ◌⊎◌, ◌||◌, ◌&&◌, not, ℕ, ◌==◌, Bool, true, false, All, List, [], ◌∷◌, if◌then◌else◌}
 use Rattle.account.specs.declared.call.OutItem.{OutItem}
 use Rattle.lists.specs.declared.field.Field.{Field}
-use Rattle.outwriter.specs.declared.control.Control.TheVariants.{Open, Refuse}
+use Rattle.outwriter.specs.declared.control.Control.TheVariants.{Refuse}
 use Rattle.outwriter.specs.declared.control.Control.TheVariants as order
 use Rattle.outwriter.specs.Histories.{is_stream, is_over}
 use Rattle.outwriter.specs.Parts.{Mark, Fields, End, Reset, spelled, IsPart, IsFrontOf}
+use Rattle.outwriter.specs.Runs.{is_opened, opens_stream}
 use Rattle.outwriter.specs.Steps.{Step, Order, Taken, Granted, Written, Returned}
-
-abbrev pub opens_stream : ℕ → Order → Bool
-opens_stream id (Open stream sender) = id == stream
-opens_stream id _ = false
 
 abbrev pub refuses_stream : ℕ → Order → Bool
 refuses_stream id (Refuse stream fields) = id == stream
@@ -55,14 +52,6 @@ TellReturned run = (id : ℕ) (items : List OutItem) → IsReturned id items run
     → (part : List Mark) × IsPart id run part × IsFrontOf part (spelled items)
 
 -- ---- streams that are no call's
-
--- an Open of the stream was taken
-abbrev pub is_opened : ℕ → List Step → Bool
-is_opened id [] = false
-is_opened id (Taken order ∷ before) = opens_stream id order || is_opened id before
-is_opened id (Granted stream n ∷ before) = is_opened id before
-is_opened id (Returned stream items ∷ before) = is_opened id before
-is_opened id (Written frame ∷ before) = is_opened id before
 
 abbrev pub Refuses : ℕ → List Field → Order → Type 0
 Refuses id fields (Refuse stream found) = (id ≡ stream) × (fields ≡ found)

@@ -48,11 +48,11 @@ more owed n = min (owed + n) MAX_WINDOW
 abbrev pub SameStreams : Owed → Owed → Type 0
 SameStreams old new = (id : ℕ) → (knows new id ≡ knows old id) × (pays new id ≡ pays old id) × (is_reset new id ≡ is_reset old id)
 
--- a call begins, on whose stream credit may be owed unless it is silent
-abbrev pub Opens : Owed → ℕ → Bool → Owed → Type 0
-Opens old id is_silent new = (other : ℕ) → (owed_on new other ≡ owed_on old other)
+-- a call begins, on whose stream credit may be owed unless it was reset
+abbrev pub Opens : Owed → ℕ → Owed → Type 0
+Opens old id new = (other : ℕ) → (owed_on new other ≡ owed_on old other)
     × (knows new other ≡ (if other == id then true else knows old other))
-    × (pays new other ≡ (if other == id then not is_silent else pays old other))
+    × (pays new other ≡ (if other == id then not (is_reset old id) else pays old other))
     × (is_reset new other ≡ is_reset old other)
 
 -- n bytes more are owed on a stream that may be owed something

@@ -18,10 +18,10 @@ use Rattle.outwriter.specs.declared.next.Next.TheVariants as next
 use Rattle.outwriter.specs.declared.due.Due.{Due}
 use Rattle.outwriter.specs.declared.due.Due.TheVariants as due_kind
 use Rattle.outwriter.specs.declared.outbound.Outbound.{Outbound}
-use Rattle.outwriter.specs.Credits.{Owed, owed_on, pays, is_reset}
+use Rattle.outwriter.specs.Credits.{Owed, owed_on, pays, knows, is_reset}
 use Rattle.outwriter.specs.Frames.{is_last, resets, settings_ack, ping_ack, goaway_frame}
 use Rattle.outwriter.specs.Histories.{HasHistory, HasWindow, Overflows, window_sizes, is_over, is_stream}
-use Rattle.outwriter.specs.Runs.{IsLawful, has_begun, IsAsked, due, told, unfinished, granted, updated, was_reset, MayWrite}
+use Rattle.outwriter.specs.Runs.{IsLawful, has_begun, IsAsked, due, told, unfinished, granted, updated, owed, may_owe, is_opened, was_reset, MayWrite}
 use Rattle.outwriter.specs.Steps.{Step, Taken, Written, frames_of, order_of}
 
 -- the windows follow from the history of the run's
@@ -66,13 +66,13 @@ HasHead frames (Some block) = list_any (resets block.id) frames ≡ false
 abbrev pub HasCredit : List Step → Owed → Type 0
 HasCredit run owed = (id : ℕ) → updated id run + owed_on owed id ≤ granted id run
 
--- nothing is owed on a stream whose RST_STREAM was written
-abbrev pub HasSilence : List (ℕ × Bool) → Owed → Type 0
-HasSilence over owed = (id : ℕ) → lookup (nat_eq id) over ≡ Some true → pays owed id ≡ false
+-- what is owed follows from the run, and on which streams it may be
+abbrev pub HasOwed : List Step → Owed → Type 0
+HasOwed run kept = (id : ℕ) → (owed_on kept id ≡ owed id run) × (pays kept id ≡ may_owe id run) × (knows kept id ≡ true → is_opened id run ≡ true)
 
--- nor on one that was reset
-abbrev pub IsHushed : Owed → Type 0
-IsHushed owed = (id : ℕ) → is_reset owed id ≡ true → pays owed id ≡ false
+-- a stream whose RST_STREAM was written was reset
+abbrev pub HasSilence : List (ℕ × Bool) → Owed → Type 0
+HasSilence over owed = (id : ℕ) → lookup (nat_eq id) over ≡ Some true → is_reset owed id ≡ true
 
 -- those are the streams of which a Reset was taken
 abbrev pub HasResets : List Step → Owed → Type 0
@@ -114,8 +114,8 @@ pub record Mirrors (run : List Step) (begun gone : Bool) (windows : Windows) (ov
   pub not_reset : HasHead (frames_of run) block
   pub credits : HasCredit run owed
   pub silent : HasSilence over owed
-  pub hushed : IsHushed owed
   pub resets : HasResets run owed
+  pub owes : HasOwed run owed
   pub no_stream_0 : lookup (nat_eq 0) over ≡ None
 
 abbrev pub MirrorsOf : List Step → Outbound → Type 0
@@ -199,9 +199,9 @@ Answers next.Over old new = Remains old new
 abbrev pub IsSpent : Outbound → Type 0
 IsSpent o = (o.gone ≡ true) ⊎ ((o.block ≡ None) × (o.due.items ≡ []) × ((id : ℕ) → owed_on o.credit id ≡ 0))
 
--- all that controls obliged to was written, and each header block is whole; or nothing is written any more
+-- all that controls obliged to was written, each header block is whole and no credit is owed; or nothing is written any more
 abbrev pub IsAnswered : List Step → Type 0
-IsAnswered run = (list_any is_last (frames_of run) ≡ true) ⊎ ((told run ≡ due run) × (unfinished run ≡ None))
+IsAnswered run = (list_any is_last (frames_of run) ≡ true) ⊎ ((told run ≡ due run) × (unfinished run ≡ None) × ((id : ℕ) → owed id run ≡ 0))
 
 -- so it is of each run that leads here, where no frame comes
 abbrev pub AnswersAll : Next → Outbound → Type 0

@@ -1,15 +1,16 @@
 -- Which runs of a server's writer are lawful (RFC 9113, sections 3.4, 4.3, 5.1, 5.4.2, 6.4, 6.5, 6.7 to 6.10 and 8.1).
-use Rattle.std.specs.Prelude.{◌≡◌, ◌≢◌, ℕ, ◌+◌, ◌<◌, ◌≤◌, ◌⊎◌, ◌==◌, ◌&&◌, ◌||◌, ◌^◌, Bool, true, false, List, [], ◌∷◌, ◌++◌, Option, None, Some, not, filter, sum_by, if◌then◌else◌}
+use Rattle.std.specs.Prelude.{◌≡◌, ◌≢◌, ℕ, ◌+◌, ◌-◌, min, ◌<◌, ◌≤◌, ◌⊎◌, ◌==◌, ◌&&◌, ◌||◌, ◌^◌, Bool, true, false, List, [], ◌∷◌, ◌++◌, Option, None, Some, not, filter, sum_by, if◌then◌else◌}
 use Rattle.std.specs.List.{list_any}
 use Rattle.std.specs.Option.{option_map}
 use Rattle.account.specs.Accounts.{Begins}
+use Rattle.flow.specs.declared.TheConstants.{MAX_WINDOW}
 use Rattle.flow.specs.WindowHistory.{room_after}
 use Rattle.flow.specs.WindowHistory.{Step as WindowStep}
 use Rattle.h2frame.specs.declared.error_code.ErrorCode.{ErrorCode}
 use Rattle.h2frame.specs.declared.frame.Frame.{Frame}
 use Rattle.h2frame.specs.declared.kind.FrameKind.{FrameKind}
 use Rattle.h2frame.specs.declared.kind.FrameKind.TheVariants as kind
-use Rattle.outwriter.specs.declared.control.Control.TheVariants.{Settings, Ping, Reset, Goaway}
+use Rattle.outwriter.specs.declared.control.Control.TheVariants.{Settings, Ping, Open, Reset, Goaway}
 use Rattle.outwriter.specs.Frames.{first_settings, settings_ack, ping_ack, reset_frame, goaway_frame, update_frame, ends_stream, ends_block, is_last, update_on, resets, ends}
 use Rattle.outwriter.specs.Histories.{HasHistory, is_stream}
 use Rattle.outwriter.specs.Steps.{Step, Order, Taken, Granted, Written, Returned, frames_of}
@@ -138,6 +139,30 @@ Continues None frame = frame.head.kind ≢ kind.Continuation
 
 -- ---- credit (section 6.9)
 
+abbrev pub opens_stream : ℕ → Order → Bool
+opens_stream id (Open stream sender) = id == stream
+opens_stream id _ = false
+
+-- an Open of the stream was taken
+abbrev pub is_opened : ℕ → List Step → Bool
+is_opened id [] = false
+is_opened id (Taken order ∷ before) = opens_stream id order || is_opened id before
+is_opened id (Granted stream n ∷ before) = is_opened id before
+is_opened id (Returned stream items ∷ before) = is_opened id before
+is_opened id (Written frame ∷ before) = is_opened id before
+
+-- credit may be owed on the connection, as stream 0, and on a stream that was opened and not reset
+abbrev pub may_owe : ℕ → List Step → Bool
+may_owe id run = (id == 0) || ((is_stream id && is_opened id run) && not (was_reset id run))
+
+-- What is owed: what was granted while it might be, of which at most 2^31 - 1 at once, less what was written; on a stream that was reset nothing.
+abbrev pub owed : ℕ → List Step → ℕ
+owed id [] = 0
+owed id (Taken order ∷ before) = if resets_stream id order && is_stream id then 0 else owed id before
+owed id (Granted stream n ∷ before) = if (id == stream) && may_owe id before then min (owed id before + n) MAX_WINDOW else owed id before
+owed id (Returned stream items ∷ before) = owed id before
+owed id (Written frame ∷ before) = owed id before - update_on id frame
+
 abbrev pub granted_by : ℕ → Step → ℕ
 granted_by id (Granted stream n) = if id == stream then n else 0
 granted_by id _ = 0
@@ -182,6 +207,8 @@ pub record MayWrite (before : List Step) (frame : Frame) : Type 0 where
   pub not_ended : list_any (ends frame.head.stream) (frames_of before) ≡ true → MayFollowEnd frame.head.kind
   pub goes_on : list_any is_last (frames_of before) ≡ false
   pub credit : (id : ℕ) → updated id before + update_on id frame ≤ granted id before
+  -- nor more than is owed
+  pub owes : (id : ℕ) → update_on id frame ≤ owed id before
   -- credit is of 1 to 2^31 - 1 bytes, and nothing else stands in its frame
   pub update : frame.head.kind ≡ kind.WindowUpdate → (n : ℕ) × (0 < n) × (n < 2 ^ 31) × (frame ≡ update_frame frame.head.stream n)
 

@@ -59,14 +59,15 @@ impl Credit {
         self.resets.contains(&id)
     }
 
-    /// The stream of a call that begins. None is owed on a silent one.
-    pub(crate) fn open(&mut self, id: StreamId, is_silent: bool) -> Result<(), AllocError>
+    /// The stream of a call that begins. None is owed on one that was reset.
+    pub(crate) fn open(&mut self, id: StreamId) -> Result<(), AllocError>
         requires stream { 0 < id }
         requires number { id < 2 ^ 31 }
         requires not_open { knows self.old id ≡ false }
-        ensures ok { OnOk result (Opens self.old id is_silent self.new) }
+        ensures ok { OnOk result (Opens self.old id self.new) }
         ensures unchanged { OnErr result (self.new ≡ self.old) }
     {
+        let is_silent = self.resets.contains(&id);
         let first = if is_silent { None } else { Some(0) };
         match self.streams.insert(id, first) {
             Ok(_none) => Ok(()),

@@ -65,14 +65,11 @@ impl<L: Lane<Item = OutItem>> OutCore<L> {
         // Each sender stays at its place, an end of the same lane.
         ensures senders { lanes L.out_name self.new.senders.items ≡ lanes L.out_name self.old.senders.items }
 
-        // Where none comes, a GOAWAY with an error was written, or no header block is unfinished, nothing is due and no credit is owed.
-        ensures idle { IfOk result (λ next. next ≡ next_kind.Idle → IsSpent self.new.outbound) }
-        ensures over_spent { IfOk result (λ next. next ≡ next_kind.Over → IsSpent self.new.outbound) }
-
-        // So all was written that the controls obliged to.
+        // Where none comes, a GOAWAY with an error was written; or all was that the controls obliged to, with each header block whole, and
+        // all the credit that is owed by the run.
         ensures answered { IfOk result (λ next. AnswersAll next self.new.outbound) }
 
-        // And of each open stream there is nothing that can be written, what was found ahead of its sender included. Of a call that
+        // Of each open stream there is nothing that can be written, what was found ahead of its sender included. Of a call that
         // was left nothing is written.
         ensures quiet { IfOk result (λ next. (run : List Step) → Serving L.got run self.old → self.old.is_dead ≡ false → QuietNext (coming L.got L.ahead) next self.new) }
 

@@ -16,7 +16,7 @@ ghost use Rattle.outwriter.specs.RunState.{Reached, GoesOn, Takes, Leads, Stays,
 ghost use Rattle.std.specs.Map.{lookup};
 ghost use Rattle.flow.specs.Windows.{room};
 ghost use Rattle.outwriter.specs.Calls.{TellFronts, TellReturned, TellOthers};
-ghost use Rattle.outwriter.specs.Credits.{Grants, is_reset, knows};
+ghost use Rattle.outwriter.specs.Credits.{is_reset, knows};
 ghost use Rattle.outwriter.specs.Histories.{is_stream as is_number};
 ghost use Rattle.h2frame.specs.Spelling.{IsWritable};
 ghost use Rattle.outwriter.specs.Frames.{goaway_frame};
@@ -176,11 +176,9 @@ impl<L: Lane<Item = OutItem>> OutCore<L> {
     /// Owes n bytes more of credit, which a WINDOW_UPDATE will tell: on a stream, or on the connection where it is 0. At
     /// most 2^31 - 1 are owed at once. Nothing changes for a stream of no call, and for one that was reset.
     pub fn grant(&mut self, id: StreamId, n: u32)
+        // That it is granted is the next step of the run, by which what is owed is counted.
         ensures granted { GoesOn (Granted id n) self.old.outbound self.new.outbound }
         ensures served { ServesOn L.got (Granted id n) self.old self.new }
-
-        // So much more is owed.
-        ensures owed { Grants self.old.outbound.credit id n self.new.outbound.credit }
         ensures rest { self.new ≡ record self.old { outbound = self.new.outbound } }
     {
         self.outbound.grant(id, n);

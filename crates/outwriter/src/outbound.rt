@@ -4,12 +4,12 @@
 //! that frame: whatever run led to the state before, the frame might be written behind it, and the run with the frame
 //! leads to the state behind it.
 
-ghost use Rattle.std.specs.Prelude.{Err, ◌==◌, ◌∷◌, if◌then◌else◌, ◌≢◌, ◌≡◌, ◌≤◌, ◌<◌, ◌^◌, ◌&&◌, ◌||◌, true, false, nat_lt, nat_le, ℕ, All, List, [], None, OnOk, OnErr, IfErr, length};
+ghost use Rattle.std.specs.Prelude.{Err, ◌==◌, ◌∷◌, if◌then◌else◌, ◌≢◌, ◌≡◌, ◌≤◌, ◌<◌, ◌^◌, ◌&&◌, ◌||◌, not, true, false, nat_lt, nat_le, ℕ, All, List, [], None, OnOk, OnErr, IfErr, length};
 ghost use Rattle.flow.specs.WindowHistory.{Follows, CanCredit, CanResize};
 ghost use Rattle.flow.specs.WindowHistory.{Step as WindowStep};
 ghost use Rattle.flow.specs.Windows.{balance};
-ghost use Rattle.outwriter.specs.Credits.{Grants, is_reset, knows, owed_on, nothing_owed, pays};
-ghost use Rattle.outwriter.specs.RunState.{HasOver, HasSilence, IsHushed};
+ghost use Rattle.outwriter.specs.Credits.{is_reset, knows, owed_on, nothing_owed, pays};
+ghost use Rattle.outwriter.specs.RunState.{HasOver};
 ghost use Rattle.outwriter.specs.Histories.{is_stream as is_number, table_sizes};
 ghost use Rattle.outwriter.specs.TableLimits.{limited_by};
 ghost use Rattle.outwriter.specs.ToldByNow.{SpellsOf};
@@ -135,9 +135,7 @@ impl Outbound {
     /// Opens the window of a call's stream, unless it is open or over, and its credit, if the stream is new. Out of
     /// memory, it changes nothing.
     pub(crate) fn take_open(&mut self, id: StreamId, is_new: bool) -> Result<(), AllocError>
-        requires new_stream { is_new ≡ true → 0 < id }
-        requires number { is_new ≡ true → id < 2 ^ 31 }
-        requires unknown { is_new ≡ true → knows self.old.credit id ≡ false }
+        requires { is_new ≡ (is_number id && not (knows self.old.credit id)) }
         ensures taken { OnOk result (Leads (Taken (order.Open id tt)) self.old self.new) }
         ensures stays { OnErr result (Stays self.old self.new) }
         ensures takes { OnOk result (Takes [] (λ other. is_new && (other == id)) [] self.old self.new) }
@@ -145,12 +143,12 @@ impl Outbound {
         ensures encoder { self.new.encoder ≡ self.old.encoder }
     {
         if !self.opens(id) {
-            return open_credit(&mut self.credit, &self.over, id, is_new);
+            return open_credit(&mut self.credit, id, is_new);
         }
         let Ok(()) = self.windows.open(id) else {
             return Err(AllocError);
         };
-        match open_credit(&mut self.credit, &self.over, id, is_new) {
+        match open_credit(&mut self.credit, id, is_new) {
             Ok(()) => Ok(()),
             Err(e) => {
                 self.windows.close(id);
@@ -205,7 +203,6 @@ impl Outbound {
     /// Owes n bytes more of credit.
     pub(crate) fn grant(&mut self, id: StreamId, n: u32)
         ensures granted { Leads (Granted id n) self.old self.new }
-        ensures owes { Grants self.old.credit id n self.new.credit }
         ensures takes { Takes [] none_is_new [] self.old self.new }
     {
         self.credit.grant(id, n);
@@ -244,18 +241,10 @@ pub(crate) fn is_stream(id: StreamId) -> bool
 }
 
 /// The credit of a call's stream, if the stream is new. None is owed on one that was reset.
-fn open_credit(
-    credit: &mut Credit,
-    over: &IndexMap<StreamId, bool>,
-    id: StreamId,
-    is_new: bool,
-) -> Result<(), AllocError>
-    requires new_stream { is_new ≡ true → 0 < id }
-    requires number { is_new ≡ true → id < 2 ^ 31 }
-    requires unknown { is_new ≡ true → knows credit.old id ≡ false }
+fn open_credit(credit: &mut Credit, id: StreamId, is_new: bool) -> Result<(), AllocError>
+    requires { is_new ≡ (is_number id && not (knows credit.old id)) }
     ensures owed { OnOk result ((other : ℕ) → owed_on credit.new other ≡ owed_on credit.old other) }
-    ensures silent { OnOk result (HasSilence over.now.entries credit.old → HasSilence over.now.entries credit.new) }
-    ensures hushed { OnOk result (IsHushed credit.old → IsHushed credit.new) }
+    ensures pays { OnOk result ((other : ℕ) → pays credit.new other ≡ (if is_new && (other == id) then not (is_reset credit.old id) else pays credit.old other)) }
     ensures known { OnOk result ((other : ℕ) → knows credit.new other ≡ ((is_new && (other == id)) || knows credit.old other)) }
     ensures resets { OnOk result ((other : ℕ) → is_reset credit.new other ≡ is_reset credit.old other) }
     ensures unchanged { OnErr result (credit.new ≡ credit.old) }
@@ -263,15 +252,13 @@ fn open_credit(
     if !is_new {
         return Ok(());
     }
-    let is_silent = credit.is_reset(id) || over.get(&id).copied() == Some(true);
-    credit.open(id, is_silent)
+    credit.open(id)
 }
 
 /// No more credit is owed on a stream that is reset.
 fn reset_credit(credit: &mut Credit, id: StreamId) -> Result<(), AllocError>
-    ensures owed { OnOk result ((k : ℕ) → owed_on credit.new k ≤ owed_on credit.old k) }
-    ensures silent { OnOk result ((k : ℕ) → pays credit.old k ≡ false → pays credit.new k ≡ false) }
-    ensures hushed { OnOk result (IsHushed credit.old → IsHushed credit.new) }
+    ensures owed { OnOk result ((k : ℕ) → owed_on credit.new k ≡ (if is_number id && (k == id) then 0 else owed_on credit.old k)) }
+    ensures pays { OnOk result ((k : ℕ) → pays credit.new k ≡ (if is_number id && (k == id) then false else pays credit.old k)) }
     ensures known { OnOk result ((k : ℕ) → knows credit.new k ≡ knows credit.old k) }
     ensures resets { OnOk result ((k : ℕ) → is_reset credit.new k ≡ ((is_number id && (k == id)) || is_reset credit.old k)) }
     ensures unchanged { OnErr result (credit.new ≡ credit.old) }

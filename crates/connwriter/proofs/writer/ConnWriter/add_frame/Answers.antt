@@ -26,7 +26,6 @@ returns-in-Ok-Idle-clause-wrote g c = λ before run w.
     (subst (λ (next : Next). ServesNext g.L.Lane.got (Ok next) core after) c.in-Ok-Idle.field-0-is c.in-Ok-Idle.ensures.served)
     refl refl refl c.reserve.ensures.items
     (subst (λ (next : Next). AnswersAll next after.outbound) c.in-Ok-Idle.field-0-is c.in-Ok-Idle.ensures.answered)
-    (c.in-Ok-Idle.ensures.idle c.in-Ok-Idle.field-0-is)
     (λ steps reached serving. subst (λ (next : Next). NoFrameNext (coming g.L.Lane.got g.L.Lane.ahead) steps next after) c.in-Ok-Idle.field-0-is (c.in-Ok-Idle.ensures.no_frame steps reached serving alive))
     (λ steps reached serving. subst (λ (next : Next). EndedNext steps next after) c.in-Ok-Idle.field-0-is (c.in-Ok-Idle.ensures.ended steps reached serving alive))
     before run w in
@@ -42,7 +41,6 @@ returns-in-Ok-Over-clause-wrote g c = λ before run w.
     (subst (λ (next : Next). ServesNext g.L.Lane.got (Ok next) core after) c.in-Ok-Over.field-0-is c.in-Ok-Over.ensures.served)
     refl refl refl c.reserve.ensures.items
     (subst (λ (next : Next). AnswersAll next after.outbound) c.in-Ok-Over.field-0-is c.in-Ok-Over.ensures.answered)
-    (c.in-Ok-Over.ensures.over_spent c.in-Ok-Over.field-0-is)
     (λ steps reached serving. subst (λ (next : Next). NoFrameNext (coming g.L.Lane.got g.L.Lane.ahead) steps next after) c.in-Ok-Over.field-0-is (c.in-Ok-Over.ensures.no_frame steps reached serving alive))
     (λ steps reached serving. subst (λ (next : Next). EndedNext steps next after) c.in-Ok-Over.field-0-is (c.in-Ok-Over.ensures.ended steps reached serving alive))
     before run w in

@@ -86,11 +86,11 @@ returns-in-Reset-clause-served g c =
 
 pub returns-in-InputEnded-clause-taken : goal.returns-in-InputEnded-clause-taken
 returns-in-InputEnded-clause-taken g c =
-    quiet-led c.args.control order.InputEnded c.args.self.now.outbound c.make_room.new.self c.in-InputEnded.is refl (λ id. refl) (λ run history. refl) c.make_room.ensures.stays
+    quiet-led c.args.control order.InputEnded c.args.self.now.outbound c.make_room.new.self c.in-InputEnded.is refl (λ id. refl) (λ id. refl) (λ run history. refl) c.make_room.ensures.stays
 
 pub returns-clause-taken : goal.returns-clause-taken
 returns-clause-taken g c =
-    quiet-led c.args.control order.Close c.args.self.now.outbound c.make_room.new.self c.in-Close.is refl (λ id. refl) (λ run history. refl) c.make_room.ensures.stays
+    quiet-led c.args.control order.Close c.args.self.now.outbound c.make_room.new.self c.in-Close.is refl (λ id. refl) (λ id. refl) (λ run history. refl) c.make_room.ensures.stays
 
 pub returns-then-take_window-clause-room : goal.returns-then-take_window-clause-room
 returns-then-take_window-clause-room g c = λ run reached.

@@ -41,7 +41,7 @@ returns-clause-served g c = λ run marks s.
 pub returns-then-not-is_stream-clause-taken : goal.returns-then-not-is_stream-clause-taken
 returns-then-not-is_stream-clause-taken g c =
     let refuse : Control (Unit {0}) = order.Refuse c.args.id c.args.fields in
-    quiet-led refuse refuse c.args.self.now.outbound c.args.self.now.outbound refl refl (λ id. refl) (λ run history. refl) (λ run m. m)
+    quiet-led refuse refuse c.args.self.now.outbound c.args.self.now.outbound refl refl (λ id. refl) (λ id. refl) (λ run history. refl) (λ run m. m)
 
 pub returns-clause-heeds : goal.returns-clause-heeds
 returns-clause-heeds g c = λ run marks s heeds.

@@ -14,4 +14,4 @@ returns-clause-taken c = λ run m.
     taken (order.Goaway c.args.last c.args.code) run _ _ _ _ _ _ _ _ _ m (nothing-taken run (order.Goaway c.args.last c.args.code) c.args.self.now.windows (λ h. refl) m.windows_follow)
     (subst (λ (xs : List Due). HasDue (Taken (order.Goaway c.args.last c.args.code) ∷ run) xs) (sym c.push_back_reserved.ensures.items)
     (more-due (order.Goaway c.args.last c.args.code) run c.args.self.now.due.items (due_kind.Goaway c.args.last c.args.code) refl (All-nil _) m.answers))
-    m.resets
+    m.resets m.owes

@@ -22,16 +22,16 @@ all (Err e) f a b c d = tt
 
 pub returns-then-not-opens-clause-taken : goal.returns-then-not-opens-clause-taken
 returns-then-not-opens-clause-taken c = all c.open_credit.result
-    (λ owed silent hushed resets run m. open-led c.args.id run _ _ _ _ _ _ _ c.args.self.now.credit c.open_credit.new.credit owed silent hushed resets
+    (λ owed pays known resets run m. open-led c.args.id run _ _ _ _ _ _ _ c.args.is_new c.args.self.now.credit c.open_credit.new.credit c.requires owed pays known resets
     (open-taken run c.args.id c.args.self.now.windows c.args.self.now.windows c.opens.result (λ h f. c.opens.ensures.value run h m.is_over f)
     (λ h f. subst (λ b. Follows (if b then Opening c.args.id ∷ h else h) c.args.self.now.windows) (sym c.if-not-opens.true) f)
     m.windows_follow) m)
-    c.open_credit.ensures.owed c.open_credit.ensures.silent c.open_credit.ensures.hushed c.open_credit.ensures.resets
+    c.open_credit.ensures.owed c.open_credit.ensures.pays c.open_credit.ensures.known c.open_credit.ensures.resets
 
 pub returns-in-Ok-open_credit-clause-taken : goal.returns-in-Ok-open_credit-clause-taken
 returns-in-Ok-open_credit-clause-taken c = λ run m.
-    open-led c.args.id run _ _ _ _ _ _ _ c.args.self.now.credit c.open_credit-2.new.credit c.in-Ok-open_credit.ensures.owed c.in-Ok-open_credit.ensures.silent
-    c.in-Ok-open_credit.ensures.hushed c.in-Ok-open_credit.ensures.resets
+    open-led c.args.id run _ _ _ _ _ _ _ c.args.is_new c.args.self.now.credit c.open_credit-2.new.credit c.requires c.in-Ok-open_credit.ensures.owed c.in-Ok-open_credit.ensures.pays
+    c.in-Ok-open_credit.ensures.known c.in-Ok-open_credit.ensures.resets
     (open-taken run c.args.id c.args.self.now.windows c.open.new.self c.opens.result (λ h f. c.opens.ensures.value run h m.is_over f)
     (λ h f. subst (λ b. Follows (if b then Opening c.args.id ∷ h else h) c.open.new.self) (sym c.if-not-opens.false) (c.in-Ok.ensures.follows h f))
     m.windows_follow) m

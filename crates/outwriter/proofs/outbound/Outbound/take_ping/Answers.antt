@@ -14,4 +14,4 @@ returns-clause-taken c = λ run m.
     taken (order.Ping c.args.bytes) run _ _ _ _ _ _ _ _ _ m (nothing-taken run (order.Ping c.args.bytes) c.args.self.now.windows (λ h. refl) m.windows_follow)
     (subst (λ (xs : List Due). HasDue (Taken (order.Ping c.args.bytes) ∷ run) xs) (sym c.push_back_reserved.ensures.items)
     (more-due (order.Ping c.args.bytes) run c.args.self.now.due.items (due_kind.PingAck c.args.bytes) refl (All-nil _) m.answers))
-    m.resets
+    m.resets m.owes

@@ -14,4 +14,4 @@ returns-clause-taken c = λ run m.
     taken (order.Refuse c.args.id c.args.fields) run _ _ _ _ _ _ _ _ _ m (nothing-taken run (order.Refuse c.args.id c.args.fields) c.args.self.now.windows (λ h. refl) m.windows_follow)
     (subst (λ (xs : List Due). HasDue (Taken (order.Refuse c.args.id c.args.fields) ∷ run) xs) (sym c.push_back_reserved.ensures.items)
     (more-due (order.Refuse c.args.id c.args.fields) run c.args.self.now.due.items (due_kind.Refuse c.args.id c.args.fields) refl (All-nil _) m.answers))
-    m.resets
+    m.resets m.owes

@@ -17,4 +17,4 @@ returns-clause-taken c =
     (settings-taken run c.as_slice-2.result.now _ _ c.resize.result c.resize.ensures.ok c.resize.ensures.overflow c.resize.ensures.unchanged m.windows_follow))
     (subst (λ (xs : List Due). HasDue (Taken (Settings c.args.settings.now) ∷ run) xs) (sym c.push_back_reserved.ensures.items)
     (more-due (Settings c.args.settings.now) run c.args.self.now.due.items SettingsAck refl (All-nil _) m.answers))
-    m.resets
+    m.resets m.owes

@@ -8,7 +8,7 @@ pub returns : goal.returns
 returns c = record {
   taken = λ run m. taken (Window c.args.id c.args.increment) run _ _ _ _ _ _ _ _ _ m
       (window-taken run c.args.id c.args.increment _ _ c.credit-credited.result c.credit-credited.ensures.can c.credit-credited.ensures.cannot c.credit-credited.ensures.unchanged c.credit-credited.ensures.follows m.windows_follow)
-      (same-due (Window c.args.id c.args.increment) run c.args.self.now.due.items refl m.answers) m.resets;
+      (same-due (Window c.args.id c.args.increment) run c.args.self.now.due.items refl m.answers) m.resets m.owes;
   takes = record { due = sym (append-nil c.args.self.now.due.items); knows = λ id. refl; resets = λ id. refl; over = refl; begun = refl; block = refl; encoder = refl };
   fits = λ e. fits-unless-over c.args.self.now.windows c.args.id c.args.increment c.credit-credited.result c.credit-credited.ensures.fault c.credit-credited.ensures.can
       (c.is_overflow.ensures.fits (not-true c.is_overflow.result e));
