@@ -18,7 +18,7 @@ pub(crate) type InLane = RingLane<InPiece>;
 /// The lane of what a call is answered with.
 pub(crate) type OutLane = RingLane<OutItem>;
 
-/// How long a worker sleeps at most that has answered its call, before it looks again, in seconds.
+/// How long a worker sleeps at most, where all that it waits for rings its bell, before it looks again, in seconds.
 pub(crate) const IDLE: u64 = 3600;
 
 /// A call that a worker is to answer.
