@@ -2,3 +2,4 @@ pub mod Written
 pub mod Halves
 pub mod Accounts
 pub mod Workers
+pub mod Seats

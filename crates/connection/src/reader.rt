@@ -290,7 +290,7 @@ where
         let rt = self.rt;
         for _ in rt.forever() {
             let mark = self.orders.shared.reader.mark();
-            if let Some(place) = self.slots.engage(id) {
+            if let Some(place) = self.slots.engage(id)? {
                 let opened = Opened::Again(place);
                 return Ok(Some(Engaged { place, opened }));
             }

@@ -1,10 +1,15 @@
 //! The slots of a connection, as its reader has them.
 
-ghost use Rattle.std.specs.Prelude.{◌≡◌, List, [], ◌∷◌, ◌++◌, All, Some, IfOk, IfSome, IsSomeAnd};
+ghost use Rattle.std.specs.Prelude.{◌≡◌, ◌≢◌, ◌<◌, ℕ, List, [], ◌∷◌, ◌++◌, true, All, Some, Ok, IfOk, OnOk, OnErr, IfSome, IsSomeAnd};
 ghost use Rattle.std.specs.Option.{IsSomeAnd-prop};
 ghost use Rattle.account.specs.declared.call.OutItem.{OutItem as Item};
 ghost use Rattle.connection.specs.Accounts.{unheard};
-ghost use Rattle.connection.specs.Halves.{half_by};
+ghost use Rattle.callhead.specs.declared.head.CallHead.{CallHead as Head};
+ghost use Rattle.connbook.specs.declared.answers.Receipt.TheVariants.{Feed};
+ghost use Rattle.session.specs.declared.event.InEvent.TheVariants as events;
+ghost use Rattle.calltable.specs.Steps.{Admitted, Received, Step, Told, last_of, shut_at};
+ghost use Rattle.connection.specs.Halves.{half_by, shown};
+ghost use Rattle.connection.specs.Seats.{AreCalls, Rises};
 
 use crate::half::Half;
 use crate::hired::{Hired, hire};
@@ -12,7 +17,7 @@ use crate::report::CallReport;
 use crate::shared::Shared;
 use crate::slot::{InLane, Job, OutLane, Slot};
 use crate::worker::{Seen, Worker};
-use account::OutItem;
+use account::{OutItem, Shut};
 use bytes::Bytes;
 use callbox::{FedShut, FeedFault, Feeder, InPiece, Sender, open_in, open_out};
 use flow::MAX_LIVE;
@@ -35,6 +40,8 @@ const OUT_ROOM: usize = 16;
 #[derive(Drop)]
 struct Seat<I: Lane<Item = InPiece>, O: Lane<Item = OutItem>> {
     slot: Arc<Slot>,
+    /// The streams of the calls before it.
+    ids: Vec<StreamId>,
     /// The stream of its call, or of its last one.
     id: StreamId,
     half: Half<Feeder<I>, FedShut<I>>,
@@ -72,18 +79,18 @@ impl<I: Lane<Item = InPiece>, O: Lane<Item = OutItem>> Slots<I, O> {
     }
 
     /// A free slot for a call of this stream, the latest first.
-    pub(crate) fn engage(&mut self, id: StreamId) -> Option<usize>
+    pub(crate) fn engage(&mut self, id: StreamId) -> Result<Option<usize>, AllocError>
         requires ring_in { (n : I.Name) → I.ring_of (I.next_name n) ≡ I.ring_of n }
     {
         for place in (0..self.seats.len()).rev() {
             let Some(seat) = self.seats.get_mut(place) else {
                 continue;
             };
-            if seat.begin(id) {
-                return Some(place);
+            if seat.begin(id)? {
+                return Ok(Some(place));
             }
         }
-        None
+        Ok(None)
     }
 
     /// Hands a slot's worker its call. Its bell is still to be rung.
@@ -98,24 +105,20 @@ impl<I: Lane<Item = InPiece>, O: Lane<Item = OutItem>> Slots<I, O> {
         let Some(seat) = self.seats.get_mut(place) else {
             return Ok(());
         };
-        seat.half.feed(bytes)?;
-        seat.slot.note();
-        Ok(())
+        seat.feed(bytes)
     }
 
     /// The client has ended the half of a slot's call, which its worker is to see.
     pub(crate) fn end_half(&mut self, place: usize) {
         if let Some(seat) = self.seats.get_mut(place) {
-            seat.half.end();
-            seat.slot.note();
+            seat.shut(Shut::End);
         }
     }
 
     /// Resets the half of a slot's call, which its worker is to see.
     pub(crate) fn reset(&mut self, place: usize, code: u32) {
         if let Some(seat) = self.seats.get_mut(place) {
-            seat.half.reset(code);
-            seat.slot.note();
+            seat.shut(Shut::Reset(code));
         }
     }
 
@@ -230,6 +233,7 @@ where
     };
     let seat = Seat {
         slot,
+        ids: Vec::new(alloc),
         id,
         half: Half::Open(feeder),
         worker,
@@ -253,15 +257,47 @@ impl<I: Lane<Item = InPiece>, O: Lane<Item = OutItem>> Seat<I, O> {
     ghost use Rattle.connection.specs.Workers.{EachStands};
 
     /// Where the slot is free it is engaged for a call of this stream.
-    fn begin(&mut self, id: StreamId) -> bool
+    fn begin(&mut self, id: StreamId) -> Result<bool, AllocError>
         requires ring_in { (n : I.Name) → I.ring_of (I.next_name n) ≡ I.ring_of n }
+        ensures heard { result ≡ Ok true → (told : List Step) (head : Head) → last_of told < id
+            → AreCalls told self.old.ids.items (half_by (λ f. I.past_in f.tx) (λ s. I.past_shut s.shut) self.old.half) self.old.id (shown (λ f. I.put_in f.tx) (λ s. I.put_shut s.shut) (λ s. s.kind) self.old.half)
+            → AreCalls (Told (events.Open id head) Admitted ∷ told) self.new.ids.items (half_by (λ f. I.past_in f.tx) (λ s. I.past_shut s.shut) self.new.half) self.new.id (shown (λ f. I.put_in f.tx) (λ s. I.put_shut s.shut) (λ s. s.kind) self.new.half) }
+        ensures stays { result ≢ Ok true → (told : List Step)
+            → AreCalls told self.old.ids.items (half_by (λ f. I.past_in f.tx) (λ s. I.past_shut s.shut) self.old.half) self.old.id (shown (λ f. I.put_in f.tx) (λ s. I.put_shut s.shut) (λ s. s.kind) self.old.half) → AreCalls told self.new.ids.items (half_by (λ f. I.past_in f.tx) (λ s. I.past_shut s.shut) self.new.half) self.new.id (shown (λ f. I.put_in f.tx) (λ s. I.put_shut s.shut) (λ s. s.kind) self.new.half) }
     {
+        self.ids.reserve(1)?;
         if !self.slot.is_free() || !self.half.begin() {
-            return false;
+            return Ok(false);
         }
         self.slot.engage();
+        self.ids.push_reserved(self.id);
         self.id = id;
-        true
+        Ok(true)
+    }
+
+    /// Feeds a piece to its call.
+    fn feed(&mut self, piece: Bytes) -> Result<(), FeedFault>
+        ensures heard { OnOk result ((told : List Step) (counted : ℕ)
+            → AreCalls told self.old.ids.items (half_by (λ f. I.past_in f.tx) (λ s. I.past_shut s.shut) self.old.half) self.old.id (shown (λ f. I.put_in f.tx) (λ s. I.put_shut s.shut) (λ s. s.kind) self.old.half)
+            → AreCalls (Told (events.Data self.old.id piece counted) (Received Feed) ∷ told) self.new.ids.items (half_by (λ f. I.past_in f.tx) (λ s. I.past_shut s.shut) self.new.half) self.new.id (shown (λ f. I.put_in f.tx) (λ s. I.put_shut s.shut) (λ s. s.kind) self.new.half)) }
+        ensures stays { OnErr result ((told : List Step)
+            → AreCalls told self.old.ids.items (half_by (λ f. I.past_in f.tx) (λ s. I.past_shut s.shut) self.old.half) self.old.id (shown (λ f. I.put_in f.tx) (λ s. I.put_shut s.shut) (λ s. s.kind) self.old.half) → AreCalls told self.new.ids.items (half_by (λ f. I.past_in f.tx) (λ s. I.past_shut s.shut) self.new.half) self.new.id (shown (λ f. I.put_in f.tx) (λ s. I.put_shut s.shut) (λ s. s.kind) self.new.half)) }
+        ensures id { self.new.id ≡ self.old.id }
+    {
+        self.half.feed(piece)?;
+        self.slot.note();
+        Ok(())
+    }
+
+    /// Shuts the half of its call in this way, which its worker is to see.
+    fn shut(&mut self, kind: Shut)
+        ensures heard { (told : List Step) (step : Step) → Rises told step → shut_at self.old.id step ≡ Some kind
+            → AreCalls told self.old.ids.items (half_by (λ f. I.past_in f.tx) (λ s. I.past_shut s.shut) self.old.half) self.old.id (shown (λ f. I.put_in f.tx) (λ s. I.put_shut s.shut) (λ s. s.kind) self.old.half)
+            → AreCalls (step ∷ told) self.new.ids.items (half_by (λ f. I.past_in f.tx) (λ s. I.past_shut s.shut) self.new.half) self.new.id (shown (λ f. I.put_in f.tx) (λ s. I.put_shut s.shut) (λ s. s.kind) self.new.half) }
+        ensures id { self.new.id ≡ self.old.id }
+    {
+        self.half.shut(kind);
+        self.slot.note();
     }
 
     /// Waits for the worker, and brings the half and what the worker had together: the rows of the slot's calls.
