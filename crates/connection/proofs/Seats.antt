@@ -1,5 +1,5 @@
 -- What one step more makes of the calls of a slot.
-use Rattle.std.proofs.Common.{◌≡◌, ◌∙◌, ℕ, ◌<◌, ◌≤◌, Bool, true, false, List, [], ◌∷◌, ◌++◌, Option, None, Some, ap, arith, eq-eqb, nat_eq, refl, subst, sym}
+use Rattle.std.proofs.Common.{◌≡◌, ◌≢◌, ◌∙◌, ℕ, ◌<◌, ◌≤◌, Bool, true, false, List, [], ◌∷◌, ◌++◌, Option, None, Some, ap, arith, eq-eqb, nat_eq, refl, subst, sym}
 use Rattle.std.specs.Prelude.{IsSomeAnd, MatchOption, unwrap_or}
 use Rattle.std.proofs.lemmas.Bool.Decides.{nat_tests}
 use Rattle.std.proofs.lemmas.List.Elements.{All-nil}
@@ -10,9 +10,9 @@ use Rattle.callhead.specs.declared.head.CallHead.{CallHead}
 use Rattle.session.specs.declared.event.InEvent.TheVariants as events
 use Rattle.calltable.specs.Halves.{IsHalf, Shown}
 use Rattle.calltable.specs.Steps.{Step, Told, Admitted, admitted_by, is_of, last_of, since}
-use Rattle.calltable.proofs.HalfLemmas.{shut-before}
+use Rattle.calltable.proofs.HalfLemmas.{shut-before, still-half}
 use Rattle.connection.specs.Halves.{unfed}
-use Rattle.connection.specs.Seats.{AreCalls, ArePast, IsCall, IsPast, Rises}
+use Rattle.connection.specs.Seats.{AreCalls, ArePast, IsCall, IsPast, Passes, Rises}
 
 -- ---- an id that was admitted before
 
@@ -68,7 +68,7 @@ past-more told [] (other ∷ past) id items one are = absurd are
 past-more told (first ∷ ids) [] id items one are = absurd are
 past-more told (first ∷ ids) (other ∷ past) id items one are = (are.0, past-more told ids past id items one are.1)
 
-IsShutOf : Shown → Type 0
+abbrev IsShutOf : Shown → Type 0
 IsShutOf call = IsSomeAnd call.shut (λ kind. fits_shut (shut_of call.items) kind ≡ kind)
 
 now-past : (told : List Step) (id : ℕ) (there : Bool) (items : List InPiece) (closed : Option Shut) → IsSomeAnd closed (λ kind. fits_shut (shut_of items) kind ≡ kind)
@@ -77,7 +77,7 @@ now-past told id there items None closed call = absurd closed
 now-past told id there items (Some kind) closed call = record {
   kind = kind;
   fits = closed;
-  call = record { known = call.known; half = record { there = refl; fed = call.half.fed; shut = call.half.shut; full = call.half.full; }; };
+  call = record { known = call.known; half = record { there = refl; fed = call.half.fed; shut = call.half.shut; full = call.half.full } };
 }
 
 -- ---- the calls of a slot
@@ -110,3 +110,30 @@ seat-begins told ids old_past new_past id next head old new above grows closed f
       before = past-in told step (ids ++ id ∷ []) new_past above (past-grows told ids old_past new_past id old.items one grows are.before);
       last = subst (λ (now : Shown). IsCall (step ∷ told) next now) (sym fresh) (call-opens told next head);
     }
+
+-- the same ids
+pub with-ids : (told : List Step) (old reserved new : List ℕ) (past : Option (List (List InPiece))) (last id : ℕ) (now : Shown) → new ≡ reserved ++ last ∷ [] → reserved ≡ old
+    → AreCalls told (old ++ last ∷ []) past id now → AreCalls told new past id now
+with-ids told old reserved new past last id now pushed same are =
+    subst (λ (ids : List ℕ). AreCalls told ids past id now) (sym (pushed ∙ ap (λ (ids : List ℕ). ids ++ last ∷ []) same)) are
+
+-- a half that is there is open, or was shut in some way
+shut-now : (told : List Step) (step : Step) (id : ℕ) (closed : Option Shut) (call : Shown) → Rises told step → call.shut ≡ closed → closed ≢ None → IsCall told id call → IsCall (step ∷ told) id call
+shut-now told step id None call rises is closed h = absurd (closed refl)
+shut-now told step id (Some kind) call rises is closed h = call-shut told step id kind call rises is h
+
+-- a step that passes a slot by
+pub seat-passes : (told : List Step) (step : Step) (ids : List ℕ) (past : Option (List (List InPiece))) (id : ℕ) (now : Shown) → Rises told step → Passes id step
+    → AreCalls told ids past id now → AreCalls (step ∷ told) ids past id now
+seat-passes told step ids past id now rises passes are = record {
+  before = past-in told step ids past rises are.before;
+  last = call-step told step id now now rises (λ half. still-half id (since id told) step now passes.shuts passes.feeds half) are.last;
+}
+
+-- and any step, where its half was shut
+pub seat-shut : (told : List Step) (step : Step) (ids : List ℕ) (past : Option (List (List InPiece))) (id : ℕ) (now : Shown) → Rises told step → now.shut ≢ None
+    → AreCalls told ids past id now → AreCalls (step ∷ told) ids past id now
+seat-shut told step ids past id now rises closed are = record {
+  before = past-in told step ids past rises are.before;
+  last = shut-now told step id now.shut now rises refl closed are.last;
+}

@@ -3,3 +3,4 @@ pub mod Halves
 pub mod Accounts
 pub mod Workers
 pub mod Seats
+pub mod SeatExamples
