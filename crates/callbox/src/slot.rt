@@ -65,13 +65,11 @@ fn see_out<L: Lane<Item = OutItem>>(end: End<Giver<L>, GivenShut<L>>)
 
 fn see_out_open<L: Lane<Item = OutItem>>(_giver: Giver<L>)
     ensures given { EachResponse (L.past_in _giver.tx ++ L.put_in _giver.tx ∷ []) }
-{
-}
+{}
 
 fn see_out_shut<L: Lane<Item = OutItem>>(_shut: GivenShut<L>)
     ensures given { EachResponse (L.past_shut _shut.shut ++ L.put_shut _shut.shut ∷ []) }
-{
-}
+{}
 
 /// What was got of each call begins what was fed of it, and ends at its shut.
 fn meet_in<L: Lane<Item = InPiece>>(end: End<Feeder<L>, FedShut<L>>, taker: Taker<L>)

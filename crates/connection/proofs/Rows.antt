@@ -1,6 +1,6 @@
 -- The rows of a slot's calls.
-use Rattle.std.proofs.Common.{◌≡◌, ◌∙◌, ◌⊎◌, inl, inr, ap, refl, subst, sym, ℕ, zero, suc, Bool, List, [], ◌∷◌, ◌++◌, Option, None, Some, append-nil, append_assoc, length, All, slice_get}
-use Rattle.std.specs.Prelude.{IfSome, IsSomeAnd, ◌<◌}
+use Rattle.std.proofs.Common.{◌≡◌, ◌∙◌, inl, inr, ap, refl, subst, sym, ℕ, zero, suc, Bool, List, [], ◌∷◌, ◌++◌, Option, None, Some, append-nil, All, slice_get}
+use Rattle.std.specs.Prelude.{IfSome, IsSomeAnd}
 use Rattle.std.proofs.lemmas.List.Elements.{All-append, All-cons, All-nil}
 use mathlib.Core.List.{IsPrefix}
 use Rattle.lane.specs.Cuts.{segment}
@@ -13,7 +13,7 @@ use Rattle.callbox.specs.declared.piece.InPiece.{InPiece}
 use Rattle.callbox.specs.Slots.{IsUnsent}
 use Rattle.handlers.specs.declared.step.Step.{Step}
 use Rattle.connection.specs.declared.report.CallReport.{CallReport}
-use Rattle.connection.specs.Accounts.{HasAccount, IsWithin, StandsOn, unsent}
+use Rattle.connection.specs.Accounts.{HasAccount, IsWithin, unsent}
 use Rattle.connection.specs.Workers.{Answers, EachAnswers, EachStands, HaveRows, Stands}
 
 -- what is so of more answers is so of these

@@ -1,8 +1,6 @@
 -- The turns of a call, and what stands at its end.
 use Rattle.std.proofs.Common.{◌≡◌, ◌∙◌, inl, inr, ap, refl, subst, sym, ℕ, Bool, true, false, List, [], ◌∷◌, ◌++◌, Option, None, Some, append-nil, append_assoc}
 use Rattle.std.specs.Prelude.{IfSome, IsSomeAnd, MatchBool, slice_get}
-use mathlib.Core.List.{IsPrefix}
-use Rattle.lane.specs.Lawful.{count_of}
 use Rattle.account.specs.declared.call.OutItem.{OutItem}
 use Rattle.account.specs.declared.call.OutItem.TheVariants.{Left}
 use Rattle.account.specs.declared.call.Told.{Told}
@@ -21,7 +19,7 @@ use Rattle.callrun.specs.Sides.{Shown, is_open, shown}
 use Rattle.callrun.proofs.Ahead.{with_none}
 use Rattle.callrun.proofs.Listing.{closed_run}
 use Rattle.connection.specs.declared.report.CallReport.{CallReport}
-use Rattle.connection.specs.Accounts.{IsAnswered, IsGivenAs, answers_by}
+use Rattle.connection.specs.Accounts.{IsGivenAs, answers_by}
 use Rattle.connection.specs.Workers.{Answers}
 
 -- what leads to the first leads to the second, with more messages

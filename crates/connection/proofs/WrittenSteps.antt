@@ -1,5 +1,5 @@
 -- What each step of a connection's writer does to what it wrote.
-use Rattle.std.proofs.Common.{◌≡◌, ◌≢◌, ◌∙◌, ℕ, Bool, true, false, true≢false, length, List, [], ◌∷◌, ◌++◌, Option, Some, Result, Ok, Err, OnOk, OnErr, ap, sym, refl, map, subst}
+use Rattle.std.proofs.Common.{◌≡◌, ◌≢◌, ◌∙◌, ℕ, Bool, false, true≢false, List, [], ◌∷◌, ◌++◌, Option, Some, Result, Ok, Err, OnOk, OnErr, ap, sym, refl, map, subst}
 use Rattle.account.specs.declared.call.OutItem.{OutItem}
 use Rattle.outwriter.specs.Calls.{TellReturned, TellOthers}
 use Rattle.outwriter.specs.Steps.{Step, Written, Returned, frames_of}
@@ -9,10 +9,10 @@ use Rattle.connwriter.specs.declared.standing.Standing.{Standing}
 use Rattle.connwriter.specs.declared.standing.Standing.TheVariants as stands
 use Rattle.connwriter.specs.declared.writer.ConnWriter.{ConnWriter}
 use Rattle.connwriter.specs.Spelled.{IsFront, IsWhole, IsAll}
-use Rattle.connwriter.specs.Wrote.{Wrote, WritesOn, Fills}
+use Rattle.connwriter.specs.Wrote.{WritesOn, Fills}
 use Rattle.connection.specs.declared.report.Ending.{Ending}
 use Rattle.connection.specs.declared.report.Ending.TheVariants as ending
-use Rattle.connection.specs.Written.{HasWritten, IsFlushed, IsOver, Runs, Ends, RunsOn, RunsOut, Stays}
+use Rattle.connection.specs.Written.{HasWritten, IsFlushed, Runs, Ends, RunsOn, RunsOut, Stays}
 
 standing-of : {A : Type 0} (standing : Standing) → (standing ≡ stands.Going → A) → (standing ≡ stands.OutOfMemory → A) → (standing ≡ stands.Broken → A) → A
 standing-of stands.Going going memory broken = going refl

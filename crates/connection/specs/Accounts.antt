@@ -49,6 +49,6 @@ pub record StandsOn (answers : ℕ → List (List ℕ) → Bool → Step → Typ
 abbrev pub unsent : List InPiece → List (List ℕ) → Option Told → List OutItem → Account
 unsent fed messages said given = record { fed = bytes_of fed; shut = shut_of fed; taken = messages; told = said; given = given; sent = [] }
 
--- A row stands on a lawful account of its call: the messages that were taken and what was told are those of the row.
+-- Behind a row is a lawful account: as many messages were taken as the row has, and the same was told. It isn't said that it is that of the row's stream.
 abbrev pub HasAccount : CallReport → Type 0
 HasAccount row = (account : Account) × IsLawful account × (row.messages ≡ count_of account.taken) × (row.told ≡ account.told)

@@ -1,6 +1,5 @@
 -- The half of a slot's call, open or shut.
-use Rattle.std.specs.Prelude.{Bool, true, false, List, [], Option, None, Some, IsSomeAnd}
-use Rattle.std.specs.Option.{IsSomeAnd-prop}
+use Rattle.std.specs.Prelude.{Bool, true, false, List, [], Option, None, Some}
 use Rattle.account.specs.declared.call.Shut.{Shut}
 use Rattle.callbox.specs.declared.piece.InPiece.{InPiece}
 use Rattle.calltable.specs.Halves.{Shown}

@@ -40,7 +40,7 @@ where
     O: ConnWrite + Send + Drop + 'static,
     R: Threads + Wait + Clock + Copy + Send + Sync + Drop + 'static,
     ensures served { IfSome result.output (HasWritten O.contents O.failed (O.contents output) (Some result.ending)) }
-    // Each row stands on a lawful account of its call.
+    // Behind each row is a lawful account, of as many messages, and told the same.
     ensures calls { IfSome result.calls (λ rows. All (λ row. HasAccount row) rows.items) }
 {
     let blanks = (Blank::new(1), Blank::new(1), Blank::new(1));

@@ -1,4 +1,4 @@
-use Rattle.std.specs.Prelude.{All, IfSome, length, ◌<◌}
+use Rattle.std.specs.Prelude.{All, IfSome, length}
 use Rattle.connection.specs.Accounts.{HasAccount}
 use Rattle.connection.proofs.slots.Slots.end.Given as goal
 

@@ -1,4 +1,4 @@
-use Rattle.std.proofs.Common.{◌≡◌, ◌∙◌, ap, refl, subst, sym, ℕ, List, [], None, rules}
+use Rattle.std.proofs.Common.{◌≡◌, ap, refl, subst, sym, ℕ, List, [], None, rules}
 use Rattle.std.specs.Prelude.{slice_get}
 use Rattle.callbox.specs.InSides.{Took}
 use Rattle.callbox.specs.declared.piece.InPiece.{InPiece}
