@@ -1,6 +1,6 @@
 -- Worked histories of a slot, computed: two calls that it served one after another. A list of steps has the latest first.
 use Rattle.std.proofs.Common.{lit<}
-use Rattle.std.specs.Prelude.{◌≡◌, true, refl, List, [], ◌∷◌, Some, None}
+use Rattle.std.specs.Prelude.{◌≡◌, refl, List, [], ◌∷◌, None}
 use Rattle.account.specs.declared.call.Shut.TheVariants as shut
 use Rattle.callbox.specs.declared.piece.InPiece.TheVariants as in_piece
 use Rattle.callbox.specs.InSides.{bytes_of, shut_of}

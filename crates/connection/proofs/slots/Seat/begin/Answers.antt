@@ -1,6 +1,5 @@
-use Rattle.std.proofs.Common.{ℕ, List, Option, ◌++◌, [], ◌∷◌, ap, sym, ◌∙◌, subst}
-use Rattle.callhead.specs.declared.head.CallHead.{CallHead as Head}
-use Rattle.calltable.specs.Steps.{Admitted, Step, Told}
+use Rattle.std.proofs.Common.{◌∷◌}
+use Rattle.calltable.specs.Steps.{Admitted, Told}
 use Rattle.session.specs.declared.event.InEvent.TheVariants as events
 use Rattle.connection.proofs.Seats.{seat-begins, with-ids}
 use Rattle.connection.proofs.slots.Seat.begin.Goals as goal
