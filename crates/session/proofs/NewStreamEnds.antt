@@ -12,10 +12,10 @@ use Rattle.h2frame.specs.FrameList.{Entry, Whole}
 use Rattle.callhead.specs.declared.fault.HeadFault.{HeadFault}
 use Rattle.callhead.specs.declared.fault.HeadFault.TheVariants.{Malformed}
 use Rattle.flow.specs.declared.halves.Half.{Half}
-use Rattle.flow.specs.declared.halves.Half.TheVariants.{Opened, Ended, Reset}
+use Rattle.flow.specs.declared.halves.Half.TheVariants.{Opened, Ended}
 use Rattle.flow.specs.declared.halves.HalfVerdict.{HalfVerdict}
 use Rattle.flow.specs.declared.halves.HalfVerdict.TheVariants.{Open, ConnectionError}
-use Rattle.flow.specs.Halves.{Event, Received, Cut, is_headers, verdict, half_after}
+use Rattle.flow.specs.Halves.{Event, Received, Cut, is_headers, verdict}
 use Rattle.session.specs.declared.event.InEvent.{InEvent}
 use Rattle.session.specs.declared.event.InEvent.TheVariants as events
 use Rattle.session.specs.Streams.{after_frame, refusal, data_events, reset_events, window_events, credit_head, without_increment}

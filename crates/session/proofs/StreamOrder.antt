@@ -7,7 +7,6 @@ use Rattle.std.proofs.lemmas.List.Folds.{list_any-append}
 use Rattle.h2frame.specs.declared.frame.Frame.{Frame}
 use Rattle.h2frame.specs.declared.frame.FrameHead.{FrameHead}
 use Rattle.h2frame.specs.FrameList.{Entry}
-use Rattle.lists.specs.declared.field.Field.{Field}
 use Rattle.hpack_codec.specs.Table.{Table}
 use Rattle.callhead.specs.declared.fault.HeadFault.{HeadFault}
 use Rattle.callhead.specs.declared.fault.HeadFault.TheVariants.{Malformed}
@@ -19,11 +18,11 @@ use Rattle.flow.proofs.HalfLemmas.{kept-None}
 use Rattle.session.specs.declared.event.InEvent.{InEvent}
 use Rattle.session.specs.declared.event.InEvent.TheVariants as events
 use Rattle.session.specs.Streams.{counted, end_of, data_events, credit_verdict}
-use Rattle.session.specs.Blocks.{bad_head_events, HeadGives, BlockGives}
-use Rattle.session.specs.Events.{Situation, start, Group, Single, Credit, Block, GroupGives, IsCalm, Runs, Events}
-use Rattle.session.specs.Framings.{Framed, IsRead}
+use Rattle.session.specs.Blocks.{bad_head_events, BlockGives}
+use Rattle.session.specs.Events.{Situation, start, Group, Single, Credit, Block, GroupGives, Runs, Events}
+use Rattle.session.specs.Framings.{Framed}
 use Rattle.session.specs.StreamData.{Ending, Unended, Finished, Aborted, piece_of, pieces, is_opening, end_told, first_end, ending_told}
-use Rattle.session.proofs.HalfSteps.{half_at, IsClosed, IsFew}
+use Rattle.session.proofs.HalfSteps.{half_at, IsFew}
 use Rattle.session.proofs.StreamPieces.{pieces_append, silent_same, end_silent, refusal_silent, data_silent, data_untold, kind_silent, block_pieces, block_silent}
 use Rattle.session.proofs.StreamGroups.{stream_at, open_or_not, data_or_not, data_gives, elsewhere_silent}
 use Rattle.session.proofs.OpenStreamData.{block_closed}
