@@ -24,7 +24,7 @@ pub data Fate : Type 0 where
   Received : Receipt → Fate
   Missed : Fate
 
--- An event was told; or, behind the last one, a call hears no more.
+-- An event was told; or a call hears no more: behind the last event, or once it was answered and its slot is let go.
 pub data Step : Type 0 where
   Told : InEvent → Fate → Step
   CutOff : ℕ → Step

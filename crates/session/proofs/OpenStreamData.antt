@@ -138,7 +138,7 @@ pub reset_closed : (id : ℕ) (old new : Situation) (frame : Frame) → frame.he
 reset_closed id old new frame is same on at =
     let judged : verdict old.history frame.head ≡ Accept = verdict_begun id old.history frame.head Opened on at ∙ (opened_reset frame.head is).0 in
     inr (ap (λ (h : List Event). half_at h id) (same ∙ ap (λ (v : HalfVerdict). after_frame v frame.head old.history) judged)
-        ∙ step_begun id (Received frame.head) old.history Opened on at ∙ ap Some (opened_reset frame.head is).1)
+    ∙ step_begun id (Received frame.head) old.history Opened on at ∙ ap Some (opened_reset frame.head is).1)
 
 reset_open : (id : ℕ) (old new : Situation) (frame : Frame) (given : List InEvent) → frame.head.kind ≡ RstStream → new.history ≡ after_frame (verdict old.history frame.head) frame.head old.history → IsSilent id given
     → nat_eq id frame.head.stream ≡ true → half_at old.history id ≡ Some Opened → OpenNext id new (Single frame) given
