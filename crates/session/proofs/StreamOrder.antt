@@ -84,7 +84,7 @@ first_unended Finished b e = absurd cc
 first_unended Aborted b e = absurd cc
 
 -- an opening among events is told of
-opening_told : (id : ℕ) (given before : List InEvent) (event : InEvent) (after : List InEvent) → given ≡ before ++ event ∷ after → is_opening id event ≡ true → list_any (is_opening id) given ≡ true
+pub opening_told : (id : ℕ) (given before : List InEvent) (event : InEvent) (after : List InEvent) → given ≡ before ++ event ∷ after → is_opening id event ≡ true → list_any (is_opening id) given ≡ true
 opening_told id given before event after e opens =
     ap (list_any (is_opening id)) e ∙ list_any-append (is_opening id) before (event ∷ after)
     ∙ or_true (list_any (is_opening id) before) (is_opening id event) (list_any (is_opening id) after) opens
@@ -283,8 +283,8 @@ behind_parted id given before event after (front, back, parts, quiet, none) is e
 
 -- ---- of all events of a connection's bytes
 
-framed_before : (bytes : List ℕ) (given before : List InEvent) (event : InEvent) (after : List InEvent) (entries : List Entry) (id : ℕ) → Framed bytes given entries
-    → given ≡ before ++ event ∷ after → is_opening id event ≡ true → TellsNothing id before
+pub framed_before : (bytes : List ℕ) (given before : List InEvent) (event : InEvent) (after : List InEvent) (entries : List Entry) (id : ℕ) → Framed bytes given entries
+    → given ≡ before ++ event ∷ after → is_opening id event ≡ true → (pieces id before ≡ []) × (ending_told id before ≡ Unended)
 framed_before bytes given before event after entries id (inl (unread, none)) parts opens = absurd (not_unread id bytes given unread (opening_told id given before event after parts opens))
 framed_before bytes given before event after entries id (inr so) parts opens =
     elim (place so.before so.last before event after (sym so.all ∙ parts)) [
@@ -299,12 +299,14 @@ framed_parted bytes given entries id (inr so) opens =
     parted_before id given so.before so.last so.all
     (new_parted id start so.now so.passes.groups so.before so.passes.runs (kept-None id []) (opens_before id given so.before so.last so.all is opens)) (last_silent id so.last is).0
 
+pub framed_behind : (bytes : List ℕ) (given before : List InEvent) (event : InEvent) (after : List InEvent) (entries : List Entry) (id : ℕ) → Framed bytes given entries
+    → list_any (is_opening id) given ≡ true → given ≡ before ++ event ∷ after → end_told id event ≢ Unended → pieces id after ≡ []
+framed_behind bytes given before event after entries id framed opens parts ends = behind_parted id given before event after (framed_parted bytes given entries id framed opens) parts ends
+
 pub nothing_before_opening : (bytes : List ℕ) (given before : List InEvent) (event : InEvent) (after : List InEvent) (id : ℕ) → Events bytes given
     → given ≡ before ++ event ∷ after → is_opening id event ≡ true → (pieces id before ≡ []) × (ending_told id before ≡ Unended)
-nothing_before_opening bytes given before event after id read parts opens =
-    let framed = frames_of bytes given read in framed_before bytes given before event after framed.0 id framed.1 parts opens
+nothing_before_opening bytes given before event after id read parts opens = let framed = frames_of bytes given read in framed_before bytes given before event after framed.0 id framed.1 parts opens
 
 pub no_data_behind_end : (bytes : List ℕ) (given before : List InEvent) (event : InEvent) (after : List InEvent) (id : ℕ) → Events bytes given
     → list_any (is_opening id) given ≡ true → given ≡ before ++ event ∷ after → end_told id event ≢ Unended → pieces id after ≡ []
-no_data_behind_end bytes given before event after id read opens parts ends =
-    let framed = frames_of bytes given read in behind_parted id given before event after (framed_parted bytes given framed.0 id framed.1 opens) parts ends
+no_data_behind_end bytes given before event after id read opens parts ends = let framed = frames_of bytes given read in framed_behind bytes given before event after framed.0 id framed.1 opens parts ends
