@@ -1,5 +1,5 @@
 -- What is fed, by the events alone, once a half may be shut; and what was heard since a call was admitted.
-use Rattle.std.proofs.Common.{◌≡◌, ◌≢◌, ◌∙◌, ℕ, Bool, true, false, ◌||◌, nat_eq, List, [], ◌∷◌, ◌++◌, Option, None, Some, ap, append_assoc, refl, subst, sym}
+use Rattle.std.proofs.Common.{◌≡◌, ◌∙◌, ℕ, Bool, true, false, ◌||◌, nat_eq, List, [], ◌∷◌, ◌++◌, Option, None, Some, ap, append_assoc, refl, subst, sym}
 use Rattle.std.specs.Prelude.{if◌then◌else◌}
 use Rattle.std.specs.List.{list_any}
 use Rattle.std.proofs.lemmas.Bool.{eqb-true}
@@ -26,14 +26,14 @@ fed-before id step before kind closed =
 -- ---- what is fed begins the data that are told
 
 all-fed : (id : ℕ) (told : List Step) → shut_by id told ≡ None → IsPrefix (fed_by id told) (pieces id (events_of told))
-all-fed id told open = ([], append-nil (fed_by id told) ∙ fed-open id told open)
+all-fed id told unshut = ([], append-nil (fed_by id told) ∙ fed-open id told unshut)
 
 more-told : (fed more now all : List ℕ) → fed ++ more ≡ all → IsPrefix fed (all ++ now)
 more-told fed more now all e = (more ++ now, sym (append_assoc fed more now) ∙ ap (λ (l : List ℕ). l ++ now) e)
 
 front-with : (id : ℕ) (event : InEvent) (fate : Fate) (before : List Step) (found : Option Shut) → shut_by id (Told event fate ∷ before) ≡ found
     → IsPrefix (fed_by id before) (pieces id (events_of before)) → IsPrefix (fed_by id (Told event fate ∷ before)) (pieces id (events_of (Told event fate ∷ before)))
-front-with id event fate before None open behind = all-fed id (Told event fate ∷ before) open
+front-with id event fate before None unshut behind = all-fed id (Told event fate ∷ before) unshut
 front-with id event fate before (Some kind) closed behind =
     let more = more-told (fed_by id before) behind.0 (piece_of id event) (pieces id (events_of before)) behind.1 in
     (
@@ -43,7 +43,7 @@ front-with id event fate before (Some kind) closed behind =
 
 front-cut : (id other : ℕ) (before : List Step) (found : Option Shut) → shut_by id (CutOff other ∷ before) ≡ found
     → IsPrefix (fed_by id before) (pieces id (events_of before)) → IsPrefix (fed_by id (CutOff other ∷ before)) (pieces id (events_of before))
-front-cut id other before None open behind = all-fed id (CutOff other ∷ before) open
+front-cut id other before None unshut behind = all-fed id (CutOff other ∷ before) unshut
 front-cut id other before (Some kind) closed behind = (behind.0, ap (λ (fed : List ℕ). fed ++ behind.0) (fed-before id (CutOff other) before kind closed) ∙ behind.1)
 
 pub fed-front : (id : ℕ) (told : List Step) → IsPrefix (fed_by id told) (pieces id (events_of told))
@@ -74,13 +74,13 @@ event-quiet id events.PeerGoaway fate e = refl
 event-quiet id (events.Fatal code) fate e = refl
 
 pub quiet-open : (id : ℕ) (told : List Step) → shut_by id told ≡ None → ending_told id (events_of told) ≡ Unended
-quiet-open id [] open = refl
-quiet-open id (Told event fate ∷ before) open =
-    let behind = quiet-open id before (none-before (shut_by id before) (shut_at id (Told event fate)) open) in
-    let now = event-quiet id event fate (none-now (shut_by id before) (shut_at id (Told event fate)) open) in
+quiet-open id [] unshut = refl
+quiet-open id (Told event fate ∷ before) unshut =
+    let behind = quiet-open id before (none-before (shut_by id before) (shut_at id (Told event fate)) unshut) in
+    let now = event-quiet id event fate (none-now (shut_by id before) (shut_at id (Told event fate)) unshut) in
     told_append id (events_of before) (event ∷ [])
     ∙ ap (λ (e : Ending). first_end e (first_end (end_told id event) Unended)) behind ∙ ap (λ (e : Ending). first_end e Unended) now
-quiet-open id (CutOff other ∷ before) open = quiet-open id before (none-before (shut_by id before) (shut_at id (CutOff other)) open)
+quiet-open id (CutOff other ∷ before) unshut = quiet-open id before (none-before (shut_by id before) (shut_at id (CutOff other)) unshut)
 
 -- ---- a half that ends was fed all that was told before
 
@@ -144,18 +144,18 @@ ended-before id fed fed_now given event same (before, after, parts, is, ends) = 
   told_append id given (event ∷ []) ∙ ap (λ (e : Ending). first_end e (first_end (end_told id event) Unended)) ends,
 )
 
-end-finishes : (id : ℕ) → end_told id (events.End id) ≡ Finished
+pub end-finishes : (id : ℕ) → end_told id (events.End id) ≡ Finished
 end-finishes id = ap (λ (b : Bool). if b then Finished else Unended) (same_number id)
 
 ended-now : (id : ℕ) (fate : Fate) (before : List Step) → shut_by id before ≡ None → shut_by id (Told (events.End id) fate ∷ before) ≡ Some shut.End
     → IsWhole id (fed_by id (Told (events.End id) fate ∷ before)) (events_of before ++ events.End id ∷ [])
-ended-now id fate before open closed = (
+ended-now id fate before unshut closed = (
   events_of before,
   [],
   refl,
-  fed-before id (Told (events.End id) fate) before shut.End closed ∙ fed-open id before open,
+  fed-before id (Told (events.End id) fate) before shut.End closed ∙ fed-open id before unshut,
   told_append id (events_of before) (events.End id ∷ [])
-      ∙ ap (λ (e : Ending). first_end e (first_end (end_told id (events.End id)) Unended)) (quiet-open id before open) ∙ ap (λ (e : Ending). first_end e Unended) (end-finishes id),
+      ∙ ap (λ (e : Ending). first_end e (first_end (end_told id (events.End id)) Unended)) (quiet-open id before unshut) ∙ ap (λ (e : Ending). first_end e Unended) (end-finishes id),
 )
 
 whole-same : (id : ℕ) (fed fed_now : List ℕ) (given : List InEvent) → fed_now ≡ fed → IsWhole id fed given → IsWhole id fed_now given
@@ -163,18 +163,18 @@ whole-same id fed fed_now given same (before, after, parts, is, ends) = (before,
 
 -- the step ends the half, or it was ended before
 ended-step : (id : ℕ) (step : Step) (before : List Step) → shut_by id before ≡ None → IsEnd (shut_by id (step ∷ before)) → IsWhole id (fed_by id (step ∷ before)) (events_of (step ∷ before))
-ended-step id step before open closed =
-    let by = ends-by id step (sym (ap (λ (found : Option Shut). earlier found (shut_at id step)) open) ∙ closed) in
+ended-step id step before unshut closed =
+    let by = ends-by id step (sym (ap (λ (found : Option Shut). earlier found (shut_at id step)) unshut) ∙ closed) in
     by-end by.0 by.1
   where
     by-end : (fate : Fate) → step ≡ Told (events.End id) fate → IsWhole id (fed_by id (step ∷ before)) (events_of (step ∷ before))
     by-end fate is =
         subst (λ (s : Step). IsWhole id (fed_by id (s ∷ before)) (events_of (s ∷ before))) (sym is)
-        (ended-now id fate before open (subst (λ (s : Step). IsEnd (shut_by id (s ∷ before))) is closed))
+        (ended-now id fate before unshut (subst (λ (s : Step). IsEnd (shut_by id (s ∷ before))) is closed))
 
 ended-with : (id : ℕ) (step : Step) (before : List Step) (found : Option Shut) → shut_by id before ≡ found → (IsEnd (shut_by id before) → IsWhole id (fed_by id before) (events_of before))
     → IsEnd (shut_by id (step ∷ before)) → IsWhole id (fed_by id (step ∷ before)) (events_of (step ∷ before))
-ended-with id step before None open behind closed = ended-step id step before open closed
+ended-with id step before None unshut behind closed = ended-step id step before unshut closed
 ended-with id step before (Some kind) shut_before behind closed =
     let ended : IsEnd (shut_by id before) = shut_before ∙ (sym (ap (λ (found : Option Shut). earlier found (shut_at id step)) shut_before) ∙ closed) in
     more-of step (fed-before id step before shut.End closed) (behind ended)

@@ -1,7 +1,7 @@
 -- What the reader of a connection hears, and what it makes of the client's half of each call (RFC 9113, sections 5.1, 5.4.2,
 -- 6.4 and 6.9.1).
 -- A list of steps has the latest first.
-use Rattle.std.specs.Prelude.{◌≡◌, ◌<◌, ℕ, Bool, true, false, nat_eq, if◌then◌else◌, List, [], ◌∷◌, ◌++◌, Option, Some, None, MatchOption, unwrap_or}
+use Rattle.std.specs.Prelude.{◌<◌, ℕ, Bool, true, false, nat_eq, if◌then◌else◌, List, [], ◌∷◌, ◌++◌, Option, Some, None, MatchOption, unwrap_or}
 use Rattle.account.specs.declared.call.Shut.{Shut}
 use Rattle.account.specs.declared.call.Shut.TheVariants as shut
 use Rattle.connbook.specs.declared.answers.AdmitFault.{AdmitFault}
