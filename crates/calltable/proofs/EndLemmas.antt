@@ -35,8 +35,7 @@ front-with : (id : ℕ) (event : InEvent) (fate : Fate) (before : List Step) (fo
     → IsPrefix (fed_by id before) (pieces id (events_of before)) → IsPrefix (fed_by id (Told event fate ∷ before)) (pieces id (events_of (Told event fate ∷ before)))
 front-with id event fate before None unshut behind = all-fed id (Told event fate ∷ before) unshut
 front-with id event fate before (Some kind) closed behind =
-    let more = more-told (fed_by id before) behind.0 (piece_of id event) (pieces id (events_of before)) behind.1 in
-    (
+    let more = more-told (fed_by id before) behind.0 (piece_of id event) (pieces id (events_of before)) behind.1 in (
       more.0,
       ap (λ (fed : List ℕ). fed ++ more.0) (fed-before id (Told event fate) before kind closed) ∙ more.1 ∙ sym (pieces-push id (events_of before) event),
     )
