@@ -54,8 +54,7 @@ whole-of-all came given before later rest event entries id fed framed parts open
     let split : given ≡ (before ++ event ∷ front) ++ events.End id ∷ (after ++ rest) =
     parts ∙ ap (λ (l : List InEvent). before ++ event ∷ l) behind ∙ sym (append_assoc before (event ∷ front) (events.End id ∷ (after ++ rest))) in
     let none : pieces id (after ++ rest) ≡ [] =
-    framed_behind came given (before ++ event ∷ front) (events.End id) (after ++ rest) entries id framed (opening_told id given before event (later ++ rest) parts opens) split (end-ends id) in
-    (
+    framed_behind came given (before ++ event ∷ front) (events.End id) (after ++ rest) entries id framed (opening_told id given before event (later ++ rest) parts opens) split (end-ends id) in (
       fed-is ∙ sym (nothing-behind id (later ++ rest) front (after ++ rest) (events.End id) behind refl none) ∙ all.0,
       sym all.1 ∙ told_append id later rest ∙ ap (λ (e : Ending). first_end e (ending_told id rest)) ends,
     )
