@@ -1,5 +1,5 @@
 -- What one step more makes of a half.
-use Rattle.std.proofs.Common.{◌≡◌, ◌≢◌, ◌∙◌, ℕ, ◌+◌, ◌≤◌, Bool, true, false, List, [], ◌∷◌, ◌++◌, Option, None, Some, ap, append_assoc, arith, eq-eqb, length, nat_eq, refl, subst, sym}
+use Rattle.std.proofs.Common.{◌≡◌, ◌≢◌, ◌∙◌, ℕ, ◌≤◌, Bool, true, false, List, [], ◌∷◌, ◌++◌, Option, None, Some, ap, arith, eq-eqb, nat_eq, refl, subst, sym}
 use Rattle.std.specs.Prelude.{All, MatchBool}
 use Rattle.std.specs.List.{concat}
 use Rattle.std.proofs.lemmas.List.{append-nil}
@@ -65,7 +65,7 @@ unless-nil (Some kind) = refl
 fed-shut : (fed data_now : List ℕ) (kind : Shut) (closed : Option Shut) → closed ≡ Some kind → fed ++ unless closed data_now ≡ fed
 fed-shut fed data_now kind closed is = rw is (append-nil fed)
 
-same_number : (id : ℕ) → nat_eq id id ≡ true
+pub same_number : (id : ℕ) → nat_eq id id ≡ true
 same_number id = eq-eqb id id refl
 
 -- how a lane that only fills refuses

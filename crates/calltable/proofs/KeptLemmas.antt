@@ -1,6 +1,6 @@
 -- What one step more makes of the rows.
-use Rattle.std.proofs.Common.{◌≡◌, ◌≢◌, ◌∙◌, ℕ, ◌+◌, ◌<◌, ◌≤◌, Bool, true, false, List, [], ◌∷◌, ◌++◌, Option, None, Some, ap, arith, cond, eq-eqb, nat_eq, refl, subst, suc, sym, inl, inr, rules}
-use Rattle.std.specs.Prelude.{◌⊎◌, All, IsSome, MatchOption, unwrap_or}
+use Rattle.std.proofs.Common.{◌≡◌, ◌≢◌, ◌∙◌, ℕ, ◌<◌, ◌≤◌, Bool, true, false, List, [], ◌∷◌, ◌++◌, Option, None, Some, ap, arith, cond, nat_eq, refl, subst, suc, sym, inl, inr, rules}
+use Rattle.std.specs.Prelude.{◌⊎◌, All, MatchOption, unwrap_or}
 use Rattle.std.specs.Map.{lookup, set_value, keys_of}
 use Rattle.std.proofs.lemmas.Bool.{eqb-true}
 use Rattle.std.proofs.lemmas.Bool.Decides.{nat_tests}
@@ -12,7 +12,6 @@ use Rattle.indexmap.specs.IndexMap.{insert_entry}
 use Rattle.indexmap.proofs.CallerLemmas.{insert_entry-new}
 use Rattle.callbox.specs.declared.piece.InPiece.{InPiece}
 use Rattle.callhead.specs.declared.head.CallHead.{CallHead}
-use Rattle.h2frame.specs.declared.error_code.ErrorCode.{ErrorCode}
 use Rattle.session.specs.declared.event.InEvent.{InEvent}
 use Rattle.session.specs.declared.event.InEvent.TheVariants as events
 use Rattle.calltable.specs.declared.half.Half.{Half}
@@ -20,7 +19,7 @@ use Rattle.calltable.specs.declared.half.Half.TheVariants as half
 use Rattle.calltable.specs.declared.table.CallTable.{CallTable}
 use Rattle.calltable.specs.Halves.{IsHalf, Shown}
 use Rattle.calltable.specs.Kept.{Concerns, Hears, IsIdle, Kept, row_of}
-use Rattle.calltable.specs.Steps.{Step, Told, CutOff, Fate, Plain, Admitted, admitted, admitted_by, data_at, is_of, last_of, once, shut_at, since, IsRising}
+use Rattle.calltable.specs.Steps.{Step, Told, Fate, Admitted, admitted, admitted_by, data_at, last_of, once, shut_at, since, IsRising}
 use Rattle.calltable.proofs.HalfLemmas.{still-half}
 
 -- ---- look-ups

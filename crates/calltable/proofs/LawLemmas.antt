@@ -7,11 +7,11 @@ use Rattle.session.specs.declared.event.InEvent.{InEvent}
 use Rattle.session.specs.StreamData.{piece_of, pieces}
 use Rattle.calltable.specs.Steps.{Step, Told, CutOff, earlier, events_of, fed_by, shut_at, shut_by, unless}
 
-none-before : (first second : Option Shut) → earlier first second ≡ None → first ≡ None
+pub none-before : (first second : Option Shut) → earlier first second ≡ None → first ≡ None
 none-before None second e = refl
 none-before (Some kind) second e = e
 
-pieces-push : (id : ℕ) (events : List InEvent) (event : InEvent) → pieces id (events ++ event ∷ []) ≡ pieces id events ++ piece_of id event
+pub pieces-push : (id : ℕ) (events : List InEvent) (event : InEvent) → pieces id (events ++ event ∷ []) ≡ pieces id events ++ piece_of id event
 pieces-push id events event =
     flat_map-append (λ (e : InEvent). piece_of id e) events (event ∷ []) ∙ ap (λ (l : List ℕ). pieces id events ++ l) (append-nil (piece_of id event))
 

@@ -1,3 +1,4 @@
+pub mod EndLemmas
 pub mod HalfLemmas
 pub mod KeptLemmas
 pub mod LawLemmas

@@ -10,7 +10,7 @@ use Rattle.h2frame.specs.declared.error_code.ErrorCode.TheVariants.{FlowControlE
 use Rattle.h2frame.specs.ErrorCode.{error_number}
 use Rattle.session.specs.declared.event.InEvent.TheVariants as events
 use Rattle.calltable.specs.Kept.{Concerns, IsIdle, fate_of}
-use Rattle.calltable.specs.Steps.{CutOff, Fate, Plain, Received, Told, data_at, discarded, received, shut_at}
+use Rattle.calltable.specs.Steps.{CutOff, Fate, Plain, Received, Told, discarded, received, shut_at}
 
 same_number : (id : ℕ) → nat_eq id id ≡ true
 same_number id = eq-eqb id id refl

@@ -4,10 +4,9 @@
 use Rattle.std.specs.Prelude.{ℕ, Bool, true, false, List, Option, Some, None, if◌then◌else◌}
 use Rattle.connbook.specs.declared.answers.AdmitFault.{AdmitFault}
 use Rattle.connbook.specs.declared.answers.AdmitFault.TheVariants as refused
-use Rattle.connbook.specs.declared.answers.Receipt.{Receipt}
-use Rattle.connbook.specs.declared.answers.Receipt.TheVariants.{Feed, Discard, CallWindow, Overrun}
+use Rattle.connbook.specs.declared.answers.Receipt.TheVariants.{CallWindow, Overrun}
 use Rattle.callhead.specs.declared.fault.HeadFault.{HeadFault}
-use Rattle.callhead.specs.declared.fault.HeadFault.TheVariants.{Malformed, NotPost, NotGrpc, BadTimeout, OutOfMemory}
+use Rattle.callhead.specs.declared.fault.HeadFault.TheVariants.{OutOfMemory}
 use Rattle.callhead.specs.StatusFields.{refusal_of, unknown_method}
 use Rattle.h2frame.specs.declared.error_code.ErrorCode.TheVariants.{ProtocolError, InternalError, FlowControlError, RefusedStream, Cancel, EnhanceYourCalm}
 use Rattle.lists.specs.declared.field.Field.{Field}
@@ -15,7 +14,6 @@ use Rattle.outwriter.specs.declared.control.Control.TheVariants.{Settings, Ping,
 use Rattle.outwriter.specs.Steps.{Order}
 use Rattle.session.specs.declared.event.Control.{Control}
 use Rattle.session.specs.declared.event.Control.TheVariants as controls
-use Rattle.session.specs.declared.event.InEvent.{InEvent}
 use Rattle.session.specs.declared.event.InEvent.TheVariants as events
 use Rattle.calltable.specs.Steps.{Fate, Admitted, Unknown, TurnedAway, Received, Missed, Step, Told, CutOff}
 

@@ -1,7 +1,7 @@
 -- What the reader of a connection hears, and what it makes of the client's half of each call (RFC 9113, sections 5.1, 5.4.2,
 -- 6.4 and 6.9.1).
 -- A list of steps has the latest first.
-use Rattle.std.specs.Prelude.{◌≡◌, ◌<◌, ℕ, Bool, true, false, nat_eq, if◌then◌else◌, List, [], ◌∷◌, ◌++◌, Option, Some, None, MatchOption, unwrap_or}
+use Rattle.std.specs.Prelude.{◌<◌, ℕ, Bool, true, false, nat_eq, if◌then◌else◌, List, [], ◌∷◌, ◌++◌, Option, Some, None, MatchOption, unwrap_or}
 use Rattle.account.specs.declared.call.Shut.{Shut}
 use Rattle.account.specs.declared.call.Shut.TheVariants as shut
 use Rattle.connbook.specs.declared.answers.AdmitFault.{AdmitFault}
@@ -24,7 +24,7 @@ pub data Fate : Type 0 where
   Received : Receipt → Fate
   Missed : Fate
 
--- An event was told; or, behind the last one, a call hears no more.
+-- An event was told; or a call hears no more: behind the last event, or once it was answered and its slot is let go.
 pub data Step : Type 0 where
   Told : InEvent → Fate → Step
   CutOff : ℕ → Step

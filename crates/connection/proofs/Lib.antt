@@ -1,3 +1,4 @@
 pub mod WrittenSteps
 pub mod Turns
 pub mod Rows
+pub mod CallData

@@ -21,6 +21,7 @@ mod answering;
 mod half;
 mod hired;
 mod intake;
+pub mod laws;
 mod orders;
 mod outlet;
 mod reader;

@@ -28,5 +28,6 @@ pub mod OneText
 pub mod OneRun
 pub mod OneEvents
 pub mod StreamFrames
+pub mod StreamOrder
 pub mod SettingsExistence
 pub mod Existence

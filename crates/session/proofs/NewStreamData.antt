@@ -1,9 +1,8 @@
 -- What a group comes to for the data of a stream that wasn't begun.
-use Rattle.std.proofs.Common.{◌≡◌, ℕ, ◌⊎◌, inl, inr, Bool, true, false, ◌&&◌, ◌||◌, nat_eq, List, [], ◌∷◌, ◌++◌, map, refl, sym, ap, subst, ◌∙◌}
+use Rattle.std.proofs.Common.{◌≡◌, ℕ, ◌⊎◌, inl, inr, Bool, true, false, ◌&&◌, nat_eq, List, [], ◌∷◌, ◌++◌, map, refl, ap, subst, ◌∙◌}
 use Rattle.std.specs.Prelude.{Some, None, ◌==◌, if◌then◌else◌}
 use Rattle.std.specs.List.{list_any}
 use Rattle.std.proofs.lemmas.Bool.{cases_Bool}
-use Rattle.h2frame.specs.declared.error_code.ErrorCode.{ErrorCode}
 use Rattle.h2frame.specs.declared.error_code.ErrorCode.TheVariants.{ProtocolError}
 use Rattle.h2frame.specs.declared.frame.Frame.{Frame}
 use Rattle.h2frame.specs.declared.frame.FrameHead.{FrameHead}
@@ -14,17 +13,17 @@ use Rattle.h2frame.specs.FrameList.{Entry, Whole}
 use Rattle.lists.specs.declared.field.Field.{Field}
 use Rattle.callhead.specs.declared.fault.HeadFault.TheVariants.{Malformed}
 use Rattle.flow.specs.declared.halves.Half.{Half}
-use Rattle.flow.specs.declared.halves.Half.TheVariants.{Opened, Ended, Reset}
+use Rattle.flow.specs.declared.halves.Half.TheVariants.{Opened, Ended}
 use Rattle.flow.specs.declared.halves.HalfVerdict.{HalfVerdict}
 use Rattle.flow.specs.declared.halves.HalfVerdict.TheVariants.{Open, ConnectionError}
-use Rattle.flow.specs.Halves.{Event, Received, Cut, is_headers, verdict, half_after, half_of_new, is_last_of_kind}
+use Rattle.flow.specs.Halves.{Event, Received, Cut, is_headers, verdict}
 use Rattle.session.specs.declared.event.InEvent.{InEvent}
 use Rattle.session.specs.declared.event.InEvent.TheVariants as events
-use Rattle.session.specs.Streams.{after_frame, refusal, data_events, reset_events, window_events, credit_head, credit_verdict, without_increment}
-use Rattle.session.specs.Frames.{fatal, WindowGives, KindGives}
+use Rattle.session.specs.Streams.{after_frame, refusal, data_events, reset_events, credit_head, credit_verdict, without_increment}
+use Rattle.session.specs.Frames.{KindGives}
 use Rattle.session.specs.HeaderBlocks.{Pending, Collects}
 use Rattle.session.specs.Blocks.{HeadGives, BlockGives}
-use Rattle.session.specs.Events.{Situation, Group, Single, Credit, Block, entries_of, GroupGives, is_fatal, IsCalm}
+use Rattle.session.specs.Events.{Situation, Group, Single, Credit, Block, entries_of, GroupGives, IsCalm}
 use Rattle.session.specs.StreamData.{data_behind, data_of, pieces, is_opening}
 use Rattle.session.proofs.HalfSteps.{half_at, IsClosed, step_begun, step_new, IsFew, verdict_unbegun, headers_open}
 use Rattle.session.proofs.StreamPieces.{IsSilent, kind_silent, head_pieces}

@@ -12,10 +12,10 @@ use Rattle.h2frame.specs.FrameList.{Entry, Whole}
 use Rattle.callhead.specs.declared.fault.HeadFault.{HeadFault}
 use Rattle.callhead.specs.declared.fault.HeadFault.TheVariants.{Malformed}
 use Rattle.flow.specs.declared.halves.Half.{Half}
-use Rattle.flow.specs.declared.halves.Half.TheVariants.{Opened, Ended, Reset}
+use Rattle.flow.specs.declared.halves.Half.TheVariants.{Opened, Ended}
 use Rattle.flow.specs.declared.halves.HalfVerdict.{HalfVerdict}
 use Rattle.flow.specs.declared.halves.HalfVerdict.TheVariants.{Open, ConnectionError}
-use Rattle.flow.specs.Halves.{Event, Received, Cut, is_headers, verdict, half_after}
+use Rattle.flow.specs.Halves.{Event, Received, Cut, is_headers, verdict}
 use Rattle.session.specs.declared.event.InEvent.{InEvent}
 use Rattle.session.specs.declared.event.InEvent.TheVariants as events
 use Rattle.session.specs.Streams.{after_frame, refusal, data_events, reset_events, window_events, credit_head, without_increment}
@@ -36,7 +36,7 @@ use Rattle.session.proofs.OpenStreamEnds.{block_of, elsewhere_of, end_here}
 pub data NewEnd (id : ℕ) (new : Situation) (group : Group) (given : List InEvent) : Type 0 where
   Still : half_at new.history id ≡ None → ending_told id given ≡ Unended → list_any (is_opening id) given ≡ false → ((more : List Entry) → ending_of id (entries_of group ++ more) ≡ ending_of id more) → NewEnd id new group given
   Begins : half_at new.history id ≡ Some Opened → ending_told id given ≡ Unended → ((more : List Entry) → ending_of id (entries_of group ++ more) ≡ ending_behind id more) → NewEnd id new group given
-  Ends : ending_told id given ≡ Finished → ((more : List Entry) → ending_of id (entries_of group ++ more) ≡ Finished) → NewEnd id new group given
+  Ends : IsClosed (half_at new.history id) → ending_told id given ≡ Finished → ((more : List Entry) → ending_of id (entries_of group ++ more) ≡ Finished) → NewEnd id new group given
   Untold : IsClosed (half_at new.history id) → list_any (is_opening id) given ≡ false → NewEnd id new group given
 
 stays_new : (id : ℕ) (old new : Situation) (frame : Frame) (given : List InEvent) → ending_told id given ≡ Unended → list_any (is_opening id) given ≡ false → new.history ≡ old.history → half_at old.history id ≡ None → is_headers frame.head.kind ≡ false → NewEnd id new (Single frame) given
@@ -78,7 +78,9 @@ opens_well id new frames block given collects on half told =
   where
     by : (b : Bool) → has end_stream block.head.flags ≡ b → half_at new.history id ≡ Some (if has end_stream block.head.flags then Ended else Opened) → ending_told id given ≡ (if has end_stream block.head.flags then Finished else Unended)
         → ((more : List Entry) → ending_of id (map Whole frames ++ more) ≡ (if has end_stream block.head.flags then Finished else ending_behind id more)) → NewEnd id new (Block frames block) given
-    by true ended half told due = Ends (told ∙ ap (λ (b : Bool). if b then Finished else Unended) ended) (λ more. due more ∙ ap (λ (b : Bool). if b then Finished else ending_behind id more) ended)
+    by true ended half told due =
+        Ends (inl (half ∙ ap (λ (b : Bool). Some (if b then Ended else Opened)) ended)) (told ∙ ap (λ (b : Bool). if b then Finished else Unended) ended)
+        (λ more. due more ∙ ap (λ (b : Bool). if b then Finished else ending_behind id more) ended)
     by false ended half told due =
         Begins (half ∙ ap (λ (b : Bool). Some (if b then Ended else Opened)) ended) (told ∙ ap (λ (b : Bool). if b then Finished else Unended) ended)
         (λ more. due more ∙ ap (λ (b : Bool). if b then Finished else ending_behind id more) ended)

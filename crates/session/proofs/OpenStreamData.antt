@@ -132,13 +132,19 @@ window_open id old new frame given is on at (inr same) =
     ap (λ (h : List Event). half_at h id) (same ∙ ap (λ (v : HalfVerdict). after_frame v frame.head old.history) judged)
     ∙ step_begun id (Received frame.head) old.history Opened on at ∙ ap Some (opened_window frame.head is).1
 
+-- RST_STREAM closes it
+pub reset_closed : (id : ℕ) (old new : Situation) (frame : Frame) → frame.head.kind ≡ RstStream → new.history ≡ after_frame (verdict old.history frame.head) frame.head old.history
+    → nat_eq id frame.head.stream ≡ true → half_at old.history id ≡ Some Opened → IsClosed (half_at new.history id)
+reset_closed id old new frame is same on at =
+    let judged : verdict old.history frame.head ≡ Accept = verdict_begun id old.history frame.head Opened on at ∙ (opened_reset frame.head is).0 in
+    inr (ap (λ (h : List Event). half_at h id) (same ∙ ap (λ (v : HalfVerdict). after_frame v frame.head old.history) judged)
+    ∙ step_begun id (Received frame.head) old.history Opened on at ∙ ap Some (opened_reset frame.head is).1)
+
 reset_open : (id : ℕ) (old new : Situation) (frame : Frame) (given : List InEvent) → frame.head.kind ≡ RstStream → new.history ≡ after_frame (verdict old.history frame.head) frame.head old.history → IsSilent id given
     → nat_eq id frame.head.stream ≡ true → half_at old.history id ≡ Some Opened → OpenNext id new (Single frame) given
 reset_open id old new frame given is same silent on at =
-    let judged : verdict old.history frame.head ≡ Accept = verdict_begun id old.history frame.head Opened on at ∙ (opened_reset frame.head is).0 in
     inr (
-      inr (ap (λ (h : List Event). half_at h id) (same ∙ ap (λ (v : HalfVerdict). after_frame v frame.head old.history) judged)
-          ∙ step_begun id (Received frame.head) old.history Opened on at ∙ ap Some (opened_reset frame.head is).1),
+      reset_closed id old new frame is same on at,
       λ more. here_with id frame more on ∙ ap (λ (k : FrameKind). data_with k frame (data_behind id more)) is ∙ sym silent.0,
     )
 
@@ -167,15 +173,19 @@ single_open Priority id old new frame given is gives on at counts =
 single_open (Unknown code) id old new frame given is gives on at counts =
     stays_open id new frame given (kind_silent id (Unknown code) old.history new.history frame given (λ (e : Unknown code ≡ Data). cc) gives) (still_open id old new gives.1 at) on (λ behind. ap (λ (k : FrameKind). data_with k frame behind) is)
 
-credit_open : (id : ℕ) (old new : Situation) (stream : ℕ) (given : List InEvent) → GroupGives old (Credit stream) given new → nat_eq id stream ≡ true → half_at old.history id ≡ Some Opened → OpenNext id new (Credit stream) given
-credit_open id old new stream given (e, next, same) on at =
+pub credit_closed : (id : ℕ) (old new : Situation) (stream : ℕ) (given : List InEvent) → GroupGives old (Credit stream) given new → nat_eq id stream ≡ true → half_at old.history id ≡ Some Opened → IsClosed (half_at new.history id)
+credit_closed id old new stream given (e, next, same) on at =
     let judged : credit_verdict old.history stream ≡ StreamError ProtocolError = ap without_increment (verdict_begun id old.history (credit_head stream) Opened on at) in
     let after : new.history ≡ Cut stream ∷ (Received (credit_head stream) ∷ old.history) = next ∙ ap (λ (v : HalfVerdict). after_frame v (credit_head stream) old.history) judged in
     let half : half_at new.history id ≡ Some Reset =
     ap (λ (h : List Event). half_at h id) after
     ∙ step_begun id (Cut stream) (Received (credit_head stream) ∷ old.history) Opened on (step_begun id (Received (credit_head stream)) old.history Opened on at) in
+    inr half
+
+credit_open : (id : ℕ) (old new : Situation) (stream : ℕ) (given : List InEvent) → GroupGives old (Credit stream) given new → nat_eq id stream ≡ true → half_at old.history id ≡ Some Opened → OpenNext id new (Credit stream) given
+credit_open id old new stream given (e, next, same) on at =
     let silent : IsSilent id given = silent_same id given _ e (refusal_silent id (credit_verdict old.history stream) stream) in
-    inr (inr half, λ more. ap (λ (b : Bool). if b then [] else data_behind id more) on ∙ sym silent.0)
+    inr (credit_closed id old new stream given (e, next, same) on at, λ more. ap (λ (b : Bool). if b then [] else data_behind id more) on ∙ sym silent.0)
 
 -- HEADERS on an open stream
 pub opened_headers : (head : FrameHead) → head.kind ≡ Headers → (on_begun Opened head ≡ (if has end_stream head.flags then Accept else StreamError ProtocolError)) × (half_after Opened (Received head) ≡ (if has end_stream head.flags then Ended else Opened))
@@ -202,14 +212,18 @@ trailers_closed id head history kind on at =
       λ (e : verdict history head ≡ Open). let wrong : StreamError ProtocolError ≡ Open = sym judged ∙ e in cc,
     )
 
-block_open : (id : ℕ) (old new : Situation) (frames : List Frame) (block : Pending) (given : List InEvent) → GroupGives old (Block frames block) given new → nat_eq id block.head.stream ≡ true → half_at old.history id ≡ Some Opened → OpenNext id new (Block frames block) given
-block_open id old new frames block given (begun, whole, gives) on at =
+-- a header block closes it, and tells nothing of its data
+pub block_closed : (id : ℕ) (old new : Situation) (frames : List Frame) (block : Pending) (given : List InEvent) → GroupGives old (Block frames block) given new → nat_eq id block.head.stream ≡ true → half_at old.history id ≡ Some Opened
+    → IsClosed (half_at new.history id) × IsSilent id given
+block_closed id old new frames block given (begun, whole, gives) on at =
     let closed = trailers_closed id block.head old.history begun.collects.kind on at in
     let told = block_silent id old.kept new.kept block.head (verdict old.history block.head) block.block _ new.history given closed.1 gives in
-    inr (
-      at_next id new.history (after_frame (verdict old.history block.head) block.head old.history) IsClosed told.1 closed.0,
-      λ more. block_behind id frames block more begun.collects ∙ ap (λ (b : Bool). if b then [] else data_behind id more) on ∙ sym told.0.0,
-    )
+    (at_next id new.history (after_frame (verdict old.history block.head) block.head old.history) IsClosed told.1 closed.0, told.0)
+
+block_open : (id : ℕ) (old new : Situation) (frames : List Frame) (block : Pending) (given : List InEvent) → GroupGives old (Block frames block) given new → nat_eq id block.head.stream ≡ true → half_at old.history id ≡ Some Opened → OpenNext id new (Block frames block) given
+block_open id old new frames block given (begun, whole, gives) on at =
+    let told = block_closed id old new frames block given (begun, whole, gives) on at in
+    inr (told.0, λ more. block_behind id frames block more begun.collects ∙ ap (λ (b : Bool). if b then [] else data_behind id more) on ∙ sym told.1.0)
 
 -- DATA count at least the bytes of their content
 abbrev pub IsCounted : Entry → Type 0

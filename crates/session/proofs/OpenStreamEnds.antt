@@ -23,9 +23,9 @@ use Rattle.session.specs.HeaderBlocks.{Pending, Collects, IsContinuation}
 use Rattle.session.specs.Blocks.{FieldsGive, BlockGives}
 use Rattle.session.specs.Events.{Situation, Group, Single, Credit, Block, entries_of, GroupGives, IsCalm}
 use Rattle.session.specs.StreamData.{Ending, Unended, Finished, Aborted, ending_with, ending_behind, ending_of, end_told, first_end, ending_told}
-use Rattle.session.proofs.HalfSteps.{half_at, step_begun, verdict_begun, opened_data, opened_reset, opened_window}
+use Rattle.session.proofs.HalfSteps.{half_at, IsClosed, step_begun, verdict_begun, opened_data, opened_reset, opened_window}
 use Rattle.session.proofs.StreamGroups.{single_next, stream_at, group_elsewhere}
-use Rattle.session.proofs.OpenStreamData.{still_open, window_open, opened_headers}
+use Rattle.session.proofs.OpenStreamData.{still_open, window_open, reset_closed, credit_closed, opened_headers, block_closed}
 use Rattle.session.proofs.NewStreams.{not_calm_end}
 use Rattle.session.proofs.StreamEnds.{told_append, elsewhere_quiet, settings_quiet, ping_quiet}
 
@@ -95,11 +95,11 @@ end_here id head on =
 abbrev pub IsLast : Ending → Type 0
 IsLast e = (behind : Ending) → first_end e behind ≡ e
 
--- no end is told, and the stream is open; or its end is
+-- no end is told, and the stream is open; or its end is, and it is closed
 abbrev pub OpenEnd : ℕ → Situation → Group → List InEvent → Type 0
 OpenEnd id new group given =
     ((ending_told id given ≡ Unended) × (half_at new.history id ≡ Some Opened) × ((more : List Entry) → ending_behind id (entries_of group ++ more) ≡ ending_behind id more))
-    ⊎ ((e : Ending) × IsLast e × (ending_told id given ≡ e) × ((more : List Entry) → ending_behind id (entries_of group ++ more) ≡ e))
+    ⊎ ((e : Ending) × IsLast e × (ending_told id given ≡ e) × IsClosed (half_at new.history id) × ((more : List Entry) → ending_behind id (entries_of group ++ more) ≡ e))
 
 here_with : (id : ℕ) (frame : Frame) (more : List Entry) → nat_eq id frame.head.stream ≡ true → ending_behind id (Whole frame ∷ more) ≡ ending_with frame.head.kind frame (ending_behind id more)
 here_with id frame more on = ap (λ (b : Bool). if b then ending_with frame.head.kind frame (ending_behind id more) else ending_behind id more) on
@@ -122,17 +122,24 @@ data_end id old new frame given is gives on at =
     by : (b : Bool) → has end_stream frame.head.flags ≡ b → ending_told id given ≡ (if has end_stream frame.head.flags then Finished else Unended) → half_at new.history id ≡ Some (if has end_stream frame.head.flags then Ended else Opened)
         → ((more : List Entry) → ending_behind id (Whole frame ∷ more) ≡ (if has end_stream frame.head.flags then Finished else ending_behind id more)) → OpenEnd id new (Single frame) given
     by true ended told half due =
-        inr (Finished, λ behind. refl, told ∙ ap (λ (b : Bool). if b then Finished else Unended) ended, λ more. due more ∙ ap (λ (b : Bool). if b then Finished else ending_behind id more) ended)
+        inr (
+          Finished,
+          λ behind. refl,
+          told ∙ ap (λ (b : Bool). if b then Finished else Unended) ended,
+          inl (half ∙ ap (λ (b : Bool). Some (if b then Ended else Opened)) ended),
+          λ more. due more ∙ ap (λ (b : Bool). if b then Finished else ending_behind id more) ended,
+        )
     by false ended told half due =
         inl (told ∙ ap (λ (b : Bool). if b then Finished else Unended) ended, half ∙ ap (λ (b : Bool). Some (if b then Ended else Opened)) ended, λ more. due more ∙ ap (λ (b : Bool). if b then Finished else ending_behind id more) ended)
 
-reset_end : (id : ℕ) (old new : Situation) (frame : Frame) (given : List InEvent) → frame.head.kind ≡ RstStream → given ≡ reset_events (verdict old.history frame.head) frame → nat_eq id frame.head.stream ≡ true → half_at old.history id ≡ Some Opened → OpenEnd id new (Single frame) given
+reset_end : (id : ℕ) (old new : Situation) (frame : Frame) (given : List InEvent) → frame.head.kind ≡ RstStream → KindGives RstStream old.history frame given new.history → nat_eq id frame.head.stream ≡ true → half_at old.history id ≡ Some Opened → OpenEnd id new (Single frame) given
 reset_end id old new frame given is gives on at =
     let judged : verdict old.history frame.head ≡ Accept = verdict_begun id old.history frame.head Opened on at ∙ (opened_reset frame.head is).0 in
     inr (
       Aborted,
       λ behind. refl,
-      ap (ending_told id) (gives ∙ ap (λ (v : HalfVerdict). reset_events v frame) judged) ∙ ap (λ (b : Bool). first_end (if b then Aborted else Unended) Unended) on,
+      ap (ending_told id) (gives.0 ∙ ap (λ (v : HalfVerdict). reset_events v frame) judged) ∙ ap (λ (b : Bool). first_end (if b then Aborted else Unended) Unended) on,
+      reset_closed id old new frame is gives.1 on at,
       λ more. here_with id frame more on ∙ ap (λ (k : FrameKind). ending_with k frame (ending_behind id more)) is,
     )
 
@@ -147,7 +154,7 @@ window_quiet false id history next frame given judged (e, same) = ap (ending_tol
 single_end : (kind : FrameKind) (id : ℕ) (old new : Situation) (frame : Frame) (given : List InEvent) → frame.head.kind ≡ kind → KindGives kind old.history frame given new.history → nat_eq id frame.head.stream ≡ true → half_at old.history id ≡ Some Opened → OpenEnd id new (Single frame) given
 single_end Data id old new frame given is gives on at = data_end id old new frame given is gives on at
 single_end Headers id old new frame given is gives on at = absurd gives
-single_end RstStream id old new frame given is gives on at = reset_end id old new frame given is gives.0 on at
+single_end RstStream id old new frame given is gives on at = reset_end id old new frame given is gives on at
 single_end WindowUpdate id old new frame given is gives on at =
     stays_unended id new frame given (window_quiet (frame.head.stream == 0) id old.history new.history frame given (verdict_begun id old.history frame.head Opened on at ∙ (opened_window frame.head is).0) gives)
     (window_open id old new frame given is on at (single_next WindowUpdate old.history new.history frame given gives)) on (λ behind. ap (λ (k : FrameKind). ending_with k frame behind) is)
@@ -168,6 +175,7 @@ credit_end id old new stream given (e, next, same) on at =
       Aborted,
       λ behind. refl,
       ap (ending_told id) (e ∙ ap (λ (v : HalfVerdict). refusal v stream) judged) ∙ ap (λ (b : Bool). first_end (if b then Aborted else Unended) Unended) on,
+      credit_closed id old new stream given (e, next, same) on at,
       λ more. ap (λ (b : Bool). if b then Aborted else ending_behind id more) on,
     )
 
@@ -193,6 +201,7 @@ block_end id old new frames block given (begun, whole, gives) calm on at =
       ending_last (has end_stream block.head.flags),
       trailers_told (has end_stream block.head.flags) id old.kept new.kept block.head (verdict old.history block.head) block.block _ new.history given refl on
           (verdict_begun id old.history block.head Opened on at ∙ (opened_headers block.head begun.collects.kind).0) calm gives,
+      (block_closed id old new frames block given (begun, whole, gives) on at).0,
       λ more. block_behind id frames block more begun.collects ∙ ap (λ (b : Bool). if b then (if has end_stream block.head.flags then Finished else Aborted) else ending_behind id more) on,
     )
 

@@ -53,7 +53,7 @@ refusal_elsewhere id Accept stream other = refl
 refusal_elsewhere id Discard stream other = refl
 refusal_elsewhere id (ConnectionError error) stream other = refl
 
-counted_quiet : (id n : ℕ) (event : InEvent) → end_told id event ≡ Unended → IsQuiet id (counted n event)
+pub counted_quiet : (id n : ℕ) (event : InEvent) → end_told id event ≡ Unended → IsQuiet id (counted n event)
 counted_quiet id n event quiet = elim (n == 0) as (λ (b : Bool). IsQuiet id (if b then [] else event ∷ [])) [ true ↦ refl | false ↦ ap (λ (e : Ending). first_end e Unended) quiet ]
 
 data_elsewhere : (id : ℕ) (judged : HalfVerdict) (frame : Frame) → nat_eq id frame.head.stream ≡ false → IsQuiet id (data_events judged frame)

@@ -1,5 +1,5 @@
 -- The frames that count, and what the events of a connection tell of its streams.
-use Rattle.std.proofs.Common.{◌≡◌, ℕ, inl, inr, Bool, true, false, ◌||◌, List, [], ◌∷◌, ◌++◌, refl, sym, ap, subst, ◌∙◌}
+use Rattle.std.proofs.Common.{◌≡◌, ℕ, inl, inr, Bool, true, false, ◌||◌, List, [], ◌++◌, refl, sym, ap, subst, ◌∙◌}
 use Rattle.std.specs.Prelude.{◌⊎◌, flat_map}
 use Rattle.std.specs.List.{list_any}
 use Rattle.std.proofs.lemmas.List.{append-nil, append_cancel_right}
@@ -44,10 +44,10 @@ frames_of bytes given (Read text entries rest close e joined follows) = (
 
 -- ---- the events that end a connection tell nothing of a stream
 
-abbrev IsLast : List InEvent → Type 0
+abbrev pub IsLast : List InEvent → Type 0
 IsLast given = (given ≡ []) ⊎ ((error : ErrorCode) × (given ≡ fatal error))
 
-close_last : (close : Close) (now : Situation) (behind : List Entry) (rest : List ℕ) (last : List InEvent) → Closes close now behind rest last → IsLast last
+pub close_last : (close : Close) (now : Situation) (behind : List Entry) (rest : List ℕ) (last : List InEvent) → Closes close now behind rest last → IsLast last
 close_last Unfinished now behind rest last (partial, ends, e) = inl e
 close_last (Faulty fault) now behind rest last (partial, faulty, e) = inr (fault_error fault, e)
 close_last (Refused frame error) now behind rest last (is, kind, judged, e) = inr (error, e)
@@ -59,7 +59,7 @@ unread_last bytes given (inl (due, e, silent)) = inl silent
 unread_last bytes given (inr (inl (departs, e))) = inr (ProtocolError, e)
 unread_last bytes given (inr (inr (text, entries, rest, e, joined, unsettled, g))) = inr (ProtocolError, g)
 
-last_silent : (id : ℕ) (given : List InEvent) → IsLast given → IsSilent id given
+pub last_silent : (id : ℕ) (given : List InEvent) → IsLast given → IsSilent id given
 last_silent id given (inl e) = silent_same id given [] e (refl, refl)
 last_silent id given (inr (error, e)) = silent_same id given (fatal error) e (refl, refl)
 
@@ -77,12 +77,12 @@ or_before : (a b : Bool) → b ≡ false → (a || b) ≡ true → a ≡ true
 or_before true b none some = refl
 or_before false b none some = absurd (never b some none)
 
-opens_before : (id : ℕ) (given before last : List InEvent) → given ≡ before ++ last → IsLast last → list_any (is_opening id) given ≡ true → list_any (is_opening id) before ≡ true
+pub opens_before : (id : ℕ) (given before last : List InEvent) → given ≡ before ++ last → IsLast last → list_any (is_opening id) given ≡ true → list_any (is_opening id) before ≡ true
 opens_before id given before last e is opens =
     or_before (list_any (is_opening id) before) (list_any (is_opening id) last) (last_silent id last is).1
     (sym (list_any-append (is_opening id) before last) ∙ ap (list_any (is_opening id)) (sym e) ∙ opens)
 
-not_unread : (id : ℕ) (bytes : List ℕ) (given : List InEvent) → IsUnread bytes given → list_any (is_opening id) given ≡ true → ⊥
+pub not_unread : (id : ℕ) (bytes : List ℕ) (given : List InEvent) → IsUnread bytes given → list_any (is_opening id) given ≡ true → ⊥
 not_unread id bytes given unread opens = never (list_any (is_opening id) given) opens (last_silent id given (unread_last bytes given unread)).1
 
 -- ---- the data and the end of a stream

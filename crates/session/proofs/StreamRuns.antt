@@ -41,7 +41,7 @@ all_back : (xs ys : List Entry) → AllByRecursion IsCounted (xs ++ ys) → AllB
 all_back [] ys all = all
 all_back (x ∷ xs) ys all = all_back xs ys all.1
 
-closed_runs : (id : ℕ) (old new : Situation) (groups : List Group) (given : List InEvent) → Runs old groups given new → IsClosed (half_at old.history id) → IsSilent id given
+pub closed_runs : (id : ℕ) (old new : Situation) (groups : List Group) (given : List InEvent) → Runs old groups given new → IsClosed (half_at old.history id) → IsSilent id given
 closed_runs id old new [] given (e, same) closed = silent_same id given [] e (refl, refl)
 closed_runs id old new (group ∷ groups) given (first, others, next, gives, calm, runs, e) closed =
     silent_same id given (first ++ others) e
@@ -56,11 +56,11 @@ open_runs id old new (group ∷ groups) given (first, others, next, gives, calm,
       | inr (closed, due) ↦ ap (λ (b : List ℕ). pieces id first ++ b) (closed_runs id next new groups others runs closed).0 ∙ append-nil (pieces id first) ∙ sym (due (front_of groups))
     ]
 
-later : (id : ℕ) (first others given : List InEvent) → given ≡ first ++ others → list_any (is_opening id) given ≡ true → list_any (is_opening id) first ≡ false → list_any (is_opening id) others ≡ true
+pub later : (id : ℕ) (first others given : List InEvent) → given ≡ first ++ others → list_any (is_opening id) given ≡ true → list_any (is_opening id) first ≡ false → list_any (is_opening id) others ≡ true
 later id first others given e opens none =
     ap (λ (b : Bool). b || list_any (is_opening id) others) (sym none) ∙ sym (list_any-append (is_opening id) first others) ∙ ap (list_any (is_opening id)) (sym e) ∙ opens
 
-never : (b : Bool) → b ≡ true → b ≡ false → ⊥
+pub never : (b : Bool) → b ≡ true → b ≡ false → ⊥
 never true e f = absurd cc
 never false e f = absurd cc
 
@@ -72,7 +72,7 @@ full_runs id old new (group ∷ groups) given (first, others, next, gives, calm,
     ∙ full_runs id next new groups others runs (group_full old next group first gives full)
 
 -- where a stream is told to begin, fewer were begun before than may be
-few_before : (id : ℕ) (old new : Situation) (groups : List Group) (given : List InEvent) → Runs old groups given new → list_any (is_opening id) given ≡ true → IsFew old.history
+pub few_before : (id : ℕ) (old new : Situation) (groups : List Group) (given : List InEvent) → Runs old groups given new → list_any (is_opening id) given ≡ true → IsFew old.history
 few_before id old new groups given runs opens =
     elim (cases_Bool (nat_lt (length (begun old.history)) MAX_STREAMS)) [
       | inl few ↦ few
@@ -127,7 +127,7 @@ open_ends id old new (group ∷ groups) given (first, others, next, gives, calm,
     ap (ending_told id) e ∙ told_append id first others
     ∙ elim (group_open_end id old next group first gives calm at) [
       | inl (quiet, half, due) ↦ ap (λ (b : Ending). first_end b (ending_told id others)) quiet ∙ open_ends id next new groups others runs half ∙ sym (due (front_of groups))
-      | inr (end, last, told, due) ↦ ap (λ (b : Ending). first_end b (ending_told id others)) told ∙ last (ending_told id others) ∙ sym (due (front_of groups))
+      | inr (end, last, told, closed, due) ↦ ap (λ (b : Ending). first_end b (ending_told id others)) told ∙ last (ending_told id others) ∙ sym (due (front_of groups))
     ]
 
 new_ends : (id : ℕ) (old new : Situation) (groups : List Group) (given : List InEvent) → Runs old groups given new → half_at old.history id ≡ None → list_any (is_opening id) given ≡ true → ending_told id given ≡ ending_of id (front_of groups)
@@ -138,7 +138,7 @@ new_ends id old new (group ∷ groups) given (first, others, next, gives, calm, 
       | Still still quiet untold due ↦
           ap (λ (b : Ending). first_end b (ending_told id others)) quiet ∙ new_ends id next new groups others runs still (later id first others given e opens untold) ∙ sym (due (front_of groups))
       | Begins half quiet due ↦ ap (λ (b : Ending). first_end b (ending_told id others)) quiet ∙ open_ends id next new groups others runs half ∙ sym (due (front_of groups))
-      | Ends told due ↦ ap (λ (b : Ending). first_end b (ending_told id others)) told ∙ sym (due (front_of groups))
+      | Ends closed told due ↦ ap (λ (b : Ending). first_end b (ending_told id others)) told ∙ sym (due (front_of groups))
       | Untold closed untold ↦ absurd (never (list_any (is_opening id) others) (later id first others given e opens untold) (closed_runs id next new groups others runs closed).1)
     ]
 

@@ -1,12 +1,12 @@
 //! Laws of a connection's events, for the proofs of callers. None of them does anything.
 
-ghost use Rattle.std.specs.Prelude.{◌≡◌, ◌<◌, ℕ, List, All, ◌++◌, true};
+ghost use Rattle.std.specs.Prelude.{◌≡◌, ◌≢◌, ◌<◌, ℕ, List, [], ◌∷◌, All, ◌++◌, true};
 ghost use Rattle.std.specs.List.{list_any};
 ghost use Rattle.session.specs.declared.event.InEvent.{InEvent as InEventOf};
 ghost use Rattle.h2frame.specs.FrameList.{Entry, Joined};
 ghost use Rattle.session.specs.Events.{Events, Group, GroupGives, IsCalm, Passes, Situation, is_fatal};
 ghost use Rattle.session.specs.Framings.{Framed};
-ghost use Rattle.session.specs.StreamData.{data_of, ending_of, ending_told, is_opening, pieces};
+ghost use Rattle.session.specs.StreamData.{Unended, data_of, end_told, ending_of, ending_told, is_opening, pieces};
 ghost use Rattle.session.specs.CoreStates.{Core, Reached};
 
 /// What a core has answered are the events of the bytes that it was fed.
@@ -36,6 +36,20 @@ pub fn stream_data()
 pub fn stream_end()
     ensures { (bytes : List ℕ) (given : List InEventOf) (entries : List Entry) (id : ℕ) →
         Framed bytes given entries → list_any (is_opening id) given ≡ true → ending_told id given ≡ ending_of id entries }
+{}
+
+/// Before a stream begins, unless its head is malformed, neither data nor an end of it are told.
+pub fn before_opening()
+    ensures { (bytes : List ℕ) (given before : List InEventOf) (event : InEventOf) (after : List InEventOf) (id : ℕ) →
+        Events bytes given → given ≡ before ++ event ∷ after → is_opening id event ≡ true →
+        (pieces id before ≡ []) × (ending_told id before ≡ Unended) }
+{}
+
+/// Behind an end that is told of such a stream no data of it are told.
+pub fn behind_end()
+    ensures { (bytes : List ℕ) (given before : List InEventOf) (event : InEventOf) (after : List InEventOf) (id : ℕ) →
+        Events bytes given → list_any (is_opening id) given ≡ true →
+        given ≡ before ++ event ∷ after → end_told id event ≢ Unended → pieces id after ≡ [] }
 {}
 
 /// The data of a stream by whole groups of frames, whatever stands behind them.

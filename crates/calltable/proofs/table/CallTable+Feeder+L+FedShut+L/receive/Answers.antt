@@ -1,6 +1,5 @@
 use Rattle.std.proofs.Common.{false, refl, rules, sym}
-use Rattle.session.specs.declared.event.InEvent.TheVariants as events
-use Rattle.calltable.specs.Steps.{Told, received}
+use Rattle.calltable.specs.Steps.{received}
 use Rattle.calltable.proofs.KeptLemmas.{kept-absent, kept-row}
 use Rattle.calltable.proofs.StepLemmas.{concerns-data}
 use Rattle.calltable.proofs.table.CallTable+Feeder+L+FedShut+L.receive.Goals as goal

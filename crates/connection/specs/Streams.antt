@@ -1,0 +1,13 @@
+-- What a call was fed, by the frames of its stream (RFC 9113, sections 5.1 and 8.1).
+use mathlib.Core.List.{IsPrefix}
+use Rattle.std.specs.Prelude.{◌≡◌, ℕ, List, Some}
+use Rattle.account.specs.declared.call.Shut.TheVariants as shut
+use Rattle.h2frame.specs.FrameList.{Entry}
+use Rattle.session.specs.StreamData.{Finished, data_of, ending_of}
+use Rattle.calltable.specs.Steps.{Step, fed_by, shut_by}
+
+-- What these steps feed a call begins the data of its stream, by these frames. They end its half only where END_STREAM ended
+-- the stream, and then it was fed all data.
+pub record HasStreamData (id : ℕ) (steps : List Step) (entries : List Entry) : Type 0 where
+  pub front : IsPrefix (fed_by id steps) (data_of id entries)
+  pub whole : shut_by id steps ≡ Some shut.End → (fed_by id steps ≡ data_of id entries) × (ending_of id entries ≡ Finished)
