@@ -12,7 +12,7 @@ use Rattle.outwriter.specs.declared.outbound.Outbound.{Outbound}
 use Rattle.outwriter.specs.declared.stream.OpenStream.{OpenStream}
 use Rattle.outwriter.specs.Calls.{is_fresh, is_served, IsRefused}
 use Rattle.outwriter.specs.Runs.{was_reset}
-use Rattle.outwriter.specs.Credits.{Owed, knows, nothing_owed}
+use Rattle.outwriter.specs.States.{States, knows, nothing_known, over_on}
 use Rattle.outwriter.specs.Histories.{is_stream}
 use Rattle.outwriter.specs.CoreChanges.{Closes}
 use Rattle.outwriter.specs.RunState.{Sets}
@@ -27,8 +27,8 @@ use Rattle.outwriter.proofs.TellSteps.{takes-tells}
 -- ---- tests
 
 pub over-same : (more : List Due) (is_new : ℕ → Bool) (limits : List ℕ) (o new : Outbound) → Takes more is_new limits o new → (id : ℕ)
-    → lookup (nat_eq id) new.over.entries ≡ lookup (nat_eq id) o.over.entries
-over-same more is_new limits o new takes id = cc (takes.over)
+    → over_on new.states id ≡ over_on o.states id
+over-same more is_new limits o new takes = takes.over
 
 -- a test that keeps its no was passed where it is passed
 pub was-true : (b c : Bool) → (b ≡ false → c ≡ false) → c ≡ true → b ≡ true
@@ -58,8 +58,8 @@ module _ (run after : List Step) (o new : Outbound) (streams left : List (ℕ ×
   pub record StaysDue : Type 0 where
     pub refused : (id : ℕ) → is_fresh id run ≡ false → is_served id run ≡ false → is_some (lookup (nat_eq id) others) ≡ true
         → (is_fresh id after ≡ false) × (is_served id after ≡ false) × (is_some (lookup (nat_eq id) more) ≡ true)
-    pub reset : (id : ℕ) → lookup (nat_eq id) streams ≡ None → (is_some (lookup (nat_eq id) others) || knows o.credit id) ≡ true
-        → (lookup (nat_eq id) left ≡ None) × ((is_some (lookup (nat_eq id) more) || knows new.credit id) ≡ true)
+    pub reset : (id : ℕ) → lookup (nat_eq id) streams ≡ None → (is_some (lookup (nat_eq id) others) || knows o.states id) ≡ true
+        → (lookup (nat_eq id) left ≡ None) × ((is_some (lookup (nat_eq id) more) || knows new.states id) ≡ true)
     pub asked : (id : ℕ) (fields : List Field) → IsRefused id fields run → IsRefused id fields after
 
   stays-due : StaysDue → (one : Due) → MayBeDue run o streams others one → MayBeDue after new left more one
@@ -81,7 +81,7 @@ pub serves-same : (run after : List Step) (o new : Outbound) (streams : List (�
     → Serves run o streams others calls marks → Serves after new streams others calls marks
 serves-same run after o new streams others calls marks more limits takes spells fresh served later due s =
     let over = over-same more none_is_new limits o new takes in
-    let knowing : (id : ℕ) → knows new.credit id ≡ knows o.credit id = takes.knows in
+    let knowing : (id : ℕ) → knows new.states id ≡ knows o.states id = takes.knows in
     let still : StaysDue run after o new streams streams others others = record {
       refused = λ id e f g. (fresh id e, served id ∙ f, g);
       reset = λ id e f. (e, ap (λ b. is_some (lookup (nat_eq id) others) || b) (knowing id) ∙ f);
@@ -108,15 +108,15 @@ serves-same run after o new streams others calls marks more limits takes spells 
       unknown = λ id e f. let u = s.unknown id (sym (knowing id) ∙ e) f in (u.0, over id ∙ u.1);
       other = λ id was_reset e. let h = s.other id was_reset e in
           (h.0, λ f. subst (λ (b : Option Bool). IsEnded b (marks_on id marks) []) (sym (over id)) (h.1 (was-true (is_fresh id run) (is_fresh id after) (fresh id) f)));
-      stays = λ id is there none. ended-later (lookup (nat_eq id) o.over.entries) (lookup (nat_eq id) new.over.entries) (was_reset id run) (was_reset id after) (over id) (later.reset id)
+      stays = λ id is there none. ended-later (over_on o.states id) (over_on new.states id) (was_reset id run) (was_reset id after) (over id) (later.reset id)
           (s.stays id (sym (served id) ∙ is) there none);
       early = λ id before e f. later.reset id (s.early id before e (was-true (is_fresh id run) (is_fresh id after) (fresh id) f));
-      reasons = λ id there none known. ended-later (lookup (nat_eq id) o.over.entries) (lookup (nat_eq id) new.over.entries) (has_reason id run) (has_reason id after) (over id) (later.reason id)
+      reasons = λ id there none known. ended-later (over_on o.states id) (over_on new.states id) (has_reason id run) (has_reason id after) (over id) (later.reason id)
           (s.reasons id there none (ap (λ b. is_some (lookup (nat_eq id) others) || b) (sym (knowing id)) ∙ known));
       heard = λ id e there. knowing id ∙ s.heard id (sym (later.opened id) ∙ e) there;
       brought = λ id e. later.opened id ∙ s.brought id (sym (knowing id) ∙ e);
       uncalled = λ id was_reset e there.
-          uncalled-same run after id (lookup (nat_eq id) o.over.entries) (lookup (nat_eq id) new.over.entries) (marks_on id marks) (marks_on id marks) (later.refused id) (over id) refl
+          uncalled-same run after id (over_on o.states id) (over_on new.states id) (marks_on id marks) (marks_on id marks) (later.refused id) (over id) refl
           (s.uncalled id was_reset (sym (knowing id) ∙ e) there);
     }
 
@@ -124,13 +124,13 @@ serves-same run after o new streams others calls marks more limits takes spells 
 
 -- nothing was told, and no stream is known
 pub serves-nothing : (o : Outbound) (streams : List (ℕ × OpenStream)) (others : List (ℕ × Bool)) (calls : List (ℕ × List OutItem))
-    → SpellsOf [] o [] → o.due.items ≡ [] → o.credit ≡ nothing_owed → o.over.entries ≡ [] → streams ≡ [] → others ≡ [] → calls ≡ []
+    → SpellsOf [] o [] → o.due.items ≡ [] → o.states ≡ nothing_known → streams ≡ [] → others ≡ [] → calls ≡ []
     → Serves [] o streams others calls []
-serves-nothing o streams others calls spells due credit over no_streams no_others no_calls =
+serves-nothing o streams others calls spells due states no_streams no_others no_calls =
     let none : (id : ℕ) (stream : OpenStream) → lookup (nat_eq id) streams ≡ Some stream → ⊥ =
     λ id stream e. not-some (lookup (nat_eq id) streams) stream (ap (λ (l : List (ℕ × OpenStream)). lookup (nat_eq id) l) no_streams) e in
     let empty : (k : ℕ) → k < length calls → ⊥ = λ k within. omega (arith, within, ap length no_calls) in
-    let unknown : (id : ℕ) → knows o.credit id ≡ true → ⊥ = λ id e. true≢false (sym e ∙ ap (λ (c : Owed). knows c id) credit) in
+    let unknown : (id : ℕ) → knows o.states id ≡ true → ⊥ = λ id e. true≢false (sym e ∙ ap (λ (s : States). knows s id) states) in
     record {
       spells = spells;
       exact = λ id stream e. absurd (none id stream e);
@@ -145,12 +145,12 @@ serves-nothing o streams others calls spells due credit over no_streams no_other
       credited = λ id e. absurd (unknown id e);
       served = λ id e f. absurd (true≢false (sym e));
       due = subst (All (MayBeDue [] o streams others)) (sym due) (All-nil (MayBeDue [] o streams others));
-      unknown = λ id e f. (refl, ap (λ (l : List (ℕ × Bool)). lookup (nat_eq id) l) over);
+      unknown = λ id e f. (refl, ap (λ (s : States). over_on s id) states);
       other = λ id was_reset e. absurd (not-some (lookup (nat_eq id) others) was_reset (ap (λ (l : List (ℕ × Bool)). lookup (nat_eq id) l) no_others) e);
       stays = λ id is there none. absurd (true≢false (sym is));
       early = λ id before e f. absurd (not-some (lookup (nat_eq id) others) before (ap (λ (l : List (ℕ × Bool)). lookup (nat_eq id) l) no_others) e);
-      reasons = λ id there none known. absurd (true≢false (sym known ∙ ap (λ b. b || knows o.credit id) (ap (λ (l : List (ℕ × Bool)). is_some (lookup (nat_eq id) l)) no_others)
-          ∙ ap (λ (c : Owed). knows c id) credit));
+      reasons = λ id there none known. absurd (true≢false (sym known ∙ ap (λ b. b || knows o.states id) (ap (λ (l : List (ℕ × Bool)). is_some (lookup (nat_eq id) l)) no_others)
+          ∙ ap (λ (s : States). knows s id) states));
       heard = λ id e there. absurd (true≢false (sym e));
       brought = λ id e. absurd (unknown id e);
       uncalled = λ id was_reset e there. absurd (not-some (lookup (nat_eq id) others) was_reset (ap (λ (l : List (ℕ × Bool)). lookup (nat_eq id) l) no_others) there);
@@ -160,7 +160,7 @@ serves-nothing o streams others calls spells due credit over no_streams no_other
 
 -- it is among the others then: nothing was told of it but perhaps a reset
 pub serves-other : (run : List Step) (o : Outbound) (streams : List (ℕ × OpenStream)) (others more : List (ℕ × Bool)) (calls : List (ℕ × List OutItem))
-    (marks : List (ℕ × Mark)) (id : ℕ) (value : Bool) → knows o.credit id ≡ false → Sets others id value more → (is_fresh id run ≡ true → was_reset id run ≡ true) → has_reason id run ≡ true
+    (marks : List (ℕ × Mark)) (id : ℕ) (value : Bool) → knows o.states id ≡ false → Sets others id value more → (is_fresh id run ≡ true → was_reset id run ≡ true) → has_reason id run ≡ true
     → Serves run o streams others calls marks → Serves run o streams more calls marks
 serves-other run o streams others more calls marks id value isnt sets reset reason s = record {
   spells = s.spells;
@@ -177,7 +177,7 @@ serves-other run o streams others more calls marks id value isnt sets reset reas
   served = s.served;
   due = all-due run run o o streams streams others more (record {
     refused = λ k e f g. (e, f, still k g);
-    reset = λ k e f. (e, either (is_some (lookup (nat_eq k) others)) (knows o.credit k) (is_some (lookup (nat_eq k) more)) (knows o.credit k) (still k) (λ x. x) f);
+    reset = λ k e f. (e, either (is_some (lookup (nat_eq k) others)) (knows o.states k) (is_some (lookup (nat_eq k) more)) (knows o.states k) (still k) (λ x. x) f);
     asked = λ k fields is. is;
   }) o.due.items s.due;
   unknown = λ k e f. s.unknown k e (was-none k f);
@@ -212,27 +212,27 @@ serves-other run o streams others more calls marks id value isnt sets reset reas
         by (Some stream) p = absurd (true≢false (sym (s.known id stream p) ∙ isnt))
 
     ended-here : (found : Option Bool) → lookup (nat_eq id) others ≡ found → is_fresh id run ≡ true
-        → IsEnded (lookup (nat_eq id) o.over.entries) (marks_on id marks) []
-    ended-here None p fresh = none-ended (lookup (nat_eq id) o.over.entries) (marks_on id marks) (s.unknown id isnt p).0
+        → IsEnded (over_on o.states id) (marks_on id marks) []
+    ended-here None p fresh = none-ended (over_on o.states id) (marks_on id marks) (s.unknown id isnt p).0
     ended-here (Some was_reset) p fresh = (s.other id was_reset p).1 fresh
 
     other : (k : ℕ) (was_reset : Bool) → lookup (nat_eq k) more ≡ Some was_reset
-        → (lookup (nat_eq k) streams ≡ None) × (is_fresh k run ≡ true → IsEnded (lookup (nat_eq k) o.over.entries) (marks_on k marks) [])
+        → (lookup (nat_eq k) streams ≡ None) × (is_fresh k run ≡ true → IsEnded (over_on o.states k) (marks_on k marks) [])
     other k was_reset e = by (k == id) refl
       where
-        by : (b : Bool) → (k == id) ≡ b → (lookup (nat_eq k) streams ≡ None) × (is_fresh k run ≡ true → IsEnded (lookup (nat_eq k) o.over.entries) (marks_on k marks) [])
-        by true p = subst (λ (n : ℕ). (lookup (nat_eq n) streams ≡ None) × (is_fresh n run ≡ true → IsEnded (lookup (nat_eq n) o.over.entries) (marks_on n marks) []))
+        by : (b : Bool) → (k == id) ≡ b → (lookup (nat_eq k) streams ≡ None) × (is_fresh k run ≡ true → IsEnded (over_on o.states k) (marks_on k marks) [])
+        by true p = subst (λ (n : ℕ). (lookup (nat_eq n) streams ≡ None) × (is_fresh n run ≡ true → IsEnded (over_on o.states n) (marks_on n marks) []))
             (sym (eqb-true k id p)) (closed, ended-here (lookup (nat_eq id) others) refl)
         by false p = s.other k was_reset (sym (sets k ∙ ap (λ b. if b then Some value else lookup (nat_eq k) others) p) ∙ e)
 
-    reasons : (k : ℕ) → is_stream k ≡ true → lookup (nat_eq k) streams ≡ None → (is_some (lookup (nat_eq k) more) || knows o.credit k) ≡ true
-        → (is_some (lookup (nat_eq k) o.over.entries) ≡ true) ⊎ (has_reason k run ≡ true)
+    reasons : (k : ℕ) → is_stream k ≡ true → lookup (nat_eq k) streams ≡ None → (is_some (lookup (nat_eq k) more) || knows o.states k) ≡ true
+        → (is_some (over_on o.states k) ≡ true) ⊎ (has_reason k run ≡ true)
     reasons k there none known = by (k == id) refl
       where
-        by : (b : Bool) → (k == id) ≡ b → (is_some (lookup (nat_eq k) o.over.entries) ≡ true) ⊎ (has_reason k run ≡ true)
+        by : (b : Bool) → (k == id) ≡ b → (is_some (over_on o.states k) ≡ true) ⊎ (has_reason k run ≡ true)
         by true p = inr (subst (λ (n : ℕ). has_reason n run ≡ true) (sym (eqb-true k id p)) reason)
         by false p = s.reasons k there none
-            (sym (ap (λ (l : Option Bool). is_some l || knows o.credit k) (sets k ∙ ap (λ b. if b then Some value else lookup (nat_eq k) others) p)) ∙ known)
+            (sym (ap (λ (l : Option Bool). is_some l || knows o.states k) (sets k ∙ ap (λ b. if b then Some value else lookup (nat_eq k) others) p)) ∙ known)
 
     early : (k : ℕ) (before : Bool) → lookup (nat_eq k) more ≡ Some before → is_fresh k run ≡ true → was_reset k run ≡ true
     early k before e = by (k == id) refl
@@ -241,11 +241,11 @@ serves-other run o streams others more calls marks id value isnt sets reset reas
         by true p = subst (λ (n : ℕ). is_fresh n run ≡ true → was_reset n run ≡ true) (sym (eqb-true k id p)) reset
         by false p = s.early k before (sym (sets k ∙ ap (λ b. if b then Some value else lookup (nat_eq k) others) p) ∙ e)
 
-    uncalled : (k : ℕ) (was_reset : Bool) → knows o.credit k ≡ false → lookup (nat_eq k) more ≡ Some was_reset
-        → IsUncalled k run (lookup (nat_eq k) o.over.entries) (marks_on k marks)
+    uncalled : (k : ℕ) (was_reset : Bool) → knows o.states k ≡ false → lookup (nat_eq k) more ≡ Some was_reset
+        → IsUncalled k run (over_on o.states k) (marks_on k marks)
     uncalled k was_reset e there = by (lookup (nat_eq k) others) refl
       where
-        by : (found : Option Bool) → lookup (nat_eq k) others ≡ found → IsUncalled k run (lookup (nat_eq k) o.over.entries) (marks_on k marks)
+        by : (found : Option Bool) → lookup (nat_eq k) others ≡ found → IsUncalled k run (over_on o.states k) (marks_on k marks)
         by None p = let u = s.unknown k e p in (λ still. u.0, inl u.0)
         by (Some before) p = s.uncalled k before e p
 
@@ -297,8 +297,8 @@ serves-closed run o streams left others calls marks id closes reset reason s = r
         by true p = closes k ∙ ap (λ b. if b then None else lookup (nat_eq k) streams) p
         by false p = closes k ∙ ap (λ b. if b then None else lookup (nat_eq k) streams) p ∙ e
 
-    reasons : (k : ℕ) → is_stream k ≡ true → lookup (nat_eq k) left ≡ None → (is_some (lookup (nat_eq k) others) || knows o.credit k) ≡ true
-        → (found : Option OpenStream) → lookup (nat_eq k) streams ≡ found → (is_some (lookup (nat_eq k) o.over.entries) ≡ true) ⊎ (has_reason k run ≡ true)
+    reasons : (k : ℕ) → is_stream k ≡ true → lookup (nat_eq k) left ≡ None → (is_some (lookup (nat_eq k) others) || knows o.states k) ≡ true
+        → (found : Option OpenStream) → lookup (nat_eq k) streams ≡ found → (is_some (over_on o.states k) ≡ true) ⊎ (has_reason k run ≡ true)
     reasons k there none known None p = s.reasons k there p known
     reasons k there none known (Some stream) p = inr (by (k == id) refl)
       where
@@ -307,7 +307,7 @@ serves-closed run o streams left others calls marks id closes reset reason s = r
         by false q = absurd (not-some (lookup (nat_eq k) streams) stream (sym (closes k ∙ ap (λ b. if b then None else lookup (nat_eq k) streams) q) ∙ none) p)
 
     stays : (k : ℕ) → is_served k run ≡ true → is_stream k ≡ true → lookup (nat_eq k) left ≡ None → (found : Option OpenStream) → lookup (nat_eq k) streams ≡ found
-        → (is_some (lookup (nat_eq k) o.over.entries) ≡ true) ⊎ (was_reset k run ≡ true)
+        → (is_some (over_on o.states k) ≡ true) ⊎ (was_reset k run ≡ true)
     stays k is there none None p = s.stays k is there p
     stays k is there none (Some stream) p = inr (by (k == id) refl)
       where
@@ -317,7 +317,7 @@ serves-closed run o streams left others calls marks id closes reset reason s = r
 
     ended : (k : ℕ) (d : ℕ × List OutItem) → k < length calls → is_served (get_or calls k d).0 run ≡ true
         → (found : Option OpenStream) → lookup (nat_eq (get_or calls k d).0) streams ≡ found
-        → IsEnded (lookup (nat_eq (get_or calls k d).0) o.over.entries) (marks_on (get_or calls k d).0 marks) (get_or calls k d).1
+        → IsEnded (over_on o.states (get_or calls k d).0) (marks_on (get_or calls k d).0 marks) (get_or calls k d).1
     ended k d within is None p = s.ended k d within p is
     ended k d within is (Some stream) p =
         let begins = open-begins run o streams others calls marks s k d stream within p is in

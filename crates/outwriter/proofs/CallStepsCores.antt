@@ -9,7 +9,7 @@ use Rattle.outwriter.specs.declared.outbound.Outbound.{Outbound}
 use Rattle.outwriter.specs.declared.stream.OpenStream.{OpenStream}
 use Rattle.outwriter.specs.Calls.{TellFronts, is_closed}
 use Rattle.outwriter.specs.Cores.{Serving, calls, ServesOn}
-use Rattle.outwriter.specs.Credits.{Owed, is_reset, nothing_owed}
+use Rattle.outwriter.specs.States.{States, is_reset, nothing_known}
 use Rattle.outwriter.specs.CoreChanges.{KeepsServing, KeepsHeeds, Prepares}
 use Rattle.outwriter.specs.Parts.{Mark}
 use Rattle.outwriter.specs.CallState.{Serves}
@@ -48,11 +48,11 @@ module _ {L In Out Shut : Type 0} (got : Out → List OutItem) (old new : OutCor
 -- a core of which nothing is kept
 module _ {L In Out Shut : Type 0} (got : Out → List OutItem) (core : OutCore L In Out Shut) where
   pub serving-nothing : core.closed ≡ false → core.senders.items ≡ [] → core.streams.entries ≡ [] → core.others.entries ≡ []
-      → SpellsOf [] core.outbound [] → core.outbound.due.items ≡ [] → core.outbound.credit ≡ nothing_owed → core.outbound.over.entries ≡ []
+      → SpellsOf [] core.outbound [] → core.outbound.due.items ≡ [] → core.outbound.states ≡ nothing_known
       → Serving got [] core
-  serving-nothing closed senders streams others spells due credit over =
+  serving-nothing closed senders streams others spells due states =
       let none : calls got core.senders.items ≡ [] = ap (calls got) senders in
-      let serves = serves-nothing core.outbound core.streams.entries core.others.entries (calls got core.senders.items) spells due credit over streams others none in
+      let serves = serves-nothing core.outbound core.streams.entries core.others.entries (calls got core.senders.items) spells due states streams others none in
       record {
         fronts = fronts_of [] core.outbound core.streams.entries core.others.entries (calls got core.senders.items) [] serves;
         returned = returned_of [] core.outbound core.streams.entries core.others.entries (calls got core.senders.items) [] serves;
@@ -63,7 +63,7 @@ module _ {L In Out Shut : Type 0} (got : Out → List OutItem) (core : OutCore L
           serves,
           (
             λ id there e. absurd (true≢false (sym e)),
-            λ id there. ap (λ (owed : Owed). is_reset owed id) credit,
+            λ id there. ap (λ (s : States). is_reset s id) states,
             λ id is. refl,
             λ id there e. absurd (true≢false (sym e)),
           ),

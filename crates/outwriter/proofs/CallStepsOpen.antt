@@ -11,7 +11,7 @@ use Rattle.outwriter.specs.declared.outbound.Outbound.{Outbound}
 use Rattle.outwriter.specs.declared.stream.OpenStream.{OpenStream}
 use Rattle.outwriter.specs.Calls.{is_fresh, is_served}
 use Rattle.outwriter.specs.Runs.{was_reset, is_opened}
-use Rattle.outwriter.specs.Credits.{knows}
+use Rattle.outwriter.specs.States.{knows, over_on}
 use Rattle.outwriter.specs.Histories.{is_stream}
 use Rattle.outwriter.specs.CoreChanges.{Prepares, is_new_call, becomes_open, stream_at}
 use Rattle.outwriter.specs.Parts.{Mark, marks_on, spelled}
@@ -83,11 +83,11 @@ module _ (run : List Step) (o new : Outbound) (streams left : List (ℕ × OpenS
   more = calls ++ (id, []) ∷ []
 
   -- what becomes open wasn't known
-  was-unknown : becomes_open o others id ≡ true → (is_stream id ≡ true) × (knows o.credit id ≡ false) × (lookup (nat_eq id) others ≡ None)
+  was-unknown : becomes_open o others id ≡ true → (is_stream id ≡ true) × (knows o.states id ≡ false) × (lookup (nat_eq id) others ≡ None)
   was-unknown e =
       let a = both (is_new_call o id) (is_none (lookup (nat_eq id) others)) e in
-      let b = both (is_stream id) (not (knows o.credit id)) a.0 in
-      (b.0, was-not (knows o.credit id) b.1, was-none (lookup (nat_eq id) others) a.1)
+      let b = both (is_stream id) (not (knows o.states id)) a.0 in
+      (b.0, was-not (knows o.states id) b.1, was-none (lookup (nat_eq id) others) a.1)
 
   -- an open stream is the new one, or it was open
   opened-by : (k : ℕ) (found : Option OpenStream) → lookup (nat_eq k) left ≡ found
@@ -110,7 +110,7 @@ module _ (run : List Step) (o new : Outbound) (streams left : List (ℕ × OpenS
       by (inr h) = h
 
   -- and a stream that is none of a call, or is among the others, doesn't become open
-  still-none : (k : ℕ) → lookup (nat_eq k) streams ≡ None → (is_some (lookup (nat_eq k) others) || knows o.credit k) ≡ true → lookup (nat_eq k) left ≡ None
+  still-none : (k : ℕ) → lookup (nat_eq k) streams ≡ None → (is_some (lookup (nat_eq k) others) || knows o.states k) ≡ true → lookup (nat_eq k) left ≡ None
   still-none k e known = by (lookup (nat_eq k) left) refl
     where
       by : (found : Option OpenStream) → lookup (nat_eq k) left ≡ found → found ≡ None
@@ -120,49 +120,49 @@ module _ (run : List Step) (o new : Outbound) (streams left : List (ℕ × OpenS
           cases : ((becomes_open o others id ≡ true) × (k ≡ id) × (Some stream ≡ Some (stream_at (length calls)))) ⊎ (lookup (nat_eq k) streams ≡ Some stream) → Some stream ≡ None
           cases (inl h) =
               let u = was-unknown h.0 in
-              let none : (is_some (lookup (nat_eq id) others) || knows o.credit id) ≡ false =
-              ap (λ (l : Option Bool). is_some l || knows o.credit id) u.2 ∙ u.1 in
-              let here : (is_some (lookup (nat_eq id) others) || knows o.credit id) ≡ true =
-              subst (λ n. (is_some (lookup (nat_eq n) others) || knows o.credit n) ≡ true) h.1 known in
+              let none : (is_some (lookup (nat_eq id) others) || knows o.states id) ≡ false =
+              ap (λ (l : Option Bool). is_some l || knows o.states id) u.2 ∙ u.1 in
+              let here : (is_some (lookup (nat_eq id) others) || knows o.states id) ≡ true =
+              subst (λ n. (is_some (lookup (nat_eq n) others) || knows o.states n) ≡ true) h.1 known in
               absurd (true≢false (sym here ∙ none))
           cases (inr h) = absurd (not-some (lookup (nat_eq k) streams) stream e h)
 
-  over : (k : ℕ) → lookup (nat_eq k) new.over.entries ≡ lookup (nat_eq k) o.over.entries
+  over : (k : ℕ) → over_on new.states k ≡ over_on o.states k
   over = over-same [] (λ other. is_new_call o id && (other == id)) [] o new p.takes
 
-  knows-more : (k : ℕ) → knows o.credit k ≡ true → knows new.credit k ≡ true
+  knows-more : (k : ℕ) → knows o.states k ≡ true → knows new.states k ≡ true
   knows-more k e = p.takes.knows k ∙ by (is_new_call o id && (k == id))
     where
-      by : (b : Bool) → (b || knows o.credit k) ≡ true
+      by : (b : Bool) → (b || knows o.states k) ≡ true
       by true = refl
       by false = e
 
-  knew : (k : ℕ) → knows new.credit k ≡ false → knows o.credit k ≡ false
-  knew k e = by (knows o.credit k) refl
+  knew : (k : ℕ) → knows new.states k ≡ false → knows o.states k ≡ false
+  knew k e = by (knows o.states k) refl
     where
-      by : (b : Bool) → knows o.credit k ≡ b → b ≡ false
+      by : (b : Bool) → knows o.states k ≡ b → b ≡ false
       by true f = absurd (true≢false (sym (knows-more k f) ∙ e))
       by false f = refl
 
-  known-by : (k : ℕ) → knows new.credit k ≡ true → ((k == id) ≡ true) ⊎ (knows o.credit k ≡ true)
+  known-by : (k : ℕ) → knows new.states k ≡ true → ((k == id) ≡ true) ⊎ (knows o.states k ≡ true)
   known-by k e = by (is_new_call o id && (k == id)) refl
     where
-      by : (b : Bool) → (is_new_call o id && (k == id)) ≡ b → ((k == id) ≡ true) ⊎ (knows o.credit k ≡ true)
+      by : (b : Bool) → (is_new_call o id && (k == id)) ≡ b → ((k == id) ≡ true) ⊎ (knows o.states k ≡ true)
       by true q = inl (both (is_new_call o id) (k == id) q).1
-      by false q = inr (sym (p.takes.knows k ∙ ap (λ b. b || knows o.credit k) q) ∙ e)
+      by false q = inr (sym (p.takes.knows k ∙ ap (λ b. b || knows o.states k) q) ∙ e)
 
-  opened-at : (k : ℕ) → ((k == id) ≡ true) ⊎ (knows o.credit k ≡ true) → is_opened k after ≡ true
+  opened-at : (k : ℕ) → ((k == id) ≡ true) ⊎ (knows o.states k ≡ true) → is_opened k after ≡ true
   opened-at k (inl here) = ap (λ b. b || is_opened k run) here
   opened-at k (inr old) = opened-taken run (order.Open id tt) k (s.brought k old)
 
-  knows-here : is_stream id ≡ true → knows new.credit id ≡ true
-  knows-here e = by (knows o.credit id) refl
+  knows-here : is_stream id ≡ true → knows new.states id ≡ true
+  knows-here e = by (knows o.states id) refl
     where
-      by : (b : Bool) → knows o.credit id ≡ b → knows new.credit id ≡ true
+      by : (b : Bool) → knows o.states id ≡ b → knows new.states id ≡ true
       by true f = knows-more id f
       by false f =
-          let is_new : is_new_call o id ≡ true = ap (λ b. b && not (knows o.credit id)) e ∙ ap not f in
-          p.takes.knows id ∙ ap (λ b. (b && (id == id)) || knows o.credit id) is_new ∙ ap (λ b. b || knows o.credit id) (eq-eqb id id refl)
+          let is_new : is_new_call o id ≡ true = ap (λ b. b && not (knows o.states id)) e ∙ ap not f in
+          p.takes.knows id ∙ ap (λ b. (b && (id == id)) || knows o.states id) is_new ∙ ap (λ b. b || knows o.states id) (eq-eqb id id refl)
 
   exact : (k : ℕ) (stream : OpenStream) → lookup (nat_eq k) left ≡ Some stream → IsExact k stream more (marks_on k marks)
   exact k stream e = by (opened-by k (Some stream) e)
@@ -203,20 +203,20 @@ module _ (run : List Step) (o new : Outbound) (streams left : List (ℕ × OpenS
       by (inr h) = before k stream h
 
   -- of a call whose stream was known before, nothing was told, but perhaps a reset
-  new-ended : is_fresh id run ≡ true → IsEnded (lookup (nat_eq id) o.over.entries) (marks_on id marks) []
-  new-ended fresh = by (knows o.credit id) refl
+  new-ended : is_fresh id run ≡ true → IsEnded (over_on o.states id) (marks_on id marks) []
+  new-ended fresh = by (knows o.states id) refl
     where
-      unknown : (found : Option Bool) → lookup (nat_eq id) others ≡ found → knows o.credit id ≡ false → IsEnded (lookup (nat_eq id) o.over.entries) (marks_on id marks) []
-      unknown None q f = none-ended (lookup (nat_eq id) o.over.entries) (marks_on id marks) (s.unknown id f q).0
+      unknown : (found : Option Bool) → lookup (nat_eq id) others ≡ found → knows o.states id ≡ false → IsEnded (over_on o.states id) (marks_on id marks) []
+      unknown None q f = none-ended (over_on o.states id) (marks_on id marks) (s.unknown id f q).0
       unknown (Some was_reset) q f = (s.other id was_reset q).1 fresh
 
-      by : (b : Bool) → knows o.credit id ≡ b → IsEnded (lookup (nat_eq id) o.over.entries) (marks_on id marks) []
+      by : (b : Bool) → knows o.states id ≡ b → IsEnded (over_on o.states id) (marks_on id marks) []
       by true f = absurd (true≢false (sym fresh ∙ s.credited id f))
       by false f = unknown (lookup (nat_eq id) others) refl f
 
   abbrev Ended : ℕ × List OutItem → Type 0
   Ended c = lookup (nat_eq c.0) left ≡ None → is_served c.0 (Taken (order.Open id tt) ∷ run) ≡ true
-      → IsEnded (lookup (nat_eq c.0) new.over.entries) (marks_on c.0 marks) c.1
+      → IsEnded (over_on new.states c.0) (marks_on c.0 marks) c.1
 
   old-served : (k : ℕ) → is_fresh k run ≡ false → is_served k (Taken (order.Open id tt) ∷ run) ≡ true → is_served k run ≡ true
   old-served k e f = by (k == id) refl
@@ -265,87 +265,87 @@ module _ (run : List Step) (o new : Outbound) (streams left : List (ℕ × OpenS
           cases : ((becomes_open o others id ≡ true) × (k ≡ id) × (Some stream ≡ Some (stream_at (length calls)))) ⊎ (lookup (nat_eq k) streams ≡ Some stream) → Some stream ≡ None
           cases (inl h) =
               let u = was-unknown h.0 in
-              let knows-it : knows o.credit id ≡ true = subst (λ n. knows o.credit n ≡ true) h.1 (s.served k is (ap is_stream h.1 ∙ u.0)) in
+              let knows-it : knows o.states id ≡ true = subst (λ n. knows o.states n ≡ true) h.1 (s.served k is (ap is_stream h.1 ∙ u.0)) in
               absurd (true≢false (sym knows-it ∙ u.1))
           cases (inr h) = absurd (not-some (lookup (nat_eq k) streams) stream e h)
 
-  credited : (k : ℕ) → knows new.credit k ≡ true → is_fresh k after ≡ false
+  credited : (k : ℕ) → knows new.states k ≡ true → is_fresh k after ≡ false
   credited k e = by (known-by k e)
     where
-      by : ((k == id) ≡ true) ⊎ (knows o.credit k ≡ true) → is_fresh k (Taken (order.Open id tt) ∷ run) ≡ false
+      by : ((k == id) ≡ true) ⊎ (knows o.states k ≡ true) → is_fresh k (Taken (order.Open id tt) ∷ run) ≡ false
       by (inl q) = fresh-here run id k q
       by (inr q) = fresh-less run id k (s.credited k q)
 
-  served : (k : ℕ) → is_served k after ≡ true → is_stream k ≡ true → knows new.credit k ≡ true
+  served : (k : ℕ) → is_served k after ≡ true → is_stream k ≡ true → knows new.states k ≡ true
   served k is there = by (k == id) refl
     where
-      by : (b : Bool) → (k == id) ≡ b → knows new.credit k ≡ true
+      by : (b : Bool) → (k == id) ≡ b → knows new.states k ≡ true
       by true q =
           let same : k ≡ id = eqb-true k id q in
-          ap (λ n. knows new.credit n) same ∙ knows-here (ap is_stream (sym same) ∙ there)
+          ap (λ n. knows new.states n) same ∙ knows-here (ap is_stream (sym same) ∙ there)
       by false q = knows-more k (s.served k (sym (served-else run id k q) ∙ is) there)
 
   -- a stream of which nothing was heard is open now
-  opens-new : is_stream id ≡ true → knows o.credit id ≡ false → lookup (nat_eq id) others ≡ None → lookup (nat_eq id) left ≡ None → ⊥
+  opens-new : is_stream id ≡ true → knows o.states id ≡ false → lookup (nat_eq id) others ≡ None → lookup (nat_eq id) left ≡ None → ⊥
   opens-new there unheard none closed =
       let new_one : becomes_open o others id ≡ true =
-      ap (λ b. (is_stream id && not (knows o.credit id)) && b) (ap is_none none) ∙ ap (λ b. (b && not (knows o.credit id)) && true) there ∙ ap (λ b. (true && not b) && true) unheard in
+      ap (λ b. (is_stream id && not (knows o.states id)) && b) (ap is_none none) ∙ ap (λ b. (b && not (knows o.states id)) && true) there ∙ ap (λ b. (true && not b) && true) unheard in
       not-some (lookup (nat_eq id) left) (stream_at (length calls)) closed
       (p.opens id ∙ ap (λ b. if b && (id == id) then Some (stream_at (length calls)) else lookup (nat_eq id) streams) new_one
       ∙ ap (λ b. if b then Some (stream_at (length calls)) else lookup (nat_eq id) streams) (eq-eqb id id refl))
 
   opens-unless : is_fresh id run ≡ true → is_stream id ≡ true → lookup (nat_eq id) left ≡ None → (found : Option Bool) → lookup (nat_eq id) others ≡ found → was_reset id run ≡ true
   opens-unless fresh there none (Some before) e = s.early id before e fresh
-  opens-unless fresh there none None e = absurd (opens-new there (unheard (knows o.credit id) refl) e none)
+  opens-unless fresh there none None e = absurd (opens-new there (unheard (knows o.states id) refl) e none)
     where
-      unheard : (b : Bool) → knows o.credit id ≡ b → b ≡ false
+      unheard : (b : Bool) → knows o.states id ≡ b → b ≡ false
       unheard true e = absurd (true≢false (sym fresh ∙ s.credited id e))
       unheard false e = refl
 
   -- what isn't open was heard of before
-  heard-before : (k : ℕ) → is_stream k ≡ true → lookup (nat_eq k) left ≡ None → (is_some (lookup (nat_eq k) others) || knows new.credit k) ≡ true
-      → (found : Option Bool) → lookup (nat_eq k) others ≡ found → (b : Bool) → knows o.credit k ≡ b → (is_some found || b) ≡ true
+  heard-before : (k : ℕ) → is_stream k ≡ true → lookup (nat_eq k) left ≡ None → (is_some (lookup (nat_eq k) others) || knows new.states k) ≡ true
+      → (found : Option Bool) → lookup (nat_eq k) others ≡ found → (b : Bool) → knows o.states k ≡ b → (is_some found || b) ≡ true
   heard-before k there none known (Some before) e b f = refl
   heard-before k there none known None e true f = refl
-  heard-before k there none known None e false f = cases (known-by k (sym (ap (λ (l : Option Bool). is_some l || knows new.credit k) e) ∙ known))
+  heard-before k there none known None e false f = cases (known-by k (sym (ap (λ (l : Option Bool). is_some l || knows new.states k) e) ∙ known))
     where
-      cases : ((k == id) ≡ true) ⊎ (knows o.credit k ≡ true) → false ≡ true
+      cases : ((k == id) ≡ true) ⊎ (knows o.states k ≡ true) → false ≡ true
       cases (inl here) =
           let same : k ≡ id = eqb-true k id here in
-          absurd (opens-new (ap is_stream (sym same) ∙ there) (ap (λ n. knows o.credit n) (sym same) ∙ f) (subst (λ n. lookup (nat_eq n) others ≡ None) same e)
+          absurd (opens-new (ap is_stream (sym same) ∙ there) (ap (λ n. knows o.states n) (sym same) ∙ f) (subst (λ n. lookup (nat_eq n) others ≡ None) same e)
           (subst (λ n. lookup (nat_eq n) left ≡ None) same none))
       cases (inr old) = sym f ∙ old
 
-  reasons : (k : ℕ) → is_stream k ≡ true → lookup (nat_eq k) left ≡ None → (is_some (lookup (nat_eq k) others) || knows new.credit k) ≡ true
-      → (is_some (lookup (nat_eq k) new.over.entries) ≡ true) ⊎ (has_reason k after ≡ true)
+  reasons : (k : ℕ) → is_stream k ≡ true → lookup (nat_eq k) left ≡ None → (is_some (lookup (nat_eq k) others) || knows new.states k) ≡ true
+      → (is_some (over_on new.states k) ≡ true) ⊎ (has_reason k after ≡ true)
   reasons k there none known =
-      ended-later (lookup (nat_eq k) o.over.entries) (lookup (nat_eq k) new.over.entries) (has_reason k run) (has_reason k after) (over k) (reason-taken run (order.Open id tt) k)
-      (s.reasons k there (less-none k none) (heard-before k there none known (lookup (nat_eq k) others) refl (knows o.credit k) refl))
+      ended-later (over_on o.states k) (over_on new.states k) (has_reason k run) (has_reason k after) (over k) (reason-taken run (order.Open id tt) k)
+      (s.reasons k there (less-none k none) (heard-before k there none known (lookup (nat_eq k) others) refl (knows o.states k) refl))
 
-  heard : (k : ℕ) → is_opened k after ≡ true → is_stream k ≡ true → knows new.credit k ≡ true
+  heard : (k : ℕ) → is_opened k after ≡ true → is_stream k ≡ true → knows new.states k ≡ true
   heard k is there = by (k == id) refl
     where
-      by : (b : Bool) → (k == id) ≡ b → knows new.credit k ≡ true
-      by true q = let same : k ≡ id = eqb-true k id q in ap (λ n. knows new.credit n) same ∙ knows-here (ap is_stream (sym same) ∙ there)
+      by : (b : Bool) → (k == id) ≡ b → knows new.states k ≡ true
+      by true q = let same : k ≡ id = eqb-true k id q in ap (λ n. knows new.states n) same ∙ knows-here (ap is_stream (sym same) ∙ there)
       by false q = knows-more k (s.heard k (sym (ap (λ b. b || is_opened k run) q) ∙ is) there)
 
   stays : (k : ℕ) → is_served k after ≡ true → is_stream k ≡ true → lookup (nat_eq k) left ≡ None → (b : Bool) → (k == id) ≡ b
-      → (is_some (lookup (nat_eq k) new.over.entries) ≡ true) ⊎ (was_reset k after ≡ true)
+      → (is_some (over_on new.states k) ≡ true) ⊎ (was_reset k after ≡ true)
   stays k is there none true q =
       let same : k ≡ id = eqb-true k id q in
       let fresh : is_fresh id run ≡ true = ap (λ n. is_fresh n run) (sym same) ∙ sym (served-here run id k q) ∙ is in
       inr (subst (λ n. was_reset n after ≡ true) (sym same) (reset-taken run (order.Open id tt) id
       (opens-unless fresh (ap is_stream (sym same) ∙ there) (subst (λ n. lookup (nat_eq n) left ≡ None) same none) (lookup (nat_eq id) others) refl)))
   stays k is there none false q =
-      ended-later (lookup (nat_eq k) o.over.entries) (lookup (nat_eq k) new.over.entries) (was_reset k run) (was_reset k after) (over k) (reset-taken run (order.Open id tt) k)
+      ended-later (over_on o.states k) (over_on new.states k) (was_reset k run) (was_reset k after) (over k) (reset-taken run (order.Open id tt) k)
       (s.stays k (sym (served-else run id k q) ∙ is) there (less-none k none))
 
   pub serves-opened : Serves (Taken (order.Open id tt) ∷ run) new left others (calls ++ (id, []) ∷ []) marks
   serves-opened = record {
     spells = taken-tells [] (λ other. is_new_call o id && (other == id)) o new (order.Open id tt) p.takes run marks s.spells;
     exact = exact;
-    not_over = λ k stream e. over k ∙ of-open (λ n. lookup (nat_eq n) o.over.entries ≡ None) (λ here. let u = was-unknown here in (s.unknown id u.1 u.2).1) s.not_over k stream e;
-    known = of-open (λ n. knows new.credit n ≡ true) (λ here. knows-here (was-unknown here).0) (λ n stream e. knows-more n (s.known n stream e));
+    not_over = λ k stream e. over k ∙ of-open (λ n. over_on o.states n ≡ None) (λ here. let u = was-unknown here in (s.unknown id u.1 u.2).1) s.not_over k stream e;
+    known = of-open (λ n. knows new.states n ≡ true) (λ here. knows-here (was-unknown here).0) (λ n stream e. knows-more n (s.known n stream e));
     numbered = of-open (λ n. is_stream n ≡ true) (λ here. (was-unknown here).0) s.numbered;
     ended = ended;
     returned = λ k items is e.
@@ -359,12 +359,12 @@ module _ (run : List Step) (o new : Outbound) (streams left : List (ℕ × OpenS
     served = served;
     due = subst (All (MayBeDue after new left others)) (sym (p.takes.due ∙ append-nil o.due.items)) (all-due run after o new streams left others others (record {
       refused = λ k e f g. (fresh-less run id k e, unserved run id k e f, g);
-      reset = λ k e f. (still-none k e f, either (is_some (lookup (nat_eq k) others)) (knows o.credit k) (is_some (lookup (nat_eq k) others)) (knows new.credit k) (λ x. x) (knows-more k) f);
+      reset = λ k e f. (still-none k e f, either (is_some (lookup (nat_eq k) others)) (knows o.states k) (is_some (lookup (nat_eq k) others)) (knows new.states k) (λ x. x) (knows-more k) f);
       asked = refused-taken run (order.Open id tt);
     }) o.due.items s.due);
     unknown = λ k e f. let u = s.unknown k (knew k e) f in (u.0, over k ∙ u.1);
     other = λ k was_reset e. let h = s.other k was_reset e in (
-      still-none k h.0 (ap (λ (l : Option Bool). is_some l || knows o.credit k) e),
+      still-none k h.0 (ap (λ (l : Option Bool). is_some l || knows o.states k) e),
       λ f. subst (λ (b : Option Bool). IsEnded b (marks_on k marks) []) (sym (over k)) (h.1 (was-true (is_fresh k run) (is_fresh k after) (fresh-less run id k) f)),
     );
     stays = λ k is there none. stays k is there none (k == id) refl;
@@ -373,6 +373,6 @@ module _ (run : List Step) (o new : Outbound) (streams left : List (ℕ × OpenS
     heard = heard;
     brought = λ k e. opened-at k (known-by k e);
     uncalled = λ k was_reset e there.
-        uncalled-same run after k (lookup (nat_eq k) o.over.entries) (lookup (nat_eq k) new.over.entries) (marks_on k marks) (marks_on k marks) (refused-taken run (order.Open id tt) k) (over k) refl
+        uncalled-same run after k (over_on o.states k) (over_on new.states k) (marks_on k marks) (marks_on k marks) (refused-taken run (order.Open id tt) k) (over k) refl
         (s.uncalled k was_reset (knew k e) there);
   }

@@ -16,7 +16,7 @@ use Rattle.outwriter.specs.declared.stream.OpenStream.{OpenStream}
 use Rattle.outwriter.specs.Calls.{is_fresh, is_served, is_called_off, is_dropped}
 use Rattle.outwriter.specs.Runs.{was_reset, is_opened, opens_stream}
 use Rattle.outwriter.specs.CoreChanges.{Shuts, due_reset, may_write}
-use Rattle.outwriter.specs.Credits.{Owed, is_reset, knows}
+use Rattle.outwriter.specs.States.{States, SameEnds, is_reset, knows, over_on}
 use Rattle.outwriter.specs.Histories.{is_stream}
 use Rattle.outwriter.specs.RunState.{Sets}
 use Rattle.outwriter.specs.Parts.{Mark}
@@ -34,7 +34,7 @@ takes-nothing o = record {
   due = sym (append-nil o.due.items);
   knows = λ id. refl;
   resets = λ id. refl;
-  over = refl;
+  over = λ k. refl;
   begun = refl;
   block = refl;
   encoder = refl;
@@ -51,7 +51,7 @@ module _ (run : List Step) (o new : Outbound) (streams : List (ℕ × OpenStream
 
   -- a Reset is due, of a stream that isn't open any more
   pub serves-reset : (id : ℕ) (code : ErrorCode) (is_due : Bool)
-      → (is_due ≡ true → (lookup (nat_eq id) streams ≡ None) × ((is_some (lookup (nat_eq id) others) || knows o.credit id) ≡ true))
+      → (is_due ≡ true → (lookup (nat_eq id) streams ≡ None) × ((is_some (lookup (nat_eq id) others) || knows o.states id) ≡ true))
       → Takes (if is_due then due_kind.Reset id code ∷ [] else []) none_is_new [] o new
       → Serves run o streams others calls marks → Serves run new streams others calls marks
   serves-reset id code is_due may takes s =
@@ -86,19 +86,20 @@ reason-here run id code false =
 
 -- ---- a Reset
 
--- what is owed counts only for which streams are a call's
-serves-credit : (run : List Step) (o : Outbound) (owed : Owed) (streams : List (ℕ × OpenStream)) (others : List (ℕ × Bool)) (calls : List (ℕ × List OutItem)) (marks : List (ℕ × Mark))
-    → ((k : ℕ) → knows owed k ≡ knows o.credit k) → Serves run o streams others calls marks → Serves run (record o { credit = owed }) streams others calls marks
-serves-credit run o owed streams others calls marks known s =
-    serves-shown run run o (record o { credit = owed }) streams streams others calls marks marks (λ k. refl) (λ k. refl) (later-none run) s.spells [] refl known
-    (λ k. refl) (λ k. refl) (λ k. refl) s
+-- of how the streams stand it counts which are a call's, and whose end was written
+serves-states : (run : List Step) (o : Outbound) (states : States) (streams : List (ℕ × OpenStream)) (others : List (ℕ × Bool)) (calls : List (ℕ × List OutItem)) (marks : List (ℕ × Mark))
+    → ((k : ℕ) → knows states k ≡ knows o.states k) → SameEnds o.states states → Serves run o streams others calls marks
+    → Serves run (record o { states = states }) streams others calls marks
+serves-states run o states streams others calls marks known ends s =
+    serves-shown run run o (record o { states = states }) streams streams others calls marks marks (λ k. refl) (λ k. refl) (later-none run) s.spells [] refl known
+    ends (λ k. refl) (λ k. refl) s
 
 -- It closes its stream; RST_STREAM is due then.
 pub serves-ended : (run : List Step) (o new : Outbound) (streams left : List (ℕ × OpenStream)) (others more : List (ℕ × Bool)) (calls : List (ℕ × List OutItem)) (marks : List (ℕ × Mark))
-    (id : ℕ) (code : ErrorCode) (written : Bool) → Takes (due_reset o id code written) none_is_new [] (record o { credit = new.credit }) new
-    → ((k : ℕ) → knows new.credit k ≡ knows o.credit k) → Shuts id o streams left others more
+    (id : ℕ) (code : ErrorCode) (written : Bool) → Takes (due_reset o id code written) none_is_new [] (record o { states = new.states }) new
+    → ((k : ℕ) → knows new.states k ≡ knows o.states k) → SameEnds o.states new.states → Shuts id o streams left others more
     → Serves run o streams others calls marks → Serves (Taken (order.Reset id code written) ∷ run) new left more calls marks
-serves-ended run o new streams left others more calls marks id code written takes known shuts s =
+serves-ended run o new streams left others more calls marks id code written takes known ends shuts s =
     serves-reset after mid new left more calls marks id code (written && may_write o id) (λ e. closed (and_true written (may_write o id) e).1 shuts) waits (shut shuts)
   where
     after : List Step
@@ -108,14 +109,14 @@ serves-ended run o new streams left others more calls marks id code written take
     mid = record new { due = o.due }
 
     waits : Takes (due_reset o id code written) none_is_new [] mid new
-    waits = record { due = takes.due; knows = λ k. refl; resets = λ k. refl; over = refl; begun = refl; block = refl; encoder = refl }
+    waits = record { due = takes.due; knows = λ k. refl; resets = λ k. refl; over = λ k. refl; begun = refl; block = refl; encoder = refl }
 
     told : Serves after mid streams others calls marks
-    told = serves-told run (record o { credit = new.credit }) mid streams others calls marks id code written
+    told = serves-told run (record o { states = new.states }) mid streams others calls marks id code written
         (record { due = sym (append-nil o.due.items); knows = λ k. refl; resets = λ k. refl; over = takes.over; begun = takes.begun; block = takes.block; encoder = takes.encoder })
-        (serves-credit run o new.credit streams others calls marks known s)
+        (serves-states run o new.states streams others calls marks known ends s)
 
-    none : (found : Option OpenStream) → lookup (nat_eq id) streams ≡ found → knows o.credit id ≡ false → found ≡ None
+    none : (found : Option OpenStream) → lookup (nat_eq id) streams ≡ found → knows o.states id ≡ false → found ≡ None
     none None e unknown = refl
     none (Some stream) e unknown = absurd (true≢false (sym (s.known id stream e) ∙ unknown))
 
@@ -133,15 +134,15 @@ serves-ended run o new streams left others more calls marks id code written take
     number false b c e = e
 
     closed : may_write o id ≡ true → Shuts id o streams left others more
-        → (lookup (nat_eq id) left ≡ None) × ((is_some (lookup (nat_eq id) more) || knows mid.credit id) ≡ true)
-    closed may (inl h) = absurd (true≢false (sym (number (is_stream id) (not (is_some (lookup (nat_eq id) o.over.entries))) (not (is_reset o.credit id)) may) ∙ h.0))
+        → (lookup (nat_eq id) left ≡ None) × ((is_some (lookup (nat_eq id) more) || knows mid.states id) ≡ true)
+    closed may (inl h) = absurd (true≢false (sym (number (is_stream id) (not (is_some (over_on o.states id))) (not (is_reset o.states id)) may) ∙ h.0))
     closed may (inr (inl h)) = (
       h.1 id ∙ ap (λ b. if b then None else lookup (nat_eq id) streams) (eq-eqb id id refl),
-      or-true (is_some (lookup (nat_eq id) more)) (knows mid.credit id) (known id ∙ h.0),
+      or-true (is_some (lookup (nat_eq id) more)) (knows mid.states id) (known id ∙ h.0),
     )
     closed may (inr (inr h)) = (
       ap (λ (l : List (ℕ × OpenStream)). lookup (nat_eq id) l) h.1 ∙ none (lookup (nat_eq id) streams) refl h.0,
-      ap (λ (x : Option Bool). is_some x || knows mid.credit id) (h.2 id ∙ ap (λ b. if b then Some true else lookup (nat_eq id) others) (eq-eqb id id refl)),
+      ap (λ (x : Option Bool). is_some x || knows mid.states id) (h.2 id ∙ ap (λ b. if b then Some true else lookup (nat_eq id) others) (eq-eqb id id refl)),
     )
 
 -- ---- a Refuse
@@ -162,7 +163,7 @@ module _ (run : List Step) (o : Outbound) (streams : List (ℕ × OpenStream)) (
       (taken-tells [] none_is_new o o (order.Refuse id fields) (takes-nothing o) run marks s.spells) (fresh-less run id fields) (λ k. refl) (later-taken run (order.Refuse id fields) (λ k. refl))
       (All-nil (MayBeDue (Taken (order.Refuse id fields) ∷ run) o streams others)) s
 
-  pub serves-refused : (new : Outbound) (more : List (ℕ × Bool)) → is_stream id ≡ true → knows o.credit id ≡ false → Sets others id false more
+  pub serves-refused : (new : Outbound) (more : List (ℕ × Bool)) → is_stream id ≡ true → knows o.states id ≡ false → Sets others id false more
       → Takes (due_kind.Refuse id fields ∷ []) none_is_new [] o new
       → Serves run o streams others calls marks → Serves (Taken (order.Refuse id fields) ∷ run) new streams more calls marks
   serves-refused new more there isnt sets takes s =

@@ -14,7 +14,7 @@ use Rattle.outwriter.specs.declared.blocks.HeaderBlock.{HeaderBlock}
 use Rattle.outwriter.specs.declared.outbound.Outbound.{Outbound}
 use Rattle.outwriter.specs.declared.stream.OpenStream.{OpenStream}
 use Rattle.outwriter.specs.Calls.{is_served, IsOther, TellFronts, TellOthers, TellReturned}
-use Rattle.outwriter.specs.Credits.{knows}
+use Rattle.outwriter.specs.States.{knows}
 use Rattle.outwriter.specs.Parts.{Mark, Fields, End, Reset, end_mark, marks_on, spelled, IsFrontOf, IsPart}
 use Rattle.outwriter.specs.CallState.{Serves, bytes_marks}
 use Rattle.outwriter.specs.Steps.{Step}
@@ -161,10 +161,10 @@ others_of run o streams others calls marks s id unopened =
           (subst (IsOther id run) (ap (marks_on id) spells.5 ∙ marks-append id told rest) (at (lookup (nat_eq id) others) refl)),
     )
   where
-    unknown : (b : Bool) → knows o.credit id ≡ b → b ≡ false
+    unknown : (b : Bool) → knows o.states id ≡ b → b ≡ false
     unknown true e = absurd (true≢false (sym (s.brought id e) ∙ unopened))
     unknown false e = refl
 
     at : (found : Option Bool) → lookup (nat_eq id) others ≡ found → IsOther id run (marks_on id marks)
-    at None e = inl (s.unknown id (unknown (knows o.credit id) refl) e).0
-    at (Some was_reset) e = (s.uncalled id was_reset (unknown (knows o.credit id) refl) e).1
+    at None e = inl (s.unknown id (unknown (knows o.states id) refl) e).0
+    at (Some was_reset) e = (s.uncalled id was_reset (unknown (knows o.states id) refl) e).1

@@ -19,6 +19,7 @@ use Rattle.outwriter.specs.CallState.{IsEnded, IsExact, Serves, bytes_marks}
 use Rattle.outwriter.specs.Releases.{PlaceIs, with_place, IsAt, MovedTo, Releases, HasEnded}
 use Rattle.outwriter.specs.Runs.{granted_by, was_reset}
 use Rattle.outwriter.specs.RunState.{MirrorsOf, GoesOn}
+use Rattle.outwriter.specs.States.{over_on}
 use Rattle.outwriter.specs.Steps.{Step, Returned}
 use Rattle.outwriter.specs.StreamLooks.{Shown, shown, shows}
 use Rattle.outwriter.specs.ToldByNow.{SpellsOf}
@@ -36,15 +37,11 @@ mirrors-returned run o id items m = record {
   begins = m.begins;
   goes = m.goes;
   windows_follow = m.windows_follow;
-  is_over = m.is_over;
   answers = m.answers;
   goes_on = same-block run (Returned id items ∷ run) o.block refl m.goes_on;
   not_reset = m.not_reset;
   credits = λ k. omega (arith, m.credits k, sum_by-cons (granted_by k) (Returned id items) run);
-  silent = m.silent;
-  resets = m.resets;
-  owes = m.owes;
-  no_stream_0 = m.no_stream_0;
+  stand = record { over = m.stand.over; silent = m.stand.silent; resets = m.stand.resets; owes = m.stand.owes; no_stream_0 = m.stand.no_stream_0 };
 }
 
 pub goes-returned : (o new : Outbound) (id : ℕ) (items : List OutItem) → new ≡ o → GoesOn (Returned id items) o new
@@ -226,7 +223,7 @@ module _ (run : List Step) (o : Outbound) (streams left : List (ℕ × OpenStrea
   of-call P each k d lt = let c = source place all now t k d lt in subst P (sym c.1) (each (from k) d c.0)
 
   abbrev Ended : ℕ × List OutItem → Type 0
-  Ended c = lookup (nat_eq c.0) left ≡ None → is_served c.0 run ≡ true → IsEnded (lookup (nat_eq c.0) o.over.entries) (marks_on c.0 marks) c.1
+  Ended c = lookup (nat_eq c.0) left ≡ None → is_served c.0 run ≡ true → IsEnded (over_on o.states c.0) (marks_on c.0 marks) c.1
 
   apart : (i j : ℕ) (d : ℕ × List OutItem) → i < length now → j < length now → i ≢ j → (get_or now i d).0 ≡ (get_or now j d).0 → is_served (get_or now i d).0 run ≡ false
   apart i j d first second differ same =
@@ -236,16 +233,16 @@ module _ (run : List Step) (o : Outbound) (streams left : List (ℕ × OpenStrea
       ∙ s.apart (from i) (from j) d a.0 b.0 (apart-still place all now t i j first second differ)
       (ap (λ (c : ℕ × List OutItem). c.0) (sym a.1) ∙ same ∙ ap (λ (c : ℕ × List OutItem). c.0) b.1)
 
-  taken-ended : is_served id run ≡ true → IsEnded (lookup (nat_eq id) o.over.entries) (marks_on id marks) items
+  taken-ended : is_served id run ≡ true → IsEnded (over_on o.states id) (marks_on id marks) items
   taken-ended served =
-      let P : ℕ × List OutItem → Type 0 = λ c. lookup (nat_eq c.0) streams ≡ None → is_served c.0 run ≡ true → IsEnded (lookup (nat_eq c.0) o.over.entries) (marks_on c.0 marks) c.1 in
+      let P : ℕ × List OutItem → Type 0 = λ c. lookup (nat_eq c.0) streams ≡ None → is_served c.0 run ≡ true → IsEnded (over_on o.states c.0) (marks_on c.0 marks) c.1 in
       subst P (is (0, [])) (s.ended place (0, []) t.within) none served
 
   returned : (k : ℕ) (got : List OutItem) → IsReturned k got (Returned id items ∷ run) → is_served k run ≡ true
-      → (lookup (nat_eq k) left ≡ None) × IsEnded (lookup (nat_eq k) o.over.entries) (marks_on k marks) got
+      → (lookup (nat_eq k) left ≡ None) × IsEnded (over_on o.states k) (marks_on k marks) got
   returned k got (inl (same, given)) served =
-      subst (λ n. (lookup (nat_eq n) left ≡ None) × IsEnded (lookup (nat_eq n) o.over.entries) (marks_on n marks) got) (sym same)
-      (subst (λ (l : List OutItem). (lookup (nat_eq id) left ≡ None) × IsEnded (lookup (nat_eq id) o.over.entries) (marks_on id marks) l) (sym given)
+      subst (λ n. (lookup (nat_eq n) left ≡ None) × IsEnded (over_on o.states n) (marks_on n marks) got) (sym same)
+      (subst (λ (l : List OutItem). (lookup (nat_eq id) left ≡ None) × IsEnded (over_on o.states id) (marks_on id marks) l) (sym given)
       (f.closed id none, taken-ended (ap (λ n. is_served n run) (sym same) ∙ served)))
   returned k got (inr before) served = let h = s.returned k got before served in (f.closed k h.0, h.1)
 
@@ -394,6 +391,6 @@ module _ {L In Out Shut : Type 0} (got : Out → List OutItem) where
   pub has-ended : (core : OutCore L In Out Shut) (id : ℕ) → lookup (nat_eq id) core.streams.entries ≡ None → HasEnded got id core
   has-ended core id none run reached s alive there served = by ((s.serves alive).1.stays id served there none)
     where
-      by : (is_some (lookup (nat_eq id) core.outbound.over.entries) ≡ true) ⊎ (was_reset id run ≡ true) → (is_over id run ≡ true) ⊎ (was_reset id run ≡ true)
-      by (inl over) = inl (sym (reached.0.is_over id).0 ∙ over)
+      by : (is_some (over_on core.outbound.states id) ≡ true) ⊎ (was_reset id run ≡ true) → (is_over id run ≡ true) ⊎ (was_reset id run ≡ true)
+      by (inl over) = inl (sym (reached.0.stand.over id).0 ∙ over)
       by (inr reset) = inr reset

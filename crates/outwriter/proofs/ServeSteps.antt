@@ -12,7 +12,7 @@ use Rattle.outwriter.specs.declared.outbound.Outbound.{Outbound}
 use Rattle.outwriter.specs.declared.stream.OpenStream.{OpenStream}
 use Rattle.outwriter.specs.Calls.{is_fresh, is_served}
 use Rattle.outwriter.specs.Runs.{was_reset}
-use Rattle.outwriter.specs.Credits.{knows}
+use Rattle.outwriter.specs.States.{knows, over_on}
 use Rattle.outwriter.specs.Histories.{is_stream}
 use Rattle.outwriter.specs.Parts.{Mark, marks_on, on_stream, spelled}
 use Rattle.outwriter.specs.StreamLooks.{Shown, shown, shows}
@@ -79,8 +79,8 @@ pub record Change (run next : List Step) (o after : Outbound) (streams left : Li
   pub later : Later run next
   pub spells : SpellsOf next after told
   pub fewer_due : (front : List Due) × (o.due.items ≡ front ++ after.due.items)
-  pub same_knows : (id : ℕ) → knows after.credit id ≡ knows o.credit id
-  pub same_over : (id : ℕ) → is_changed id ≡ false → lookup (nat_eq id) after.over.entries ≡ lookup (nat_eq id) o.over.entries
+  pub same_knows : (id : ℕ) → knows after.states id ≡ knows o.states id
+  pub same_over : (id : ℕ) → is_changed id ≡ false → over_on after.states id ≡ over_on o.states id
   pub same_shown : (id : ℕ) → is_changed id ≡ false → shows left id ≡ shows streams id
   pub same_marks : (id : ℕ) → is_changed id ≡ false → marks_on id told ≡ marks_on id marks
   pub same_calls : (k : ℕ) (d : ℕ × List OutItem) → k < length calls → is_changed (get_or calls k d).0 ≡ false → get_or now k d ≡ get_or calls k d
@@ -88,19 +88,19 @@ pub record Change (run next : List Step) (o after : Outbound) (streams left : Li
   pub numbers : (k : ℕ) (d : ℕ × List OutItem) → k < length calls → (get_or now k d).0 ≡ (get_or calls k d).0
   pub closed : (id : ℕ) → lookup (nat_eq id) streams ≡ None → lookup (nat_eq id) left ≡ None
   pub exact : (id : ℕ) (stream : OpenStream) → is_changed id ≡ true → lookup (nat_eq id) left ≡ Some stream → IsExact id stream now (marks_on id told)
-  pub not_over : (id : ℕ) (stream : OpenStream) → is_changed id ≡ true → lookup (nat_eq id) left ≡ Some stream → lookup (nat_eq id) after.over.entries ≡ None
+  pub not_over : (id : ℕ) (stream : OpenStream) → is_changed id ≡ true → lookup (nat_eq id) left ≡ Some stream → over_on after.states id ≡ None
   pub ended : (k : ℕ) (d : ℕ × List OutItem) → k < length calls → is_changed (get_or calls k d).0 ≡ true → lookup (nat_eq (get_or calls k d).0) left ≡ None
       → is_served (get_or calls k d).0 run ≡ true
-      → IsEnded (lookup (nat_eq (get_or calls k d).0) after.over.entries) (marks_on (get_or calls k d).0 told) (get_or now k d).1
+      → IsEnded (over_on after.states (get_or calls k d).0) (marks_on (get_or calls k d).0 told) (get_or now k d).1
   pub returned : (id : ℕ) (items : List OutItem) → is_changed id ≡ true → lookup (nat_eq id) streams ≡ None → is_served id run ≡ true
-      → IsEnded (lookup (nat_eq id) o.over.entries) (marks_on id marks) items → IsEnded (lookup (nat_eq id) after.over.entries) (marks_on id told) items
-  pub unknown : (id : ℕ) → is_changed id ≡ true → knows o.credit id ≡ false → lookup (nat_eq id) others ≡ None
-      → (marks_on id told ≡ []) × (lookup (nat_eq id) after.over.entries ≡ None)
+      → IsEnded (over_on o.states id) (marks_on id marks) items → IsEnded (over_on after.states id) (marks_on id told) items
+  pub unknown : (id : ℕ) → is_changed id ≡ true → knows o.states id ≡ false → lookup (nat_eq id) others ≡ None
+      → (marks_on id told ≡ []) × (over_on after.states id ≡ None)
   pub other : (id : ℕ) (was_reset : Bool) → is_changed id ≡ true → lookup (nat_eq id) others ≡ Some was_reset → is_fresh id run ≡ true
-      → IsEnded (lookup (nat_eq id) after.over.entries) (marks_on id told) []
-  pub stays : (id : ℕ) → is_changed id ≡ true → lookup (nat_eq id) left ≡ None → is_some (lookup (nat_eq id) after.over.entries) ≡ true
-  pub uncalled : (id : ℕ) (was_reset : Bool) → is_changed id ≡ true → knows o.credit id ≡ false → lookup (nat_eq id) others ≡ Some was_reset
-      → IsUncalled id next (lookup (nat_eq id) after.over.entries) (marks_on id told)
+      → IsEnded (over_on after.states id) (marks_on id told) []
+  pub stays : (id : ℕ) → is_changed id ≡ true → lookup (nat_eq id) left ≡ None → is_some (over_on after.states id) ≡ true
+  pub uncalled : (id : ℕ) (was_reset : Bool) → is_changed id ≡ true → knows o.states id ≡ false → lookup (nat_eq id) others ≡ Some was_reset
+      → IsUncalled id next (over_on after.states id) (marks_on id told)
 
 exact-same : (id : ℕ) (a b : OpenStream) (calls now : List (ℕ × List OutItem)) (told after : List Mark) → a.place ≡ b.place → a.in_hand ≡ b.in_hand
     → length now ≡ length calls → after ≡ told → ((d : ℕ × List OutItem) → get_or now a.place d ≡ get_or calls a.place d)
@@ -131,7 +131,7 @@ All-weaker P Q list f all k d lt = f (get_or list k d) (all k d lt)
 
 due-same : (run next : List Step) (o after : Outbound) (streams left : List (ℕ × OpenStream)) (others : List (ℕ × Bool))
     → Later run next → ((id : ℕ) → is_fresh id next ≡ is_fresh id run) → ((id : ℕ) → is_served id next ≡ is_served id run)
-    → ((id : ℕ) → knows after.credit id ≡ knows o.credit id) → ((id : ℕ) → lookup (nat_eq id) streams ≡ None → lookup (nat_eq id) left ≡ None)
+    → ((id : ℕ) → knows after.states id ≡ knows o.states id) → ((id : ℕ) → lookup (nat_eq id) streams ≡ None → lookup (nat_eq id) left ≡ None)
     → (one : Due) → MayBeDue run o streams others one → MayBeDue next after left others one
 due-same run next o after streams left others later fresh served known closed (due_kind.Refuse id fields) m = (fresh id ∙ m.0, served id ∙ m.1, m.2, later.refused id fields m.3)
 due-same run next o after streams left others later fresh served known closed (due_kind.Reset id code) m =
@@ -182,7 +182,7 @@ serves-changed run next o after streams left others calls now marks told is_chan
     within k lt = omega (arith, lt, c.same_length)
 
     Ended : ℕ → ℕ × List OutItem → ℕ → Type 0
-    Ended k d n = lookup (nat_eq n) left ≡ None → is_served n next ≡ true → IsEnded (lookup (nat_eq n) after.over.entries) (marks_on n told) (get_or now k d).1
+    Ended k d n = lookup (nat_eq n) left ≡ None → is_served n next ≡ true → IsEnded (over_on after.states n) (marks_on n told) (get_or now k d).1
 
     exact-by : (id : ℕ) (stream : OpenStream) → lookup (nat_eq id) left ≡ Some stream → (b : Bool) → is_changed id ≡ b → IsExact id stream now (marks_on id told)
     exact-by id stream e true p = c.exact id stream p e
@@ -192,7 +192,7 @@ serves-changed run next o after streams left others calls now marks told is_chan
         exact-same id found.0 stream calls now (marks_on id marks) (marks_on id told) found.2 found.3 c.same_length (c.same_marks id p)
         (λ d. c.same_calls found.0.place d old.0 (ap is_changed (old.1 d).0 ∙ p)) old
 
-    not_over-by : (id : ℕ) (stream : OpenStream) → lookup (nat_eq id) left ≡ Some stream → (b : Bool) → is_changed id ≡ b → lookup (nat_eq id) after.over.entries ≡ None
+    not_over-by : (id : ℕ) (stream : OpenStream) → lookup (nat_eq id) left ≡ Some stream → (b : Bool) → is_changed id ≡ b → over_on after.states id ≡ None
     not_over-by id stream e true p = c.not_over id stream p e
     not_over-by id stream e false p =
         let found = shown-some (lookup (nat_eq id) streams) (stream.place, stream.in_hand) (sym (c.same_shown id p) ∙ ap shown e) in
@@ -202,47 +202,47 @@ serves-changed run next o after streams left others calls now marks told is_chan
     ended-by k d lt true p = λ none served. c.ended k d lt p none (sym (c.same_served (get_or calls k d).0) ∙ served)
     ended-by k d lt false p = λ none served.
         let n : ℕ = (get_or calls k d).0 in
-        ended-same (lookup (nat_eq n) o.over.entries) (lookup (nat_eq n) after.over.entries) (marks_on n marks) (marks_on n told) (get_or calls k d).1 (get_or now k d).1
+        ended-same (over_on o.states n) (over_on after.states n) (marks_on n marks) (marks_on n told) (get_or calls k d).1 (get_or now k d).1
         (c.same_over n p) (c.same_marks n p) (ap (λ (x : ℕ × List OutItem). x.1) (c.same_calls k d lt p))
         (s.ended k d lt (none-shown (lookup (nat_eq n) streams) (sym (c.same_shown n p) ∙ ap shown none)) (sym (c.same_served n) ∙ served))
 
     returned-by : (id : ℕ) (items : List OutItem) → lookup (nat_eq id) streams ≡ None → is_served id run ≡ true
-        → IsEnded (lookup (nat_eq id) o.over.entries) (marks_on id marks) items → (b : Bool) → is_changed id ≡ b
-        → IsEnded (lookup (nat_eq id) after.over.entries) (marks_on id told) items
+        → IsEnded (over_on o.states id) (marks_on id marks) items → (b : Bool) → is_changed id ≡ b
+        → IsEnded (over_on after.states id) (marks_on id told) items
     returned-by id items none served ended true p = c.returned id items p none served ended
     returned-by id items none served ended false p =
-        ended-same (lookup (nat_eq id) o.over.entries) (lookup (nat_eq id) after.over.entries) (marks_on id marks) (marks_on id told) items items
+        ended-same (over_on o.states id) (over_on after.states id) (marks_on id marks) (marks_on id told) items items
         (c.same_over id p) (c.same_marks id p) refl ended
 
-    unknown-by : (id : ℕ) → knows o.credit id ≡ false → lookup (nat_eq id) others ≡ None → (b : Bool) → is_changed id ≡ b
-        → (marks_on id told ≡ []) × (lookup (nat_eq id) after.over.entries ≡ None)
+    unknown-by : (id : ℕ) → knows o.states id ≡ false → lookup (nat_eq id) others ≡ None → (b : Bool) → is_changed id ≡ b
+        → (marks_on id told ≡ []) × (over_on after.states id ≡ None)
     unknown-by id e none true p = c.unknown id p e none
     unknown-by id e none false p = let u = s.unknown id e none in (c.same_marks id p ∙ u.0, c.same_over id p ∙ u.1)
 
     other-by : (id : ℕ) (was : Bool) → lookup (nat_eq id) others ≡ Some was → is_fresh id run ≡ true → (b : Bool) → is_changed id ≡ b
-        → IsEnded (lookup (nat_eq id) after.over.entries) (marks_on id told) []
+        → IsEnded (over_on after.states id) (marks_on id told) []
     other-by id was e fresh true p = c.other id was p e fresh
     other-by id was e fresh false p =
-        ended-same (lookup (nat_eq id) o.over.entries) (lookup (nat_eq id) after.over.entries) (marks_on id marks) (marks_on id told) [] [] (c.same_over id p) (c.same_marks id p) refl
+        ended-same (over_on o.states id) (over_on after.states id) (marks_on id marks) (marks_on id told) [] [] (c.same_over id p) (c.same_marks id p) refl
         ((s.other id was e).1 fresh)
 
-    uncalled-by : (id : ℕ) (was : Bool) → knows o.credit id ≡ false → lookup (nat_eq id) others ≡ Some was → (b : Bool) → is_changed id ≡ b
-        → IsUncalled id next (lookup (nat_eq id) after.over.entries) (marks_on id told)
+    uncalled-by : (id : ℕ) (was : Bool) → knows o.states id ≡ false → lookup (nat_eq id) others ≡ Some was → (b : Bool) → is_changed id ≡ b
+        → IsUncalled id next (over_on after.states id) (marks_on id told)
     uncalled-by id was e there true p = c.uncalled id was p e there
     uncalled-by id was e there false p =
-        uncalled-same run next id (lookup (nat_eq id) o.over.entries) (lookup (nat_eq id) after.over.entries) (marks_on id marks) (marks_on id told) (c.later.refused id)
+        uncalled-same run next id (over_on o.states id) (over_on after.states id) (marks_on id marks) (marks_on id told) (c.later.refused id)
         (c.same_over id p) (c.same_marks id p) (s.uncalled id was e there)
 
     stays-by : (id : ℕ) → is_served id run ≡ true → is_stream id ≡ true → lookup (nat_eq id) left ≡ None → (b : Bool) → is_changed id ≡ b
-        → (is_some (lookup (nat_eq id) after.over.entries) ≡ true) ⊎ (was_reset id next ≡ true)
+        → (is_some (over_on after.states id) ≡ true) ⊎ (was_reset id next ≡ true)
     stays-by id served there none true p = inl (c.stays id p none)
     stays-by id served there none false p =
-        ended-later (lookup (nat_eq id) o.over.entries) (lookup (nat_eq id) after.over.entries) (was_reset id run) (was_reset id next) (c.same_over id p) (c.later.reset id)
+        ended-later (over_on o.states id) (over_on after.states id) (was_reset id run) (was_reset id next) (c.same_over id p) (c.later.reset id)
         (s.stays id served there (none-shown (lookup (nat_eq id) streams) (sym (c.same_shown id p) ∙ ap shown none)))
 
-    reasons-by : (id : ℕ) → is_stream id ≡ true → lookup (nat_eq id) left ≡ None → (is_some (lookup (nat_eq id) others) || knows o.credit id) ≡ true → (b : Bool) → is_changed id ≡ b
-        → (is_some (lookup (nat_eq id) after.over.entries) ≡ true) ⊎ (has_reason id next ≡ true)
+    reasons-by : (id : ℕ) → is_stream id ≡ true → lookup (nat_eq id) left ≡ None → (is_some (lookup (nat_eq id) others) || knows o.states id) ≡ true → (b : Bool) → is_changed id ≡ b
+        → (is_some (over_on after.states id) ≡ true) ⊎ (has_reason id next ≡ true)
     reasons-by id there none known true p = inl (c.stays id p none)
     reasons-by id there none known false p =
-        ended-later (lookup (nat_eq id) o.over.entries) (lookup (nat_eq id) after.over.entries) (has_reason id run) (has_reason id next) (c.same_over id p) (c.later.reason id)
+        ended-later (over_on o.states id) (over_on after.states id) (has_reason id run) (has_reason id next) (c.same_over id p) (c.later.reason id)
         (s.reasons id there (none-shown (lookup (nat_eq id) streams) (sym (c.same_shown id p) ∙ ap shown none)) known)

@@ -18,16 +18,17 @@ use Rattle.outwriter.specs.declared.stream.Polled.{Polled}
 use Rattle.outwriter.specs.declared.stream.Polled.TheVariants as polled
 use Rattle.outwriter.specs.Calls.{is_served, TellFronts}
 use Rattle.outwriter.specs.Cores.{calls}
-use Rattle.outwriter.specs.Credits.{is_reset, knows}
+use Rattle.outwriter.specs.States.{SameOwed, knows, over_on}
 use Rattle.outwriter.specs.RunState.{Ends}
 use Rattle.outwriter.specs.Parts.{Mark, Byte, Fields, End, on_stream, spelled, marks_of_item, IsFrontOf, IsPart}
 use Rattle.outwriter.specs.StreamLooks.{Shown, shown, shows, with_hand, one_more, HandIs, HandKeeps, Removes, TakesAt, TellsData, aheads, HoldsOn, KeepsFronts}
 use Rattle.outwriter.specs.Polls.{block_item, GotNone}
 use Rattle.outwriter.specs.CallState.{Heeds, bytes_marks, Serves}
 use Rattle.outwriter.specs.Steps.{Step, Written}
-use Rattle.outwriter.specs.ToldByNow.{SpellsOf, TellsMore, TellsBlock, block_marks}
+use Rattle.outwriter.specs.ToldByNow.{SpellsOf, SameStanding, TellsMore, TellsBlock, block_marks}
 use Rattle.outwriter.proofs.ServeSteps.{append-nil, none-shown}
 use Rattle.outwriter.proofs.EndsKept.{KeepsEnds, heeds-kept, same-ends, block-ends}
+use Rattle.outwriter.proofs.TellStepsOwn.{standing-same}
 use Rattle.outwriter.proofs.Others.{later-none, later-written}
 use Rattle.outwriter.proofs.ServeStepsOpen.{Grows, grows-none, grows-one, goes-on, ends}
 use Rattle.outwriter.proofs.ServeStepsOwn.{serves-hands}
@@ -184,7 +185,7 @@ data-serves run o after windows streams middle left others calls now marks id pl
     let kept = hand-kept id place was rest streams middle left view none keeps in
     goes-on run (Written frame ∷ run) o after streams left others calls now marks id place was kept.0 (map Byte front) news (λ k. refl) (λ k. refl) (later-written run frame)
     (tells run marks s.spells)
-    (ap (λ (x : Outbound). x.due.items) (sym is)) (λ k. ap (λ (x : Outbound). knows x.credit k) is) (λ k. ap (λ (x : Outbound). lookup (nat_eq k) x.over.entries) is)
+    (ap (λ (x : Outbound). x.due.items) (sym is)) (λ k. ap (λ (x : Outbound). knows x.states k) is) (λ k. ap (λ (x : Outbound). over_on x.states k) is)
     view kept.1 g
     (bal ∙ ap (map Byte) cut ∙ map-append Byte front rest ∙ ap (λ (l : List Mark). map Byte front ++ l) (sym kept.2)) s
 
@@ -228,7 +229,7 @@ head-serves : (run : List Step) (o after : Outbound) (streams middle left : List
     → shows streams id ≡ Some (place, None) → Grows place (block_item ends_it fields ∷ []) calls now
     → HandIs id None streams middle → Removes id ends_it middle left
     → SpellsOf (Written frame ∷ run) after (marks ++ block_marks id fields ends_it)
-    → o.due.items ≡ after.due.items → ((k : ℕ) → knows after.credit k ≡ knows o.credit k) → Ends o.over.entries id ends_it after.over.entries
+    → o.due.items ≡ after.due.items → ((k : ℕ) → knows after.states k ≡ knows o.states k) → Ends o.states id ends_it after.states
     → Serves run o streams others calls marks → Serves (Written frame ∷ run) after left others now (marks ++ block_marks id fields ends_it)
 head-serves run o after streams middle left others calls now marks id place fields true frame view g none removes spells due known over s =
     ends run (Written frame ∷ run) o after streams left others calls now marks id place None (Fields fields ∷ End ∷ []) (block_item true fields ∷ []) (λ k. refl) (λ k. refl) (later-written run frame)
@@ -237,7 +238,7 @@ head-serves run o after streams middle left others calls now marks id place fiel
     ∙ if-twice (k == id) None (Some (place, None)) (shows streams k)) g refl s
 head-serves run o after streams middle left others calls now marks id place fields false frame view g none removes spells due known over s =
     goes-on run (Written frame ∷ run) o after streams left others calls now marks id place None None (Fields fields ∷ []) (block_item false fields ∷ []) (λ k. refl) (λ k. refl) (later-written run frame)
-    spells due known (λ k. ap (λ (l : List (ℕ × Bool)). lookup (nat_eq k) l) over) view
+    spells due known over view
     (λ k. removes k ∙ hand-then id place None None streams middle view none k) g refl s
 
 -- ---- no stream opens
@@ -268,20 +269,20 @@ removes-closed id false streams left same k none = none-shown (lookup (nat_eq k)
 
 module _ {L In Out Shut : Type 0} where
   -- Resets and Refuses are heeded still
-  heeds-look : (run : List Step) (old new : OutCore L In Out Shut) → KeepsEnds old.outbound new.outbound → new.outbound.credit ≡ old.outbound.credit → new.others ≡ old.others
+  heeds-look : (run : List Step) (old new : OutCore L In Out Shut) → KeepsEnds old.outbound new.outbound → SameStanding old.outbound new.outbound → new.others ≡ old.others
       → ((k : ℕ) → lookup (nat_eq k) old.streams.entries ≡ None → lookup (nat_eq k) new.streams.entries ≡ None)
       → Heeds run old.outbound old.streams.entries old.others.entries → Heeds run new.outbound new.streams.entries new.others.entries
-  heeds-look run old new keeps credit others closed heeds =
+  heeds-look run old new keeps standing others closed heeds =
       subst (λ others. Heeds run new.outbound new.streams.entries others.entries) (sym others)
       (heeds-kept run old.outbound new.outbound old.streams.entries new.streams.entries old.others.entries keeps
-      (λ k. (ap (λ owed. knows owed k) credit, ap (λ owed. is_reset owed k) credit)) closed heeds)
+      standing closed heeds)
 
   heeds-still : (run : List Step) (old new : OutCore L In Out Shut) → new.outbound ≡ old.outbound → new.others ≡ old.others
       → ((k : ℕ) → lookup (nat_eq k) old.streams.entries ≡ None → lookup (nat_eq k) new.streams.entries ≡ None)
       → Heeds run old.outbound old.streams.entries old.others.entries → Heeds run new.outbound new.streams.entries new.others.entries
   heeds-still run old new same others closed heeds =
-      heeds-look run old new (same-ends old.outbound new.outbound (ap (λ (x : Outbound). x.due) same) (ap (λ (x : Outbound). x.credit) same) (ap (λ (x : Outbound). x.over) same))
-      (ap (λ (x : Outbound). x.credit) same) others closed heeds
+      heeds-look run old new (same-ends old.outbound new.outbound (ap (λ (x : Outbound). x.due) same) (ap (λ (x : Outbound). x.states) same))
+      (standing-same old.outbound new.outbound (ap (λ (x : Outbound). x.states) same)) others closed heeds
 
   -- what was taken, and the encoder and the streams after it
   pub record Took (E : Type 0) (got ahead : Out → List OutItem) (old mid : OutCore L In Out Shut) (id : ℕ) (result : Result Polled E) : Type 0 where
@@ -341,8 +342,8 @@ module _ {L In Out Shut : Type 0} where
             (subst (λ (x : Outbound). TellsMore frame (on_stream id (map Byte tells.0)) x new.outbound) same tells.4)
             (subst (λ (x : Outbound). new.outbound ≡ record x { windows = new.outbound.windows }) same tells.5) m.1)),
         let is : new.outbound ≡ record old.outbound { windows = new.outbound.windows } = subst (λ (x : Outbound). new.outbound ≡ record x { windows = new.outbound.windows }) same tells.5 in
-            heeds-look run old new (same-ends old.outbound new.outbound (ap (λ (x : Outbound). x.due) is) (ap (λ (x : Outbound). x.credit) is) (ap (λ (x : Outbound). x.over) is))
-            (ap (λ (x : Outbound). x.credit) is) (others_same ∙ took.others)
+            heeds-look run old new (same-ends old.outbound new.outbound (ap (λ (x : Outbound). x.due) is) (ap (λ (x : Outbound). x.states) is))
+            (standing-same old.outbound new.outbound (ap (λ (x : Outbound). x.states) is)) (others_same ∙ took.others)
             (λ k none. keeps-closed id tells.1 mid.streams.entries new.streams.entries tells.3 k (hand-closed id None old.streams.entries mid.streams.entries took.hands k none)) m.2,
       )
   look-data E got ahead old mid new id bytes result None took is tells senders others_same = λ run m.
@@ -376,28 +377,29 @@ module _ {L In Out Shut : Type 0} where
   pub look-block : (E : Type 0) (got ahead : Out → List OutItem) (old mid fin : OutCore L In Out Shut) (after : Outbound) (id : ℕ) (bytes : List ℕ) (ends_it : Bool) (result : Polled) (frame : Frame)
       → Took E got ahead old mid id (Ok result) → result ≡ polled.Block bytes ends_it
       → fin.outbound ≡ mid.outbound → Removes id ends_it mid.streams.entries fin.streams.entries → fin.senders ≡ mid.senders → fin.others ≡ mid.others
-      → TellsBlock id ends_it bytes frame fin.outbound after → Ends fin.outbound.over.entries id ends_it after.over.entries
-      → after ≡ record fin.outbound { windows = after.windows; over = after.over; block = after.block }
+      → TellsBlock id ends_it bytes frame fin.outbound after → Ends fin.outbound.states id ends_it after.states → SameOwed fin.outbound.states after.states
+      → after ≡ record fin.outbound { windows = after.windows; states = after.states; block = after.block }
       → HoldsOn got (Some frame) old (record fin { outbound = after })
-  look-block E got ahead old mid fin after id bytes ends_it result frame took is_block outbound removes senders others_same tells over is run (marks, s, heeds) =
+  look-block E got ahead old mid fin after id bytes ends_it result frame took is_block outbound removes senders others_same tells over owed is run (marks, s, heeds) =
       let t = subst (λ (p : Polled). TakesAt {E = E} (shows old.streams.entries id) (calls got old.senders.items) (calls got mid.senders.items) (aheads ahead mid.senders.items) old.outbound.encoder mid.outbound.encoder (Ok p)) is_block took.takes in
       let found = takes-block E (shows old.streams.entries id) (calls got old.senders.items) (calls got mid.senders.items) (aheads ahead mid.senders.items) old.outbound.encoder mid.outbound.encoder bytes ends_it t in
       let same : fin.outbound ≡ record old.outbound { encoder = mid.outbound.encoder } = outbound ∙ took.outbound in
       let told : TellsBlock id ends_it bytes frame (record old.outbound { encoder = mid.outbound.encoder }) after =
       subst (λ (x : Outbound). TellsBlock id ends_it bytes frame x after) same tells in
-      let rest : after ≡ record old.outbound { encoder = mid.outbound.encoder; windows = after.windows; over = after.over; block = after.block } =
-      subst (λ (x : Outbound). after ≡ record x { windows = after.windows; over = after.over; block = after.block }) same is in (
+      let owed_same : SameOwed old.outbound.states after.states = subst (λ (x : Outbound). SameOwed x.states after.states) same owed in
+      let rest : after ≡ record old.outbound { encoder = mid.outbound.encoder; windows = after.windows; states = after.states; block = after.block } =
+      subst (λ (x : Outbound). after ≡ record x { windows = after.windows; states = after.states; block = after.block }) same is in (
         marks ++ block_marks id found.1 ends_it,
         subst (λ senders. Serves (Written frame ∷ run) after fin.streams.entries fin.others.entries (calls got senders.items) (marks ++ block_marks id found.1 ends_it)) (sym senders)
             (subst (λ others. Serves (Written frame ∷ run) after fin.streams.entries others.entries (calls got mid.senders.items) (marks ++ block_marks id found.1 ends_it)) (sym (others_same ∙ took.others))
             (head-serves run old.outbound after old.streams.entries mid.streams.entries fin.streams.entries old.others.entries (calls got old.senders.items) (calls got mid.senders.items)
             marks id found.0 found.1 ends_it frame found.2 found.3 took.hands removes
             (told run marks found.1 old.outbound.encoder s.spells.1 found.4)
-            (ap (λ (x : Outbound). x.due.items) (sym rest)) (λ k. ap (λ (x : Outbound). knows x.credit k) rest)
-            (subst (λ (x : Outbound). Ends x.over.entries id ends_it after.over.entries) same over) s)),
+            (ap (λ (x : Outbound). x.due.items) (sym rest)) (λ k. (owed_same.0 k).0)
+            (subst (λ (x : Outbound). Ends x.states id ends_it after.states) same over) s)),
         heeds-look run old (record fin { outbound = after })
-            (block-ends old.outbound after id ends_it (ap (λ (x : Outbound). x.due) rest) (ap (λ (x : Outbound). x.credit) rest)
-            (subst (λ (x : Outbound). Ends x.over.entries id ends_it after.over.entries) same over))
-            (ap (λ (x : Outbound). x.credit) rest) (others_same ∙ took.others)
+            (block-ends old.outbound after id ends_it (ap (λ (x : Outbound). x.due) rest) owed_same
+            (subst (λ (x : Outbound). Ends x.states id ends_it after.states) same over))
+            (λ k. ((owed_same.0 k).0, (owed_same.0 k).2)) (others_same ∙ took.others)
             (λ k none. removes-closed id ends_it mid.streams.entries fin.streams.entries removes k (hand-closed id None old.streams.entries mid.streams.entries took.hands k none)) heeds,
       )

@@ -10,7 +10,7 @@ use Rattle.outwriter.specs.declared.due.Due.TheVariants as due_kind
 use Rattle.outwriter.specs.declared.outbound.Outbound.{Outbound}
 use Rattle.outwriter.specs.declared.stream.OpenStream.{OpenStream}
 use Rattle.outwriter.specs.Calls.{is_fresh, is_served, IsRefused}
-use Rattle.outwriter.specs.Credits.{knows}
+use Rattle.outwriter.specs.States.{knows, over_on}
 use Rattle.outwriter.specs.Parts.{Mark, Fields, End, Reset, marks_on, on_stream}
 use Rattle.outwriter.specs.StreamLooks.{shown, SameHands}
 use Rattle.outwriter.specs.CallState.{IsEnded, MayBeDue, Serves, IsPlain, IsReset, IsRefusal, Rests}
@@ -24,8 +24,8 @@ use Rattle.outwriter.proofs.ServeSteps.{append-nil, All-later, more-here, more-e
 pub serves-same : (run next : List Step) (o after : Outbound) (streams left : List (ℕ × OpenStream)) (others : List (ℕ × Bool)) (calls : List (ℕ × List OutItem))
     (marks told : List (ℕ × Mark))
     → ((k : ℕ) → is_fresh k next ≡ is_fresh k run) → ((k : ℕ) → is_served k next ≡ is_served k run) → Later run next → SpellsOf next after told
-    → (front : List Due) → o.due.items ≡ front ++ after.due.items → ((k : ℕ) → knows after.credit k ≡ knows o.credit k)
-    → ((k : ℕ) → lookup (nat_eq k) after.over.entries ≡ lookup (nat_eq k) o.over.entries)
+    → (front : List Due) → o.due.items ≡ front ++ after.due.items → ((k : ℕ) → knows after.states k ≡ knows o.states k)
+    → ((k : ℕ) → over_on after.states k ≡ over_on o.states k)
     → SameHands streams left → ((k : ℕ) → marks_on k told ≡ marks_on k marks)
     → Serves run o streams others calls marks → Serves next after left others calls told
 serves-same run next o after streams left others calls marks told fresh served later spells front due known over hands same s =
@@ -63,14 +63,14 @@ pub serves-rests : (run : List Step) (o after : Outbound) (streams : List (ℕ �
     (marks : List (ℕ × Mark)) → Rests o after → Serves run o streams others calls marks → Serves run after streams others calls marks
 serves-rests run o after streams others calls marks r s =
     serves-same run run o after streams streams others calls marks marks (λ k. refl) (λ k. refl) (later-none run) (rests-tells o after r run marks s.spells) r.due.0 r.due.1 (λ k. (r.standing k).0)
-    (λ k. subst (λ over. lookup (nat_eq k) over.entries ≡ lookup (nat_eq k) o.over.entries) (sym r.over) refl) (λ k. refl) (λ k. refl) s
+    r.over (λ k. refl) (λ k. refl) s
 
 pub serves-plain : (run : List Step) (o after : Outbound) (streams : List (ℕ × OpenStream)) (others : List (ℕ × Bool)) (calls : List (ℕ × List OutItem))
-    (marks : List (ℕ × Mark)) (frame : Frame) → ((k : ℕ) → knows after.credit k ≡ knows o.credit k) → IsPlain frame o after
+    (marks : List (ℕ × Mark)) (frame : Frame) → ((k : ℕ) → knows after.states k ≡ knows o.states k) → IsPlain frame o after
     → Serves run o streams others calls marks → Serves (Written frame ∷ run) after streams others calls (marks ++ [])
 serves-plain run o after streams others calls marks frame known plain s =
     serves-same run (Written frame ∷ run) o after streams streams others calls marks (marks ++ []) (λ k. refl) (λ k. refl) (later-written run frame) (plain.0 run marks s.spells)
-    plain.2.0 plain.2.1 known (λ k. subst (λ over. lookup (nat_eq k) over.entries ≡ lookup (nat_eq k) o.over.entries) (sym plain.1) refl) (λ k. refl)
+    plain.2.0 plain.2.1 known plain.1 (λ k. refl)
     (λ k. marks-append k marks [] ∙ append-nil (marks_on k marks)) s
 
 first-due : (run : List Step) (o : Outbound) (streams : List (ℕ × OpenStream)) (others : List (ℕ × Bool)) (front rest : List Due) (one : Due)
@@ -89,7 +89,7 @@ reset-ends : (over after : Option Bool) (told more : List Mark) (items : List Ou
 reset-ends over after told more items code none is e ended = (inr (told, code, ended.1 (none-true over none), e), λ ne. absurd (ne is))
 
 pub serves-reset : (run : List Step) (o after : Outbound) (streams : List (ℕ × OpenStream)) (others : List (ℕ × Bool)) (calls : List (ℕ × List OutItem))
-    (marks : List (ℕ × Mark)) (frame : Frame) → ((k : ℕ) → knows after.credit k ≡ knows o.credit k) → (r : IsReset frame o after)
+    (marks : List (ℕ × Mark)) (frame : Frame) → ((k : ℕ) → knows after.states k ≡ knows o.states k) → (r : IsReset frame o after)
     → Serves run o streams others calls marks → Serves (Written frame ∷ run) after streams others calls (marks ++ on_stream r.0 (Reset r.4.0 ∷ []))
 serves-reset run o after streams others calls marks frame known r s =
     serves-changed run (Written frame ∷ run) o after streams streams others calls calls marks (marks ++ on_stream id more) (λ k. k == id) (record {
@@ -99,7 +99,7 @@ serves-reset run o after streams others calls marks frame known r s =
       spells = r.4.1 run marks s.spells;
       fewer_due = (r.2 ++ due_kind.Reset id r.1 ∷ [], behind r.2 after.due.items o.due.items (due_kind.Reset id r.1) r.3);
       same_knows = known;
-      same_over = λ k p. r.6 k ∙ ap (λ b. if b then Some true else lookup (nat_eq k) o.over.entries) p;
+      same_over = λ k p. r.6 k ∙ ap (λ b. if b then Some true else over_on o.states k) p;
       same_shown = λ k p. refl;
       same_marks = λ k p. more-elsewhere k id marks more p;
       same_calls = λ k d lt p. refl;
@@ -110,12 +110,12 @@ serves-reset run o after streams others calls marks frame known r s =
       not_over = λ k st p e. absurd (none-some st (sym (none k p) ∙ e));
       ended = λ k d lt p gone is. ended-here (get_or calls k d).0 (get_or calls k d).1 p (s.ended k d lt gone is);
       returned = λ k items p gone is e. ended-here k items p e;
-      unknown = λ k p e gone. absurd (true≢false (sym (subst (λ (n : ℕ). (is_some (lookup (nat_eq n) others) || knows o.credit n) ≡ true) (sym (eqb-true k id p)) may.1)
-          ∙ ap (λ b. b || knows o.credit k) (ap is_some gone) ∙ e));
+      unknown = λ k p e gone. absurd (true≢false (sym (subst (λ (n : ℕ). (is_some (lookup (nat_eq n) others) || knows o.states n) ≡ true) (sym (eqb-true k id p)) may.1)
+          ∙ ap (λ b. b || knows o.states k) (ap is_some gone) ∙ e));
       other = λ k w p e is. ended-here k [] p ((s.other k w e).1 is);
-      stays = λ k p closed. ap is_some (r.6 k ∙ ap (λ b. if b then Some true else lookup (nat_eq k) o.over.entries) p);
+      stays = λ k p closed. ap is_some (r.6 k ∙ ap (λ b. if b then Some true else over_on o.states k) p);
       uncalled = λ k w p e there. (
-        λ still. absurd (some-none true (sym (r.6 k ∙ ap (λ b. if b then Some true else lookup (nat_eq k) o.over.entries) p) ∙ still)),
+        λ still. absurd (some-none true (sym (r.6 k ∙ ap (λ b. if b then Some true else over_on o.states k) p) ∙ still)),
         inr (inl (r.4.0, more-at k p ∙ ap (λ (l : List Mark). l ++ more) ((s.uncalled k w e there).0 (was-open k p)))),
       );
     }) s
@@ -126,28 +126,28 @@ serves-reset run o after streams others calls marks frame known r s =
     more : List Mark
     more = Reset r.4.0 ∷ []
 
-    may : (lookup (nat_eq id) streams ≡ None) × ((is_some (lookup (nat_eq id) others) || knows o.credit id) ≡ true)
+    may : (lookup (nat_eq id) streams ≡ None) × ((is_some (lookup (nat_eq id) others) || knows o.states id) ≡ true)
     may = first-due run o streams others r.2 after.due.items (due_kind.Reset id r.1) r.3 s.due
 
     none : (k : ℕ) → (k == id) ≡ true → lookup (nat_eq k) streams ≡ None
     none k p = subst (λ (n : ℕ). lookup (nat_eq n) streams ≡ None) (sym (eqb-true k id p)) may.0
 
-    was-open : (k : ℕ) → (k == id) ≡ true → lookup (nat_eq k) o.over.entries ≡ None
-    was-open k p = subst (λ (n : ℕ). lookup (nat_eq n) o.over.entries ≡ None) (sym (eqb-true k id p)) r.5
+    was-open : (k : ℕ) → (k == id) ≡ true → over_on o.states k ≡ None
+    was-open k p = subst (λ (n : ℕ). over_on o.states n ≡ None) (sym (eqb-true k id p)) r.5
 
     more-at : (k : ℕ) → (k == id) ≡ true → marks_on k (marks ++ on_stream id more) ≡ marks_on k marks ++ more
     more-at k p = subst (λ (n : ℕ). marks_on n (marks ++ on_stream id more) ≡ marks_on n marks ++ more) (sym (eqb-true k id p)) (more-here id marks more)
 
-    ended-here : (k : ℕ) (items : List OutItem) → (k == id) ≡ true → IsEnded (lookup (nat_eq k) o.over.entries) (marks_on k marks) items
-        → IsEnded (lookup (nat_eq k) after.over.entries) (marks_on k (marks ++ on_stream id more)) items
-    ended-here k items p ended = reset-ends (lookup (nat_eq k) o.over.entries) (lookup (nat_eq k) after.over.entries) (marks_on k marks) (marks_on k (marks ++ on_stream id more)) items r.4.0
+    ended-here : (k : ℕ) (items : List OutItem) → (k == id) ≡ true → IsEnded (over_on o.states k) (marks_on k marks) items
+        → IsEnded (over_on after.states k) (marks_on k (marks ++ on_stream id more)) items
+    ended-here k items p ended = reset-ends (over_on o.states k) (over_on after.states k) (marks_on k marks) (marks_on k (marks ++ on_stream id more)) items r.4.0
         (was-open k p)
-        (r.6 k ∙ ap (λ b. if b then Some true else lookup (nat_eq k) o.over.entries) p)
+        (r.6 k ∙ ap (λ b. if b then Some true else over_on o.states k) p)
         (more-at k p)
         ended
 
 pub serves-refusal : (run : List Step) (o after : Outbound) (streams : List (ℕ × OpenStream)) (others : List (ℕ × Bool)) (calls : List (ℕ × List OutItem))
-    (marks : List (ℕ × Mark)) (frame : Frame) → ((k : ℕ) → knows after.credit k ≡ knows o.credit k) → (r : IsRefusal frame o after)
+    (marks : List (ℕ × Mark)) (frame : Frame) → ((k : ℕ) → knows after.states k ≡ knows o.states k) → (r : IsRefusal frame o after)
     → Serves run o streams others calls marks → Serves (Written frame ∷ run) after streams others calls (marks ++ block_marks r.0 r.1 true)
 serves-refusal run o after streams others calls marks frame known r s =
     serves-changed run (Written frame ∷ run) o after streams streams others calls calls marks (marks ++ on_stream id more) (λ k. k == id) (record {
@@ -157,7 +157,7 @@ serves-refusal run o after streams others calls marks frame known r s =
       spells = r.4 run marks s.spells;
       fewer_due = (r.2 ++ due_kind.Refuse id r.1 ∷ [], behind r.2 after.due.items o.due.items (due_kind.Refuse id r.1) r.3);
       same_knows = known;
-      same_over = λ k p. r.6 k ∙ ap (λ b. if b then Some false else lookup (nat_eq k) o.over.entries) p;
+      same_over = λ k p. r.6 k ∙ ap (λ b. if b then Some false else over_on o.states k) p;
       same_shown = λ k p. refl;
       same_marks = λ k p. more-elsewhere k id marks more p;
       same_calls = λ k d lt p. refl;
@@ -170,9 +170,9 @@ serves-refusal run o after streams others calls marks frame known r s =
       returned = λ k items p gone is e. absurd (true≢false (sym is ∙ subst (λ (n : ℕ). is_served n run ≡ false) (sym (eqb-true k id p)) may.1));
       unknown = λ k p e gone. absurd (true≢false (sym may.2 ∙ ap is_some (subst (λ (n : ℕ). lookup (nat_eq n) others ≡ None) (eqb-true k id p) gone)));
       other = λ k w p e is. absurd (true≢false (sym is ∙ subst (λ (n : ℕ). is_fresh n run ≡ false) (sym (eqb-true k id p)) may.0));
-      stays = λ k p closed. ap is_some (r.6 k ∙ ap (λ b. if b then Some false else lookup (nat_eq k) o.over.entries) p);
+      stays = λ k p closed. ap is_some (r.6 k ∙ ap (λ b. if b then Some false else over_on o.states k) p);
       uncalled = λ k w p e there. (
-        λ still. absurd (some-none false (sym (r.6 k ∙ ap (λ b. if b then Some false else lookup (nat_eq k) o.over.entries) p) ∙ still)),
+        λ still. absurd (some-none false (sym (r.6 k ∙ ap (λ b. if b then Some false else over_on o.states k) p) ∙ still)),
         inr (inr (
           r.1,
           subst (λ (n : ℕ). IsRefused n r.1 run) (sym (eqb-true k id p)) may.3,
@@ -194,8 +194,8 @@ serves-refusal run o after streams others calls marks frame known r s =
     none k p None e = absurd (true≢false (sym may.2 ∙ ap is_some e))
     none k p (Some w) e = subst (λ (n : ℕ). lookup (nat_eq n) streams ≡ None) (sym (eqb-true k id p)) (s.other id w e).0
 
-    was-open : (k : ℕ) → (k == id) ≡ true → lookup (nat_eq k) o.over.entries ≡ None
-    was-open k p = subst (λ (n : ℕ). lookup (nat_eq n) o.over.entries ≡ None) (sym (eqb-true k id p)) r.5
+    was-open : (k : ℕ) → (k == id) ≡ true → over_on o.states k ≡ None
+    was-open k p = subst (λ (n : ℕ). over_on o.states n ≡ None) (sym (eqb-true k id p)) r.5
 
     more-at : (k : ℕ) → (k == id) ≡ true → marks_on k (marks ++ on_stream id more) ≡ marks_on k marks ++ more
     more-at k p = subst (λ (n : ℕ). marks_on n (marks ++ on_stream id more) ≡ marks_on n marks ++ more) (sym (eqb-true k id p)) (more-here id marks more)

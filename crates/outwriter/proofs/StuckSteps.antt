@@ -14,7 +14,7 @@ use Rattle.outwriter.specs.declared.stream.Looked.{Looked}
 use Rattle.outwriter.specs.declared.stream.Looked.TheVariants as looked
 use Rattle.outwriter.specs.Cores.{calls, IsStuck}
 use Rattle.outwriter.specs.CoreChanges.{may_write}
-use Rattle.outwriter.specs.Credits.{is_reset}
+use Rattle.outwriter.specs.States.{is_reset, over_on}
 use Rattle.outwriter.specs.StreamLooks.{Shown, shown, shows, with_hand, HandIs, TakesAt, SameAhead, TellsData, aheads, Holds, HoldsOn, StuckAt, GetsStuck, LeavesStuck, LooksAt, frame_in}
 use Rattle.outwriter.specs.Steps.{Step}
 use Rattle.outwriter.proofs.ServeSteps.{shown-some, from_some, none-some}
@@ -69,9 +69,9 @@ module _ {L In Out Shut : Type 0} where
   pub stuck-over : (got ahead : Out → List OutItem) (core : OutCore L In Out Shut) (id : ℕ) (may : Bool) → may ≡ false → may ≡ may_write core.outbound id → GetsStuck got ahead id core core
   stuck-over got ahead core id may denied is run (marks, s, heeds) = (
     λ stream e.
-        let unreset : is_reset core.outbound.credit id ≡ false = heeds.1 id (s.numbered id stream e) ∙ heeds.2 id (ap is_some e) in
-        absurd (true≢false (sym (ap (λ b. (b && not (is_some (lookup (nat_eq id) core.outbound.over.entries))) && not (is_reset core.outbound.credit id)) (s.numbered id stream e)
-        ∙ ap (λ (o : Option Bool). not (is_some o) && not (is_reset core.outbound.credit id)) (s.not_over id stream e)
+        let unreset : is_reset core.outbound.states id ≡ false = heeds.1 id (s.numbered id stream e) ∙ heeds.2 id (ap is_some e) in
+        absurd (true≢false (sym (ap (λ b. (b && not (is_some (over_on core.outbound.states id))) && not (is_reset core.outbound.states id)) (s.numbered id stream e)
+        ∙ ap (λ (o : Option Bool). not (is_some o) && not (is_reset core.outbound.states id)) (s.not_over id stream e)
         ∙ ap (λ b. not b) unreset) ∙ sym is ∙ denied)),
     λ k ne stuck. stuck,
   )

@@ -9,7 +9,7 @@ use Rattle.outwriter.specs.declared.out_core.OutCore.{OutCore}
 use Rattle.outwriter.specs.declared.outbound.Outbound.{Outbound}
 use Rattle.outwriter.specs.declared.stream.OpenStream.{OpenStream}
 use Rattle.outwriter.specs.Cores.{calls}
-use Rattle.outwriter.specs.Credits.{is_reset, knows}
+use Rattle.outwriter.specs.States.{is_reset, knows, over_on}
 use Rattle.outwriter.specs.Histories.{is_stream}
 use Rattle.outwriter.specs.RunState.{Sets}
 use Rattle.outwriter.specs.Parts.{Mark}
@@ -33,7 +33,7 @@ module _ {L In Out Shut : Type 0} where
 
 -- the stream is a call's from now on
 abbrev pub is_new_call : Outbound → ℕ → Bool
-is_new_call o id = is_stream id && not (knows o.credit id)
+is_new_call o id = is_stream id && not (knows o.states id)
 
 -- and it becomes open: it wasn't refused or reset before
 abbrev pub becomes_open : Outbound → List (ℕ × Bool) → ℕ → Bool
@@ -51,7 +51,7 @@ pub record Prepares (id place : ℕ) (old new : Outbound) (others : List (ℕ ×
 
 -- a stream has neither ended nor been reset
 abbrev pub may_write : Outbound → ℕ → Bool
-may_write o id = (is_stream id && not (is_some (lookup (nat_eq id) o.over.entries))) && not (is_reset o.credit id)
+may_write o id = (is_stream id && not (is_some (over_on o.states id))) && not (is_reset o.states id)
 
 -- what is due by a Reset: RST_STREAM, where it is to be written and the stream had neither ended nor been reset
 abbrev pub due_reset : Outbound → ℕ → ErrorCode → Bool → List Due
@@ -65,5 +65,5 @@ Closes id streams left = (k : ℕ) → lookup (nat_eq k) left ≡ (if k == id th
 abbrev pub Shuts : ℕ → Outbound → List (ℕ × OpenStream) → List (ℕ × OpenStream) → List (ℕ × Bool) → List (ℕ × Bool) → Type 0
 Shuts id o streams left others more =
     ((is_stream id ≡ false) × (left ≡ streams) × (more ≡ others))
-    ⊎ (((knows o.credit id ≡ true) × Closes id streams left × (more ≡ others))
-    ⊎ ((knows o.credit id ≡ false) × (left ≡ streams) × Sets others id true more))
+    ⊎ (((knows o.states id ≡ true) × Closes id streams left × (more ≡ others))
+    ⊎ ((knows o.states id ≡ false) × (left ≡ streams) × Sets others id true more))

@@ -36,7 +36,7 @@ impl<L: Lane<Item = OutItem>> OutCore<L> {
     ghost use Rattle.h2frame.specs.Spelling.{IsWritable};
     ghost use Rattle.outwriter.specs.Frames.{IsSound};
     ghost use Rattle.outwriter.specs.Cores.{Serving, ServesNext, QuietNext, NoFrameNext, EndedNext, ClosedNext, PartsAfter, calls, lanes};
-    ghost use Rattle.outwriter.specs.Credits.{is_reset};
+    ghost use Rattle.outwriter.specs.States.{is_reset, over_on};
     ghost use Rattle.outwriter.specs.Polls.{coming};
     ghost use Rattle.outwriter.specs.StreamLooks.{shows, SameHands, HandIs, HandKeeps, Removes, ids, TakesAt, SameAhead, aheads, HoldsOn, KeepsFronts, TellsData, GetsStuck, LooksAt, frame_in, AllStuck, GetsQuiet};
     ghost use Rattle.outwriter.specs.Steps.{Step};
@@ -358,8 +358,8 @@ impl<L: Lane<Item = OutItem>> OutCore<L> {
         requires between { IsBetween self.old.outbound }
         requires stream { 0 < id }
         requires number { id < 2 ^ 31 }
-        requires open { lookup (nat_eq id) self.old.outbound.over.entries ≡ None }
-        requires unreset { is_reset self.old.outbound.credit id ≡ false }
+        requires open { over_on self.old.outbound.states id ≡ None }
+        requires unreset { is_reset self.old.outbound.states id ≡ false }
         requires some { 0 < length bytes }
         ensures sound { IfOk result (λ l. IfSome (frame_in l) IsSound) }
         ensures numbered { IfOk result (λ l. IfSome (frame_in l) (λ frame. frame.head.stream < 2 ^ 31)) }

@@ -16,7 +16,7 @@ ghost use Rattle.outwriter.specs.RunState.{Reached, GoesOn, Takes, Leads, Stays,
 ghost use Rattle.std.specs.Map.{lookup};
 ghost use Rattle.flow.specs.Windows.{room};
 ghost use Rattle.outwriter.specs.Calls.{TellFronts, TellReturned, TellOthers};
-ghost use Rattle.outwriter.specs.Credits.{is_reset, knows};
+ghost use Rattle.outwriter.specs.States.{SameEnds, is_reset, knows};
 ghost use Rattle.outwriter.specs.Histories.{is_stream as is_number};
 ghost use Rattle.h2frame.specs.Spelling.{IsWritable};
 ghost use Rattle.outwriter.specs.Frames.{goaway_frame};
@@ -251,7 +251,7 @@ impl<L: Lane<Item = OutItem>> OutCore<L> {
         self.senders.reserve(1)?;
         self.ready.reserve(self.streams.len().saturating_add(1))?;
         self.streams.reserve(1)?;
-        let is_new = is_stream(id) && !self.outbound.credit.has(id);
+        let is_new = is_stream(id) && !self.outbound.states.state(id).is_call();
         let is_other = self.others.contains_key(&id);
         self.outbound.take_open(id, is_new)?;
         if is_new && !is_other {
@@ -279,7 +279,10 @@ impl<L: Lane<Item = OutItem>> OutCore<L> {
         ensures alive { self.new.is_dead ≡ self.old.is_dead }
         ensures encoder { self.new.outbound.encoder ≡ self.old.outbound.encoder }
     {
-        if !is_stream(id) || self.outbound.credit.has(id) || self.others.contains_key(&id) {
+        if !is_stream(id)
+            || self.outbound.states.state(id).is_call()
+            || self.others.contains_key(&id)
+        {
             return Ok(());
         }
         if self.others.insert(id, false).is_err() {
@@ -318,8 +321,9 @@ impl<L: Lane<Item = OutItem>> OutCore<L> {
     fn ends(&mut self, id: StreamId, code: ErrorCode, written: bool) -> Result<(), AllocError>
         requires room { deque_len self.old.outbound.due < deque_capacity self.old.outbound.due }
         ensures taken { OnOk result (Leads (Taken (order.Reset id code written)) self.old.outbound self.new.outbound) }
-        ensures takes { OnOk result (KeepsCalls (due_reset self.old.outbound id code written) none_is_new [] (record self.old.outbound { credit = self.new.outbound.credit }) self.new.outbound) }
-        ensures marks { OnOk result ((k : ℕ) → (knows self.new.outbound.credit k ≡ knows self.old.outbound.credit k) × (is_reset self.new.outbound.credit k ≡ ((is_number id && (k == id)) || is_reset self.old.outbound.credit k))) }
+        ensures takes { OnOk result (KeepsCalls (due_reset self.old.outbound id code written) none_is_new [] (record self.old.outbound { states = self.new.outbound.states }) self.new.outbound) }
+        ensures marks { OnOk result ((k : ℕ) → (knows self.new.outbound.states k ≡ knows self.old.outbound.states k) × (is_reset self.new.outbound.states k ≡ ((is_number id && (k == id)) || is_reset self.old.outbound.states k))) }
+        ensures ends { OnOk result (SameEnds self.old.outbound.states self.new.outbound.states) }
         ensures shuts { OnOk result (Shuts id self.old.outbound self.old.streams.entries self.new.streams.entries self.old.others.entries self.new.others.entries) }
         ensures outbound { OnErr result (self.new.outbound ≡ self.old.outbound) }
         ensures streams { OnErr result (self.new.streams.entries ≡ self.old.streams.entries) }
@@ -334,7 +338,7 @@ impl<L: Lane<Item = OutItem>> OutCore<L> {
         if !is_stream(id) {
             return Ok(());
         }
-        if self.outbound.credit.has(id) {
+        if self.outbound.states.state(id).is_call() {
             self.streams.swap_remove(&id);
             return Ok(());
         }

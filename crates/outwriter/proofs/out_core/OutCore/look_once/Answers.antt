@@ -59,7 +59,7 @@ returns-in_ok-headers_frame-in-Block-clause-served g c =
     c.in_ok-headers_frame-in-Block.field-0
     (record { takes = c.in_ok-take.ensures.takes; outbound = c.in_ok-take.ensures.outbound; hands = c.in_ok-take.ensures.hands; others = c.in_ok-take.ensures.others }) c.in-Block.is
     c.end.ensures.outbound c.end.ensures.ended c.end.ensures.senders c.end.ensures.others
-    c.in_ok-headers_frame-in-Block.ensures.tells c.in_ok-headers_frame-in-Block.ensures.ends c.in_ok-headers_frame-in-Block.ensures.rest
+    c.in_ok-headers_frame-in-Block.ensures.tells c.in_ok-headers_frame-in-Block.ensures.ends c.in_ok-headers_frame-in-Block.ensures.owed c.in_ok-headers_frame-in-Block.ensures.rest
 
 pub returns-in_ok-headers_frame-in-Block-clause-fronts : goal.returns-in_ok-headers_frame-in-Block-clause-fronts
 returns-in_ok-headers_frame-in-Block-clause-fronts g c =

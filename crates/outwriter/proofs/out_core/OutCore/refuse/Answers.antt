@@ -1,10 +1,11 @@
-use Rattle.std.proofs.Common.{◌≡◌, ◌∙◌, refl, sym, false, Some, arith, Result, Ok, Err, true≢false}
+use Rattle.std.proofs.Common.{ap, ◌≡◌, ◌∙◌, refl, sym, false, Some, arith, Result, Ok, Err, true≢false}
 use Rattle.std.specs.Prelude.{OnOk, Bool, Option, None, is_some}
 use Rattle.std.specs.Result.{is_err}
 use Rattle.std.proofs.lemmas.Grind.{common_steps}
 use Rattle.outwriter.specs.declared.control.Control.{Control}
 use Rattle.outwriter.specs.declared.control.Control.TheVariants as order
 use Rattle.outwriter.specs.Cores.{calls}
+use Rattle.outwriter.specs.States.{is_of_call}
 use Rattle.outwriter.proofs.CallSteps.{serves-equal, updated}
 use Rattle.outwriter.proofs.CallStepsOrders.{serves-refused, serves-unrefused}
 use Rattle.outwriter.proofs.HeedSteps.{refuse-heeds}
@@ -35,7 +36,7 @@ pub returns-clause-served : goal.returns-clause-served
 returns-clause-served g c = λ run marks s.
     let updates = on-ok c.insert.result _ (sym c.is_err.ensures.value ∙ c.if-is_err.false) c.insert.ensures.updates in
     serves-refused run c.args.self.now.outbound c.args.self.now.streams.entries c.args.self.now.others.entries (calls g.L.Lane.got c.args.self.now.senders.items) marks
-    c.args.id c.args.fields c.take_refuse.new.self c.insert.new.self.entries (sym c.is_stream.ensures ∙ c.if-not-is_stream.false) (sym c.has.ensures ∙ c.if-has.false)
+    c.args.id c.args.fields c.take_refuse.new.self c.insert.new.self.entries (sym c.is_stream.ensures ∙ c.if-not-is_stream.false) (ap is_of_call (sym c.state.ensures) ∙ sym c.is_call.ensures ∙ c.if-is_call.false)
     (updated c.args.self.now.others.entries c.insert.new.self.entries c.args.id (Some false) updates.0) c.take_refuse.ensures.takes s
 
 pub returns-then-not-is_stream-clause-taken : goal.returns-then-not-is_stream-clause-taken
@@ -47,5 +48,5 @@ pub returns-clause-heeds : goal.returns-clause-heeds
 returns-clause-heeds g c = λ run marks s heeds.
     let updates = on-ok c.insert.result _ (sym c.is_err.ensures.value ∙ c.if-is_err.false) c.insert.ensures.updates in
     refuse-heeds run c.args.id c.args.fields c.args.self.now.outbound c.args.self.now.streams.entries c.args.self.now.others.entries (calls g.L.Lane.got c.args.self.now.senders.items) marks s
-    c.take_refuse.new.self c.insert.new.self.entries (sym c.has.ensures ∙ c.if-has.false) (none-there _ (sym c.contains_key.ensures ∙ c.if-contains_key.false))
+    c.take_refuse.new.self c.insert.new.self.entries (ap is_of_call (sym c.state.ensures) ∙ sym c.is_call.ensures ∙ c.if-is_call.false) (none-there _ (sym c.contains_key.ensures ∙ c.if-contains_key.false))
     (updated c.args.self.now.others.entries c.insert.new.self.entries c.args.id (Some false) updates.0) c.take_refuse.ensures.takes heeds

@@ -16,11 +16,11 @@ returns-in-Ok-clause-served g c = λ run marks s.
     refl refl (ap (calls g.L.Lane.got) c.in-Ok.ensures.senders)
     (serves-ended run c.args.self.now.outbound c.ends.new.self.outbound c.args.self.now.streams.entries c.ends.new.self.streams.entries
     c.args.self.now.others.entries c.ends.new.self.others.entries (calls g.L.Lane.got c.args.self.now.senders.items) marks
-    c.args.id c.args.code c.args.written c.in-Ok.ensures.takes (λ k. (c.in-Ok.ensures.marks k).0) c.in-Ok.ensures.shuts s)
+    c.args.id c.args.code c.args.written c.in-Ok.ensures.takes (λ k. (c.in-Ok.ensures.marks k).0) c.in-Ok.ensures.ends c.in-Ok.ensures.shuts s)
 
 pub returns-in-Ok-clause-heeds : goal.returns-in-Ok-clause-heeds
 returns-in-Ok-clause-heeds g c = λ run marks s heeds.
-    reset-heeds run c.args.id c.args.code c.args.written c.args.self.now.outbound c.ends.new.self.outbound c.in-Ok.ensures.marks c.in-Ok.ensures.takes.due c.in-Ok.ensures.takes.over
+    reset-heeds run c.args.id c.args.code c.args.written c.args.self.now.outbound c.ends.new.self.outbound c.in-Ok.ensures.marks c.in-Ok.ensures.takes.due c.in-Ok.ensures.ends
     c.args.self.now.streams.entries c.ends.new.self.streams.entries c.args.self.now.others.entries c.ends.new.self.others.entries c.in-Ok.ensures.shuts s.numbered s.known heeds
 
 pub returns-in-Err-clause-still : goal.returns-in-Err-clause-still

@@ -6,8 +6,8 @@ use Rattle.outwriter.proofs.TellStepsOwn.{none-over}
 use Rattle.outwriter.proofs.outbound.Outbound.credit_frame.Goals as goal
 
 pub returns-clause-frame : goal.returns-clause-frame
-returns-clause-frame c = λ run m. update-written run _ _ _ _ _ _ _ _ (c.in-Some.id, c.in-Some.n) _ c.in_ok-make_update.ensures
-    c.requires.between.begun c.requires.between.going c.requires.between.no_block c.in-Some.ensures.takes m
+returns-clause-frame c = λ run m. update-written run _ _ _ _ _ _ _ (c.in-Some.id, c.in-Some.n) _ c.in_ok-make_update.ensures
+    c.requires.between.begun c.requires.between.going c.requires.between.no_block c.in-Some.ensures.takes c.next.ensures.ends m
 
 pub returns-clause-own : goal.returns-clause-own
 returns-clause-own c = (
@@ -18,7 +18,7 @@ returns-clause-own c = (
       plain-tells run (update_frame c.in-Some.id c.in-Some.n) _ c.args.self.now.block c.args.self.now.block c.args.self.now.encoder marks c.in_ok-make_update.ensures
           (λ begun. refl) c.requires.between.no_block c.requires.between.no_block spells.1,
     ),
-    refl,
+    c.next.ensures.ends,
     ([], refl, none-over c.args.self.now),
   ),
 )
