@@ -53,14 +53,14 @@ over-more run frame old new id reset each only other sets none has k = by (k == 
     by : (b : Bool) → (k == id) ≡ b → (is_some (over_on new k) ≡ ((resets k frame || ends k frame) || is_over k run))
         × ((over_on new k ≡ Some true → ⊥) → (resets k frame || list_any (resets k) (frames_of run)) ≡ false)
     by true p =
-        let here : over_on new k ≡ Some reset = sets k ∙ ap (λ b. if b then Some reset else over_on old k) p in
+        let here : over_on new k ≡ Some reset = sets.0 k ∙ ap (λ b. if b then Some reset else over_on old k) p in
         let P : ℕ → Type 0 = λ n. over_on old n ≡ None in
         let none_k : over_on old k ≡ None = subst P (sym (eqb-true k id p)) none in (
           ap is_some here ∙ sym (ap (λ b. b || is_over k run) (each k ∙ p)),
           λ not_reset. ap (λ b. b || list_any (resets k) (frames_of run)) (only k (was-false reset (over_on new k) here not_reset)) ∙ (has k).1 (not-some (over_on old k) none_k),
         )
     by false p =
-        let same : over_on new k ≡ over_on old k = sets k ∙ ap (λ b. if b then Some reset else over_on old k) p in (
+        let same : over_on new k ≡ over_on old k = sets.0 k ∙ ap (λ b. if b then Some reset else over_on old k) p in (
           ap is_some same ∙ (has k).0 ∙ sym (ap (λ b. b || is_over k run) (each k ∙ p)),
           λ not_reset. ap (λ b. b || list_any (resets k) (frames_of run)) (other k p) ∙ (has k).1 (λ e. not_reset (same ∙ e)),
         )
@@ -75,7 +75,7 @@ ended-stand run frame old new id reset each only other updates was there sets sa
   silent = λ k e. (same.0 k).2 ∙ silent k e (k == id) refl;
   resets = λ k number. (same.0 k).2 ∙ h.resets k number;
   owes = owed-kept (Written frame ∷ run) old new same (owes-same run frame old updates h.owes);
-  no_stream_0 = sets 0 ∙ ap (λ b. if b then Some reset else over_on old 0) (ne_eqb 0 id (λ e. omega (arith, e, there))) ∙ h.no_stream_0;
+  no_stream_0 = sets.0 0 ∙ ap (λ b. if b then Some reset else over_on old 0) (ne_eqb 0 id (λ e. omega (arith, e, there))) ∙ h.no_stream_0;
 }
   where
     by-reset : (b : Bool) → Some b ≡ Some true → b ≡ true
@@ -83,8 +83,8 @@ ended-stand run frame old new id reset each only other updates was there sets sa
     by-reset false e = cc
 
     silent : (k : ℕ) → over_on new k ≡ Some true → (b : Bool) → (k == id) ≡ b → is_reset old k ≡ true
-    silent k e true p = ap (λ n. is_reset old n) (eqb-true k id p) ∙ was (by-reset reset (sym (sets k ∙ ap (λ b. if b then Some reset else over_on old k) p) ∙ e))
-    silent k e false p = h.silent k (sym (sets k ∙ ap (λ b. if b then Some reset else over_on old k) p) ∙ e)
+    silent k e true p = ap (λ n. is_reset old n) (eqb-true k id p) ∙ was (by-reset reset (sym (sets.0 k ∙ ap (λ b. if b then Some reset else over_on old k) p) ∙ e))
+    silent k e false p = h.silent k (sym (sets.0 k ∙ ap (λ b. if b then Some reset else over_on old k) p) ∙ e)
 
 -- a stream was reset where its RST_STREAM was asked for
 asked-reset : (run : List Step) (id : ℕ) (code : ErrorCode) → IsAsked id code run → was_reset id run ≡ true
@@ -200,14 +200,9 @@ headed-stand : (run : List Step) (id : ℕ) (ends_it whole : Bool) (fragment : L
 headed-stand run id true whole fragment old new sets same there none h =
     ended-stand run (headers_frame id true whole fragment) old new id false (λ k. ap (λ b. b && (k == id)) (head-ends id true whole fragment)) (λ k e. refl) (λ k e. refl)
     (no-updates run (headers_frame id true whole fragment) refl) (λ e. absurd (true≢false (sym e))) there sets same none h
-headed-stand run id false whole fragment old new ends same there none h =
-    let after = stand-same run (headers_frame id false whole fragment) old (head-ends id false whole fragment) refl (no-updates run (headers_frame id false whole fragment) refl) h in record {
-      over = over-kept (Written (headers_frame id false whole fragment) ∷ run) old new ends after.over;
-      silent = λ k e. (same.0 k).2 ∙ after.silent k (sym (ends k) ∙ e);
-      resets = λ k number. (same.0 k).2 ∙ after.resets k number;
-      owes = owed-kept (Written (headers_frame id false whole fragment) ∷ run) old new same after.owes;
-      no_stream_0 = ends 0 ∙ after.no_stream_0;
-    }
+headed-stand run id false whole fragment old new is same there none h =
+    subst (HasStates (Written (headers_frame id false whole fragment) ∷ run)) (sym is)
+    (stand-same run (headers_frame id false whole fragment) old (head-ends id false whole fragment) refl (no-updates run (headers_frame id false whole fragment) refl) h)
 
 headed-head : (run : List Step) (id : ℕ) (ends_it whole : Bool) (fragment : List ℕ) (left : Option HeaderBlock) → Keeps id whole left
     → list_any (resets id) (frames_of run) ≡ false → HasHead (headers_frame id ends_it whole fragment ∷ frames_of run) left
@@ -446,15 +441,15 @@ update-written run begun gone w waiting block owed less taken made is is_begun n
     (at-most-left (k == taken.0) taken.1 (updated k run) (owed_on owed k) (granted k run) (m.credits k) (here k))))
     (λ k. subst (λ n. n ≤ given k run) (sym (amount k)) (owed-told (k == taken.0) taken.1 (owed_on owed k) (given k run) (m.stand.owes k).0 (here k)))
     (record {
-      over = over-kept (Written (update_frame taken.0 taken.1) ∷ run) owed less ends (over-same run (update_frame taken.0 taken.1) owed refl refl m.stand.over);
-      silent = λ k e. (takes.5 k).2 ∙ m.stand.silent k (sym (ends k) ∙ e);
+      over = over-kept (Written (update_frame taken.0 taken.1) ∷ run) owed less (λ k. (ends k).0) (over-same run (update_frame taken.0 taken.1) owed refl refl m.stand.over);
+      silent = λ k e. (takes.5 k).2 ∙ m.stand.silent k (sym (ends k).0 ∙ e);
       resets = λ k there. (takes.5 k).2 ∙ m.stand.resets k there;
       owes = λ k. (
         subst (λ n. owed_on less k ≡ given k run - n) (sym (amount k)) (owed-left (k == taken.0) taken.1 (owed_on owed k) (given k run) (owed_on less k) (m.stand.owes k).0 (here k) (takes.4 k)),
         (takes.5 k).1 ∙ (m.stand.owes k).1,
         λ e. (m.stand.owes k).2 (sym (takes.5 k).0 ∙ e),
       );
-      no_stream_0 = ends 0 ∙ m.stand.no_stream_0;
+      no_stream_0 = (ends 0).0 ∙ m.stand.no_stream_0;
     })
     (λ e. (taken.1, takes.0, small, refl))
     (sym not_gone) m)

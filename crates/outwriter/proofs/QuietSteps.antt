@@ -134,7 +134,7 @@ holds-none got old new o e = subst (λ (x : Option Frame). HoldsOn got x old new
 -- ---- each call
 
 module _ {L In Out Shut : Type 0} (got ahead : Out → List OutItem) (run : List Step) (core : OutCore L In Out Shut) (marks : List (ℕ × Mark))
-    (s : Serves run core.outbound core.streams.entries core.others.entries (calls got core.senders.items) marks) (over : HasOver run core.outbound.states)
+    (s : Serves run core.outbound core.streams.entries (calls got core.senders.items) marks) (over : HasOver run core.outbound.states)
     (stuck : AreStuck core.outbound core.streams.entries (aheads ahead core.senders.items)) where
   -- the call of an open stream stands at the stream's place
   place-of : (k : ℕ) (d : ℕ × List OutItem) (stream : OpenStream) → k < length (calls got core.senders.items)

@@ -173,9 +173,9 @@ follows-moved place last moved streams left is = record {
 
 -- ---- all of it
 
-module _ (run : List Step) (o : Outbound) (streams left : List (ℕ × OpenStream)) (others : List (ℕ × Bool)) (all now : List (ℕ × List OutItem)) (marks : List (ℕ × Mark))
+module _ (run : List Step) (o : Outbound) (streams left : List (ℕ × OpenStream)) (all now : List (ℕ × List OutItem)) (marks : List (ℕ × Mark))
     (place moved id : ℕ) (items : List OutItem) (t : TakesOut place all now) (moved_is : place < length now → (get_or now place (0, [])).0 ≡ moved) (f : Follows place (length now) moved streams left)
-    (is : (d : ℕ × List OutItem) → get_or all place d ≡ (id, items)) (none : lookup (nat_eq id) streams ≡ None) (s : Serves run o streams others all marks) where
+    (is : (d : ℕ × List OutItem) → get_or all place d ≡ (id, items)) (none : lookup (nat_eq id) streams ≡ None) (s : Serves run o streams all marks) where
   abbrev from : ℕ → ℕ
   from k = came-from place (length now) k
 
@@ -251,7 +251,7 @@ module _ (run : List Step) (o : Outbound) (streams left : List (ℕ × OpenStrea
       ap (λ n. is_fresh n run) same ∙ ap (λ (c : ℕ × List OutItem). is_fresh c.0 run) (sym (is (0, []))) ∙ s.opened place (0, []) t.within
   stale k got (inr before) = s.stale k got before
 
-  pub serves-returned : Serves (Returned id items ∷ run) o left others now marks
+  pub serves-returned : Serves (Returned id items ∷ run) o left now marks
   serves-returned = record {
     spells = spells-returned run o marks id items s.spells;
     exact = exact;
@@ -265,13 +265,14 @@ module _ (run : List Step) (o : Outbound) (streams left : List (ℕ × OpenStrea
     opened = of-call (λ (c : ℕ × List OutItem). is_fresh c.0 run ≡ false) s.opened;
     credited = s.credited;
     served = s.served;
-    due = all-due run (Returned id items ∷ run) o o streams left others others (record {
-      refused = λ k e g h. (e, g, h);
+    due = all-due run (Returned id items ∷ run) o o streams left (record {
+      refused = λ k e g. (e, g);
       reset = λ k e g. (f.closed k e, g);
       asked = λ k fields asked. asked;
+      reason = λ k e. e;
     }) o.due.items s.due;
     unknown = s.unknown;
-    other = λ k was_reset e. let h = s.other k was_reset e in (f.closed k h.0, h.1);
+    other = s.other;
     stays = λ k served there gone. s.stays k served there (f.still k gone);
     early = s.early;
     reasons = λ k there gone known. s.reasons k there (f.still k gone) known;
@@ -329,9 +330,9 @@ module _ {L In Out Shut : Type 0} (got : Out → List OutItem) where
         closed = s.closed;
         serves = λ alive. let m = s.serves alive in (
           m.0,
-          serves-returned run old.outbound old.streams.entries new.streams.entries old.others.entries (calls got old.senders.items) (calls got new.senders.items) m.0
+          serves-returned run old.outbound old.streams.entries new.streams.entries (calls got old.senders.items) (calls got new.senders.items) m.0
               place moved id items t moved_is f is none m.1,
-          heeds-kept run old.outbound old.outbound old.streams.entries new.streams.entries old.others.entries (λ k there e. e) (λ k. (refl, refl)) f.closed m.2,
+          heeds-kept run old.outbound old.outbound old.streams.entries new.streams.entries (λ k there e. e) (λ k. (refl, refl, λ e. e)) f.closed m.2,
         );
       })
     where

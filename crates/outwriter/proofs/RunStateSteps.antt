@@ -10,15 +10,16 @@ use Rattle.flow.specs.WindowHistory.{Step as WindowStep}
 use Rattle.flow.specs.Windows.{Windows}
 use Rattle.h2frame.specs.declared.error_code.ErrorCode.{ErrorCode}
 use Rattle.h2frame.specs.declared.frame.Frame.{Frame}
+use Rattle.lists.specs.declared.field.Field.{Field}
 use Rattle.outwriter.specs.declared.blocks.HeaderBlock.{HeaderBlock}
 use Rattle.outwriter.specs.declared.control.Control.{Control}
-use Rattle.outwriter.specs.declared.control.Control.TheVariants.{Open, Reset}
+use Rattle.outwriter.specs.declared.control.Control.TheVariants.{Open, Refuse, Reset}
 use Rattle.outwriter.specs.declared.due.Due.{Due}
 use Rattle.outwriter.specs.declared.outbound.Outbound.{Outbound}
 use Rattle.outwriter.specs.declared.states.StreamState.{StreamState}
 use Rattle.outwriter.specs.declared.states.StreamState.TheVariants.{NoCall, Call}
 use Rattle.outwriter.specs.declared.states.StreamState.TheVariants.{Reset as StreamReset}
-use Rattle.outwriter.specs.States.{States, Grants, SameEnds, SameOwed, amount_of, is_paid, is_reset, knows, more, owed_on, pays, state_on}
+use Rattle.outwriter.specs.States.{States, Grants, SameEnds, SameOver, SameOwed, amount_of, is_paid, is_reset, knows, more, owed_on, pays, state_on}
 use Rattle.outwriter.specs.Histories.{Takes, is_stream}
 use Rattle.outwriter.specs.RunState.{Mirrors, HasWindows, HasCredit, HasOver, HasDue, HasBlock, HasOwed, HasResets, HasStates, AreAsked, Reached, GoesOn, Stays, duties_of, resets_of}
 use Rattle.outwriter.specs.Runs.{IsAsked, Fragments, unfinished, granted_by, is_opened, may_owe, opens_stream, owed, due, due_by, told, resets_stream, was_reset}
@@ -211,7 +212,7 @@ grant-owed id n run kept left grants owes k = (
 -- ---- controls
 
 -- no end is written
-pub over-kept : (run : List Step) (kept left : States) → SameEnds kept left → HasOver run kept → HasOver run left
+pub over-kept : (run : List Step) (kept left : States) → SameOver kept left → HasOver run kept → HasOver run left
 over-kept run kept left ends has id = (ap is_some (ends id) ∙ (has id).0, λ isnt. (has id).1 (λ e. isnt (ends id ∙ e)))
 
 -- nor more or less owed
@@ -221,12 +222,37 @@ owed-kept run kept left same owes k = (same.1 k ∙ (owes k).0, (same.0 k).1 ∙
 pub credit-kept : (run : List Step) (kept left : States) → SameOwed kept left → HasCredit run kept → HasCredit run left
 credit-kept run kept left same has k = omega (arith, has k, same.1 k)
 
+-- nothing changes of how the streams stand
+pub stand-kept : (run : List Step) (kept left : States) → SameOver kept left → SameOwed kept left → HasStates run kept → HasStates run left
+stand-kept run kept left over same h = record {
+  over = over-kept run kept left over h.over;
+  silent = λ k is. (same.0 k).2 ∙ h.silent k (sym (over k) ∙ is);
+  resets = λ k there. (same.0 k).2 ∙ h.resets k there;
+  owes = owed-kept run kept left same h.owes;
+  no_stream_0 = over 0 ∙ h.no_stream_0;
+}
+
+-- a Refuse
+pub refuse-led : (id : ℕ) (fields : List Field) (run : List Step) (begun gone : Bool) (w : Windows) (waiting after : List Due) (block : Option HeaderBlock) (kept left : States)
+    → SameOver kept left → SameOwed kept left → HasDue (Taken (Refuse id fields) ∷ run) after
+    → Mirrors run begun gone w waiting block kept → Mirrors (Taken (Refuse id fields) ∷ run) begun gone w after block left
+refuse-led id fields run begun gone w waiting after block kept left over same dues m = record {
+  begins = m.begins;
+  goes = m.goes;
+  windows_follow = nothing-taken run (Refuse id fields) w (λ h. refl) m.windows_follow;
+  answers = dues;
+  goes_on = same-block run (Taken (Refuse id fields) ∷ run) block refl m.goes_on;
+  not_reset = m.not_reset;
+  credits = λ k. omega (arith, m.credits k, same.1 k, sum_by-cons (granted_by k) (Taken (Refuse id fields)) run);
+  stand = quiet-stand (Refuse id fields) run left (λ k. refl) (λ k. refl) (stand-kept run kept left over same m.stand);
+}
+
 -- an Open, which leaves what is owed, and what was reset
 pub open-led : (id : ℕ) (run : List Step) (begun gone : Bool) (w windows : Windows) (waiting : List Due) (block : Option HeaderBlock)
     (is_new : Bool) (kept left : States) → is_new ≡ (is_stream id && not (knows kept id)) → ((k : ℕ) → owed_on left k ≡ owed_on kept k)
     → ((k : ℕ) → pays left k ≡ (if is_new && (k == id) then not (is_reset kept id) else pays kept k))
     → ((k : ℕ) → knows left k ≡ ((is_new && (k == id)) || knows kept k)) → ((k : ℕ) → is_reset left k ≡ is_reset kept k)
-    → SameEnds kept left → HasWindows (Taken (Open id tt) ∷ run) windows → Mirrors run begun gone w waiting block kept
+    → SameOver kept left → HasWindows (Taken (Open id tt) ∷ run) windows → Mirrors run begun gone w waiting block kept
     → Mirrors (Taken (Open id tt) ∷ run) begun gone windows waiting block left
 open-led id run begun gone w windows waiting block is_new kept left new same paid known marks ends follow m = record {
   begins = m.begins;
@@ -249,7 +275,7 @@ open-led id run begun gone w windows waiting block is_new kept left new same pai
 pub reset-led : (id : ℕ) (code : ErrorCode) (written : Bool) (run : List Step) (begun gone : Bool) (w windows : Windows) (waiting after : List Due)
     (block : Option HeaderBlock) (kept left : States) → ((k : ℕ) → owed_on left k ≡ (if is_stream id && (k == id) then 0 else owed_on kept k))
     → ((k : ℕ) → pays left k ≡ (if is_stream id && (k == id) then false else pays kept k)) → ((k : ℕ) → knows left k ≡ knows kept k)
-    → ((k : ℕ) → is_reset left k ≡ ((is_stream id && (k == id)) || is_reset kept k)) → SameEnds kept left
+    → ((k : ℕ) → is_reset left k ≡ ((is_stream id && (k == id)) || is_reset kept k)) → SameOver kept left
     → HasWindows (Taken (Reset id code written) ∷ run) windows → HasDue (Taken (Reset id code written) ∷ run) after
     → Mirrors run begun gone w waiting block kept → Mirrors (Taken (Reset id code written) ∷ run) begun gone windows after block left
 reset-led id code written run begun gone w windows waiting after block kept left less paid known marks ends follow dues m = record {
@@ -299,11 +325,11 @@ grant-led id n run begun gone w waiting block kept left grants ends m = record {
     sum_by-cons (granted_by k) (Granted id n) run,
   );
   stand = record {
-    over = over-kept run kept left ends m.stand.over;
-    silent = λ k is. (grants.0 k).2 ∙ m.stand.silent k (sym (ends k) ∙ is);
+    over = over-kept run kept left (λ k. (ends k).0) m.stand.over;
+    silent = λ k is. (grants.0 k).2 ∙ m.stand.silent k (sym (ends k).0 ∙ is);
     resets = λ k there. (grants.0 k).2 ∙ m.stand.resets k there;
     owes = grant-owed id n run kept left grants m.stand.owes;
-    no_stream_0 = ends 0 ∙ m.stand.no_stream_0;
+    no_stream_0 = (ends 0).0 ∙ m.stand.no_stream_0;
   };
 }
   where

@@ -9,13 +9,14 @@ use Rattle.account.specs.declared.call.OutItem.{OutItem}
 use Rattle.outwriter.specs.declared.outbound.Outbound.{Outbound}
 use Rattle.outwriter.specs.declared.stream.OpenStream.{OpenStream}
 use Rattle.outwriter.specs.Calls.{is_fresh, is_served}
-use Rattle.outwriter.specs.States.{SetsEnd, knows, over_on}
+use Rattle.outwriter.specs.States.{SameEnds, SetsEnd, is_heard, knows, over_on}
 use Rattle.outwriter.specs.Parts.{Mark, marks_on, on_stream, spelled, marks_of_item}
 use Rattle.outwriter.specs.StreamLooks.{Shown, shown, shows, with_item, one_more}
 use Rattle.outwriter.specs.CallState.{bytes_marks, IsExact, IsEnded, Serves}
 use Rattle.outwriter.specs.Steps.{Step}
 use Rattle.outwriter.specs.ToldByNow.{SpellsOf}
 use Rattle.outwriter.proofs.Others.{Later}
+use Rattle.outwriter.proofs.StateLemmas.{knows-heard, hears-again}
 use Rattle.outwriter.proofs.ServeSteps.{append-nil, more-here, more-elsewhere, none-some, some-none, none-shown, shown-some, from_some, serves-changed}
 
 -- ---- calls
@@ -63,24 +64,25 @@ balance told old more rest items news e f =
 
 -- ---- an open stream goes on
 
-pub goes-on : (run next : List Step) (o after : Outbound) (streams left : List (ℕ × OpenStream)) (others : List (ℕ × Bool)) (calls now : List (ℕ × List OutItem))
+pub goes-on : (run next : List Step) (o after : Outbound) (streams left : List (ℕ × OpenStream)) (calls now : List (ℕ × List OutItem))
     (marks : List (ℕ × Mark)) (id place : ℕ) (was hand : Option (List ℕ)) (more : List Mark) (news : List OutItem)
     → ((k : ℕ) → is_fresh k next ≡ is_fresh k run) → ((k : ℕ) → is_served k next ≡ is_served k run) → Later run next
     → SpellsOf next after (marks ++ on_stream id more)
     → o.due.items ≡ after.due.items → ((k : ℕ) → knows after.states k ≡ knows o.states k)
-    → ((k : ℕ) → over_on after.states k ≡ over_on o.states k)
+    → SameEnds o.states after.states
     → shows streams id ≡ Some (place, was) → ((k : ℕ) → shows left k ≡ (if k == id then Some (place, hand) else shows streams k))
     → Grows place news calls now → (bytes_marks was ++ spelled news) ≡ more ++ bytes_marks hand
-    → Serves run o streams others calls marks → Serves next after left others now (marks ++ on_stream id more)
-goes-on run next o after streams left others calls now marks id place was hand more news fresh served later spells due known over view left_shows g bal s =
-    serves-changed run next o after streams left others calls now marks (marks ++ on_stream id more) (λ k. k == id) (record {
+    → Serves run o streams calls marks → Serves next after left now (marks ++ on_stream id more)
+goes-on run next o after streams left calls now marks id place was hand more news fresh served later spells due known same_ends view left_shows g bal s =
+    serves-changed run next o after streams left calls now marks (marks ++ on_stream id more) (λ k. k == id) (record {
       same_fresh = fresh;
       same_served = served;
       later = later;
       spells = spells;
       fewer_due = ([], due);
       same_knows = known;
-      same_over = λ k p. over k;
+      same_heard = λ k. (same_ends k).1;
+      same_over = λ k p. (same_ends k).0;
       same_shown = λ k p. left_shows k ∙ ap (λ b. if b then Some (place, hand) else shows streams k) p;
       same_marks = λ k p. more-elsewhere k id marks more p;
       same_calls = other-calls place id news calls now g (λ d. (at d).0);
@@ -89,13 +91,13 @@ goes-on run next o after streams left others calls now marks id place was hand m
       closed = λ k none. closed-by k none (k == id) refl;
       exact = λ k st p e.
           subst (λ (n : ℕ). IsExact n st now (marks_on n (marks ++ on_stream id more))) (sym (eqb-true k id p)) (exact-here st (same k st p e));
-      not_over = λ k st p e. over k ∙ subst (λ (n : ℕ). over_on o.states n ≡ None) (sym (eqb-true k id p)) (s.not_over id f.0 f.1);
+      not_over = λ k st p e. (same_ends k).0 ∙ subst (λ (n : ℕ). over_on o.states n ≡ None) (sym (eqb-true k id p)) (s.not_over id f.0 f.1);
       ended = λ k d lt p none is. absurd (still (get_or calls k d).0 p none);
       returned = λ k items p none is e. absurd (none-some f.0 (sym (subst (λ (n : ℕ). lookup (nat_eq n) streams ≡ None) (eqb-true k id p) none) ∙ f.1));
-      unknown = λ k p e none. absurd (true≢false (sym (s.known id f.0 f.1) ∙ subst (λ (n : ℕ). knows o.states n ≡ false) (eqb-true k id p) e));
-      other = λ k w p e is. absurd (none-some f.0 (sym (subst (λ (n : ℕ). lookup (nat_eq n) streams ≡ None) (eqb-true k id p) (s.other k w e).0) ∙ f.1));
+      unknown = λ k p e. absurd (true≢false (sym (knows-heard o.states id (s.known id f.0 f.1)) ∙ subst (λ (n : ℕ). is_heard o.states n ≡ false) (eqb-true k id p) e));
+      other = λ k p is. absurd (true≢false (sym is ∙ ap (λ n. is_fresh n run) (eqb-true k id p) ∙ s.credited id (s.known id f.0 f.1)));
       stays = λ k p none. absurd (still k p none);
-      uncalled = λ k w p e there. absurd (true≢false (sym (s.known id f.0 f.1) ∙ subst (λ (n : ℕ). knows o.states n ≡ false) (eqb-true k id p) e));
+      uncalled = λ k p e. absurd (true≢false (sym (s.known id f.0 f.1) ∙ subst (λ (n : ℕ). knows o.states n ≡ false) (eqb-true k id p) e));
     }) s
   where
     f : (stream : OpenStream) × (lookup (nat_eq id) streams ≡ Some stream) × (stream.place ≡ place) × (stream.in_hand ≡ was)
@@ -137,7 +139,7 @@ goes-on run next o after streams left others calls now marks id place was hand m
 
 -- ---- an open stream ends
 
-pub ends : (run next : List Step) (o after : Outbound) (streams left : List (ℕ × OpenStream)) (others : List (ℕ × Bool)) (calls now : List (ℕ × List OutItem))
+pub ends : (run next : List Step) (o after : Outbound) (streams left : List (ℕ × OpenStream)) (calls now : List (ℕ × List OutItem))
     (marks : List (ℕ × Mark)) (id place : ℕ) (was : Option (List ℕ)) (more : List Mark) (news : List OutItem)
     → ((k : ℕ) → is_fresh k next ≡ is_fresh k run) → ((k : ℕ) → is_served k next ≡ is_served k run) → Later run next
     → SpellsOf next after (marks ++ on_stream id more)
@@ -145,16 +147,17 @@ pub ends : (run next : List Step) (o after : Outbound) (streams left : List (ℕ
     → SetsEnd o.states id false after.states
     → shows streams id ≡ Some (place, was) → ((k : ℕ) → shows left k ≡ (if k == id then None else shows streams k))
     → Grows place news calls now → (bytes_marks was ++ spelled news) ≡ more ++ []
-    → Serves run o streams others calls marks → Serves next after left others now (marks ++ on_stream id more)
-ends run next o after streams left others calls now marks id place was more news fresh served later spells due known sets view left_shows g bal s =
-    serves-changed run next o after streams left others calls now marks (marks ++ on_stream id more) (λ k. k == id) (record {
+    → Serves run o streams calls marks → Serves next after left now (marks ++ on_stream id more)
+ends run next o after streams left calls now marks id place was more news fresh served later spells due known sets view left_shows g bal s =
+    serves-changed run next o after streams left calls now marks (marks ++ on_stream id more) (λ k. k == id) (record {
       same_fresh = fresh;
       same_served = served;
       later = later;
       spells = spells;
       fewer_due = ([], due);
       same_knows = known;
-      same_over = λ k p. sets k ∙ ap (λ b. if b then Some false else over_on o.states k) p;
+      same_heard = hears-again o.states after.states id (knows-heard o.states id (s.known id f.0 f.1)) sets.1;
+      same_over = λ k p. sets.0 k ∙ ap (λ b. if b then Some false else over_on o.states k) p;
       same_shown = λ k p. left_shows k ∙ ap (λ (b : Bool). if b then None else shows streams k) p;
       same_marks = λ k p. more-elsewhere k id marks more p;
       same_calls = other-calls place id news calls now g (λ d. (at d).0);
@@ -165,10 +168,10 @@ ends run next o after streams left others calls now marks id place was more news
       not_over = λ k st p e. absurd (gone k p st e);
       ended = λ k d lt p none is. ended-by k d lt p is (k == place) refl;
       returned = λ k items p none is e. absurd (none-some f.0 (sym (subst (λ (n : ℕ). lookup (nat_eq n) streams ≡ None) (eqb-true k id p) none) ∙ f.1));
-      unknown = λ k p e none. absurd (true≢false (sym (s.known id f.0 f.1) ∙ subst (λ (n : ℕ). knows o.states n ≡ false) (eqb-true k id p) e));
-      other = λ k w p e is. absurd (none-some f.0 (sym (subst (λ (n : ℕ). lookup (nat_eq n) streams ≡ None) (eqb-true k id p) (s.other k w e).0) ∙ f.1));
-      stays = λ k p none. ap is_some (sets k ∙ ap (λ b. if b then Some false else over_on o.states k) p);
-      uncalled = λ k w p e there. absurd (true≢false (sym (s.known id f.0 f.1) ∙ subst (λ (n : ℕ). knows o.states n ≡ false) (eqb-true k id p) e));
+      unknown = λ k p e. absurd (true≢false (sym (knows-heard o.states id (s.known id f.0 f.1)) ∙ subst (λ (n : ℕ). is_heard o.states n ≡ false) (eqb-true k id p) e));
+      other = λ k p is. absurd (true≢false (sym is ∙ ap (λ n. is_fresh n run) (eqb-true k id p) ∙ s.credited id (s.known id f.0 f.1)));
+      stays = λ k p none. ap is_some (sets.0 k ∙ ap (λ b. if b then Some false else over_on o.states k) p);
+      uncalled = λ k p e. absurd (true≢false (sym (s.known id f.0 f.1) ∙ subst (λ (n : ℕ). knows o.states n ≡ false) (eqb-true k id p) e));
     }) s
   where
     f : (stream : OpenStream) × (lookup (nat_eq id) streams ≡ Some stream) × (stream.place ≡ place) × (stream.in_hand ≡ was)

@@ -2,7 +2,7 @@
 use Rattle.std.proofs.Common.{◌≡◌, ◌≢◌, ℕ, zero, suc, ◌+◌, ◌<◌, ◌≤◌, ◌^◌, ◌⊎◌, inl, inr, Bool, true, false, cond, sym, ap, subst, ◌∙◌, refl, true≢false, List, [], ◌∷◌, length, get_or, Option, Some, None, arith, nat_eq, is_some, swap}
 use Rattle.std.specs.Map.{lookup, lookup_key}
 use Rattle.std.specs.Option.{option_map}
-use Rattle.std.specs.Prelude.{if◌then◌else◌, ◌==◌, not, IfSome, Result, Ok, Err, OnOk}
+use Rattle.std.specs.Prelude.{◌||◌, if◌then◌else◌, ◌==◌, not, IfSome, Result, Ok, Err, OnOk}
 use Rattle.std.proofs.lemmas.Bool.{eqb-true, ne_eqb, eq-eqb}
 use Rattle.std.proofs.lemmas.Bool.Decides.{nat_tests}
 use Rattle.std.proofs.lemmas.Map.Entries.{All-lookup}
@@ -11,7 +11,7 @@ use Rattle.indexmap.proofs.ReorderLemmas.{get_or-swap, exchange}
 use Rattle.outwriter.specs.declared.states.Over.{Over}
 use Rattle.outwriter.specs.declared.states.StreamState.{StreamState}
 use Rattle.outwriter.specs.declared.states.StreamState.TheVariants.{NoCall, Call, Reset}
-use Rattle.outwriter.specs.States.{States, Opens, Resets, SameEnds, SameOwed, SameStreams, SetsEnd, AllFit, IsSettled, IsSettledFrom, IsSettledBut, IsWithin, AreNumbered, Fits, Puts, TakesAt, TakesLast, TakesAll, amount_of, by_reset, end_of, is_of_call, is_paid, is_reset, is_reset_state, knows, over_on, owed_on, pays, state_in, state_on}
+use Rattle.outwriter.specs.States.{States, Hears, Opens, Resets, SameEnds, SameOver, SameOwed, SameStreams, SetsEnd, AllFit, IsSettled, IsSettledFrom, IsSettledBut, IsWithin, AreNumbered, Fits, Puts, TakesAt, TakesLast, TakesAll, amount_of, by_reset, end_of, is_of_call, is_paid, is_heard, is_reset, is_reset_state, knows, over_on, owed_on, pays, state_in, state_on}
 
 abbrev Entry : Type 0
 Entry = ℕ × StreamState
@@ -294,16 +294,48 @@ module _ (old new : States) (id : ℕ) (state : StreamState) (positive : 0 < id)
     part-put is_reset_state k ∙ ap (λ b. if k == id then b else is_reset old k) reset,
   )
 
-  pub ends-same : end_of state ≡ end_of (state_on old id) → SameEnds old new
-  ends-same same = part-same (λ s. option_map by_reset (end_of s)) (ap (λ (o : Option Over). option_map by_reset o) same)
+  pub hears-put : Hears old id new
+  hears-put k = ap is_some (puts k) ∙ by (nat_eq id k) (k == id) refl refl
+    where
+      by : (b c : Bool) → nat_eq id k ≡ b → (k == id) ≡ c → is_some (if b then Some state else lookup (nat_eq k) old.streams) ≡ (c || is_heard old k)
+      by true true p q = refl
+      by false false p q = refl
+      by true false p q = absurd (true≢false (sym (eq-eqb k id (sym (eqb-true id k p))) ∙ q))
+      by false true p q = absurd (true≢false (sym (eq-eqb id k (sym (eqb-true k id q))) ∙ p))
+
+  pub over-same : end_of state ≡ end_of (state_on old id) → SameOver old new
+  over-same same = part-same (λ s. option_map by_reset (end_of s)) (ap (λ (o : Option Over). option_map by_reset o) same)
 
   -- its end is written
   pub ends-put : (by : Over) → end_of state ≡ Some by → SetsEnd old id (by_reset by) new
-  ends-put by same k = part-put (λ s. option_map by_reset (end_of s)) k ∙ ap (λ (o : Option Over). if k == id then option_map by_reset o else over_on old k) same
+  ends-put by same = (λ k. part-put (λ s. option_map by_reset (end_of s)) k ∙ ap (λ (o : Option Over). if k == id then option_map by_reset o else over_on old k) same, hears-put)
 
   pub owed-put-same : amount_of state ≡ amount_of (state_on old id) → is_of_call state ≡ is_of_call (state_on old id) → is_paid state ≡ is_paid (state_on old id)
       → is_reset_state state ≡ is_reset_state (state_on old id) → SameOwed old new
   owed-put-same amount call paid reset = (λ k. (part-same is_of_call call k, pays-same paid k, part-same is_reset_state reset k), owed-same amount)
+
+-- ---- streams that were heard of
+
+pub knows-heard : (states : States) (id : ℕ) → knows states id ≡ true → is_heard states id ≡ true
+knows-heard states id e = by (lookup (nat_eq id) states.streams) e
+  where
+    by : (o : Option StreamState) → is_of_call (state_in o) ≡ true → is_some o ≡ true
+    by None f = absurd (true≢false (sym f))
+    by (Some state) f = refl
+
+pub unheard-knows : (states : States) (id : ℕ) → is_heard states id ≡ false → knows states id ≡ false
+unheard-knows states id e = by (lookup (nat_eq id) states.streams) e
+  where
+    by : (o : Option StreamState) → is_some o ≡ false → is_of_call (state_in o) ≡ false
+    by None f = refl
+    by (Some state) f = absurd (true≢false f)
+
+pub unheard-over : (states : States) (id : ℕ) → is_heard states id ≡ false → over_on states id ≡ None
+unheard-over states id e = by (lookup (nat_eq id) states.streams) e
+  where
+    by : (o : Option StreamState) → is_some o ≡ false → option_map by_reset (end_of (state_in o)) ≡ None
+    by None f = refl
+    by (Some state) f = absurd (true≢false f)
 
 -- what holds of a value holds where there is one
 pub on-ok : {X E : Type 0} (r : Result X E) (P Q : Type 0) → (P → Q) → OnOk r P → OnOk r Q
@@ -340,14 +372,35 @@ takes_all old owing place (Some taken) new connection none w t settled =
       ),
     )
 
+-- where an end is written, no stream is forgotten
+pub still-heard : (old new : States) (id : ℕ) (value : Bool) → SetsEnd old id value new → (k : ℕ) → is_heard old k ≡ true → is_heard new k ≡ true
+still-heard old new id value sets k e = sets.1 k ∙ by (k == id)
+  where
+    by : (b : Bool) → (b || is_heard old k) ≡ true
+    by true = refl
+    by false = e
+
+-- one that was heard of is heard of again
+pub hears-again : (old new : States) (id : ℕ) → is_heard old id ≡ true → Hears old id new → (k : ℕ) → is_heard new k ≡ is_heard old k
+hears-again old new id heard hears k = hears k ∙ by (k == id) refl
+  where
+    by : (b : Bool) → (k == id) ≡ b → (b || is_heard old k) ≡ is_heard old k
+    by true p = sym (ap (λ n. is_heard old n) (eqb-true k id p) ∙ heard)
+    by false p = refl
+
 -- no end is written
 pub taken-ends : (old : List Entry) (owing place : ℕ) (taken : Option (ℕ × ℕ)) (new : List Entry) (connection : ℕ) → IsWithin connection old owing → TakesLast old place taken new
     → SameEnds (record { connection = connection; streams = old }) (record { connection = connection; streams = new })
-taken-ends old owing place None new connection w t = subst (λ (l : List Entry). SameEnds (record { connection = connection; streams = old }) (record { connection = connection; streams = l })) (sym t.0) (λ k. refl)
+taken-ends old owing place None new connection w t = subst (λ (l : List Entry). SameEnds (record { connection = connection; streams = old }) (record { connection = connection; streams = l })) (sym t.0) (λ k. (refl, refl))
 taken-ends old owing place (Some taken) new connection w t =
     let before : States = record { connection = connection; streams = old } in
-    part-same before (record { connection = connection; streams = new }) taken.0 (Call 0 t.0) (not_0 old taken.0 (Call taken.1 t.0) w.apart t.2) refl t.3
-    (λ state. option_map by_reset (end_of state)) (sym (ap (λ (o : Option StreamState). option_map by_reset (end_of (state_in o))) t.2))
+    let after : States = record { connection = connection; streams = new } in
+    let positive : 0 < taken.0 = not_0 old taken.0 (Call taken.1 t.0) w.apart t.2 in
+    let hears = hears-put before after taken.0 (Call 0 t.0) positive refl t.3 in
+    λ k. (
+      part-same before after taken.0 (Call 0 t.0) positive refl t.3 (λ state. option_map by_reset (end_of state)) (sym (ap (λ (o : Option StreamState). option_map by_reset (end_of (state_in o))) t.2)) k,
+      hears-again before after taken.0 (ap is_some t.2) hears k,
+    )
 
 -- what is taken is a stream's, or the connection's
 pub taken-numbered : (old : List Entry) (place : ℕ) (taken : Option (ℕ × ℕ)) (new : List Entry) → AreNumbered old → TakesLast old place taken new

@@ -12,22 +12,30 @@ use Rattle.outwriter.specs.declared.due.Due.{Due}
 use Rattle.outwriter.specs.declared.due.Due.TheVariants as due_kind
 use Rattle.outwriter.specs.declared.outbound.Outbound.{Outbound}
 use Rattle.outwriter.specs.CoreChanges.{may_write}
-use Rattle.outwriter.specs.States.{SameEnds, SameOwed, SetsEnd, is_reset, knows, over_on}
+use Rattle.outwriter.specs.States.{SameEnds, SameOwed, SetsEnd, is_heard, is_reset, knows, over_on}
 use Rattle.outwriter.specs.Histories.{is_stream}
 use Rattle.outwriter.specs.RunState.{Ends}
 use Rattle.outwriter.specs.Parts.{Mark}
 use Rattle.outwriter.specs.CallState.{AreOver, Rests, IsOwn, OwnOrRests, is_due_of}
 use Rattle.outwriter.specs.ToldByNow.{SameStanding, Spells, SpellsOf, KeepsTelling, TellsMore, TellsBlock, OwnByDue, block_marks}
+use Rattle.outwriter.proofs.StateLemmas.{still-heard}
 use Rattle.outwriter.proofs.EndsKept.{dues-same}
 use Rattle.outwriter.proofs.TellSteps.{rests-tells}
 
 -- how the streams stand, by one step behind another
 standing-then : (old mid new : Outbound) → SameStanding old mid → SameStanding mid new → SameStanding old new
-standing-then old mid new a b id = ((b id).0 ∙ (a id).0, (b id).1 ∙ (a id).1)
+standing-then old mid new a b id = ((b id).0 ∙ (a id).0, (b id).1 ∙ (a id).1, λ e. (b id).2 ((a id).2 e))
 
 -- and where what is owed is the same
 pub standing-same : (old new : Outbound) → new.states ≡ old.states → SameStanding old new
-standing-same old new e id = (ap (λ owed. knows owed id) e, ap (λ owed. is_reset owed id) e)
+standing-same old new e id = (ap (λ s. knows s id) e, ap (λ s. is_reset s id) e, λ heard. ap (λ s. is_heard s id) e ∙ heard)
+
+-- and whose ends were written
+ends-then : (old mid new : Outbound) → SameEnds old.states mid.states → SameEnds mid.states new.states → SameEnds old.states new.states
+ends-then old mid new a b id = ((b id).0 ∙ (a id).0, (b id).1 ∙ (a id).1)
+
+pub ends-same : (old new : Outbound) → new.states ≡ old.states → SameEnds old.states new.states
+ends-same old new e id = (ap (λ s. over_on s id) e, ap (λ s. is_heard s id) e)
 
 -- ---- after steps that drop what was due at most
 
@@ -41,7 +49,7 @@ more-over old mid front more same standing a b id there e =
   where
     by : (d : Bool) → list_any (is_due_of old.states id) front ≡ d → is_some (over_on old.states id) ≡ true
     by true p = a id there p
-    by false p = sym (ap is_some (same id))
+    by false p = sym (ap is_some (same id).0)
         ∙ b id there (dues-same old.states mid.states id (standing id).1 more
         ∙ sym (list_any-append (is_due_of old.states id) front more ∙ ap (λ d. d || list_any (is_due_of old.states id) more) p) ∙ e)
 
@@ -56,7 +64,7 @@ rests-rests old mid new a b = record {
     more-over old mid a.due.0 b.due.0 a.over a.standing a.due.2 b.due.2,
   );
   standing = standing-then old mid new a.standing b.standing;
-  over = λ id. b.over id ∙ a.over id;
+  over = ends-then old mid new a.over b.over;
   begun = b.begun ∙ a.begun;
   block = b.block ∙ a.block;
   encoder = b.encoder ∙ a.encoder;
@@ -66,18 +74,19 @@ pub more-after : (frame : Frame) (more : List (ℕ × Mark)) (old mid new : Outb
 more-after frame more old mid new keeps tells run marks spells = tells run marks (keeps run marks spells)
 
 still-open : (old mid : Outbound) (id : ℕ) → SameEnds old.states mid.states → over_on mid.states id ≡ None → over_on old.states id ≡ None
-still-open old mid id e none = sym (e id) ∙ none
+still-open old mid id e none = sym (e id).0 ∙ none
 
 -- an end that is written here was so by what came before
 still-set : (old mid new : Outbound) (id : ℕ) (value : Bool) → SameEnds old.states mid.states → SetsEnd mid.states id value new.states → SetsEnd old.states id value new.states
-still-set old mid new id value e sets k = sets k ∙ ap (λ o. if k == id then Some value else o) (e k)
+still-set old mid new id value e sets =
+    (λ k. sets.0 k ∙ ap (λ o. if k == id then Some value else o) (e k).0, λ k. sets.1 k ∙ ap (λ b. (k == id) || b) (e k).1)
 
 pub rests-own : (old mid new : Outbound) (frame : Frame) → Rests old mid → IsOwn frame mid new → IsOwn frame old new
 rests-own old mid new frame rests (known, inl (tells, over, (front, due, dropped))) = (
   standing-then old mid new rests.standing known,
   inl (
     more-after frame [] old mid new (rests-tells old mid rests) tells,
-    λ id. over id ∙ rests.over id,
+    ends-then old mid new rests.over over,
     (
       rests.due.0 ++ front,
       rests-due old.due.items mid.due.items new.due.items rests.due.0 front rests.due.1 due,
@@ -122,7 +131,7 @@ pub dropped-rests : (mid popped : Outbound) (one : Due) → mid.due.items ≡ on
 dropped-rests mid popped one first is over = record {
   due = (one ∷ [], first, over);
   standing = standing-same mid popped (ap (λ (o : Outbound). o.states) is);
-  over = λ id. ap (λ (o : Outbound). over_on o.states id) is;
+  over = ends-same mid popped (ap (λ (o : Outbound). o.states) is);
   begun = ap (λ (o : Outbound). o.begun) is;
   block = ap (λ (o : Outbound). o.block) is;
   encoder = ap (λ (o : Outbound). o.encoder) is;
@@ -152,8 +161,8 @@ due-own mid popped new (due_kind.Reset id code) frame first is ((same, known), (
     [],
     first ∙ ap (λ due. due_kind.Reset id code ∷ due.items) (sym same),
     (tells.0, more-after frame _ mid popped new (popped-tells mid popped is) tells.1),
-    still-open mid popped id (λ k. ap (λ (o : Outbound). over_on o.states k) is) none,
-    still-set mid popped new id true (λ k. ap (λ (o : Outbound). over_on o.states k) is) sets,
+    still-open mid popped id (ends-same mid popped (ap (λ (o : Outbound). o.states) is)) none,
+    still-set mid popped new id true (ends-same mid popped (ap (λ (o : Outbound). o.states) is)) sets,
     none-over mid,
   )),
 )
@@ -165,8 +174,8 @@ due-own mid popped new (due_kind.Refuse id fields) frame first is ((same, known)
     [],
     first ∙ ap (λ due. due_kind.Refuse id fields ∷ due.items) (sym same),
     more-after frame (block_marks id fields true) mid popped new (popped-tells mid popped is) tells,
-    still-open mid popped id (λ k. ap (λ (o : Outbound). over_on o.states k) is) none,
-    still-set mid popped new id false (λ k. ap (λ (o : Outbound). over_on o.states k) is) sets,
+    still-open mid popped id (ends-same mid popped (ap (λ (o : Outbound). o.states) is)) none,
+    still-set mid popped new id false (ends-same mid popped (ap (λ (o : Outbound). o.states) is)) sets,
     none-over mid,
   )),
 )
@@ -219,10 +228,10 @@ pub refusal-own : {E : Type 0} (id : ℕ) (fields : List Field) (bytes : List �
     → IfOk result (λ frame. OwnByDue (due_kind.Refuse id fields) frame old new)
 refusal-own id fields bytes (Err e) old mid new is none writes tells sets same rest = tt
 refusal-own id fields bytes (Ok frame) old mid new is none writes tells sets same rest = (
-  (ap (λ (o : Outbound). o.due) rest ∙ ap (λ (o : Outbound). o.due) is, standing-then old mid new (standing-same old mid (ap (λ (o : Outbound). o.states) is)) (λ k. ((same.0 k).0, (same.0 k).2))),
+  (ap (λ (o : Outbound). o.due) rest ∙ ap (λ (o : Outbound). o.due) is, standing-then old mid new (standing-same old mid (ap (λ (o : Outbound). o.states) is)) (λ k. ((same.0 k).0, (same.0 k).2, λ e. still-heard mid.states new.states id false sets k e))),
   (
     λ run marks spells. tells run marks fields old.encoder
         (subst (λ (b : Option HeaderBlock). Spells run b old.encoder marks) (sym (ap (λ (o : Outbound). o.block) is)) spells.1) writes,
-    (none, still-set old mid new id false (λ k. ap (λ (o : Outbound). over_on o.states k) is) sets),
+    (none, still-set old mid new id false (ends-same old mid (ap (λ (o : Outbound). o.states) is)) sets),
   ),
 )

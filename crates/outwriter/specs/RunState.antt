@@ -1,7 +1,6 @@
 -- What a writer keeps follows from its run.
-use Rattle.std.specs.Prelude.{◌≡◌, ◌≢◌, ◌⊎◌, ◌&&◌, All, ℕ, ◌+◌, ◌≤◌, ◌==◌, Bool, true, false, List, [], ◌∷◌, ◌++◌, flat_map, Option, None, Some, IfSome, MatchOption, Result, Ok, Err, is_some, nat_eq, nat_lt, if◌then◌else◌}
+use Rattle.std.specs.Prelude.{◌≡◌, ◌≢◌, ◌⊎◌, ◌&&◌, All, ℕ, ◌+◌, ◌≤◌, ◌==◌, Bool, true, false, List, [], ◌∷◌, ◌++◌, flat_map, Option, None, Some, IfSome, MatchOption, Result, Ok, Err, is_some, nat_lt, if◌then◌else◌}
 use Rattle.std.specs.List.{list_any}
-use Rattle.std.specs.Map.{lookup}
 use Rattle.flow.specs.WindowHistory.{Follows, Closing, Spending, CanCredit, CanResize}
 use Rattle.flow.specs.WindowHistory.{Step as WindowStep}
 use Rattle.flow.specs.Windows.{Windows}
@@ -18,7 +17,7 @@ use Rattle.outwriter.specs.declared.next.Next.TheVariants as next
 use Rattle.outwriter.specs.declared.due.Due.{Due}
 use Rattle.outwriter.specs.declared.due.Due.TheVariants as due_kind
 use Rattle.outwriter.specs.declared.outbound.Outbound.{Outbound}
-use Rattle.outwriter.specs.States.{States, SameEnds, SetsEnd, over_on, owed_on, pays, knows, is_reset}
+use Rattle.outwriter.specs.States.{States, SetsEnd, over_on, owed_on, pays, knows, is_reset}
 use Rattle.outwriter.specs.Frames.{is_last, resets, settings_ack, ping_ack, goaway_frame}
 use Rattle.outwriter.specs.Histories.{HasHistory, HasWindow, Overflows, window_sizes, is_over, is_stream}
 use Rattle.outwriter.specs.Runs.{IsLawful, has_begun, IsAsked, due, told, unfinished, granted, updated, owed, may_owe, is_opened, was_reset, MayWrite}
@@ -88,10 +87,6 @@ pub record HasStates (run : List Step) (states : States) : Type 0 where
 
 -- ---- what a frame changes
 
--- a map of streams in which one has another value
-abbrev pub Sets : List (ℕ × Bool) → ℕ → Bool → List (ℕ × Bool) → Type 0
-Sets over id value after = (k : ℕ) → lookup (nat_eq k) after ≡ (if k == id then Some value else lookup (nat_eq k) over)
-
 -- what the end of a stream closes
 abbrev pub closing : ℕ → Bool → List WindowStep
 closing id ends_it = if ends_it then Closing id ∷ [] else []
@@ -108,7 +103,7 @@ Keeps id false left = MatchOption left ⊥ (λ block. (block.begun ≡ true) × 
 -- the end of a stream is written, where it is one
 abbrev pub Ends : States → ℕ → Bool → States → Type 0
 Ends old id true new = SetsEnd old id false new
-Ends old id false new = SameEnds old new
+Ends old id false new = new ≡ old
 
 -- ---- all of it
 

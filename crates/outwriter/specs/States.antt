@@ -1,5 +1,5 @@
 -- How the streams stand of a connection (RFC 9113, section 5.1), and the credit that is owed to the peer (section 6.9).
-use Rattle.std.specs.Prelude.{◌≡◌, ◌≢◌, ℕ, ◌+◌, ◌<◌, ◌≤◌, ◌^◌, ◌==◌, min, not, nat_eq, Bool, true, false, List, [], length, get_or, All, Option, None, Some, is_some, if◌then◌else◌}
+use Rattle.std.specs.Prelude.{◌≡◌, ◌≢◌, ℕ, ◌+◌, ◌<◌, ◌≤◌, ◌^◌, ◌==◌, ◌||◌, min, not, nat_eq, Bool, true, false, List, [], length, get_or, All, Option, None, Some, is_some, if◌then◌else◌}
 use Rattle.std.specs.Map.{lookup}
 use Rattle.std.specs.Option.{option_map}
 use Rattle.indexmap.specs.IndexMap.{set_value_at}
@@ -78,6 +78,10 @@ knows states id = is_of_call (state_on states id)
 abbrev pub is_reset : States → ℕ → Bool
 is_reset states id = is_reset_state (state_on states id)
 
+-- something was heard of it, or written on it
+abbrev pub is_heard : States → ℕ → Bool
+is_heard states id = is_some (lookup (nat_eq id) states.streams)
+
 abbrev pub nothing_known : States
 nothing_known = record { connection = 0; streams = [] }
 
@@ -92,8 +96,16 @@ abbrev pub SameStreams : States → States → Type 0
 SameStreams old new = (id : ℕ) → (knows new id ≡ knows old id) × (pays new id ≡ pays old id) × (is_reset new id ≡ is_reset old id)
 
 -- the ends of the same streams were written
+abbrev pub SameOver : States → States → Type 0
+SameOver old new = (id : ℕ) → over_on new id ≡ over_on old id
+
+-- and the same were heard of
 abbrev pub SameEnds : States → States → Type 0
-SameEnds old new = (id : ℕ) → over_on new id ≡ over_on old id
+SameEnds old new = (id : ℕ) → (over_on new id ≡ over_on old id) × (is_heard new id ≡ is_heard old id)
+
+-- this one was heard of too
+abbrev pub Hears : States → ℕ → States → Type 0
+Hears old id new = (other : ℕ) → is_heard new other ≡ ((other == id) || is_heard old other)
 
 -- the same is owed
 abbrev pub SameOwed : States → States → Type 0
@@ -101,7 +113,7 @@ SameOwed old new = SameStreams old new × ((id : ℕ) → owed_on new id ≡ owe
 
 -- the end of a stream is written, by RST_STREAM or not
 abbrev pub SetsEnd : States → ℕ → Bool → States → Type 0
-SetsEnd old id value new = (other : ℕ) → over_on new other ≡ (if other == id then Some value else over_on old other)
+SetsEnd old id value new = ((other : ℕ) → over_on new other ≡ (if other == id then Some value else over_on old other)) × Hears old id new
 
 -- a call begins, on whose stream credit may be owed unless it was reset
 abbrev pub Opens : States → ℕ → States → Type 0

@@ -8,7 +8,7 @@ ghost use Rattle.std.specs.Prelude.{Err, ◌==◌, ◌∷◌, if◌then◌else�
 ghost use Rattle.flow.specs.WindowHistory.{Follows, CanCredit, CanResize};
 ghost use Rattle.flow.specs.WindowHistory.{Step as WindowStep};
 ghost use Rattle.flow.specs.Windows.{balance};
-ghost use Rattle.outwriter.specs.States.{SameEnds, is_reset, knows, owed_on, nothing_known, pays};
+ghost use Rattle.outwriter.specs.States.{SameOver, is_heard, is_reset, knows, owed_on, nothing_known, pays};
 ghost use Rattle.outwriter.specs.RunState.{HasOver};
 ghost use Rattle.outwriter.specs.Histories.{is_stream as is_number, table_sizes};
 ghost use Rattle.outwriter.specs.TableLimits.{limited_by};
@@ -161,14 +161,28 @@ impl Outbound {
         is_stream(id) && self.states.state(id).over().is_none() && !self.windows.has(id)
     }
 
-    /// Owes the one header block of a stream.
-    pub(crate) fn take_refuse(&mut self, id: StreamId, fields: Sequence<Field>)
+    /// Owes the one header block of a stream. Out of memory, it hands its fields back and changes nothing.
+    pub(crate) fn take_refuse(
+        &mut self,
+        id: StreamId,
+        fields: Sequence<Field>,
+    ) -> Result<(), Sequence<Field>>
+        requires stream { 0 < id }
+        requires number { id < 2 ^ 31 }
         requires room { deque_len self.old.due < deque_capacity self.old.due }
-        ensures taken { Leads (Taken (order.Refuse id fields)) self.old self.new }
-        ensures takes { Takes (due_kind.Refuse id fields ∷ []) none_is_new [] self.old self.new }
+        ensures taken { OnOk result (Leads (Taken (order.Refuse id fields)) self.old self.new) }
+        ensures takes { OnOk result (Takes (due_kind.Refuse id fields ∷ []) none_is_new [] self.old self.new) }
+        ensures back { IfErr result (λ back. back ≡ fields) }
+        ensures unchanged { OnErr result (self.new ≡ self.old) }
         ensures encoder { self.new.encoder ≡ self.old.encoder }
     {
-        self.due.push_back_reserved(Due::Refuse(id, fields));
+        match self.states.hear(id) {
+            Ok(()) => {
+                self.due.push_back_reserved(Due::Refuse(id, fields));
+                Ok(())
+            }
+            Err(_e) => Err(fields),
+        }
     }
 
     /// Resets a stream: its window is closed, no credit is owed on it, and nothing is written on it any more but RST_STREAM, where the Reset
@@ -183,7 +197,8 @@ impl Outbound {
         ensures taken { OnOk result (Leads (Taken (order.Reset id code written)) self.old self.new) }
         ensures takes { OnOk result (Takes (due_reset self.old id code written) none_is_new [] (record self.old { states = self.new.states }) self.new) }
         ensures marks { OnOk result ((k : ℕ) → (knows self.new.states k ≡ knows self.old.states k) × (is_reset self.new.states k ≡ ((is_number id && (k == id)) || is_reset self.old.states k))) }
-        ensures ends { OnOk result (SameEnds self.old.states self.new.states) }
+        ensures heard { OnOk result ((k : ℕ) → is_heard self.new.states k ≡ ((is_number id && (k == id)) || is_heard self.old.states k)) }
+        ensures over { OnOk result (SameOver self.old.states self.new.states) }
         ensures unchanged { OnErr result (self.new ≡ self.old) }
         ensures encoder { self.new.encoder ≡ self.old.encoder }
     {
@@ -243,7 +258,8 @@ fn open_state(states: &mut StreamStates, id: StreamId, is_new: bool) -> Result<(
     ensures pays { OnOk result ((other : ℕ) → pays states.new other ≡ (if is_new && (other == id) then not (is_reset states.old id) else pays states.old other)) }
     ensures known { OnOk result ((other : ℕ) → knows states.new other ≡ ((is_new && (other == id)) || knows states.old other)) }
     ensures resets { OnOk result ((other : ℕ) → is_reset states.new other ≡ is_reset states.old other) }
-    ensures ends { OnOk result (SameEnds states.old states.new) }
+    ensures heard { OnOk result ((other : ℕ) → is_heard states.new other ≡ ((is_new && (other == id)) || is_heard states.old other)) }
+    ensures over { OnOk result (SameOver states.old states.new) }
     ensures unchanged { OnErr result (states.new ≡ states.old) }
 {
     if !is_new {
@@ -258,7 +274,8 @@ fn reset_state(states: &mut StreamStates, id: StreamId) -> Result<(), AllocError
     ensures pays { OnOk result ((k : ℕ) → pays states.new k ≡ (if is_number id && (k == id) then false else pays states.old k)) }
     ensures known { OnOk result ((k : ℕ) → knows states.new k ≡ knows states.old k) }
     ensures resets { OnOk result ((k : ℕ) → is_reset states.new k ≡ ((is_number id && (k == id)) || is_reset states.old k)) }
-    ensures ends { OnOk result (SameEnds states.old states.new) }
+    ensures heard { OnOk result ((k : ℕ) → is_heard states.new k ≡ ((is_number id && (k == id)) || is_heard states.old k)) }
+    ensures over { OnOk result (SameOver states.old states.new) }
     ensures unchanged { OnErr result (states.new ≡ states.old) }
 {
     if !is_stream(id) {

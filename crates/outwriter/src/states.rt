@@ -3,7 +3,7 @@
 
 ghost use Rattle.std.specs.Prelude.{◌≡◌, ◌<◌, ◌≤◌, ◌^◌, ℕ, Some, false, true, not, IfSome, OnOk, OnErr, length, nat_eq};
 ghost use Rattle.std.specs.Map.{lookup};
-ghost use Rattle.outwriter.specs.States.{nothing_known, knows, is_reset, state_on, amount_of, by_reset, more, Opens, Grants, Resets, SameEnds, SameOwed, SetsEnd, Puts, TakesAll, Adds, AllFit, IsSettledBut, IsSettledFrom, TakesAt, TakesLast};
+ghost use Rattle.outwriter.specs.States.{nothing_known, knows, is_reset, state_on, amount_of, by_reset, more, is_heard, Hears, Opens, Grants, Resets, SameEnds, SameOver, SameOwed, SetsEnd, Puts, TakesAll, Adds, AllFit, IsSettledBut, IsSettledFrom, TakesAt, TakesLast};
 
 use flow::MAX_WINDOW;
 use h2frame::StreamId;
@@ -154,16 +154,37 @@ impl StreamStates {
         }
     }
 
+    /// Whether something was heard of a stream, or written on it.
+    pub(crate) fn is_heard(&self, id: StreamId) -> bool
+        ensures { result ≡ is_heard self.now id }
+    {
+        self.streams.contains_key(&id)
+    }
+
     /// The stream of a call that begins. None is owed on one that was reset.
     pub(crate) fn open(&mut self, id: StreamId) -> Result<(), AllocError>
         requires stream { 0 < id }
         requires number { id < 2 ^ 31 }
         requires not_open { knows self.old id ≡ false }
         ensures ok { OnOk result (Opens self.old id self.new) }
-        ensures ends { OnOk result (SameEnds self.old self.new) }
+        ensures hears { OnOk result (Hears self.old id self.new) }
+        ensures over { OnOk result (SameOver self.old self.new) }
         ensures unchanged { OnErr result (self.new ≡ self.old) }
     {
         let state = self.state(id).opened();
+        self.put(id, state)
+    }
+
+    /// A stream is heard of. It stands as it did.
+    pub(crate) fn hear(&mut self, id: StreamId) -> Result<(), AllocError>
+        requires stream { 0 < id }
+        requires number { id < 2 ^ 31 }
+        ensures hears { OnOk result (Hears self.old id self.new) }
+        ensures over { OnOk result (SameOver self.old self.new) }
+        ensures owed { OnOk result (SameOwed self.old self.new) }
+        ensures unchanged { OnErr result (self.new ≡ self.old) }
+    {
+        let state = self.state(id);
         self.put(id, state)
     }
 
@@ -172,7 +193,8 @@ impl StreamStates {
         requires stream { 0 < id }
         requires number { id < 2 ^ 31 }
         ensures ok { OnOk result (Resets self.old id self.new) }
-        ensures ends { OnOk result (SameEnds self.old self.new) }
+        ensures hears { OnOk result (Hears self.old id self.new) }
+        ensures over { OnOk result (SameOver self.old self.new) }
         ensures unchanged { OnErr result (self.new ≡ self.old) }
     {
         let state = self.state(id).reset();

@@ -57,14 +57,14 @@ returns-in-Ok-None-2-clause-no_frame g c = λ run reached s alive.
 
 pub returns-in-Ok-None-clause-ended : goal.returns-in-Ok-None-clause-ended
 returns-in-Ok-None-clause-ended g c = λ run reached s alive.
-    ended-if run c.choose.new.self.outbound c.choose.new.self.streams.entries c.choose.new.self.others.entries
+    ended-if run c.choose.new.self.outbound c.choose.new.self.streams.entries
     (subst (λ (o : Option Frame). IfNone o (IsSpent c.choose.new.self.outbound)) c.in-Ok-None.field-0-is c.in-Ok-None.ensures.spent)
     ((subst (λ (o : Option Frame). Progresses o c.args.self.now.outbound c.choose.new.self.outbound) c.in-Ok-None.field-0-is c.in-Ok-None.ensures.frame) run reached.0).stand.over
     (subst (λ (o : Option Frame). HoldsOn g.L.Lane.got o c.args.self.now c.choose.new.self) c.in-Ok-None.field-0-is c.in-Ok-None.ensures.served run (s.serves alive)).2
 
 pub returns-in-Ok-None-2-clause-ended : goal.returns-in-Ok-None-2-clause-ended
 returns-in-Ok-None-2-clause-ended g c = λ run reached s alive.
-    ended-if run c.choose.new.self.outbound c.choose.new.self.streams.entries c.choose.new.self.others.entries
+    ended-if run c.choose.new.self.outbound c.choose.new.self.streams.entries
     (subst (λ (o : Option Frame). IfNone o (IsSpent c.choose.new.self.outbound)) c.in-Ok-None.field-0-is c.in-Ok-None.ensures.spent)
     ((subst (λ (o : Option Frame). Progresses o c.args.self.now.outbound c.choose.new.self.outbound) c.in-Ok-None.field-0-is c.in-Ok-None.ensures.frame) run reached.0).stand.over
     (subst (λ (o : Option Frame). HoldsOn g.L.Lane.got o c.args.self.now c.choose.new.self) c.in-Ok-None.field-0-is c.in-Ok-None.ensures.served run (s.serves alive)).2

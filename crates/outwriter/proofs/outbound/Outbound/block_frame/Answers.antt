@@ -18,7 +18,7 @@ returns-clause-frame c = λ run m.
 pub returns-clause-own : goal.returns-clause-own
 returns-clause-own c =
     let is : c.args.self.now.block ≡ Some c.in-Some.block = sym c.take.ensures.value ∙ c.in-Some.is in (
-      λ id. (refl, refl),
+      λ id. (refl, refl, λ e. e),
       inl (
         λ run marks spells. (
           λ e. absurd (true≢false (sym c.requires.begun ∙ e)),
@@ -26,7 +26,7 @@ returns-clause-own c =
               (next-tells run c.in-Some.block c.in_ok-frame.frame c.in_ok-frame.rest c.args.self.now.encoder marks c.in_ok-frame.ensures.frame c.in_ok-frame.ensures.rest
               (subst (λ (b : Option HeaderBlock). Spells run b c.args.self.now.encoder marks) is spells.1)),
         ),
-        λ id. refl,
+        λ id. (refl, refl),
         ([], refl, none-over c.args.self.now),
       ),
     )

@@ -1,4 +1,4 @@
-use Rattle.std.proofs.Common.{inl, refl, []}
+use Rattle.std.proofs.Common.{◌∙◌, inl, refl, []}
 use Rattle.outwriter.specs.Frames.{update_frame}
 use Rattle.outwriter.proofs.TellSteps.{plain-tells}
 use Rattle.outwriter.proofs.EndSteps.{update-written}
@@ -11,7 +11,7 @@ returns-clause-frame c = λ run m. update-written run _ _ _ _ _ _ _ (c.in-Some.i
 
 pub returns-clause-own : goal.returns-clause-own
 returns-clause-own c = (
-  λ id. ((c.in-Some.ensures.takes.5 id).0, (c.in-Some.ensures.takes.5 id).2),
+  λ id. ((c.in-Some.ensures.takes.5 id).0, (c.in-Some.ensures.takes.5 id).2, λ e. (c.next.ensures.ends id).1 ∙ e),
   inl (
     λ run marks spells. (
       spells.0,

@@ -16,13 +16,13 @@ returns-clause-written c = λ run m. due-written run _ _ _ _ (Goaway c.args.last
 
 pub returns-clause-own : goal.returns-clause-own
 returns-clause-own c = (
-  (refl, λ id. (refl, refl)),
+  (refl, λ id. (refl, refl, λ e. e)),
   (
     λ run marks spells. (
       spells.0,
       plain-tells run (goaway_frame c.args.last c.args.code) _ c.args.self.now.block c.args.self.now.block c.args.self.now.encoder marks c.in_ok-frame.ensures
           (λ begun. refl) c.requires.no_block c.requires.no_block spells.1,
     ),
-    λ id. refl,
+    λ id. (refl, refl),
   ),
 )

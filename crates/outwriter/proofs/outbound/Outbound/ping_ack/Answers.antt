@@ -18,14 +18,14 @@ returns-clause-written c = IfOk-weaker c.make_ping_ack.result (λ (frame : Frame
 pub returns-clause-own : goal.returns-clause-own
 returns-clause-own c = IfOk-weaker c.make_ping_ack.result (λ (frame : Frame). frame ≡ ping_ack c.args.bytes) (λ (frame : Frame). OwnByDue (PingAck c.args.bytes) frame c.args.self.now c.args.self.now)
     (λ frame is. (
-      (refl, λ id. (refl, refl)),
+      (refl, λ id. (refl, refl, λ e. e)),
       (
         λ run marks spells. (
           spells.0,
           plain-tells run (ping_ack c.args.bytes) _ c.args.self.now.block c.args.self.now.block c.args.self.now.encoder marks is
               (λ begun. refl) c.requires.no_block c.requires.no_block spells.1,
         ),
-        λ id. refl,
+        λ id. (refl, refl),
       ),
     ))
     c.make_ping_ack.ensures

@@ -1,6 +1,7 @@
-use Rattle.std.proofs.Common.{refl}
+use Rattle.std.proofs.Common.{true, refl}
 use Rattle.outwriter.specs.Frames.{reset_frame}
 use Rattle.outwriter.proofs.TellSteps.{plain-tells}
+use Rattle.outwriter.proofs.StateLemmas.{still-heard}
 use Rattle.outwriter.proofs.EndSteps.{reset-written}
 use Rattle.outwriter.proofs.outbound.Outbound.reset_frame.Goals as goal
 
@@ -10,7 +11,7 @@ returns-clause-written c = λ run m. reset-written run _ _ _ _ _ _ _ _ c.args.id
 
 pub returns-clause-own : goal.returns-clause-own
 returns-clause-own c = (
-  (refl, λ id. ((c.in_ok-close.ensures.owed.0 id).0, (c.in_ok-close.ensures.owed.0 id).2)),
+  (refl, λ id. ((c.in_ok-close.ensures.owed.0 id).0, (c.in_ok-close.ensures.owed.0 id).2, still-heard c.args.self.now.states c.close.new.states c.args.id true c.in_ok-close.ensures.ends id)),
   (
     (
       _,

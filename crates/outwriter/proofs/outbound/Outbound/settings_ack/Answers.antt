@@ -11,13 +11,13 @@ returns-clause-written c = λ run m. due-written run _ _ _ _ SettingsAck _ _ _ _
 
 pub returns-clause-own : goal.returns-clause-own
 returns-clause-own c = (
-  (refl, λ id. (refl, refl)),
+  (refl, λ id. (refl, refl, λ e. e)),
   (
     λ run marks spells. (
       spells.0,
       plain-tells run settings_ack _ c.args.self.now.block c.args.self.now.block c.args.self.now.encoder marks c.make_settings_ack.ensures
           (λ begun. refl) c.requires.no_block c.requires.no_block spells.1,
     ),
-    λ id. refl,
+    λ id. (refl, refl),
   ),
 )

@@ -26,12 +26,12 @@ returns-then-not-opens-clause-taken c = all c.open_state.result
     (open-taken run c.args.id c.args.self.now.windows c.args.self.now.windows c.opens.result (λ h f. c.opens.ensures.value run h m.stand.over f)
     (λ h f. subst (λ b. Follows (if b then Opening c.args.id ∷ h else h) c.args.self.now.windows) (sym c.if-not-opens.true) f)
     m.windows_follow) m)
-    c.open_state.ensures.owed c.open_state.ensures.pays c.open_state.ensures.known c.open_state.ensures.resets c.open_state.ensures.ends
+    c.open_state.ensures.owed c.open_state.ensures.pays c.open_state.ensures.known c.open_state.ensures.resets c.open_state.ensures.over
 
 pub returns-in-Ok-open_state-clause-taken : goal.returns-in-Ok-open_state-clause-taken
 returns-in-Ok-open_state-clause-taken c = λ run m.
     open-led c.args.id run _ _ _ _ _ _ c.args.is_new c.args.self.now.states c.open_state-2.new.states c.requires c.in-Ok-open_state.ensures.owed c.in-Ok-open_state.ensures.pays
-    c.in-Ok-open_state.ensures.known c.in-Ok-open_state.ensures.resets c.in-Ok-open_state.ensures.ends
+    c.in-Ok-open_state.ensures.known c.in-Ok-open_state.ensures.resets c.in-Ok-open_state.ensures.over
     (open-taken run c.args.id c.args.self.now.windows c.open.new.self c.opens.result (λ h f. c.opens.ensures.value run h m.stand.over f)
     (λ h f. subst (λ b. Follows (if b then Opening c.args.id ∷ h else h) c.open.new.self) (sym c.if-not-opens.false) (c.in-Ok.ensures.follows h f))
     m.windows_follow) m
