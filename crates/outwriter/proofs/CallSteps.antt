@@ -1,6 +1,6 @@
 -- What a writer keeps of its calls, after a control that it takes.
 use Rattle.std.proofs.Common.{◌≡◌, ℕ, ◌<◌, ◌==◌, ◌⊎◌, inl, inr, refl, sym, ap, subst, ◌∙◌, Bool, true, false, List, [], ◌∷◌, ◌++◌, Option, Some, None, length, get_or, arith, nat_eq, true≢false}
-use Rattle.std.specs.Prelude.{All, ◌||◌, is_some, if◌then◌else◌}
+use Rattle.std.specs.Prelude.{All, ◌||◌, ◌&&◌, is_some, if◌then◌else◌}
 use Rattle.std.specs.List.{list_any}
 use Rattle.std.specs.Map.{lookup}
 use Rattle.std.proofs.lemmas.Bool.{eqb-true, eq-eqb, ne_eqb}
@@ -120,8 +120,6 @@ serves-step run after o new streams calls marks more spells dues knowing over he
       stale = λ id items is. fresh id (s.stale id items (later.returned id items is));
       apart = λ i j d first second differ same. served (get_or calls i d).0 ∙ s.apart i j d first second differ same;
       opened = λ k d within. fresh (get_or calls k d).0 (s.opened k d within);
-      credited = λ id e. fresh id (s.credited id (sym (knowing id) ∙ e));
-      served = λ id e f. knowing id ∙ s.served id (sym (served id) ∙ e) f;
       due = subst (All (MayBeDue after new streams)) (sym dues)
           (All-append (MayBeDue after new streams) o.due.items more (all-due run after o new streams streams still o.due.items s.due) due);
       unknown = λ id e. s.unknown id (was-false (is_heard o.states id) (is_heard new.states id) (heard id) e);
@@ -137,8 +135,7 @@ serves-step run after o new streams calls marks more spells dues knowing over he
         | inr old ↦ ended-later (over_on o.states id) (over_on new.states id) (has_reason id run) (has_reason id after) (over id) (later.reason id)
             (s.reasons id there none old)
       ];
-      heard = λ id e there. knowing id ∙ s.heard id (sym (later.opened id) ∙ e) there;
-      brought = λ id e. later.opened id ∙ s.brought id (sym (knowing id) ∙ e);
+      brought = λ id. knowing id ∙ s.brought id ∙ ap (λ b. is_stream id && b) (sym (later.opened id));
       uncalled = λ id e.
           uncalled-same run after id (over_on o.states id) (over_on new.states id) (marks_on id marks) (marks_on id marks) (later.refused id) (over id) refl
           (s.uncalled id (sym (knowing id) ∙ e));
@@ -159,6 +156,10 @@ serves-same run after o new streams calls marks more limits takes spells fresh s
 
 -- ---- the start
 
+none-opened : (b : Bool) → false ≡ (b && false)
+none-opened true = refl
+none-opened false = refl
+
 -- nothing was told, and no stream is known
 pub serves-nothing : (o : Outbound) (streams : List (ℕ × OpenStream)) (calls : List (ℕ × List OutItem))
     → SpellsOf [] o [] → o.due.items ≡ [] → o.states ≡ nothing_known → streams ≡ [] → calls ≡ []
@@ -167,7 +168,6 @@ serves-nothing o streams calls spells due states no_streams no_calls =
     let none : (id : ℕ) (stream : OpenStream) → lookup (nat_eq id) streams ≡ Some stream → ⊥ =
     λ id stream e. not-some (lookup (nat_eq id) streams) stream (ap (λ (l : List (ℕ × OpenStream)). lookup (nat_eq id) l) no_streams) e in
     let empty : (k : ℕ) → k < length calls → ⊥ = λ k within. omega (arith, within, ap length no_calls) in
-    let unknown : (id : ℕ) → knows o.states id ≡ true → ⊥ = λ id e. true≢false (sym e ∙ ap (λ (s : States). knows s id) states) in
     record {
       spells = spells;
       exact = λ id stream e. absurd (none id stream e);
@@ -179,16 +179,13 @@ serves-nothing o streams calls spells due states no_streams no_calls =
       stale = λ id items is. absurd is;
       apart = λ i j d first second differ same. refl;
       opened = λ k d within. absurd (empty k within);
-      credited = λ id e. absurd (unknown id e);
-      served = λ id e f. absurd (true≢false (sym e));
       due = subst (All (MayBeDue [] o streams)) (sym due) (All-nil (MayBeDue [] o streams));
       unknown = λ id e. refl;
       other = λ id f. none-ended (over_on o.states id) [] refl;
       stays = λ id is there none. absurd (true≢false (sym is));
       early = λ id e f. absurd (true≢false (sym e ∙ ap (λ (s : States). is_heard s id) states));
       reasons = λ id there none known. absurd (true≢false (sym known ∙ ap (λ (s : States). is_heard s id) states));
-      heard = λ id e there. absurd (true≢false (sym e));
-      brought = λ id e. absurd (unknown id e);
+      brought = λ id. ap (λ (s : States). knows s id) states ∙ none-opened (is_stream id);
       uncalled = λ id e. (λ still. refl, inl refl);
     }
 
@@ -209,8 +206,6 @@ serves-closed run o streams left calls marks id closes reset reason s = record {
   stale = s.stale;
   apart = s.apart;
   opened = s.opened;
-  credited = s.credited;
-  served = s.served;
   due = all-due run run o o streams left (record {
     refused = λ k e f. (e, f);
     reset = λ k e f. (still-none k e, f);
@@ -222,7 +217,6 @@ serves-closed run o streams left calls marks id closes reset reason s = record {
   stays = λ k is there none. stays k is there none (lookup (nat_eq k) streams) refl;
   early = s.early;
   reasons = λ k there none known. reasons k there none known (lookup (nat_eq k) streams) refl;
-  heard = s.heard;
   brought = s.brought;
   uncalled = s.uncalled;
 }

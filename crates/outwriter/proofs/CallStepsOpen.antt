@@ -20,7 +20,7 @@ use Rattle.outwriter.specs.Steps.{Step, Taken}
 use Rattle.outwriter.proofs.CallSteps.{all-due, not-some, was-false, was-true}
 use Rattle.outwriter.proofs.EndsKept.{takes-heard}
 use Rattle.outwriter.proofs.StateLemmas.{unheard-knows, unheard-over}
-use Rattle.outwriter.proofs.Others.{opened-taken, refused-taken, reset-taken, reason-taken, ended-later, uncalled-same}
+use Rattle.outwriter.proofs.Others.{refused-taken, served-known, reset-taken, reason-taken, ended-later, uncalled-same}
 use Rattle.outwriter.proofs.TellSteps.{taken-tells}
 
 -- ---- lists
@@ -136,17 +136,6 @@ module _ (run : List Step) (o new : Outbound) (streams left : List (ℕ × OpenS
       by true f = absurd (true≢false (sym (knows-more k f) ∙ e))
       by false f = refl
 
-  known-by : (k : ℕ) → knows new.states k ≡ true → ((k == id) ≡ true) ⊎ (knows o.states k ≡ true)
-  known-by k e = by (is_new_call o id && (k == id)) refl
-    where
-      by : (b : Bool) → (is_new_call o id && (k == id)) ≡ b → ((k == id) ≡ true) ⊎ (knows o.states k ≡ true)
-      by true q = inl (both (is_new_call o id) (k == id) q).1
-      by false q = inr (sym (p.takes.knows k ∙ ap (λ b. b || knows o.states k) q) ∙ e)
-
-  opened-at : (k : ℕ) → ((k == id) ≡ true) ⊎ (knows o.states k ≡ true) → is_opened k after ≡ true
-  opened-at k (inl here) = ap (λ b. b || is_opened k run) here
-  opened-at k (inr old) = opened-taken run (order.Open id tt) k (s.brought k old)
-
   knows-here : is_stream id ≡ true → knows new.states id ≡ true
   knows-here e = by (knows o.states id) refl
     where
@@ -245,25 +234,9 @@ module _ (run : List Step) (o new : Outbound) (streams left : List (ℕ × OpenS
           cases : ((becomes_open o id ≡ true) × (k ≡ id) × (Some stream ≡ Some (stream_at (length calls)))) ⊎ (lookup (nat_eq k) streams ≡ Some stream) → Some stream ≡ None
           cases (inl h) =
               let u = was-unknown h.0 in
-              let knows-it : knows o.states id ≡ true = subst (λ n. knows o.states n ≡ true) h.1 (s.served k is (ap is_stream h.1 ∙ u.0)) in
+              let knows-it : knows o.states id ≡ true = subst (λ n. knows o.states n ≡ true) h.1 (served-known run o s.brought k is (ap is_stream h.1 ∙ u.0)) in
               absurd (true≢false (sym knows-it ∙ u.1))
           cases (inr h) = absurd (not-some (lookup (nat_eq k) streams) stream e h)
-
-  credited : (k : ℕ) → knows new.states k ≡ true → is_fresh k after ≡ false
-  credited k e = by (known-by k e)
-    where
-      by : ((k == id) ≡ true) ⊎ (knows o.states k ≡ true) → is_fresh k (Taken (order.Open id tt) ∷ run) ≡ false
-      by (inl q) = fresh-here run id k q
-      by (inr q) = fresh-less run id k (s.credited k q)
-
-  served : (k : ℕ) → is_served k after ≡ true → is_stream k ≡ true → knows new.states k ≡ true
-  served k is there = by (k == id) refl
-    where
-      by : (b : Bool) → (k == id) ≡ b → knows new.states k ≡ true
-      by true q =
-          let same : k ≡ id = eqb-true k id q in
-          ap (λ n. knows new.states n) same ∙ knows-here (ap is_stream (sym same) ∙ there)
-      by false q = knows-more k (s.served k (sym (served-else run id k q) ∙ is) there)
 
   -- a stream of which nothing was heard is open now
   opens-new : is_stream id ≡ true → is_heard o.states id ≡ false → lookup (nat_eq id) left ≡ None → ⊥
@@ -313,12 +286,27 @@ module _ (run : List Step) (o new : Outbound) (streams left : List (ℕ × OpenS
       by (inl here) = absurd (true≢false (sym f ∙ fresh-here run id k here))
       by (inr old) = reset-taken run (order.Open id tt) k (s.early k old (was-true (is_fresh k run) (is_fresh k (Taken (order.Open id tt) ∷ run)) (fresh-less run id k) f))
 
-  heard : (k : ℕ) → is_opened k after ≡ true → is_stream k ≡ true → knows new.states k ≡ true
-  heard k is there = by (k == id) refl
+  brought : (k : ℕ) → knows new.states k ≡ (is_stream k && is_opened k after)
+  brought k = p.takes.knows k ∙ ap (λ b. (is_new_call o id && (k == id)) || b) (s.brought k) ∙ by (k == id) refl
     where
-      by : (b : Bool) → (k == id) ≡ b → knows new.states k ≡ true
-      by true q = let same : k ≡ id = eqb-true k id q in ap (λ n. knows new.states n) same ∙ knows-here (ap is_stream (sym same) ∙ there)
-      by false q = knows-more k (s.heard k (sym (ap (λ b. b || is_opened k run) q) ∙ is) there)
+      elsewhere : (a b : Bool) → ((a && false) || b) ≡ b
+      elsewhere true b = refl
+      elsewhere false b = refl
+
+      here : (stream was known : Bool) → known ≡ (stream && was) → (((stream && not known) && true) || (stream && was)) ≡ (stream && true)
+      here true was true e = sym e
+      here true was false e = refl
+      here false was known e = refl
+
+      by : (b : Bool) → (k == id) ≡ b → ((is_new_call o id && (k == id)) || (is_stream k && is_opened k run)) ≡ (is_stream k && ((k == id) || is_opened k run))
+      by true q =
+          let P : ℕ → Type 0 = λ n. ((is_new_call o id && true) || (is_stream n && is_opened n run)) ≡ (is_stream n && true) in
+          ap (λ b. (is_new_call o id && b) || (is_stream k && is_opened k run)) q
+          ∙ subst P (sym (eqb-true k id q)) (here (is_stream id) (is_opened id run) (knows o.states id) (s.brought id))
+          ∙ sym (ap (λ b. is_stream k && (b || is_opened k run)) q)
+      by false q =
+          ap (λ b. (is_new_call o id && b) || (is_stream k && is_opened k run)) q ∙ elsewhere (is_new_call o id) (is_stream k && is_opened k run)
+          ∙ sym (ap (λ b. is_stream k && (b || is_opened k run)) q)
 
   stays : (k : ℕ) → is_served k after ≡ true → is_stream k ≡ true → lookup (nat_eq k) left ≡ None → (b : Bool) → (k == id) ≡ b
       → (is_some (over_on new.states k) ≡ true) ⊎ (was_reset k after ≡ true)
@@ -346,8 +334,6 @@ module _ (run : List Step) (o new : Outbound) (streams left : List (ℕ × OpenS
     stale = λ k items is. fresh-less run id k (s.stale k items is);
     apart = apart;
     opened = opened;
-    credited = credited;
-    served = served;
     due = subst (All (MayBeDue after new left)) (sym (p.takes.due ∙ append-nil o.due.items)) (all-due run after o new streams left (record {
       refused = λ k e f. (fresh-less run id k e, unserved run id k e f);
       reset = λ k e f. (still-none k e f, takes-heard [] (λ other. is_new_call o id && (other == id)) [] o new p.takes k f);
@@ -359,8 +345,7 @@ module _ (run : List Step) (o new : Outbound) (streams left : List (ℕ × OpenS
     stays = λ k is there none. stays k is there none (k == id) refl;
     early = early;
     reasons = reasons;
-    heard = heard;
-    brought = λ k e. opened-at k (known-by k e);
+    brought = brought;
     uncalled = λ k e.
         uncalled-same run after k (over_on o.states k) (over_on new.states k) (marks_on k marks) (marks_on k marks) (refused-taken run (order.Open id tt) k) (over k) refl (s.uncalled k (knew k e));
   }

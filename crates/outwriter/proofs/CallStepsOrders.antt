@@ -23,7 +23,7 @@ use Rattle.outwriter.specs.CallState.{Serves, Takes, MayBeDue, has_reason, none_
 use Rattle.outwriter.specs.Steps.{Step, Order, Taken}
 use Rattle.outwriter.specs.TableLimits.{limits_of}
 use Rattle.outwriter.proofs.CallSteps.{HeardBy, serves-closed, serves-owing, serves-same, serves-step}
-use Rattle.outwriter.proofs.Others.{later-taken, or-true}
+use Rattle.outwriter.proofs.Others.{later-taken, opened-known, or-true, served-known}
 use Rattle.outwriter.proofs.StateLemmas.{unheard-knows}
 use Rattle.outwriter.proofs.TellSteps.{taken-tells}
 
@@ -168,11 +168,11 @@ module _ (run : List Step) (o : Outbound) (streams : List (ℕ × OpenStream)) (
       (All-nil (MayBeDue after new streams))) s
     where
       unserved : knows o.states id ≡ false → (b : Bool) → is_served id run ≡ b → b ≡ false
-      unserved unknown true e = absurd (true≢false (sym (s.served id e there) ∙ unknown))
+      unserved unknown true e = absurd (true≢false (sym (served-known run o s.brought id e there) ∙ unknown))
       unserved unknown false e = refl
 
       unopened : knows o.states id ≡ false → (b : Bool) → is_opened id run ≡ b → b ≡ false
-      unopened unknown true e = absurd (true≢false (sym (s.heard id e there) ∙ unknown))
+      unopened unknown true e = absurd (true≢false (sym (opened-known run o s.brought id e there) ∙ unknown))
       unopened unknown false e = refl
 
       closed : knows o.states id ≡ false → (found : Option OpenStream) → lookup (nat_eq id) streams ≡ found → found ≡ None

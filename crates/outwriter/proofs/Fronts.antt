@@ -19,6 +19,7 @@ use Rattle.outwriter.specs.Parts.{Mark, Fields, End, Reset, end_mark, marks_on, 
 use Rattle.outwriter.specs.CallState.{Serves, bytes_marks}
 use Rattle.outwriter.specs.Steps.{Step}
 use Rattle.outwriter.specs.ToldByNow.{SpellsOf, Owes, block_marks}
+use Rattle.outwriter.proofs.Others.{known-opened}
 use Rattle.outwriter.proofs.ServeSteps.{append-nil, marks-here, marks-elsewhere}
 
 -- ---- the marks of one stream
@@ -162,5 +163,5 @@ others_of run o streams calls marks s id unopened =
     )
   where
     unknown : (b : Bool) → knows o.states id ≡ b → b ≡ false
-    unknown true e = absurd (true≢false (sym (s.brought id e) ∙ unopened))
+    unknown true e = absurd (true≢false (sym (known-opened run o s.brought id e) ∙ unopened))
     unknown false e = refl

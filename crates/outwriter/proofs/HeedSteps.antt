@@ -23,7 +23,7 @@ use Rattle.outwriter.specs.RunState.{HasResets}
 use Rattle.outwriter.specs.Runs.{resets_stream, was_reset, is_opened}
 use Rattle.outwriter.specs.Steps.{Step, Order, Taken, Granted, Written, Returned}
 use Rattle.outwriter.proofs.EndsKept.{either-true, heeds-before, heeds-called, heeds-taken, more-dues, over-same, takes-ends, takes-heard}
-use Rattle.outwriter.proofs.Others.{or-true, dropped-taken, reason-taken}
+use Rattle.outwriter.proofs.Others.{or-true, dropped-taken, known-opened, reason-taken}
 
 -- the same streams
 pub heeds-equal : (run : List Step) (o : Outbound) (streams left : List (ℕ × OpenStream)) → left ≡ streams → Heeds run o streams → Heeds run o left
@@ -174,7 +174,7 @@ module _ (run : List Step) (id : ℕ) (fields : List Field) (o : Outbound) (stre
       (λ k. refl) heeds.2 (λ k e. e) heeds
     where
       unknown : not (is_opened id run) ≡ true → (b : Bool) → knows o.states id ≡ b → b ≡ false
-      unknown unopened true e = absurd (true≢false (sym unopened ∙ ap not (s.brought id e)))
+      unknown unopened true e = absurd (true≢false (sym unopened ∙ ap not (known-opened run o s.brought id e)))
       unknown unopened false e = refl
 
       closed : knows o.states id ≡ false → (found : Option OpenStream) → lookup (nat_eq id) streams ≡ found → found ≡ None

@@ -263,8 +263,6 @@ module _ (run : List Step) (o : Outbound) (streams left : List (ℕ × OpenStrea
     stale = stale;
     apart = apart;
     opened = of-call (λ (c : ℕ × List OutItem). is_fresh c.0 run ≡ false) s.opened;
-    credited = s.credited;
-    served = s.served;
     due = all-due run (Returned id items ∷ run) o o streams left (record {
       refused = λ k e g. (e, g);
       reset = λ k e g. (f.closed k e, g);
@@ -276,7 +274,6 @@ module _ (run : List Step) (o : Outbound) (streams left : List (ℕ × OpenStrea
     stays = λ k served there gone. s.stays k served there (f.still k gone);
     early = s.early;
     reasons = λ k there gone known. s.reasons k there (f.still k gone) known;
-    heard = s.heard;
     brought = s.brought;
     uncalled = s.uncalled;
   }

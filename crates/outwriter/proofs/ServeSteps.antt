@@ -1,6 +1,6 @@
 -- What is kept of the calls follows from the run still: after a frame, after an item, and after what tells nothing.
 use Rattle.std.proofs.Common.{◌≡◌, ℕ, suc, ◌<◌, ◌==◌, ◌⊎◌, inl, refl, sym, ap, subst, ◌∙◌, Bool, true, false, List, [], ◌∷◌, ◌++◌, Option, Some, None, length, arith, nat_eq}
-use Rattle.std.specs.Prelude.{All, map, filter, get_or, is_some, if◌then◌else◌}
+use Rattle.std.specs.Prelude.{◌&&◌, All, map, filter, get_or, is_some, if◌then◌else◌}
 use Rattle.std.specs.Map.{lookup}
 use Rattle.std.proofs.lemmas.Bool.{eq-eqb}
 use Rattle.std.proofs.lemmas.List.{map-append}
@@ -161,8 +161,6 @@ serves-changed run next o after streams left calls now marks told is_changed c s
   apart = λ i j d li lj ne e. ap (λ n. is_served n next) (c.numbers i d (within i li)) ∙ c.same_served (get_or calls i d).0
       ∙ s.apart i j d (within i li) (within j lj) ne (sym (c.numbers i d (within i li)) ∙ e ∙ c.numbers j d (within j lj));
   opened = λ k d lt. ap (λ n. is_fresh n next) (c.numbers k d (within k lt)) ∙ c.same_fresh (get_or calls k d).0 ∙ s.opened k d (within k lt);
-  credited = λ id e. c.same_fresh id ∙ s.credited id (sym (c.same_knows id) ∙ e);
-  served = λ id e f. c.same_knows id ∙ s.served id (sym (c.same_served id) ∙ e) f;
   due = All-weaker (MayBeDue run o streams) (MayBeDue next after left) after.due.items
       (due-same run next o after streams left c.later c.same_fresh c.same_served c.same_heard c.closed)
       (All-later (MayBeDue run o streams) c.fewer_due.0 after.due.items (subst (All (MayBeDue run o streams)) c.fewer_due.1 s.due));
@@ -171,8 +169,7 @@ serves-changed run next o after streams left calls now marks told is_changed c s
   stays = λ id served there none. stays-by id (sym (c.same_served id) ∙ served) there none (is_changed id) refl;
   early = λ id e fresh. c.later.reset id (s.early id (sym (c.same_heard id) ∙ e) (sym (c.same_fresh id) ∙ fresh));
   reasons = λ id there none known. reasons-by id there none (sym (c.same_heard id) ∙ known) (is_changed id) refl;
-  heard = λ id e there. c.same_knows id ∙ s.heard id (sym (c.later.opened id) ∙ e) there;
-  brought = λ id e. c.later.opened id ∙ s.brought id (sym (c.same_knows id) ∙ e);
+  brought = λ id. c.same_knows id ∙ s.brought id ∙ ap (λ b. is_stream id && b) (sym (c.later.opened id));
   uncalled = λ id e. uncalled-by id (sym (c.same_knows id) ∙ e) (is_changed id) refl;
 }
   where

@@ -15,7 +15,7 @@ use Rattle.outwriter.specs.StreamLooks.{Shown, shown, shows, with_item, one_more
 use Rattle.outwriter.specs.CallState.{bytes_marks, IsExact, IsEnded, Serves}
 use Rattle.outwriter.specs.Steps.{Step}
 use Rattle.outwriter.specs.ToldByNow.{SpellsOf}
-use Rattle.outwriter.proofs.Others.{Later}
+use Rattle.outwriter.proofs.Others.{Later, known-stale}
 use Rattle.outwriter.proofs.StateLemmas.{knows-heard, hears-again}
 use Rattle.outwriter.proofs.ServeSteps.{append-nil, more-here, more-elsewhere, none-some, some-none, none-shown, shown-some, from_some, serves-changed}
 
@@ -95,7 +95,7 @@ goes-on run next o after streams left calls now marks id place was hand more new
       ended = λ k d lt p none is. absurd (still (get_or calls k d).0 p none);
       returned = λ k items p none is e. absurd (none-some f.0 (sym (subst (λ (n : ℕ). lookup (nat_eq n) streams ≡ None) (eqb-true k id p) none) ∙ f.1));
       unknown = λ k p e. absurd (true≢false (sym (knows-heard o.states id (s.known id f.0 f.1)) ∙ subst (λ (n : ℕ). is_heard o.states n ≡ false) (eqb-true k id p) e));
-      other = λ k p is. absurd (true≢false (sym is ∙ ap (λ n. is_fresh n run) (eqb-true k id p) ∙ s.credited id (s.known id f.0 f.1)));
+      other = λ k p is. absurd (true≢false (sym is ∙ ap (λ n. is_fresh n run) (eqb-true k id p) ∙ known-stale run o s.brought id (s.known id f.0 f.1)));
       stays = λ k p none. absurd (still k p none);
       uncalled = λ k p e. absurd (true≢false (sym (s.known id f.0 f.1) ∙ subst (λ (n : ℕ). knows o.states n ≡ false) (eqb-true k id p) e));
     }) s
@@ -169,7 +169,7 @@ ends run next o after streams left calls now marks id place was more news fresh 
       ended = λ k d lt p none is. ended-by k d lt p is (k == place) refl;
       returned = λ k items p none is e. absurd (none-some f.0 (sym (subst (λ (n : ℕ). lookup (nat_eq n) streams ≡ None) (eqb-true k id p) none) ∙ f.1));
       unknown = λ k p e. absurd (true≢false (sym (knows-heard o.states id (s.known id f.0 f.1)) ∙ subst (λ (n : ℕ). is_heard o.states n ≡ false) (eqb-true k id p) e));
-      other = λ k p is. absurd (true≢false (sym is ∙ ap (λ n. is_fresh n run) (eqb-true k id p) ∙ s.credited id (s.known id f.0 f.1)));
+      other = λ k p is. absurd (true≢false (sym is ∙ ap (λ n. is_fresh n run) (eqb-true k id p) ∙ known-stale run o s.brought id (s.known id f.0 f.1)));
       stays = λ k p none. ap is_some (sets.0 k ∙ ap (λ b. if b then Some false else over_on o.states k) p);
       uncalled = λ k p e. absurd (true≢false (sym (s.known id f.0 f.1) ∙ subst (λ (n : ℕ). knows o.states n ≡ false) (eqb-true k id p) e));
     }) s

@@ -105,8 +105,6 @@ pub record Serves (run : List Step) (o : Outbound) (streams : List (ℕ × OpenS
   pub apart : (i j : ℕ) (d : ℕ × List OutItem) → i < length calls → j < length calls → i ≢ j → (get_or calls i d).0 ≡ (get_or calls j d).0
       → is_served (get_or calls i d).0 run ≡ false
   pub opened : (k : ℕ) (d : ℕ × List OutItem) → k < length calls → is_fresh (get_or calls k d).0 run ≡ false
-  pub credited : (id : ℕ) → knows o.states id ≡ true → is_fresh id run ≡ false
-  pub served : (id : ℕ) → is_served id run ≡ true → is_stream id ≡ true → knows o.states id ≡ true
   pub due : All (MayBeDue run o streams) o.due.items
   -- of a stream of which nothing was heard nothing is told
   pub unknown : (id : ℕ) → is_heard o.states id ≡ false → marks_on id marks ≡ []
@@ -119,9 +117,8 @@ pub record Serves (run : List Step) (o : Outbound) (streams : List (ℕ × OpenS
   -- a stream that was heard of is open until its end was written, or it was called off or dropped
   pub reasons : (id : ℕ) → is_stream id ≡ true → lookup (nat_eq id) streams ≡ None → is_heard o.states id ≡ true
       → (is_some (over_on o.states id) ≡ true) ⊎ (has_reason id run ≡ true)
-  pub heard : (id : ℕ) → is_opened id run ≡ true → is_stream id ≡ true → knows o.states id ≡ true
-  -- a call's was opened
-  pub brought : (id : ℕ) → knows o.states id ≡ true → is_opened id run ≡ true
+  -- a stream is a call's where an Open of it was taken
+  pub brought : (id : ℕ) → knows o.states id ≡ (is_stream id && is_opened id run)
   pub uncalled : (id : ℕ) → knows o.states id ≡ false → IsUncalled id run (over_on o.states id) (marks_on id marks)
 
 -- ---- what an Outbound's calls change of it
