@@ -3,7 +3,7 @@ use Rattle.std.proofs.Common.{◌≡◌, ℕ, ◌<◌, ◌==◌, ◌⊎◌, inl,
 use Rattle.std.specs.Prelude.{All, ◌||◌, ◌&&◌, is_some, if◌then◌else◌}
 use Rattle.std.specs.List.{list_any}
 use Rattle.std.specs.Map.{lookup}
-use Rattle.std.proofs.lemmas.Bool.{eqb-true, eq-eqb, ne_eqb}
+use Rattle.std.proofs.lemmas.Bool.{eqb-true}
 use Rattle.std.proofs.lemmas.List.Elements.{All-append, All-head, All-nil, All-tail, All-weaker}
 use Rattle.account.specs.declared.call.OutItem.{OutItem}
 use Rattle.lists.specs.declared.field.Field.{Field}
@@ -111,7 +111,6 @@ serves-step run after o new streams calls marks more spells dues knowing over he
       exact = s.exact;
       not_over = λ id stream e. over id ∙ s.not_over id stream e;
       known = λ id stream e. knowing id ∙ s.known id stream e;
-      numbered = s.numbered;
       ended = λ k d within none is. subst (λ (b : Option Bool). IsEnded b (marks_on (get_or calls k d).0 marks) (get_or calls k d).1) (sym (over (get_or calls k d).0))
           (s.ended k d within none (sym (served (get_or calls k d).0) ∙ is));
       returned = λ id items is e.
@@ -173,7 +172,6 @@ serves-nothing o streams calls spells due states no_streams no_calls =
       exact = λ id stream e. absurd (none id stream e);
       not_over = λ id stream e. absurd (none id stream e);
       known = λ id stream e. absurd (none id stream e);
-      numbered = λ id stream e. absurd (none id stream e);
       ended = λ k d within e f. absurd (empty k within);
       returned = λ id items is e. absurd is;
       stale = λ id items is. absurd is;
@@ -200,7 +198,6 @@ serves-closed run o streams left calls marks id closes reset reason s = record {
   exact = λ k stream e. s.exact k stream (was-open k stream e);
   not_over = λ k stream e. s.not_over k stream (was-open k stream e);
   known = λ k stream e. s.known k stream (was-open k stream e);
-  numbered = λ k stream e. s.numbered k stream (was-open k stream e);
   ended = λ k d within none is. ended k d within is (lookup (nat_eq (get_or calls k d).0) streams) refl;
   returned = λ k items is e. let h = s.returned k items is e in (still-none k h.0, h.1);
   stale = s.stale;
@@ -260,21 +257,6 @@ serves-closed run o streams left calls marks id closes reset reason s = record {
     ended k d within is (Some stream) p =
         let begins = open-begins run o streams calls marks s k d stream within p is in
         (inl begins, λ isnt. begins)
-
--- ---- maps
-
--- std's words for what changes in a map, with the key that is looked up on the left
-turned : (k id : ℕ) → nat_eq id k ≡ (k == id)
-turned k id = by (k == id) refl
-  where
-    by : (b : Bool) → (k == id) ≡ b → nat_eq id k ≡ (k == id)
-    by true p = eq-eqb id k (sym (eqb-true k id p)) ∙ sym p
-    by false p = ne_eqb id k (λ e. true≢false (sym (eq-eqb k id (sym e)) ∙ p)) ∙ sym p
-
-pub updated : {X : Type 0} (old new : List (ℕ × X)) (id : ℕ) (value : Option X)
-    → ((q : ℕ) → lookup (nat_eq q) new ≡ (if nat_eq id q then value else lookup (nat_eq q) old))
-    → (k : ℕ) → lookup (nat_eq k) new ≡ (if k == id then value else lookup (nat_eq k) old)
-updated old new id value updates k = updates k ∙ ap (λ b. if b then value else lookup (nat_eq k) old) (turned k id)
 
 -- ---- without a step
 

@@ -325,7 +325,6 @@ module _ (run : List Step) (o new : Outbound) (streams left : List (ℕ × OpenS
     exact = exact;
     not_over = λ k stream e. over k ∙ of-open (λ n. over_on o.states n ≡ None) (λ here. unheard-over o.states id (was-unknown here).2) s.not_over k stream e;
     known = of-open (λ n. knows new.states n ≡ true) (λ here. knows-here (was-unknown here).0) (λ n stream e. knows-more n (s.known n stream e));
-    numbered = of-open (λ n. is_stream n ≡ true) (λ here. (was-unknown here).0) s.numbered;
     ended = ended;
     returned = λ k items is e.
         let was = old-served k (s.stale k items is) e in

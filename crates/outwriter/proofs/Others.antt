@@ -68,6 +68,13 @@ module _ (run : List Step) (o : Outbound) (brought : (id : ℕ) → knows o.stat
       by true b f = f
       by false b f = absurd (true≢false (sym f))
 
+  pub known-stream : knows o.states id ≡ true → is_stream id ≡ true
+  known-stream e = by (is_stream id) (is_opened id run) (sym (brought id) ∙ e)
+    where
+      by : (a b : Bool) → (a && b) ≡ true → a ≡ true
+      by true b f = refl
+      by false b f = absurd (true≢false (sym f))
+
   pub known-stale : knows o.states id ≡ true → is_fresh id run ≡ false
   known-stale e = opened-stale run id (known-opened e)
 
@@ -91,9 +98,6 @@ pub later-granted : (run : List Step) (id n : ℕ) → Later run (Granted id n �
 later-granted run id n = record { opened = λ other. refl; refused = λ other fields is. is; reset = λ other e. e; reason = λ other e. e; returned = λ other items is. is }
 
 -- with any control
-pub opened-taken : (run : List Step) (order : Order) (id : ℕ) → is_opened id run ≡ true → is_opened id (Taken order ∷ run) ≡ true
-opened-taken run order id e = or-true (opens_stream id order) (is_opened id run) e
-
 pub reset-taken : (run : List Step) (order : Order) (id : ℕ) → was_reset id run ≡ true → was_reset id (Taken order ∷ run) ≡ true
 reset-taken run order id e = or-true (resets_stream id order) (was_reset id run) e
 

@@ -257,7 +257,6 @@ module _ (run : List Step) (o : Outbound) (streams left : List (ℕ × OpenStrea
     exact = exact;
     not_over = λ k stream e. let w = f.was k stream e in s.not_over k w.0 w.1;
     known = λ k stream e. let w = f.was k stream e in s.known k w.0 w.1;
-    numbered = λ k stream e. let w = f.was k stream e in s.numbered k w.0 w.1;
     ended = of-call Ended (λ j d lt gone served. s.ended j d lt (f.still (get_or all j d).0 gone) served);
     returned = returned;
     stale = stale;

@@ -152,7 +152,6 @@ serves-changed run next o after streams left calls now marks told is_changed c s
   exact = λ id stream e. exact-by id stream e (is_changed id) refl;
   not_over = λ id stream e. not_over-by id stream e (is_changed id) refl;
   known = λ id stream e. let was = was-open streams left id stream (c.closed id) e (lookup (nat_eq id) streams) refl in c.same_knows id ∙ s.known id was.0 was.1;
-  numbered = λ id stream e. let was = was-open streams left id stream (c.closed id) e (lookup (nat_eq id) streams) refl in s.numbered id was.0 was.1;
   ended = λ k d lt. subst (Ended k d) (sym (c.numbers k d (within k lt))) (ended-by k d (within k lt) (is_changed (get_or calls k d).0) refl);
   returned = λ id items is served.
       let was = s.returned id items (c.later.returned id items is) (sym (c.same_served id) ∙ served) in

@@ -93,7 +93,6 @@ pub record Serves (run : List Step) (o : Outbound) (streams : List (ℕ × OpenS
   pub exact : (id : ℕ) (stream : OpenStream) → lookup (nat_eq id) streams ≡ Some stream → IsExact id stream calls (marks_on id marks)
   pub not_over : (id : ℕ) (stream : OpenStream) → lookup (nat_eq id) streams ≡ Some stream → over_on o.states id ≡ None
   pub known : (id : ℕ) (stream : OpenStream) → lookup (nat_eq id) streams ≡ Some stream → knows o.states id ≡ true
-  pub numbered : (id : ℕ) (stream : OpenStream) → lookup (nat_eq id) streams ≡ Some stream → is_stream id ≡ true
   -- of a call whose stream isn't open, a front
   pub ended : (k : ℕ) (d : ℕ × List OutItem) → k < length calls → lookup (nat_eq (get_or calls k d).0) streams ≡ None → is_served (get_or calls k d).0 run ≡ true
       → IsEnded (over_on o.states (get_or calls k d).0) (marks_on (get_or calls k d).0 marks) (get_or calls k d).1
