@@ -32,12 +32,12 @@ IsPlainDue (due_kind.Refuse id fields) = ⊥
 IsPlainDue (due_kind.Reset id code) = ⊥
 IsPlainDue _ = Unit {0}
 
-plain-may : (run : List Step) (o : Outbound) (streams : List (ℕ × OpenStream)) (others : List (ℕ × Bool)) (one : Due) → IsPlainDue one → MayBeDue run o streams others one
-plain-may run o streams others (due_kind.Refuse id fields) h = absurd h
-plain-may run o streams others (due_kind.Reset id code) h = absurd h
-plain-may run o streams others due_kind.SettingsAck h = tt
-plain-may run o streams others (due_kind.PingAck bytes) h = tt
-plain-may run o streams others (due_kind.Goaway last code) h = tt
+plain-may : (run : List Step) (o : Outbound) (streams : List (ℕ × OpenStream)) (one : Due) → IsPlainDue one → MayBeDue run o streams one
+plain-may run o streams (due_kind.Refuse id fields) h = absurd h
+plain-may run o streams (due_kind.Reset id code) h = absurd h
+plain-may run o streams due_kind.SettingsAck h = tt
+plain-may run o streams (due_kind.PingAck bytes) h = tt
+plain-may run o streams (due_kind.Goaway last code) h = tt
 
 pub one-plain : (one : Due) → IsPlainDue one → All IsPlainDue (one ∷ [])
 one-plain one h = All-cons IsPlainDue one [] h (All-nil IsPlainDue)
@@ -57,10 +57,10 @@ module _ {L In Out Shut : Type 0} (got : Out → List OutItem) (old : OutCore L 
   -- room for what is due
   pub keeps-room : (made : Outbound) → Takes [] none_is_new [] old.outbound made → KeepsServing got [] old (record old { outbound = made })
   keeps-room made takes run marks s =
-      serves-kept run old.outbound made old.streams.entries old.others.entries (calls got old.senders.items) marks takes s
+      serves-kept run old.outbound made old.streams.entries (calls got old.senders.items) marks takes s
 
   heeds-room : (made : Outbound) → Takes [] none_is_new [] old.outbound made → KeepsHeeds got [] old (record old { outbound = made })
-  heeds-room made takes run marks s heeds = heeds-takes run [] [] old.outbound made old.streams.entries old.others.entries takes heeds
+  heeds-room made takes run marks s heeds = heeds-takes run [] [] old.outbound made old.streams.entries takes heeds
 
   pub serving-room : (made : Outbound) → Takes [] none_is_new [] old.outbound made → ServesStill got old (record old { outbound = made })
   serving-room made takes = serving-on got old (record old { outbound = made }) [] alive (λ run e. e) (keeps-room made takes) (heeds-room made takes)
@@ -68,26 +68,25 @@ module _ {L In Out Shut : Type 0} (got : Out → List OutItem) (old : OutCore L 
   -- a control that is none of a stream
   pub serving-plain : (new : OutCore L In Out Shut) (made : Outbound) (control given : Control (Sender L In Out Shut)) (more : List Due)
       → control ≡ given → ((id : ℕ) → opens_stream id (order_of given) ≡ false) → ((id : ℕ) → refuses_stream id (order_of given) ≡ false) → ((id : ℕ) (opened : Bool) → calls_off id opened (order_of given) ≡ false) → ((id : ℕ) → resets_stream id (order_of given) ≡ false) → All IsPlainDue more
-      → (closes (order_of given) || old.closed) ≡ new.closed → new.streams ≡ old.streams → new.others ≡ old.others → new.senders ≡ old.senders
+      → (closes (order_of given) || old.closed) ≡ new.closed → new.streams ≡ old.streams → new.senders ≡ old.senders
       → Takes [] none_is_new [] old.outbound made → Takes more none_is_new (limits_of (order_of given)) made new.outbound → ServesOn got (Taken (order_of control)) old new
-  serving-plain new made control given more is opens refuses calm unreset plain closed streams others senders room takes =
+  serving-plain new made control given more is opens refuses calm unreset plain closed streams senders room takes =
       subst (λ (c : Control (Sender L In Out Shut)). ServesOn got (Taken (order_of c)) old new) (sym is)
       (serving-on got old new (Taken (order_of given) ∷ []) alive (λ run e. ap (λ b. closes (order_of given) || b) e ∙ closed) (λ run marks s.
-      serves-equal (Taken (order_of given) ∷ run) new.outbound old.streams.entries new.streams.entries old.others.entries new.others.entries
+      serves-equal (Taken (order_of given) ∷ run) new.outbound old.streams.entries new.streams.entries
       (calls got old.senders.items) (calls got new.senders.items) marks
-      (ap (λ map. map.entries) streams) (ap (λ map. map.entries) others) (ap (λ list. calls got list.items) senders)
-      (serves-ordered run made new.outbound old.streams.entries old.others.entries (calls got old.senders.items) marks (order_of given) more opens
+      (ap (λ map. map.entries) streams) (ap (λ list. calls got list.items) senders)
+      (serves-ordered run made new.outbound old.streams.entries (calls got old.senders.items) marks (order_of given) more opens
       (λ id. ap (λ b. if b then false else (if refuses_stream id (order_of given) then false else is_fresh id run)) (opens id)
       ∙ ap (λ b. if b then false else is_fresh id run) (refuses id))
       (λ id. ap (λ b. if b then is_fresh id run else is_served id run) (opens id))
-      (All-weaker IsPlainDue (MayBeDue (Taken (order_of given) ∷ run) new.outbound old.streams.entries old.others.entries)
-      (plain-may (Taken (order_of given) ∷ run) new.outbound old.streams.entries old.others.entries) more plain)
+      (All-weaker IsPlainDue (MayBeDue (Taken (order_of given) ∷ run) new.outbound old.streams.entries)
+      (plain-may (Taken (order_of given) ∷ run) new.outbound old.streams.entries) more plain)
       takes
       (keeps-room made room run marks s)))
       (λ run marks s heeds.
-      subst (λ streams. Heeds (Taken (order_of given) ∷ run) new.outbound streams.entries new.others.entries) (sym streams)
-      (subst (λ others. Heeds (Taken (order_of given) ∷ run) new.outbound old.streams.entries others.entries) (sym others)
-      (heeds-calm run (order_of given) more (limits_of (order_of given)) made new.outbound old.streams.entries old.others.entries calm unreset takes (heeds-room made room run marks s heeds)))))
+      subst (λ streams. Heeds (Taken (order_of given) ∷ run) new.outbound streams.entries) (sym streams)
+      (heeds-calm run (order_of given) more (limits_of (order_of given)) made new.outbound old.streams.entries calm unreset takes (heeds-room made room run marks s heeds))))
 
   -- one that is, as it is answered
   pub serving-answered : (new : OutCore L In Out Shut) (made : Outbound) (result : Result (Unit {0}) (OutFault (Sender L In Out Shut)))

@@ -1,5 +1,5 @@
 -- What a writer's core keeps of its calls, as callers see it.
-use Rattle.std.proofs.Common.{◌≡◌, ℕ, true≢false, refl, sym, ap, subst, ◌∙◌, Bool, false, List, [], ◌∷◌, ◌++◌, length}
+use Rattle.std.proofs.Common.{◌≡◌, ℕ, true≢false, refl, sym, ap, subst, ◌∙◌, false, List, [], ◌∷◌, ◌++◌, length}
 use Rattle.std.proofs.lemmas.List.{length-map, map-append}
 use Rattle.account.specs.declared.call.OutItem.{OutItem}
 use Rattle.callbox.specs.declared.sender.Sender.{Sender}
@@ -9,7 +9,7 @@ use Rattle.outwriter.specs.declared.outbound.Outbound.{Outbound}
 use Rattle.outwriter.specs.declared.stream.OpenStream.{OpenStream}
 use Rattle.outwriter.specs.Calls.{TellFronts, is_closed}
 use Rattle.outwriter.specs.Cores.{Serving, calls, ServesOn}
-use Rattle.outwriter.specs.Credits.{Owed, is_reset, nothing_owed}
+use Rattle.outwriter.specs.States.{States, is_reset, nothing_known}
 use Rattle.outwriter.specs.CoreChanges.{KeepsServing, KeepsHeeds, Prepares}
 use Rattle.outwriter.specs.Parts.{Mark}
 use Rattle.outwriter.specs.CallState.{Serves}
@@ -27,9 +27,9 @@ module _ {L In Out Shut : Type 0} (got : Out → List OutItem) (old new : OutCor
       let m = s.serves alive in
       let after = keeps run m.0 m.1 in
       record {
-        fronts = fronts_of (more ++ run) new.outbound new.streams.entries new.others.entries (calls got new.senders.items) m.0 after;
-        returned = returned_of (more ++ run) new.outbound new.streams.entries new.others.entries (calls got new.senders.items) m.0 after;
-        others = others_of (more ++ run) new.outbound new.streams.entries new.others.entries (calls got new.senders.items) m.0 after;
+        fronts = fronts_of (more ++ run) new.outbound new.streams.entries (calls got new.senders.items) m.0 after;
+        returned = returned_of (more ++ run) new.outbound new.streams.entries (calls got new.senders.items) m.0 after;
+        others = others_of (more ++ run) new.outbound new.streams.entries (calls got new.senders.items) m.0 after;
         closed = closed run s.closed;
         serves = λ still. (m.0, after, heeds run m.0 m.1 m.2);
       }
@@ -47,23 +47,23 @@ module _ {L In Out Shut : Type 0} (got : Out → List OutItem) (old new : OutCor
 
 -- a core of which nothing is kept
 module _ {L In Out Shut : Type 0} (got : Out → List OutItem) (core : OutCore L In Out Shut) where
-  pub serving-nothing : core.closed ≡ false → core.senders.items ≡ [] → core.streams.entries ≡ [] → core.others.entries ≡ []
-      → SpellsOf [] core.outbound [] → core.outbound.due.items ≡ [] → core.outbound.credit ≡ nothing_owed → core.outbound.over.entries ≡ []
+  pub serving-nothing : core.closed ≡ false → core.senders.items ≡ [] → core.streams.entries ≡ []
+      → SpellsOf [] core.outbound [] → core.outbound.due.items ≡ [] → core.outbound.states ≡ nothing_known
       → Serving got [] core
-  serving-nothing closed senders streams others spells due credit over =
+  serving-nothing closed senders streams spells due states =
       let none : calls got core.senders.items ≡ [] = ap (calls got) senders in
-      let serves = serves-nothing core.outbound core.streams.entries core.others.entries (calls got core.senders.items) spells due credit over streams others none in
+      let serves = serves-nothing core.outbound core.streams.entries (calls got core.senders.items) spells due states streams none in
       record {
-        fronts = fronts_of [] core.outbound core.streams.entries core.others.entries (calls got core.senders.items) [] serves;
-        returned = returned_of [] core.outbound core.streams.entries core.others.entries (calls got core.senders.items) [] serves;
-        others = others_of [] core.outbound core.streams.entries core.others.entries (calls got core.senders.items) [] serves;
+        fronts = fronts_of [] core.outbound core.streams.entries (calls got core.senders.items) [] serves;
+        returned = returned_of [] core.outbound core.streams.entries (calls got core.senders.items) [] serves;
+        others = others_of [] core.outbound core.streams.entries (calls got core.senders.items) [] serves;
         closed = sym closed;
         serves = λ still. (
           [],
           serves,
           (
             λ id there e. absurd (true≢false (sym e)),
-            λ id there. ap (λ (owed : Owed). is_reset owed id) credit,
+            λ id there. ap (λ (s : States). is_reset s id) states,
             λ id is. refl,
             λ id there e. absurd (true≢false (sym e)),
           ),
@@ -81,13 +81,13 @@ module _ {L In Out Shut : Type 0} (got : Out → List OutItem) where
       ∙ ap (λ (l : List OutItem). calls got old ++ (id, l) ∷ []) none
 
   -- a call begins
-  pub serves-began : (run : List Step) (o new : Outbound) (streams left : List (ℕ × OpenStream)) (others more : List (ℕ × Bool))
+  pub serves-began : (run : List Step) (o new : Outbound) (streams left : List (ℕ × OpenStream))
       (old senders now : List (ℕ × Sender L In Out Shut)) (marks : List (ℕ × Mark)) (id : ℕ) (sender : Sender L In Out Shut)
-      → Prepares id (length old) o new others streams left → more ≡ others → senders ≡ old → now ≡ senders ++ (id, sender) ∷ [] → got sender.rx ≡ []
-      → Serves run o streams others (calls got old) marks → Serves (Taken (order.Open id tt) ∷ run) new left more (calls got now) marks
-  serves-began run o new streams left others more old senders now marks id sender prepares same_others same is none s =
+      → Prepares id (length old) o new streams left → senders ≡ old → now ≡ senders ++ (id, sender) ∷ [] → got sender.rx ≡ []
+      → Serves run o streams (calls got old) marks → Serves (Taken (order.Open id tt) ∷ run) new left (calls got now) marks
+  serves-began run o new streams left old senders now marks id sender prepares same is none s =
       let long : length (calls got old) ≡ length old = length-map old (λ (call : ℕ × Sender L In Out Shut). (call.0, got call.1.rx)) in
-      serves-equal (Taken (order.Open id tt) ∷ run) new left left others more (calls got old ++ (id, []) ∷ []) (calls got now) marks refl same_others
+      serves-equal (Taken (order.Open id tt) ∷ run) new left left (calls got old ++ (id, []) ∷ []) (calls got now) marks refl
       (calls-more old now id sender (is ∙ ap (λ (l : List (ℕ × Sender L In Out Shut)). l ++ (id, sender) ∷ []) same) none)
-      (serves-opened run o new streams left others (calls got old) marks id s
-      (subst (λ n. Prepares id n o new others streams left) (sym long) prepares))
+      (serves-opened run o new streams left (calls got old) marks id s
+      (subst (λ n. Prepares id n o new streams left) (sym long) prepares))

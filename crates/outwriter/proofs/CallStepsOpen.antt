@@ -1,6 +1,6 @@
 -- What a writer keeps of its calls, after an Open.
 use Rattle.std.proofs.Common.{◌≡◌, ℕ, suc, zero, ◌<◌, ◌==◌, inl, inr, refl, sym, ap, subst, ◌∙◌, ◌⊎◌, Bool, true, false, List, [], ◌∷◌, ◌++◌, Option, Some, None, length, get_or, arith, append-nil, nat_eq, true≢false, length-append}
-use Rattle.std.specs.Prelude.{All, ◌&&◌, ◌||◌, not, is_some, is_none, if◌then◌else◌}
+use Rattle.std.specs.Prelude.{All, ◌&&◌, ◌||◌, not, is_some, if◌then◌else◌}
 use Rattle.std.specs.Map.{lookup}
 use Rattle.std.proofs.lemmas.Bool.{eqb-true, eq-eqb}
 use Rattle.std.proofs.lemmas.List.{get_or_append_left}
@@ -11,14 +11,16 @@ use Rattle.outwriter.specs.declared.outbound.Outbound.{Outbound}
 use Rattle.outwriter.specs.declared.stream.OpenStream.{OpenStream}
 use Rattle.outwriter.specs.Calls.{is_fresh, is_served}
 use Rattle.outwriter.specs.Runs.{was_reset, is_opened}
-use Rattle.outwriter.specs.Credits.{knows}
+use Rattle.outwriter.specs.States.{is_heard, knows, over_on}
 use Rattle.outwriter.specs.Histories.{is_stream}
 use Rattle.outwriter.specs.CoreChanges.{Prepares, is_new_call, becomes_open, stream_at}
 use Rattle.outwriter.specs.Parts.{Mark, marks_on, spelled}
 use Rattle.outwriter.specs.CallState.{Serves, MayBeDue, IsEnded, IsExact, has_reason}
 use Rattle.outwriter.specs.Steps.{Step, Taken}
-use Rattle.outwriter.proofs.CallSteps.{all-due, none-ended, not-some, over-same, was-true, either}
-use Rattle.outwriter.proofs.Others.{opened-taken, refused-taken, reset-taken, reason-taken, ended-later, uncalled-same}
+use Rattle.outwriter.proofs.CallSteps.{all-due, not-some, was-false, was-true}
+use Rattle.outwriter.proofs.EndsKept.{takes-heard}
+use Rattle.outwriter.proofs.StateLemmas.{unheard-knows, unheard-over}
+use Rattle.outwriter.proofs.Others.{refused-taken, served-known, reset-taken, reason-taken, ended-later, uncalled-same}
 use Rattle.outwriter.proofs.TellSteps.{taken-tells}
 
 -- ---- lists
@@ -36,10 +38,6 @@ each-call (c ∷ calls) x P (suc k) d within old new = each-call calls x P k d (
 both : (a b : Bool) → (a && b) ≡ true → (a ≡ true) × (b ≡ true)
 both true b e = (refl, e)
 both false b e = absurd (true≢false (sym e))
-
-was-none : (o : Option Bool) → is_none o ≡ true → o ≡ None
-was-none None e = refl
-was-none (Some b) e = absurd (true≢false (sym e))
 
 was-not : (b : Bool) → not b ≡ true → b ≡ false
 was-not true e = absurd (true≢false (sym e))
@@ -74,8 +72,8 @@ module _ (run : List Step) (id : ℕ) where
 
 -- ---- all of it
 
-module _ (run : List Step) (o new : Outbound) (streams left : List (ℕ × OpenStream)) (others : List (ℕ × Bool)) (calls : List (ℕ × List OutItem)) (marks : List (ℕ × Mark)) (id : ℕ)
-    (s : Serves run o streams others calls marks) (p : Prepares id (length calls) o new others streams left) where
+module _ (run : List Step) (o new : Outbound) (streams left : List (ℕ × OpenStream)) (calls : List (ℕ × List OutItem)) (marks : List (ℕ × Mark)) (id : ℕ)
+    (s : Serves run o streams calls marks) (p : Prepares id (length calls) o new streams left) where
   abbrev after : List Step
   after = Taken (order.Open id tt) ∷ run
 
@@ -83,21 +81,21 @@ module _ (run : List Step) (o new : Outbound) (streams left : List (ℕ × OpenS
   more = calls ++ (id, []) ∷ []
 
   -- what becomes open wasn't known
-  was-unknown : becomes_open o others id ≡ true → (is_stream id ≡ true) × (knows o.credit id ≡ false) × (lookup (nat_eq id) others ≡ None)
+  was-unknown : becomes_open o id ≡ true → (is_stream id ≡ true) × (knows o.states id ≡ false) × (is_heard o.states id ≡ false)
   was-unknown e =
-      let a = both (is_new_call o id) (is_none (lookup (nat_eq id) others)) e in
-      let b = both (is_stream id) (not (knows o.credit id)) a.0 in
-      (b.0, was-not (knows o.credit id) b.1, was-none (lookup (nat_eq id) others) a.1)
+      let a = both (is_stream id) (not (is_heard o.states id)) e in
+      let unheard = was-not (is_heard o.states id) a.1 in
+      (a.0, unheard-knows o.states id unheard, unheard)
 
   -- an open stream is the new one, or it was open
   opened-by : (k : ℕ) (found : Option OpenStream) → lookup (nat_eq k) left ≡ found
-      → ((becomes_open o others id ≡ true) × (k ≡ id) × (found ≡ Some (stream_at (length calls)))) ⊎ (lookup (nat_eq k) streams ≡ found)
-  opened-by k found e = by (becomes_open o others id && (k == id)) refl
+      → ((becomes_open o id ≡ true) × (k ≡ id) × (found ≡ Some (stream_at (length calls)))) ⊎ (lookup (nat_eq k) streams ≡ found)
+  opened-by k found e = by (becomes_open o id && (k == id)) refl
     where
-      by : (b : Bool) → (becomes_open o others id && (k == id)) ≡ b
-          → ((becomes_open o others id ≡ true) × (k ≡ id) × (found ≡ Some (stream_at (length calls)))) ⊎ (lookup (nat_eq k) streams ≡ found)
+      by : (b : Bool) → (becomes_open o id && (k == id)) ≡ b
+          → ((becomes_open o id ≡ true) × (k ≡ id) × (found ≡ Some (stream_at (length calls)))) ⊎ (lookup (nat_eq k) streams ≡ found)
       by true q =
-          let t = both (becomes_open o others id) (k == id) q in
+          let t = both (becomes_open o id) (k == id) q in
           inl (t.0, eqb-true k id t.1, sym e ∙ p.opens k ∙ ap (λ b. if b then Some (stream_at (length calls)) else lookup (nat_eq k) streams) q)
       by false q = inr (sym (p.opens k ∙ ap (λ b. if b then Some (stream_at (length calls)) else lookup (nat_eq k) streams) q) ∙ e)
 
@@ -105,64 +103,47 @@ module _ (run : List Step) (o new : Outbound) (streams left : List (ℕ × OpenS
   less-none : (k : ℕ) → lookup (nat_eq k) left ≡ None → lookup (nat_eq k) streams ≡ None
   less-none k e = by (opened-by k None e)
     where
-      by : ((becomes_open o others id ≡ true) × (k ≡ id) × (None ≡ Some (stream_at (length calls)))) ⊎ (lookup (nat_eq k) streams ≡ None) → lookup (nat_eq k) streams ≡ None
+      by : ((becomes_open o id ≡ true) × (k ≡ id) × (None ≡ Some (stream_at (length calls)))) ⊎ (lookup (nat_eq k) streams ≡ None) → lookup (nat_eq k) streams ≡ None
       by (inl h) = absurd (not-some None (stream_at (length calls)) refl h.2)
       by (inr h) = h
 
-  -- and a stream that is none of a call, or is among the others, doesn't become open
-  still-none : (k : ℕ) → lookup (nat_eq k) streams ≡ None → (is_some (lookup (nat_eq k) others) || knows o.credit k) ≡ true → lookup (nat_eq k) left ≡ None
+  -- and a stream that was heard of doesn't become open
+  still-none : (k : ℕ) → lookup (nat_eq k) streams ≡ None → is_heard o.states k ≡ true → lookup (nat_eq k) left ≡ None
   still-none k e known = by (lookup (nat_eq k) left) refl
     where
       by : (found : Option OpenStream) → lookup (nat_eq k) left ≡ found → found ≡ None
       by None f = refl
       by (Some stream) f = cases (opened-by k (Some stream) f)
         where
-          cases : ((becomes_open o others id ≡ true) × (k ≡ id) × (Some stream ≡ Some (stream_at (length calls)))) ⊎ (lookup (nat_eq k) streams ≡ Some stream) → Some stream ≡ None
-          cases (inl h) =
-              let u = was-unknown h.0 in
-              let none : (is_some (lookup (nat_eq id) others) || knows o.credit id) ≡ false =
-              ap (λ (l : Option Bool). is_some l || knows o.credit id) u.2 ∙ u.1 in
-              let here : (is_some (lookup (nat_eq id) others) || knows o.credit id) ≡ true =
-              subst (λ n. (is_some (lookup (nat_eq n) others) || knows o.credit n) ≡ true) h.1 known in
-              absurd (true≢false (sym here ∙ none))
+          cases : ((becomes_open o id ≡ true) × (k ≡ id) × (Some stream ≡ Some (stream_at (length calls)))) ⊎ (lookup (nat_eq k) streams ≡ Some stream) → Some stream ≡ None
+          cases (inl h) = absurd (true≢false (sym known ∙ ap (λ n. is_heard o.states n) h.1 ∙ (was-unknown h.0).2))
           cases (inr h) = absurd (not-some (lookup (nat_eq k) streams) stream e h)
 
-  over : (k : ℕ) → lookup (nat_eq k) new.over.entries ≡ lookup (nat_eq k) o.over.entries
-  over = over-same [] (λ other. is_new_call o id && (other == id)) [] o new p.takes
+  over : (k : ℕ) → over_on new.states k ≡ over_on o.states k
+  over = p.takes.over
 
-  knows-more : (k : ℕ) → knows o.credit k ≡ true → knows new.credit k ≡ true
+  knows-more : (k : ℕ) → knows o.states k ≡ true → knows new.states k ≡ true
   knows-more k e = p.takes.knows k ∙ by (is_new_call o id && (k == id))
     where
-      by : (b : Bool) → (b || knows o.credit k) ≡ true
+      by : (b : Bool) → (b || knows o.states k) ≡ true
       by true = refl
       by false = e
 
-  knew : (k : ℕ) → knows new.credit k ≡ false → knows o.credit k ≡ false
-  knew k e = by (knows o.credit k) refl
+  knew : (k : ℕ) → knows new.states k ≡ false → knows o.states k ≡ false
+  knew k e = by (knows o.states k) refl
     where
-      by : (b : Bool) → knows o.credit k ≡ b → b ≡ false
+      by : (b : Bool) → knows o.states k ≡ b → b ≡ false
       by true f = absurd (true≢false (sym (knows-more k f) ∙ e))
       by false f = refl
 
-  known-by : (k : ℕ) → knows new.credit k ≡ true → ((k == id) ≡ true) ⊎ (knows o.credit k ≡ true)
-  known-by k e = by (is_new_call o id && (k == id)) refl
+  knows-here : is_stream id ≡ true → knows new.states id ≡ true
+  knows-here e = by (knows o.states id) refl
     where
-      by : (b : Bool) → (is_new_call o id && (k == id)) ≡ b → ((k == id) ≡ true) ⊎ (knows o.credit k ≡ true)
-      by true q = inl (both (is_new_call o id) (k == id) q).1
-      by false q = inr (sym (p.takes.knows k ∙ ap (λ b. b || knows o.credit k) q) ∙ e)
-
-  opened-at : (k : ℕ) → ((k == id) ≡ true) ⊎ (knows o.credit k ≡ true) → is_opened k after ≡ true
-  opened-at k (inl here) = ap (λ b. b || is_opened k run) here
-  opened-at k (inr old) = opened-taken run (order.Open id tt) k (s.brought k old)
-
-  knows-here : is_stream id ≡ true → knows new.credit id ≡ true
-  knows-here e = by (knows o.credit id) refl
-    where
-      by : (b : Bool) → knows o.credit id ≡ b → knows new.credit id ≡ true
+      by : (b : Bool) → knows o.states id ≡ b → knows new.states id ≡ true
       by true f = knows-more id f
       by false f =
-          let is_new : is_new_call o id ≡ true = ap (λ b. b && not (knows o.credit id)) e ∙ ap not f in
-          p.takes.knows id ∙ ap (λ b. (b && (id == id)) || knows o.credit id) is_new ∙ ap (λ b. b || knows o.credit id) (eq-eqb id id refl)
+          let is_new : is_new_call o id ≡ true = ap (λ b. b && not (knows o.states id)) e ∙ ap not f in
+          p.takes.knows id ∙ ap (λ b. (b && (id == id)) || knows o.states id) is_new ∙ ap (λ b. b || knows o.states id) (eq-eqb id id refl)
 
   exact : (k : ℕ) (stream : OpenStream) → lookup (nat_eq k) left ≡ Some stream → IsExact k stream more (marks_on k marks)
   exact k stream e = by (opened-by k (Some stream) e)
@@ -170,17 +151,17 @@ module _ (run : List Step) (o new : Outbound) (streams left : List (ℕ × OpenS
       some-is : (a b : OpenStream) → Some a ≡ Some b → a ≡ b
       some-is a b q = cc
 
-      here : becomes_open o others id ≡ true → IsExact id (stream_at (length calls)) more (marks_on id marks)
+      here : becomes_open o id ≡ true → IsExact id (stream_at (length calls)) more (marks_on id marks)
       here opens =
           let u = was-unknown opens in (
             omega (arith, length-append calls ((id, []) ∷ [])),
             λ d. let at_end = get_or-append_seam calls (id, []) [] d in (
               ap (λ (c : ℕ × List OutItem). c.0) at_end,
-              append-nil (marks_on id marks) ∙ (s.unknown id u.1 u.2).0 ∙ sym (ap (λ (c : ℕ × List OutItem). spelled c.1) at_end),
+              append-nil (marks_on id marks) ∙ s.unknown id u.2 ∙ sym (ap (λ (c : ℕ × List OutItem). spelled c.1) at_end),
             ),
           )
 
-      by : ((becomes_open o others id ≡ true) × (k ≡ id) × (Some stream ≡ Some (stream_at (length calls)))) ⊎ (lookup (nat_eq k) streams ≡ Some stream)
+      by : ((becomes_open o id ≡ true) × (k ≡ id) × (Some stream ≡ Some (stream_at (length calls)))) ⊎ (lookup (nat_eq k) streams ≡ Some stream)
           → IsExact k stream more (marks_on k marks)
       by (inl h) = subst (λ (t : OpenStream). IsExact k t more (marks_on k marks)) (sym (some-is stream (stream_at (length calls)) h.2))
           (subst (λ n. IsExact n (stream_at (length calls)) more (marks_on n marks)) (sym h.1) (here h.0))
@@ -194,29 +175,17 @@ module _ (run : List Step) (o new : Outbound) (streams left : List (ℕ × OpenS
           )
 
   -- what is known of an open stream
-  of-open : (P : ℕ → Type 0) → (becomes_open o others id ≡ true → P id) → ((k : ℕ) (stream : OpenStream) → lookup (nat_eq k) streams ≡ Some stream → P k)
+  of-open : (P : ℕ → Type 0) → (becomes_open o id ≡ true → P id) → ((k : ℕ) (stream : OpenStream) → lookup (nat_eq k) streams ≡ Some stream → P k)
       → (k : ℕ) (stream : OpenStream) → lookup (nat_eq k) left ≡ Some stream → P k
   of-open P here before k stream e = by (opened-by k (Some stream) e)
     where
-      by : ((becomes_open o others id ≡ true) × (k ≡ id) × (Some stream ≡ Some (stream_at (length calls)))) ⊎ (lookup (nat_eq k) streams ≡ Some stream) → P k
+      by : ((becomes_open o id ≡ true) × (k ≡ id) × (Some stream ≡ Some (stream_at (length calls)))) ⊎ (lookup (nat_eq k) streams ≡ Some stream) → P k
       by (inl h) = subst P (sym h.1) (here h.0)
       by (inr h) = before k stream h
 
-  -- of a call whose stream was known before, nothing was told, but perhaps a reset
-  new-ended : is_fresh id run ≡ true → IsEnded (lookup (nat_eq id) o.over.entries) (marks_on id marks) []
-  new-ended fresh = by (knows o.credit id) refl
-    where
-      unknown : (found : Option Bool) → lookup (nat_eq id) others ≡ found → knows o.credit id ≡ false → IsEnded (lookup (nat_eq id) o.over.entries) (marks_on id marks) []
-      unknown None q f = none-ended (lookup (nat_eq id) o.over.entries) (marks_on id marks) (s.unknown id f q).0
-      unknown (Some was_reset) q f = (s.other id was_reset q).1 fresh
-
-      by : (b : Bool) → knows o.credit id ≡ b → IsEnded (lookup (nat_eq id) o.over.entries) (marks_on id marks) []
-      by true f = absurd (true≢false (sym fresh ∙ s.credited id f))
-      by false f = unknown (lookup (nat_eq id) others) refl f
-
   abbrev Ended : ℕ × List OutItem → Type 0
   Ended c = lookup (nat_eq c.0) left ≡ None → is_served c.0 (Taken (order.Open id tt) ∷ run) ≡ true
-      → IsEnded (lookup (nat_eq c.0) new.over.entries) (marks_on c.0 marks) c.1
+      → IsEnded (over_on new.states c.0) (marks_on c.0 marks) c.1
 
   old-served : (k : ℕ) → is_fresh k run ≡ false → is_served k (Taken (order.Open id tt) ∷ run) ≡ true → is_served k run ≡ true
   old-served k e f = by (k == id) refl
@@ -230,7 +199,7 @@ module _ (run : List Step) (o new : Outbound) (streams left : List (ℕ × OpenS
       (λ old none is.
       let before = s.ended k d old (less-none (get_or calls k d).0 none) (old-served (get_or calls k d).0 (s.opened k d old) is) in
       subst (λ (b : Option Bool). IsEnded b (marks_on (get_or calls k d).0 marks) (get_or calls k d).1) (sym (over (get_or calls k d).0)) before)
-      (λ last none is. subst (λ (b : Option Bool). IsEnded b (marks_on id marks) []) (sym (over id)) (new-ended (sym (served-here run id id (eq-eqb id id refl)) ∙ is)))
+      (λ last none is. subst (λ (b : Option Bool). IsEnded b (marks_on id marks) []) (sym (over id)) (s.other id (sym (served-here run id id (eq-eqb id id refl)) ∙ is)))
 
   opened : (k : ℕ) (d : ℕ × List OutItem) → k < length more → is_fresh (get_or more k d).0 after ≡ false
   opened k d within = each-call calls (id, []) (λ (c : ℕ × List OutItem). is_fresh c.0 (Taken (order.Open id tt) ∷ run) ≡ false) k d within
@@ -262,91 +231,100 @@ module _ (run : List Step) (o new : Outbound) (streams left : List (ℕ × OpenS
       by None f = refl
       by (Some stream) f = cases (opened-by k (Some stream) f)
         where
-          cases : ((becomes_open o others id ≡ true) × (k ≡ id) × (Some stream ≡ Some (stream_at (length calls)))) ⊎ (lookup (nat_eq k) streams ≡ Some stream) → Some stream ≡ None
+          cases : ((becomes_open o id ≡ true) × (k ≡ id) × (Some stream ≡ Some (stream_at (length calls)))) ⊎ (lookup (nat_eq k) streams ≡ Some stream) → Some stream ≡ None
           cases (inl h) =
               let u = was-unknown h.0 in
-              let knows-it : knows o.credit id ≡ true = subst (λ n. knows o.credit n ≡ true) h.1 (s.served k is (ap is_stream h.1 ∙ u.0)) in
+              let knows-it : knows o.states id ≡ true = subst (λ n. knows o.states n ≡ true) h.1 (served-known run o s.brought k is (ap is_stream h.1 ∙ u.0)) in
               absurd (true≢false (sym knows-it ∙ u.1))
           cases (inr h) = absurd (not-some (lookup (nat_eq k) streams) stream e h)
 
-  credited : (k : ℕ) → knows new.credit k ≡ true → is_fresh k after ≡ false
-  credited k e = by (known-by k e)
-    where
-      by : ((k == id) ≡ true) ⊎ (knows o.credit k ≡ true) → is_fresh k (Taken (order.Open id tt) ∷ run) ≡ false
-      by (inl q) = fresh-here run id k q
-      by (inr q) = fresh-less run id k (s.credited k q)
-
-  served : (k : ℕ) → is_served k after ≡ true → is_stream k ≡ true → knows new.credit k ≡ true
-  served k is there = by (k == id) refl
-    where
-      by : (b : Bool) → (k == id) ≡ b → knows new.credit k ≡ true
-      by true q =
-          let same : k ≡ id = eqb-true k id q in
-          ap (λ n. knows new.credit n) same ∙ knows-here (ap is_stream (sym same) ∙ there)
-      by false q = knows-more k (s.served k (sym (served-else run id k q) ∙ is) there)
-
   -- a stream of which nothing was heard is open now
-  opens-new : is_stream id ≡ true → knows o.credit id ≡ false → lookup (nat_eq id) others ≡ None → lookup (nat_eq id) left ≡ None → ⊥
-  opens-new there unheard none closed =
-      let new_one : becomes_open o others id ≡ true =
-      ap (λ b. (is_stream id && not (knows o.credit id)) && b) (ap is_none none) ∙ ap (λ b. (b && not (knows o.credit id)) && true) there ∙ ap (λ b. (true && not b) && true) unheard in
+  opens-new : is_stream id ≡ true → is_heard o.states id ≡ false → lookup (nat_eq id) left ≡ None → ⊥
+  opens-new there unheard closed =
+      let new_one : becomes_open o id ≡ true = ap (λ b. b && not (is_heard o.states id)) there ∙ ap not unheard in
       not-some (lookup (nat_eq id) left) (stream_at (length calls)) closed
       (p.opens id ∙ ap (λ b. if b && (id == id) then Some (stream_at (length calls)) else lookup (nat_eq id) streams) new_one
       ∙ ap (λ b. if b then Some (stream_at (length calls)) else lookup (nat_eq id) streams) (eq-eqb id id refl))
 
-  opens-unless : is_fresh id run ≡ true → is_stream id ≡ true → lookup (nat_eq id) left ≡ None → (found : Option Bool) → lookup (nat_eq id) others ≡ found → was_reset id run ≡ true
-  opens-unless fresh there none (Some before) e = s.early id before e fresh
-  opens-unless fresh there none None e = absurd (opens-new there (unheard (knows o.credit id) refl) e none)
+  opens-unless : is_fresh id run ≡ true → is_stream id ≡ true → lookup (nat_eq id) left ≡ None → (b : Bool) → is_heard o.states id ≡ b → was_reset id run ≡ true
+  opens-unless fresh there none true e = s.early id e fresh
+  opens-unless fresh there none false e = absurd (opens-new there e none)
+
+  -- what was heard of is the new call's, or was heard of before
+  heard-by : (k : ℕ) → is_heard new.states k ≡ true → ((k == id) ≡ true) ⊎ (is_heard o.states k ≡ true)
+  heard-by k e = by (is_new_call o id) (k == id) refl (sym (p.takes.heard k) ∙ e)
     where
-      unheard : (b : Bool) → knows o.credit id ≡ b → b ≡ false
-      unheard true e = absurd (true≢false (sym fresh ∙ s.credited id e))
-      unheard false e = refl
+      by : (a b : Bool) → (k == id) ≡ b → (((a && b) || false) || is_heard o.states k) ≡ true → ((k == id) ≡ true) ⊎ (is_heard o.states k ≡ true)
+      by a true q f = inl q
+      by true false q f = inr f
+      by false false q f = inr f
+
+  unheard : (k : ℕ) → is_heard new.states k ≡ false → is_heard o.states k ≡ false
+  unheard k e = was-false (is_heard o.states k) (is_heard new.states k) (takes-heard [] (λ other. is_new_call o id && (other == id)) [] o new p.takes k) e
 
   -- what isn't open was heard of before
-  heard-before : (k : ℕ) → is_stream k ≡ true → lookup (nat_eq k) left ≡ None → (is_some (lookup (nat_eq k) others) || knows new.credit k) ≡ true
-      → (found : Option Bool) → lookup (nat_eq k) others ≡ found → (b : Bool) → knows o.credit k ≡ b → (is_some found || b) ≡ true
-  heard-before k there none known (Some before) e b f = refl
-  heard-before k there none known None e true f = refl
-  heard-before k there none known None e false f = cases (known-by k (sym (ap (λ (l : Option Bool). is_some l || knows new.credit k) e) ∙ known))
+  heard-before : (k : ℕ) → is_stream k ≡ true → lookup (nat_eq k) left ≡ None → is_heard new.states k ≡ true → is_heard o.states k ≡ true
+  heard-before k there none known = cases (heard-by k known) (is_heard o.states k) refl
     where
-      cases : ((k == id) ≡ true) ⊎ (knows o.credit k ≡ true) → false ≡ true
-      cases (inl here) =
+      cases : ((k == id) ≡ true) ⊎ (is_heard o.states k ≡ true) → (b : Bool) → is_heard o.states k ≡ b → b ≡ true
+      cases h true e = refl
+      cases (inr old) false e = absurd (true≢false (sym old ∙ e))
+      cases (inl here) false e =
           let same : k ≡ id = eqb-true k id here in
-          absurd (opens-new (ap is_stream (sym same) ∙ there) (ap (λ n. knows o.credit n) (sym same) ∙ f) (subst (λ n. lookup (nat_eq n) others ≡ None) same e)
-          (subst (λ n. lookup (nat_eq n) left ≡ None) same none))
-      cases (inr old) = sym f ∙ old
+          absurd (opens-new (ap is_stream (sym same) ∙ there) (ap (λ n. is_heard o.states n) (sym same) ∙ e) (subst (λ n. lookup (nat_eq n) left ≡ None) same none))
 
-  reasons : (k : ℕ) → is_stream k ≡ true → lookup (nat_eq k) left ≡ None → (is_some (lookup (nat_eq k) others) || knows new.credit k) ≡ true
-      → (is_some (lookup (nat_eq k) new.over.entries) ≡ true) ⊎ (has_reason k after ≡ true)
+  reasons : (k : ℕ) → is_stream k ≡ true → lookup (nat_eq k) left ≡ None → is_heard new.states k ≡ true
+      → (is_some (over_on new.states k) ≡ true) ⊎ (has_reason k after ≡ true)
   reasons k there none known =
-      ended-later (lookup (nat_eq k) o.over.entries) (lookup (nat_eq k) new.over.entries) (has_reason k run) (has_reason k after) (over k) (reason-taken run (order.Open id tt) k)
-      (s.reasons k there (less-none k none) (heard-before k there none known (lookup (nat_eq k) others) refl (knows o.credit k) refl))
+      ended-later (over_on o.states k) (over_on new.states k) (has_reason k run) (has_reason k after) (over k) (reason-taken run (order.Open id tt) k)
+      (s.reasons k there (less-none k none) (heard-before k there none known))
 
-  heard : (k : ℕ) → is_opened k after ≡ true → is_stream k ≡ true → knows new.credit k ≡ true
-  heard k is there = by (k == id) refl
+  early : (k : ℕ) → is_heard new.states k ≡ true → is_fresh k after ≡ true → was_reset k after ≡ true
+  early k e f = by (heard-by k e)
     where
-      by : (b : Bool) → (k == id) ≡ b → knows new.credit k ≡ true
-      by true q = let same : k ≡ id = eqb-true k id q in ap (λ n. knows new.credit n) same ∙ knows-here (ap is_stream (sym same) ∙ there)
-      by false q = knows-more k (s.heard k (sym (ap (λ b. b || is_opened k run) q) ∙ is) there)
+      by : ((k == id) ≡ true) ⊎ (is_heard o.states k ≡ true) → was_reset k (Taken (order.Open id tt) ∷ run) ≡ true
+      by (inl here) = absurd (true≢false (sym f ∙ fresh-here run id k here))
+      by (inr old) = reset-taken run (order.Open id tt) k (s.early k old (was-true (is_fresh k run) (is_fresh k (Taken (order.Open id tt) ∷ run)) (fresh-less run id k) f))
+
+  brought : (k : ℕ) → knows new.states k ≡ (is_stream k && is_opened k after)
+  brought k = p.takes.knows k ∙ ap (λ b. (is_new_call o id && (k == id)) || b) (s.brought k) ∙ by (k == id) refl
+    where
+      elsewhere : (a b : Bool) → ((a && false) || b) ≡ b
+      elsewhere true b = refl
+      elsewhere false b = refl
+
+      here : (stream was known : Bool) → known ≡ (stream && was) → (((stream && not known) && true) || (stream && was)) ≡ (stream && true)
+      here true was true e = sym e
+      here true was false e = refl
+      here false was known e = refl
+
+      by : (b : Bool) → (k == id) ≡ b → ((is_new_call o id && (k == id)) || (is_stream k && is_opened k run)) ≡ (is_stream k && ((k == id) || is_opened k run))
+      by true q =
+          let P : ℕ → Type 0 = λ n. ((is_new_call o id && true) || (is_stream n && is_opened n run)) ≡ (is_stream n && true) in
+          ap (λ b. (is_new_call o id && b) || (is_stream k && is_opened k run)) q
+          ∙ subst P (sym (eqb-true k id q)) (here (is_stream id) (is_opened id run) (knows o.states id) (s.brought id))
+          ∙ sym (ap (λ b. is_stream k && (b || is_opened k run)) q)
+      by false q =
+          ap (λ b. (is_new_call o id && b) || (is_stream k && is_opened k run)) q ∙ elsewhere (is_new_call o id) (is_stream k && is_opened k run)
+          ∙ sym (ap (λ b. is_stream k && (b || is_opened k run)) q)
 
   stays : (k : ℕ) → is_served k after ≡ true → is_stream k ≡ true → lookup (nat_eq k) left ≡ None → (b : Bool) → (k == id) ≡ b
-      → (is_some (lookup (nat_eq k) new.over.entries) ≡ true) ⊎ (was_reset k after ≡ true)
+      → (is_some (over_on new.states k) ≡ true) ⊎ (was_reset k after ≡ true)
   stays k is there none true q =
       let same : k ≡ id = eqb-true k id q in
       let fresh : is_fresh id run ≡ true = ap (λ n. is_fresh n run) (sym same) ∙ sym (served-here run id k q) ∙ is in
       inr (subst (λ n. was_reset n after ≡ true) (sym same) (reset-taken run (order.Open id tt) id
-      (opens-unless fresh (ap is_stream (sym same) ∙ there) (subst (λ n. lookup (nat_eq n) left ≡ None) same none) (lookup (nat_eq id) others) refl)))
+      (opens-unless fresh (ap is_stream (sym same) ∙ there) (subst (λ n. lookup (nat_eq n) left ≡ None) same none) (is_heard o.states id) refl)))
   stays k is there none false q =
-      ended-later (lookup (nat_eq k) o.over.entries) (lookup (nat_eq k) new.over.entries) (was_reset k run) (was_reset k after) (over k) (reset-taken run (order.Open id tt) k)
+      ended-later (over_on o.states k) (over_on new.states k) (was_reset k run) (was_reset k after) (over k) (reset-taken run (order.Open id tt) k)
       (s.stays k (sym (served-else run id k q) ∙ is) there (less-none k none))
 
-  pub serves-opened : Serves (Taken (order.Open id tt) ∷ run) new left others (calls ++ (id, []) ∷ []) marks
+  pub serves-opened : Serves (Taken (order.Open id tt) ∷ run) new left (calls ++ (id, []) ∷ []) marks
   serves-opened = record {
     spells = taken-tells [] (λ other. is_new_call o id && (other == id)) o new (order.Open id tt) p.takes run marks s.spells;
     exact = exact;
-    not_over = λ k stream e. over k ∙ of-open (λ n. lookup (nat_eq n) o.over.entries ≡ None) (λ here. let u = was-unknown here in (s.unknown id u.1 u.2).1) s.not_over k stream e;
-    known = of-open (λ n. knows new.credit n ≡ true) (λ here. knows-here (was-unknown here).0) (λ n stream e. knows-more n (s.known n stream e));
-    numbered = of-open (λ n. is_stream n ≡ true) (λ here. (was-unknown here).0) s.numbered;
+    not_over = λ k stream e. over k ∙ of-open (λ n. over_on o.states n ≡ None) (λ here. unheard-over o.states id (was-unknown here).2) s.not_over k stream e;
+    known = of-open (λ n. knows new.states n ≡ true) (λ here. knows-here (was-unknown here).0) (λ n stream e. knows-more n (s.known n stream e));
     ended = ended;
     returned = λ k items is e.
         let was = old-served k (s.stale k items is) e in
@@ -355,24 +333,18 @@ module _ (run : List Step) (o new : Outbound) (streams left : List (ℕ × OpenS
     stale = λ k items is. fresh-less run id k (s.stale k items is);
     apart = apart;
     opened = opened;
-    credited = credited;
-    served = served;
-    due = subst (All (MayBeDue after new left others)) (sym (p.takes.due ∙ append-nil o.due.items)) (all-due run after o new streams left others others (record {
-      refused = λ k e f g. (fresh-less run id k e, unserved run id k e f, g);
-      reset = λ k e f. (still-none k e f, either (is_some (lookup (nat_eq k) others)) (knows o.credit k) (is_some (lookup (nat_eq k) others)) (knows new.credit k) (λ x. x) (knows-more k) f);
+    due = subst (All (MayBeDue after new left)) (sym (p.takes.due ∙ append-nil o.due.items)) (all-due run after o new streams left (record {
+      refused = λ k e f. (fresh-less run id k e, unserved run id k e f);
+      reset = λ k e f. (still-none k e f, takes-heard [] (λ other. is_new_call o id && (other == id)) [] o new p.takes k f);
       asked = refused-taken run (order.Open id tt);
+      reason = reason-taken run (order.Open id tt);
     }) o.due.items s.due);
-    unknown = λ k e f. let u = s.unknown k (knew k e) f in (u.0, over k ∙ u.1);
-    other = λ k was_reset e. let h = s.other k was_reset e in (
-      still-none k h.0 (ap (λ (l : Option Bool). is_some l || knows o.credit k) e),
-      λ f. subst (λ (b : Option Bool). IsEnded b (marks_on k marks) []) (sym (over k)) (h.1 (was-true (is_fresh k run) (is_fresh k after) (fresh-less run id k) f)),
-    );
+    unknown = λ k e. s.unknown k (unheard k e);
+    other = λ k f. subst (λ (b : Option Bool). IsEnded b (marks_on k marks) []) (sym (over k)) (s.other k (was-true (is_fresh k run) (is_fresh k after) (fresh-less run id k) f));
     stays = λ k is there none. stays k is there none (k == id) refl;
-    early = λ k before e f. reset-taken run (order.Open id tt) k (s.early k before e (was-true (is_fresh k run) (is_fresh k after) (fresh-less run id k) f));
+    early = early;
     reasons = reasons;
-    heard = heard;
-    brought = λ k e. opened-at k (known-by k e);
-    uncalled = λ k was_reset e there.
-        uncalled-same run after k (lookup (nat_eq k) o.over.entries) (lookup (nat_eq k) new.over.entries) (marks_on k marks) (marks_on k marks) (refused-taken run (order.Open id tt) k) (over k) refl
-        (s.uncalled k was_reset (knew k e) there);
+    brought = brought;
+    uncalled = λ k e.
+        uncalled-same run after k (over_on o.states k) (over_on new.states k) (marks_on k marks) (marks_on k marks) (refused-taken run (order.Open id tt) k) (over k) refl (s.uncalled k (knew k e));
   }

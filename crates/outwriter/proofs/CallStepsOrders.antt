@@ -1,8 +1,8 @@
 -- What a writer keeps of its calls, after a Refuse, a Reset, and what brings no stream and ends none.
-use Rattle.std.proofs.Common.{◌≡◌, ℕ, ◌==◌, inl, inr, refl, sym, ap, ◌∙◌, Bool, true, false, List, [], ◌∷◌, Option, Some, None, append-nil, nat_eq, true≢false}
+use Rattle.std.proofs.Common.{◌≡◌, ℕ, ◌==◌, ◌⊎◌, inl, inr, refl, sym, ap, subst, ◌∙◌, Bool, true, false, List, [], ◌∷◌, Option, Some, None, append-nil, nat_eq, true≢false}
 use Rattle.std.specs.Prelude.{All, ◌&&◌, ◌||◌, not, is_some, if◌then◌else◌}
 use Rattle.std.specs.Map.{lookup}
-use Rattle.std.proofs.lemmas.Bool.{eq-eqb}
+use Rattle.std.proofs.lemmas.Bool.{eqb-true, eq-eqb}
 use Rattle.hpack_codec.proofs.HuffmanTable.{and_true}
 use Rattle.std.proofs.lemmas.List.Elements.{All-cons, All-nil}
 use Rattle.account.specs.declared.call.OutItem.{OutItem}
@@ -15,17 +15,16 @@ use Rattle.outwriter.specs.declared.outbound.Outbound.{Outbound}
 use Rattle.outwriter.specs.declared.stream.OpenStream.{OpenStream}
 use Rattle.outwriter.specs.Calls.{is_fresh, is_served, is_called_off, is_dropped}
 use Rattle.outwriter.specs.Runs.{was_reset, is_opened, opens_stream}
-use Rattle.outwriter.specs.CoreChanges.{Shuts, due_reset, may_write}
-use Rattle.outwriter.specs.Credits.{Owed, is_reset, knows}
+use Rattle.outwriter.specs.CoreChanges.{Closes, due_reset, may_write}
+use Rattle.outwriter.specs.States.{SameOver, is_heard, is_reset, knows, over_on}
 use Rattle.outwriter.specs.Histories.{is_stream}
-use Rattle.outwriter.specs.RunState.{Sets}
 use Rattle.outwriter.specs.Parts.{Mark}
 use Rattle.outwriter.specs.CallState.{Serves, Takes, MayBeDue, has_reason, none_is_new}
 use Rattle.outwriter.specs.Steps.{Step, Order, Taken}
 use Rattle.outwriter.specs.TableLimits.{limits_of}
-use Rattle.outwriter.proofs.CallSteps.{serves-closed, serves-equal, serves-other, serves-owing, serves-same}
-use Rattle.outwriter.proofs.Others.{later-none, later-taken, or-true}
-use Rattle.outwriter.proofs.ServeStepsOwn.{serves-same as serves-shown}
+use Rattle.outwriter.proofs.CallSteps.{HeardBy, serves-closed, serves-owing, serves-same, serves-step}
+use Rattle.outwriter.proofs.Others.{later-taken, opened-known, or-true, served-known}
+use Rattle.outwriter.proofs.StateLemmas.{unheard-knows}
 use Rattle.outwriter.proofs.TellSteps.{taken-tells}
 
 -- nothing changes
@@ -33,42 +32,35 @@ pub takes-nothing : (o : Outbound) → Takes [] none_is_new [] o o
 takes-nothing o = record {
   due = sym (append-nil o.due.items);
   knows = λ id. refl;
+  heard = λ id. refl;
   resets = λ id. refl;
-  over = refl;
+  over = λ k. refl;
   begun = refl;
   block = refl;
   encoder = refl;
 }
 
-module _ (run : List Step) (o new : Outbound) (streams : List (ℕ × OpenStream)) (others : List (ℕ × Bool)) (calls : List (ℕ × List OutItem)) (marks : List (ℕ × Mark)) where
+module _ (run : List Step) (o new : Outbound) (streams : List (ℕ × OpenStream)) (calls : List (ℕ × List OutItem)) (marks : List (ℕ × Mark)) where
   -- a control that is none of a stream's beginning
   pub serves-ordered : (taken : Order) (more : List Due) → ((id : ℕ) → opens_stream id taken ≡ false) → ((id : ℕ) → is_fresh id (Taken taken ∷ run) ≡ is_fresh id run)
-      → ((id : ℕ) → is_served id (Taken taken ∷ run) ≡ is_served id run) → All (MayBeDue (Taken taken ∷ run) new streams others) more → Takes more none_is_new (limits_of taken) o new
-      → Serves run o streams others calls marks → Serves (Taken taken ∷ run) new streams others calls marks
+      → ((id : ℕ) → is_served id (Taken taken ∷ run) ≡ is_served id run) → All (MayBeDue (Taken taken ∷ run) new streams) more → Takes more none_is_new (limits_of taken) o new
+      → Serves run o streams calls marks → Serves (Taken taken ∷ run) new streams calls marks
   serves-ordered taken more unopened fresh served due takes s =
-      serves-same run (Taken taken ∷ run) o new streams others calls marks more (limits_of taken) takes (taken-tells more none_is_new o new taken takes run marks s.spells)
+      serves-same run (Taken taken ∷ run) o new streams calls marks more (limits_of taken) takes (taken-tells more none_is_new o new taken takes run marks s.spells)
       (λ id e. fresh id ∙ e) served (later-taken run taken unopened) due s
 
   -- a Reset is due, of a stream that isn't open any more
   pub serves-reset : (id : ℕ) (code : ErrorCode) (is_due : Bool)
-      → (is_due ≡ true → (lookup (nat_eq id) streams ≡ None) × ((is_some (lookup (nat_eq id) others) || knows o.credit id) ≡ true))
+      → (is_due ≡ true → (lookup (nat_eq id) streams ≡ None) × (is_heard new.states id ≡ true))
       → Takes (if is_due then due_kind.Reset id code ∷ [] else []) none_is_new [] o new
-      → Serves run o streams others calls marks → Serves run new streams others calls marks
+      → Serves run o streams calls marks → Serves run new streams calls marks
   serves-reset id code is_due may takes s =
-      serves-owing run o new streams others calls marks (if is_due then due_kind.Reset id code ∷ [] else []) takes (due is_due refl) s
+      serves-owing run o new streams calls marks (if is_due then due_kind.Reset id code ∷ [] else []) takes (due is_due refl) s
     where
-      due : (b : Bool) → is_due ≡ b → All (MayBeDue run new streams others) (if b then due_kind.Reset id code ∷ [] else [])
+      due : (b : Bool) → is_due ≡ b → All (MayBeDue run new streams) (if b then due_kind.Reset id code ∷ [] else [])
       due true e =
-          let m = may e in
-          All-cons (MayBeDue run new streams others) (due_kind.Reset id code) []
-          (m.0, ap (λ b. is_some (lookup (nat_eq id) others) || b) (takes.knows id) ∙ m.1) (All-nil (MayBeDue run new streams others))
-      due false e = All-nil (MayBeDue run new streams others)
-
-  -- a Reset is taken, before what it changes of the streams
-  pub serves-told : (id : ℕ) (code : ErrorCode) (written : Bool) → Takes [] none_is_new [] o new
-      → Serves run o streams others calls marks → Serves (Taken (order.Reset id code written) ∷ run) new streams others calls marks
-  serves-told id code written takes s =
-      serves-ordered (order.Reset id code written) [] (λ k. refl) (λ k. refl) (λ k. refl) (All-nil (MayBeDue (Taken (order.Reset id code written) ∷ run) new streams others)) takes s
+          All-cons (MayBeDue run new streams) (due_kind.Reset id code) [] (may e) (All-nil (MayBeDue run new streams))
+      due false e = All-nil (MayBeDue run new streams)
 
 -- that Reset was taken
 pub reset-here : (run : List Step) (id : ℕ) (code : ErrorCode) (written : Bool) → was_reset id (Taken (order.Reset id code written) ∷ run) ≡ true
@@ -86,20 +78,14 @@ reason-here run id code false =
 
 -- ---- a Reset
 
--- what is owed counts only for which streams are a call's
-serves-credit : (run : List Step) (o : Outbound) (owed : Owed) (streams : List (ℕ × OpenStream)) (others : List (ℕ × Bool)) (calls : List (ℕ × List OutItem)) (marks : List (ℕ × Mark))
-    → ((k : ℕ) → knows owed k ≡ knows o.credit k) → Serves run o streams others calls marks → Serves run (record o { credit = owed }) streams others calls marks
-serves-credit run o owed streams others calls marks known s =
-    serves-shown run run o (record o { credit = owed }) streams streams others calls marks marks (λ k. refl) (λ k. refl) (later-none run) s.spells [] refl known
-    (λ k. refl) (λ k. refl) (λ k. refl) s
-
 -- It closes its stream; RST_STREAM is due then.
-pub serves-ended : (run : List Step) (o new : Outbound) (streams left : List (ℕ × OpenStream)) (others more : List (ℕ × Bool)) (calls : List (ℕ × List OutItem)) (marks : List (ℕ × Mark))
-    (id : ℕ) (code : ErrorCode) (written : Bool) → Takes (due_reset o id code written) none_is_new [] (record o { credit = new.credit }) new
-    → ((k : ℕ) → knows new.credit k ≡ knows o.credit k) → Shuts id o streams left others more
-    → Serves run o streams others calls marks → Serves (Taken (order.Reset id code written) ∷ run) new left more calls marks
-serves-ended run o new streams left others more calls marks id code written takes known shuts s =
-    serves-reset after mid new left more calls marks id code (written && may_write o id) (λ e. closed (and_true written (may_write o id) e).1 shuts) waits (shut shuts)
+pub serves-ended : (run : List Step) (o new : Outbound) (streams left : List (ℕ × OpenStream)) (calls : List (ℕ × List OutItem)) (marks : List (ℕ × Mark))
+    (id : ℕ) (code : ErrorCode) (written : Bool) → Takes (due_reset o id code written) none_is_new [] (record o { states = new.states }) new
+    → ((k : ℕ) → knows new.states k ≡ knows o.states k) → ((k : ℕ) → is_heard new.states k ≡ ((is_stream id && (k == id)) || is_heard o.states k)) → SameOver o.states new.states
+    → Closes id streams left → Serves run o streams calls marks → Serves (Taken (order.Reset id code written) ∷ run) new left calls marks
+serves-ended run o new streams left calls marks id code written takes known heard over closes s =
+    serves-reset after mid new left calls marks id code (written && may_write o id) (λ e. closed (and_true written (may_write o id) e).1) waits
+    (serves-closed after mid streams left calls marks id closes (reset-here run id code written) (reason-here run id code written) told)
   where
     after : List Step
     after = Taken (order.Reset id code written) ∷ run
@@ -108,40 +94,37 @@ serves-ended run o new streams left others more calls marks id code written take
     mid = record new { due = o.due }
 
     waits : Takes (due_reset o id code written) none_is_new [] mid new
-    waits = record { due = takes.due; knows = λ k. refl; resets = λ k. refl; over = refl; begun = refl; block = refl; encoder = refl }
+    waits = record { due = takes.due; knows = λ k. refl; heard = takes.heard; resets = λ k. refl; over = λ k. refl; begun = refl; block = refl; encoder = refl }
 
-    told : Serves after mid streams others calls marks
-    told = serves-told run (record o { credit = new.credit }) mid streams others calls marks id code written
-        (record { due = sym (append-nil o.due.items); knows = λ k. refl; resets = λ k. refl; over = takes.over; begun = takes.begun; block = takes.block; encoder = takes.encoder })
-        (serves-credit run o new.credit streams others calls marks known s)
+    nothing : Takes [] none_is_new [] (record o { states = new.states }) mid
+    nothing = record { due = sym (append-nil o.due.items); knows = λ k. refl; heard = λ k. refl; resets = λ k. refl; over = λ k. refl; begun = takes.begun; block = takes.block; encoder = takes.encoder }
 
-    none : (found : Option OpenStream) → lookup (nat_eq id) streams ≡ found → knows o.credit id ≡ false → found ≡ None
-    none None e unknown = refl
-    none (Some stream) e unknown = absurd (true≢false (sym (s.known id stream e) ∙ unknown))
+    heard-by : HeardBy after o mid
+    heard-by k e = by (is_stream id) (k == id) refl (sym (heard k) ∙ e)
+      where
+        Reasons : ℕ → Type 0
+        Reasons n = (is_fresh n (Taken (order.Reset id code written) ∷ run) ≡ true → was_reset n (Taken (order.Reset id code written) ∷ run) ≡ true)
+            × (has_reason n (Taken (order.Reset id code written) ∷ run) ≡ true)
 
-    shut : Shuts id o streams left others more → Serves after mid left more calls marks
-    shut (inl h) = serves-equal after mid streams left others more calls calls marks h.1 h.2 refl told
-    shut (inr (inl h)) =
-        serves-equal after mid left left others more calls calls marks refl h.2 refl
-        (serves-closed after mid streams left others calls marks id h.1 (reset-here run id code written) (reason-here run id code written) told)
-    shut (inr (inr h)) =
-        serves-equal after mid streams left more more calls calls marks h.1 refl refl
-        (serves-other after mid streams others more calls marks id true (known id ∙ h.0) h.2 (λ fresh. reset-here run id code written) (reason-here run id code written) told)
+        by : (a b : Bool) → (k == id) ≡ b → ((a && b) || is_heard o.states k) ≡ true → Reasons k ⊎ (is_heard o.states k ≡ true)
+        by a true p f = inl (subst Reasons (sym (eqb-true k id p)) (λ fresh. reset-here run id code written, reason-here run id code written))
+        by true false p f = inr f
+        by false false p f = inr f
+
+    told : Serves after mid streams calls marks
+    told = serves-step run after o mid streams calls marks [] (taken-tells [] none_is_new (record o { states = new.states }) mid (order.Reset id code written) nothing run marks s.spells)
+        (sym (append-nil o.due.items)) known over (λ k e. heard k ∙ or-true (is_stream id && (k == id)) (is_heard o.states k) e) heard-by
+        (λ k e. e) (λ k. refl) (later-taken run (order.Reset id code written) (λ k. refl)) (All-nil (MayBeDue after mid streams)) s
 
     number : (a b c : Bool) → ((a && b) && c) ≡ true → a ≡ true
     number true b c e = refl
     number false b c e = e
 
-    closed : may_write o id ≡ true → Shuts id o streams left others more
-        → (lookup (nat_eq id) left ≡ None) × ((is_some (lookup (nat_eq id) more) || knows mid.credit id) ≡ true)
-    closed may (inl h) = absurd (true≢false (sym (number (is_stream id) (not (is_some (lookup (nat_eq id) o.over.entries))) (not (is_reset o.credit id)) may) ∙ h.0))
-    closed may (inr (inl h)) = (
-      h.1 id ∙ ap (λ b. if b then None else lookup (nat_eq id) streams) (eq-eqb id id refl),
-      or-true (is_some (lookup (nat_eq id) more)) (knows mid.credit id) (known id ∙ h.0),
-    )
-    closed may (inr (inr h)) = (
-      ap (λ (l : List (ℕ × OpenStream)). lookup (nat_eq id) l) h.1 ∙ none (lookup (nat_eq id) streams) refl h.0,
-      ap (λ (x : Option Bool). is_some x || knows mid.credit id) (h.2 id ∙ ap (λ b. if b then Some true else lookup (nat_eq id) others) (eq-eqb id id refl)),
+    closed : may_write o id ≡ true → (lookup (nat_eq id) left ≡ None) × (is_heard new.states id ≡ true)
+    closed may = (
+      closes id ∙ ap (λ b. if b then None else lookup (nat_eq id) streams) (eq-eqb id id refl),
+      heard id ∙ ap (λ b. (b && (id == id)) || is_heard o.states id) (number (is_stream id) (not (is_some (over_on o.states id))) (not (is_reset o.states id)) may)
+          ∙ ap (λ b. b || is_heard o.states id) (eq-eqb id id refl),
     )
 
 -- ---- a Refuse
@@ -153,38 +136,45 @@ fresh-less run id fields k e = by (k == id)
     by true = refl
     by false = e
 
-module _ (run : List Step) (o : Outbound) (streams : List (ℕ × OpenStream)) (others : List (ℕ × Bool)) (calls : List (ℕ × List OutItem)) (marks : List (ℕ × Mark))
+module _ (run : List Step) (o : Outbound) (streams : List (ℕ × OpenStream)) (calls : List (ℕ × List OutItem)) (marks : List (ℕ × Mark))
     (id : ℕ) (fields : List Field) where
   -- of a stream that was opened, refused or reset before, and of none
-  pub serves-unrefused : Serves run o streams others calls marks → Serves (Taken (order.Refuse id fields) ∷ run) o streams others calls marks
+  pub serves-unrefused : Serves run o streams calls marks → Serves (Taken (order.Refuse id fields) ∷ run) o streams calls marks
   serves-unrefused s =
-      serves-same run (Taken (order.Refuse id fields) ∷ run) o o streams others calls marks [] [] (takes-nothing o)
+      serves-same run (Taken (order.Refuse id fields) ∷ run) o o streams calls marks [] [] (takes-nothing o)
       (taken-tells [] none_is_new o o (order.Refuse id fields) (takes-nothing o) run marks s.spells) (fresh-less run id fields) (λ k. refl) (later-taken run (order.Refuse id fields) (λ k. refl))
-      (All-nil (MayBeDue (Taken (order.Refuse id fields) ∷ run) o streams others)) s
+      (All-nil (MayBeDue (Taken (order.Refuse id fields) ∷ run) o streams)) s
 
-  pub serves-refused : (new : Outbound) (more : List (ℕ × Bool)) → is_stream id ≡ true → knows o.credit id ≡ false → Sets others id false more
-      → Takes (due_kind.Refuse id fields ∷ []) none_is_new [] o new
-      → Serves run o streams others calls marks → Serves (Taken (order.Refuse id fields) ∷ run) new streams more calls marks
-  serves-refused new more there isnt sets takes s =
+  -- of another
+  pub serves-refused : (new : Outbound) → is_stream id ≡ true → is_heard o.states id ≡ false → Takes (due_kind.Refuse id fields ∷ []) none_is_new [] o new
+      → Serves run o streams calls marks → Serves (Taken (order.Refuse id fields) ∷ run) new streams calls marks
+  serves-refused new there unheard takes s =
       let after : List Step = Taken (order.Refuse id fields) ∷ run in
+      let unknown : knows o.states id ≡ false = unheard-knows o.states id unheard in
       let reason : has_reason id after ≡ true =
       ap (λ b. ((b && not (is_opened id run)) || is_called_off id run) || is_dropped id run) (eq-eqb id id refl)
-      ∙ ap (λ b. (not b || is_called_off id run) || is_dropped id run) (unopened (is_opened id run) refl) in
-      let stale : is_fresh id after ≡ false = ap (λ b. if b then false else is_fresh id run) (eq-eqb id id refl) in
-      serves-owing after o new streams more calls marks (due_kind.Refuse id fields ∷ []) takes
-      (All-cons (MayBeDue after new streams more) (due_kind.Refuse id fields) [] (
-        stale,
-        unserved (is_served id run) refl,
-        ap is_some (sets id ∙ ap (λ b. if b then Some false else lookup (nat_eq id) others) (eq-eqb id id refl)),
+      ∙ ap (λ b. (not b || is_called_off id run) || is_dropped id run) (unopened unknown (is_opened id run) refl) in
+      serves-same run after o new streams calls marks (due_kind.Refuse id fields ∷ []) [] takes
+      (taken-tells (due_kind.Refuse id fields ∷ []) none_is_new o new (order.Refuse id fields) takes run marks s.spells) (fresh-less run id fields) (λ k. refl)
+      (later-taken run (order.Refuse id fields) (λ k. refl))
+      (All-cons (MayBeDue after new streams) (due_kind.Refuse id fields) [] (
+        ap (λ b. if b then false else is_fresh id run) (eq-eqb id id refl),
+        unserved unknown (is_served id run) refl,
+        closed unknown (lookup (nat_eq id) streams) refl,
+        takes.heard id ∙ ap (λ b. (b || false) || is_heard o.states id) (eq-eqb id id refl),
         inl (refl, refl),
+        reason,
       )
-      (All-nil (MayBeDue after new streams more)))
-      (serves-other after o streams others more calls marks id false isnt sets (λ fresh. absurd (true≢false (sym fresh ∙ stale))) reason (serves-unrefused s))
+      (All-nil (MayBeDue after new streams))) s
     where
-      unserved : (b : Bool) → is_served id run ≡ b → b ≡ false
-      unserved true e = absurd (true≢false (sym (s.served id e there) ∙ isnt))
-      unserved false e = refl
+      unserved : knows o.states id ≡ false → (b : Bool) → is_served id run ≡ b → b ≡ false
+      unserved unknown true e = absurd (true≢false (sym (served-known run o s.brought id e there) ∙ unknown))
+      unserved unknown false e = refl
 
-      unopened : (b : Bool) → is_opened id run ≡ b → b ≡ false
-      unopened true e = absurd (true≢false (sym (s.heard id e there) ∙ isnt))
-      unopened false e = refl
+      unopened : knows o.states id ≡ false → (b : Bool) → is_opened id run ≡ b → b ≡ false
+      unopened unknown true e = absurd (true≢false (sym (opened-known run o s.brought id e there) ∙ unknown))
+      unopened unknown false e = refl
+
+      closed : knows o.states id ≡ false → (found : Option OpenStream) → lookup (nat_eq id) streams ≡ found → found ≡ None
+      closed unknown None e = refl
+      closed unknown (Some stream) e = absurd (true≢false (sym (s.known id stream e) ∙ unknown))

@@ -1,8 +1,7 @@
 -- A frame that ends a stream or resets it.
-use Rattle.std.proofs.Common.{◌≡◌, ◌⊎◌, ℕ, ◌+◌, ◌-◌, ◌<◌, ◌≤◌, ◌==◌, inl, inr, refl, sym, ap, subst, ◌∙◌, Bool, true, false, List, [], ◌∷◌, ◌++◌, Option, Some, None, length, arith, nat_eq, true≢false}
+use Rattle.std.proofs.Common.{◌≡◌, ◌⊎◌, ℕ, ◌+◌, ◌-◌, ◌<◌, ◌≤◌, ◌==◌, inl, inr, refl, sym, ap, subst, ◌∙◌, Bool, true, false, List, [], ◌∷◌, ◌++◌, Option, Some, None, length, arith, true≢false}
 use Rattle.std.specs.Prelude.{IfSome, MatchOption, flat_map, take, drop, ◌%◌, ◌^◌, ◌||◌, ◌&&◌, is_some, not, if◌then◌else◌}
 use Rattle.std.specs.List.{list_any}
-use Rattle.std.specs.Map.{lookup}
 use Rattle.std.specs.Int.{bytes_high_first}
 use Rattle.std.proofs.lemmas.Nat.{from_be_bytes-to_be_bytes_4}
 use Rattle.std.proofs.lemmas.Bool.{eqb-true, eq-eqb, ne_eqb}
@@ -20,15 +19,15 @@ use Rattle.outwriter.specs.declared.control.Control.TheVariants as order
 use Rattle.outwriter.specs.declared.due.Due.{Due}
 use Rattle.outwriter.specs.declared.due.Due.TheVariants as due_kind
 use Rattle.outwriter.specs.Blocks.{frame_of, rest_of, is_short}
-use Rattle.outwriter.specs.Credits.{Owed, is_reset, owed_on, TakesAll}
+use Rattle.outwriter.specs.States.{States, SameEnds, SameOwed, SetsEnd, is_reset, over_on, owed_on, TakesAll}
 use Rattle.outwriter.specs.Frames.{resets, ends, update_on, reset_frame, data_frame, update_frame, headers_frame, continuation_frame, ends_stream, ends_block}
 use Rattle.outwriter.specs.Histories.{is_over, is_stream, closing_of, spending_of}
-use Rattle.outwriter.specs.RunState.{Mirrors, resets_of, HasWindows, HasOver, HasDue, HasBlock, HasHead, HasResets, HasSilence, Sets, spent, closing, Keeps, Ends}
+use Rattle.outwriter.specs.RunState.{Mirrors, resets_of, HasWindows, HasOver, HasDue, HasBlock, HasHead, HasResets, HasStates, spent, closing, Keeps, Ends}
 use Rattle.outwriter.specs.Runs.{due, IsAsked, Fragments, Continues, MayWrite, fragments, unfinished, updated, granted, is_opened, may_owe, owed as given, resets_stream, was_reset}
 use Rattle.outwriter.specs.Steps.{Step, Taken, Granted, Written, Returned, frames_of}
 use Rattle.outwriter.proofs.Others.{or-true}
-use Rattle.outwriter.proofs.RunStateSteps.{same-block}
-use Rattle.outwriter.proofs.FrameSteps.{in-answers, in-goaways, not-over, none-over, none-begun, no-updates, credits-none, tells-first, due-told, no-block, over-same, due-same, tells-none, credit-same, owes-same, windows-same, head-same, plain-written, IsPlain}
+use Rattle.outwriter.proofs.RunStateSteps.{same-block, over-kept, owed-kept, credit-kept}
+use Rattle.outwriter.proofs.FrameSteps.{in-answers, in-goaways, not-over, none-over, none-begun, no-updates, credits-none, tells-first, due-told, no-block, over-same, stand-same, due-same, tells-none, credit-same, owes-same, windows-same, head-same, plain-written, IsPlain}
 
 -- the windows go on by what a frame closes and spends
 pub windows-more : (run : List Step) (frame : Frame) (w windows : Windows) (more : List WindowStep)
@@ -44,39 +43,48 @@ was-false : (b : Bool) (o : Option Bool) → o ≡ Some b → (o ≡ Some true �
 was-false true o e isnt = absurd (isnt e)
 was-false false o e isnt = refl
 
--- the stream is over from this frame on
-pub over-more : (run : List Step) (frame : Frame) (over after : List (ℕ × Bool)) (id : ℕ) (reset : Bool)
+-- the end of the stream is written by this frame
+over-more : (run : List Step) (frame : Frame) (old new : States) (id : ℕ) (reset : Bool)
     → ((k : ℕ) → (resets k frame || ends k frame) ≡ (k == id)) → ((k : ℕ) → reset ≡ false → resets k frame ≡ false)
     → ((k : ℕ) → (k == id) ≡ false → resets k frame ≡ false)
-    → Sets over id reset after → lookup (nat_eq id) over ≡ None → HasOver run over → HasOver (Written frame ∷ run) after
-over-more run frame over after id reset each only other sets none has k = by (k == id) refl
+    → SetsEnd old id reset new → over_on old id ≡ None → HasOver run old → HasOver (Written frame ∷ run) new
+over-more run frame old new id reset each only other sets none has k = by (k == id) refl
   where
-    by : (b : Bool) → (k == id) ≡ b → (is_some (lookup (nat_eq k) after) ≡ ((resets k frame || ends k frame) || is_over k run))
-        × ((lookup (nat_eq k) after ≡ Some true → ⊥) → (resets k frame || list_any (resets k) (frames_of run)) ≡ false)
+    by : (b : Bool) → (k == id) ≡ b → (is_some (over_on new k) ≡ ((resets k frame || ends k frame) || is_over k run))
+        × ((over_on new k ≡ Some true → ⊥) → (resets k frame || list_any (resets k) (frames_of run)) ≡ false)
     by true p =
-        let here : lookup (nat_eq k) after ≡ Some reset = sets k ∙ ap (λ b. if b then Some reset else lookup (nat_eq k) over) p in
-        let P : ℕ → Type 0 = λ n. lookup (nat_eq n) over ≡ None in
-        let none_k : lookup (nat_eq k) over ≡ None = subst P (sym (eqb-true k id p)) none in (
+        let here : over_on new k ≡ Some reset = sets.0 k ∙ ap (λ b. if b then Some reset else over_on old k) p in
+        let P : ℕ → Type 0 = λ n. over_on old n ≡ None in
+        let none_k : over_on old k ≡ None = subst P (sym (eqb-true k id p)) none in (
           ap is_some here ∙ sym (ap (λ b. b || is_over k run) (each k ∙ p)),
-          λ not_reset. ap (λ b. b || list_any (resets k) (frames_of run)) (only k (was-false reset (lookup (nat_eq k) after) here not_reset)) ∙ (has k).1 (not-some (lookup (nat_eq k) over) none_k),
+          λ not_reset. ap (λ b. b || list_any (resets k) (frames_of run)) (only k (was-false reset (over_on new k) here not_reset)) ∙ (has k).1 (not-some (over_on old k) none_k),
         )
     by false p =
-        let same : lookup (nat_eq k) after ≡ lookup (nat_eq k) over = sets k ∙ ap (λ b. if b then Some reset else lookup (nat_eq k) over) p in (
+        let same : over_on new k ≡ over_on old k = sets.0 k ∙ ap (λ b. if b then Some reset else over_on old k) p in (
           ap is_some same ∙ (has k).0 ∙ sym (ap (λ b. b || is_over k run) (each k ∙ p)),
           λ not_reset. ap (λ b. b || list_any (resets k) (frames_of run)) (other k p) ∙ (has k).1 (λ e. not_reset (same ∙ e)),
         )
 
-pub still-no-0 : (over after : List (ℕ × Bool)) (id : ℕ) (value : Bool) → 0 < id → Sets over id value after → lookup (nat_eq 0) over ≡ None → lookup (nat_eq 0) after ≡ None
-still-no-0 over after id value there sets none =
-    sets 0 ∙ ap (λ b. if b then Some value else lookup (nat_eq 0) over) (ne_eqb 0 id (λ e. omega (arith, e, there))) ∙ none
-
--- the stream is silent, which was reset
-silent-more : (over after : List (ℕ × Bool)) (id : ℕ) (owed : Owed) → Sets over id true after → is_reset owed id ≡ true → HasSilence over owed → HasSilence after owed
-silent-more over after id owed sets was silent k e = by (k == id) refl
+-- how each stream stands, where what is owed is the same
+ended-stand : (run : List Step) (frame : Frame) (old new : States) (id : ℕ) (reset : Bool)
+    → ((k : ℕ) → (resets k frame || ends k frame) ≡ (k == id)) → ((k : ℕ) → reset ≡ false → resets k frame ≡ false)
+    → ((k : ℕ) → (k == id) ≡ false → resets k frame ≡ false) → ((k : ℕ) → update_on k frame ≡ 0) → (reset ≡ true → is_reset old id ≡ true)
+    → 0 < id → SetsEnd old id reset new → SameOwed old new → over_on old id ≡ None → HasStates run old → HasStates (Written frame ∷ run) new
+ended-stand run frame old new id reset each only other updates was there sets same none h = record {
+  over = over-more run frame old new id reset each only other sets none h.over;
+  silent = λ k e. (same.0 k).2 ∙ silent k e (k == id) refl;
+  resets = λ k number. (same.0 k).2 ∙ h.resets k number;
+  owes = owed-kept (Written frame ∷ run) old new same (owes-same run frame old updates h.owes);
+  no_stream_0 = sets.0 0 ∙ ap (λ b. if b then Some reset else over_on old 0) (ne_eqb 0 id (λ e. omega (arith, e, there))) ∙ h.no_stream_0;
+}
   where
-    by : (b : Bool) → (k == id) ≡ b → is_reset owed k ≡ true
-    by true p = ap (λ n. is_reset owed n) (eqb-true k id p) ∙ was
-    by false p = silent k (sym (sets k ∙ ap (λ b. if b then Some true else lookup (nat_eq k) over) p) ∙ e)
+    by-reset : (b : Bool) → Some b ≡ Some true → b ≡ true
+    by-reset true e = refl
+    by-reset false e = cc
+
+    silent : (k : ℕ) → over_on new k ≡ Some true → (b : Bool) → (k == id) ≡ b → is_reset old k ≡ true
+    silent k e true p = ap (λ n. is_reset old n) (eqb-true k id p) ∙ was (by-reset reset (sym (sets.0 k ∙ ap (λ b. if b then Some reset else over_on old k) p) ∙ e))
+    silent k e false p = h.silent k (sym (sets.0 k ∙ ap (λ b. if b then Some reset else over_on old k) p) ∙ e)
 
 -- a stream was reset where its RST_STREAM was asked for
 asked-reset : (run : List Step) (id : ℕ) (code : ErrorCode) → IsAsked id code run → was_reset id run ≡ true
@@ -97,26 +105,26 @@ asked-reset (Taken order.InputEnded ∷ run) id code (inl asked) = absurd asked
 asked-reset (Taken order.Close ∷ run) id code (inl asked) = absurd asked
 
 -- and wasn't, where that isn't kept
-pub unreset : (run : List Step) (id : ℕ) (owed : Owed) → HasResets run owed → is_reset owed id ≡ false → is_stream id ≡ true → was_reset id run ≡ true → ⊥
+pub unreset : (run : List Step) (id : ℕ) (owed : States) → HasResets run owed → is_reset owed id ≡ false → is_stream id ≡ true → was_reset id run ≡ true → ⊥
 unreset run id owed resets none there was = true≢false (sym was ∙ sym (resets id there) ∙ none)
 
 or-none : (b : Bool) → (b || false) ≡ b
 or-none true = refl
 or-none false = refl
 
-pub reset-written : (run : List Step) (begun gone : Bool) (w windows : Windows) (over after : List (ℕ × Bool)) (waiting : List Due) (block : Option HeaderBlock)
-    (owed : Owed) (id : ℕ) (code : ErrorCode) (made : Frame) → made ≡ reset_frame id code → begun ≡ true → gone ≡ false → block ≡ None
-    → 0 < id → is_stream id ≡ true → lookup (nat_eq id) over ≡ None → ((history : List WindowStep) → Follows history w → Follows (Closing id ∷ history) windows)
-    → Sets over id true after
-    → Mirrors run begun gone w over (due_kind.Reset id code ∷ waiting) block owed
-    → MayWrite run made × Mirrors (Written made ∷ run) begun gone windows after waiting block owed
-reset-written run begun gone w windows over after waiting block owed id code made is is_begun not_gone no_block there number is_open follows sets m =
+pub reset-written : (run : List Step) (begun gone : Bool) (w windows : Windows) (waiting : List Due) (block : Option HeaderBlock)
+    (owed less : States) (id : ℕ) (code : ErrorCode) (made : Frame) → made ≡ reset_frame id code → begun ≡ true → gone ≡ false → block ≡ None
+    → 0 < id → is_stream id ≡ true → over_on owed id ≡ None → ((history : List WindowStep) → Follows history w → Follows (Closing id ∷ history) windows)
+    → SetsEnd owed id true less → SameOwed owed less
+    → Mirrors run begun gone w (due_kind.Reset id code ∷ waiting) block owed
+    → MayWrite run made × Mirrors (Written made ∷ run) begun gone windows waiting block less
+reset-written run begun gone w windows waiting block owed less id code made is is_begun not_gone no_block there number is_open follows sets same m =
     let Asked : ℕ × ErrorCode → Type 0 = λ reset. IsAsked reset.0 reset.1 run in
     let nothing : unfinished run ≡ None = subst (HasBlock run) no_block m.goes_on in
-    let still = not-over run id (sym (m.is_over id).0 ∙ none-over (lookup (nat_eq id) over) is_open) in
+    let still = not-over run id (sym (m.stand.over id).0 ∙ none-over (over_on owed id) is_open) in
     let none = no-updates run (reset_frame id code) refl in
     let asked = All-head Asked (id, code) (flat_map resets_of waiting) m.answers.1 in
-    subst (λ (f : Frame). MayWrite run f × Mirrors (Written f ∷ run) begun gone windows after waiting block owed) (sym is) (
+    subst (λ (f : Frame). MayWrite run f × Mirrors (Written f ∷ run) begun gone windows waiting block less) (sym is) (
       record {
         first = λ e. absurd (none-begun (frames_of run) (m.begins ∙ is_begun) e);
         windows = λ e. cc;
@@ -137,15 +145,12 @@ reset-written run begun gone w windows over after waiting block owed id code mad
         begins = sym is_begun;
         goes = m.goes;
         windows_follow = windows-more run (reset_frame id code) w windows (Closing id ∷ []) (λ h. refl) follows m.windows_follow;
-        is_over = over-more run (reset_frame id code) over after id true (λ k. or-none (k == id)) (λ k e. cc) (λ k e. e) sets is_open m.is_over;
         answers = due-told run (reset_frame id code) (due_kind.Reset id code) waiting refl m.answers;
         goes_on = same-block run (Written (reset_frame id code) ∷ run) block (no-block run (reset_frame id code) refl ∙ sym nothing) m.goes_on;
         not_reset = subst (HasHead (reset_frame id code ∷ frames_of run)) (sym no_block) tt;
-        credits = credit-same run (reset_frame id code) owed none m.credits;
-        owes = owes-same run (reset_frame id code) owed none m.owes;
-        silent = silent-more over after id owed sets (m.resets id number ∙ asked-reset run id code asked) m.silent;
-        resets = m.resets;
-        no_stream_0 = still-no-0 over after id true there sets m.no_stream_0;
+        credits = credit-kept (Written (reset_frame id code) ∷ run) owed less same (credit-same run (reset_frame id code) owed none m.credits);
+        stand = ended-stand run (reset_frame id code) owed less id true (λ k. or-none (k == id)) (λ k e. cc) (λ k e. e) none
+            (λ e. m.stand.resets id number ∙ asked-reset run id code asked) there sets same is_open m.stand;
       },
     )
 
@@ -190,26 +195,14 @@ headed-block run id ends_it false fragment left keeps =
     (record { stream = id; bytes = fragment; ends_it = ends_stream (headers_frame id ends_it false fragment) }) refl
     (ap (λ b. if b then None else fragments (headers_frame id ends_it false fragment) (unfinished run)) (head-whole id ends_it false fragment)) keeps
 
-headed-over : (run : List Step) (id : ℕ) (ends_it whole : Bool) (fragment : List ℕ) (over after : List (ℕ × Bool)) → Ends over id ends_it after
-    → lookup (nat_eq id) over ≡ None → HasOver run over → HasOver (Written (headers_frame id ends_it whole fragment) ∷ run) after
-headed-over run id true whole fragment over after sets none has =
-    over-more run (headers_frame id true whole fragment) over after id false
-    (λ k. ap (λ b. b && (k == id)) (head-ends id true whole fragment)) (λ k e. refl) (λ k e. refl) sets none has
-headed-over run id false whole fragment over after same none has =
-    subst (HasOver (Written (headers_frame id false whole fragment) ∷ run)) (sym same)
-    (over-same run (headers_frame id false whole fragment) over (head-ends id false whole fragment) refl has)
-
-headed-silent : (id : ℕ) (ends_it : Bool) (over after : List (ℕ × Bool)) (owed : Owed) → Ends over id ends_it after → HasSilence over owed → HasSilence after owed
-headed-silent id false over after owed same silent k e = subst (λ (o : List (ℕ × Bool)). HasSilence o owed) (sym same) silent k e
-headed-silent id true over after owed sets silent k e = by (k == id) refl
-  where
-    by : (b : Bool) → (k == id) ≡ b → is_reset owed k ≡ true
-    by true p = let wrong : Some false ≡ Some true = sym (sets k ∙ ap (λ b. if b then Some false else lookup (nat_eq k) over) p) ∙ e in cc
-    by false p = silent k (sym (sets k ∙ ap (λ b. if b then Some false else lookup (nat_eq k) over) p) ∙ e)
-
-headed-no-0 : (id : ℕ) (ends_it : Bool) (over after : List (ℕ × Bool)) → 0 < id → Ends over id ends_it after → lookup (nat_eq 0) over ≡ None → lookup (nat_eq 0) after ≡ None
-headed-no-0 id true over after there sets none = still-no-0 over after id false there sets none
-headed-no-0 id false over after there same none = ap (λ (o : List (ℕ × Bool)). lookup (nat_eq 0) o) same ∙ none
+headed-stand : (run : List Step) (id : ℕ) (ends_it whole : Bool) (fragment : List ℕ) (old new : States) → Ends old id ends_it new → SameOwed old new → 0 < id
+    → over_on old id ≡ None → HasStates run old → HasStates (Written (headers_frame id ends_it whole fragment) ∷ run) new
+headed-stand run id true whole fragment old new sets same there none h =
+    ended-stand run (headers_frame id true whole fragment) old new id false (λ k. ap (λ b. b && (k == id)) (head-ends id true whole fragment)) (λ k e. refl) (λ k e. refl)
+    (no-updates run (headers_frame id true whole fragment) refl) (λ e. absurd (true≢false (sym e))) there sets same none h
+headed-stand run id false whole fragment old new is same there none h =
+    subst (HasStates (Written (headers_frame id false whole fragment) ∷ run)) (sym is)
+    (stand-same run (headers_frame id false whole fragment) old (head-ends id false whole fragment) refl (no-updates run (headers_frame id false whole fragment) refl) h)
 
 headed-head : (run : List Step) (id : ℕ) (ends_it whole : Bool) (fragment : List ℕ) (left : Option HeaderBlock) → Keeps id whole left
     → list_any (resets id) (frames_of run) ≡ false → HasHead (headers_frame id ends_it whole fragment ∷ frames_of run) left
@@ -226,19 +219,19 @@ keeps-rest block = by (is_short block)
     by false = (refl, refl)
 
 -- HEADERS, for which what is due is as it was, or lost what obliges to nothing
-pub headers-written : (run : List Step) (begun gone : Bool) (w windows : Windows) (over after : List (ℕ × Bool)) (waiting left : List Due)
-    (block rest : Option HeaderBlock) (owed : Owed) (id : ℕ) (ends_it whole : Bool) (fragment : List ℕ) (made : Frame)
+pub headers-written : (run : List Step) (begun gone : Bool) (w windows : Windows) (waiting left : List Due)
+    (block rest : Option HeaderBlock) (owed less : States) (id : ℕ) (ends_it whole : Bool) (fragment : List ℕ) (made : Frame)
     → made ≡ headers_frame id ends_it whole fragment → begun ≡ true → gone ≡ false → block ≡ None
-    → 0 < id → lookup (nat_eq id) over ≡ None → is_reset owed id ≡ false
+    → 0 < id → over_on owed id ≡ None → is_reset owed id ≡ false
     → ((history : List WindowStep) → Follows history w → Follows (closing id ends_it ++ history) windows)
-    → Ends over id ends_it after → Keeps id whole rest → HasDue run left
-    → Mirrors run begun gone w over waiting block owed
-    → MayWrite run made × Mirrors (Written made ∷ run) begun gone windows after left rest owed
-headers-written run begun gone w windows over after waiting left block rest owed id ends_it whole fragment made is is_begun not_gone no_block there is_open not_reset follows sets keeps dues m =
+    → Ends owed id ends_it less → SameOwed owed less → Keeps id whole rest → HasDue run left
+    → Mirrors run begun gone w waiting block owed
+    → MayWrite run made × Mirrors (Written made ∷ run) begun gone windows left rest less
+headers-written run begun gone w windows waiting left block rest owed less id ends_it whole fragment made is is_begun not_gone no_block there is_open not_reset follows sets same keeps dues m =
     let nothing : unfinished run ≡ None = subst (HasBlock run) no_block m.goes_on in
-    let still = not-over run id (sym (m.is_over id).0 ∙ none-over (lookup (nat_eq id) over) is_open) in
+    let still = not-over run id (sym (m.stand.over id).0 ∙ none-over (over_on owed id) is_open) in
     let none = no-updates run (headers_frame id ends_it whole fragment) refl in
-    subst (λ (f : Frame). MayWrite run f × Mirrors (Written f ∷ run) begun gone windows after left rest owed) (sym is) (
+    subst (λ (f : Frame). MayWrite run f × Mirrors (Written f ∷ run) begun gone windows left rest less) (sym is) (
       record {
         first = λ e. absurd (none-begun (frames_of run) (m.begins ∙ is_begun) e);
         windows = λ e. cc;
@@ -246,7 +239,7 @@ headers-written run begun gone w windows over after waiting left block rest owed
         answers = in-answers _ (due run) (tells-none run (headers_frame id ends_it whole fragment) left refl dues);
         parts = in-goaways _ (due run) (tells-none run (headers_frame id ends_it whole fragment) left refl dues);
         asked = λ e. cc;
-        after_reset = λ is_one was. absurd (unreset run id owed m.resets not_reset is_one was);
+        after_reset = λ is_one was. absurd (unreset run id owed m.stand.resets not_reset is_one was);
         block = subst (λ (o : Option Fragments). Continues o (headers_frame id ends_it whole fragment)) (sym nothing) (λ e. cc);
         not_reset = still.0;
         not_ended = λ e. absurd (true≢false (sym e ∙ still.1));
@@ -259,15 +252,11 @@ headers-written run begun gone w windows over after waiting left block rest owed
         begins = sym is_begun;
         goes = m.goes;
         windows_follow = windows-more run (headers_frame id ends_it whole fragment) w windows (closing id ends_it) (closes id ends_it whole fragment) follows m.windows_follow;
-        is_over = headed-over run id ends_it whole fragment over after sets is_open m.is_over;
         answers = due-same run (headers_frame id ends_it whole fragment) left refl dues;
         goes_on = headed-block run id ends_it whole fragment rest keeps;
         not_reset = headed-head run id ends_it whole fragment rest keeps still.0;
-        credits = credit-same run (headers_frame id ends_it whole fragment) owed none m.credits;
-        owes = owes-same run (headers_frame id ends_it whole fragment) owed none m.owes;
-        silent = headed-silent id ends_it over after owed sets m.silent;
-        resets = m.resets;
-        no_stream_0 = headed-no-0 id ends_it over after there sets m.no_stream_0;
+        credits = credit-kept (Written (headers_frame id ends_it whole fragment) ∷ run) owed less same (credit-same run (headers_frame id ends_it whole fragment) owed none m.credits);
+        stand = headed-stand run id ends_it whole fragment owed less sets same there is_open m.stand;
       },
     )
 
@@ -295,17 +284,17 @@ continued-head run id true fragment left keeps still = subst (HasHead (continuat
 continued-head run id false fragment None keeps still = absurd keeps
 continued-head run id false fragment (Some block) keeps still = ap (λ k. list_any (resets k) (frames_of run)) keeps.1 ∙ still
 
-pub continuation-written : (run : List Step) (begun gone : Bool) (w : Windows) (over : List (ℕ × Bool)) (waiting : List Due)
-    (block : HeaderBlock) (rest : Option HeaderBlock) (owed : Owed) (made : Frame)
+pub continuation-written : (run : List Step) (begun gone : Bool) (w : Windows) (waiting : List Due)
+    (block : HeaderBlock) (rest : Option HeaderBlock) (owed : States) (made : Frame)
     → made ≡ frame_of block → rest ≡ rest_of block → begun ≡ true → gone ≡ false
-    → Mirrors run begun gone w over waiting (Some block) owed
-    → MayWrite run made × Mirrors (Written made ∷ run) begun gone w over waiting rest owed
-continuation-written run begun gone w over waiting block rest owed made is is_rest is_begun not_gone m =
+    → Mirrors run begun gone w waiting (Some block) owed
+    → MayWrite run made × Mirrors (Written made ∷ run) begun gone w waiting rest owed
+continuation-written run begun gone w waiting block rest owed made is is_rest is_begun not_gone m =
     let frame_is : made ≡ continuation_frame block.id (is_short block) (take 16384 block.rest) =
     is ∙ ap (λ b. if b then continuation_frame block.id (is_short block) (take 16384 block.rest) else headers_frame block.id block.ends (is_short block) (take 16384 block.rest)) m.goes_on.0 in
     let keeps : Keeps block.id (is_short block) rest = subst (Keeps block.id (is_short block)) (sym is_rest) (keeps-rest block) in
     let none = no-updates run (continuation_frame block.id (is_short block) (take 16384 block.rest)) refl in
-    subst (λ (f : Frame). MayWrite run f × Mirrors (Written f ∷ run) begun gone w over waiting rest owed) (sym frame_is) (
+    subst (λ (f : Frame). MayWrite run f × Mirrors (Written f ∷ run) begun gone w waiting rest owed) (sym frame_is) (
       record {
         first = λ e. absurd (none-begun (frames_of run) (m.begins ∙ is_begun) e);
         windows = λ e. cc;
@@ -326,32 +315,28 @@ continuation-written run begun gone w over waiting block rest owed made is is_re
         begins = sym is_begun;
         goes = m.goes;
         windows_follow = windows-same run (continuation_frame block.id (is_short block) (take 16384 block.rest)) w refl refl m.windows_follow;
-        is_over = over-same run (continuation_frame block.id (is_short block) (take 16384 block.rest)) over refl refl m.is_over;
         answers = due-same run (continuation_frame block.id (is_short block) (take 16384 block.rest)) waiting refl m.answers;
         goes_on = continued-block run block.id (is_short block) (take 16384 block.rest) rest keeps m.goes_on.1 m.goes_on.2;
         not_reset = continued-head run block.id (is_short block) (take 16384 block.rest) rest keeps m.not_reset;
         credits = credit-same run (continuation_frame block.id (is_short block) (take 16384 block.rest)) owed none m.credits;
-        owes = owes-same run (continuation_frame block.id (is_short block) (take 16384 block.rest)) owed none m.owes;
-        silent = m.silent;
-        resets = m.resets;
-        no_stream_0 = m.no_stream_0;
+        stand = stand-same run (continuation_frame block.id (is_short block) (take 16384 block.rest)) owed refl refl none m.stand;
       },
     )
 
 -- ---- DATA (RFC 9113, sections 6.1 and 6.9.1)
 
-pub data-written : (run : List Step) (begun gone : Bool) (w windows : Windows) (over : List (ℕ × Bool)) (waiting : List Due)
-    (block : Option HeaderBlock) (owed : Owed) (id : ℕ) (bytes : List ℕ) (made : Frame)
-    → made ≡ data_frame id bytes → begun ≡ true → gone ≡ false → block ≡ None → lookup (nat_eq id) over ≡ None → is_reset owed id ≡ false → 0 < length bytes → length bytes ≤ 16384
+pub data-written : (run : List Step) (begun gone : Bool) (w windows : Windows) (waiting : List Due)
+    (block : Option HeaderBlock) (owed : States) (id : ℕ) (bytes : List ℕ) (made : Frame)
+    → made ≡ data_frame id bytes → begun ≡ true → gone ≡ false → block ≡ None → over_on owed id ≡ None → is_reset owed id ≡ false → 0 < length bytes → length bytes ≤ 16384
     → ((history : List WindowStep) → Follows history w → length bytes ≤ room_after history id)
     → ((history : List WindowStep) → Follows history w → Follows (spent id (length bytes) ++ history) windows)
-    → Mirrors run begun gone w over waiting block owed
-    → MayWrite run made × Mirrors (Written made ∷ run) begun gone windows over waiting block owed
-data-written run begun gone w windows over waiting block owed id bytes made is is_begun not_gone no_block is_open not_reset some short fits follows m =
+    → Mirrors run begun gone w waiting block owed
+    → MayWrite run made × Mirrors (Written made ∷ run) begun gone windows waiting block owed
+data-written run begun gone w windows waiting block owed id bytes made is is_begun not_gone no_block is_open not_reset some short fits follows m =
     let nothing : unfinished run ≡ None = subst (HasBlock run) no_block m.goes_on in
-    let still = not-over run id (sym (m.is_over id).0 ∙ none-over (lookup (nat_eq id) over) is_open) in
+    let still = not-over run id (sym (m.stand.over id).0 ∙ none-over (over_on owed id) is_open) in
     let none = no-updates run (data_frame id bytes) refl in
-    subst (λ (f : Frame). MayWrite run f × Mirrors (Written f ∷ run) begun gone windows over waiting block owed) (sym is) (
+    subst (λ (f : Frame). MayWrite run f × Mirrors (Written f ∷ run) begun gone windows waiting block owed) (sym is) (
       record {
         first = λ e. absurd (none-begun (frames_of run) (m.begins ∙ is_begun) e);
         windows = λ e. (short, λ more. (m.windows_follow.0, m.windows_follow.1, fits m.windows_follow.0 m.windows_follow.2));
@@ -359,7 +344,7 @@ data-written run begun gone w windows over waiting block owed id bytes made is i
         answers = in-answers _ (due run) (tells-none run (data_frame id bytes) waiting refl m.answers);
         parts = in-goaways _ (due run) (tells-none run (data_frame id bytes) waiting refl m.answers);
         asked = λ e. cc;
-        after_reset = λ is_one was. absurd (unreset run id owed m.resets not_reset is_one was);
+        after_reset = λ is_one was. absurd (unreset run id owed m.stand.resets not_reset is_one was);
         block = subst (λ (o : Option Fragments). Continues o (data_frame id bytes)) (sym nothing) (λ e. cc);
         not_reset = still.0;
         not_ended = λ e. absurd (true≢false (sym e ∙ still.1));
@@ -372,15 +357,11 @@ data-written run begun gone w windows over waiting block owed id bytes made is i
         begins = sym is_begun;
         goes = m.goes;
         windows_follow = windows-more run (data_frame id bytes) w windows (spent id (length bytes)) (λ h. refl) follows m.windows_follow;
-        is_over = over-same run (data_frame id bytes) over refl refl m.is_over;
         answers = due-same run (data_frame id bytes) waiting refl m.answers;
         goes_on = same-block run (Written (data_frame id bytes) ∷ run) block (no-block run (data_frame id bytes) refl ∙ sym nothing) m.goes_on;
         not_reset = head-same (data_frame id bytes) (frames_of run) block refl m.not_reset;
         credits = credit-same run (data_frame id bytes) owed none m.credits;
-        owes = owes-same run (data_frame id bytes) owed none m.owes;
-        silent = m.silent;
-        resets = m.resets;
-        no_stream_0 = m.no_stream_0;
+        stand = stand-same run (data_frame id bytes) owed refl refl none m.stand;
       },
     )
 
@@ -408,12 +389,12 @@ no-reset id run may = by (id == 0) refl (is_stream id) (is_opened id run) (was_r
     by false z false opened was is still may = absurd (true≢false (sym may))
 
 -- nor has it had an RST_STREAM
-not-over-there : (run : List Step) (over : List (ℕ × Bool)) (kept : Owed) (id : ℕ) → HasSilence over kept → HasResets run kept → lookup (nat_eq 0) over ≡ None
-    → (id ≡ 0) ⊎ ((is_stream id ≡ true) × (was_reset id run ≡ false)) → lookup (nat_eq id) over ≡ Some true → ⊥
-not-over-there run over kept id silent marks none (inl zero) e =
-    let P : ℕ → Type 0 = λ k. lookup (nat_eq k) over ≡ None in
-    not-some (lookup (nat_eq id) over) (subst P (sym zero) none) e
-not-over-there run over kept id silent marks none (inr (is, still)) e = true≢false (sym (silent id e) ∙ marks id is ∙ still)
+not-over-there : (run : List Step) (kept : States) (id : ℕ) → HasStates run kept
+    → (id ≡ 0) ⊎ ((is_stream id ≡ true) × (was_reset id run ≡ false)) → over_on kept id ≡ Some true → ⊥
+not-over-there run kept id h (inl zero) e =
+    let P : ℕ → Type 0 = λ k. over_on kept k ≡ None in
+    not-some (over_on kept id) (subst P (sym zero) h.no_stream_0) e
+not-over-there run kept id h (inr (is, still)) e = true≢false (sym (h.silent id e) ∙ h.resets id is ∙ still)
 
 unreset-there : (run : List Step) (id : ℕ) → (id ≡ 0) ⊎ ((is_stream id ≡ true) × (was_reset id run ≡ false)) → is_stream id ≡ true → was_reset id run ≡ true → ⊥
 unreset-there run id (inl zero) there was = true≢false (sym there ∙ ap is_stream zero)
@@ -437,34 +418,38 @@ at-most-left : (b : Bool) (n updates owed grants : ℕ) → updates + owed ≤ g
 at-most-left true n updates owed grants h is = let e : owed ≡ n = is refl in omega (arith, h, e)
 at-most-left false n updates owed grants h is = omega (arith, h)
 
-pub update-written : (run : List Step) (begun gone : Bool) (w : Windows) (over : List (ℕ × Bool)) (waiting : List Due)
-    (block : Option HeaderBlock) (owed less : Owed) (taken : ℕ × ℕ) (made : Frame)
-    → made ≡ update_frame taken.0 taken.1 → begun ≡ true → gone ≡ false → block ≡ None → TakesAll owed (Some taken) less
-    → Mirrors run begun gone w over waiting block owed
-    → MayWrite run made × Mirrors (Written made ∷ run) begun gone w over waiting block less
-update-written run begun gone w over waiting block owed less taken made is is_begun not_gone no_block takes m =
+pub update-written : (run : List Step) (begun gone : Bool) (w : Windows) (waiting : List Due)
+    (block : Option HeaderBlock) (owed less : States) (taken : ℕ × ℕ) (made : Frame)
+    → made ≡ update_frame taken.0 taken.1 → begun ≡ true → gone ≡ false → block ≡ None → TakesAll owed (Some taken) less → SameEnds owed less
+    → Mirrors run begun gone w waiting block owed
+    → MayWrite run made × Mirrors (Written made ∷ run) begun gone w waiting block less
+update-written run begun gone w waiting block owed less taken made is is_begun not_gone no_block takes ends m =
     let small : taken.1 < 2 ^ 31 = omega (arith, takes.1) in
     let here : (k : ℕ) → (k == taken.0) ≡ true → owed_on owed k ≡ taken.1 =
     λ k e. let P : ℕ → Type 0 = λ j. owed_on owed j ≡ taken.1 in subst P (sym (eqb-true k taken.0 e)) takes.3 in
     let amount = λ (k : ℕ). update-amount taken.0 taken.1 k small in
-    let free = no-reset taken.0 run (sym (m.owes taken.0).1 ∙ takes.2) in
-    subst (λ (f : Frame). MayWrite run f × Mirrors (Written f ∷ run) begun gone w over waiting block less) (sym is)
-    (plain-written run begun gone gone w over waiting waiting block owed less (update_frame taken.0 taken.1) is_begun not_gone no_block (update-plain taken.0 taken.1)
+    let free = no-reset taken.0 run (sym (m.stand.owes taken.0).1 ∙ takes.2) in
+    subst (λ (f : Frame). MayWrite run f × Mirrors (Written f ∷ run) begun gone w waiting block less) (sym is)
+    (plain-written run begun gone gone w waiting waiting block owed less (update_frame taken.0 taken.1) is_begun not_gone no_block (update-plain taken.0 taken.1)
     (tells-none run (update_frame taken.0 taken.1) waiting refl m.answers) (due-same run (update_frame taken.0 taken.1) waiting refl m.answers)
-    ((m.is_over taken.0).1 (not-over-there run over owed taken.0 m.silent m.resets m.no_stream_0 free))
+    ((m.stand.over taken.0).1 (not-over-there run owed taken.0 m.stand free))
     (λ e. inl refl)
     (unreset-there run taken.0 free)
     (λ k. subst (λ n. updated k run + n ≤ granted k run) (sym (amount k)) (at-most (k == taken.0) taken.1 (updated k run) (owed_on owed k) (granted k run) (m.credits k) (here k)))
     (λ k. subst (λ n. n + owed_on less k ≤ granted k run) (sym (sum_by-cons (update_on k) (update_frame taken.0 taken.1) (frames_of run) ∙ ap (λ n. n + updated k run) (amount k)))
     (subst (λ n. ((if k == taken.0 then taken.1 else 0) + updated k run) + n ≤ granted k run) (sym (takes.4 k))
     (at-most-left (k == taken.0) taken.1 (updated k run) (owed_on owed k) (granted k run) (m.credits k) (here k))))
-    (λ k e. (takes.5 k).2 ∙ m.silent k e)
-    (λ k there. (takes.5 k).2 ∙ m.resets k there)
-    (λ k. subst (λ n. n ≤ given k run) (sym (amount k)) (owed-told (k == taken.0) taken.1 (owed_on owed k) (given k run) (m.owes k).0 (here k)))
-    (λ k. (
-      subst (λ n. owed_on less k ≡ given k run - n) (sym (amount k)) (owed-left (k == taken.0) taken.1 (owed_on owed k) (given k run) (owed_on less k) (m.owes k).0 (here k) (takes.4 k)),
-      (takes.5 k).1 ∙ (m.owes k).1,
-      λ e. (m.owes k).2 (sym (takes.5 k).0 ∙ e),
-    ))
+    (λ k. subst (λ n. n ≤ given k run) (sym (amount k)) (owed-told (k == taken.0) taken.1 (owed_on owed k) (given k run) (m.stand.owes k).0 (here k)))
+    (record {
+      over = over-kept (Written (update_frame taken.0 taken.1) ∷ run) owed less (λ k. (ends k).0) (over-same run (update_frame taken.0 taken.1) owed refl refl m.stand.over);
+      silent = λ k e. (takes.5 k).2 ∙ m.stand.silent k (sym (ends k).0 ∙ e);
+      resets = λ k there. (takes.5 k).2 ∙ m.stand.resets k there;
+      owes = λ k. (
+        subst (λ n. owed_on less k ≡ given k run - n) (sym (amount k)) (owed-left (k == taken.0) taken.1 (owed_on owed k) (given k run) (owed_on less k) (m.stand.owes k).0 (here k) (takes.4 k)),
+        (takes.5 k).1 ∙ (m.stand.owes k).1,
+        λ e. (m.stand.owes k).2 (sym (takes.5 k).0 ∙ e),
+      );
+      no_stream_0 = (ends 0).0 ∙ m.stand.no_stream_0;
+    })
     (λ e. (taken.1, takes.0, small, refl))
     (sym not_gone) m)

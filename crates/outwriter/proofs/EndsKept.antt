@@ -13,21 +13,22 @@ use Rattle.outwriter.specs.declared.due.Due.TheVariants as due_kind
 use Rattle.outwriter.specs.declared.stream.OpenStream.{OpenStream}
 use Rattle.outwriter.specs.declared.outbound.Outbound.{Outbound}
 use Rattle.outwriter.specs.Calls.{calls_off, is_called_off, is_dropped, TellEnds}
-use Rattle.outwriter.specs.Credits.{Owed, is_reset, knows}
+use Rattle.outwriter.specs.States.{States, SameOver, SameOwed, SetsEnd, is_heard, is_reset, over_on}
 use Rattle.outwriter.specs.Histories.{is_stream, is_over}
-use Rattle.outwriter.specs.RunState.{Sets, Ends, HasOver, IsSpent}
+use Rattle.outwriter.specs.RunState.{Ends, HasOver, IsSpent}
 use Rattle.outwriter.specs.Runs.{resets_stream, was_reset, is_opened}
-use Rattle.outwriter.specs.CallState.{AreOver, Heeds, HeedsEnds, HeedsOpen, IsEnding, IsOwn, Rests, Takes, is_due_of, none_is_new}
+use Rattle.outwriter.specs.CallState.{AreOver, Heeds, HeedsEnds, HeedsOpen, IsEnding, IsOwn, Rests, Takes, is_due_of, none_is_new, refuses}
 use Rattle.outwriter.specs.Steps.{Step, Order, Taken}
 use Rattle.outwriter.specs.ToldByNow.{SameStanding}
-use Rattle.outwriter.proofs.Others.{or-false, dropped-taken}
+use Rattle.outwriter.proofs.StateLemmas.{still-heard}
+use Rattle.outwriter.proofs.Others.{or-false, or-true, dropped-taken}
 
 -- what has ended or is to end does so still
 abbrev pub KeepsEnds : Outbound → Outbound → Type 0
 KeepsEnds old new = (id : ℕ) → is_stream id ≡ true → IsEnding id old → IsEnding id new
 
 -- the ends of a stream that are due, by another account of which streams were reset
-one-due : (owed left : Owed) (id : ℕ) → is_reset left id ≡ is_reset owed id → (one : Due) → is_due_of left id one ≡ is_due_of owed id one
+one-due : (owed left : States) (id : ℕ) → is_reset left id ≡ is_reset owed id → (one : Due) → is_due_of left id one ≡ is_due_of owed id one
 one-due owed left id same (due_kind.Reset stream code) = refl
 one-due owed left id same (due_kind.Refuse stream fields) = by (id == stream) refl
   where
@@ -38,7 +39,7 @@ one-due owed left id same due_kind.SettingsAck = refl
 one-due owed left id same (due_kind.PingAck bytes) = refl
 one-due owed left id same (due_kind.Goaway last code) = refl
 
-pub dues-same : (owed left : Owed) (id : ℕ) → is_reset left id ≡ is_reset owed id → (dues : List Due) → list_any (is_due_of left id) dues ≡ list_any (is_due_of owed id) dues
+pub dues-same : (owed left : States) (id : ℕ) → is_reset left id ≡ is_reset owed id → (dues : List Due) → list_any (is_due_of left id) dues ≡ list_any (is_due_of owed id) dues
 dues-same owed left id same [] = refl
 dues-same owed left id same (one ∷ dues) =
     ap (λ b. b || list_any (is_due_of left id) dues) (one-due owed left id same one) ∙ ap (λ b. is_due_of owed id one || b) (dues-same owed left id same dues)
@@ -48,58 +49,58 @@ either-true true b e = inl refl
 either-true false b e = inr e
 
 -- the ends at a list's front or behind it
-due-in : (owed : Owed) (id : ℕ) (front back : List Due) → list_any (is_due_of owed id) (front ++ back) ≡ true
+due-in : (owed : States) (id : ℕ) (front back : List Due) → list_any (is_due_of owed id) (front ++ back) ≡ true
     → (list_any (is_due_of owed id) front ≡ true) ⊎ (list_any (is_due_of owed id) back ≡ true)
 due-in owed id front back e =
     either-true (list_any (is_due_of owed id) front) (list_any (is_due_of owed id) back) (sym (list_any-append (is_due_of owed id) front back) ∙ e)
 
 -- where the ends that aren't due any more were written
-pub ends-written : (old new : Outbound) (front : List Due) → ((id : ℕ) → is_reset new.credit id ≡ is_reset old.credit id) → old.due.items ≡ front ++ new.due.items
-    → ((id : ℕ) → is_stream id ≡ true → list_any (is_due_of old.credit id) front ≡ true → is_some (lookup (nat_eq id) new.over.entries) ≡ true)
-    → ((id : ℕ) → is_some (lookup (nat_eq id) old.over.entries) ≡ true → is_some (lookup (nat_eq id) new.over.entries) ≡ true) → KeepsEnds old new
+pub ends-written : (old new : Outbound) (front : List Due) → ((id : ℕ) → is_reset new.states id ≡ is_reset old.states id) → old.due.items ≡ front ++ new.due.items
+    → ((id : ℕ) → is_stream id ≡ true → list_any (is_due_of old.states id) front ≡ true → is_some (over_on new.states id) ≡ true)
+    → ((id : ℕ) → is_some (over_on old.states id) ≡ true → is_some (over_on new.states id) ≡ true) → KeepsEnds old new
 ends-written old new front same due written over id there (inl ended) = inl (over id ended)
 ends-written old new front same due written over id there (inr waits) =
-    by (due-in old.credit id front new.due.items (subst (λ (l : List Due). list_any (is_due_of old.credit id) l ≡ true) due waits))
+    by (due-in old.states id front new.due.items (subst (λ (l : List Due). list_any (is_due_of old.states id) l ≡ true) due waits))
   where
-    by : (list_any (is_due_of old.credit id) front ≡ true) ⊎ (list_any (is_due_of old.credit id) new.due.items ≡ true) → IsEnding id new
+    by : (list_any (is_due_of old.states id) front ≡ true) ⊎ (list_any (is_due_of old.states id) new.due.items ≡ true) → IsEnding id new
     by (inl e) = inl (written id there e)
-    by (inr e) = inr (dues-same old.credit new.credit id (same id) new.due.items ∙ e)
+    by (inr e) = inr (dues-same old.states new.states id (same id) new.due.items ∙ e)
 
-pub over-same : (old new : Outbound) → new.over ≡ old.over → (id : ℕ) → is_some (lookup (nat_eq id) old.over.entries) ≡ true → is_some (lookup (nat_eq id) new.over.entries) ≡ true
-over-same old new e id is = ap (λ over. is_some (lookup (nat_eq id) over.entries)) e ∙ is
+pub over-same : (old new : Outbound) → SameOver old.states new.states → (id : ℕ) → is_some (over_on old.states id) ≡ true → is_some (over_on new.states id) ≡ true
+over-same old new e id is = ap is_some (e id) ∙ is
 
-over-set : (old new : List (ℕ × Bool)) (at : ℕ) (value : Bool) → Sets old at value new → (id : ℕ) → is_some (lookup (nat_eq id) old) ≡ true → is_some (lookup (nat_eq id) new) ≡ true
+over-set : (old new : States) (at : ℕ) (value : Bool) → SetsEnd old at value new → (id : ℕ) → is_some (over_on old id) ≡ true → is_some (over_on new id) ≡ true
 over-set old new at value sets id is = by (id == at) refl
   where
-    by : (b : Bool) → (id == at) ≡ b → is_some (lookup (nat_eq id) new) ≡ true
-    by true p = ap is_some (sets id ∙ ap (λ b. if b then Some value else lookup (nat_eq id) old) p)
-    by false p = ap is_some (sets id ∙ ap (λ b. if b then Some value else lookup (nat_eq id) old) p) ∙ is
+    by : (b : Bool) → (id == at) ≡ b → is_some (over_on new id) ≡ true
+    by true p = ap is_some (sets.0 id ∙ ap (λ b. if b then Some value else over_on old id) p)
+    by false p = ap is_some (sets.0 id ∙ ap (λ b. if b then Some value else over_on old id) p) ∙ is
 
-set-here : (old new : List (ℕ × Bool)) (at : ℕ) (value : Bool) → Sets old at value new → (id : ℕ) → (id == at) ≡ true → is_some (lookup (nat_eq id) new) ≡ true
-set-here old new at value sets id p = ap is_some (sets id ∙ ap (λ b. if b then Some value else lookup (nat_eq id) old) p)
+set-here : (old new : States) (at : ℕ) (value : Bool) → SetsEnd old at value new → (id : ℕ) → (id == at) ≡ true → is_some (over_on new id) ≡ true
+set-here old new at value sets id p = ap is_some (sets.0 id ∙ ap (λ b. if b then Some value else over_on old id) p)
 
 -- one end more, which is written now
-one-ends : (old new : Outbound) (at : ℕ) (value : Bool) (one : Due) (front : List Due) → ((id : ℕ) → is_reset new.credit id ≡ is_reset old.credit id)
-    → ((id : ℕ) → list_any (is_due_of old.credit id) (one ∷ []) ≡ true → (id == at) ≡ true)
-    → old.due.items ≡ front ++ one ∷ new.due.items → AreOver old front → Sets old.over.entries at value new.over.entries → (append : (front ++ one ∷ new.due.items) ≡ (front ++ one ∷ []) ++ new.due.items)
+one-ends : (old new : Outbound) (at : ℕ) (value : Bool) (one : Due) (front : List Due) → ((id : ℕ) → is_reset new.states id ≡ is_reset old.states id)
+    → ((id : ℕ) → list_any (is_due_of old.states id) (one ∷ []) ≡ true → (id == at) ≡ true)
+    → old.due.items ≡ front ++ one ∷ new.due.items → AreOver old front → SetsEnd old.states at value new.states → (append : (front ++ one ∷ new.due.items) ≡ (front ++ one ∷ []) ++ new.due.items)
     → KeepsEnds old new
 one-ends old new at value one front same is due written sets append =
     ends-written old new (front ++ one ∷ []) same (due ∙ append)
-    (λ id there e. by id there (due-in old.credit id front (one ∷ []) e)) (over-set old.over.entries new.over.entries at value sets)
+    (λ id there e. by id there (due-in old.states id front (one ∷ []) e)) (over-set old.states new.states at value sets)
   where
-    by : (id : ℕ) → is_stream id ≡ true → (list_any (is_due_of old.credit id) front ≡ true) ⊎ (list_any (is_due_of old.credit id) (one ∷ []) ≡ true)
-        → is_some (lookup (nat_eq id) new.over.entries) ≡ true
-    by id there (inl e) = over-set old.over.entries new.over.entries at value sets id (written id there e)
-    by id there (inr e) = set-here old.over.entries new.over.entries at value sets id (is id e)
+    by : (id : ℕ) → is_stream id ≡ true → (list_any (is_due_of old.states id) front ≡ true) ⊎ (list_any (is_due_of old.states id) (one ∷ []) ≡ true)
+        → is_some (over_on new.states id) ≡ true
+    by id there (inl e) = over-set old.states new.states at value sets id (written id there e)
+    by id there (inr e) = set-here old.states new.states at value sets id (is id e)
 
-reset-at : (owed : Owed) (at : ℕ) (code : ErrorCode) (id : ℕ) → list_any (is_due_of owed id) (due_kind.Reset at code ∷ []) ≡ true → (id == at) ≡ true
+reset-at : (owed : States) (at : ℕ) (code : ErrorCode) (id : ℕ) → list_any (is_due_of owed id) (due_kind.Reset at code ∷ []) ≡ true → (id == at) ≡ true
 reset-at owed at code id e = by (id == at) e
   where
     by : (b : Bool) → (b || false) ≡ true → b ≡ true
     by true f = refl
     by false f = f
 
-refuse-at : (owed : Owed) (at : ℕ) (fields : List Field) (id : ℕ) → list_any (is_due_of owed id) (due_kind.Refuse at fields ∷ []) ≡ true → (id == at) ≡ true
+refuse-at : (owed : States) (at : ℕ) (fields : List Field) (id : ℕ) → list_any (is_due_of owed id) (due_kind.Refuse at fields ∷ []) ≡ true → (id == at) ≡ true
 refuse-at owed at fields id e = by (id == at) e
   where
     by : (b : Bool) → ((b && not (is_reset owed at)) || false) ≡ true → b ≡ true
@@ -113,36 +114,40 @@ append-one (x ∷ front) back one = ap (λ (l : List Due). x ∷ l) (append-one 
 -- ---- frames that are none of an open stream
 
 pub rests-ends : (old new : Outbound) → Rests old new → KeepsEnds old new
-rests-ends old new r = ends-written old new r.due.0 (λ id. (r.standing id).1) r.due.1 (λ id there e. over-same old new r.over id (r.due.2 id there e)) (over-same old new r.over)
+rests-ends old new r = ends-written old new r.due.0 (λ id. (r.standing id).1) r.due.1 (λ id there e. over-same old new (λ k. (r.over k).0) id (r.due.2 id there e)) (over-same old new (λ k. (r.over k).0))
 
 pub own-ends : (frame : Frame) (old new : Outbound) → IsOwn frame old new → KeepsEnds old new
 own-ends frame old new (known, inl plain) =
-    ends-written old new plain.2.0 (λ id. (known id).1) plain.2.1 (λ id there e. over-same old new plain.1 id (plain.2.2 id there e)) (over-same old new plain.1)
+    ends-written old new plain.2.0 (λ id. (known id).1) plain.2.1 (λ id there e. over-same old new (λ k. (plain.1 k).0) id (plain.2.2 id there e)) (over-same old new (λ k. (plain.1 k).0))
 own-ends frame old new (known, inr (inl r)) =
-    one-ends old new r.0 true (due_kind.Reset r.0 r.1) r.2 (λ id. (known id).1) (reset-at old.credit r.0 r.1) r.3 r.7 r.6 (append-one r.2 new.due.items (due_kind.Reset r.0 r.1))
+    one-ends old new r.0 true (due_kind.Reset r.0 r.1) r.2 (λ id. (known id).1) (reset-at old.states r.0 r.1) r.3 r.7 r.6 (append-one r.2 new.due.items (due_kind.Reset r.0 r.1))
 own-ends frame old new (known, inr (inr r)) =
-    one-ends old new r.0 false (due_kind.Refuse r.0 r.1) r.2 (λ id. (known id).1) (refuse-at old.credit r.0 r.1) r.3 r.7 r.6 (append-one r.2 new.due.items (due_kind.Refuse r.0 r.1))
+    one-ends old new r.0 false (due_kind.Refuse r.0 r.1) r.2 (λ id. (known id).1) (refuse-at old.states r.0 r.1) r.3 r.7 r.6 (append-one r.2 new.due.items (due_kind.Refuse r.0 r.1))
 
 -- ---- frames of an open stream
 
-still-due : (old new : Outbound) (id : ℕ) → new.due ≡ old.due → new.credit ≡ old.credit → list_any (is_due_of old.credit id) old.due.items ≡ true
-    → list_any (is_due_of new.credit id) new.due.items ≡ true
-still-due old new id due credit waits =
-    ap (λ due. list_any (is_due_of new.credit id) due.items) due ∙ ap (λ owed. list_any (is_due_of owed id) old.due.items) credit ∙ waits
+still-due : (old new : Outbound) (id : ℕ) → new.due ≡ old.due → is_reset new.states id ≡ is_reset old.states id → list_any (is_due_of old.states id) old.due.items ≡ true
+    → list_any (is_due_of new.states id) new.due.items ≡ true
+still-due old new id due same waits =
+    ap (λ due. list_any (is_due_of new.states id) due.items) due ∙ dues-same old.states new.states id same old.due.items ∙ waits
 
-pub same-ends : (old new : Outbound) → new.due ≡ old.due → new.credit ≡ old.credit → new.over ≡ old.over → KeepsEnds old new
-same-ends old new due credit over id there (inl ended) = inl (over-same old new over id ended)
-same-ends old new due credit over id there (inr waits) = inr (still-due old new id due credit waits)
+pub same-ends : (old new : Outbound) → new.due ≡ old.due → new.states ≡ old.states → KeepsEnds old new
+same-ends old new due states id there (inl ended) = inl (ap (λ s. is_some (over_on s id)) states ∙ ended)
+same-ends old new due states id there (inr waits) = inr (still-due old new id due (ap (λ s. is_reset s id) states) waits)
 
-pub block-ends : (old new : Outbound) (at : ℕ) (ends_it : Bool) → new.due ≡ old.due → new.credit ≡ old.credit → Ends old.over.entries at ends_it new.over.entries → KeepsEnds old new
-block-ends old new at true due credit sets id there (inl ended) = inl (over-set old.over.entries new.over.entries at false sets id ended)
-block-ends old new at false due credit same id there (inl ended) = inl (ap (λ (l : List (ℕ × Bool)). is_some (lookup (nat_eq id) l)) same ∙ ended)
-block-ends old new at ends_it due credit sets id there (inr waits) = inr (still-due old new id due credit waits)
+pub block-ends : (old new : Outbound) (at : ℕ) (ends_it : Bool) → new.due ≡ old.due → SameOwed old.states new.states → Ends old.states at ends_it new.states → KeepsEnds old new
+block-ends old new at true due owed sets id there (inl ended) = inl (over-set old.states new.states at false sets id ended)
+block-ends old new at false due owed same id there (inl ended) = inl (ap (λ s. is_some (over_on s id)) same ∙ ended)
+block-ends old new at ends_it due owed sets id there (inr waits) = inr (still-due old new id due (owed.0 id).2 waits)
+
+pub ends-heard : (old new : States) (id : ℕ) (ends_it : Bool) → Ends old id ends_it new → (k : ℕ) → is_heard old k ≡ true → is_heard new k ≡ true
+ends-heard old new id true sets k e = still-heard old new id false sets k e
+ends-heard old new id false same k e = ap (λ s. is_heard s k) same ∙ e
 
 -- ---- controls
 
 -- more is due
-pub more-dues : (owed left : Owed) (id : ℕ) (waiting more dues : List Due) → is_reset left id ≡ is_reset owed id → dues ≡ waiting ++ more
+pub more-dues : (owed left : States) (id : ℕ) (waiting more dues : List Due) → is_reset left id ≡ is_reset owed id → dues ≡ waiting ++ more
     → list_any (is_due_of left id) dues ≡ (list_any (is_due_of owed id) waiting || list_any (is_due_of left id) more)
 more-dues owed left id waiting more dues same is =
     ap (list_any (is_due_of left id)) is ∙ list_any-append (is_due_of left id) waiting more
@@ -151,18 +156,18 @@ more-dues owed left id waiting more dues same is =
 pub takes-ends : (more : List Due) (is_new : ℕ → Bool) (limits : List ℕ) (old new : Outbound) → Takes more is_new limits old new → KeepsEnds old new
 takes-ends more is_new limits old new takes id there (inl ended) = inl (over-same old new takes.over id ended)
 takes-ends more is_new limits old new takes id there (inr waits) =
-    inr (more-dues old.credit new.credit id old.due.items more new.due.items (takes.resets id) takes.due ∙ ap (λ b. b || list_any (is_due_of new.credit id) more) waits)
+    inr (more-dues old.states new.states id old.due.items more new.due.items (takes.resets id) takes.due ∙ ap (λ b. b || list_any (is_due_of new.states id) more) waits)
 
 -- ---- what was asked for
 
 -- the streams stand as they did, and none opened
-pub heeds-kept : (run : List Step) (old new : Outbound) (streams left : List (ℕ × OpenStream)) (others : List (ℕ × Bool)) → KeepsEnds old new → SameStanding old new
-    → ((id : ℕ) → lookup (nat_eq id) streams ≡ None → lookup (nat_eq id) left ≡ None) → Heeds run old streams others → Heeds run new left others
-heeds-kept run old new streams left others keeps same closed heeds = (
+pub heeds-kept : (run : List Step) (old new : Outbound) (streams left : List (ℕ × OpenStream)) → KeepsEnds old new → SameStanding old new
+    → ((id : ℕ) → lookup (nat_eq id) streams ≡ None → lookup (nat_eq id) left ≡ None) → Heeds run old streams → Heeds run new left
+heeds-kept run old new streams left keeps same closed heeds = (
   λ id there e. by id there (heeds.0 id there e),
   λ id there. (same id).1 ∙ heeds.1 id there,
   still-unreset run streams left closed heeds.2,
-  λ id there e. ap (λ b. is_some (lookup (nat_eq id) others) || b) (same id).0 ∙ heeds.3 id there e,
+  λ id there e. (same id).2 (heeds.3 id there e),
 )
   where
     by : (id : ℕ) → is_stream id ≡ true → IsEnding id old ⊎ (is_dropped id run ≡ true) → IsEnding id new ⊎ (is_dropped id run ≡ true)
@@ -177,15 +182,19 @@ heeds-kept run old new streams left others keeps same closed heeds = (
         at None p = absurd (true≢false (sym is ∙ ap is_some (closed id p)))
         at (Some stream) p = unreset id (ap is_some p)
 
-pub heeds-own : (run : List Step) (old new : Outbound) (streams : List (ℕ × OpenStream)) (others : List (ℕ × Bool)) → KeepsEnds old new → SameStanding old new
-    → Heeds run old streams others → Heeds run new streams others
-heeds-own run old new streams others keeps same heeds = heeds-kept run old new streams streams others keeps same (λ id none. none) heeds
+pub heeds-own : (run : List Step) (old new : Outbound) (streams : List (ℕ × OpenStream)) → KeepsEnds old new → SameStanding old new
+    → Heeds run old streams → Heeds run new streams
+heeds-own run old new streams keeps same heeds = heeds-kept run old new streams streams keeps same (λ id none. none) heeds
+
+-- no stream is forgotten
+pub takes-heard : (more : List Due) (is_new : ℕ → Bool) (limits : List ℕ) (old new : Outbound) → Takes more is_new limits old new → (id : ℕ) → is_heard old.states id ≡ true → is_heard new.states id ≡ true
+takes-heard more is_new limits old new takes id e = takes.heard id ∙ or-true (is_new id || list_any (refuses id) more) (is_heard old.states id) e
 
 -- nothing changes of how the streams stand
-pub heeds-takes : (run : List Step) (more : List Due) (limits : List ℕ) (old new : Outbound) (streams : List (ℕ × OpenStream)) (others : List (ℕ × Bool)) → Takes more none_is_new limits old new
-    → Heeds run old streams others → Heeds run new streams others
-heeds-takes run more limits old new streams others takes heeds =
-    heeds-own run old new streams others (takes-ends more none_is_new limits old new takes) (λ id. (takes.knows id, takes.resets id)) heeds
+pub heeds-takes : (run : List Step) (more : List Due) (limits : List ℕ) (old new : Outbound) (streams : List (ℕ × OpenStream)) → Takes more none_is_new limits old new
+    → Heeds run old streams → Heeds run new streams
+heeds-takes run more limits old new streams takes heeds =
+    heeds-own run old new streams (takes-ends more none_is_new limits old new takes) (λ id. (takes.knows id, takes.resets id, takes-heard more none_is_new limits old new takes id)) heeds
 
 -- after a control, the streams that were called off before
 pub heeds-before : (run : List Step) (order : Order) (old new : Outbound) → KeepsEnds old new → HeedsEnds run old → (id : ℕ) → is_stream id ≡ true → is_called_off id run ≡ true
@@ -207,25 +216,25 @@ unreset-taken : (run : List Step) (order : Order) (id : ℕ) → resets_stream i
 unreset-taken run order id none = or-false (resets_stream id order) (was_reset id run) none
 
 -- of a control that is no Reset, from what is kept before it, the ends apart
-pub heeds-taken : (run : List Step) (order : Order) (old new : Outbound) (streams left : List (ℕ × OpenStream)) (others more : List (ℕ × Bool))
-    → ((id : ℕ) → resets_stream id order ≡ false) → HeedsEnds (Taken order ∷ run) new → ((id : ℕ) → is_reset new.credit id ≡ is_reset old.credit id)
+pub heeds-taken : (run : List Step) (order : Order) (old new : Outbound) (streams left : List (ℕ × OpenStream))
+    → ((id : ℕ) → resets_stream id order ≡ false) → HeedsEnds (Taken order ∷ run) new → ((id : ℕ) → is_reset new.states id ≡ is_reset old.states id)
     → HeedsOpen run left
-    → ((id : ℕ) → (is_some (lookup (nat_eq id) others) || knows old.credit id) ≡ true → (is_some (lookup (nat_eq id) more) || knows new.credit id) ≡ true)
-    → Heeds run old streams others → Heeds (Taken order ∷ run) new left more
-heeds-taken run order old new streams left others more none ends same unreset still heeds = (
+    → ((id : ℕ) → is_heard old.states id ≡ true → is_heard new.states id ≡ true)
+    → Heeds run old streams → Heeds (Taken order ∷ run) new left
+heeds-taken run order old new streams left none ends same unreset still heeds = (
   ends,
   λ id there. same id ∙ heeds.1 id there ∙ sym (unreset-taken run order id (none id)),
   λ id is. unreset-taken run order id (none id) ∙ unreset id is,
   λ id there e. still id (heeds.3 id there (sym (unreset-taken run order id (none id)) ∙ e)),
 )
 
-pub heeds-calm : (run : List Step) (order : Order) (more : List Due) (limits : List ℕ) (old new : Outbound) (streams : List (ℕ × OpenStream)) (others : List (ℕ × Bool))
+pub heeds-calm : (run : List Step) (order : Order) (more : List Due) (limits : List ℕ) (old new : Outbound) (streams : List (ℕ × OpenStream))
     → ((id : ℕ) (opened : Bool) → calls_off id opened order ≡ false) → ((id : ℕ) → resets_stream id order ≡ false) → Takes more none_is_new limits old new
-    → Heeds run old streams others → Heeds (Taken order ∷ run) new streams others
-heeds-calm run order more limits old new streams others calm none takes heeds =
-    heeds-taken run order old new streams streams others others none
+    → Heeds run old streams → Heeds (Taken order ∷ run) new streams
+heeds-calm run order more limits old new streams calm none takes heeds =
+    heeds-taken run order old new streams streams none
     (heeds-calm-ends run order old new calm (takes-ends more none_is_new limits old new takes) heeds.0) takes.resets heeds.2
-    (λ id e. ap (λ b. is_some (lookup (nat_eq id) others) || b) (takes.knows id) ∙ e) heeds
+    (takes-heard more none_is_new limits old new takes) heeds
 
 -- one that calls a stream off
 pub heeds-called : (run : List Step) (order : Order) (old new : Outbound) → KeepsEnds old new → HeedsEnds run old
@@ -239,15 +248,15 @@ heeds-called run order old new keeps heeds here id there e = by (either-true (ca
 
 -- ---- where nothing is due
 
-pub ends-told : (run : List Step) (o : Outbound) → o.due.items ≡ [] → HasOver run o.over.entries → HeedsEnds run o → TellEnds run
+pub ends-told : (run : List Step) (o : Outbound) → o.due.items ≡ [] → HasOver run o.states → HeedsEnds run o → TellEnds run
 ends-told run o none over heeds id there e = by (heeds id there e)
   where
     by : IsEnding id o ⊎ (is_dropped id run ≡ true) → (is_over id run ≡ true) ⊎ (is_dropped id run ≡ true)
     by (inl (inl ended)) = inl (sym (over id).0 ∙ ended)
-    by (inl (inr waits)) = absurd (true≢false (sym waits ∙ ap (list_any (is_due_of o.credit id)) none))
+    by (inl (inr waits)) = absurd (true≢false (sym waits ∙ ap (list_any (is_due_of o.states id)) none))
     by (inr dropped) = inr dropped
 
-pub ended-if : (run : List Step) (o : Outbound) (streams : List (ℕ × OpenStream)) (others : List (ℕ × Bool)) → IsSpent o → HasOver run o.over.entries → Heeds run o streams others
+pub ended-if : (run : List Step) (o : Outbound) (streams : List (ℕ × OpenStream)) → IsSpent o → HasOver run o.states → Heeds run o streams
     → (o.gone ≡ true) ⊎ TellEnds run
-ended-if run o streams others (inl gone) over heeds = inl gone
-ended-if run o streams others (inr (no_block, none, owed)) over heeds = inr (ends-told run o none over heeds.0)
+ended-if run o streams (inl gone) over heeds = inl gone
+ended-if run o streams (inr (no_block, none, owed)) over heeds = inr (ends-told run o none over heeds.0)

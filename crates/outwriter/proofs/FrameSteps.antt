@@ -1,8 +1,7 @@
 -- What is kept follows from a run of one more frame, and the frame might be written.
-use Rattle.std.proofs.Common.{◌≡◌, ℕ, ◌+◌, ◌<◌, ◌≤◌, ◌^◌, ◌==◌, inl, inr, refl, sym, ap, subst, ◌∙◌, Bool, true, false, List, [], ◌∷◌, ◌++◌, Option, Some, None, arith, append-nil, append_assoc, nat_eq, true≢false}
+use Rattle.std.proofs.Common.{◌≡◌, ℕ, ◌+◌, ◌<◌, ◌≤◌, ◌^◌, ◌==◌, inl, inr, refl, sym, ap, subst, ◌∙◌, Bool, true, false, List, [], ◌∷◌, ◌++◌, Option, Some, None, arith, append-nil, append_assoc, true≢false}
 use Rattle.std.specs.Prelude.{filter, not, flat_map, ◌||◌, ◌&&◌, is_some, if◌then◌else◌}
 use Rattle.std.specs.List.{list_any}
-use Rattle.std.specs.Map.{lookup}
 use Rattle.std.proofs.lemmas.List.Elements.{filter-append}
 use Rattle.std.proofs.lemmas.List.Sums.{sum_by-cons}
 use Rattle.account.specs.Accounts.{Begins}
@@ -14,10 +13,10 @@ use Rattle.h2frame.specs.declared.kind.FrameKind.TheVariants as kind
 use Rattle.outwriter.specs.declared.blocks.HeaderBlock.{HeaderBlock}
 use Rattle.outwriter.specs.declared.control.Control.TheVariants.{Goaway}
 use Rattle.outwriter.specs.declared.due.Due.{Due}
-use Rattle.outwriter.specs.Credits.{Owed}
+use Rattle.outwriter.specs.States.{States, over_on}
 use Rattle.outwriter.specs.Frames.{is_last, reset_frame, resets, ends, ends_stream, is_reset, update_on, update_kind, update_frame, ends_block, first_settings, settings_ack, ping_ack, goaway_frame}
 use Rattle.outwriter.specs.Histories.{closing_of, spending_of, is_over, is_stream}
-use Rattle.outwriter.specs.RunState.{Mirrors, HasWindows, HasOver, HasDue, HasBlock, HasHead, HasCredit, HasOwed, HasResets, HasSilence, duties_of, resets_of}
+use Rattle.outwriter.specs.RunState.{Mirrors, HasWindows, HasOver, HasDue, HasBlock, HasHead, HasCredit, HasOwed, HasStates, duties_of, resets_of}
 use Rattle.outwriter.specs.Runs.{has_begun, IsAsked, Fragments, unfinished, granted, granted_by, updated, due, told, told_by, is_goaway, goaways, without_goaway, AreAmong, MayWrite, Continues, MayFollowEnd, fragments, owed as given, was_reset}
 use Rattle.outwriter.specs.Steps.{Step, Taken, Granted, Written, Returned, frames_of}
 use Rattle.outwriter.proofs.RunStateSteps.{same-block, all-behind}
@@ -69,8 +68,8 @@ module _ (run : List Step) (frame : Frame) where
   and-false true c e = cc
   and-false false c e = refl
 
-  pub over-same : (over : List (ℕ × Bool)) → ends_stream frame ≡ false → is_reset frame.head.kind ≡ false → HasOver run over → HasOver (Written frame ∷ run) over
-  over-same over no_end no_reset has id =
+  pub over-same : (states : States) → ends_stream frame ≡ false → is_reset frame.head.kind ≡ false → HasOver run states → HasOver (Written frame ∷ run) states
+  over-same states no_end no_reset has id =
       let is_no_reset : resets id frame ≡ false = and-false (is_reset frame.head.kind) (id == frame.head.stream) no_reset in
       let is_no_end : ends id frame ≡ false = and-false (ends_stream frame) (id == frame.head.stream) no_end in (
         (has id).0 ∙ sym (ap (λ b. (b || ends id frame) || is_over id run) is_no_reset ∙ ap (λ b. b || is_over id run) is_no_end),
@@ -99,13 +98,23 @@ module _ (run : List Step) (frame : Frame) where
       → Begins (told run ++ told_by (has_begun (frames_of run)) frame) (due run)
   tells-first one waiting is h = (flat_map duties_of waiting, (due-told one waiting is h).0)
 
-  pub credit-same : (owed : Owed) → ((id : ℕ) → update_on id frame ≡ 0) → HasCredit run owed → HasCredit (Written frame ∷ run) owed
+  pub credit-same : (owed : States) → ((id : ℕ) → update_on id frame ≡ 0) → HasCredit run owed → HasCredit (Written frame ∷ run) owed
   credit-same owed none h id = omega (arith, h id, none id, sum_by-cons (update_on id) frame (frames_of run))
 
-  pub owes-same : (kept : Owed) → ((id : ℕ) → update_on id frame ≡ 0) → HasOwed run kept → HasOwed (Written frame ∷ run) kept
+  pub owes-same : (kept : States) → ((id : ℕ) → update_on id frame ≡ 0) → HasOwed run kept → HasOwed (Written frame ∷ run) kept
   owes-same kept none h id = (omega (arith, (h id).0, none id), (h id).1, (h id).2)
 
-  pub credits-none : (owed : Owed) → ((id : ℕ) → update_on id frame ≡ 0) → HasCredit run owed → (id : ℕ) → updated id run + update_on id frame ≤ granted id run
+  -- how each stream stands
+  pub stand-same : (kept : States) → ends_stream frame ≡ false → is_reset frame.head.kind ≡ false → ((id : ℕ) → update_on id frame ≡ 0) → HasStates run kept → HasStates (Written frame ∷ run) kept
+  stand-same kept no_end no_reset none h = record {
+    over = over-same kept no_end no_reset h.over;
+    silent = h.silent;
+    resets = h.resets;
+    owes = owes-same kept none h.owes;
+    no_stream_0 = h.no_stream_0;
+  }
+
+  pub credits-none : (owed : States) → ((id : ℕ) → update_on id frame ≡ 0) → HasCredit run owed → (id : ℕ) → updated id run + update_on id frame ≤ granted id run
   credits-none owed none h id = omega (arith, h id, none id)
 
   zero-if : (b : Bool) (n : ℕ) → n ≡ 0 → (if b then n else 0) ≡ 0
@@ -160,15 +169,15 @@ none-unfinished (Granted id n ∷ run) e = none-unfinished run e
 none-unfinished (Returned id items ∷ run) e = none-unfinished run e
 none-unfinished (Written frame ∷ run) e = cc
 
-pub first-written : (run : List Step) (begun gone : Bool) (w : Windows) (over : List (ℕ × Bool)) (waiting : List Due) (block : Option HeaderBlock) (owed : Owed)
-    (frame : Frame) → frame ≡ first_settings → begun ≡ false → gone ≡ false → Mirrors run begun gone w over waiting block owed
-    → MayWrite run frame × Mirrors (Written frame ∷ run) true gone w over waiting block owed
-first-written run begun gone w over waiting block owed frame is not_begun not_gone m =
+pub first-written : (run : List Step) (begun gone : Bool) (w : Windows) (waiting : List Due) (block : Option HeaderBlock) (owed : States)
+    (frame : Frame) → frame ≡ first_settings → begun ≡ false → gone ≡ false → Mirrors run begun gone w waiting block owed
+    → MayWrite run frame × Mirrors (Written frame ∷ run) true gone w waiting block owed
+first-written run begun gone w waiting block owed frame is not_begun not_gone m =
     let none : frames_of run ≡ [] = none-written (frames_of run) (m.begins ∙ not_begun) in
     let no_update = no-updates run first_settings refl in
     let nothing : unfinished run ≡ None = none-unfinished run none in
     let no_duty : told_by (has_begun (frames_of run)) first_settings ≡ [] = ap (λ b. told_by b first_settings) (m.begins ∙ not_begun) in
-    subst (λ (f : Frame). MayWrite run f × Mirrors (Written f ∷ run) true gone w over waiting block owed) (sym is) (
+    subst (λ (f : Frame). MayWrite run f × Mirrors (Written f ∷ run) true gone w waiting block owed) (sym is) (
       record {
         first = λ e. refl;
         windows = λ e. cc;
@@ -189,15 +198,11 @@ first-written run begun gone w over waiting block owed frame is not_begun not_go
         begins = refl;
         goes = m.goes;
         windows_follow = windows-same run first_settings w refl refl m.windows_follow;
-        is_over = over-same run first_settings over refl refl m.is_over;
         answers = due-same run first_settings waiting no_duty m.answers;
         goes_on = same-block run (Written first_settings ∷ run) block (no-block run first_settings refl ∙ sym nothing) m.goes_on;
         not_reset = head-same first_settings (frames_of run) block refl m.not_reset;
         credits = credit-same run first_settings owed no_update m.credits;
-        silent = m.silent;
-        resets = m.resets;
-        owes = owes-same run first_settings owed no_update m.owes;
-        no_stream_0 = m.no_stream_0;
+        stand = stand-same run first_settings owed refl refl no_update m.stand;
       },
     )
 
@@ -213,19 +218,19 @@ pub record IsPlain (frame : Frame) : Type 0 where
   pub no_end : ends_stream frame ≡ false
   pub no_reset : is_reset frame.head.kind ≡ false
 
-pub plain-written : (run : List Step) (begun gone after : Bool) (w : Windows) (over : List (ℕ × Bool)) (waiting left : List Due) (block : Option HeaderBlock)
-    (owed less : Owed) (frame : Frame) → begun ≡ true → gone ≡ false → block ≡ None → IsPlain frame
+pub plain-written : (run : List Step) (begun gone after : Bool) (w : Windows) (waiting left : List Due) (block : Option HeaderBlock)
+    (owed less : States) (frame : Frame) → begun ≡ true → gone ≡ false → block ≡ None → IsPlain frame
     → Begins (told run ++ told_by (has_begun (frames_of run)) frame) (due run) → HasDue (Written frame ∷ run) left
     → list_any (resets frame.head.stream) (frames_of run) ≡ false
     → (list_any (ends frame.head.stream) (frames_of run) ≡ true → MayFollowEnd frame.head.kind)
     → (is_stream frame.head.stream ≡ true → was_reset frame.head.stream run ≡ true → ⊥)
-    → ((id : ℕ) → updated id run + update_on id frame ≤ granted id run) → HasCredit (Written frame ∷ run) less → HasSilence over less → HasResets run less
-    → ((id : ℕ) → update_on id frame ≤ given id run) → HasOwed (Written frame ∷ run) less
+    → ((id : ℕ) → updated id run + update_on id frame ≤ granted id run) → HasCredit (Written frame ∷ run) less
+    → ((id : ℕ) → update_on id frame ≤ given id run) → HasStates (Written frame ∷ run) less
     → (frame.head.kind ≡ kind.WindowUpdate → (n : ℕ) × (0 < n) × (n < 2 ^ 31) × (frame ≡ update_frame frame.head.stream n))
     → is_last frame ≡ after
-    → Mirrors run begun gone w over waiting block owed
-    → MayWrite run frame × Mirrors (Written frame ∷ run) begun after w over left block less
-plain-written run begun gone after w over waiting left block owed less frame is_begun not_gone no_block plain tells dues not_reset not_ended unreset allowed credits silent resets within owes whole last m =
+    → Mirrors run begun gone w waiting block owed
+    → MayWrite run frame × Mirrors (Written frame ∷ run) begun after w left block less
+plain-written run begun gone after w waiting left block owed less frame is_begun not_gone no_block plain tells dues not_reset not_ended unreset allowed credits within stand whole last m =
     let nothing : unfinished run ≡ None = subst (HasBlock run) no_block m.goes_on in (
       record {
         first = λ e. absurd (none-begun (frames_of run) (m.begins ∙ is_begun) e);
@@ -247,15 +252,11 @@ plain-written run begun gone after w over waiting left block owed less frame is_
         begins = sym is_begun;
         goes = ap (λ b. b || list_any is_last (frames_of run)) last ∙ ap (λ b. after || b) (m.goes ∙ not_gone) ∙ or-nothing after;
         windows_follow = windows-same run frame w plain.no_closing plain.no_spending m.windows_follow;
-        is_over = over-same run frame over plain.no_end plain.no_reset m.is_over;
         answers = dues;
         goes_on = same-block run (Written frame ∷ run) block (no-block run frame (plain.no_fragment (unfinished run)) ∙ sym nothing) m.goes_on;
         not_reset = head-same frame (frames_of run) block plain.no_reset m.not_reset;
         credits = credits;
-        silent = silent;
-        resets = resets;
-        owes = owes;
-        no_stream_0 = m.no_stream_0;
+        stand = stand;
       },
     )
   where
@@ -282,42 +283,42 @@ none-over None e = refl
 none-over (Some b) e = cc
 
 -- nothing ends or resets stream 0
-connection-on : (run : List Step) (over : List (ℕ × Bool)) → HasOver run over → lookup (nat_eq 0) over ≡ None
+connection-on : (run : List Step) (states : States) → HasOver run states → over_on states 0 ≡ None
     → (list_any (resets 0) (frames_of run) ≡ false) × (list_any (ends 0) (frames_of run) ≡ false)
-connection-on run over has none = not-over run 0 (sym (has 0).0 ∙ none-over (lookup (nat_eq 0) over) none)
+connection-on run states has none = not-over run 0 (sym (has 0).0 ∙ none-over (over_on states 0) none)
 
 no-stream : (id : ℕ) → id ≡ 0 → is_stream id ≡ true → ⊥
 no-stream id e there = true≢false (sym there ∙ ap is_stream e)
 
 -- a frame of the connection that is due
-pub due-written : (run : List Step) (begun gone after : Bool) (w : Windows) (over : List (ℕ × Bool)) (one : Due) (waiting : List Due) (block : Option HeaderBlock)
-    (owed : Owed) (made frame : Frame) → made ≡ frame → begun ≡ true → gone ≡ false → block ≡ None → IsPlain frame → frame.head.stream ≡ 0
+pub due-written : (run : List Step) (begun gone after : Bool) (w : Windows) (one : Due) (waiting : List Due) (block : Option HeaderBlock)
+    (owed : States) (made frame : Frame) → made ≡ frame → begun ≡ true → gone ≡ false → block ≡ None → IsPlain frame → frame.head.stream ≡ 0
     → update_kind frame.head.kind frame.content ≡ 0 → told_by true frame ≡ duties_of one → (frame.head.kind ≡ kind.WindowUpdate → ⊥) → is_last frame ≡ after
-    → Mirrors run begun gone w over (one ∷ waiting) block owed
-    → MayWrite run made × Mirrors (Written made ∷ run) begun after w over waiting block owed
-due-written run begun gone after w over one waiting block owed made frame is is_begun not_gone no_block plain on_0 no_update tells no_credit last m =
-    let still = connection-on run over m.is_over m.no_stream_0 in
+    → Mirrors run begun gone w (one ∷ waiting) block owed
+    → MayWrite run made × Mirrors (Written made ∷ run) begun after w waiting block owed
+due-written run begun gone after w one waiting block owed made frame is is_begun not_gone no_block plain on_0 no_update tells no_credit last m =
+    let still = connection-on run owed m.stand.over m.stand.no_stream_0 in
     let none = no-updates run frame no_update in
     let is_told : told_by (has_begun (frames_of run)) frame ≡ duties_of one = ap (λ b. told_by b frame) (m.begins ∙ is_begun) ∙ tells in
-    subst (λ (f : Frame). MayWrite run f × Mirrors (Written f ∷ run) begun after w over waiting block owed) (sym is)
-    (plain-written run begun gone after w over (one ∷ waiting) waiting block owed owed frame is_begun not_gone no_block plain
+    subst (λ (f : Frame). MayWrite run f × Mirrors (Written f ∷ run) begun after w waiting block owed) (sym is)
+    (plain-written run begun gone after w (one ∷ waiting) waiting block owed owed frame is_begun not_gone no_block plain
     (tells-first run frame one waiting is_told m.answers) (due-told run frame one waiting is_told m.answers)
     (ap (λ id. list_any (resets id) (frames_of run)) on_0 ∙ still.0)
     (λ e. absurd (true≢false (sym e ∙ ap (λ id. list_any (ends id) (frames_of run)) on_0 ∙ still.1)))
     (λ there was. no-stream frame.head.stream on_0 there)
-    (credits-none run frame owed none m.credits) (credit-same run frame owed none m.credits) m.silent m.resets (λ k. omega (arith, none k)) (owes-same run frame owed none m.owes)
+    (credits-none run frame owed none m.credits) (credit-same run frame owed none m.credits) (λ k. omega (arith, none k)) (stand-same run frame owed plain.no_end plain.no_reset none m.stand)
     (λ e. absurd (no_credit e)) last m)
 
 -- ---- the last word of a dead core
 
 -- between header blocks, a GOAWAY may be written that is asked for now
-pub may-part : (run : List Step) (begun gone : Bool) (w : Windows) (over : List (ℕ × Bool)) (waiting : List Due) (block : Option HeaderBlock) (owed : Owed)
-    (last : ℕ) (code : ErrorCode) → begun ≡ true → gone ≡ false → block ≡ None → Mirrors run begun gone w over waiting block owed
+pub may-part : (run : List Step) (begun gone : Bool) (w : Windows) (waiting : List Due) (block : Option HeaderBlock) (owed : States)
+    (last : ℕ) (code : ErrorCode) → begun ≡ true → gone ≡ false → block ≡ None → Mirrors run begun gone w waiting block owed
     → MayWrite (Taken (Goaway last code) ∷ run) (goaway_frame last code)
-may-part run begun gone w over waiting block owed last code is_begun not_gone no_block m =
+may-part run begun gone w waiting block owed last code is_begun not_gone no_block m =
     let frame : Frame = goaway_frame last code in
     let nothing : unfinished run ≡ None = subst (HasBlock run) no_block m.goes_on in
-    let still = connection-on run over m.is_over m.no_stream_0 in
+    let still = connection-on run owed m.stand.over m.stand.no_stream_0 in
     let none = no-updates run frame refl in
     let tells : told_by (has_begun (frames_of run)) frame ≡ frame ∷ [] = ap (λ b. told_by b frame) (m.begins ∙ is_begun) in
     let before : Begins (told run) (due run) = (flat_map duties_of waiting, m.answers.0) in record {

@@ -14,11 +14,12 @@ use Rattle.outwriter.specs.declared.blocks.HeaderBlock.{HeaderBlock}
 use Rattle.outwriter.specs.declared.outbound.Outbound.{Outbound}
 use Rattle.outwriter.specs.declared.stream.OpenStream.{OpenStream}
 use Rattle.outwriter.specs.Calls.{is_served, IsOther, TellFronts, TellOthers, TellReturned}
-use Rattle.outwriter.specs.Credits.{knows}
+use Rattle.outwriter.specs.States.{knows}
 use Rattle.outwriter.specs.Parts.{Mark, Fields, End, Reset, end_mark, marks_on, spelled, IsFrontOf, IsPart}
 use Rattle.outwriter.specs.CallState.{Serves, bytes_marks}
 use Rattle.outwriter.specs.Steps.{Step}
 use Rattle.outwriter.specs.ToldByNow.{SpellsOf, Owes, block_marks}
+use Rattle.outwriter.proofs.Others.{known-opened}
 use Rattle.outwriter.proofs.ServeSteps.{append-nil, marks-here, marks-elsewhere}
 
 -- ---- the marks of one stream
@@ -55,11 +56,11 @@ front-less told rest all (inr (front, code, begins, is)) = by (before-last told 
 -- ---- calls
 
 -- what was told of an open stream begins what its call's items spell
-pub open-begins : (run : List Step) (o : Outbound) (streams : List (ℕ × OpenStream)) (others : List (ℕ × Bool)) (calls : List (ℕ × List OutItem)) (marks : List (ℕ × Mark))
-    → Serves run o streams others calls marks → (k : ℕ) (d : ℕ × List OutItem) (stream : OpenStream) → k < length calls
+pub open-begins : (run : List Step) (o : Outbound) (streams : List (ℕ × OpenStream)) (calls : List (ℕ × List OutItem)) (marks : List (ℕ × Mark))
+    → Serves run o streams calls marks → (k : ℕ) (d : ℕ × List OutItem) (stream : OpenStream) → k < length calls
     → lookup (nat_eq (get_or calls k d).0) streams ≡ Some stream → is_served (get_or calls k d).0 run ≡ true
     → Begins (marks_on (get_or calls k d).0 marks) (spelled (get_or calls k d).1)
-open-begins run o streams others calls marks s k d stream within found served = by (nat_eq stream.place k) refl
+open-begins run o streams calls marks s k d stream within found served = by (nat_eq stream.place k) refl
   where
     id : ℕ
     id = (get_or calls k d).0
@@ -77,15 +78,15 @@ open-begins run o streams others calls marks s k d stream within found served = 
         absurd (true≢false (sym so ∙ not))
 
 -- what was told of each call is a front of what its items spell
-pub call-front : (run : List Step) (o : Outbound) (streams : List (ℕ × OpenStream)) (others : List (ℕ × Bool)) (calls : List (ℕ × List OutItem)) (marks : List (ℕ × Mark))
-    → Serves run o streams others calls marks → (k : ℕ) (d : ℕ × List OutItem) → k < length calls → is_served (get_or calls k d).0 run ≡ true
+pub call-front : (run : List Step) (o : Outbound) (streams : List (ℕ × OpenStream)) (calls : List (ℕ × List OutItem)) (marks : List (ℕ × Mark))
+    → Serves run o streams calls marks → (k : ℕ) (d : ℕ × List OutItem) → k < length calls → is_served (get_or calls k d).0 run ≡ true
     → IsFrontOf (marks_on (get_or calls k d).0 marks) (spelled (get_or calls k d).1)
-call-front run o streams others calls marks s k d within served = by (lookup (nat_eq (get_or calls k d).0) streams) refl
+call-front run o streams calls marks s k d within served = by (lookup (nat_eq (get_or calls k d).0) streams) refl
   where
     by : (found : Option OpenStream) → lookup (nat_eq (get_or calls k d).0) streams ≡ found
         → IsFrontOf (marks_on (get_or calls k d).0 marks) (spelled (get_or calls k d).1)
     by None e = (s.ended k d within e served).0
-    by (Some stream) e = inl (open-begins run o streams others calls marks s k d stream within e served)
+    by (Some stream) e = inl (open-begins run o streams calls marks s k d stream within e served)
 
 -- and so is what the run tells by now
 front-now : (id : ℕ) (items : List OutItem) (run : List Step) (o : Outbound) (marks : List (ℕ × Mark)) → SpellsOf run o marks
@@ -97,16 +98,16 @@ front-now id items run o marks (begins, (table, told, rest, tells, owes, is, lea
       (subst (λ (l : List Mark). IsFrontOf l (spelled items)) (ap (marks_on id) is ∙ marks-append id told rest) front),
 )
 
-pub fronts_of : (run : List Step) (o : Outbound) (streams : List (ℕ × OpenStream)) (others : List (ℕ × Bool)) (calls : List (ℕ × List OutItem)) (marks : List (ℕ × Mark))
-    → Serves run o streams others calls marks → TellFronts run calls
-fronts_of run o streams others calls marks s =
+pub fronts_of : (run : List Step) (o : Outbound) (streams : List (ℕ × OpenStream)) (calls : List (ℕ × List OutItem)) (marks : List (ℕ × Mark))
+    → Serves run o streams calls marks → TellFronts run calls
+fronts_of run o streams calls marks s =
     All-from_get_or (λ (call : ℕ × List OutItem). is_served call.0 run ≡ true → (part : List Mark) × IsPart call.0 run part × IsFrontOf part (spelled call.1)) calls (0, [])
     (λ k within served. front-now (get_or calls k (0, [])).0 (get_or calls k (0, [])).1 run o marks s.spells
-    (call-front run o streams others calls marks s k (0, []) within served))
+    (call-front run o streams calls marks s k (0, []) within served))
 
-pub returned_of : (run : List Step) (o : Outbound) (streams : List (ℕ × OpenStream)) (others : List (ℕ × Bool)) (calls : List (ℕ × List OutItem)) (marks : List (ℕ × Mark))
-    → Serves run o streams others calls marks → TellReturned run
-returned_of run o streams others calls marks s id items is served = front-now id items run o marks s.spells (s.returned id items is served).1.0
+pub returned_of : (run : List Step) (o : Outbound) (streams : List (ℕ × OpenStream)) (calls : List (ℕ × List OutItem)) (marks : List (ℕ × Mark))
+    → Serves run o streams calls marks → TellReturned run
+returned_of run o streams calls marks s id items is served = front-now id items run o marks s.spells (s.returned id items is served).1.0
 
 -- ---- other streams
 
@@ -148,9 +149,9 @@ other-front id run (x ∷ told) rest (inr (fields, ends_it, is)) other =
     by (inr (inr (found, asked, e))) = absurd (not-end told fields (end_mark ends_it) cc)
 
 -- what was told of each stream that no Open opened
-pub others_of : (run : List Step) (o : Outbound) (streams : List (ℕ × OpenStream)) (others : List (ℕ × Bool)) (calls : List (ℕ × List OutItem)) (marks : List (ℕ × Mark))
-    → Serves run o streams others calls marks → TellOthers run
-others_of run o streams others calls marks s id unopened =
+pub others_of : (run : List Step) (o : Outbound) (streams : List (ℕ × OpenStream)) (calls : List (ℕ × List OutItem)) (marks : List (ℕ × Mark))
+    → Serves run o streams calls marks → TellOthers run
+others_of run o streams calls marks s id unopened =
     let spells = s.spells.1 in
     let table : Table = spells.0 in
     let told : List (ℕ × Mark) = spells.1 in
@@ -158,13 +159,9 @@ others_of run o streams others calls marks s id unopened =
       marks_on id told,
       (table, told, spells.3, refl),
       other-front id run (marks_on id told) (marks_on id rest) (block-rest id run o.block o.encoder table rest spells.4)
-          (subst (IsOther id run) (ap (marks_on id) spells.5 ∙ marks-append id told rest) (at (lookup (nat_eq id) others) refl)),
+          (subst (IsOther id run) (ap (marks_on id) spells.5 ∙ marks-append id told rest) (s.uncalled id (unknown (knows o.states id) refl)).1),
     )
   where
-    unknown : (b : Bool) → knows o.credit id ≡ b → b ≡ false
-    unknown true e = absurd (true≢false (sym (s.brought id e) ∙ unopened))
+    unknown : (b : Bool) → knows o.states id ≡ b → b ≡ false
+    unknown true e = absurd (true≢false (sym (known-opened run o s.brought id e) ∙ unopened))
     unknown false e = refl
-
-    at : (found : Option Bool) → lookup (nat_eq id) others ≡ found → IsOther id run (marks_on id marks)
-    at None e = inl (s.unknown id (unknown (knows o.credit id) refl) e).0
-    at (Some was_reset) e = (s.uncalled id was_reset (unknown (knows o.credit id) refl) e).1

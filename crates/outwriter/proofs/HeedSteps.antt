@@ -1,6 +1,6 @@
 -- The Resets and Refuses of a run are heeded after a Reset, a Refuse and an Open.
 use Rattle.std.proofs.Common.{◌≡◌, ◌⊎◌, ℕ, ◌==◌, inl, inr, refl, sym, ap, subst, ◌∙◌, Bool, true, false, List, [], ◌∷◌, ◌++◌, Option, Some, None, nat_eq, true≢false}
-use Rattle.std.specs.Prelude.{◌||◌, ◌&&◌, not, is_none, is_some, if◌then◌else◌}
+use Rattle.std.specs.Prelude.{◌||◌, ◌&&◌, not, is_some, if◌then◌else◌}
 use Rattle.std.specs.List.{list_any}
 use Rattle.std.specs.Map.{lookup}
 use Rattle.std.proofs.lemmas.Bool.{eqb-true}
@@ -15,21 +15,19 @@ use Rattle.outwriter.specs.declared.outbound.Outbound.{Outbound}
 use Rattle.outwriter.specs.declared.stream.OpenStream.{OpenStream}
 use Rattle.outwriter.specs.Calls.{is_called_off, is_dropped}
 use Rattle.outwriter.specs.CallState.{Heeds, HeedsEnds, IsEnding, Serves, Takes, has_reason, is_due_of, none_is_new}
-use Rattle.outwriter.specs.CoreChanges.{Prepares, Shuts, becomes_open, due_reset, is_new_call, may_write, stream_at}
-use Rattle.outwriter.specs.Credits.{is_reset, knows}
+use Rattle.outwriter.specs.CoreChanges.{Closes, Prepares, becomes_open, due_reset, is_new_call, may_write, stream_at}
+use Rattle.outwriter.specs.States.{SameOver, is_heard, is_reset, knows, over_on}
 use Rattle.outwriter.specs.Histories.{is_stream}
 use Rattle.outwriter.specs.Parts.{Mark}
-use Rattle.outwriter.specs.RunState.{Sets, HasResets}
+use Rattle.outwriter.specs.RunState.{HasResets}
 use Rattle.outwriter.specs.Runs.{resets_stream, was_reset, is_opened}
 use Rattle.outwriter.specs.Steps.{Step, Order, Taken, Granted, Written, Returned}
-use Rattle.outwriter.proofs.EndsKept.{either-true, heeds-before, heeds-called, heeds-taken, more-dues, over-same, takes-ends}
-use Rattle.outwriter.proofs.Others.{or-true, dropped-taken, reason-taken}
+use Rattle.outwriter.proofs.EndsKept.{either-true, heeds-before, heeds-called, heeds-taken, more-dues, over-same, takes-ends, takes-heard}
+use Rattle.outwriter.proofs.Others.{or-true, dropped-taken, known-opened, reason-taken}
 
 -- the same streams
-pub heeds-equal : (run : List Step) (o : Outbound) (streams left : List (ℕ × OpenStream)) (others more : List (ℕ × Bool)) → left ≡ streams → more ≡ others
-    → Heeds run o streams others → Heeds run o left more
-heeds-equal run o streams left others more a b heeds =
-    subst (λ (l : List (ℕ × OpenStream)). Heeds run o l more) (sym a) (subst (λ (l : List (ℕ × Bool)). Heeds run o streams l) (sym b) heeds)
+pub heeds-equal : (run : List Step) (o : Outbound) (streams left : List (ℕ × OpenStream)) → left ≡ streams → Heeds run o streams → Heeds run o left
+heeds-equal run o streams left a heeds = subst (λ (l : List (ℕ × OpenStream)). Heeds run o l) (sym a) heeds
 
 -- ---- a Reset
 
@@ -58,41 +56,42 @@ reset-reason (Taken order ∷ run) k e = reason-step run order k (reset-reason r
 
 -- what a Reset changes of how the streams stand
 abbrev pub Marks : ℕ → Outbound → Outbound → Type 0
-Marks id old new = (k : ℕ) → (knows new.credit k ≡ knows old.credit k) × (is_reset new.credit k ≡ ((is_stream id && (k == id)) || is_reset old.credit k))
+Marks id old new = (k : ℕ) → (knows new.states k ≡ knows old.states k) × (is_reset new.states k ≡ ((is_stream id && (k == id)) || is_reset old.states k))
 
 module _ (run : List Step) (id : ℕ) (code : ErrorCode) (written : Bool) (old new : Outbound) (marked : Marks id old new)
-    (due : new.due.items ≡ old.due.items ++ due_reset old id code written) (over : new.over ≡ old.over) where
+    (due : new.due.items ≡ old.due.items ++ due_reset old id code written) (over : SameOver old.states new.states)
+    (heard : (k : ℕ) → is_heard new.states k ≡ ((is_stream id && (k == id)) || is_heard old.states k)) where
   abbrev reset : Order
   reset = order.Reset id code written
 
-  marked-here : (k : ℕ) → is_stream k ≡ true → (k == id) ≡ true → is_reset new.credit k ≡ true
+  marked-here : (k : ℕ) → is_stream k ≡ true → (k == id) ≡ true → is_reset new.states k ≡ true
   marked-here k there p =
-      (marked k).1 ∙ ap (λ b. (b && (k == id)) || is_reset old.credit k) (ap is_stream (sym (eqb-true k id p)) ∙ there) ∙ ap (λ b. b || is_reset old.credit k) p
+      (marked k).1 ∙ ap (λ b. (b && (k == id)) || is_reset old.states k) (ap is_stream (sym (eqb-true k id p)) ∙ there) ∙ ap (λ b. b || is_reset old.states k) p
 
-  marked-else : (k : ℕ) → (k == id) ≡ false → is_reset new.credit k ≡ is_reset old.credit k
-  marked-else k p = (marked k).1 ∙ ap (λ b. (is_stream id && b) || is_reset old.credit k) p ∙ none (is_stream id)
+  marked-else : (k : ℕ) → (k == id) ≡ false → is_reset new.states k ≡ is_reset old.states k
+  marked-else k p = (marked k).1 ∙ ap (λ b. (is_stream id && b) || is_reset old.states k) p ∙ none (is_stream id)
     where
-      none : (b : Bool) → ((b && false) || is_reset old.credit k) ≡ is_reset old.credit k
+      none : (b : Bool) → ((b && false) || is_reset old.states k) ≡ is_reset old.states k
       none true = refl
       none false = refl
 
   -- the ends of a stream that stands as it did
-  ends-as : (k : ℕ) → is_reset new.credit k ≡ is_reset old.credit k → IsEnding k old → IsEnding k new
+  ends-as : (k : ℕ) → is_reset new.states k ≡ is_reset old.states k → IsEnding k old → IsEnding k new
   ends-as k same (inl ended) = inl (over-same old new over k ended)
-  ends-as k same (inr waits) = inr (more-dues old.credit new.credit k old.due.items (due_reset old id code written) new.due.items same due
-      ∙ ap (λ b. b || list_any (is_due_of new.credit k) (due_reset old id code written)) waits)
+  ends-as k same (inr waits) = inr (more-dues old.states new.states k old.due.items (due_reset old id code written) new.due.items same due
+      ∙ ap (λ b. b || list_any (is_due_of new.states k) (due_reset old id code written)) waits)
 
-  heeds-as : (k : ℕ) → is_stream k ≡ true → is_reset new.credit k ≡ is_reset old.credit k → IsEnding k old ⊎ (is_dropped k run ≡ true)
+  heeds-as : (k : ℕ) → is_stream k ≡ true → is_reset new.states k ≡ is_reset old.states k → IsEnding k old ⊎ (is_dropped k run ≡ true)
       → IsEnding k new ⊎ (is_dropped k (Taken reset ∷ run) ≡ true)
   heeds-as k there same (inl ending) = inl (ends-as k same ending)
   heeds-as k there same (inr dropped) = inr (dropped-taken run reset k dropped)
 
   -- it is due now
   is-due : (k : ℕ) → (k == id) ≡ true → written ≡ true → may_write old id ≡ true → IsEnding k new
-  is-due k p told may = inr (ap (list_any (is_due_of new.credit k)) due ∙ list_any-append (is_due_of new.credit k) old.due.items (due_reset old id code written)
-      ∙ or-true (list_any (is_due_of new.credit k) old.due.items) (list_any (is_due_of new.credit k) (due_reset old id code written))
-      (ap (λ b. list_any (is_due_of new.credit k) (if b && may_write old id then due_kind.Reset id code ∷ [] else [])) told
-      ∙ ap (λ b. list_any (is_due_of new.credit k) (if b then due_kind.Reset id code ∷ [] else [])) may ∙ ap (λ b. b || false) p))
+  is-due k p told may = inr (ap (list_any (is_due_of new.states k)) due ∙ list_any-append (is_due_of new.states k) old.due.items (due_reset old id code written)
+      ∙ or-true (list_any (is_due_of new.states k) old.due.items) (list_any (is_due_of new.states k) (due_reset old id code written))
+      (ap (λ b. list_any (is_due_of new.states k) (if b && may_write old id then due_kind.Reset id code ∷ [] else [])) told
+      ∙ ap (λ b. list_any (is_due_of new.states k) (if b then due_kind.Reset id code ∷ [] else [])) may ∙ ap (λ b. b || false) p))
 
   -- or it had ended, or was reset before
   why-not : (a b c : Bool) → ((a && not b) && not c) ≡ false → a ≡ true → (b ≡ true) ⊎ (c ≡ true)
@@ -101,30 +100,30 @@ module _ (run : List Step) (id : ℕ) (code : ErrorCode) (written : Bool) (old n
   why-not true false false e f = absurd (true≢false e)
   why-not false b c e f = absurd (true≢false (sym f))
 
-  reset-ends : HeedsEnds run old → HasResets run old.credit → HeedsEnds (Taken reset ∷ run) new
+  reset-ends : HeedsEnds run old → HasResets run old.states → HeedsEnds (Taken reset ∷ run) new
   reset-ends heeds resets k there e = at (k == id) refl
     where
-      before : (k : ℕ) → is_stream k ≡ true → is_reset new.credit k ≡ is_reset old.credit k → is_called_off k run ≡ true
+      before : (k : ℕ) → is_stream k ≡ true → is_reset new.states k ≡ is_reset old.states k → is_called_off k run ≡ true
           → IsEnding k new ⊎ (is_dropped k (Taken reset ∷ run) ≡ true)
       before k there same called = heeds-as k there same (heeds k there called)
 
-      again : (k : ℕ) → is_stream k ≡ true → (k == id) ≡ true → is_reset old.credit k ≡ true → (is_called_off k run ≡ true) ⊎ (is_dropped k run ≡ true)
+      again : (k : ℕ) → is_stream k ≡ true → (k == id) ≡ true → is_reset old.states k ≡ true → (is_called_off k run ≡ true) ⊎ (is_dropped k run ≡ true)
           → IsEnding k new ⊎ (is_dropped k (Taken reset ∷ run) ≡ true)
       again k there p was (inl called) = before k there (marked-here k there p ∙ sym was) called
       again k there p was (inr dropped) = inr (dropped-taken run reset k dropped)
 
       ended : (k : ℕ) → is_stream k ≡ true → (k == id) ≡ true
-          → (is_some (lookup (nat_eq id) old.over.entries) ≡ true) ⊎ (is_reset old.credit id ≡ true) → IsEnding k new ⊎ (is_dropped k (Taken reset ∷ run) ≡ true)
+          → (is_some (over_on old.states id) ≡ true) ⊎ (is_reset old.states id ≡ true) → IsEnding k new ⊎ (is_dropped k (Taken reset ∷ run) ≡ true)
       ended k there p (inl over_by_now) =
-          inl (inl (over-same old new over k (ap (λ n. is_some (lookup (nat_eq n) old.over.entries)) (eqb-true k id p) ∙ over_by_now)))
+          inl (inl (over-same old new over k (ap (λ n. is_some (over_on old.states n)) (eqb-true k id p) ∙ over_by_now)))
       ended k there p (inr was) =
-          let was_k : is_reset old.credit k ≡ true = ap (λ n. is_reset old.credit n) (eqb-true k id p) ∙ was in
+          let was_k : is_reset old.states k ≡ true = ap (λ n. is_reset old.states n) (eqb-true k id p) ∙ was in
           again k there p was_k (either-true (is_called_off k run) (is_dropped k run) (reset-reason run k (sym (resets k there) ∙ was_k)))
 
       here : (p : (k == id) ≡ true) → (w : Bool) → written ≡ w → (m : Bool) → may_write old id ≡ m → IsEnding k new ⊎ (is_dropped k (Taken reset ∷ run) ≡ true)
       here p false told m may = inr (ap (λ b. (b && not written) || is_dropped k run) p ∙ ap (λ b. not b || is_dropped k run) told)
       here p true told true may = inl (is-due k p told may)
-      here p true told false may = ended k there p (why-not (is_stream id) (is_some (lookup (nat_eq id) old.over.entries)) (is_reset old.credit id) may (ap is_stream (sym (eqb-true k id p)) ∙ there))
+      here p true told false may = ended k there p (why-not (is_stream id) (is_some (over_on old.states id)) (is_reset old.states id) may (ap is_stream (sym (eqb-true k id p)) ∙ there))
 
       at : (b : Bool) → (k == id) ≡ b → IsEnding k new ⊎ (is_dropped k (Taken reset ∷ run) ≡ true)
       at true p = here p written refl (may_write old id) refl
@@ -136,75 +135,53 @@ module _ (run : List Step) (id : ℕ) (code : ErrorCode) (written : Bool) (old n
   was-else : (k : ℕ) → (k == id) ≡ false → was_reset k (Taken reset ∷ run) ≡ was_reset k run
   was-else k p = ap (λ b. b || was_reset k run) p
 
-  reset-marks : HasResets run old.credit → HasResets (Taken reset ∷ run) new.credit
+  reset-marks : HasResets run old.states → HasResets (Taken reset ∷ run) new.states
   reset-marks resets k there = at (k == id) refl
     where
-      at : (b : Bool) → (k == id) ≡ b → is_reset new.credit k ≡ was_reset k (Taken reset ∷ run)
+      at : (b : Bool) → (k == id) ≡ b → is_reset new.states k ≡ was_reset k (Taken reset ∷ run)
       at true p = marked-here k there p ∙ sym (was-here k p)
       at false p = marked-else k p ∙ resets k there ∙ sym (was-else k p)
 
-  pub reset-heeds : (streams left : List (ℕ × OpenStream)) (others more : List (ℕ × Bool)) → Shuts id old streams left others more
-      → ((k : ℕ) (stream : OpenStream) → lookup (nat_eq k) streams ≡ Some stream → is_stream k ≡ true)
-      → ((k : ℕ) (stream : OpenStream) → lookup (nat_eq k) streams ≡ Some stream → knows old.credit k ≡ true)
-      → Heeds run old streams others → Heeds (Taken reset ∷ run) new left more
-  reset-heeds streams left others more shuts numbered known heeds = (
+  pub reset-heeds : (streams left : List (ℕ × OpenStream)) → Closes id streams left → Heeds run old streams → Heeds (Taken reset ∷ run) new left
+  reset-heeds streams left closes heeds = (
     reset-ends heeds.0 heeds.1,
     reset-marks heeds.1,
     λ k is. unreset k is (k == id) refl,
-    λ k there e. heard k there e (k == id) refl,
+    λ k there e. heard-now k there e (k == id) refl,
   )
     where
-      gone : (k : ℕ) → (k == id) ≡ true → (found : Option OpenStream) → lookup (nat_eq k) streams ≡ found → Shuts id old streams left others more → lookup (nat_eq k) left ≡ None
-      gone k p None e (inl s) = ap (λ (l : List (ℕ × OpenStream)). lookup (nat_eq k) l) s.1 ∙ e
-      gone k p (Some stream) e (inl s) = absurd (true≢false (sym (numbered k stream e) ∙ ap is_stream (eqb-true k id p) ∙ s.0))
-      gone k p found e (inr (inl s)) = s.1 k ∙ ap (λ b. if b then None else lookup (nat_eq k) streams) p
-      gone k p None e (inr (inr s)) = ap (λ (l : List (ℕ × OpenStream)). lookup (nat_eq k) l) s.1 ∙ e
-      gone k p (Some stream) e (inr (inr s)) = absurd (true≢false (sym (known k stream e) ∙ ap (λ n. knows old.credit n) (eqb-true k id p) ∙ s.0))
-
-      was-open : (k : ℕ) → (k == id) ≡ false → Shuts id old streams left others more → lookup (nat_eq k) left ≡ lookup (nat_eq k) streams
-      was-open k p (inl s) = ap (λ (l : List (ℕ × OpenStream)). lookup (nat_eq k) l) s.1
-      was-open k p (inr (inl s)) = s.1 k ∙ ap (λ b. if b then None else lookup (nat_eq k) streams) p
-      was-open k p (inr (inr s)) = ap (λ (l : List (ℕ × OpenStream)). lookup (nat_eq k) l) s.1
-
       unreset : (k : ℕ) → is_some (lookup (nat_eq k) left) ≡ true → (b : Bool) → (k == id) ≡ b → was_reset k (Taken reset ∷ run) ≡ false
-      unreset k is true p = absurd (true≢false (sym is ∙ ap is_some (gone k p (lookup (nat_eq k) streams) refl shuts)))
-      unreset k is false p = was-else k p ∙ heeds.2 k (sym (ap is_some (was-open k p shuts)) ∙ is)
+      unreset k is true p = absurd (true≢false (sym is ∙ ap is_some (closes k ∙ ap (λ b. if b then None else lookup (nat_eq k) streams) p)))
+      unreset k is false p = was-else k p ∙ heeds.2 k (sym (ap is_some (closes k ∙ ap (λ b. if b then None else lookup (nat_eq k) streams) p)) ∙ is)
 
-      other-more : (k : ℕ) → (k == id) ≡ false → Shuts id old streams left others more → lookup (nat_eq k) more ≡ lookup (nat_eq k) others
-      other-more k p (inl s) = ap (λ (l : List (ℕ × Bool)). lookup (nat_eq k) l) s.2
-      other-more k p (inr (inl s)) = ap (λ (l : List (ℕ × Bool)). lookup (nat_eq k) l) s.2
-      other-more k p (inr (inr s)) = s.2 k ∙ ap (λ b. if b then Some true else lookup (nat_eq k) others) p
-
-      heard-here : (k : ℕ) → is_stream k ≡ true → (k == id) ≡ true → Shuts id old streams left others more → (is_some (lookup (nat_eq k) more) || knows new.credit k) ≡ true
-      heard-here k there p (inl s) = absurd (true≢false (sym there ∙ ap is_stream (eqb-true k id p) ∙ s.0))
-      heard-here k there p (inr (inl s)) = or-true (is_some (lookup (nat_eq k) more)) (knows new.credit k) ((marked k).0 ∙ ap (λ n. knows old.credit n) (eqb-true k id p) ∙ s.0)
-      heard-here k there p (inr (inr s)) = ap (λ (o : Option Bool). is_some o || knows new.credit k) (s.2 k ∙ ap (λ b. if b then Some true else lookup (nat_eq k) others) p)
-
-      heard : (k : ℕ) → is_stream k ≡ true → was_reset k (Taken reset ∷ run) ≡ true → (b : Bool) → (k == id) ≡ b → (is_some (lookup (nat_eq k) more) || knows new.credit k) ≡ true
-      heard k there e true p = heard-here k there p shuts
-      heard k there e false p =
-          ap (λ (o : Option Bool). is_some o || knows new.credit k) (other-more k p shuts) ∙ ap (λ b. is_some (lookup (nat_eq k) others) || b) (marked k).0
-          ∙ heeds.3 k there (sym (was-else k p) ∙ e)
+      heard-now : (k : ℕ) → is_stream k ≡ true → was_reset k (Taken reset ∷ run) ≡ true → (b : Bool) → (k == id) ≡ b → is_heard new.states k ≡ true
+      heard-now k there e true p =
+          heard k ∙ ap (λ b. (b && (k == id)) || is_heard old.states k) (ap is_stream (sym (eqb-true k id p)) ∙ there) ∙ ap (λ b. b || is_heard old.states k) p
+      heard-now k there e false p = heard k ∙ or-true (is_stream id && (k == id)) (is_heard old.states k) (heeds.3 k there (sym (was-else k p) ∙ e))
 
 -- ---- a Refuse
 
-module _ (run : List Step) (id : ℕ) (fields : List Field) (o : Outbound) (streams : List (ℕ × OpenStream)) (others : List (ℕ × Bool)) (calls : List (ℕ × List OutItem))
-    (marks : List (ℕ × Mark)) (s : Serves run o streams others calls marks) where
+module _ (run : List Step) (id : ℕ) (fields : List Field) (o : Outbound) (streams : List (ℕ × OpenStream)) (calls : List (ℕ × List OutItem))
+    (marks : List (ℕ × Mark)) (s : Serves run o streams calls marks) where
   abbrev refuse : Order
   refuse = order.Refuse id fields
 
   -- of a stream that was opened, refused or reset before, whose end was written or is due, or which was dropped
-  pub refuse-again : (is_stream id ≡ true → (is_some (lookup (nat_eq id) others) || knows o.credit id) ≡ true) → Heeds run o streams others → Heeds (Taken refuse ∷ run) o streams others
+  pub refuse-again : (is_stream id ≡ true → is_heard o.states id ≡ true) → Heeds run o streams → Heeds (Taken refuse ∷ run) o streams
   refuse-again heard heeds =
-      heeds-taken run refuse o o streams streams others others (λ k. refl)
+      heeds-taken run refuse o o streams streams (λ k. refl)
       (heeds-called run refuse o o (λ k there e. e) heeds.0 (λ k there e. now k there (and_true (k == id) (not (is_opened k run)) e)))
       (λ k. refl) heeds.2 (λ k e. e) heeds
     where
-      closed : (found : Option Bool) → lookup (nat_eq id) others ≡ found → (is_some found || knows o.credit id) ≡ true → not (is_opened id run) ≡ true → lookup (nat_eq id) streams ≡ None
-      closed (Some before) e is unopened = (s.other id before e).0
-      closed None e is unopened = absurd (true≢false (sym unopened ∙ ap not (s.brought id is)))
+      unknown : not (is_opened id run) ≡ true → (b : Bool) → knows o.states id ≡ b → b ≡ false
+      unknown unopened true e = absurd (true≢false (sym unopened ∙ ap not (known-opened run o s.brought id e)))
+      unknown unopened false e = refl
 
-      ended : (is_some (lookup (nat_eq id) o.over.entries) ≡ true) ⊎ (has_reason id run ≡ true) → is_stream id ≡ true → IsEnding id o ⊎ (is_dropped id (Taken refuse ∷ run) ≡ true)
+      closed : knows o.states id ≡ false → (found : Option OpenStream) → lookup (nat_eq id) streams ≡ found → found ≡ None
+      closed isnt None e = refl
+      closed isnt (Some stream) e = absurd (true≢false (sym (s.known id stream e) ∙ isnt))
+
+      ended : (is_some (over_on o.states id) ≡ true) ⊎ (has_reason id run ≡ true) → is_stream id ≡ true → IsEnding id o ⊎ (is_dropped id (Taken refuse ∷ run) ≡ true)
       ended (inl over) there = inl (inl over)
       ended (inr reason) there = by (either-true (is_called_off id run) (is_dropped id run) reason)
         where
@@ -218,68 +195,52 @@ module _ (run : List Step) (id : ℕ) (fields : List Field) (o : Outbound) (stre
           let unopened : not (is_opened id run) ≡ true = ap (λ n. not (is_opened n run)) same ∙ unopened_k in
           let number : is_stream id ≡ true = ap is_stream same ∙ there in
           subst (λ n. IsEnding n o ⊎ (is_dropped n (Taken refuse ∷ run) ≡ true)) same
-          (ended (s.reasons id number (closed (lookup (nat_eq id) others) refl (heard number) unopened) (heard number)) number)
+          (ended (s.reasons id number (closed (unknown unopened (knows o.states id) refl) (lookup (nat_eq id) streams) refl) (heard number)) number)
 
   -- of another, whose end is due now
-  pub refuse-heeds : (new : Outbound) (more : List (ℕ × Bool)) → knows o.credit id ≡ false → lookup (nat_eq id) others ≡ None → Sets others id false more
-      → Takes (due_kind.Refuse id fields ∷ []) none_is_new [] o new → Heeds run o streams others → Heeds (Taken refuse ∷ run) new streams more
-  refuse-heeds new more unknown none sets takes heeds =
-      heeds-taken run refuse o new streams streams others more (λ k. refl)
+  pub refuse-heeds : (new : Outbound) → is_heard o.states id ≡ false → Takes (due_kind.Refuse id fields ∷ []) none_is_new [] o new → Heeds run o streams → Heeds (Taken refuse ∷ run) new streams
+  refuse-heeds new unheard takes heeds =
+      heeds-taken run refuse o new streams streams (λ k. refl)
       (heeds-called run refuse o new (takes-ends (due_kind.Refuse id fields ∷ []) none_is_new [] o new takes) heeds.0
       (λ k there e. inl (inr (now k there (and_true (k == id) (not (is_opened k run)) e).0))))
-      takes.resets heeds.2 (λ k e. still k e (k == id) refl) heeds
+      takes.resets heeds.2 (takes-heard (due_kind.Refuse id fields ∷ []) none_is_new [] o new takes) heeds
     where
       unreset : is_stream id ≡ true → (b : Bool) → was_reset id run ≡ b → b ≡ false
-      unreset there true e = absurd (true≢false (sym (heeds.3 id there e) ∙ ap (λ (x : Option Bool). is_some x || knows o.credit id) none ∙ unknown))
+      unreset there true e = absurd (true≢false (sym (heeds.3 id there e) ∙ unheard))
       unreset there false e = refl
 
-      now : (k : ℕ) → is_stream k ≡ true → (k == id) ≡ true → list_any (is_due_of new.credit k) new.due.items ≡ true
+      now : (k : ℕ) → is_stream k ≡ true → (k == id) ≡ true → list_any (is_due_of new.states k) new.due.items ≡ true
       now k there p =
           let number : is_stream id ≡ true = ap is_stream (sym (eqb-true k id p)) ∙ there in
-          let fresh : is_reset new.credit id ≡ false = takes.resets id ∙ heeds.1 id number ∙ unreset number (was_reset id run) refl in
-          ap (list_any (is_due_of new.credit k)) takes.due ∙ list_any-append (is_due_of new.credit k) o.due.items (due_kind.Refuse id fields ∷ [])
-          ∙ or-true (list_any (is_due_of new.credit k) o.due.items) (list_any (is_due_of new.credit k) (due_kind.Refuse id fields ∷ []))
-          (ap (λ b. (b && not (is_reset new.credit id)) || false) p ∙ ap (λ b. not b || false) fresh)
-
-      still : (k : ℕ) → (is_some (lookup (nat_eq k) others) || knows o.credit k) ≡ true → (b : Bool) → (k == id) ≡ b → (is_some (lookup (nat_eq k) more) || knows new.credit k) ≡ true
-      still k e true p = ap (λ (x : Option Bool). is_some x || knows new.credit k) (sets k ∙ ap (λ b. if b then Some false else lookup (nat_eq k) others) p)
-      still k e false p = ap (λ (x : Option Bool). is_some x || knows new.credit k) (sets k ∙ ap (λ b. if b then Some false else lookup (nat_eq k) others) p)
-          ∙ ap (λ b. is_some (lookup (nat_eq k) others) || b) (takes.knows k) ∙ e
+          let fresh : is_reset new.states id ≡ false = takes.resets id ∙ heeds.1 id number ∙ unreset number (was_reset id run) refl in
+          ap (list_any (is_due_of new.states k)) takes.due ∙ list_any-append (is_due_of new.states k) o.due.items (due_kind.Refuse id fields ∷ [])
+          ∙ or-true (list_any (is_due_of new.states k) o.due.items) (list_any (is_due_of new.states k) (due_kind.Refuse id fields ∷ []))
+          (ap (λ b. (b && not (is_reset new.states id)) || false) p ∙ ap (λ b. not b || false) fresh)
 
 -- ---- an Open
 
-pub open-heeds : (run : List Step) (id place : ℕ) (o new : Outbound) (streams left : List (ℕ × OpenStream)) (others : List (ℕ × Bool)) → Prepares id place o new others streams left
-    → Heeds run o streams others → Heeds (Taken (order.Open id tt) ∷ run) new left others
-open-heeds run id place o new streams left others p heeds =
-    heeds-taken run opening o new streams left others others (λ k. refl)
+pub open-heeds : (run : List Step) (id place : ℕ) (o new : Outbound) (streams left : List (ℕ × OpenStream)) → Prepares id place o new streams left
+    → Heeds run o streams → Heeds (Taken (order.Open id tt) ∷ run) new left
+open-heeds run id place o new streams left p heeds =
+    heeds-taken run opening o new streams left (λ k. refl)
     (heeds-called run opening o new (takes-ends [] (λ other. is_new_call o id && (other == id)) [] o new p.takes) heeds.0 (λ k there e. absurd (true≢false (sym e))))
-    p.takes.resets (λ k is. unreset k is (becomes_open o others id && (k == id)) refl)
-    (λ k e. more (is_some (lookup (nat_eq k) others)) (is_new_call o id && (k == id)) (knows o.credit k) (knows new.credit k) (p.takes.knows k) e) heeds
+    p.takes.resets (λ k is. unreset k is (becomes_open o id && (k == id)) refl)
+    (takes-heard [] (λ other. is_new_call o id && (other == id)) [] o new p.takes) heeds
   where
     opening : Order
     opening = order.Open id tt
 
-    more : (a b c d : Bool) → d ≡ (b || c) → (a || c) ≡ true → (a || d) ≡ true
-    more true b c d e f = refl
-    more false b c d e f = e ∙ or-true b c f
-
-    none : (x : Option Bool) → is_none x ≡ true → is_some x ≡ false
-    none None e = refl
-    none (Some b) e = absurd (true≢false (sym e))
-
-    fresh : is_stream id ≡ true → is_some (lookup (nat_eq id) others) ≡ false → knows o.credit id ≡ false → (b : Bool) → was_reset id run ≡ b → b ≡ false
-    fresh there unheard unknown true e = absurd (true≢false (sym (heeds.3 id there e) ∙ ap (λ b. b || knows o.credit id) unheard ∙ unknown))
-    fresh there unheard unknown false e = refl
+    fresh : is_stream id ≡ true → is_heard o.states id ≡ false → (b : Bool) → was_reset id run ≡ b → b ≡ false
+    fresh there unheard true e = absurd (true≢false (sym (heeds.3 id there e) ∙ unheard))
+    fresh there unheard false e = refl
 
     was-not : (b : Bool) → not b ≡ true → b ≡ false
     was-not true e = absurd (true≢false (sym e))
     was-not false e = refl
 
-    unreset : (k : ℕ) → is_some (lookup (nat_eq k) left) ≡ true → (b : Bool) → (becomes_open o others id && (k == id)) ≡ b → was_reset k run ≡ false
+    unreset : (k : ℕ) → is_some (lookup (nat_eq k) left) ≡ true → (b : Bool) → (becomes_open o id && (k == id)) ≡ b → was_reset k run ≡ false
     unreset k is true q =
-        let a = and_true (becomes_open o others id) (k == id) q in
-        let opens = and_true (is_new_call o id) (is_none (lookup (nat_eq id) others)) a.0 in
-        let call = and_true (is_stream id) (not (knows o.credit id)) opens.0 in
-        ap (λ n. was_reset n run) (eqb-true k id a.1)
-        ∙ fresh call.0 (none (lookup (nat_eq id) others) opens.1) (was-not (knows o.credit id) call.1) (was_reset id run) refl
+        let a = and_true (becomes_open o id) (k == id) q in
+        let opens = and_true (is_stream id) (not (is_heard o.states id)) a.0 in
+        ap (λ n. was_reset n run) (eqb-true k id a.1) ∙ fresh opens.0 (was-not (is_heard o.states id) opens.1) (was_reset id run) refl
     unreset k is false q = heeds.2 k (sym (ap is_some (p.opens k ∙ ap (λ b. if b then Some (stream_at place) else lookup (nat_eq k) streams) q)) ∙ is)

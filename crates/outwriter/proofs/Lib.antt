@@ -4,7 +4,7 @@ pub mod CallStepsOpen
 pub mod CallStepsOrders
 pub mod CallStepsControl
 pub mod CallStepsCores
-pub mod CreditLemmas
+pub mod StateLemmas
 pub mod EndSteps
 pub mod FrameSteps
 pub mod Fronts

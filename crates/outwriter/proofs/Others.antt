@@ -1,14 +1,17 @@
 -- Of streams that are no call's: what was told of them stays so, as the run goes on.
-use Rattle.std.proofs.Common.{◌≡◌, ◌⊎◌, ℕ, inl, inr, refl, sym, ap, subst, ◌∙◌, Bool, true, false, List, ◌∷◌, Option}
-use Rattle.std.specs.Prelude.{◌||◌, is_some}
+use Rattle.std.proofs.Common.{◌≡◌, ◌⊎◌, ℕ, inl, inr, refl, sym, ap, subst, ◌∙◌, Bool, true, false, true≢false, List, [], ◌∷◌, Option}
+use Rattle.std.specs.Prelude.{◌||◌, ◌&&◌, is_some, if◌then◌else◌}
 use Rattle.account.specs.declared.call.OutItem.{OutItem}
 use Rattle.h2frame.specs.declared.frame.Frame.{Frame}
 use Rattle.lists.specs.declared.field.Field.{Field}
-use Rattle.outwriter.specs.Calls.{calls_off, is_called_off, drops, is_dropped, IsRefused, IsOther, IsReturned}
+use Rattle.outwriter.specs.Calls.{is_fresh, is_served, refuses_stream, calls_off, is_called_off, drops, is_dropped, IsRefused, IsOther, IsReturned}
 use Rattle.outwriter.specs.Runs.{was_reset, resets_stream, is_opened, opens_stream}
+use Rattle.outwriter.specs.declared.outbound.Outbound.{Outbound}
+use Rattle.outwriter.specs.Histories.{is_stream}
+use Rattle.outwriter.specs.States.{knows}
 use Rattle.outwriter.specs.Parts.{Mark}
 use Rattle.outwriter.specs.CallState.{IsUncalled, has_reason}
-use Rattle.outwriter.specs.Steps.{Step, Order, Taken, Granted, Written}
+use Rattle.outwriter.specs.Steps.{Step, Order, Taken, Granted, Written, Returned}
 
 pub or-true : (a b : Bool) → b ≡ true → (a || b) ≡ true
 or-true true b e = refl
@@ -22,6 +25,60 @@ or-more : (a b c d : Bool) → (b || d) ≡ true → ((a || b) || (c || d)) ≡ 
 or-more true b c d e = refl
 or-more false true c d e = refl
 or-more false false c d e = or-true c d e
+
+-- ---- streams of calls
+
+-- a stream that was opened isn't fresh, and one that is served was opened
+opened-stale : (run : List Step) (id : ℕ) → is_opened id run ≡ true → is_fresh id run ≡ false
+opened-stale [] id e = absurd (true≢false (sym e))
+opened-stale (Granted stream n ∷ run) id e = opened-stale run id e
+opened-stale (Returned stream items ∷ run) id e = opened-stale run id e
+opened-stale (Written frame ∷ run) id e = opened-stale run id e
+opened-stale (Taken order ∷ run) id e = by (opened-stale run id) (opens_stream id order) (refuses_stream id order) e
+  where
+    by : (is_opened id run ≡ true → is_fresh id run ≡ false) → (opens refuses : Bool) → (opens || is_opened id run) ≡ true
+        → (if opens then false else (if refuses then false else is_fresh id run)) ≡ false
+    by before true refuses f = refl
+    by before false true f = refl
+    by before false false f = before f
+
+served-opened : (run : List Step) (id : ℕ) → is_served id run ≡ true → is_opened id run ≡ true
+served-opened [] id e = absurd (true≢false (sym e))
+served-opened (Granted stream n ∷ run) id e = served-opened run id e
+served-opened (Returned stream items ∷ run) id e = served-opened run id e
+served-opened (Written frame ∷ run) id e = served-opened run id e
+served-opened (Taken order ∷ run) id e = by (served-opened run id) (opens_stream id order) e
+  where
+    by : (is_served id run ≡ true → is_opened id run ≡ true) → (opens : Bool) → (if opens then is_fresh id run else is_served id run) ≡ true → (opens || is_opened id run) ≡ true
+    by before true f = refl
+    by before false f = before f
+
+-- whose stream is a call's, by the run
+module _ (run : List Step) (o : Outbound) (brought : (id : ℕ) → knows o.states id ≡ (is_stream id && is_opened id run)) (id : ℕ) where
+  pub opened-known : is_opened id run ≡ true → is_stream id ≡ true → knows o.states id ≡ true
+  opened-known e there = brought id ∙ ap (λ b. b && is_opened id run) there ∙ e
+
+  pub served-known : is_served id run ≡ true → is_stream id ≡ true → knows o.states id ≡ true
+  served-known e there = opened-known (served-opened run id e) there
+
+  pub known-opened : knows o.states id ≡ true → is_opened id run ≡ true
+  known-opened e = by (is_stream id) (is_opened id run) (sym (brought id) ∙ e)
+    where
+      by : (a b : Bool) → (a && b) ≡ true → b ≡ true
+      by true b f = f
+      by false b f = absurd (true≢false (sym f))
+
+  pub known-stream : knows o.states id ≡ true → is_stream id ≡ true
+  known-stream e = by (is_stream id) (is_opened id run) (sym (brought id) ∙ e)
+    where
+      by : (a b : Bool) → (a && b) ≡ true → a ≡ true
+      by true b f = refl
+      by false b f = absurd (true≢false (sym f))
+
+  pub known-stale : knows o.states id ≡ true → is_fresh id run ≡ false
+  known-stale e = opened-stale run id (known-opened e)
+
+-- ---- as the run goes on
 
 -- what was refused, reset, called off or dropped is so still, and what is opened was
 pub record Later (run next : List Step) : Type 0 where
@@ -41,9 +98,6 @@ pub later-granted : (run : List Step) (id n : ℕ) → Later run (Granted id n �
 later-granted run id n = record { opened = λ other. refl; refused = λ other fields is. is; reset = λ other e. e; reason = λ other e. e; returned = λ other items is. is }
 
 -- with any control
-pub opened-taken : (run : List Step) (order : Order) (id : ℕ) → is_opened id run ≡ true → is_opened id (Taken order ∷ run) ≡ true
-opened-taken run order id e = or-true (opens_stream id order) (is_opened id run) e
-
 pub reset-taken : (run : List Step) (order : Order) (id : ℕ) → was_reset id run ≡ true → was_reset id (Taken order ∷ run) ≡ true
 reset-taken run order id e = or-true (resets_stream id order) (was_reset id run) e
 

@@ -31,7 +31,7 @@ spent-answered run o (inl gone) m = inl (m.goes ∙ gone)
 spent-answered run o (inr (no_block, none, owed)) m = inr (
   sym (m.answers.0 ∙ ap (λ (waiting : List Due). told run ++ flat_map duties_of waiting) none ∙ append-nil (told run)),
   subst (HasBlock run) no_block m.goes_on,
-  λ id. sym (m.owes id).0 ∙ owed id,
+  λ id. sym (m.stand.owes id).0 ∙ owed id,
 )
 
 -- a frame's writer takes it

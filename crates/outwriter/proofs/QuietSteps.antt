@@ -15,6 +15,7 @@ use Rattle.outwriter.specs.Calls.{is_served}
 use Rattle.outwriter.specs.Runs.{was_reset}
 use Rattle.outwriter.specs.Histories.{is_stream}
 use Rattle.outwriter.specs.Parts.{Mark}
+use Rattle.outwriter.specs.States.{over_on}
 use Rattle.outwriter.specs.CallState.{Serves}
 use Rattle.outwriter.specs.RunState.{HasOver, IsBetween, Progress, SameOwn, Stays}
 use Rattle.outwriter.specs.StreamLooks.{AllStuck, GetsQuiet, GetsStuck, Holds, HoldsOn, KeepsFronts, StuckAt, aheads, ids}
@@ -133,7 +134,7 @@ holds-none got old new o e = subst (λ (x : Option Frame). HoldsOn got x old new
 -- ---- each call
 
 module _ {L In Out Shut : Type 0} (got ahead : Out → List OutItem) (run : List Step) (core : OutCore L In Out Shut) (marks : List (ℕ × Mark))
-    (s : Serves run core.outbound core.streams.entries core.others.entries (calls got core.senders.items) marks) (over : HasOver run core.outbound.over.entries)
+    (s : Serves run core.outbound core.streams.entries (calls got core.senders.items) marks) (over : HasOver run core.outbound.states)
     (stuck : AreStuck core.outbound core.streams.entries (aheads ahead core.senders.items)) where
   -- the call of an open stream stands at the stream's place
   place-of : (k : ℕ) (d : ℕ × List OutItem) (stream : OpenStream) → k < length (calls got core.senders.items)
@@ -154,7 +155,7 @@ module _ {L In Out Shut : Type 0} (got ahead : Out → List OutItem) (run : List
       → HasNoFrame run core id (ahead (get_or core.senders.items k d).1.rx)
   no-frame-at k d within id is served there None e = by (s.stays id served there e)
     where
-      by : (is_some (lookup (nat_eq id) core.outbound.over.entries) ≡ true) ⊎ (was_reset id run ≡ true) → HasNoFrame run core id (ahead (get_or core.senders.items k d).1.rx)
+      by : (is_some (over_on core.outbound.states id) ≡ true) ⊎ (was_reset id run ≡ true) → HasNoFrame run core id (ahead (get_or core.senders.items k d).1.rx)
       by (inl ended) = Ended (sym (over id).0 ∙ ended)
       by (inr reset) = WasReset reset
   no-frame-at k d within id is served there (Some stream) e =
@@ -174,6 +175,6 @@ module _ {L In Out Shut : Type 0} (got ahead : Out → List OutItem) (run : List
       no-frame-at k d within (get_or core.senders.items k d).0 refl served there (lookup (nat_eq (get_or core.senders.items k d).0) core.streams.entries) refl
 
 pub no-frame-if : {L In Out Shut : Type 0} (got ahead : Out → List OutItem) (run : List Step) (core : OutCore L In Out Shut) → Holds got run core
-    → HasOver run core.outbound.over.entries → IsQuiet ahead core → HaveNoFrame ahead run core
+    → HasOver run core.outbound.states → IsQuiet ahead core → HaveNoFrame ahead run core
 no-frame-if got ahead run core (marks, s, heeds) over (inl gone) = inl gone
 no-frame-if got ahead run core (marks, s, heeds) over (inr stuck) = inr (all-no-frame got ahead run core marks s over stuck)

@@ -19,6 +19,7 @@ use Rattle.outwriter.specs.CallState.{IsEnded, IsExact, Serves, bytes_marks}
 use Rattle.outwriter.specs.Releases.{PlaceIs, with_place, IsAt, MovedTo, Releases, HasEnded}
 use Rattle.outwriter.specs.Runs.{granted_by, was_reset}
 use Rattle.outwriter.specs.RunState.{MirrorsOf, GoesOn}
+use Rattle.outwriter.specs.States.{over_on}
 use Rattle.outwriter.specs.Steps.{Step, Returned}
 use Rattle.outwriter.specs.StreamLooks.{Shown, shown, shows}
 use Rattle.outwriter.specs.ToldByNow.{SpellsOf}
@@ -36,15 +37,11 @@ mirrors-returned run o id items m = record {
   begins = m.begins;
   goes = m.goes;
   windows_follow = m.windows_follow;
-  is_over = m.is_over;
   answers = m.answers;
   goes_on = same-block run (Returned id items ∷ run) o.block refl m.goes_on;
   not_reset = m.not_reset;
   credits = λ k. omega (arith, m.credits k, sum_by-cons (granted_by k) (Returned id items) run);
-  silent = m.silent;
-  resets = m.resets;
-  owes = m.owes;
-  no_stream_0 = m.no_stream_0;
+  stand = record { over = m.stand.over; silent = m.stand.silent; resets = m.stand.resets; owes = m.stand.owes; no_stream_0 = m.stand.no_stream_0 };
 }
 
 pub goes-returned : (o new : Outbound) (id : ℕ) (items : List OutItem) → new ≡ o → GoesOn (Returned id items) o new
@@ -176,9 +173,9 @@ follows-moved place last moved streams left is = record {
 
 -- ---- all of it
 
-module _ (run : List Step) (o : Outbound) (streams left : List (ℕ × OpenStream)) (others : List (ℕ × Bool)) (all now : List (ℕ × List OutItem)) (marks : List (ℕ × Mark))
+module _ (run : List Step) (o : Outbound) (streams left : List (ℕ × OpenStream)) (all now : List (ℕ × List OutItem)) (marks : List (ℕ × Mark))
     (place moved id : ℕ) (items : List OutItem) (t : TakesOut place all now) (moved_is : place < length now → (get_or now place (0, [])).0 ≡ moved) (f : Follows place (length now) moved streams left)
-    (is : (d : ℕ × List OutItem) → get_or all place d ≡ (id, items)) (none : lookup (nat_eq id) streams ≡ None) (s : Serves run o streams others all marks) where
+    (is : (d : ℕ × List OutItem) → get_or all place d ≡ (id, items)) (none : lookup (nat_eq id) streams ≡ None) (s : Serves run o streams all marks) where
   abbrev from : ℕ → ℕ
   from k = came-from place (length now) k
 
@@ -226,7 +223,7 @@ module _ (run : List Step) (o : Outbound) (streams left : List (ℕ × OpenStrea
   of-call P each k d lt = let c = source place all now t k d lt in subst P (sym c.1) (each (from k) d c.0)
 
   abbrev Ended : ℕ × List OutItem → Type 0
-  Ended c = lookup (nat_eq c.0) left ≡ None → is_served c.0 run ≡ true → IsEnded (lookup (nat_eq c.0) o.over.entries) (marks_on c.0 marks) c.1
+  Ended c = lookup (nat_eq c.0) left ≡ None → is_served c.0 run ≡ true → IsEnded (over_on o.states c.0) (marks_on c.0 marks) c.1
 
   apart : (i j : ℕ) (d : ℕ × List OutItem) → i < length now → j < length now → i ≢ j → (get_or now i d).0 ≡ (get_or now j d).0 → is_served (get_or now i d).0 run ≡ false
   apart i j d first second differ same =
@@ -236,16 +233,16 @@ module _ (run : List Step) (o : Outbound) (streams left : List (ℕ × OpenStrea
       ∙ s.apart (from i) (from j) d a.0 b.0 (apart-still place all now t i j first second differ)
       (ap (λ (c : ℕ × List OutItem). c.0) (sym a.1) ∙ same ∙ ap (λ (c : ℕ × List OutItem). c.0) b.1)
 
-  taken-ended : is_served id run ≡ true → IsEnded (lookup (nat_eq id) o.over.entries) (marks_on id marks) items
+  taken-ended : is_served id run ≡ true → IsEnded (over_on o.states id) (marks_on id marks) items
   taken-ended served =
-      let P : ℕ × List OutItem → Type 0 = λ c. lookup (nat_eq c.0) streams ≡ None → is_served c.0 run ≡ true → IsEnded (lookup (nat_eq c.0) o.over.entries) (marks_on c.0 marks) c.1 in
+      let P : ℕ × List OutItem → Type 0 = λ c. lookup (nat_eq c.0) streams ≡ None → is_served c.0 run ≡ true → IsEnded (over_on o.states c.0) (marks_on c.0 marks) c.1 in
       subst P (is (0, [])) (s.ended place (0, []) t.within) none served
 
   returned : (k : ℕ) (got : List OutItem) → IsReturned k got (Returned id items ∷ run) → is_served k run ≡ true
-      → (lookup (nat_eq k) left ≡ None) × IsEnded (lookup (nat_eq k) o.over.entries) (marks_on k marks) got
+      → (lookup (nat_eq k) left ≡ None) × IsEnded (over_on o.states k) (marks_on k marks) got
   returned k got (inl (same, given)) served =
-      subst (λ n. (lookup (nat_eq n) left ≡ None) × IsEnded (lookup (nat_eq n) o.over.entries) (marks_on n marks) got) (sym same)
-      (subst (λ (l : List OutItem). (lookup (nat_eq id) left ≡ None) × IsEnded (lookup (nat_eq id) o.over.entries) (marks_on id marks) l) (sym given)
+      subst (λ n. (lookup (nat_eq n) left ≡ None) × IsEnded (over_on o.states n) (marks_on n marks) got) (sym same)
+      (subst (λ (l : List OutItem). (lookup (nat_eq id) left ≡ None) × IsEnded (over_on o.states id) (marks_on id marks) l) (sym given)
       (f.closed id none, taken-ended (ap (λ n. is_served n run) (sym same) ∙ served)))
   returned k got (inr before) served = let h = s.returned k got before served in (f.closed k h.0, h.1)
 
@@ -254,31 +251,28 @@ module _ (run : List Step) (o : Outbound) (streams left : List (ℕ × OpenStrea
       ap (λ n. is_fresh n run) same ∙ ap (λ (c : ℕ × List OutItem). is_fresh c.0 run) (sym (is (0, []))) ∙ s.opened place (0, []) t.within
   stale k got (inr before) = s.stale k got before
 
-  pub serves-returned : Serves (Returned id items ∷ run) o left others now marks
+  pub serves-returned : Serves (Returned id items ∷ run) o left now marks
   serves-returned = record {
     spells = spells-returned run o marks id items s.spells;
     exact = exact;
     not_over = λ k stream e. let w = f.was k stream e in s.not_over k w.0 w.1;
     known = λ k stream e. let w = f.was k stream e in s.known k w.0 w.1;
-    numbered = λ k stream e. let w = f.was k stream e in s.numbered k w.0 w.1;
     ended = of-call Ended (λ j d lt gone served. s.ended j d lt (f.still (get_or all j d).0 gone) served);
     returned = returned;
     stale = stale;
     apart = apart;
     opened = of-call (λ (c : ℕ × List OutItem). is_fresh c.0 run ≡ false) s.opened;
-    credited = s.credited;
-    served = s.served;
-    due = all-due run (Returned id items ∷ run) o o streams left others others (record {
-      refused = λ k e g h. (e, g, h);
+    due = all-due run (Returned id items ∷ run) o o streams left (record {
+      refused = λ k e g. (e, g);
       reset = λ k e g. (f.closed k e, g);
       asked = λ k fields asked. asked;
+      reason = λ k e. e;
     }) o.due.items s.due;
     unknown = s.unknown;
-    other = λ k was_reset e. let h = s.other k was_reset e in (f.closed k h.0, h.1);
+    other = s.other;
     stays = λ k served there gone. s.stays k served there (f.still k gone);
     early = s.early;
     reasons = λ k there gone known. s.reasons k there (f.still k gone) known;
-    heard = s.heard;
     brought = s.brought;
     uncalled = s.uncalled;
   }
@@ -332,9 +326,9 @@ module _ {L In Out Shut : Type 0} (got : Out → List OutItem) where
         closed = s.closed;
         serves = λ alive. let m = s.serves alive in (
           m.0,
-          serves-returned run old.outbound old.streams.entries new.streams.entries old.others.entries (calls got old.senders.items) (calls got new.senders.items) m.0
+          serves-returned run old.outbound old.streams.entries new.streams.entries (calls got old.senders.items) (calls got new.senders.items) m.0
               place moved id items t moved_is f is none m.1,
-          heeds-kept run old.outbound old.outbound old.streams.entries new.streams.entries old.others.entries (λ k there e. e) (λ k. (refl, refl)) f.closed m.2,
+          heeds-kept run old.outbound old.outbound old.streams.entries new.streams.entries (λ k there e. e) (λ k. (refl, refl, λ e. e)) f.closed m.2,
         );
       })
     where
@@ -394,6 +388,6 @@ module _ {L In Out Shut : Type 0} (got : Out → List OutItem) where
   pub has-ended : (core : OutCore L In Out Shut) (id : ℕ) → lookup (nat_eq id) core.streams.entries ≡ None → HasEnded got id core
   has-ended core id none run reached s alive there served = by ((s.serves alive).1.stays id served there none)
     where
-      by : (is_some (lookup (nat_eq id) core.outbound.over.entries) ≡ true) ⊎ (was_reset id run ≡ true) → (is_over id run ≡ true) ⊎ (was_reset id run ≡ true)
-      by (inl over) = inl (sym (reached.0.is_over id).0 ∙ over)
+      by : (is_some (over_on core.outbound.states id) ≡ true) ⊎ (was_reset id run ≡ true) → (is_over id run ≡ true) ⊎ (was_reset id run ≡ true)
+      by (inl over) = inl (sym (reached.0.stand.over id).0 ∙ over)
       by (inr reset) = inr reset

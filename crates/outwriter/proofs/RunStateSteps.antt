@@ -1,7 +1,6 @@
 -- What is kept follows from a run of one more step.
-use Rattle.std.proofs.Common.{◌≡◌, ℕ, ◌+◌, ◌≤◌, ◌==◌, inr, refl, sym, ap, subst, ◌∙◌, Bool, true, false, true≢false, List, [], ◌∷◌, ◌++◌, Option, Some, None, arith, append-nil, append_assoc, nat_eq, min}
-use Rattle.std.specs.Prelude.{IfSome, All, flat_map, ◌||◌, ◌&&◌, not, if◌then◌else◌}
-use Rattle.std.specs.Map.{lookup}
+use Rattle.std.proofs.Common.{◌≡◌, ℕ, ◌+◌, ◌≤◌, ◌==◌, inr, refl, sym, ap, subst, ◌∙◌, Bool, true, false, true≢false, List, [], ◌∷◌, ◌++◌, Option, Some, None, arith, append-nil, append_assoc, min}
+use Rattle.std.specs.Prelude.{IfSome, All, is_some, flat_map, ◌||◌, ◌&&◌, not, if◌then◌else◌}
 use Rattle.std.proofs.lemmas.Bool.{eqb-true, ne_eqb, eq-eqb}
 use Rattle.std.proofs.lemmas.Grind.{flat_map-append}
 use Rattle.std.proofs.lemmas.List.Elements.{All-append, All-tail, All-weaker}
@@ -11,14 +10,18 @@ use Rattle.flow.specs.WindowHistory.{Step as WindowStep}
 use Rattle.flow.specs.Windows.{Windows}
 use Rattle.h2frame.specs.declared.error_code.ErrorCode.{ErrorCode}
 use Rattle.h2frame.specs.declared.frame.Frame.{Frame}
+use Rattle.lists.specs.declared.field.Field.{Field}
 use Rattle.outwriter.specs.declared.blocks.HeaderBlock.{HeaderBlock}
 use Rattle.outwriter.specs.declared.control.Control.{Control}
-use Rattle.outwriter.specs.declared.control.Control.TheVariants.{Open, Reset}
+use Rattle.outwriter.specs.declared.control.Control.TheVariants.{Open, Refuse, Reset}
 use Rattle.outwriter.specs.declared.due.Due.{Due}
 use Rattle.outwriter.specs.declared.outbound.Outbound.{Outbound}
-use Rattle.outwriter.specs.Credits.{Owed, Grants, is_paid, is_reset, knows, more, number_of, owed_on, pays}
+use Rattle.outwriter.specs.declared.states.StreamState.{StreamState}
+use Rattle.outwriter.specs.declared.states.StreamState.TheVariants.{NoCall, Call}
+use Rattle.outwriter.specs.declared.states.StreamState.TheVariants.{Reset as StreamReset}
+use Rattle.outwriter.specs.States.{States, Grants, SameEnds, SameOver, SameOwed, amount_of, is_paid, is_reset, knows, more, owed_on, pays, state_on}
 use Rattle.outwriter.specs.Histories.{Takes, is_stream}
-use Rattle.outwriter.specs.RunState.{Mirrors, HasWindows, HasDue, HasBlock, HasOwed, HasResets, AreAsked, Reached, GoesOn, Stays, duties_of, resets_of}
+use Rattle.outwriter.specs.RunState.{Mirrors, HasWindows, HasCredit, HasOver, HasDue, HasBlock, HasOwed, HasResets, HasStates, AreAsked, Reached, GoesOn, Stays, duties_of, resets_of}
 use Rattle.outwriter.specs.Runs.{IsAsked, Fragments, unfinished, granted_by, is_opened, may_owe, opens_stream, owed, due, due_by, told, resets_stream, was_reset}
 use Rattle.outwriter.specs.Steps.{Step, Order, Taken, Granted, order_of}
 use Rattle.outwriter.proofs.Others.{or-true}
@@ -65,28 +68,24 @@ more-due order run waiting one e asked h =
     )
 
 -- a control changes the windows and what is due, and nothing else
-pub taken : (order : Order) (run : List Step) (begun gone : Bool) (w windows : Windows) (over : List (ℕ × Bool)) (waiting after : List Due)
-    (block : Option HeaderBlock) (owed : Owed) → Mirrors run begun gone w over waiting block owed → HasWindows (Taken order ∷ run) windows
-    → HasDue (Taken order ∷ run) after → HasResets (Taken order ∷ run) owed → HasOwed (Taken order ∷ run) owed → Mirrors (Taken order ∷ run) begun gone windows over after block owed
-taken order run begun gone w windows over waiting after block owed m follow dues resets owes = record {
+pub taken : (order : Order) (run : List Step) (begun gone : Bool) (w windows : Windows) (waiting after : List Due)
+    (block : Option HeaderBlock) (owed : States) → Mirrors run begun gone w waiting block owed → HasWindows (Taken order ∷ run) windows
+    → HasDue (Taken order ∷ run) after → HasStates (Taken order ∷ run) owed → Mirrors (Taken order ∷ run) begun gone windows after block owed
+taken order run begun gone w windows waiting after block owed m follow dues stand = record {
   begins = m.begins;
   goes = m.goes;
   windows_follow = follow;
-  is_over = m.is_over;
   answers = dues;
   goes_on = same-block run (Taken order ∷ run) block refl m.goes_on;
   not_reset = m.not_reset;
   credits = λ id. omega (arith, m.credits id, sum_by-cons (granted_by id) (Taken order) run);
-  silent = m.silent;
-  resets = resets;
-  owes = owes;
-  no_stream_0 = m.no_stream_0;
+  stand = stand;
 }
 
 -- ---- what is owed
 
 -- a control that opens nothing and resets nothing
-pub quiet-owed : (order : Order) (run : List Step) (kept : Owed) → ((id : ℕ) → resets_stream id order ≡ false) → ((id : ℕ) → opens_stream id order ≡ false)
+pub quiet-owed : (order : Order) (run : List Step) (kept : States) → ((id : ℕ) → resets_stream id order ≡ false) → ((id : ℕ) → opens_stream id order ≡ false)
     → HasOwed run kept → HasOwed (Taken order ∷ run) kept
 quiet-owed order run kept unreset unopened owes id = (
   (owes id).0 ∙ sym (ap (λ b. if b && is_stream id then 0 else owed id run) (unreset id)),
@@ -95,12 +94,22 @@ quiet-owed order run kept unreset unopened owes id = (
   λ e. ap (λ b. b || is_opened id run) (unopened id) ∙ (owes id).2 e,
 )
 
+pub quiet-stand : (order : Order) (run : List Step) (kept : States) → ((id : ℕ) → resets_stream id order ≡ false) → ((id : ℕ) → opens_stream id order ≡ false)
+    → HasStates run kept → HasStates (Taken order ∷ run) kept
+quiet-stand order run kept unreset unopened h = record {
+  over = h.over;
+  silent = h.silent;
+  resets = λ id there. h.resets id there ∙ sym (ap (λ b. b || was_reset id run) (unreset id));
+  owes = quiet-owed order run kept unreset unopened h.owes;
+  no_stream_0 = h.no_stream_0;
+}
+
 -- the connection is no stream
 pub not-0 : (id : ℕ) → is_stream id ≡ true → (id == 0) ≡ false
 not-0 id is = ne_eqb id 0 (λ e. true≢false (sym is ∙ ap is_stream e))
 
 -- an Open, of a stream that is new or not
-pub open-owed : (id : ℕ) (run : List Step) (is_new : Bool) (kept left : Owed) → is_new ≡ (is_stream id && not (knows kept id))
+pub open-owed : (id : ℕ) (run : List Step) (is_new : Bool) (kept left : States) → is_new ≡ (is_stream id && not (knows kept id))
     → ((k : ℕ) → owed_on left k ≡ owed_on kept k) → ((k : ℕ) → pays left k ≡ (if is_new && (k == id) then not (is_reset kept id) else pays kept k))
     → ((k : ℕ) → knows left k ≡ ((is_new && (k == id)) || knows kept k)) → HasResets run kept → HasOwed run kept → HasOwed (Taken (Open id tt) ∷ run) left
 open-owed id run is_new kept left new same paid known resets owes k = (same k ∙ (owes k).0, paying (k == id) refl, opening (k == id) refl)
@@ -139,7 +148,7 @@ open-owed id run is_new kept left new same paid known resets owes k = (same k �
     opening false p e = ap (λ b. b || is_opened k run) p ∙ (owes k).2 (sym (ap (λ b. b || knows kept k) (ap (λ b. is_new && b) p ∙ never is_new)) ∙ sym (known k) ∙ e)
 
 -- a Reset, by which nothing is owed on its stream
-pub reset-owed : (id : ℕ) (code : ErrorCode) (written : Bool) (run : List Step) (kept left : Owed)
+pub reset-owed : (id : ℕ) (code : ErrorCode) (written : Bool) (run : List Step) (kept left : States)
     → ((k : ℕ) → owed_on left k ≡ (if is_stream id && (k == id) then 0 else owed_on kept k)) → ((k : ℕ) → pays left k ≡ (if is_stream id && (k == id) then false else pays kept k))
     → ((k : ℕ) → knows left k ≡ knows kept k) → HasOwed run kept → HasOwed (Taken (Reset id code written) ∷ run) left
 reset-owed id code written run kept left less paid known owes k = (
@@ -168,25 +177,25 @@ reset-owed id code written run kept left less paid known owes k = (
     there zero true true opened was apart = sym (ap (λ b. b || (opened && false)) (apart refl) ∙ never opened)
 
 -- what was granted is owed from then on
-pub grant-owed : (id n : ℕ) (run : List Step) (kept left : Owed) → Grants kept id n left → HasOwed run kept → HasOwed (Granted id n ∷ run) left
+pub grant-owed : (id n : ℕ) (run : List Step) (kept left : States) → Grants kept id n left → HasOwed run kept → HasOwed (Granted id n ∷ run) left
 grant-owed id n run kept left grants owes k = (
   owing (k == id) refl,
   (grants.0 k).1 ∙ (owes k).1,
   λ e. (owes k).2 (sym (grants.0 k).0 ∙ e),
 )
   where
-    unpaid : (o : Option (Option ℕ)) → is_paid o ≡ false → number_of o ≡ 0
-    unpaid None e = refl
-    unpaid (Some None) e = refl
-    unpaid (Some (Some m)) e = absurd (true≢false e)
+    unpaid : (state : StreamState) → is_paid state ≡ false → amount_of state ≡ 0
+    unpaid (NoCall over) e = refl
+    unpaid (StreamReset is_call over) e = refl
+    unpaid (Call m over) e = absurd (true≢false e)
 
-    none : (zero : Bool) (m : ℕ) (o : Option (Option ℕ)) → (if zero then true else is_paid o) ≡ false → (if zero then m else number_of o) ≡ 0
-    none true m o e = absurd (true≢false e)
-    none false m o e = unpaid o e
+    none : (zero : Bool) (m : ℕ) (state : StreamState) → (if zero then true else is_paid state) ≡ false → (if zero then m else amount_of state) ≡ 0
+    none true m state e = absurd (true≢false e)
+    none false m state e = unpaid state e
 
     here : (b : Bool) → pays kept id ≡ b → (if b then more (owed_on kept id) n else 0) ≡ (if b then min (owed id run + n) MAX_WINDOW else owed id run)
     here true p = ap (λ m. more m n) (owes id).0
-    here false p = sym (none (id == 0) kept.connection (lookup (nat_eq id) kept.streams) p) ∙ (owes id).0
+    here false p = sym (none (id == 0) kept.connection (state_on kept id) p) ∙ (owes id).0
 
     owing : (b : Bool) → (k == id) ≡ b → owed_on left k ≡ owed k (Granted id n ∷ run)
     owing true p =
@@ -202,48 +211,88 @@ grant-owed id n run kept left grants owes k = (
 
 -- ---- controls
 
+-- no end is written
+pub over-kept : (run : List Step) (kept left : States) → SameOver kept left → HasOver run kept → HasOver run left
+over-kept run kept left ends has id = (ap is_some (ends id) ∙ (has id).0, λ isnt. (has id).1 (λ e. isnt (ends id ∙ e)))
+
+-- nor more or less owed
+pub owed-kept : (run : List Step) (kept left : States) → SameOwed kept left → HasOwed run kept → HasOwed run left
+owed-kept run kept left same owes k = (same.1 k ∙ (owes k).0, (same.0 k).1 ∙ (owes k).1, λ e. (owes k).2 (sym (same.0 k).0 ∙ e))
+
+pub credit-kept : (run : List Step) (kept left : States) → SameOwed kept left → HasCredit run kept → HasCredit run left
+credit-kept run kept left same has k = omega (arith, has k, same.1 k)
+
+-- nothing changes of how the streams stand
+pub stand-kept : (run : List Step) (kept left : States) → SameOver kept left → SameOwed kept left → HasStates run kept → HasStates run left
+stand-kept run kept left over same h = record {
+  over = over-kept run kept left over h.over;
+  silent = λ k is. (same.0 k).2 ∙ h.silent k (sym (over k) ∙ is);
+  resets = λ k there. (same.0 k).2 ∙ h.resets k there;
+  owes = owed-kept run kept left same h.owes;
+  no_stream_0 = over 0 ∙ h.no_stream_0;
+}
+
+-- a Refuse
+pub refuse-led : (id : ℕ) (fields : List Field) (run : List Step) (begun gone : Bool) (w : Windows) (waiting after : List Due) (block : Option HeaderBlock) (kept left : States)
+    → SameOver kept left → SameOwed kept left → HasDue (Taken (Refuse id fields) ∷ run) after
+    → Mirrors run begun gone w waiting block kept → Mirrors (Taken (Refuse id fields) ∷ run) begun gone w after block left
+refuse-led id fields run begun gone w waiting after block kept left over same dues m = record {
+  begins = m.begins;
+  goes = m.goes;
+  windows_follow = nothing-taken run (Refuse id fields) w (λ h. refl) m.windows_follow;
+  answers = dues;
+  goes_on = same-block run (Taken (Refuse id fields) ∷ run) block refl m.goes_on;
+  not_reset = m.not_reset;
+  credits = λ k. omega (arith, m.credits k, same.1 k, sum_by-cons (granted_by k) (Taken (Refuse id fields)) run);
+  stand = quiet-stand (Refuse id fields) run left (λ k. refl) (λ k. refl) (stand-kept run kept left over same m.stand);
+}
+
 -- an Open, which leaves what is owed, and what was reset
-pub open-led : (id : ℕ) (run : List Step) (begun gone : Bool) (w windows : Windows) (over : List (ℕ × Bool)) (waiting : List Due) (block : Option HeaderBlock)
-    (is_new : Bool) (kept left : Owed) → is_new ≡ (is_stream id && not (knows kept id)) → ((k : ℕ) → owed_on left k ≡ owed_on kept k)
+pub open-led : (id : ℕ) (run : List Step) (begun gone : Bool) (w windows : Windows) (waiting : List Due) (block : Option HeaderBlock)
+    (is_new : Bool) (kept left : States) → is_new ≡ (is_stream id && not (knows kept id)) → ((k : ℕ) → owed_on left k ≡ owed_on kept k)
     → ((k : ℕ) → pays left k ≡ (if is_new && (k == id) then not (is_reset kept id) else pays kept k))
     → ((k : ℕ) → knows left k ≡ ((is_new && (k == id)) || knows kept k)) → ((k : ℕ) → is_reset left k ≡ is_reset kept k)
-    → HasWindows (Taken (Open id tt) ∷ run) windows → Mirrors run begun gone w over waiting block kept
-    → Mirrors (Taken (Open id tt) ∷ run) begun gone windows over waiting block left
-open-led id run begun gone w windows over waiting block is_new kept left new same paid known marks follow m = record {
+    → SameOver kept left → HasWindows (Taken (Open id tt) ∷ run) windows → Mirrors run begun gone w waiting block kept
+    → Mirrors (Taken (Open id tt) ∷ run) begun gone windows waiting block left
+open-led id run begun gone w windows waiting block is_new kept left new same paid known marks ends follow m = record {
   begins = m.begins;
   goes = m.goes;
   windows_follow = follow;
-  is_over = m.is_over;
   answers = same-due (Open id tt) run waiting refl m.answers;
   goes_on = same-block run (Taken (Open id tt) ∷ run) block refl m.goes_on;
   not_reset = m.not_reset;
   credits = λ k. omega (arith, m.credits k, same k, sum_by-cons (granted_by k) (Taken (Open id tt)) run);
-  silent = λ k is. marks k ∙ m.silent k is;
-  resets = λ k there. marks k ∙ m.resets k there;
-  owes = open-owed id run is_new kept left new same paid known m.resets m.owes;
-  no_stream_0 = m.no_stream_0;
+  stand = record {
+    over = over-kept run kept left ends m.stand.over;
+    silent = λ k is. marks k ∙ m.stand.silent k (sym (ends k) ∙ is);
+    resets = λ k there. marks k ∙ m.stand.resets k there;
+    owes = open-owed id run is_new kept left new same paid known m.stand.resets m.stand.owes;
+    no_stream_0 = ends 0 ∙ m.stand.no_stream_0;
+  };
 }
 
 -- a Reset, after which nothing is owed on its stream
-pub reset-led : (id : ℕ) (code : ErrorCode) (written : Bool) (run : List Step) (begun gone : Bool) (w windows : Windows) (over : List (ℕ × Bool)) (waiting after : List Due)
-    (block : Option HeaderBlock) (kept left : Owed) → ((k : ℕ) → owed_on left k ≡ (if is_stream id && (k == id) then 0 else owed_on kept k))
+pub reset-led : (id : ℕ) (code : ErrorCode) (written : Bool) (run : List Step) (begun gone : Bool) (w windows : Windows) (waiting after : List Due)
+    (block : Option HeaderBlock) (kept left : States) → ((k : ℕ) → owed_on left k ≡ (if is_stream id && (k == id) then 0 else owed_on kept k))
     → ((k : ℕ) → pays left k ≡ (if is_stream id && (k == id) then false else pays kept k)) → ((k : ℕ) → knows left k ≡ knows kept k)
-    → ((k : ℕ) → is_reset left k ≡ ((is_stream id && (k == id)) || is_reset kept k))
+    → ((k : ℕ) → is_reset left k ≡ ((is_stream id && (k == id)) || is_reset kept k)) → SameOver kept left
     → HasWindows (Taken (Reset id code written) ∷ run) windows → HasDue (Taken (Reset id code written) ∷ run) after
-    → Mirrors run begun gone w over waiting block kept → Mirrors (Taken (Reset id code written) ∷ run) begun gone windows over after block left
-reset-led id code written run begun gone w windows over waiting after block kept left less paid known marks follow dues m = record {
+    → Mirrors run begun gone w waiting block kept → Mirrors (Taken (Reset id code written) ∷ run) begun gone windows after block left
+reset-led id code written run begun gone w windows waiting after block kept left less paid known marks ends follow dues m = record {
   begins = m.begins;
   goes = m.goes;
   windows_follow = follow;
-  is_over = m.is_over;
   answers = dues;
   goes_on = same-block run (Taken (Reset id code written) ∷ run) block refl m.goes_on;
   not_reset = m.not_reset;
   credits = λ k. omega (arith, m.credits k, at-most (is_stream id && (k == id)) (owed_on kept k) (owed_on left k) (less k), sum_by-cons (granted_by k) (Taken (Reset id code written)) run);
-  silent = λ k is. marks k ∙ or-true (is_stream id && (k == id)) (is_reset kept k) (m.silent k is);
-  resets = λ k there. resets k there (k == id) refl;
-  owes = reset-owed id code written run kept left less paid known m.owes;
-  no_stream_0 = m.no_stream_0;
+  stand = record {
+    over = over-kept run kept left ends m.stand.over;
+    silent = λ k is. marks k ∙ or-true (is_stream id && (k == id)) (is_reset kept k) (m.stand.silent k (sym (ends k) ∙ is));
+    resets = λ k there. resets k there (k == id) refl;
+    owes = reset-owed id code written run kept left less paid known m.stand.owes;
+    no_stream_0 = ends 0 ∙ m.stand.no_stream_0;
+  };
 }
   where
     at-most : (b : Bool) (n left : ℕ) → left ≡ (if b then 0 else n) → left ≤ n
@@ -257,16 +306,15 @@ reset-led id code written run begun gone w windows over waiting after block kept
     resets : (k : ℕ) → is_stream k ≡ true → (b : Bool) → (k == id) ≡ b → is_reset left k ≡ was_reset k (Taken (Reset id code written) ∷ run)
     resets k there true p = marks k ∙ ap (λ b. (b && (k == id)) || is_reset kept k) (ap is_stream (sym (eqb-true k id p)) ∙ there) ∙ ap (λ b. b || is_reset kept k) p
         ∙ sym (ap (λ b. b || was_reset k run) p)
-    resets k there false p = marks k ∙ ap (λ b. (is_stream id && b) || is_reset kept k) p ∙ none (is_stream id) k ∙ m.resets k there ∙ sym (ap (λ b. b || was_reset k run) p)
+    resets k there false p = marks k ∙ ap (λ b. (is_stream id && b) || is_reset kept k) p ∙ none (is_stream id) k ∙ m.stand.resets k there ∙ sym (ap (λ b. b || was_reset k run) p)
 
 -- credit is granted
-pub grant-led : (id n : ℕ) (run : List Step) (begun gone : Bool) (w : Windows) (over : List (ℕ × Bool)) (waiting : List Due) (block : Option HeaderBlock)
-    (kept left : Owed) → Grants kept id n left → Mirrors run begun gone w over waiting block kept → Mirrors (Granted id n ∷ run) begun gone w over waiting block left
-grant-led id n run begun gone w over waiting block kept left grants m = record {
+pub grant-led : (id n : ℕ) (run : List Step) (begun gone : Bool) (w : Windows) (waiting : List Due) (block : Option HeaderBlock)
+    (kept left : States) → Grants kept id n left → SameEnds kept left → Mirrors run begun gone w waiting block kept → Mirrors (Granted id n ∷ run) begun gone w waiting block left
+grant-led id n run begun gone w waiting block kept left grants ends m = record {
   begins = m.begins;
   goes = m.goes;
   windows_follow = m.windows_follow;
-  is_over = m.is_over;
   answers = m.answers;
   goes_on = same-block run (Granted id n ∷ run) block refl m.goes_on;
   not_reset = m.not_reset;
@@ -276,10 +324,13 @@ grant-led id n run begun gone w over waiting block kept left grants m = record {
     at-most (k == id) (pays kept id) (owed_on kept id) (owed_on kept k) (owed_on left k) (λ e. ap (λ j. owed_on kept j) (sym (eqb-true k id e))) (grants.1 k),
     sum_by-cons (granted_by k) (Granted id n) run,
   );
-  silent = λ k is. (grants.0 k).2 ∙ m.silent k is;
-  resets = λ k there. (grants.0 k).2 ∙ m.resets k there;
-  owes = grant-owed id n run kept left grants m.owes;
-  no_stream_0 = m.no_stream_0;
+  stand = record {
+    over = over-kept run kept left (λ k. (ends k).0) m.stand.over;
+    silent = λ k is. (grants.0 k).2 ∙ m.stand.silent k (sym (ends k).0 ∙ is);
+    resets = λ k there. (grants.0 k).2 ∙ m.stand.resets k there;
+    owes = grant-owed id n run kept left grants m.stand.owes;
+    no_stream_0 = (ends 0).0 ∙ m.stand.no_stream_0;
+  };
 }
   where
     at-most : (b paid : Bool) (here there left : ℕ) → (b ≡ true → here ≡ there) → left ≡ (if b then (if paid then more here n else 0) else there)
@@ -295,20 +346,19 @@ pub quiet-led : {S : Type 0} (control given : Control S) (old mid : Outbound) �
 quiet-led {S} control given old mid is none unreset unopened same stays run reached =
     let m = stays run reached.0 in
     subst (λ (found : Control S). Reached (Taken (order_of found) ∷ run) mid) (sym is) (
-      taken (order_of given) run _ _ _ _ _ _ _ _ _ m (nothing-taken run (order_of given) mid.windows (same run) m.windows_follow) (same-due (order_of given) run mid.due.items none m.answers)
-          (λ id there. m.resets id there ∙ sym (ap (λ b. b || was_reset id run) (unreset id))) (quiet-owed (order_of given) run mid.credit unreset unopened m.owes),
+      taken (order_of given) run _ _ _ _ _ _ _ _ m (nothing-taken run (order_of given) mid.windows (same run) m.windows_follow) (same-due (order_of given) run mid.due.items none m.answers)
+          (quiet-stand (order_of given) run mid.states unreset unopened m.stand),
       reached.1,
     )
 
 -- what was due and obliges to nothing isn't due any more
-pub skipped : (run : List Step) (begun gone : Bool) (w : Windows) (over : List (ℕ × Bool)) (one : Due) (waiting : List Due) (block : Option HeaderBlock)
-    (owed : Owed) → duties_of one ≡ [] → Mirrors run begun gone w over (one ∷ waiting) block owed → Mirrors run begun gone w over waiting block owed
-skipped run begun gone w over one waiting block owed none m =
+pub skipped : (run : List Step) (begun gone : Bool) (w : Windows) (one : Due) (waiting : List Due) (block : Option HeaderBlock)
+    (owed : States) → duties_of one ≡ [] → Mirrors run begun gone w (one ∷ waiting) block owed → Mirrors run begun gone w waiting block owed
+skipped run begun gone w one waiting block owed none m =
     let P : ℕ × ErrorCode → Type 0 = λ reset. IsAsked reset.0 reset.1 run in record {
       begins = m.begins;
       goes = m.goes;
       windows_follow = m.windows_follow;
-      is_over = m.is_over;
       answers = (
         m.answers.0 ∙ ap (λ (duties : List Frame). told run ++ (duties ++ flat_map duties_of waiting)) none,
         all-behind P (resets_of one) (flat_map resets_of waiting) m.answers.1,
@@ -316,8 +366,5 @@ skipped run begun gone w over one waiting block owed none m =
       goes_on = m.goes_on;
       not_reset = m.not_reset;
       credits = m.credits;
-      silent = m.silent;
-      resets = m.resets;
-      owes = m.owes;
-      no_stream_0 = m.no_stream_0;
+      stand = m.stand;
     }

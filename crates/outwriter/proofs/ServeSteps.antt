@@ -1,6 +1,6 @@
 -- What is kept of the calls follows from the run still: after a frame, after an item, and after what tells nothing.
 use Rattle.std.proofs.Common.{◌≡◌, ℕ, suc, ◌<◌, ◌==◌, ◌⊎◌, inl, refl, sym, ap, subst, ◌∙◌, Bool, true, false, List, [], ◌∷◌, ◌++◌, Option, Some, None, length, arith, nat_eq}
-use Rattle.std.specs.Prelude.{All, map, filter, get_or, ◌||◌, is_some, if◌then◌else◌}
+use Rattle.std.specs.Prelude.{◌&&◌, All, map, filter, get_or, is_some, if◌then◌else◌}
 use Rattle.std.specs.Map.{lookup}
 use Rattle.std.proofs.lemmas.Bool.{eq-eqb}
 use Rattle.std.proofs.lemmas.List.{map-append}
@@ -12,7 +12,7 @@ use Rattle.outwriter.specs.declared.outbound.Outbound.{Outbound}
 use Rattle.outwriter.specs.declared.stream.OpenStream.{OpenStream}
 use Rattle.outwriter.specs.Calls.{is_fresh, is_served}
 use Rattle.outwriter.specs.Runs.{was_reset}
-use Rattle.outwriter.specs.Credits.{knows}
+use Rattle.outwriter.specs.States.{is_heard, knows, over_on}
 use Rattle.outwriter.specs.Histories.{is_stream}
 use Rattle.outwriter.specs.Parts.{Mark, marks_on, on_stream, spelled}
 use Rattle.outwriter.specs.StreamLooks.{Shown, shown, shows}
@@ -73,14 +73,15 @@ shown-some (Some stream) s e = (stream, refl, ap (λ o. (from_some s o).0) e, ap
 -- ---- a change
 
 -- Of what is kept of the calls these parts change: of all streams but some, nothing; and of those, what follows from the run.
-pub record Change (run next : List Step) (o after : Outbound) (streams left : List (ℕ × OpenStream)) (others : List (ℕ × Bool)) (calls now : List (ℕ × List OutItem)) (marks told : List (ℕ × Mark)) (is_changed : ℕ → Bool) : Type 0 where
+pub record Change (run next : List Step) (o after : Outbound) (streams left : List (ℕ × OpenStream)) (calls now : List (ℕ × List OutItem)) (marks told : List (ℕ × Mark)) (is_changed : ℕ → Bool) : Type 0 where
   pub same_fresh : (id : ℕ) → is_fresh id next ≡ is_fresh id run
   pub same_served : (id : ℕ) → is_served id next ≡ is_served id run
   pub later : Later run next
   pub spells : SpellsOf next after told
   pub fewer_due : (front : List Due) × (o.due.items ≡ front ++ after.due.items)
-  pub same_knows : (id : ℕ) → knows after.credit id ≡ knows o.credit id
-  pub same_over : (id : ℕ) → is_changed id ≡ false → lookup (nat_eq id) after.over.entries ≡ lookup (nat_eq id) o.over.entries
+  pub same_knows : (id : ℕ) → knows after.states id ≡ knows o.states id
+  pub same_heard : (id : ℕ) → is_heard after.states id ≡ is_heard o.states id
+  pub same_over : (id : ℕ) → is_changed id ≡ false → over_on after.states id ≡ over_on o.states id
   pub same_shown : (id : ℕ) → is_changed id ≡ false → shows left id ≡ shows streams id
   pub same_marks : (id : ℕ) → is_changed id ≡ false → marks_on id told ≡ marks_on id marks
   pub same_calls : (k : ℕ) (d : ℕ × List OutItem) → k < length calls → is_changed (get_or calls k d).0 ≡ false → get_or now k d ≡ get_or calls k d
@@ -88,19 +89,16 @@ pub record Change (run next : List Step) (o after : Outbound) (streams left : Li
   pub numbers : (k : ℕ) (d : ℕ × List OutItem) → k < length calls → (get_or now k d).0 ≡ (get_or calls k d).0
   pub closed : (id : ℕ) → lookup (nat_eq id) streams ≡ None → lookup (nat_eq id) left ≡ None
   pub exact : (id : ℕ) (stream : OpenStream) → is_changed id ≡ true → lookup (nat_eq id) left ≡ Some stream → IsExact id stream now (marks_on id told)
-  pub not_over : (id : ℕ) (stream : OpenStream) → is_changed id ≡ true → lookup (nat_eq id) left ≡ Some stream → lookup (nat_eq id) after.over.entries ≡ None
+  pub not_over : (id : ℕ) (stream : OpenStream) → is_changed id ≡ true → lookup (nat_eq id) left ≡ Some stream → over_on after.states id ≡ None
   pub ended : (k : ℕ) (d : ℕ × List OutItem) → k < length calls → is_changed (get_or calls k d).0 ≡ true → lookup (nat_eq (get_or calls k d).0) left ≡ None
       → is_served (get_or calls k d).0 run ≡ true
-      → IsEnded (lookup (nat_eq (get_or calls k d).0) after.over.entries) (marks_on (get_or calls k d).0 told) (get_or now k d).1
+      → IsEnded (over_on after.states (get_or calls k d).0) (marks_on (get_or calls k d).0 told) (get_or now k d).1
   pub returned : (id : ℕ) (items : List OutItem) → is_changed id ≡ true → lookup (nat_eq id) streams ≡ None → is_served id run ≡ true
-      → IsEnded (lookup (nat_eq id) o.over.entries) (marks_on id marks) items → IsEnded (lookup (nat_eq id) after.over.entries) (marks_on id told) items
-  pub unknown : (id : ℕ) → is_changed id ≡ true → knows o.credit id ≡ false → lookup (nat_eq id) others ≡ None
-      → (marks_on id told ≡ []) × (lookup (nat_eq id) after.over.entries ≡ None)
-  pub other : (id : ℕ) (was_reset : Bool) → is_changed id ≡ true → lookup (nat_eq id) others ≡ Some was_reset → is_fresh id run ≡ true
-      → IsEnded (lookup (nat_eq id) after.over.entries) (marks_on id told) []
-  pub stays : (id : ℕ) → is_changed id ≡ true → lookup (nat_eq id) left ≡ None → is_some (lookup (nat_eq id) after.over.entries) ≡ true
-  pub uncalled : (id : ℕ) (was_reset : Bool) → is_changed id ≡ true → knows o.credit id ≡ false → lookup (nat_eq id) others ≡ Some was_reset
-      → IsUncalled id next (lookup (nat_eq id) after.over.entries) (marks_on id told)
+      → IsEnded (over_on o.states id) (marks_on id marks) items → IsEnded (over_on after.states id) (marks_on id told) items
+  pub unknown : (id : ℕ) → is_changed id ≡ true → is_heard o.states id ≡ false → marks_on id told ≡ []
+  pub other : (id : ℕ) → is_changed id ≡ true → is_fresh id run ≡ true → IsEnded (over_on after.states id) (marks_on id told) []
+  pub stays : (id : ℕ) → is_changed id ≡ true → lookup (nat_eq id) left ≡ None → is_some (over_on after.states id) ≡ true
+  pub uncalled : (id : ℕ) → is_changed id ≡ true → knows o.states id ≡ false → IsUncalled id next (over_on after.states id) (marks_on id told)
 
 exact-same : (id : ℕ) (a b : OpenStream) (calls now : List (ℕ × List OutItem)) (told after : List Mark) → a.place ≡ b.place → a.in_hand ≡ b.in_hand
     → length now ≡ length calls → after ≡ told → ((d : ℕ × List OutItem) → get_or now a.place d ≡ get_or calls a.place d)
@@ -129,32 +127,31 @@ All-later P (x ∷ xs) back all = All-later P xs back (All-rest P x (xs ++ back)
 All-weaker : {A : Type 0} (P Q : A → Type 0) (list : List A) → ((x : A) → P x → Q x) → All P list → All Q list
 All-weaker P Q list f all k d lt = f (get_or list k d) (all k d lt)
 
-due-same : (run next : List Step) (o after : Outbound) (streams left : List (ℕ × OpenStream)) (others : List (ℕ × Bool))
+due-same : (run next : List Step) (o after : Outbound) (streams left : List (ℕ × OpenStream))
     → Later run next → ((id : ℕ) → is_fresh id next ≡ is_fresh id run) → ((id : ℕ) → is_served id next ≡ is_served id run)
-    → ((id : ℕ) → knows after.credit id ≡ knows o.credit id) → ((id : ℕ) → lookup (nat_eq id) streams ≡ None → lookup (nat_eq id) left ≡ None)
-    → (one : Due) → MayBeDue run o streams others one → MayBeDue next after left others one
-due-same run next o after streams left others later fresh served known closed (due_kind.Refuse id fields) m = (fresh id ∙ m.0, served id ∙ m.1, m.2, later.refused id fields m.3)
-due-same run next o after streams left others later fresh served known closed (due_kind.Reset id code) m =
-    (closed id m.0, ap (λ b. is_some (lookup (nat_eq id) others) || b) (known id) ∙ m.1)
-due-same run next o after streams left others later fresh served known closed due_kind.SettingsAck m = tt
-due-same run next o after streams left others later fresh served known closed (due_kind.PingAck bytes) m = tt
-due-same run next o after streams left others later fresh served known closed (due_kind.Goaway last code) m = tt
+    → ((id : ℕ) → is_heard after.states id ≡ is_heard o.states id) → ((id : ℕ) → lookup (nat_eq id) streams ≡ None → lookup (nat_eq id) left ≡ None)
+    → (one : Due) → MayBeDue run o streams one → MayBeDue next after left one
+due-same run next o after streams left later fresh served heard closed (due_kind.Refuse id fields) m =
+    (fresh id ∙ m.0, served id ∙ m.1, closed id m.2, heard id ∙ m.3, later.refused id fields m.4, later.reason id m.5)
+due-same run next o after streams left later fresh served heard closed (due_kind.Reset id code) m = (closed id m.0, heard id ∙ m.1)
+due-same run next o after streams left later fresh served heard closed due_kind.SettingsAck m = tt
+due-same run next o after streams left later fresh served heard closed (due_kind.PingAck bytes) m = tt
+due-same run next o after streams left later fresh served heard closed (due_kind.Goaway last code) m = tt
 
 was-open : (streams left : List (ℕ × OpenStream)) (id : ℕ) (stream : OpenStream) → (lookup (nat_eq id) streams ≡ None → lookup (nat_eq id) left ≡ None)
     → lookup (nat_eq id) left ≡ Some stream → (o : Option OpenStream) → lookup (nat_eq id) streams ≡ o → (st : OpenStream) × (lookup (nat_eq id) streams ≡ Some st)
 was-open streams left id stream closed e None f = absurd (none-some stream (sym (closed f) ∙ e))
 was-open streams left id stream closed e (Some st) f = (st, f)
 
-pub serves-changed : (run next : List Step) (o after : Outbound) (streams left : List (ℕ × OpenStream)) (others : List (ℕ × Bool)) (calls now : List (ℕ × List OutItem))
+pub serves-changed : (run next : List Step) (o after : Outbound) (streams left : List (ℕ × OpenStream)) (calls now : List (ℕ × List OutItem))
     (marks told : List (ℕ × Mark)) (is_changed : ℕ → Bool)
-    → Change run next o after streams left others calls now marks told is_changed → Serves run o streams others calls marks
-    → Serves next after left others now told
-serves-changed run next o after streams left others calls now marks told is_changed c s = record {
+    → Change run next o after streams left calls now marks told is_changed → Serves run o streams calls marks
+    → Serves next after left now told
+serves-changed run next o after streams left calls now marks told is_changed c s = record {
   spells = c.spells;
   exact = λ id stream e. exact-by id stream e (is_changed id) refl;
   not_over = λ id stream e. not_over-by id stream e (is_changed id) refl;
   known = λ id stream e. let was = was-open streams left id stream (c.closed id) e (lookup (nat_eq id) streams) refl in c.same_knows id ∙ s.known id was.0 was.1;
-  numbered = λ id stream e. let was = was-open streams left id stream (c.closed id) e (lookup (nat_eq id) streams) refl in s.numbered id was.0 was.1;
   ended = λ k d lt. subst (Ended k d) (sym (c.numbers k d (within k lt))) (ended-by k d (within k lt) (is_changed (get_or calls k d).0) refl);
   returned = λ id items is served.
       let was = s.returned id items (c.later.returned id items is) (sym (c.same_served id) ∙ served) in
@@ -163,26 +160,23 @@ serves-changed run next o after streams left others calls now marks told is_chan
   apart = λ i j d li lj ne e. ap (λ n. is_served n next) (c.numbers i d (within i li)) ∙ c.same_served (get_or calls i d).0
       ∙ s.apart i j d (within i li) (within j lj) ne (sym (c.numbers i d (within i li)) ∙ e ∙ c.numbers j d (within j lj));
   opened = λ k d lt. ap (λ n. is_fresh n next) (c.numbers k d (within k lt)) ∙ c.same_fresh (get_or calls k d).0 ∙ s.opened k d (within k lt);
-  credited = λ id e. c.same_fresh id ∙ s.credited id (sym (c.same_knows id) ∙ e);
-  served = λ id e f. c.same_knows id ∙ s.served id (sym (c.same_served id) ∙ e) f;
-  due = All-weaker (MayBeDue run o streams others) (MayBeDue next after left others) after.due.items
-      (due-same run next o after streams left others c.later c.same_fresh c.same_served c.same_knows c.closed)
-      (All-later (MayBeDue run o streams others) c.fewer_due.0 after.due.items (subst (All (MayBeDue run o streams others)) c.fewer_due.1 s.due));
-  unknown = λ id e none. unknown-by id (sym (c.same_knows id) ∙ e) none (is_changed id) refl;
-  other = λ id was e. (c.closed id (s.other id was e).0, λ fresh. other-by id was e (sym (c.same_fresh id) ∙ fresh) (is_changed id) refl);
+  due = All-weaker (MayBeDue run o streams) (MayBeDue next after left) after.due.items
+      (due-same run next o after streams left c.later c.same_fresh c.same_served c.same_heard c.closed)
+      (All-later (MayBeDue run o streams) c.fewer_due.0 after.due.items (subst (All (MayBeDue run o streams)) c.fewer_due.1 s.due));
+  unknown = λ id e. unknown-by id (sym (c.same_heard id) ∙ e) (is_changed id) refl;
+  other = λ id fresh. other-by id (sym (c.same_fresh id) ∙ fresh) (is_changed id) refl;
   stays = λ id served there none. stays-by id (sym (c.same_served id) ∙ served) there none (is_changed id) refl;
-  early = λ id before e fresh. c.later.reset id (s.early id before e (sym (c.same_fresh id) ∙ fresh));
-  reasons = λ id there none known. reasons-by id there none (ap (λ b. is_some (lookup (nat_eq id) others) || b) (sym (c.same_knows id)) ∙ known) (is_changed id) refl;
-  heard = λ id e there. c.same_knows id ∙ s.heard id (sym (c.later.opened id) ∙ e) there;
-  brought = λ id e. c.later.opened id ∙ s.brought id (sym (c.same_knows id) ∙ e);
-  uncalled = λ id was e there. uncalled-by id was (sym (c.same_knows id) ∙ e) there (is_changed id) refl;
+  early = λ id e fresh. c.later.reset id (s.early id (sym (c.same_heard id) ∙ e) (sym (c.same_fresh id) ∙ fresh));
+  reasons = λ id there none known. reasons-by id there none (sym (c.same_heard id) ∙ known) (is_changed id) refl;
+  brought = λ id. c.same_knows id ∙ s.brought id ∙ ap (λ b. is_stream id && b) (sym (c.later.opened id));
+  uncalled = λ id e. uncalled-by id (sym (c.same_knows id) ∙ e) (is_changed id) refl;
 }
   where
     within : (k : ℕ) → k < length now → k < length calls
     within k lt = omega (arith, lt, c.same_length)
 
     Ended : ℕ → ℕ × List OutItem → ℕ → Type 0
-    Ended k d n = lookup (nat_eq n) left ≡ None → is_served n next ≡ true → IsEnded (lookup (nat_eq n) after.over.entries) (marks_on n told) (get_or now k d).1
+    Ended k d n = lookup (nat_eq n) left ≡ None → is_served n next ≡ true → IsEnded (over_on after.states n) (marks_on n told) (get_or now k d).1
 
     exact-by : (id : ℕ) (stream : OpenStream) → lookup (nat_eq id) left ≡ Some stream → (b : Bool) → is_changed id ≡ b → IsExact id stream now (marks_on id told)
     exact-by id stream e true p = c.exact id stream p e
@@ -192,7 +186,7 @@ serves-changed run next o after streams left others calls now marks told is_chan
         exact-same id found.0 stream calls now (marks_on id marks) (marks_on id told) found.2 found.3 c.same_length (c.same_marks id p)
         (λ d. c.same_calls found.0.place d old.0 (ap is_changed (old.1 d).0 ∙ p)) old
 
-    not_over-by : (id : ℕ) (stream : OpenStream) → lookup (nat_eq id) left ≡ Some stream → (b : Bool) → is_changed id ≡ b → lookup (nat_eq id) after.over.entries ≡ None
+    not_over-by : (id : ℕ) (stream : OpenStream) → lookup (nat_eq id) left ≡ Some stream → (b : Bool) → is_changed id ≡ b → over_on after.states id ≡ None
     not_over-by id stream e true p = c.not_over id stream p e
     not_over-by id stream e false p =
         let found = shown-some (lookup (nat_eq id) streams) (stream.place, stream.in_hand) (sym (c.same_shown id p) ∙ ap shown e) in
@@ -202,47 +196,44 @@ serves-changed run next o after streams left others calls now marks told is_chan
     ended-by k d lt true p = λ none served. c.ended k d lt p none (sym (c.same_served (get_or calls k d).0) ∙ served)
     ended-by k d lt false p = λ none served.
         let n : ℕ = (get_or calls k d).0 in
-        ended-same (lookup (nat_eq n) o.over.entries) (lookup (nat_eq n) after.over.entries) (marks_on n marks) (marks_on n told) (get_or calls k d).1 (get_or now k d).1
+        ended-same (over_on o.states n) (over_on after.states n) (marks_on n marks) (marks_on n told) (get_or calls k d).1 (get_or now k d).1
         (c.same_over n p) (c.same_marks n p) (ap (λ (x : ℕ × List OutItem). x.1) (c.same_calls k d lt p))
         (s.ended k d lt (none-shown (lookup (nat_eq n) streams) (sym (c.same_shown n p) ∙ ap shown none)) (sym (c.same_served n) ∙ served))
 
     returned-by : (id : ℕ) (items : List OutItem) → lookup (nat_eq id) streams ≡ None → is_served id run ≡ true
-        → IsEnded (lookup (nat_eq id) o.over.entries) (marks_on id marks) items → (b : Bool) → is_changed id ≡ b
-        → IsEnded (lookup (nat_eq id) after.over.entries) (marks_on id told) items
+        → IsEnded (over_on o.states id) (marks_on id marks) items → (b : Bool) → is_changed id ≡ b
+        → IsEnded (over_on after.states id) (marks_on id told) items
     returned-by id items none served ended true p = c.returned id items p none served ended
     returned-by id items none served ended false p =
-        ended-same (lookup (nat_eq id) o.over.entries) (lookup (nat_eq id) after.over.entries) (marks_on id marks) (marks_on id told) items items
+        ended-same (over_on o.states id) (over_on after.states id) (marks_on id marks) (marks_on id told) items items
         (c.same_over id p) (c.same_marks id p) refl ended
 
-    unknown-by : (id : ℕ) → knows o.credit id ≡ false → lookup (nat_eq id) others ≡ None → (b : Bool) → is_changed id ≡ b
-        → (marks_on id told ≡ []) × (lookup (nat_eq id) after.over.entries ≡ None)
-    unknown-by id e none true p = c.unknown id p e none
-    unknown-by id e none false p = let u = s.unknown id e none in (c.same_marks id p ∙ u.0, c.same_over id p ∙ u.1)
+    unknown-by : (id : ℕ) → is_heard o.states id ≡ false → (b : Bool) → is_changed id ≡ b → marks_on id told ≡ []
+    unknown-by id e true p = c.unknown id p e
+    unknown-by id e false p = c.same_marks id p ∙ s.unknown id e
 
-    other-by : (id : ℕ) (was : Bool) → lookup (nat_eq id) others ≡ Some was → is_fresh id run ≡ true → (b : Bool) → is_changed id ≡ b
-        → IsEnded (lookup (nat_eq id) after.over.entries) (marks_on id told) []
-    other-by id was e fresh true p = c.other id was p e fresh
-    other-by id was e fresh false p =
-        ended-same (lookup (nat_eq id) o.over.entries) (lookup (nat_eq id) after.over.entries) (marks_on id marks) (marks_on id told) [] [] (c.same_over id p) (c.same_marks id p) refl
-        ((s.other id was e).1 fresh)
+    other-by : (id : ℕ) → is_fresh id run ≡ true → (b : Bool) → is_changed id ≡ b → IsEnded (over_on after.states id) (marks_on id told) []
+    other-by id fresh true p = c.other id p fresh
+    other-by id fresh false p =
+        ended-same (over_on o.states id) (over_on after.states id) (marks_on id marks) (marks_on id told) [] [] (c.same_over id p) (c.same_marks id p) refl
+        (s.other id fresh)
 
-    uncalled-by : (id : ℕ) (was : Bool) → knows o.credit id ≡ false → lookup (nat_eq id) others ≡ Some was → (b : Bool) → is_changed id ≡ b
-        → IsUncalled id next (lookup (nat_eq id) after.over.entries) (marks_on id told)
-    uncalled-by id was e there true p = c.uncalled id was p e there
-    uncalled-by id was e there false p =
-        uncalled-same run next id (lookup (nat_eq id) o.over.entries) (lookup (nat_eq id) after.over.entries) (marks_on id marks) (marks_on id told) (c.later.refused id)
-        (c.same_over id p) (c.same_marks id p) (s.uncalled id was e there)
+    uncalled-by : (id : ℕ) → knows o.states id ≡ false → (b : Bool) → is_changed id ≡ b → IsUncalled id next (over_on after.states id) (marks_on id told)
+    uncalled-by id e true p = c.uncalled id p e
+    uncalled-by id e false p =
+        uncalled-same run next id (over_on o.states id) (over_on after.states id) (marks_on id marks) (marks_on id told) (c.later.refused id)
+        (c.same_over id p) (c.same_marks id p) (s.uncalled id e)
 
     stays-by : (id : ℕ) → is_served id run ≡ true → is_stream id ≡ true → lookup (nat_eq id) left ≡ None → (b : Bool) → is_changed id ≡ b
-        → (is_some (lookup (nat_eq id) after.over.entries) ≡ true) ⊎ (was_reset id next ≡ true)
+        → (is_some (over_on after.states id) ≡ true) ⊎ (was_reset id next ≡ true)
     stays-by id served there none true p = inl (c.stays id p none)
     stays-by id served there none false p =
-        ended-later (lookup (nat_eq id) o.over.entries) (lookup (nat_eq id) after.over.entries) (was_reset id run) (was_reset id next) (c.same_over id p) (c.later.reset id)
+        ended-later (over_on o.states id) (over_on after.states id) (was_reset id run) (was_reset id next) (c.same_over id p) (c.later.reset id)
         (s.stays id served there (none-shown (lookup (nat_eq id) streams) (sym (c.same_shown id p) ∙ ap shown none)))
 
-    reasons-by : (id : ℕ) → is_stream id ≡ true → lookup (nat_eq id) left ≡ None → (is_some (lookup (nat_eq id) others) || knows o.credit id) ≡ true → (b : Bool) → is_changed id ≡ b
-        → (is_some (lookup (nat_eq id) after.over.entries) ≡ true) ⊎ (has_reason id next ≡ true)
+    reasons-by : (id : ℕ) → is_stream id ≡ true → lookup (nat_eq id) left ≡ None → is_heard o.states id ≡ true → (b : Bool) → is_changed id ≡ b
+        → (is_some (over_on after.states id) ≡ true) ⊎ (has_reason id next ≡ true)
     reasons-by id there none known true p = inl (c.stays id p none)
     reasons-by id there none known false p =
-        ended-later (lookup (nat_eq id) o.over.entries) (lookup (nat_eq id) after.over.entries) (has_reason id run) (has_reason id next) (c.same_over id p) (c.later.reason id)
+        ended-later (over_on o.states id) (over_on after.states id) (has_reason id run) (has_reason id next) (c.same_over id p) (c.later.reason id)
         (s.reasons id there (none-shown (lookup (nat_eq id) streams) (sym (c.same_shown id p) ∙ ap shown none)) known)

@@ -24,23 +24,21 @@ module _ {L In Out Shut : Type 0} where
 
   -- the places and what is in hand are the same, and all else that is kept of the calls
   pub holds-hands : (got : Out → List OutItem) (old new : OutCore L In Out Shut) → SameHands old.streams.entries new.streams.entries
-      → new.outbound ≡ old.outbound → new.senders ≡ old.senders → new.others ≡ old.others → (run : List Step) → Holds got run old → Holds got run new
-  holds-hands got old new hands outbound senders others run (marks, s, heeds) = (
+      → new.outbound ≡ old.outbound → new.senders ≡ old.senders → (run : List Step) → Holds got run old → Holds got run new
+  holds-hands got old new hands outbound senders run (marks, s, heeds) = (
     marks,
-    subst (λ (o : Outbound). Serves run o new.streams.entries new.others.entries (calls got new.senders.items) marks) (sym outbound)
-        (subst (λ senders. Serves run old.outbound new.streams.entries new.others.entries (calls got senders.items) marks) (sym senders)
-        (subst (λ others. Serves run old.outbound new.streams.entries others.entries (calls got old.senders.items) marks) (sym others)
-        (serves-hands run old.outbound old.streams.entries new.streams.entries old.others.entries (calls got old.senders.items) marks hands s))),
-    subst (λ (o : Outbound). Heeds run o new.streams.entries new.others.entries) (sym outbound)
-        (subst (λ others. Heeds run old.outbound new.streams.entries others.entries) (sym others)
-        (heeds-kept run old.outbound old.outbound old.streams.entries new.streams.entries old.others.entries (λ id there e. e) (λ id. (refl, refl))
-        (λ id none. none-shown (lookup (nat_eq id) new.streams.entries) (hands id ∙ ap shown none)) heeds)),
+    subst (λ (o : Outbound). Serves run o new.streams.entries (calls got new.senders.items) marks) (sym outbound)
+        (subst (λ senders. Serves run old.outbound new.streams.entries (calls got senders.items) marks) (sym senders)
+        (serves-hands run old.outbound old.streams.entries new.streams.entries (calls got old.senders.items) marks hands s)),
+    subst (λ (o : Outbound). Heeds run o new.streams.entries) (sym outbound)
+        (heeds-kept run old.outbound old.outbound old.streams.entries new.streams.entries (λ id there e. e) (λ id. (refl, refl, λ e. e))
+        (λ id none. none-shown (lookup (nat_eq id) new.streams.entries) (hands id ∙ ap shown none)) heeds),
   )
 
   pub holds-after : (got : Out → List OutItem) (old mid new : OutCore L In Out Shut) (o : Option Frame) → HoldsOn got o old mid
-      → SameHands mid.streams.entries new.streams.entries → new.outbound ≡ mid.outbound → new.senders ≡ mid.senders → new.others ≡ mid.others → HoldsOn got o old new
-  holds-after got old mid new None f hands outbound senders others = λ run h. holds-hands got mid new hands outbound senders others run (f run h)
-  holds-after got old mid new (Some frame) f hands outbound senders others = λ run h. holds-hands got mid new hands outbound senders others (Written frame ∷ run) (f run h)
+      → SameHands mid.streams.entries new.streams.entries → new.outbound ≡ mid.outbound → new.senders ≡ mid.senders → HoldsOn got o old new
+  holds-after got old mid new None f hands outbound senders = λ run h. holds-hands got mid new hands outbound senders run (f run h)
+  holds-after got old mid new (Some frame) f hands outbound senders = λ run h. holds-hands got mid new hands outbound senders (Written frame ∷ run) (f run h)
 
   pub fronts-then : (got : Out → List OutItem) (old mid new : OutCore L In Out Shut) → KeepsFronts got old mid → KeepsFronts got mid new → KeepsFronts got old new
   fronts-then got old mid new f g run all = g run (f run all)
@@ -50,18 +48,18 @@ module _ {L In Out Shut : Type 0} where
       → (run : List Step) → Holds got run core → Holds got (Written frame ∷ run) (record core { outbound = after })
   own-serves got core after frame (known, inl plain) run (marks, s, heeds) = (
     marks ++ [],
-    serves-plain run core.outbound after core.streams.entries core.others.entries (calls got core.senders.items) marks frame (λ k. (known k).0) plain s,
-    heeds-own run core.outbound after core.streams.entries core.others.entries (own-ends frame core.outbound after (known, inl plain)) known heeds,
+    serves-plain run core.outbound after core.streams.entries (calls got core.senders.items) marks frame (λ k. (known k).0) plain s,
+    heeds-own run core.outbound after core.streams.entries (own-ends frame core.outbound after (known, inl plain)) known heeds,
   )
   own-serves got core after frame (known, inr (inl r)) run (marks, s, heeds) = (
     marks ++ on_stream r.0 (Reset r.4.0 ∷ []),
-    serves-reset run core.outbound after core.streams.entries core.others.entries (calls got core.senders.items) marks frame (λ k. (known k).0) r s,
-    heeds-own run core.outbound after core.streams.entries core.others.entries (own-ends frame core.outbound after (known, inr (inl r))) known heeds,
+    serves-reset run core.outbound after core.streams.entries (calls got core.senders.items) marks frame (λ k. (known k).0) r s,
+    heeds-own run core.outbound after core.streams.entries (own-ends frame core.outbound after (known, inr (inl r))) known heeds,
   )
   own-serves got core after frame (known, inr (inr r)) run (marks, s, heeds) = (
     marks ++ block_marks r.0 r.1 true,
-    serves-refusal run core.outbound after core.streams.entries core.others.entries (calls got core.senders.items) marks frame (λ k. (known k).0) r s,
-    heeds-own run core.outbound after core.streams.entries core.others.entries (own-ends frame core.outbound after (known, inr (inr r))) known heeds,
+    serves-refusal run core.outbound after core.streams.entries (calls got core.senders.items) marks frame (λ k. (known k).0) r s,
+    heeds-own run core.outbound after core.streams.entries (own-ends frame core.outbound after (known, inr (inr r))) known heeds,
   )
 
   pub own-holds : (got : Out → List OutItem) (core : OutCore L In Out Shut) (after : Outbound) (o : Option Frame) → OwnOrRests o core.outbound after
@@ -69,8 +67,8 @@ module _ {L In Out Shut : Type 0} where
   own-holds got core after (Some frame) own = own-serves got core after frame own
   own-holds got core after None rests = λ run h. (
     h.0,
-    serves-rests run core.outbound after core.streams.entries core.others.entries (calls got core.senders.items) h.0 rests h.1,
-    heeds-own run core.outbound after core.streams.entries core.others.entries (rests-ends core.outbound after rests) rests.standing h.2,
+    serves-rests run core.outbound after core.streams.entries (calls got core.senders.items) h.0 rests h.1,
+    heeds-own run core.outbound after core.streams.entries (rests-ends core.outbound after rests) rests.standing h.2,
   )
 
   -- ---- what callers see
@@ -79,9 +77,9 @@ module _ {L In Out Shut : Type 0} where
       → ServesOn got (Written frame) old new
   serving-on got frame old new alive closed holds run s =
       let h = holds run (s.serves alive) in record {
-        fronts = fronts_of (Written frame ∷ run) new.outbound new.streams.entries new.others.entries (calls got new.senders.items) h.0 h.1;
-        returned = returned_of (Written frame ∷ run) new.outbound new.streams.entries new.others.entries (calls got new.senders.items) h.0 h.1;
-        others = others_of (Written frame ∷ run) new.outbound new.streams.entries new.others.entries (calls got new.senders.items) h.0 h.1;
+        fronts = fronts_of (Written frame ∷ run) new.outbound new.streams.entries (calls got new.senders.items) h.0 h.1;
+        returned = returned_of (Written frame ∷ run) new.outbound new.streams.entries (calls got new.senders.items) h.0 h.1;
+        others = others_of (Written frame ∷ run) new.outbound new.streams.entries (calls got new.senders.items) h.0 h.1;
         closed = s.closed ∙ sym closed;
         serves = λ e. h;
       }

@@ -18,16 +18,17 @@ use Rattle.outwriter.specs.declared.stream.Polled.{Polled}
 use Rattle.outwriter.specs.declared.stream.Polled.TheVariants as polled
 use Rattle.outwriter.specs.Calls.{is_served, TellFronts}
 use Rattle.outwriter.specs.Cores.{calls}
-use Rattle.outwriter.specs.Credits.{is_reset, knows}
+use Rattle.outwriter.specs.States.{SameOwed, is_heard, knows, over_on}
 use Rattle.outwriter.specs.RunState.{Ends}
 use Rattle.outwriter.specs.Parts.{Mark, Byte, Fields, End, on_stream, spelled, marks_of_item, IsFrontOf, IsPart}
 use Rattle.outwriter.specs.StreamLooks.{Shown, shown, shows, with_hand, one_more, HandIs, HandKeeps, Removes, TakesAt, TellsData, aheads, HoldsOn, KeepsFronts}
 use Rattle.outwriter.specs.Polls.{block_item, GotNone}
 use Rattle.outwriter.specs.CallState.{Heeds, bytes_marks, Serves}
 use Rattle.outwriter.specs.Steps.{Step, Written}
-use Rattle.outwriter.specs.ToldByNow.{SpellsOf, TellsMore, TellsBlock, block_marks}
+use Rattle.outwriter.specs.ToldByNow.{SpellsOf, SameStanding, TellsMore, TellsBlock, block_marks}
 use Rattle.outwriter.proofs.ServeSteps.{append-nil, none-shown}
-use Rattle.outwriter.proofs.EndsKept.{KeepsEnds, heeds-kept, same-ends, block-ends}
+use Rattle.outwriter.proofs.EndsKept.{KeepsEnds, heeds-kept, same-ends, block-ends, ends-heard}
+use Rattle.outwriter.proofs.TellStepsOwn.{ends-same, standing-same}
 use Rattle.outwriter.proofs.Others.{later-none, later-written}
 use Rattle.outwriter.proofs.ServeStepsOpen.{Grows, grows-none, grows-one, goes-on, ends}
 use Rattle.outwriter.proofs.ServeStepsOwn.{serves-hands}
@@ -174,39 +175,39 @@ hand-kept id place was (b ∷ bs) streams middle left view none keeps =
 same-outbound : (old mid : Outbound) → mid ≡ record old { encoder = mid.encoder } → mid.encoder ≡ old.encoder → mid ≡ old
 same-outbound old mid e f = e ∙ ap (λ (x : Option Encoding). record old { encoder = x }) f
 
-data-serves : (run : List Step) (o after : Outbound) (windows : Windows) (streams middle left : List (ℕ × OpenStream)) (others : List (ℕ × Bool)) (calls now : List (ℕ × List OutItem))
+data-serves : (run : List Step) (o after : Outbound) (windows : Windows) (streams middle left : List (ℕ × OpenStream)) (calls now : List (ℕ × List OutItem))
     (marks : List (ℕ × Mark)) (id place : ℕ) (was : Option (List ℕ)) (news : List OutItem) (bytes front rest : List ℕ) (frame : Frame)
     → shows streams id ≡ Some (place, was) → Grows place news calls now → (bytes_marks was ++ spelled news) ≡ map Byte bytes
     → HandIs id None streams middle → bytes ≡ front ++ rest → HandKeeps id rest middle left
     → TellsMore frame (on_stream id (map Byte front)) o after → after ≡ record o { windows = windows }
-    → Serves run o streams others calls marks → Serves (Written frame ∷ run) after left others now (marks ++ on_stream id (map Byte front))
-data-serves run o after windows streams middle left others calls now marks id place was news bytes front rest frame view g bal none cut keeps tells is s =
+    → Serves run o streams calls marks → Serves (Written frame ∷ run) after left now (marks ++ on_stream id (map Byte front))
+data-serves run o after windows streams middle left calls now marks id place was news bytes front rest frame view g bal none cut keeps tells is s =
     let kept = hand-kept id place was rest streams middle left view none keeps in
-    goes-on run (Written frame ∷ run) o after streams left others calls now marks id place was kept.0 (map Byte front) news (λ k. refl) (λ k. refl) (later-written run frame)
+    goes-on run (Written frame ∷ run) o after streams left calls now marks id place was kept.0 (map Byte front) news (λ k. refl) (λ k. refl) (later-written run frame)
     (tells run marks s.spells)
-    (ap (λ (x : Outbound). x.due.items) (sym is)) (λ k. ap (λ (x : Outbound). knows x.credit k) is) (λ k. ap (λ (x : Outbound). lookup (nat_eq k) x.over.entries) is)
+    (ap (λ (x : Outbound). x.due.items) (sym is)) (λ k. ap (λ (x : Outbound). knows x.states k) is) (ends-same o after (ap (λ (x : Outbound). x.states) is))
     view kept.1 g
     (bal ∙ ap (map Byte) cut ∙ map-append Byte front rest ∙ ap (λ (l : List Mark). map Byte front ++ l) (sym kept.2)) s
 
-kept-serves : (run : List Step) (o : Outbound) (streams middle left : List (ℕ × OpenStream)) (others : List (ℕ × Bool)) (calls now : List (ℕ × List OutItem))
+kept-serves : (run : List Step) (o : Outbound) (streams middle left : List (ℕ × OpenStream)) (calls now : List (ℕ × List OutItem))
     (marks : List (ℕ × Mark)) (id place : ℕ) (was : Option (List ℕ)) (news : List OutItem) (bytes : List ℕ)
     → shows streams id ≡ Some (place, was) → Grows place news calls now → (bytes_marks was ++ spelled news) ≡ map Byte bytes
     → HandIs id None streams middle → HandIs id (Some bytes) middle left
-    → Serves run o streams others calls marks → Serves run o left others now (marks ++ on_stream id [])
-kept-serves run o streams middle left others calls now marks id place was news bytes view g bal none keeps s =
-    goes-on run run o o streams left others calls now marks id place was (Some bytes) [] news (λ k. refl) (λ k. refl) (later-none run)
+    → Serves run o streams calls marks → Serves run o left now (marks ++ on_stream id [])
+kept-serves run o streams middle left calls now marks id place was news bytes view g bal none keeps s =
+    goes-on run run o o streams left calls now marks id place was (Some bytes) [] news (λ k. refl) (λ k. refl) (later-none run)
     (subst (λ (l : List (ℕ × Mark)). SpellsOf run o l) (sym (append-nil marks)) s.spells)
-    refl (λ k. refl) (λ k. refl) view (hand-twice id place was (Some bytes) streams middle left view none keeps) g bal s
+    refl (λ k. refl) (λ k. (refl, refl)) view (hand-twice id place was (Some bytes) streams middle left view none keeps) g bal s
 
 -- a message without bytes tells nothing
-empty-serves : (run : List Step) (o : Outbound) (streams left : List (ℕ × OpenStream)) (others : List (ℕ × Bool)) (calls now : List (ℕ × List OutItem))
+empty-serves : (run : List Step) (o : Outbound) (streams left : List (ℕ × OpenStream)) (calls now : List (ℕ × List OutItem))
     (marks : List (ℕ × Mark)) (id place : ℕ) (was : Option (List ℕ)) (news : List OutItem) (bytes : List ℕ)
     → shows streams id ≡ Some (place, was) → Grows place news calls now → (bytes_marks was ++ spelled news) ≡ map Byte bytes → bytes ≡ []
-    → HandIs id None streams left → Serves run o streams others calls marks → Serves run o left others now (marks ++ on_stream id [])
-empty-serves run o streams left others calls now marks id place was news bytes view g bal none hands s =
-    goes-on run run o o streams left others calls now marks id place was None [] news (λ k. refl) (λ k. refl) (later-none run)
+    → HandIs id None streams left → Serves run o streams calls marks → Serves run o left now (marks ++ on_stream id [])
+empty-serves run o streams left calls now marks id place was news bytes view g bal none hands s =
+    goes-on run run o o streams left calls now marks id place was None [] news (λ k. refl) (λ k. refl) (later-none run)
     (subst (λ (l : List (ℕ × Mark)). SpellsOf run o l) (sym (append-nil marks)) s.spells)
-    refl (λ k. refl) (λ k. refl) view (hand-then id place was None streams left view hands) g (bal ∙ ap (map Byte) none) s
+    refl (λ k. refl) (λ k. (refl, refl)) view (hand-then id place was None streams left view hands) g (bal ∙ ap (map Byte) none) s
 
 pub no-bytes : (bytes : List ℕ) (is_empty : Bool) → is_empty ≡ (length bytes == 0) → is_empty ≡ true → bytes ≡ []
 no-bytes [] is_empty is e = refl
@@ -214,30 +215,30 @@ no-bytes (byte ∷ bytes) is_empty is e = let wrong : length (byte ∷ bytes) �
     let no : ⊥ = omega (arith, wrong) in absurd no
 
 -- a call that was left tells nothing more
-left-serves : (run : List Step) (o : Outbound) (streams left : List (ℕ × OpenStream)) (others : List (ℕ × Bool)) (calls now : List (ℕ × List OutItem))
+left-serves : (run : List Step) (o : Outbound) (streams left : List (ℕ × OpenStream)) (calls now : List (ℕ × List OutItem))
     (marks : List (ℕ × Mark)) (id place : ℕ)
     → shows streams id ≡ Some (place, None) → now ≡ one_more place item.Left calls → HandIs id None streams left
-    → Serves run o streams others calls marks → Serves run o left others now (marks ++ on_stream id [])
-left-serves run o streams left others calls now marks id place view is none s =
-    goes-on run run o o streams left others calls now marks id place None None [] (item.Left ∷ []) (λ k. refl) (λ k. refl) (later-none run)
+    → Serves run o streams calls marks → Serves run o left now (marks ++ on_stream id [])
+left-serves run o streams left calls now marks id place view is none s =
+    goes-on run run o o streams left calls now marks id place None None [] (item.Left ∷ []) (λ k. refl) (λ k. refl) (later-none run)
     (subst (λ (l : List (ℕ × Mark)). SpellsOf run o l) (sym (append-nil marks)) s.spells)
-    refl (λ k. refl) (λ k. refl) view (hand-then id place None None streams left view none) (grows-one place item.Left calls now is) refl s
+    refl (λ k. refl) (λ k. (refl, refl)) view (hand-then id place None None streams left view none) (grows-one place item.Left calls now is) refl s
 
-head-serves : (run : List Step) (o after : Outbound) (streams middle left : List (ℕ × OpenStream)) (others : List (ℕ × Bool)) (calls now : List (ℕ × List OutItem))
+head-serves : (run : List Step) (o after : Outbound) (streams middle left : List (ℕ × OpenStream)) (calls now : List (ℕ × List OutItem))
     (marks : List (ℕ × Mark)) (id place : ℕ) (fields : List Field) (ends_it : Bool) (frame : Frame)
     → shows streams id ≡ Some (place, None) → Grows place (block_item ends_it fields ∷ []) calls now
     → HandIs id None streams middle → Removes id ends_it middle left
     → SpellsOf (Written frame ∷ run) after (marks ++ block_marks id fields ends_it)
-    → o.due.items ≡ after.due.items → ((k : ℕ) → knows after.credit k ≡ knows o.credit k) → Ends o.over.entries id ends_it after.over.entries
-    → Serves run o streams others calls marks → Serves (Written frame ∷ run) after left others now (marks ++ block_marks id fields ends_it)
-head-serves run o after streams middle left others calls now marks id place fields true frame view g none removes spells due known over s =
-    ends run (Written frame ∷ run) o after streams left others calls now marks id place None (Fields fields ∷ End ∷ []) (block_item true fields ∷ []) (λ k. refl) (λ k. refl) (later-written run frame)
+    → o.due.items ≡ after.due.items → ((k : ℕ) → knows after.states k ≡ knows o.states k) → Ends o.states id ends_it after.states
+    → Serves run o streams calls marks → Serves (Written frame ∷ run) after left now (marks ++ block_marks id fields ends_it)
+head-serves run o after streams middle left calls now marks id place fields true frame view g none removes spells due known over s =
+    ends run (Written frame ∷ run) o after streams left calls now marks id place None (Fields fields ∷ End ∷ []) (block_item true fields ∷ []) (λ k. refl) (λ k. refl) (later-written run frame)
     spells due known over view
     (λ k. removes k ∙ ap (λ (v : Shown). if k == id then None else v) (hand-then id place None None streams middle view none k)
     ∙ if-twice (k == id) None (Some (place, None)) (shows streams k)) g refl s
-head-serves run o after streams middle left others calls now marks id place fields false frame view g none removes spells due known over s =
-    goes-on run (Written frame ∷ run) o after streams left others calls now marks id place None None (Fields fields ∷ []) (block_item false fields ∷ []) (λ k. refl) (λ k. refl) (later-written run frame)
-    spells due known (λ k. ap (λ (l : List (ℕ × Bool)). lookup (nat_eq k) l) over) view
+head-serves run o after streams middle left calls now marks id place fields false frame view g none removes spells due known over s =
+    goes-on run (Written frame ∷ run) o after streams left calls now marks id place None None (Fields fields ∷ []) (block_item false fields ∷ []) (λ k. refl) (λ k. refl) (later-written run frame)
+    spells due known (λ k. (ap (λ s. over_on s k) over, ap (λ s. is_heard s k) over)) view
     (λ k. removes k ∙ hand-then id place None None streams middle view none k) g refl s
 
 -- ---- no stream opens
@@ -268,20 +269,18 @@ removes-closed id false streams left same k none = none-shown (lookup (nat_eq k)
 
 module _ {L In Out Shut : Type 0} where
   -- Resets and Refuses are heeded still
-  heeds-look : (run : List Step) (old new : OutCore L In Out Shut) → KeepsEnds old.outbound new.outbound → new.outbound.credit ≡ old.outbound.credit → new.others ≡ old.others
+  heeds-look : (run : List Step) (old new : OutCore L In Out Shut) → KeepsEnds old.outbound new.outbound → SameStanding old.outbound new.outbound
       → ((k : ℕ) → lookup (nat_eq k) old.streams.entries ≡ None → lookup (nat_eq k) new.streams.entries ≡ None)
-      → Heeds run old.outbound old.streams.entries old.others.entries → Heeds run new.outbound new.streams.entries new.others.entries
-  heeds-look run old new keeps credit others closed heeds =
-      subst (λ others. Heeds run new.outbound new.streams.entries others.entries) (sym others)
-      (heeds-kept run old.outbound new.outbound old.streams.entries new.streams.entries old.others.entries keeps
-      (λ k. (ap (λ owed. knows owed k) credit, ap (λ owed. is_reset owed k) credit)) closed heeds)
+      → Heeds run old.outbound old.streams.entries → Heeds run new.outbound new.streams.entries
+  heeds-look run old new keeps standing closed heeds =
+      heeds-kept run old.outbound new.outbound old.streams.entries new.streams.entries keeps standing closed heeds
 
-  heeds-still : (run : List Step) (old new : OutCore L In Out Shut) → new.outbound ≡ old.outbound → new.others ≡ old.others
+  heeds-still : (run : List Step) (old new : OutCore L In Out Shut) → new.outbound ≡ old.outbound
       → ((k : ℕ) → lookup (nat_eq k) old.streams.entries ≡ None → lookup (nat_eq k) new.streams.entries ≡ None)
-      → Heeds run old.outbound old.streams.entries old.others.entries → Heeds run new.outbound new.streams.entries new.others.entries
-  heeds-still run old new same others closed heeds =
-      heeds-look run old new (same-ends old.outbound new.outbound (ap (λ (x : Outbound). x.due) same) (ap (λ (x : Outbound). x.credit) same) (ap (λ (x : Outbound). x.over) same))
-      (ap (λ (x : Outbound). x.credit) same) others closed heeds
+      → Heeds run old.outbound old.streams.entries → Heeds run new.outbound new.streams.entries
+  heeds-still run old new same closed heeds =
+      heeds-look run old new (same-ends old.outbound new.outbound (ap (λ (x : Outbound). x.due) same) (ap (λ (x : Outbound). x.states) same))
+      (standing-same old.outbound new.outbound (ap (λ (x : Outbound). x.states) same)) closed heeds
 
   -- what was taken, and the encoder and the streams after it
   pub record Took (E : Type 0) (got ahead : Out → List OutItem) (old mid : OutCore L In Out Shut) (id : ℕ) (result : Result Polled E) : Type 0 where
@@ -289,7 +288,6 @@ module _ {L In Out Shut : Type 0} where
         old.outbound.encoder mid.outbound.encoder result
     pub outbound : mid.outbound ≡ record old.outbound { encoder = mid.outbound.encoder }
     pub hands : HandIs id None old.streams.entries mid.streams.entries
-    pub others : mid.others ≡ old.others
 
   pub fronts-still : (got : Out → List OutItem) (old mid new : OutCore L In Out Shut) → KeepsFronts got old mid → new.senders ≡ mid.senders → KeepsFronts got old new
   fronts-still got old mid new keeps e run all = subst (λ senders. TellFronts run (calls got senders.items)) (sym e) (keeps run all)
@@ -302,9 +300,8 @@ module _ {L In Out Shut : Type 0} where
       let same = same-outbound old.outbound mid.outbound took.outbound found.1 in
       let all = told found.0 found.2 in (
         all.0,
-        subst (λ (o : Outbound). Serves run o mid.streams.entries mid.others.entries (calls got mid.senders.items) all.0) (sym same)
-            (subst (λ others. Serves run old.outbound mid.streams.entries others.entries (calls got mid.senders.items) all.0) (sym took.others) all.1),
-        heeds-still run old mid same took.others (hand-closed id None old.streams.entries mid.streams.entries took.hands) heeds,
+        subst (λ (o : Outbound). Serves run o mid.streams.entries (calls got mid.senders.items) all.0) (sym same) all.1,
+        heeds-still run old mid same (hand-closed id None old.streams.entries mid.streams.entries took.hands) heeds,
       )
     where
       by : (k : ℕ) → with_hand None (shows old.streams.entries id) ≡ shows old.streams.entries id → (b : Bool) → (k == id) ≡ b
@@ -313,49 +310,47 @@ module _ {L In Out Shut : Type 0} where
       by k same false p = refl
 
       told : LeftAt (shows old.streams.entries id) (calls got old.senders.items) (calls got mid.senders.items) → with_hand None (shows old.streams.entries id) ≡ shows old.streams.entries id
-          → (after : List (ℕ × Mark)) × Serves run old.outbound mid.streams.entries old.others.entries (calls got mid.senders.items) after
+          → (after : List (ℕ × Mark)) × Serves run old.outbound mid.streams.entries (calls got mid.senders.items) after
       told (inl none) hand = (
         marks,
-        subst (λ (l : List (ℕ × List OutItem)). Serves run old.outbound mid.streams.entries old.others.entries l marks) (sym none)
-            (serves-hands run old.outbound old.streams.entries mid.streams.entries old.others.entries (calls got old.senders.items) marks
+        subst (λ (l : List (ℕ × List OutItem)). Serves run old.outbound mid.streams.entries l marks) (sym none)
+            (serves-hands run old.outbound old.streams.entries mid.streams.entries (calls got old.senders.items) marks
             (λ k. took.hands k ∙ by k hand (k == id) refl) s),
       )
       told (inr (place, view, left)) hand = (
         marks ++ on_stream id [],
-        left-serves run old.outbound old.streams.entries mid.streams.entries old.others.entries (calls got old.senders.items) (calls got mid.senders.items) marks id place view left took.hands s,
+        left-serves run old.outbound old.streams.entries mid.streams.entries (calls got old.senders.items) (calls got mid.senders.items) marks id place view left took.hands s,
       )
 
   pub look-data : (E : Type 0) (got ahead : Out → List OutItem) (old mid new : OutCore L In Out Shut) (id : ℕ) (bytes : List ℕ) (result : Polled) (o : Option Frame)
       → Took E got ahead old mid id (Ok result) → result ≡ polled.Message bytes
-      → TellsData id bytes o mid new → new.senders ≡ mid.senders → new.others ≡ mid.others
+      → TellsData id bytes o mid new → new.senders ≡ mid.senders
       → HoldsOn got o old new
-  look-data E got ahead old mid new id bytes result (Some frame) took is tells senders others_same = λ run m.
+  look-data E got ahead old mid new id bytes result (Some frame) took is tells senders = λ run m.
       let t = subst (λ (p : Polled). TakesAt {E = E} (shows old.streams.entries id) (calls got old.senders.items) (calls got mid.senders.items) (aheads ahead mid.senders.items) old.outbound.encoder mid.outbound.encoder (Ok p)) is took.takes in
       let found = takes-message E (shows old.streams.entries id) (calls got old.senders.items) (calls got mid.senders.items) (aheads ahead mid.senders.items) old.outbound.encoder mid.outbound.encoder bytes t in
       let same = same-outbound old.outbound mid.outbound took.outbound found.6 in (
         m.0 ++ on_stream id (map Byte tells.0),
-        subst (λ senders. Serves (Written frame ∷ run) new.outbound new.streams.entries new.others.entries (calls got senders.items) (m.0 ++ on_stream id (map Byte tells.0))) (sym senders)
-            (subst (λ others. Serves (Written frame ∷ run) new.outbound new.streams.entries others.entries (calls got mid.senders.items) (m.0 ++ on_stream id (map Byte tells.0))) (sym (others_same ∙ took.others))
-            (data-serves run old.outbound new.outbound new.outbound.windows old.streams.entries mid.streams.entries new.streams.entries old.others.entries
+        subst (λ senders. Serves (Written frame ∷ run) new.outbound new.streams.entries (calls got senders.items) (m.0 ++ on_stream id (map Byte tells.0))) (sym senders)
+            (data-serves run old.outbound new.outbound new.outbound.windows old.streams.entries mid.streams.entries new.streams.entries
             (calls got old.senders.items) (calls got mid.senders.items) m.0 id found.0 found.1 found.2 bytes tells.0 tells.1 frame found.3 found.4 found.5 took.hands tells.2 tells.3
             (subst (λ (x : Outbound). TellsMore frame (on_stream id (map Byte tells.0)) x new.outbound) same tells.4)
-            (subst (λ (x : Outbound). new.outbound ≡ record x { windows = new.outbound.windows }) same tells.5) m.1)),
+            (subst (λ (x : Outbound). new.outbound ≡ record x { windows = new.outbound.windows }) same tells.5) m.1),
         let is : new.outbound ≡ record old.outbound { windows = new.outbound.windows } = subst (λ (x : Outbound). new.outbound ≡ record x { windows = new.outbound.windows }) same tells.5 in
-            heeds-look run old new (same-ends old.outbound new.outbound (ap (λ (x : Outbound). x.due) is) (ap (λ (x : Outbound). x.credit) is) (ap (λ (x : Outbound). x.over) is))
-            (ap (λ (x : Outbound). x.credit) is) (others_same ∙ took.others)
+            heeds-look run old new (same-ends old.outbound new.outbound (ap (λ (x : Outbound). x.due) is) (ap (λ (x : Outbound). x.states) is))
+            (standing-same old.outbound new.outbound (ap (λ (x : Outbound). x.states) is))
             (λ k none. keeps-closed id tells.1 mid.streams.entries new.streams.entries tells.3 k (hand-closed id None old.streams.entries mid.streams.entries took.hands k none)) m.2,
       )
-  look-data E got ahead old mid new id bytes result None took is tells senders others_same = λ run m.
+  look-data E got ahead old mid new id bytes result None took is tells senders = λ run m.
       let t = subst (λ (p : Polled). TakesAt {E = E} (shows old.streams.entries id) (calls got old.senders.items) (calls got mid.senders.items) (aheads ahead mid.senders.items) old.outbound.encoder mid.outbound.encoder (Ok p)) is took.takes in
       let found = takes-message E (shows old.streams.entries id) (calls got old.senders.items) (calls got mid.senders.items) (aheads ahead mid.senders.items) old.outbound.encoder mid.outbound.encoder bytes t in
       let same = same-outbound old.outbound mid.outbound took.outbound found.6 in (
         m.0 ++ on_stream id [],
-        subst (λ (x : Outbound). Serves run x new.streams.entries new.others.entries (calls got new.senders.items) (m.0 ++ on_stream id [])) (sym (tells.1 ∙ same))
-            (subst (λ senders. Serves run old.outbound new.streams.entries new.others.entries (calls got senders.items) (m.0 ++ on_stream id [])) (sym senders)
-            (subst (λ others. Serves run old.outbound new.streams.entries others.entries (calls got mid.senders.items) (m.0 ++ on_stream id [])) (sym (others_same ∙ took.others))
-            (kept-serves run old.outbound old.streams.entries mid.streams.entries new.streams.entries old.others.entries
-            (calls got old.senders.items) (calls got mid.senders.items) m.0 id found.0 found.1 found.2 bytes found.3 found.4 found.5 took.hands tells.0 m.1))),
-        heeds-still run old new (tells.1 ∙ same) (others_same ∙ took.others)
+        subst (λ (x : Outbound). Serves run x new.streams.entries (calls got new.senders.items) (m.0 ++ on_stream id [])) (sym (tells.1 ∙ same))
+            (subst (λ senders. Serves run old.outbound new.streams.entries (calls got senders.items) (m.0 ++ on_stream id [])) (sym senders)
+            (kept-serves run old.outbound old.streams.entries mid.streams.entries new.streams.entries
+            (calls got old.senders.items) (calls got mid.senders.items) m.0 id found.0 found.1 found.2 bytes found.3 found.4 found.5 took.hands tells.0 m.1)),
+        heeds-still run old new (tells.1 ∙ same)
             (λ k none. hand-closed id (Some bytes) mid.streams.entries new.streams.entries tells.0 k (hand-closed id None old.streams.entries mid.streams.entries took.hands k none)) m.2,
       )
 
@@ -366,38 +361,37 @@ module _ {L In Out Shut : Type 0} where
       let found = takes-message E (shows old.streams.entries id) (calls got old.senders.items) (calls got mid.senders.items) (aheads ahead mid.senders.items) old.outbound.encoder mid.outbound.encoder bytes t in
       let same = same-outbound old.outbound mid.outbound took.outbound found.6 in (
         m.0 ++ on_stream id [],
-        subst (λ (x : Outbound). Serves run x mid.streams.entries mid.others.entries (calls got mid.senders.items) (m.0 ++ on_stream id [])) (sym same)
-            (subst (λ others. Serves run old.outbound mid.streams.entries others.entries (calls got mid.senders.items) (m.0 ++ on_stream id [])) (sym took.others)
-            (empty-serves run old.outbound old.streams.entries mid.streams.entries old.others.entries
-            (calls got old.senders.items) (calls got mid.senders.items) m.0 id found.0 found.1 found.2 bytes found.3 found.4 found.5 none took.hands m.1)),
-        heeds-still run old mid same took.others (hand-closed id None old.streams.entries mid.streams.entries took.hands) m.2,
+        subst (λ (x : Outbound). Serves run x mid.streams.entries (calls got mid.senders.items) (m.0 ++ on_stream id [])) (sym same)
+            (empty-serves run old.outbound old.streams.entries mid.streams.entries
+            (calls got old.senders.items) (calls got mid.senders.items) m.0 id found.0 found.1 found.2 bytes found.3 found.4 found.5 none took.hands m.1),
+        heeds-still run old mid same (hand-closed id None old.streams.entries mid.streams.entries took.hands) m.2,
       )
 
   pub look-block : (E : Type 0) (got ahead : Out → List OutItem) (old mid fin : OutCore L In Out Shut) (after : Outbound) (id : ℕ) (bytes : List ℕ) (ends_it : Bool) (result : Polled) (frame : Frame)
       → Took E got ahead old mid id (Ok result) → result ≡ polled.Block bytes ends_it
-      → fin.outbound ≡ mid.outbound → Removes id ends_it mid.streams.entries fin.streams.entries → fin.senders ≡ mid.senders → fin.others ≡ mid.others
-      → TellsBlock id ends_it bytes frame fin.outbound after → Ends fin.outbound.over.entries id ends_it after.over.entries
-      → after ≡ record fin.outbound { windows = after.windows; over = after.over; block = after.block }
+      → fin.outbound ≡ mid.outbound → Removes id ends_it mid.streams.entries fin.streams.entries → fin.senders ≡ mid.senders
+      → TellsBlock id ends_it bytes frame fin.outbound after → Ends fin.outbound.states id ends_it after.states → SameOwed fin.outbound.states after.states
+      → after ≡ record fin.outbound { windows = after.windows; states = after.states; block = after.block }
       → HoldsOn got (Some frame) old (record fin { outbound = after })
-  look-block E got ahead old mid fin after id bytes ends_it result frame took is_block outbound removes senders others_same tells over is run (marks, s, heeds) =
+  look-block E got ahead old mid fin after id bytes ends_it result frame took is_block outbound removes senders tells over owed is run (marks, s, heeds) =
       let t = subst (λ (p : Polled). TakesAt {E = E} (shows old.streams.entries id) (calls got old.senders.items) (calls got mid.senders.items) (aheads ahead mid.senders.items) old.outbound.encoder mid.outbound.encoder (Ok p)) is_block took.takes in
       let found = takes-block E (shows old.streams.entries id) (calls got old.senders.items) (calls got mid.senders.items) (aheads ahead mid.senders.items) old.outbound.encoder mid.outbound.encoder bytes ends_it t in
       let same : fin.outbound ≡ record old.outbound { encoder = mid.outbound.encoder } = outbound ∙ took.outbound in
       let told : TellsBlock id ends_it bytes frame (record old.outbound { encoder = mid.outbound.encoder }) after =
       subst (λ (x : Outbound). TellsBlock id ends_it bytes frame x after) same tells in
-      let rest : after ≡ record old.outbound { encoder = mid.outbound.encoder; windows = after.windows; over = after.over; block = after.block } =
-      subst (λ (x : Outbound). after ≡ record x { windows = after.windows; over = after.over; block = after.block }) same is in (
+      let owed_same : SameOwed old.outbound.states after.states = subst (λ (x : Outbound). SameOwed x.states after.states) same owed in
+      let rest : after ≡ record old.outbound { encoder = mid.outbound.encoder; windows = after.windows; states = after.states; block = after.block } =
+      subst (λ (x : Outbound). after ≡ record x { windows = after.windows; states = after.states; block = after.block }) same is in (
         marks ++ block_marks id found.1 ends_it,
-        subst (λ senders. Serves (Written frame ∷ run) after fin.streams.entries fin.others.entries (calls got senders.items) (marks ++ block_marks id found.1 ends_it)) (sym senders)
-            (subst (λ others. Serves (Written frame ∷ run) after fin.streams.entries others.entries (calls got mid.senders.items) (marks ++ block_marks id found.1 ends_it)) (sym (others_same ∙ took.others))
-            (head-serves run old.outbound after old.streams.entries mid.streams.entries fin.streams.entries old.others.entries (calls got old.senders.items) (calls got mid.senders.items)
+        subst (λ senders. Serves (Written frame ∷ run) after fin.streams.entries (calls got senders.items) (marks ++ block_marks id found.1 ends_it)) (sym senders)
+            (head-serves run old.outbound after old.streams.entries mid.streams.entries fin.streams.entries (calls got old.senders.items) (calls got mid.senders.items)
             marks id found.0 found.1 ends_it frame found.2 found.3 took.hands removes
             (told run marks found.1 old.outbound.encoder s.spells.1 found.4)
-            (ap (λ (x : Outbound). x.due.items) (sym rest)) (λ k. ap (λ (x : Outbound). knows x.credit k) rest)
-            (subst (λ (x : Outbound). Ends x.over.entries id ends_it after.over.entries) same over) s)),
+            (ap (λ (x : Outbound). x.due.items) (sym rest)) (λ k. (owed_same.0 k).0)
+            (subst (λ (x : Outbound). Ends x.states id ends_it after.states) same over) s),
         heeds-look run old (record fin { outbound = after })
-            (block-ends old.outbound after id ends_it (ap (λ (x : Outbound). x.due) rest) (ap (λ (x : Outbound). x.credit) rest)
-            (subst (λ (x : Outbound). Ends x.over.entries id ends_it after.over.entries) same over))
-            (ap (λ (x : Outbound). x.credit) rest) (others_same ∙ took.others)
+            (block-ends old.outbound after id ends_it (ap (λ (x : Outbound). x.due) rest) owed_same
+            (subst (λ (x : Outbound). Ends x.states id ends_it after.states) same over))
+            (λ k. ((owed_same.0 k).0, (owed_same.0 k).2, ends-heard old.outbound.states after.states id ends_it (subst (λ (x : Outbound). Ends x.states id ends_it after.states) same over) k))
             (λ k none. removes-closed id ends_it mid.streams.entries fin.streams.entries removes k (hand-closed id None old.streams.entries mid.streams.entries took.hands k none)) heeds,
       )

@@ -9,14 +9,14 @@ use Rattle.account.specs.declared.call.OutItem.{OutItem}
 use Rattle.outwriter.specs.declared.outbound.Outbound.{Outbound}
 use Rattle.outwriter.specs.declared.stream.OpenStream.{OpenStream}
 use Rattle.outwriter.specs.Calls.{is_fresh, is_served}
-use Rattle.outwriter.specs.Credits.{knows}
-use Rattle.outwriter.specs.RunState.{Sets}
+use Rattle.outwriter.specs.States.{SameEnds, SetsEnd, is_heard, knows, over_on}
 use Rattle.outwriter.specs.Parts.{Mark, marks_on, on_stream, spelled, marks_of_item}
 use Rattle.outwriter.specs.StreamLooks.{Shown, shown, shows, with_item, one_more}
 use Rattle.outwriter.specs.CallState.{bytes_marks, IsExact, IsEnded, Serves}
 use Rattle.outwriter.specs.Steps.{Step}
 use Rattle.outwriter.specs.ToldByNow.{SpellsOf}
-use Rattle.outwriter.proofs.Others.{Later}
+use Rattle.outwriter.proofs.Others.{Later, known-stale}
+use Rattle.outwriter.proofs.StateLemmas.{knows-heard, hears-again}
 use Rattle.outwriter.proofs.ServeSteps.{append-nil, more-here, more-elsewhere, none-some, some-none, none-shown, shown-some, from_some, serves-changed}
 
 -- ---- calls
@@ -64,24 +64,25 @@ balance told old more rest items news e f =
 
 -- ---- an open stream goes on
 
-pub goes-on : (run next : List Step) (o after : Outbound) (streams left : List (ℕ × OpenStream)) (others : List (ℕ × Bool)) (calls now : List (ℕ × List OutItem))
+pub goes-on : (run next : List Step) (o after : Outbound) (streams left : List (ℕ × OpenStream)) (calls now : List (ℕ × List OutItem))
     (marks : List (ℕ × Mark)) (id place : ℕ) (was hand : Option (List ℕ)) (more : List Mark) (news : List OutItem)
     → ((k : ℕ) → is_fresh k next ≡ is_fresh k run) → ((k : ℕ) → is_served k next ≡ is_served k run) → Later run next
     → SpellsOf next after (marks ++ on_stream id more)
-    → o.due.items ≡ after.due.items → ((k : ℕ) → knows after.credit k ≡ knows o.credit k)
-    → ((k : ℕ) → lookup (nat_eq k) after.over.entries ≡ lookup (nat_eq k) o.over.entries)
+    → o.due.items ≡ after.due.items → ((k : ℕ) → knows after.states k ≡ knows o.states k)
+    → SameEnds o.states after.states
     → shows streams id ≡ Some (place, was) → ((k : ℕ) → shows left k ≡ (if k == id then Some (place, hand) else shows streams k))
     → Grows place news calls now → (bytes_marks was ++ spelled news) ≡ more ++ bytes_marks hand
-    → Serves run o streams others calls marks → Serves next after left others now (marks ++ on_stream id more)
-goes-on run next o after streams left others calls now marks id place was hand more news fresh served later spells due known over view left_shows g bal s =
-    serves-changed run next o after streams left others calls now marks (marks ++ on_stream id more) (λ k. k == id) (record {
+    → Serves run o streams calls marks → Serves next after left now (marks ++ on_stream id more)
+goes-on run next o after streams left calls now marks id place was hand more news fresh served later spells due known same_ends view left_shows g bal s =
+    serves-changed run next o after streams left calls now marks (marks ++ on_stream id more) (λ k. k == id) (record {
       same_fresh = fresh;
       same_served = served;
       later = later;
       spells = spells;
       fewer_due = ([], due);
       same_knows = known;
-      same_over = λ k p. over k;
+      same_heard = λ k. (same_ends k).1;
+      same_over = λ k p. (same_ends k).0;
       same_shown = λ k p. left_shows k ∙ ap (λ b. if b then Some (place, hand) else shows streams k) p;
       same_marks = λ k p. more-elsewhere k id marks more p;
       same_calls = other-calls place id news calls now g (λ d. (at d).0);
@@ -90,13 +91,13 @@ goes-on run next o after streams left others calls now marks id place was hand m
       closed = λ k none. closed-by k none (k == id) refl;
       exact = λ k st p e.
           subst (λ (n : ℕ). IsExact n st now (marks_on n (marks ++ on_stream id more))) (sym (eqb-true k id p)) (exact-here st (same k st p e));
-      not_over = λ k st p e. over k ∙ subst (λ (n : ℕ). lookup (nat_eq n) o.over.entries ≡ None) (sym (eqb-true k id p)) (s.not_over id f.0 f.1);
+      not_over = λ k st p e. (same_ends k).0 ∙ subst (λ (n : ℕ). over_on o.states n ≡ None) (sym (eqb-true k id p)) (s.not_over id f.0 f.1);
       ended = λ k d lt p none is. absurd (still (get_or calls k d).0 p none);
       returned = λ k items p none is e. absurd (none-some f.0 (sym (subst (λ (n : ℕ). lookup (nat_eq n) streams ≡ None) (eqb-true k id p) none) ∙ f.1));
-      unknown = λ k p e none. absurd (true≢false (sym (s.known id f.0 f.1) ∙ subst (λ (n : ℕ). knows o.credit n ≡ false) (eqb-true k id p) e));
-      other = λ k w p e is. absurd (none-some f.0 (sym (subst (λ (n : ℕ). lookup (nat_eq n) streams ≡ None) (eqb-true k id p) (s.other k w e).0) ∙ f.1));
+      unknown = λ k p e. absurd (true≢false (sym (knows-heard o.states id (s.known id f.0 f.1)) ∙ subst (λ (n : ℕ). is_heard o.states n ≡ false) (eqb-true k id p) e));
+      other = λ k p is. absurd (true≢false (sym is ∙ ap (λ n. is_fresh n run) (eqb-true k id p) ∙ known-stale run o s.brought id (s.known id f.0 f.1)));
       stays = λ k p none. absurd (still k p none);
-      uncalled = λ k w p e there. absurd (true≢false (sym (s.known id f.0 f.1) ∙ subst (λ (n : ℕ). knows o.credit n ≡ false) (eqb-true k id p) e));
+      uncalled = λ k p e. absurd (true≢false (sym (s.known id f.0 f.1) ∙ subst (λ (n : ℕ). knows o.states n ≡ false) (eqb-true k id p) e));
     }) s
   where
     f : (stream : OpenStream) × (lookup (nat_eq id) streams ≡ Some stream) × (stream.place ≡ place) × (stream.in_hand ≡ was)
@@ -138,24 +139,25 @@ goes-on run next o after streams left others calls now marks id place was hand m
 
 -- ---- an open stream ends
 
-pub ends : (run next : List Step) (o after : Outbound) (streams left : List (ℕ × OpenStream)) (others : List (ℕ × Bool)) (calls now : List (ℕ × List OutItem))
+pub ends : (run next : List Step) (o after : Outbound) (streams left : List (ℕ × OpenStream)) (calls now : List (ℕ × List OutItem))
     (marks : List (ℕ × Mark)) (id place : ℕ) (was : Option (List ℕ)) (more : List Mark) (news : List OutItem)
     → ((k : ℕ) → is_fresh k next ≡ is_fresh k run) → ((k : ℕ) → is_served k next ≡ is_served k run) → Later run next
     → SpellsOf next after (marks ++ on_stream id more)
-    → o.due.items ≡ after.due.items → ((k : ℕ) → knows after.credit k ≡ knows o.credit k)
-    → Sets o.over.entries id false after.over.entries
+    → o.due.items ≡ after.due.items → ((k : ℕ) → knows after.states k ≡ knows o.states k)
+    → SetsEnd o.states id false after.states
     → shows streams id ≡ Some (place, was) → ((k : ℕ) → shows left k ≡ (if k == id then None else shows streams k))
     → Grows place news calls now → (bytes_marks was ++ spelled news) ≡ more ++ []
-    → Serves run o streams others calls marks → Serves next after left others now (marks ++ on_stream id more)
-ends run next o after streams left others calls now marks id place was more news fresh served later spells due known sets view left_shows g bal s =
-    serves-changed run next o after streams left others calls now marks (marks ++ on_stream id more) (λ k. k == id) (record {
+    → Serves run o streams calls marks → Serves next after left now (marks ++ on_stream id more)
+ends run next o after streams left calls now marks id place was more news fresh served later spells due known sets view left_shows g bal s =
+    serves-changed run next o after streams left calls now marks (marks ++ on_stream id more) (λ k. k == id) (record {
       same_fresh = fresh;
       same_served = served;
       later = later;
       spells = spells;
       fewer_due = ([], due);
       same_knows = known;
-      same_over = λ k p. sets k ∙ ap (λ b. if b then Some false else lookup (nat_eq k) o.over.entries) p;
+      same_heard = hears-again o.states after.states id (knows-heard o.states id (s.known id f.0 f.1)) sets.1;
+      same_over = λ k p. sets.0 k ∙ ap (λ b. if b then Some false else over_on o.states k) p;
       same_shown = λ k p. left_shows k ∙ ap (λ (b : Bool). if b then None else shows streams k) p;
       same_marks = λ k p. more-elsewhere k id marks more p;
       same_calls = other-calls place id news calls now g (λ d. (at d).0);
@@ -166,10 +168,10 @@ ends run next o after streams left others calls now marks id place was more news
       not_over = λ k st p e. absurd (gone k p st e);
       ended = λ k d lt p none is. ended-by k d lt p is (k == place) refl;
       returned = λ k items p none is e. absurd (none-some f.0 (sym (subst (λ (n : ℕ). lookup (nat_eq n) streams ≡ None) (eqb-true k id p) none) ∙ f.1));
-      unknown = λ k p e none. absurd (true≢false (sym (s.known id f.0 f.1) ∙ subst (λ (n : ℕ). knows o.credit n ≡ false) (eqb-true k id p) e));
-      other = λ k w p e is. absurd (none-some f.0 (sym (subst (λ (n : ℕ). lookup (nat_eq n) streams ≡ None) (eqb-true k id p) (s.other k w e).0) ∙ f.1));
-      stays = λ k p none. ap is_some (sets k ∙ ap (λ b. if b then Some false else lookup (nat_eq k) o.over.entries) p);
-      uncalled = λ k w p e there. absurd (true≢false (sym (s.known id f.0 f.1) ∙ subst (λ (n : ℕ). knows o.credit n ≡ false) (eqb-true k id p) e));
+      unknown = λ k p e. absurd (true≢false (sym (knows-heard o.states id (s.known id f.0 f.1)) ∙ subst (λ (n : ℕ). is_heard o.states n ≡ false) (eqb-true k id p) e));
+      other = λ k p is. absurd (true≢false (sym is ∙ ap (λ n. is_fresh n run) (eqb-true k id p) ∙ known-stale run o s.brought id (s.known id f.0 f.1)));
+      stays = λ k p none. ap is_some (sets.0 k ∙ ap (λ b. if b then Some false else over_on o.states k) p);
+      uncalled = λ k p e. absurd (true≢false (sym (s.known id f.0 f.1) ∙ subst (λ (n : ℕ). knows o.states n ≡ false) (eqb-true k id p) e));
     }) s
   where
     f : (stream : OpenStream) × (lookup (nat_eq id) streams ≡ Some stream) × (stream.place ≡ place) × (stream.in_hand ≡ was)
@@ -194,7 +196,7 @@ ends run next o after streams left others calls now marks id place was more news
         ∙ balance (marks_on id marks) (bytes_marks was) more [] (get_or calls place d).1 news (at d).1 bal
         ∙ sym (ap (λ (c : ℕ × List OutItem). spelled c.1) (g.here d within))
 
-    ended-here : (n : ℕ) (d : ℕ × List OutItem) → n ≡ id → IsEnded (lookup (nat_eq n) after.over.entries) (marks_on n (marks ++ on_stream id more)) (get_or now place d).1
+    ended-here : (n : ℕ) (d : ℕ × List OutItem) → n ≡ id → IsEnded (over_on after.states n) (marks_on n (marks ++ on_stream id more)) (get_or now place d).1
     ended-here n d e =
         let told : spelled (get_or now place d).1 ≡ marks_on n (marks ++ on_stream id more) ++ [] =
         sym (all-told d) ∙ ap (λ (x : ℕ). marks_on x (marks ++ on_stream id more)) (sym e) ∙ sym (append-nil (marks_on n (marks ++ on_stream id more))) in
@@ -202,8 +204,8 @@ ends run next o after streams left others calls now marks id place was more news
 
     ended-by : (k : ℕ) (d : ℕ × List OutItem) → k < length calls → ((get_or calls k d).0 == id) ≡ true → is_served (get_or calls k d).0 run ≡ true
         → (b : Bool) → (k == place) ≡ b
-        → IsEnded (lookup (nat_eq (get_or calls k d).0) after.over.entries) (marks_on (get_or calls k d).0 (marks ++ on_stream id more)) (get_or now k d).1
-    ended-by k d lt p is true q = subst (λ (x : ℕ). IsEnded (lookup (nat_eq (get_or calls k d).0) after.over.entries) (marks_on (get_or calls k d).0 (marks ++ on_stream id more)) (get_or now x d).1)
+        → IsEnded (over_on after.states (get_or calls k d).0) (marks_on (get_or calls k d).0 (marks ++ on_stream id more)) (get_or now k d).1
+    ended-by k d lt p is true q = subst (λ (x : ℕ). IsEnded (over_on after.states (get_or calls k d).0) (marks_on (get_or calls k d).0 (marks ++ on_stream id more)) (get_or now x d).1)
         (sym (eqb-true k place q)) (ended-here (get_or calls k d).0 d (eqb-true (get_or calls k d).0 id p))
     ended-by k d lt p is false q = absurd (true≢false (sym is ∙ s.apart k place d lt within (λ e. true≢false (sym (eq-eqb k place e) ∙ q))
         (eqb-true (get_or calls k d).0 id p ∙ sym (at d).0)))

@@ -1,5 +1,5 @@
 -- Where a look at a stream finds nothing to write, nothing can be written on it, and of the other streams all is the same.
-use Rattle.std.proofs.Common.{◌≡◌, ℕ, refl, sym, ap, subst, ◌∙◌, Bool, false, List, [], Option, Some, None, nat_eq, true≢false}
+use Rattle.std.proofs.Common.{true, ◌≡◌, ℕ, refl, sym, ap, subst, ◌∙◌, Bool, false, List, [], Option, Some, None, nat_eq, true≢false}
 use Rattle.std.specs.Prelude.{IfOk, Result, Ok, Err, get_or, ◌≢◌, ◌&&◌, not, is_some, if◌then◌else◌}
 use Rattle.std.specs.Map.{lookup}
 use Rattle.std.proofs.lemmas.Bool.{eq-eqb, ne_eqb}
@@ -14,9 +14,11 @@ use Rattle.outwriter.specs.declared.stream.Looked.{Looked}
 use Rattle.outwriter.specs.declared.stream.Looked.TheVariants as looked
 use Rattle.outwriter.specs.Cores.{calls, IsStuck}
 use Rattle.outwriter.specs.CoreChanges.{may_write}
-use Rattle.outwriter.specs.Credits.{is_reset}
+use Rattle.outwriter.specs.Histories.{is_stream}
+use Rattle.outwriter.specs.States.{is_reset, over_on}
 use Rattle.outwriter.specs.StreamLooks.{Shown, shown, shows, with_hand, HandIs, TakesAt, SameAhead, TellsData, aheads, Holds, HoldsOn, StuckAt, GetsStuck, LeavesStuck, LooksAt, frame_in}
 use Rattle.outwriter.specs.Steps.{Step}
+use Rattle.outwriter.proofs.Others.{known-stream}
 use Rattle.outwriter.proofs.ServeSteps.{shown-some, from_some, none-some}
 use Rattle.outwriter.proofs.ServeStepsLook.{Took, takes-nothing}
 
@@ -69,9 +71,10 @@ module _ {L In Out Shut : Type 0} where
   pub stuck-over : (got ahead : Out → List OutItem) (core : OutCore L In Out Shut) (id : ℕ) (may : Bool) → may ≡ false → may ≡ may_write core.outbound id → GetsStuck got ahead id core core
   stuck-over got ahead core id may denied is run (marks, s, heeds) = (
     λ stream e.
-        let unreset : is_reset core.outbound.credit id ≡ false = heeds.1 id (s.numbered id stream e) ∙ heeds.2 id (ap is_some e) in
-        absurd (true≢false (sym (ap (λ b. (b && not (is_some (lookup (nat_eq id) core.outbound.over.entries))) && not (is_reset core.outbound.credit id)) (s.numbered id stream e)
-        ∙ ap (λ (o : Option Bool). not (is_some o) && not (is_reset core.outbound.credit id)) (s.not_over id stream e)
+        let there : is_stream id ≡ true = known-stream run core.outbound s.brought id (s.known id stream e) in
+        let unreset : is_reset core.outbound.states id ≡ false = heeds.1 id there ∙ heeds.2 id (ap is_some e) in
+        absurd (true≢false (sym (ap (λ b. (b && not (is_some (over_on core.outbound.states id))) && not (is_reset core.outbound.states id)) there
+        ∙ ap (λ (o : Option Bool). not (is_some o) && not (is_reset core.outbound.states id)) (s.not_over id stream e)
         ∙ ap (λ b. not b) unreset) ∙ sym is ∙ denied)),
     λ k ne stuck. stuck,
   )

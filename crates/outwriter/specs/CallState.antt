@@ -13,9 +13,9 @@ use Rattle.outwriter.specs.declared.outbound.Outbound.{Outbound}
 use Rattle.outwriter.specs.declared.stream.OpenStream.{OpenStream}
 use Rattle.outwriter.specs.Calls.{is_fresh, is_served, is_called_off, is_dropped, IsRefused, IsOther, IsReturned}
 use Rattle.outwriter.specs.Runs.{was_reset, is_opened}
-use Rattle.outwriter.specs.Credits.{Owed, is_reset, knows}
+use Rattle.outwriter.specs.States.{States, SameEnds, SameOver, SetsEnd, is_heard, is_reset, knows, over_on}
 use Rattle.outwriter.specs.Histories.{is_stream}
-use Rattle.outwriter.specs.RunState.{Sets, HasResets}
+use Rattle.outwriter.specs.RunState.{HasResets}
 use Rattle.outwriter.specs.Parts.{Mark, Byte, marks_on, spelled, IsFrontOf}
 use Rattle.outwriter.specs.Steps.{Step}
 use Rattle.outwriter.specs.TableLimits.{limited_by}
@@ -41,25 +41,28 @@ IsEnded over told items = IsFrontOf told (spelled items) × (over ≢ Some true 
 abbrev pub IsUncalled : ℕ → List Step → Option Bool → List Mark → Type 0
 IsUncalled id run over told = (over ≡ None → told ≡ []) × IsOther id run told
 
+-- a stream was called off or dropped
+abbrev pub has_reason : ℕ → List Step → Bool
+has_reason id run = is_called_off id run || is_dropped id run
+
 -- what is due of a stream that was refused or reset
-abbrev pub MayBeDue : List Step → Outbound → List (ℕ × OpenStream) → List (ℕ × Bool) → Due → Type 0
-MayBeDue run o streams others (due_kind.Refuse id fields) =
-    (is_fresh id run ≡ false) × (is_served id run ≡ false) × (is_some (lookup (nat_eq id) others) ≡ true) × IsRefused id fields run
-MayBeDue run o streams others (due_kind.Reset id code) =
-    (lookup (nat_eq id) streams ≡ None) × ((is_some (lookup (nat_eq id) others) || knows o.credit id) ≡ true)
-MayBeDue run o streams others _ = Unit {0}
+abbrev pub MayBeDue : List Step → Outbound → List (ℕ × OpenStream) → Due → Type 0
+MayBeDue run o streams (due_kind.Refuse id fields) = (is_fresh id run ≡ false) × (is_served id run ≡ false) × (lookup (nat_eq id) streams ≡ None)
+    × (is_heard o.states id ≡ true) × IsRefused id fields run × (has_reason id run ≡ true)
+MayBeDue run o streams (due_kind.Reset id code) = (lookup (nat_eq id) streams ≡ None) × (is_heard o.states id ≡ true)
+MayBeDue run o streams _ = Unit {0}
 
 -- ---- how streams end
 
 -- the end of a stream, as it is due: a Refuse of one that was reset isn't written any more
-abbrev pub is_due_of : Owed → ℕ → Due → Bool
+abbrev pub is_due_of : States → ℕ → Due → Bool
 is_due_of owed id (due_kind.Reset stream code) = id == stream
 is_due_of owed id (due_kind.Refuse stream fields) = (id == stream) && not (is_reset owed stream)
 is_due_of owed id _ = false
 
 -- a stream's end was written, or is due
 abbrev pub IsEnding : ℕ → Outbound → Type 0
-IsEnding id o = (is_some (lookup (nat_eq id) o.over.entries) ≡ true) ⊎ (list_any (is_due_of o.credit id) o.due.items ≡ true)
+IsEnding id o = (is_some (over_on o.states id) ≡ true) ⊎ (list_any (is_due_of o.states id) o.due.items ≡ true)
 
 -- so it is of each stream that was called off, unless it was dropped
 abbrev pub HeedsEnds : List Step → Outbound → Type 0
@@ -69,74 +72,69 @@ HeedsEnds run o = (id : ℕ) → is_stream id ≡ true → is_called_off id run 
 abbrev pub HeedsOpen : List Step → List (ℕ × OpenStream) → Type 0
 HeedsOpen run streams = (id : ℕ) → is_some (lookup (nat_eq id) streams) ≡ true → was_reset id run ≡ false
 
--- one that was is a call's, or among the others
-abbrev pub HeedsHeard : List Step → Outbound → List (ℕ × Bool) → Type 0
-HeedsHeard run o others = (id : ℕ) → is_stream id ≡ true → was_reset id run ≡ true → (is_some (lookup (nat_eq id) others) || knows o.credit id) ≡ true
+-- one that was is heard of
+abbrev pub HeedsHeard : List Step → Outbound → Type 0
+HeedsHeard run o = (id : ℕ) → is_stream id ≡ true → was_reset id run ≡ true → is_heard o.states id ≡ true
 
 -- the Resets and Refuses of a run are heeded
-abbrev pub Heeds : List Step → Outbound → List (ℕ × OpenStream) → List (ℕ × Bool) → Type 0
-Heeds run o streams others = HeedsEnds run o × HasResets run o.credit × HeedsOpen run streams × HeedsHeard run o others
+abbrev pub Heeds : List Step → Outbound → List (ℕ × OpenStream) → Type 0
+Heeds run o streams = HeedsEnds run o × HasResets run o.states × HeedsOpen run streams × HeedsHeard run o
 
 -- the ends that were due here were written before
 abbrev pub AreOver : Outbound → List Due → Type 0
-AreOver o dues = (id : ℕ) → is_stream id ≡ true → list_any (is_due_of o.credit id) dues ≡ true → is_some (lookup (nat_eq id) o.over.entries) ≡ true
-
--- a stream was called off or dropped
-abbrev pub has_reason : ℕ → List Step → Bool
-has_reason id run = is_called_off id run || is_dropped id run
+AreOver o dues = (id : ℕ) → is_stream id ≡ true → list_any (is_due_of o.states id) dues ≡ true → is_some (over_on o.states id) ≡ true
 
 -- ---- all of them
 
--- The streams of a writer, of which its frames tell these marks: those that are open, those that were refused or reset before they
--- were a call's, and the calls in the order of their Opens.
-pub record Serves (run : List Step) (o : Outbound) (streams : List (ℕ × OpenStream)) (others : List (ℕ × Bool)) (calls : List (ℕ × List OutItem)) (marks : List (ℕ × Mark)) : Type 0 where
+-- The streams of a writer, of which its frames tell these marks: those that are open, and the calls in the order of their Opens.
+pub record Serves (run : List Step) (o : Outbound) (streams : List (ℕ × OpenStream)) (calls : List (ℕ × List OutItem)) (marks : List (ℕ × Mark)) : Type 0 where
   pub spells : SpellsOf run o marks
   -- of an open stream all is told but what is in hand
   pub exact : (id : ℕ) (stream : OpenStream) → lookup (nat_eq id) streams ≡ Some stream → IsExact id stream calls (marks_on id marks)
-  pub not_over : (id : ℕ) (stream : OpenStream) → lookup (nat_eq id) streams ≡ Some stream → lookup (nat_eq id) o.over.entries ≡ None
-  pub known : (id : ℕ) (stream : OpenStream) → lookup (nat_eq id) streams ≡ Some stream → knows o.credit id ≡ true
-  pub numbered : (id : ℕ) (stream : OpenStream) → lookup (nat_eq id) streams ≡ Some stream → is_stream id ≡ true
+  pub not_over : (id : ℕ) (stream : OpenStream) → lookup (nat_eq id) streams ≡ Some stream → over_on o.states id ≡ None
+  pub known : (id : ℕ) (stream : OpenStream) → lookup (nat_eq id) streams ≡ Some stream → knows o.states id ≡ true
   -- of a call whose stream isn't open, a front
   pub ended : (k : ℕ) (d : ℕ × List OutItem) → k < length calls → lookup (nat_eq (get_or calls k d).0) streams ≡ None → is_served (get_or calls k d).0 run ≡ true
-      → IsEnded (lookup (nat_eq (get_or calls k d).0) o.over.entries) (marks_on (get_or calls k d).0 marks) (get_or calls k d).1
+      → IsEnded (over_on o.states (get_or calls k d).0) (marks_on (get_or calls k d).0 marks) (get_or calls k d).1
   -- so of a call whose sender was given back
   pub returned : (id : ℕ) (items : List OutItem) → IsReturned id items run → is_served id run ≡ true
-      → (lookup (nat_eq id) streams ≡ None) × IsEnded (lookup (nat_eq id) o.over.entries) (marks_on id marks) items
+      → (lookup (nat_eq id) streams ≡ None) × IsEnded (over_on o.states id) (marks_on id marks) items
   pub stale : (id : ℕ) (items : List OutItem) → IsReturned id items run → is_fresh id run ≡ false
   -- a stream that two calls have is none that is served
   pub apart : (i j : ℕ) (d : ℕ × List OutItem) → i < length calls → j < length calls → i ≢ j → (get_or calls i d).0 ≡ (get_or calls j d).0
       → is_served (get_or calls i d).0 run ≡ false
   pub opened : (k : ℕ) (d : ℕ × List OutItem) → k < length calls → is_fresh (get_or calls k d).0 run ≡ false
-  pub credited : (id : ℕ) → knows o.credit id ≡ true → is_fresh id run ≡ false
-  pub served : (id : ℕ) → is_served id run ≡ true → is_stream id ≡ true → knows o.credit id ≡ true
-  pub due : All (MayBeDue run o streams others) o.due.items
+  pub due : All (MayBeDue run o streams) o.due.items
   -- of a stream of which nothing was heard nothing is told
-  pub unknown : (id : ℕ) → knows o.credit id ≡ false → lookup (nat_eq id) others ≡ None → (marks_on id marks ≡ []) × (lookup (nat_eq id) o.over.entries ≡ None)
-  -- of one that was reset before it was a call's, at most that
-  pub other : (id : ℕ) (was_reset : Bool) → lookup (nat_eq id) others ≡ Some was_reset → (lookup (nat_eq id) streams ≡ None)
-      × (is_fresh id run ≡ true → IsEnded (lookup (nat_eq id) o.over.entries) (marks_on id marks) [])
+  pub unknown : (id : ℕ) → is_heard o.states id ≡ false → marks_on id marks ≡ []
+  -- of one that was neither opened nor refused, at most a reset
+  pub other : (id : ℕ) → is_fresh id run ≡ true → IsEnded (over_on o.states id) (marks_on id marks) []
   -- a call's stream is open until its end was written or a Reset of it was taken
   pub stays : (id : ℕ) → is_served id run ≡ true → is_stream id ≡ true → lookup (nat_eq id) streams ≡ None
-      → (is_some (lookup (nat_eq id) o.over.entries) ≡ true) ⊎ (was_reset id run ≡ true)
-  pub early : (id : ℕ) (before : Bool) → lookup (nat_eq id) others ≡ Some before → is_fresh id run ≡ true → was_reset id run ≡ true
+      → (is_some (over_on o.states id) ≡ true) ⊎ (was_reset id run ≡ true)
+  pub early : (id : ℕ) → is_heard o.states id ≡ true → is_fresh id run ≡ true → was_reset id run ≡ true
   -- a stream that was heard of is open until its end was written, or it was called off or dropped
-  pub reasons : (id : ℕ) → is_stream id ≡ true → lookup (nat_eq id) streams ≡ None → (is_some (lookup (nat_eq id) others) || knows o.credit id) ≡ true
-      → (is_some (lookup (nat_eq id) o.over.entries) ≡ true) ⊎ (has_reason id run ≡ true)
-  pub heard : (id : ℕ) → is_opened id run ≡ true → is_stream id ≡ true → knows o.credit id ≡ true
-  -- a call's was opened
-  pub brought : (id : ℕ) → knows o.credit id ≡ true → is_opened id run ≡ true
-  pub uncalled : (id : ℕ) (was_reset : Bool) → knows o.credit id ≡ false → lookup (nat_eq id) others ≡ Some was_reset
-      → IsUncalled id run (lookup (nat_eq id) o.over.entries) (marks_on id marks)
+  pub reasons : (id : ℕ) → is_stream id ≡ true → lookup (nat_eq id) streams ≡ None → is_heard o.states id ≡ true
+      → (is_some (over_on o.states id) ≡ true) ⊎ (has_reason id run ≡ true)
+  -- a stream is a call's where an Open of it was taken
+  pub brought : (id : ℕ) → knows o.states id ≡ (is_stream id && is_opened id run)
+  pub uncalled : (id : ℕ) → knows o.states id ≡ false → IsUncalled id run (over_on o.states id) (marks_on id marks)
 
 -- ---- what an Outbound's calls change of it
+
+-- the refusal of a stream
+abbrev pub refuses : ℕ → Due → Bool
+refuses id (due_kind.Refuse stream fields) = id == stream
+refuses id _ = false
 
 -- these were put behind what was due, these streams are a call's now, and these limits of the header table were told to the encoder; the streams
 -- that are over, those that were reset, the first frame and the header block are the same
 pub record Takes (more : List Due) (is_new : ℕ → Bool) (limits : List ℕ) (old new : Outbound) : Type 0 where
   pub due : new.due.items ≡ old.due.items ++ more
-  pub knows : (id : ℕ) → knows new.credit id ≡ (is_new id || knows old.credit id)
-  pub resets : (id : ℕ) → is_reset new.credit id ≡ is_reset old.credit id
-  pub over : new.over ≡ old.over
+  pub knows : (id : ℕ) → knows new.states id ≡ (is_new id || knows old.states id)
+  pub heard : (id : ℕ) → is_heard new.states id ≡ ((is_new id || list_any (refuses id) more) || is_heard old.states id)
+  pub resets : (id : ℕ) → is_reset new.states id ≡ is_reset old.states id
+  pub over : SameOver old.states new.states
   pub begun : new.begun ≡ old.begun
   pub block : new.block ≡ old.block
   pub encoder : new.encoder ≡ limited_by old.encoder limits
@@ -146,17 +144,17 @@ none_is_new id = false
 
 -- a frame tells nothing of a stream, and no stream is over by it
 abbrev pub IsPlain : Frame → Outbound → Outbound → Type 0
-IsPlain frame old new = TellsMore frame [] old new × (new.over ≡ old.over) × ((front : List Due) × (old.due.items ≡ front ++ new.due.items) × AreOver old front)
+IsPlain frame old new = TellsMore frame [] old new × SameEnds old.states new.states × ((front : List Due) × (old.due.items ≡ front ++ new.due.items) × AreOver old front)
 
 -- it resets a stream, for which that was due
 abbrev pub IsReset : Frame → Outbound → Outbound → Type 0
 IsReset frame old new = (id : ℕ) × (code : ErrorCode) × (front : List Due) × (old.due.items ≡ front ++ due_kind.Reset id code ∷ new.due.items)
-    × TellsReset id frame old new × (lookup (nat_eq id) old.over.entries ≡ None) × Sets old.over.entries id true new.over.entries × AreOver old front
+    × TellsReset id frame old new × (over_on old.states id ≡ None) × SetsEnd old.states id true new.states × AreOver old front
 
 -- it begins the refusal of a stream, for which that was due
 abbrev pub IsRefusal : Frame → Outbound → Outbound → Type 0
 IsRefusal frame old new = (id : ℕ) × (fields : List Field) × (front : List Due) × (old.due.items ≡ front ++ due_kind.Refuse id fields ∷ new.due.items)
-    × TellsMore frame (block_marks id fields true) old new × (lookup (nat_eq id) old.over.entries ≡ None) × Sets old.over.entries id false new.over.entries × AreOver old front
+    × TellsMore frame (block_marks id fields true) old new × (over_on old.states id ≡ None) × SetsEnd old.states id false new.states × AreOver old front
 
 -- a frame that is none of an open stream
 abbrev pub IsOwn : Frame → Outbound → Outbound → Type 0
@@ -166,7 +164,7 @@ IsOwn frame old new = SameStanding old new × (IsPlain frame old new ⊎ (IsRese
 pub record Rests (old new : Outbound) : Type 0 where
   pub due : (front : List Due) × (old.due.items ≡ front ++ new.due.items) × AreOver old front
   pub standing : SameStanding old new
-  pub over : new.over ≡ old.over
+  pub over : SameEnds old.states new.states
   pub begun : new.begun ≡ old.begun
   pub block : new.block ≡ old.block
   pub encoder : new.encoder ≡ old.encoder

@@ -1,5 +1,5 @@
 -- What the calls of a writer's core change of what it keeps, where nothing is told.
-use Rattle.std.specs.Prelude.{◌≡◌, ◌==◌, ◌⊎◌, ◌&&◌, ℕ, Bool, true, false, not, is_some, List, [], ◌∷◌, ◌++◌, None, Some, is_none, nat_eq, if◌then◌else◌}
+use Rattle.std.specs.Prelude.{◌≡◌, ◌==◌, ◌&&◌, ℕ, Bool, false, not, is_some, List, [], ◌∷◌, ◌++◌, None, Some, nat_eq, if◌then◌else◌}
 use Rattle.std.specs.Map.{lookup}
 use Rattle.account.specs.declared.call.OutItem.{OutItem}
 use Rattle.h2frame.specs.declared.error_code.ErrorCode.{ErrorCode}
@@ -9,16 +9,15 @@ use Rattle.outwriter.specs.declared.out_core.OutCore.{OutCore}
 use Rattle.outwriter.specs.declared.outbound.Outbound.{Outbound}
 use Rattle.outwriter.specs.declared.stream.OpenStream.{OpenStream}
 use Rattle.outwriter.specs.Cores.{calls}
-use Rattle.outwriter.specs.Credits.{is_reset, knows}
+use Rattle.outwriter.specs.States.{is_heard, is_reset, knows, over_on}
 use Rattle.outwriter.specs.Histories.{is_stream}
-use Rattle.outwriter.specs.RunState.{Sets}
 use Rattle.outwriter.specs.Parts.{Mark}
 use Rattle.outwriter.specs.CallState.{Serves, Heeds, Takes}
 use Rattle.outwriter.specs.Steps.{Step}
 
 module _ {L In Out Shut : Type 0} where
   abbrev pub ServesOf : (Out → List OutItem) → List Step → OutCore L In Out Shut → List (ℕ × Mark) → Type 0
-  ServesOf got run core marks = Serves run core.outbound core.streams.entries core.others.entries (calls got core.senders.items) marks
+  ServesOf got run core marks = Serves run core.outbound core.streams.entries (calls got core.senders.items) marks
 
   -- whatever run led to the core before, with these steps it leads to the core after, and nothing more is told
   abbrev pub KeepsServing : (Out → List OutItem) → List Step → OutCore L In Out Shut → OutCore L In Out Shut → Type 0
@@ -26,32 +25,32 @@ module _ {L In Out Shut : Type 0} where
 
   -- and the ends that controls ask for are heeded still
   abbrev pub KeepsHeeds : (Out → List OutItem) → List Step → OutCore L In Out Shut → OutCore L In Out Shut → Type 0
-  KeepsHeeds got more old new = (run : List Step) (marks : List (ℕ × Mark)) → ServesOf got run old marks → Heeds run old.outbound old.streams.entries old.others.entries
-      → Heeds (more ++ run) new.outbound new.streams.entries new.others.entries
+  KeepsHeeds got more old new = (run : List Step) (marks : List (ℕ × Mark)) → ServesOf got run old marks → Heeds run old.outbound old.streams.entries
+      → Heeds (more ++ run) new.outbound new.streams.entries
 
 -- ---- an Open
 
 -- the stream is a call's from now on
 abbrev pub is_new_call : Outbound → ℕ → Bool
-is_new_call o id = is_stream id && not (knows o.credit id)
+is_new_call o id = is_stream id && not (knows o.states id)
 
 -- and it becomes open: it wasn't refused or reset before
-abbrev pub becomes_open : Outbound → List (ℕ × Bool) → ℕ → Bool
-becomes_open o others id = is_new_call o id && is_none (lookup (nat_eq id) others)
+abbrev pub becomes_open : Outbound → ℕ → Bool
+becomes_open o id = is_stream id && not (is_heard o.states id)
 
 abbrev pub stream_at : ℕ → OpenStream
 stream_at place = record { place = place; in_hand = None; in_turn = false }
 
 -- all that a call needs but its sender
-pub record Prepares (id place : ℕ) (old new : Outbound) (others : List (ℕ × Bool)) (streams left : List (ℕ × OpenStream)) : Type 0 where
+pub record Prepares (id place : ℕ) (old new : Outbound) (streams left : List (ℕ × OpenStream)) : Type 0 where
   pub takes : Takes [] (λ other. is_new_call old id && (other == id)) [] old new
-  pub opens : (k : ℕ) → lookup (nat_eq k) left ≡ (if becomes_open old others id && (k == id) then Some (stream_at place) else lookup (nat_eq k) streams)
+  pub opens : (k : ℕ) → lookup (nat_eq k) left ≡ (if becomes_open old id && (k == id) then Some (stream_at place) else lookup (nat_eq k) streams)
 
 -- ---- a Reset
 
 -- a stream has neither ended nor been reset
 abbrev pub may_write : Outbound → ℕ → Bool
-may_write o id = (is_stream id && not (is_some (lookup (nat_eq id) o.over.entries))) && not (is_reset o.credit id)
+may_write o id = (is_stream id && not (is_some (over_on o.states id))) && not (is_reset o.states id)
 
 -- what is due by a Reset: RST_STREAM, where it is to be written and the stream had neither ended nor been reset
 abbrev pub due_reset : Outbound → ℕ → ErrorCode → Bool → List Due
@@ -60,10 +59,3 @@ due_reset o id code written = if written && may_write o id then due_kind.Reset i
 -- a stream isn't open any more
 abbrev pub Closes : ℕ → List (ℕ × OpenStream) → List (ℕ × OpenStream) → Type 0
 Closes id streams left = (k : ℕ) → lookup (nat_eq k) left ≡ (if k == id then None else lookup (nat_eq k) streams)
-
--- so it is with a stream that was reset, if it is a call's; else it is kept among the others. What is no stream changes nothing.
-abbrev pub Shuts : ℕ → Outbound → List (ℕ × OpenStream) → List (ℕ × OpenStream) → List (ℕ × Bool) → List (ℕ × Bool) → Type 0
-Shuts id o streams left others more =
-    ((is_stream id ≡ false) × (left ≡ streams) × (more ≡ others))
-    ⊎ (((knows o.credit id ≡ true) × Closes id streams left × (more ≡ others))
-    ⊎ ((knows o.credit id ≡ false) × (left ≡ streams) × Sets others id true more))

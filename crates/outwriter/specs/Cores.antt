@@ -65,7 +65,7 @@ module _ {L In Out Shut : Type 0} where
     pub others : TellOthers run
     pub closed : is_closed run ≡ core.closed
     pub serves : core.is_dead ≡ false
-        → (marks : List (ℕ × Mark)) × Serves run core.outbound core.streams.entries core.others.entries (calls got core.senders.items) marks × Heeds run core.outbound core.streams.entries core.others.entries
+        → (marks : List (ℕ × Mark)) × Serves run core.outbound core.streams.entries (calls got core.senders.items) marks × Heeds run core.outbound core.streams.entries
 
   -- whatever run led to the core before, with this step it leads to the core after
   abbrev pub ServesOn : (Out → List OutItem) → Step → OutCore L In Out Shut → OutCore L In Out Shut → Type 0

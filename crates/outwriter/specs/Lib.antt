@@ -7,7 +7,7 @@ pub mod ToldByNow
 pub mod Calls
 pub mod HeaderBlocks
 pub mod Blocks
-pub mod Credits
+pub mod States
 pub mod Polls
 pub mod Resizes
 pub mod TableLimits

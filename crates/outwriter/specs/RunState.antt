@@ -1,7 +1,6 @@
 -- What a writer keeps follows from its run.
-use Rattle.std.specs.Prelude.{◌≡◌, ◌≢◌, ◌⊎◌, ◌&&◌, All, ℕ, ◌+◌, ◌≤◌, ◌==◌, Bool, true, false, List, [], ◌∷◌, ◌++◌, flat_map, Option, None, Some, IfSome, MatchOption, Result, Ok, Err, is_some, nat_eq, nat_lt, if◌then◌else◌}
+use Rattle.std.specs.Prelude.{◌≡◌, ◌≢◌, ◌⊎◌, ◌&&◌, All, ℕ, ◌+◌, ◌≤◌, ◌==◌, Bool, true, false, List, [], ◌∷◌, ◌++◌, flat_map, Option, None, Some, IfSome, MatchOption, Result, Ok, Err, is_some, nat_lt, if◌then◌else◌}
 use Rattle.std.specs.List.{list_any}
-use Rattle.std.specs.Map.{lookup}
 use Rattle.flow.specs.WindowHistory.{Follows, Closing, Spending, CanCredit, CanResize}
 use Rattle.flow.specs.WindowHistory.{Step as WindowStep}
 use Rattle.flow.specs.Windows.{Windows}
@@ -18,7 +17,7 @@ use Rattle.outwriter.specs.declared.next.Next.TheVariants as next
 use Rattle.outwriter.specs.declared.due.Due.{Due}
 use Rattle.outwriter.specs.declared.due.Due.TheVariants as due_kind
 use Rattle.outwriter.specs.declared.outbound.Outbound.{Outbound}
-use Rattle.outwriter.specs.Credits.{Owed, owed_on, pays, knows, is_reset}
+use Rattle.outwriter.specs.States.{States, SetsEnd, over_on, owed_on, pays, knows, is_reset}
 use Rattle.outwriter.specs.Frames.{is_last, resets, settings_ack, ping_ack, goaway_frame}
 use Rattle.outwriter.specs.Histories.{HasHistory, HasWindow, Overflows, window_sizes, is_over, is_stream}
 use Rattle.outwriter.specs.Runs.{IsLawful, has_begun, IsAsked, due, told, unfinished, granted, updated, owed, may_owe, is_opened, was_reset, MayWrite}
@@ -28,10 +27,10 @@ use Rattle.outwriter.specs.Steps.{Step, Taken, Written, frames_of, order_of}
 abbrev pub HasWindows : List Step → Windows → Type 0
 HasWindows run windows = (history : List WindowStep) × HasHistory run history × Follows history windows
 
--- the streams that are over, and whether it was by RST_STREAM
-abbrev pub HasOver : List Step → List (ℕ × Bool) → Type 0
-HasOver run over = (id : ℕ) → (is_some (lookup (nat_eq id) over) ≡ is_over id run)
-    × (lookup (nat_eq id) over ≢ Some true → list_any (resets id) (frames_of run) ≡ false)
+-- on which streams END_STREAM or RST_STREAM was written, and RST_STREAM only where it is said
+abbrev pub HasOver : List Step → States → Type 0
+HasOver run states = (id : ℕ) → (is_some (over_on states id) ≡ is_over id run)
+    × (over_on states id ≢ Some true → list_any (resets id) (frames_of run) ≡ false)
 
 abbrev pub duties_of : Due → List Frame
 duties_of due_kind.SettingsAck = settings_ack ∷ []
@@ -63,26 +62,30 @@ HasHead frames None = Unit {0}
 HasHead frames (Some block) = list_any (resets block.id) frames ≡ false
 
 -- no more credit was written than was granted, with what is owed
-abbrev pub HasCredit : List Step → Owed → Type 0
+abbrev pub HasCredit : List Step → States → Type 0
 HasCredit run owed = (id : ℕ) → updated id run + owed_on owed id ≤ granted id run
 
 -- what is owed follows from the run, and on which streams it may be
-abbrev pub HasOwed : List Step → Owed → Type 0
+abbrev pub HasOwed : List Step → States → Type 0
 HasOwed run kept = (id : ℕ) → (owed_on kept id ≡ owed id run) × (pays kept id ≡ may_owe id run) × (knows kept id ≡ true → is_opened id run ≡ true)
 
 -- a stream whose RST_STREAM was written was reset
-abbrev pub HasSilence : List (ℕ × Bool) → Owed → Type 0
-HasSilence over owed = (id : ℕ) → lookup (nat_eq id) over ≡ Some true → is_reset owed id ≡ true
+abbrev pub HasSilence : States → Type 0
+HasSilence states = (id : ℕ) → over_on states id ≡ Some true → is_reset states id ≡ true
 
 -- those are the streams of which a Reset was taken
-abbrev pub HasResets : List Step → Owed → Type 0
-HasResets run owed = (id : ℕ) → is_stream id ≡ true → is_reset owed id ≡ was_reset id run
+abbrev pub HasResets : List Step → States → Type 0
+HasResets run states = (id : ℕ) → is_stream id ≡ true → is_reset states id ≡ was_reset id run
+
+-- how each stream stands follows from the run; the connection doesn't end
+pub record HasStates (run : List Step) (states : States) : Type 0 where
+  pub over : HasOver run states
+  pub silent : HasSilence states
+  pub resets : HasResets run states
+  pub owes : HasOwed run states
+  pub no_stream_0 : over_on states 0 ≡ None
 
 -- ---- what a frame changes
-
--- a map of streams in which one has another value
-abbrev pub Sets : List (ℕ × Bool) → ℕ → Bool → List (ℕ × Bool) → Type 0
-Sets over id value after = (k : ℕ) → lookup (nat_eq k) after ≡ (if k == id then Some value else lookup (nat_eq k) over)
 
 -- what the end of a stream closes
 abbrev pub closing : ℕ → Bool → List WindowStep
@@ -97,29 +100,25 @@ abbrev pub Keeps : ℕ → Bool → Option HeaderBlock → Type 0
 Keeps id true left = left ≡ None
 Keeps id false left = MatchOption left ⊥ (λ block. (block.begun ≡ true) × (block.id ≡ id))
 
--- the streams that are over, where one may be over now
-abbrev pub Ends : List (ℕ × Bool) → ℕ → Bool → List (ℕ × Bool) → Type 0
-Ends over id true after = Sets over id false after
-Ends over id false after = after ≡ over
+-- the end of a stream is written, where it is one
+abbrev pub Ends : States → ℕ → Bool → States → Type 0
+Ends old id true new = SetsEnd old id false new
+Ends old id false new = new ≡ old
 
 -- ---- all of it
 
-pub record Mirrors (run : List Step) (begun gone : Bool) (windows : Windows) (over : List (ℕ × Bool)) (waiting : List Due) (block : Option HeaderBlock) (owed : Owed) : Type 0 where
+pub record Mirrors (run : List Step) (begun gone : Bool) (windows : Windows) (waiting : List Due) (block : Option HeaderBlock) (states : States) : Type 0 where
   pub begins : has_begun (frames_of run) ≡ begun
   pub goes : list_any is_last (frames_of run) ≡ gone
   pub windows_follow : HasWindows run windows
-  pub is_over : HasOver run over
   pub answers : HasDue run waiting
   pub goes_on : HasBlock run block
   pub not_reset : HasHead (frames_of run) block
-  pub credits : HasCredit run owed
-  pub silent : HasSilence over owed
-  pub resets : HasResets run owed
-  pub owes : HasOwed run owed
-  pub no_stream_0 : lookup (nat_eq 0) over ≡ None
+  pub credits : HasCredit run states
+  pub stand : HasStates run states
 
 abbrev pub MirrorsOf : List Step → Outbound → Type 0
-MirrorsOf run o = Mirrors run o.begun o.gone o.windows o.over.entries o.due.items o.block o.credit
+MirrorsOf run o = Mirrors run o.begun o.gone o.windows o.due.items o.block o.states
 
 -- whatever run led to the state before, with this step it leads to the state after
 abbrev pub Leads : Step → Outbound → Outbound → Type 0
@@ -137,7 +136,7 @@ pub record IsBetween (o : Outbound) : Type 0 where
 
 -- the same for a frame that was first among those that are due, and is no longer among them
 abbrev pub MirrorsWith : List Step → Due → Outbound → Type 0
-MirrorsWith run one o = Mirrors run o.begun o.gone o.windows o.over.entries (one ∷ o.due.items) o.block o.credit
+MirrorsWith run one o = Mirrors run o.begun o.gone o.windows (one ∷ o.due.items) o.block o.states
 
 abbrev pub WritesDue : Due → Frame → Outbound → Outbound → Type 0
 WritesDue one frame old new = (run : List Step) → MirrorsWith run one old → MayWrite run frame × MirrorsOf (Written frame ∷ run) new
@@ -149,7 +148,7 @@ WritesOrSkips one None old new = (duties_of one ≡ []) × (new ≡ old)
 
 -- a header block begins, whatever was due with what is due now
 abbrev pub Heads : Frame → Outbound → Outbound → Type 0
-Heads frame old new = (run : List Step) (before : List Due) → Mirrors run old.begun old.gone old.windows old.over.entries before old.block old.credit
+Heads frame old new = (run : List Step) (before : List Due) → Mirrors run old.begun old.gone old.windows before old.block old.states
     → HasDue run old.due.items → MayWrite run frame × MirrorsOf (Written frame ∷ run) new
 
 -- a frame, if there is one; else nothing changed
@@ -197,7 +196,7 @@ Answers next.Over old new = Remains old new
 
 -- no header block is unfinished, nothing is due and no credit is owed; or nothing is written any more
 abbrev pub IsSpent : Outbound → Type 0
-IsSpent o = (o.gone ≡ true) ⊎ ((o.block ≡ None) × (o.due.items ≡ []) × ((id : ℕ) → owed_on o.credit id ≡ 0))
+IsSpent o = (o.gone ≡ true) ⊎ ((o.block ≡ None) × (o.due.items ≡ []) × ((id : ℕ) → owed_on o.states id ≡ 0))
 
 -- all that controls obliged to was written, each header block is whole and no credit is owed; or nothing is written any more
 abbrev pub IsAnswered : List Step → Type 0
@@ -211,7 +210,7 @@ AnswersAll next.Over o = (run : List Step) → Reached run o → IsAnswered run
 
 -- what is due and what is owed is the same
 abbrev pub SameOwn : Outbound → Outbound → Type 0
-SameOwn old new = (new.due ≡ old.due) × (new.credit ≡ old.credit) × (new.block ≡ old.block)
+SameOwn old new = (new.due ≡ old.due) × (new.states ≡ old.states) × (new.block ≡ old.block)
 
 -- an item is in hand, and the windows let nothing through
 abbrev pub is_held : Option OpenStream → ℕ → Bool

@@ -108,7 +108,7 @@ module _ {L In Out Shut : Type 0} where
 
   -- all that is kept of the calls follows from the run
   abbrev pub Holds : (Out → List OutItem) → List Step → OutCore L In Out Shut → Type 0
-  Holds got run core = (marks : List (ℕ × Mark)) × Serves run core.outbound core.streams.entries core.others.entries (calls got core.senders.items) marks × Heeds run core.outbound core.streams.entries core.others.entries
+  Holds got run core = (marks : List (ℕ × Mark)) × Serves run core.outbound core.streams.entries (calls got core.senders.items) marks × Heeds run core.outbound core.streams.entries
 
   -- a frame, if there is one, is the next step
   abbrev pub HoldsOn : (Out → List OutItem) → Option Frame → OutCore L In Out Shut → OutCore L In Out Shut → Type 0

@@ -1,6 +1,5 @@
 -- What a run has told by now, with the rest of a header block that is begun.
-use Rattle.std.specs.Prelude.{◌≡◌, ◌≤◌, ℕ, Bool, true, false, List, [], ◌∷◌, ◌++◌, Option, None, Some, IfSome, nat_eq}
-use Rattle.std.specs.Map.{lookup}
+use Rattle.std.specs.Prelude.{◌≡◌, ◌≤◌, ℕ, Bool, true, false, List, [], ◌∷◌, ◌++◌, Option, None, Some, IfSome}
 use Rattle.h2frame.specs.declared.frame.Frame.{Frame}
 use Rattle.lists.specs.declared.field.Field.{Field}
 use Rattle.hpack_codec.specs.Block.{IsBlock}
@@ -10,8 +9,7 @@ use Rattle.outwriter.specs.declared.blocks.HeaderBlock.{HeaderBlock}
 use Rattle.outwriter.specs.declared.due.Due.{Due}
 use Rattle.outwriter.specs.declared.due.Due.TheVariants as due_kind
 use Rattle.outwriter.specs.declared.outbound.Outbound.{Outbound}
-use Rattle.outwriter.specs.Credits.{is_reset, knows}
-use Rattle.outwriter.specs.RunState.{Sets}
+use Rattle.outwriter.specs.States.{SameEnds, SetsEnd, is_heard, is_reset, knows, over_on}
 use Rattle.outwriter.specs.Parts.{Mark, Fields, Reset, end_mark, on_stream, Tells}
 use Rattle.outwriter.specs.Runs.{Fragments, unfinished}
 use Rattle.outwriter.specs.Steps.{Step, Written}
@@ -67,9 +65,10 @@ TellsReset id frame old new = (code : ℕ) × TellsMore frame ((id, Reset code) 
 
 -- ---- frames that were due
 
--- of the same streams there are calls, and the same were reset
+-- of the same streams there are calls, the same were reset, and those that were heard of were
 abbrev pub SameStanding : Outbound → Outbound → Type 0
-SameStanding old new = (id : ℕ) → (knows new.credit id ≡ knows old.credit id) × (is_reset new.credit id ≡ is_reset old.credit id)
+SameStanding old new = (id : ℕ) → (knows new.states id ≡ knows old.states id) × (is_reset new.states id ≡ is_reset old.states id)
+    × (is_heard old.states id ≡ true → is_heard new.states id ≡ true)
 
 -- what else is due is the same, and how the streams stand
 abbrev pub KeepsDue : Outbound → Outbound → Type 0
@@ -77,13 +76,13 @@ KeepsDue old new = (new.due ≡ old.due) × SameStanding old new
 
 -- a stream is over, on which nothing was
 abbrev pub EndsOne : ℕ → Bool → Outbound → Outbound → Type 0
-EndsOne id is_reset old new = (lookup (nat_eq id) old.over.entries ≡ None) × Sets old.over.entries id is_reset new.over.entries
+EndsOne id is_reset old new = (over_on old.states id ≡ None) × SetsEnd old.states id is_reset new.states
 
 -- the frame for what was due, and is no longer among what is due: one for a stream ends it, and tells that; others tell nothing
 abbrev pub TellsDue : Due → Frame → Outbound → Outbound → Type 0
 TellsDue (due_kind.Reset id code) frame old new = TellsReset id frame old new × EndsOne id true old new
 TellsDue (due_kind.Refuse id fields) frame old new = TellsMore frame (block_marks id fields true) old new × EndsOne id false old new
-TellsDue _ frame old new = TellsMore frame [] old new × (new.over ≡ old.over)
+TellsDue _ frame old new = TellsMore frame [] old new × SameEnds old.states new.states
 
 abbrev pub OwnByDue : Due → Frame → Outbound → Outbound → Type 0
 OwnByDue one frame old new = KeepsDue old new × TellsDue one frame old new

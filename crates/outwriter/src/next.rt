@@ -36,7 +36,7 @@ impl<L: Lane<Item = OutItem>> OutCore<L> {
     ghost use Rattle.h2frame.specs.Spelling.{IsWritable};
     ghost use Rattle.outwriter.specs.Frames.{IsSound};
     ghost use Rattle.outwriter.specs.Cores.{Serving, ServesNext, QuietNext, NoFrameNext, EndedNext, ClosedNext, PartsAfter, calls, lanes};
-    ghost use Rattle.outwriter.specs.Credits.{is_reset};
+    ghost use Rattle.outwriter.specs.States.{is_reset, over_on};
     ghost use Rattle.outwriter.specs.Polls.{coming};
     ghost use Rattle.outwriter.specs.StreamLooks.{shows, SameHands, HandIs, HandKeeps, Removes, ids, TakesAt, SameAhead, aheads, HoldsOn, KeepsFronts, TellsData, GetsStuck, LooksAt, frame_in, AllStuck, GetsQuiet};
     ghost use Rattle.outwriter.specs.Steps.{Step};
@@ -249,7 +249,6 @@ impl<L: Lane<Item = OutItem>> OutCore<L> {
         ensures hands { SameHands self.old.streams.entries self.new.streams.entries }
         ensures ids { ids self.new.streams.entries ≡ ids self.old.streams.entries }
         ensures senders { self.new.senders ≡ self.old.senders }
-        ensures others { self.new.others ≡ self.old.others }
         ensures alive { self.new.is_dead ≡ self.old.is_dead }
     {
         if let Some(stream) = self.streams.get_mut(&id) {
@@ -265,7 +264,6 @@ impl<L: Lane<Item = OutItem>> OutCore<L> {
         ensures hands { SameHands self.old.streams.entries self.new.streams.entries }
         ensures ids { ids self.new.streams.entries ≡ ids self.old.streams.entries }
         ensures senders { self.new.senders ≡ self.old.senders }
-        ensures others { self.new.others ≡ self.old.others }
         ensures alive { self.new.is_dead ≡ self.old.is_dead }
     {
         if let Some(stream) = self.streams.get_mut(&id) {
@@ -341,7 +339,6 @@ impl<L: Lane<Item = OutItem>> OutCore<L> {
         ensures ahead { SameAhead (shows self.old.streams.entries id) (aheads (coming L.got L.ahead) self.old.senders.items) (aheads (coming L.got L.ahead) self.new.senders.items) }
         ensures senders { lanes L.out_name self.new.senders.items ≡ lanes L.out_name self.old.senders.items }
         ensures ids { ids self.new.streams.entries ≡ ids self.old.streams.entries }
-        ensures others { self.new.others ≡ self.old.others }
         ensures alive { self.new.is_dead ≡ self.old.is_dead }
     {
         let Some(stream) = self.streams.get_mut(&id) else {
@@ -358,8 +355,8 @@ impl<L: Lane<Item = OutItem>> OutCore<L> {
         requires between { IsBetween self.old.outbound }
         requires stream { 0 < id }
         requires number { id < 2 ^ 31 }
-        requires open { lookup (nat_eq id) self.old.outbound.over.entries ≡ None }
-        requires unreset { is_reset self.old.outbound.credit id ≡ false }
+        requires open { over_on self.old.outbound.states id ≡ None }
+        requires unreset { is_reset self.old.outbound.states id ≡ false }
         requires some { 0 < length bytes }
         ensures sound { IfOk result (λ l. IfSome (frame_in l) IsSound) }
         ensures numbered { IfOk result (λ l. IfSome (frame_in l) (λ frame. frame.head.stream < 2 ^ 31)) }
@@ -370,7 +367,6 @@ impl<L: Lane<Item = OutItem>> OutCore<L> {
         ensures looks { IfOk result (λ l. l ≢ looked.Empty) }
         ensures ids { ids self.new.streams.entries ≡ ids self.old.streams.entries }
         ensures senders { self.new.senders ≡ self.old.senders }
-        ensures others { self.new.others ≡ self.old.others }
         ensures alive { self.new.is_dead ≡ self.old.is_dead }
     {
         let len = self.outbound.room(id, bytes.len());
@@ -390,7 +386,6 @@ impl<L: Lane<Item = OutItem>> OutCore<L> {
         ensures closed { self.new.closed ≡ self.old.closed }
         ensures ended { Removes id ends self.old.streams.entries self.new.streams.entries }
         ensures senders { self.new.senders ≡ self.old.senders }
-        ensures others { self.new.others ≡ self.old.others }
         ensures alive { self.new.is_dead ≡ self.old.is_dead }
     {
         if ends {
@@ -405,7 +400,6 @@ impl<L: Lane<Item = OutItem>> OutCore<L> {
         ensures kept { HandKeeps id bytes self.old.streams.entries self.new.streams.entries }
         ensures ids { ids self.new.streams.entries ≡ ids self.old.streams.entries }
         ensures senders { self.new.senders ≡ self.old.senders }
-        ensures others { self.new.others ≡ self.old.others }
         ensures alive { self.new.is_dead ≡ self.old.is_dead }
     {
         if bytes.is_empty() {

@@ -16,12 +16,12 @@ ghost use Rattle.outwriter.specs.RunState.{Reached, GoesOn, Takes, Leads, Stays,
 ghost use Rattle.std.specs.Map.{lookup};
 ghost use Rattle.flow.specs.Windows.{room};
 ghost use Rattle.outwriter.specs.Calls.{TellFronts, TellReturned, TellOthers};
-ghost use Rattle.outwriter.specs.Credits.{is_reset, knows};
+ghost use Rattle.outwriter.specs.States.{SameOver, is_heard, is_reset, knows};
 ghost use Rattle.outwriter.specs.Histories.{is_stream as is_number};
 ghost use Rattle.h2frame.specs.Spelling.{IsWritable};
 ghost use Rattle.outwriter.specs.Frames.{goaway_frame};
 ghost use Rattle.outwriter.specs.Runs.{MayWrite};
-ghost use Rattle.outwriter.specs.CoreChanges.{KeepsServing, KeepsHeeds, Prepares, Shuts, due_reset};
+ghost use Rattle.outwriter.specs.CoreChanges.{KeepsServing, KeepsHeeds, Prepares, Closes, due_reset};
 ghost use Rattle.outwriter.specs.CallState.{none_is_new};
 ghost use Rattle.outwriter.specs.CallState.{Takes as KeepsCalls};
 ghost use Rattle.outwriter.specs.Steps.{Step, Taken, Granted};
@@ -55,8 +55,6 @@ pub struct OutCore<L: Lane<Item = OutItem>> {
     pub(crate) senders: Vec<(StreamId, Sender<L>)>,
     /// The open streams.
     pub(crate) streams: IndexMap<StreamId, OpenStream>,
-    /// Streams that were refused or reset, and were no call's by then: whether they were reset.
-    pub(crate) others: IndexMap<StreamId, bool>,
     /// The open streams that had something when they were looked at last, and take turns.
     pub(crate) ready: VecDeque<StreamId>,
     /// Which open stream is looked at next out of turn.
@@ -79,7 +77,6 @@ impl<L: Lane<Item = OutItem>> OutCore<L> {
             outbound: Outbound::new(alloc),
             senders: Vec::new(alloc),
             streams: IndexMap::new(alloc),
-            others: IndexMap::new(alloc),
             ready: VecDeque::new(alloc),
             cursor: 0,
         }
@@ -239,10 +236,9 @@ impl<L: Lane<Item = OutItem>> OutCore<L> {
         ensures taken { OnOk result (Leads (Taken (order.Open id tt)) self.old.outbound self.new.outbound) }
         ensures room { OnOk result (vec_len self.new.senders < vec_capacity self.new.senders) }
         ensures stays { OnErr result (Stays self.old.outbound self.new.outbound) }
-        ensures call { OnOk result (Prepares id (length self.old.senders.items) self.old.outbound self.new.outbound self.old.others.entries self.old.streams.entries self.new.streams.entries) }
+        ensures call { OnOk result (Prepares id (length self.old.senders.items) self.old.outbound self.new.outbound self.old.streams.entries self.new.streams.entries) }
         ensures none { OnErr result (KeepsCalls [] none_is_new [] self.old.outbound self.new.outbound) }
         ensures streams { OnErr result (self.new.streams.entries ≡ self.old.streams.entries) }
-        ensures others { self.new.others.entries ≡ self.old.others.entries }
         ensures senders { self.new.senders.items ≡ self.old.senders.items }
         ensures closed { self.new.closed ≡ self.old.closed }
         ensures alive { self.new.is_dead ≡ self.old.is_dead }
@@ -251,10 +247,10 @@ impl<L: Lane<Item = OutItem>> OutCore<L> {
         self.senders.reserve(1)?;
         self.ready.reserve(self.streams.len().saturating_add(1))?;
         self.streams.reserve(1)?;
-        let is_new = is_stream(id) && !self.outbound.credit.has(id);
-        let is_other = self.others.contains_key(&id);
+        let is_new = is_stream(id) && !self.outbound.states.state(id).is_call();
+        let is_open = is_stream(id) && !self.outbound.states.is_heard(id);
         self.outbound.take_open(id, is_new)?;
-        if is_new && !is_other {
+        if is_open {
             let stream = OpenStream {
                 place: self.senders.len(),
                 in_hand: None,
@@ -279,14 +275,13 @@ impl<L: Lane<Item = OutItem>> OutCore<L> {
         ensures alive { self.new.is_dead ≡ self.old.is_dead }
         ensures encoder { self.new.outbound.encoder ≡ self.old.outbound.encoder }
     {
-        if !is_stream(id) || self.outbound.credit.has(id) || self.others.contains_key(&id) {
+        if !is_stream(id) || self.outbound.states.is_heard(id) {
             return Ok(());
         }
-        if self.others.insert(id, false).is_err() {
-            return Err(OutFault::OutOfMemory(Some(Control::Refuse(id, fields))));
+        match self.outbound.take_refuse(id, fields) {
+            Ok(()) => Ok(()),
+            Err(fields) => Err(OutFault::OutOfMemory(Some(Control::Refuse(id, fields)))),
         }
-        self.outbound.take_refuse(id, fields);
-        Ok(())
     }
 
     /// Resets a stream. Nothing is written of one that has ended or was reset.
@@ -314,31 +309,24 @@ impl<L: Lane<Item = OutItem>> OutCore<L> {
         }
     }
 
-    /// The same, if there is memory for it. The stream isn't open any more; if it is no call's, it is kept among the others.
+    /// The same, if there is memory for it. The stream isn't open any more.
     fn ends(&mut self, id: StreamId, code: ErrorCode, written: bool) -> Result<(), AllocError>
         requires room { deque_len self.old.outbound.due < deque_capacity self.old.outbound.due }
         ensures taken { OnOk result (Leads (Taken (order.Reset id code written)) self.old.outbound self.new.outbound) }
-        ensures takes { OnOk result (KeepsCalls (due_reset self.old.outbound id code written) none_is_new [] (record self.old.outbound { credit = self.new.outbound.credit }) self.new.outbound) }
-        ensures marks { OnOk result ((k : ℕ) → (knows self.new.outbound.credit k ≡ knows self.old.outbound.credit k) × (is_reset self.new.outbound.credit k ≡ ((is_number id && (k == id)) || is_reset self.old.outbound.credit k))) }
-        ensures shuts { OnOk result (Shuts id self.old.outbound self.old.streams.entries self.new.streams.entries self.old.others.entries self.new.others.entries) }
+        ensures takes { OnOk result (KeepsCalls (due_reset self.old.outbound id code written) none_is_new [] (record self.old.outbound { states = self.new.outbound.states }) self.new.outbound) }
+        ensures marks { OnOk result ((k : ℕ) → (knows self.new.outbound.states k ≡ knows self.old.outbound.states k) × (is_reset self.new.outbound.states k ≡ ((is_number id && (k == id)) || is_reset self.old.outbound.states k))) }
+        ensures heard { OnOk result ((k : ℕ) → is_heard self.new.outbound.states k ≡ ((is_number id && (k == id)) || is_heard self.old.outbound.states k)) }
+        ensures over { OnOk result (SameOver self.old.outbound.states self.new.outbound.states) }
+        ensures closes { OnOk result (Closes id self.old.streams.entries self.new.streams.entries) }
         ensures outbound { OnErr result (self.new.outbound ≡ self.old.outbound) }
         ensures streams { OnErr result (self.new.streams.entries ≡ self.old.streams.entries) }
-        ensures others { OnErr result (self.new.others.entries ≡ self.old.others.entries) }
         ensures senders { self.new.senders.items ≡ self.old.senders.items }
         ensures closed { self.new.closed ≡ self.old.closed }
         ensures alive { self.new.is_dead ≡ self.old.is_dead }
         ensures encoder { self.new.outbound.encoder ≡ self.old.outbound.encoder }
     {
-        self.others.reserve(1)?;
         self.outbound.take_reset(id, code, written)?;
-        if !is_stream(id) {
-            return Ok(());
-        }
-        if self.outbound.credit.has(id) {
-            self.streams.swap_remove(&id);
-            return Ok(());
-        }
-        let _ = self.others.insert(id, true);
+        self.streams.swap_remove(&id);
         Ok(())
     }
 }

@@ -8,7 +8,7 @@ ghost use Rattle.std.specs.Prelude.{Err, ◌==◌, ◌∷◌, if◌then◌else�
 ghost use Rattle.flow.specs.WindowHistory.{Follows, CanCredit, CanResize};
 ghost use Rattle.flow.specs.WindowHistory.{Step as WindowStep};
 ghost use Rattle.flow.specs.Windows.{balance};
-ghost use Rattle.outwriter.specs.Credits.{is_reset, knows, owed_on, nothing_owed, pays};
+ghost use Rattle.outwriter.specs.States.{SameOver, is_heard, is_reset, knows, owed_on, nothing_known, pays};
 ghost use Rattle.outwriter.specs.RunState.{HasOver};
 ghost use Rattle.outwriter.specs.Histories.{is_stream as is_number, table_sizes};
 ghost use Rattle.outwriter.specs.TableLimits.{limited_by};
@@ -16,13 +16,12 @@ ghost use Rattle.outwriter.specs.ToldByNow.{SpellsOf};
 ghost use Rattle.flow.specs.declared.send_windows.WindowFault.TheVariants as window_fault;
 
 use crate::blocks::HeaderBlock;
-use crate::credit::Credit;
 use crate::due::Due;
 use crate::resize::resize;
+use crate::states::StreamStates;
 use flow::{MAX_WINDOW, SendWindows, WindowFault};
 use h2frame::{ErrorCode, PeerSetting, PeerSettings, StreamId};
 use hpack_codec::Encoder;
-use indexmap::IndexMap;
 use lists::{Field, Sequence};
 use std::alloc::{AllocError, Global};
 use std::collections::VecDeque;
@@ -39,10 +38,8 @@ pub(crate) struct Outbound {
     pub(crate) encoder: Encoder,
     /// The header block that was begun and isn't whole.
     pub(crate) block: Option<HeaderBlock>,
-    /// The streams on which END_STREAM or RST_STREAM was written, and whether it was RST_STREAM.
-    pub(crate) over: IndexMap<StreamId, bool>,
     pub(crate) due: VecDeque<Due>,
-    pub(crate) credit: Credit,
+    pub(crate) states: StreamStates,
 }
 
 impl Outbound {
@@ -60,8 +57,7 @@ impl Outbound {
         ensures mirrors { MirrorsOf [] result }
         ensures spells { SpellsOf [] result [] }
         ensures due { result.due.items ≡ [] }
-        ensures credit { result.credit ≡ nothing_owed }
-        ensures over { result.over.entries ≡ [] }
+        ensures states { result.states ≡ nothing_known }
     {
         Outbound {
             alloc,
@@ -70,9 +66,8 @@ impl Outbound {
             windows: SendWindows::new(alloc),
             encoder: Encoder::new(alloc),
             block: None,
-            over: IndexMap::new(alloc),
             due: VecDeque::new(alloc),
-            credit: Credit::new(alloc),
+            states: StreamStates::new(alloc),
         }
     }
 
@@ -87,7 +82,7 @@ impl Outbound {
     pub(crate) fn make_room(&mut self) -> Result<(), AllocError>
         ensures stays { Stays self.old self.new }
         ensures room { OnOk result (deque_len self.new.due < deque_capacity self.new.due) }
-        ensures credit { self.new.credit ≡ self.old.credit }
+        ensures states { self.new.states ≡ self.old.states }
         ensures windows { self.new.windows ≡ self.old.windows }
         ensures takes { Takes [] none_is_new [] self.old self.new }
         ensures encoder { self.new.encoder ≡ self.old.encoder }
@@ -132,10 +127,10 @@ impl Outbound {
         !is_overflow(credited)
     }
 
-    /// Opens the window of a call's stream, unless it is open or over, and its credit, if the stream is new. Out of
+    /// Opens the window of a call's stream, unless it is open or over, and its state, if the stream is new. Out of
     /// memory, it changes nothing.
     pub(crate) fn take_open(&mut self, id: StreamId, is_new: bool) -> Result<(), AllocError>
-        requires { is_new ≡ (is_number id && not (knows self.old.credit id)) }
+        requires { is_new ≡ (is_number id && not (knows self.old.states id)) }
         ensures taken { OnOk result (Leads (Taken (order.Open id tt)) self.old self.new) }
         ensures stays { OnErr result (Stays self.old self.new) }
         ensures takes { OnOk result (Takes [] (λ other. is_new && (other == id)) [] self.old self.new) }
@@ -143,12 +138,12 @@ impl Outbound {
         ensures encoder { self.new.encoder ≡ self.old.encoder }
     {
         if !self.opens(id) {
-            return open_credit(&mut self.credit, id, is_new);
+            return open_state(&mut self.states, id, is_new);
         }
         let Ok(()) = self.windows.open(id) else {
             return Err(AllocError);
         };
-        match open_credit(&mut self.credit, id, is_new) {
+        match open_state(&mut self.states, id, is_new) {
             Ok(()) => Ok(()),
             Err(e) => {
                 self.windows.close(id);
@@ -159,21 +154,35 @@ impl Outbound {
 
     /// Whether an Open opens a stream's window.
     fn opens(&self, id: StreamId) -> bool
-        ensures value { (run : List Step) (history : List WindowStep) → HasOver run self.now.over.entries → Follows history self.now.windows → result ≡ opens run history id }
+        ensures value { (run : List Step) (history : List WindowStep) → HasOver run self.now.states → Follows history self.now.windows → result ≡ opens run history id }
         ensures stream { result ≡ true → 0 < id }
         ensures closed { result ≡ true → balance self.now.windows id ≡ None }
     {
-        is_stream(id) && !self.over.contains_key(&id) && !self.windows.has(id)
+        is_stream(id) && self.states.state(id).over().is_none() && !self.windows.has(id)
     }
 
-    /// Owes the one header block of a stream.
-    pub(crate) fn take_refuse(&mut self, id: StreamId, fields: Sequence<Field>)
+    /// Owes the one header block of a stream. Out of memory, it hands its fields back and changes nothing.
+    pub(crate) fn take_refuse(
+        &mut self,
+        id: StreamId,
+        fields: Sequence<Field>,
+    ) -> Result<(), Sequence<Field>>
+        requires stream { 0 < id }
+        requires number { id < 2 ^ 31 }
         requires room { deque_len self.old.due < deque_capacity self.old.due }
-        ensures taken { Leads (Taken (order.Refuse id fields)) self.old self.new }
-        ensures takes { Takes (due_kind.Refuse id fields ∷ []) none_is_new [] self.old self.new }
+        ensures taken { OnOk result (Leads (Taken (order.Refuse id fields)) self.old self.new) }
+        ensures takes { OnOk result (Takes (due_kind.Refuse id fields ∷ []) none_is_new [] self.old self.new) }
+        ensures back { IfErr result (λ back. back ≡ fields) }
+        ensures unchanged { OnErr result (self.new ≡ self.old) }
         ensures encoder { self.new.encoder ≡ self.old.encoder }
     {
-        self.due.push_back_reserved(Due::Refuse(id, fields));
+        match self.states.hear(id) {
+            Ok(()) => {
+                self.due.push_back_reserved(Due::Refuse(id, fields));
+                Ok(())
+            }
+            Err(_e) => Err(fields),
+        }
     }
 
     /// Resets a stream: its window is closed, no credit is owed on it, and nothing is written on it any more but RST_STREAM, where the Reset
@@ -186,13 +195,15 @@ impl Outbound {
     ) -> Result<(), AllocError>
         requires room { deque_len self.old.due < deque_capacity self.old.due }
         ensures taken { OnOk result (Leads (Taken (order.Reset id code written)) self.old self.new) }
-        ensures takes { OnOk result (Takes (due_reset self.old id code written) none_is_new [] (record self.old { credit = self.new.credit }) self.new) }
-        ensures marks { OnOk result ((k : ℕ) → (knows self.new.credit k ≡ knows self.old.credit k) × (is_reset self.new.credit k ≡ ((is_number id && (k == id)) || is_reset self.old.credit k))) }
+        ensures takes { OnOk result (Takes (due_reset self.old id code written) none_is_new [] (record self.old { states = self.new.states }) self.new) }
+        ensures marks { OnOk result ((k : ℕ) → (knows self.new.states k ≡ knows self.old.states k) × (is_reset self.new.states k ≡ ((is_number id && (k == id)) || is_reset self.old.states k))) }
+        ensures heard { OnOk result ((k : ℕ) → is_heard self.new.states k ≡ ((is_number id && (k == id)) || is_heard self.old.states k)) }
+        ensures over { OnOk result (SameOver self.old.states self.new.states) }
         ensures unchanged { OnErr result (self.new ≡ self.old) }
         ensures encoder { self.new.encoder ≡ self.old.encoder }
     {
         let is_due = written && self.may_write(id);
-        reset_credit(&mut self.credit, id)?;
+        reset_state(&mut self.states, id)?;
         self.windows.close(id);
         if is_due {
             self.due.push_back_reserved(Due::Reset(id, code));
@@ -205,7 +216,7 @@ impl Outbound {
         ensures granted { Leads (Granted id n) self.old self.new }
         ensures takes { Takes [] none_is_new [] self.old self.new }
     {
-        self.credit.grant(id, n);
+        self.states.grant(id, n);
     }
 
     /// Owes GOAWAY.
@@ -240,33 +251,37 @@ pub(crate) fn is_stream(id: StreamId) -> bool
     0 < id && id <= MAX_WINDOW
 }
 
-/// The credit of a call's stream, if the stream is new. None is owed on one that was reset.
-fn open_credit(credit: &mut Credit, id: StreamId, is_new: bool) -> Result<(), AllocError>
-    requires { is_new ≡ (is_number id && not (knows credit.old id)) }
-    ensures owed { OnOk result ((other : ℕ) → owed_on credit.new other ≡ owed_on credit.old other) }
-    ensures pays { OnOk result ((other : ℕ) → pays credit.new other ≡ (if is_new && (other == id) then not (is_reset credit.old id) else pays credit.old other)) }
-    ensures known { OnOk result ((other : ℕ) → knows credit.new other ≡ ((is_new && (other == id)) || knows credit.old other)) }
-    ensures resets { OnOk result ((other : ℕ) → is_reset credit.new other ≡ is_reset credit.old other) }
-    ensures unchanged { OnErr result (credit.new ≡ credit.old) }
+/// The state of a call's stream, if the stream is new.
+fn open_state(states: &mut StreamStates, id: StreamId, is_new: bool) -> Result<(), AllocError>
+    requires { is_new ≡ (is_number id && not (knows states.old id)) }
+    ensures owed { OnOk result ((other : ℕ) → owed_on states.new other ≡ owed_on states.old other) }
+    ensures pays { OnOk result ((other : ℕ) → pays states.new other ≡ (if is_new && (other == id) then not (is_reset states.old id) else pays states.old other)) }
+    ensures known { OnOk result ((other : ℕ) → knows states.new other ≡ ((is_new && (other == id)) || knows states.old other)) }
+    ensures resets { OnOk result ((other : ℕ) → is_reset states.new other ≡ is_reset states.old other) }
+    ensures heard { OnOk result ((other : ℕ) → is_heard states.new other ≡ ((is_new && (other == id)) || is_heard states.old other)) }
+    ensures over { OnOk result (SameOver states.old states.new) }
+    ensures unchanged { OnErr result (states.new ≡ states.old) }
 {
     if !is_new {
         return Ok(());
     }
-    credit.open(id)
+    states.open(id)
 }
 
-/// No more credit is owed on a stream that is reset.
-fn reset_credit(credit: &mut Credit, id: StreamId) -> Result<(), AllocError>
-    ensures owed { OnOk result ((k : ℕ) → owed_on credit.new k ≡ (if is_number id && (k == id) then 0 else owed_on credit.old k)) }
-    ensures pays { OnOk result ((k : ℕ) → pays credit.new k ≡ (if is_number id && (k == id) then false else pays credit.old k)) }
-    ensures known { OnOk result ((k : ℕ) → knows credit.new k ≡ knows credit.old k) }
-    ensures resets { OnOk result ((k : ℕ) → is_reset credit.new k ≡ ((is_number id && (k == id)) || is_reset credit.old k)) }
-    ensures unchanged { OnErr result (credit.new ≡ credit.old) }
+/// The state of a stream that is reset.
+fn reset_state(states: &mut StreamStates, id: StreamId) -> Result<(), AllocError>
+    ensures owed { OnOk result ((k : ℕ) → owed_on states.new k ≡ (if is_number id && (k == id) then 0 else owed_on states.old k)) }
+    ensures pays { OnOk result ((k : ℕ) → pays states.new k ≡ (if is_number id && (k == id) then false else pays states.old k)) }
+    ensures known { OnOk result ((k : ℕ) → knows states.new k ≡ knows states.old k) }
+    ensures resets { OnOk result ((k : ℕ) → is_reset states.new k ≡ ((is_number id && (k == id)) || is_reset states.old k)) }
+    ensures heard { OnOk result ((k : ℕ) → is_heard states.new k ≡ ((is_number id && (k == id)) || is_heard states.old k)) }
+    ensures over { OnOk result (SameOver states.old states.new) }
+    ensures unchanged { OnErr result (states.new ≡ states.old) }
 {
     if !is_stream(id) {
         return Ok(());
     }
-    credit.reset(id)
+    states.reset(id)
 }
 
 /// Tells the encoder the limits that SETTINGS have for its table.

@@ -1,11 +1,11 @@
 //! The frames of a connection, each with what it changes.
 
 ghost use Rattle.std.specs.Prelude.{◌≡◌, ℕ, List, [], ◌∷◌, ◌++◌, ◌≤◌, ◌<◌, ◌^◌, ◌==◌, ◌&&◌, not, is_some, nat_eq, true, false, Some, None, IfOk, IfSome, IfNone, OnOk, MatchOption, map, length, if◌then◌else◌};
-ghost use Rattle.std.specs.Map.{lookup};
 ghost use Rattle.flow.specs.Windows.{room};
 ghost use Rattle.flow.specs.WindowHistory.{Follows, Closing, room_after};
 ghost use Rattle.flow.specs.WindowHistory.{Step as WindowStep};
-ghost use Rattle.outwriter.specs.RunState.{Sets, Ends, closing, spent};
+ghost use Rattle.outwriter.specs.RunState.{Ends, closing, spent};
+ghost use Rattle.outwriter.specs.States.{SameOwed, SetsEnd, by_reset, over_on};
 
 use crate::blocks::HeaderBlock;
 use crate::due::Due;
@@ -14,18 +14,18 @@ use crate::frames::{
     make_update,
 };
 use crate::outbound::{Outbound, is_stream};
+use crate::states::{Over, StreamStates};
 use crate::stream::encoded;
 use bytes::Bytes;
 use flow::SendWindows;
 use h2frame::{ErrorCode, Frame, MAX_PAYLOAD, StreamId};
-use indexmap::IndexMap;
 use lists::{Field, Sequence};
 use std::alloc::AllocError;
 
 impl Outbound {
     ghost use Rattle.outwriter.specs.declared.due.Due.TheVariants as due_kind;
     ghost use Rattle.outwriter.specs.CoreChanges.{may_write as may_write_on};
-    ghost use Rattle.outwriter.specs.Credits.{is_reset, owed_on};
+    ghost use Rattle.outwriter.specs.States.{is_reset, owed_on};
     ghost use Rattle.outwriter.specs.Frames.{IsSound};
     ghost use Rattle.outwriter.specs.Steps.{Step};
     ghost use Rattle.outwriter.specs.Histories.{is_stream as is_number};
@@ -54,7 +54,7 @@ impl Outbound {
         ensures sound { IfOk result (λ o. IfSome o IsSound) }
         ensures numbered { IfOk result (λ o. IfSome o (λ frame. frame.head.stream < 2 ^ 31)) }
         ensures frame { IfOk result (λ o. Progress o self.old self.new) }
-        ensures none { IfOk result (λ o. IfNone o ((self.old.block ≡ None) × (self.new.due.items ≡ []) × ((id : ℕ) → owed_on self.new.credit id ≡ 0))) }
+        ensures none { IfOk result (λ o. IfNone o ((self.old.block ≡ None) × (self.new.due.items ≡ []) × ((id : ℕ) → owed_on self.new.states id ≡ 0))) }
         ensures own { IfOk result (λ o. OwnOrRests o self.old self.new) }
     {
         if let Some(frame) = self.block_frame()? {
@@ -167,22 +167,23 @@ impl Outbound {
     pub(crate) fn may_end(&self, id: StreamId) -> bool
         ensures number { result ≡ true → id < 2 ^ 31 }
         ensures stream { result ≡ true → 0 < id }
-        ensures open { result ≡ true → lookup (nat_eq id) self.now.over.entries ≡ None }
+        ensures open { result ≡ true → over_on self.now.states id ≡ None }
         ensures is { result ≡ true → is_number id ≡ true }
-        ensures value { result ≡ (is_number id && not (is_some (lookup (nat_eq id) self.now.over.entries))) }
+        ensures value { result ≡ (is_number id && not (is_some (over_on self.now.states id))) }
     {
-        is_stream(id) && !self.over.contains_key(&id)
+        is_stream(id) && self.states.state(id).over().is_none()
     }
 
     /// Whether it is a stream that neither is over nor was reset.
     pub(crate) fn may_write(&self, id: StreamId) -> bool
         ensures number { result ≡ true → id < 2 ^ 31 }
         ensures stream { result ≡ true → 0 < id }
-        ensures open { result ≡ true → lookup (nat_eq id) self.now.over.entries ≡ None }
-        ensures unreset { result ≡ true → is_reset self.now.credit id ≡ false }
+        ensures open { result ≡ true → over_on self.now.states id ≡ None }
+        ensures unreset { result ≡ true → is_reset self.now.states id ≡ false }
         ensures value { result ≡ may_write_on self.now id }
     {
-        self.may_end(id) && !self.credit.is_reset(id)
+        let state = self.states.state(id);
+        is_stream(id) && state.over().is_none() && !state.is_reset()
     }
 
     fn reset_frame(&mut self, id: StreamId, code: ErrorCode) -> Result<Frame, AllocError>
@@ -190,14 +191,14 @@ impl Outbound {
         requires stream { 0 < id }
         requires number { id < 2 ^ 31 }
         requires is { is_number id ≡ true }
-        requires open { lookup (nat_eq id) self.old.over.entries ≡ None }
+        requires open { over_on self.old.states id ≡ None }
         ensures sound { IfOk result IsSound }
         ensures numbered { IfOk result (λ frame. frame.head.stream < 2 ^ 31) }
         ensures written { IfOk result (λ frame. WritesDue (due_kind.Reset id code) frame self.old self.new) }
         ensures own { IfOk result (λ frame. OwnByDue (due_kind.Reset id code) frame self.old self.new) }
     {
         let frame = make_reset(self.alloc, id, code)?;
-        close(&mut self.windows, &mut self.over, id, true)?;
+        close(&mut self.windows, &mut self.states, id, Over::RstStream)?;
         Ok(frame)
     }
 
@@ -206,8 +207,8 @@ impl Outbound {
         requires between { IsBetween self.old }
         requires stream { 0 < id }
         requires number { id < 2 ^ 31 }
-        requires open { lookup (nat_eq id) self.old.over.entries ≡ None }
-        requires unreset { is_reset self.old.credit id ≡ false }
+        requires open { over_on self.old.states id ≡ None }
+        requires unreset { is_reset self.old.states id ≡ false }
         ensures sound { IfOk result IsSound }
         ensures numbered { IfOk result (λ frame. frame.head.stream < 2 ^ 31) }
         ensures written { IfOk result (λ frame. WritesDue (due_kind.Refuse id fields) frame self.old self.new) }
@@ -223,12 +224,12 @@ impl Outbound {
         ensures sound { IfOk result (λ o. IfSome o IsSound) }
         ensures numbered { IfOk result (λ o. IfSome o (λ frame. frame.head.stream < 2 ^ 31)) }
         ensures frame { IfOk result (λ o. IfSome o (λ frame. Writes frame self.old self.new)) }
-        ensures none { IfOk result (λ o. IfNone o ((id : ℕ) → owed_on self.new.credit id ≡ 0)) }
+        ensures none { IfOk result (λ o. IfNone o ((id : ℕ) → owed_on self.new.states id ≡ 0)) }
         ensures still { IfOk result (λ o. IfNone o (Stays self.old self.new × IsBetween self.new)) }
         ensures due { self.new.due ≡ self.old.due }
         ensures own { IfOk result (λ o. OwnOrRests o self.old self.new) }
     {
-        let Some((id, n)) = self.credit.next() else {
+        let Some((id, n)) = self.states.next() else {
             return Ok(None);
         };
         Ok(Some(make_update(self.alloc, id, n)?))
@@ -244,16 +245,17 @@ impl Outbound {
         requires between { IsBetween self.old }
         requires stream { 0 < id }
         requires number { id < 2 ^ 31 }
-        requires open { lookup (nat_eq id) self.old.over.entries ≡ None }
-        requires unreset { is_reset self.old.credit id ≡ false }
+        requires open { over_on self.old.states id ≡ None }
+        requires unreset { is_reset self.old.states id ≡ false }
         ensures sound { IfOk result IsSound }
         ensures numbered { IfOk result (λ frame. frame.head.stream < 2 ^ 31) }
         ensures written { IfOk result (λ frame. Heads frame self.old self.new) }
         ensures tells { IfOk result (λ frame. TellsBlock id ends bytes frame self.old self.new) }
-        ensures ends { OnOk result (Ends self.old.over.entries id ends self.new.over.entries) }
-        ensures rest { OnOk result (self.new ≡ record self.old { windows = self.new.windows; over = self.new.over; block = self.new.block }) }
+        ensures ends { OnOk result (Ends self.old.states id ends self.new.states) }
+        ensures owed { OnOk result (SameOwed self.old.states self.new.states) }
+        ensures rest { OnOk result (self.new ≡ record self.old { windows = self.new.windows; states = self.new.states; block = self.new.block }) }
     {
-        close_if(&mut self.windows, &mut self.over, id, ends)?;
+        close_if(&mut self.windows, &mut self.states, id, ends)?;
         let block = HeaderBlock {
             id,
             ends,
@@ -280,8 +282,8 @@ impl Outbound {
     pub(crate) fn data_frame(&mut self, id: StreamId, piece: Bytes) -> Frame
         requires between { IsBetween self.old }
         requires number { id < 2 ^ 31 }
-        requires open { lookup (nat_eq id) self.old.over.entries ≡ None }
-        requires unreset { is_reset self.old.credit id ≡ false }
+        requires open { over_on self.old.states id ≡ None }
+        requires unreset { is_reset self.old.states id ≡ false }
         requires some { 0 < length piece }
         requires payload { length piece ≤ 16384 }
         requires room { length piece ≤ room self.old.windows id }
@@ -310,34 +312,36 @@ fn spend(windows: &mut SendWindows, id: StreamId, len: u32)
 /// Notes that a stream's END_STREAM or RST_STREAM is written.
 fn close(
     windows: &mut SendWindows,
-    over: &mut IndexMap<StreamId, bool>,
+    states: &mut StreamStates,
     id: StreamId,
-    is_reset: bool,
+    by: Over,
 ) -> Result<(), AllocError>
+    requires stream { 0 < id }
+    requires number { id < 2 ^ 31 }
     ensures windows { OnOk result ((history : List WindowStep) → Follows history windows.old → Follows (Closing id ∷ history) windows.new) }
-    ensures over { OnOk result (Sets over.old.entries id is_reset over.new.entries) }
+    ensures ends { OnOk result (SetsEnd states.old id (by_reset by) states.new) }
+    ensures owed { OnOk result (SameOwed states.old states.new) }
 {
-    match over.insert(id, is_reset) {
-        Ok(_) => {
-            windows.close(id);
-            Ok(())
-        }
-        Err(_refused) => Err(AllocError),
-    }
+    states.end(id, by)?;
+    windows.close(id);
+    Ok(())
 }
 
 /// The same for END_STREAM, where it is written.
 fn close_if(
     windows: &mut SendWindows,
-    over: &mut IndexMap<StreamId, bool>,
+    states: &mut StreamStates,
     id: StreamId,
     ends: bool,
 ) -> Result<(), AllocError>
+    requires stream { 0 < id }
+    requires number { id < 2 ^ 31 }
     ensures windows { OnOk result ((history : List WindowStep) → Follows history windows.old → Follows (closing id ends ++ history) windows.new) }
-    ensures over { OnOk result (Ends over.old.entries id ends over.new.entries) }
+    ensures ends { OnOk result (Ends states.old id ends states.new) }
+    ensures owed { OnOk result (SameOwed states.old states.new) }
 {
     if ends {
-        return close(windows, over, id, false);
+        return close(windows, states, id, Over::EndStream);
     }
     Ok(())
 }

@@ -14,7 +14,7 @@ loop-preserved g c = (
   holds-then g.L.Lane.got c.args.self.now c.loop.self c.leave_turns.new.self None c.loop.invariant.4
       (holds-after g.L.Lane.got (record c.loop.self { ready = c.pop_front.new.self }) c.frame_of.new.self c.leave_turns.new.self None
       (subst (λ (o : Option Frame). HoldsOn g.L.Lane.got o (record c.loop.self { ready = c.pop_front.new.self }) c.frame_of.new.self) c.in_default-2.is c.in_ok-frame.ensures.served)
-      c.leave_turns.ensures.hands c.leave_turns.ensures.outbound c.leave_turns.ensures.senders c.leave_turns.ensures.others),
+      c.leave_turns.ensures.hands c.leave_turns.ensures.outbound c.leave_turns.ensures.senders),
   fronts-still g.L.Lane.got c.args.self.now c.frame_of.new.self c.leave_turns.new.self
       (fronts-then g.L.Lane.got c.args.self.now (record c.loop.self { ready = c.pop_front.new.self }) c.frame_of.new.self c.loop.invariant.5 c.frame_of.ensures.fronts) c.leave_turns.ensures.senders,
   search rules,

@@ -8,4 +8,4 @@ pub returns-clause-served : goal.returns-clause-served
 returns-clause-served g c =
     holds-after g.L.Lane.got c.args.self.now c.look.new.self c.take_turns.new.self (Some c.in-Some.frame)
     (subst (λ (o : Option Frame). HoldsOn g.L.Lane.got o c.args.self.now c.look.new.self) c.in-Some.is c.in_ok-frame.ensures.served)
-    c.take_turns.ensures.hands c.take_turns.ensures.outbound c.take_turns.ensures.senders c.take_turns.ensures.others
+    c.take_turns.ensures.hands c.take_turns.ensures.outbound c.take_turns.ensures.senders

@@ -13,9 +13,9 @@ use Rattle.outwriter.proofs.out_core.OutCore.grant.Goals as goal
 pub returns-clause-served : goal.returns-clause-served
 returns-clause-served g c =
     serving-granted g.L.Lane.got c.args.self.now (record c.args.self.now { outbound = c.grant.new.self }) c.args.id c.args.n refl refl refl
-    (λ run marks s. serves-same run (Granted c.args.id c.args.n ∷ run) c.args.self.now.outbound c.grant.new.self c.args.self.now.streams.entries c.args.self.now.others.entries
+    (λ run marks s. serves-same run (Granted c.args.id c.args.n ∷ run) c.args.self.now.outbound c.grant.new.self c.args.self.now.streams.entries
     (calls g.L.Lane.got c.args.self.now.senders.items) marks [] [] c.grant.ensures.takes
     (granted-tells [] none_is_new c.args.self.now.outbound c.grant.new.self c.args.id c.args.n c.grant.ensures.takes run marks s.spells)
     (λ id e. e) (λ id. refl) (later-granted run c.args.id c.args.n)
-    (All-nil (MayBeDue (Granted c.args.id c.args.n ∷ run) c.grant.new.self c.args.self.now.streams.entries c.args.self.now.others.entries)) s)
-    (λ run marks s heeds. heeds-takes run [] [] c.args.self.now.outbound c.grant.new.self c.args.self.now.streams.entries c.args.self.now.others.entries c.grant.ensures.takes heeds)
+    (All-nil (MayBeDue (Granted c.args.id c.args.n ∷ run) c.grant.new.self c.args.self.now.streams.entries)) s)
+    (λ run marks s heeds. heeds-takes run [] [] c.args.self.now.outbound c.grant.new.self c.args.self.now.streams.entries c.grant.ensures.takes heeds)

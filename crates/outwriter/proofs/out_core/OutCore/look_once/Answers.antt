@@ -24,7 +24,7 @@ returns-in_err-headers_frame-in-Block-clause-fronts g c =
 pub returns-in-Nothing-clause-served : goal.returns-in-Nothing-clause-served
 returns-in-Nothing-clause-served g c =
     look-nothing _ g.L.Lane.got (coming g.L.Lane.got g.L.Lane.ahead) c.args.self.now c.take.new.self c.args.id c.in_ok-take.field-0
-    (record { takes = c.in_ok-take.ensures.takes; outbound = c.in_ok-take.ensures.outbound; hands = c.in_ok-take.ensures.hands; others = c.in_ok-take.ensures.others }) c.in-Nothing.is
+    (record { takes = c.in_ok-take.ensures.takes; outbound = c.in_ok-take.ensures.outbound; hands = c.in_ok-take.ensures.hands }) c.in-Nothing.is
 
 pub returns-in-Nothing-clause-fronts : goal.returns-in-Nothing-clause-fronts
 returns-in-Nothing-clause-fronts g c = takes-fronts _ _ _ _ _ _ _ c.take.ensures.takes
@@ -32,13 +32,13 @@ returns-in-Nothing-clause-fronts g c = takes-fronts _ _ _ _ _ _ _ c.take.ensures
 pub returns-else-is_empty-clause-served : goal.returns-else-is_empty-clause-served
 returns-else-is_empty-clause-served g c =
     IfOk-weaker c.data.result _ _ (λ l tells. look-data _ g.L.Lane.got (coming g.L.Lane.got g.L.Lane.ahead) c.args.self.now c.take.new.self c.data.new.self c.args.id c.in-Message.bytes c.in_ok-take.field-0 (frame_in l)
-    (record { takes = c.in_ok-take.ensures.takes; outbound = c.in_ok-take.ensures.outbound; hands = c.in_ok-take.ensures.hands; others = c.in_ok-take.ensures.others }) c.in-Message.is
-    tells c.data.ensures.senders c.data.ensures.others) c.data.ensures.data
+    (record { takes = c.in_ok-take.ensures.takes; outbound = c.in_ok-take.ensures.outbound; hands = c.in_ok-take.ensures.hands }) c.in-Message.is
+    tells c.data.ensures.senders) c.data.ensures.data
 
 pub returns-then-is_empty-clause-served : goal.returns-then-is_empty-clause-served
 returns-then-is_empty-clause-served g c =
     look-empty _ g.L.Lane.got (coming g.L.Lane.got g.L.Lane.ahead) c.args.self.now c.take.new.self c.args.id c.in-Message.bytes c.in_ok-take.field-0
-    (record { takes = c.in_ok-take.ensures.takes; outbound = c.in_ok-take.ensures.outbound; hands = c.in_ok-take.ensures.hands; others = c.in_ok-take.ensures.others }) c.in-Message.is
+    (record { takes = c.in_ok-take.ensures.takes; outbound = c.in_ok-take.ensures.outbound; hands = c.in_ok-take.ensures.hands }) c.in-Message.is
     (no-bytes c.in-Message.bytes c.is_empty.result c.is_empty.ensures c.if-is_empty.true)
 
 pub returns-then-is_empty-clause-fronts : goal.returns-then-is_empty-clause-fronts
@@ -47,7 +47,7 @@ returns-then-is_empty-clause-fronts g c = takes-fronts _ _ _ _ _ _ _ c.take.ensu
 pub returns-then-is_empty-clause-looks : goal.returns-then-is_empty-clause-looks
 returns-then-is_empty-clause-looks g c =
     leaves-empty _ g.L.Lane.got (coming g.L.Lane.got g.L.Lane.ahead) c.args.self.now c.take.new.self c.args.id c.in_ok-take.field-0
-    (record { takes = c.in_ok-take.ensures.takes; outbound = c.in_ok-take.ensures.outbound; hands = c.in_ok-take.ensures.hands; others = c.in_ok-take.ensures.others }) c.in_ok-take.ensures.ahead
+    (record { takes = c.in_ok-take.ensures.takes; outbound = c.in_ok-take.ensures.outbound; hands = c.in_ok-take.ensures.hands }) c.in_ok-take.ensures.ahead
 
 pub returns-else-is_empty-clause-fronts : goal.returns-else-is_empty-clause-fronts
 returns-else-is_empty-clause-fronts g c =
@@ -57,9 +57,9 @@ pub returns-in_ok-headers_frame-in-Block-clause-served : goal.returns-in_ok-head
 returns-in_ok-headers_frame-in-Block-clause-served g c =
     look-block _ g.L.Lane.got (coming g.L.Lane.got g.L.Lane.ahead) c.args.self.now c.take.new.self c.end.new.self c.headers_frame.new.self c.args.id c.in-Block.bytes c.in-Block.ends c.in_ok-take.field-0
     c.in_ok-headers_frame-in-Block.field-0
-    (record { takes = c.in_ok-take.ensures.takes; outbound = c.in_ok-take.ensures.outbound; hands = c.in_ok-take.ensures.hands; others = c.in_ok-take.ensures.others }) c.in-Block.is
-    c.end.ensures.outbound c.end.ensures.ended c.end.ensures.senders c.end.ensures.others
-    c.in_ok-headers_frame-in-Block.ensures.tells c.in_ok-headers_frame-in-Block.ensures.ends c.in_ok-headers_frame-in-Block.ensures.rest
+    (record { takes = c.in_ok-take.ensures.takes; outbound = c.in_ok-take.ensures.outbound; hands = c.in_ok-take.ensures.hands }) c.in-Block.is
+    c.end.ensures.outbound c.end.ensures.ended c.end.ensures.senders
+    c.in_ok-headers_frame-in-Block.ensures.tells c.in_ok-headers_frame-in-Block.ensures.ends c.in_ok-headers_frame-in-Block.ensures.owed c.in_ok-headers_frame-in-Block.ensures.rest
 
 pub returns-in_ok-headers_frame-in-Block-clause-fronts : goal.returns-in_ok-headers_frame-in-Block-clause-fronts
 returns-in_ok-headers_frame-in-Block-clause-fronts g c =
@@ -68,5 +68,5 @@ returns-in_ok-headers_frame-in-Block-clause-fronts g c =
 pub returns-else-is_empty-clause-looks : goal.returns-else-is_empty-clause-looks
 returns-else-is_empty-clause-looks g c =
     looks-data _ g.L.Lane.got (coming g.L.Lane.got g.L.Lane.ahead) c.args.self.now c.take.new.self c.data.new.self c.args.id c.in-Message.bytes (Ok c.in_ok-take.field-0) c.data.result
-    (record { takes = c.in_ok-take.ensures.takes; outbound = c.in_ok-take.ensures.outbound; hands = c.in_ok-take.ensures.hands; others = c.in_ok-take.ensures.others })
+    (record { takes = c.in_ok-take.ensures.takes; outbound = c.in_ok-take.ensures.outbound; hands = c.in_ok-take.ensures.hands })
     c.in_ok-take.ensures.ahead c.data.ensures.looks c.data.ensures.data c.data.ensures.senders

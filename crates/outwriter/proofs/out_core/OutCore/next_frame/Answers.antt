@@ -45,31 +45,31 @@ pub returns-in-Ok-None-clause-no_frame : goal.returns-in-Ok-None-clause-no_frame
 returns-in-Ok-None-clause-no_frame g c = λ run reached s alive.
     no-frame-if g.L.Lane.got (coming g.L.Lane.got g.L.Lane.ahead) run c.choose.new.self
     (subst (λ (o : Option Frame). HoldsOn g.L.Lane.got o c.args.self.now c.choose.new.self) c.in-Ok-None.field-0-is c.in-Ok-None.ensures.served run (s.serves alive))
-    ((subst (λ (o : Option Frame). Progresses o c.args.self.now.outbound c.choose.new.self.outbound) c.in-Ok-None.field-0-is c.in-Ok-None.ensures.frame) run reached.0).is_over
+    ((subst (λ (o : Option Frame). Progresses o c.args.self.now.outbound c.choose.new.self.outbound) c.in-Ok-None.field-0-is c.in-Ok-None.ensures.frame) run reached.0).stand.over
     (subst (λ (o : Option Frame). IfNone o (GetsQuiet g.L.Lane.got (coming g.L.Lane.got g.L.Lane.ahead) c.args.self.now c.choose.new.self)) c.in-Ok-None.field-0-is c.in-Ok-None.ensures.quiet run (s.serves alive))
 
 pub returns-in-Ok-None-2-clause-no_frame : goal.returns-in-Ok-None-2-clause-no_frame
 returns-in-Ok-None-2-clause-no_frame g c = λ run reached s alive.
     no-frame-if g.L.Lane.got (coming g.L.Lane.got g.L.Lane.ahead) run c.choose.new.self
     (subst (λ (o : Option Frame). HoldsOn g.L.Lane.got o c.args.self.now c.choose.new.self) c.in-Ok-None.field-0-is c.in-Ok-None.ensures.served run (s.serves alive))
-    ((subst (λ (o : Option Frame). Progresses o c.args.self.now.outbound c.choose.new.self.outbound) c.in-Ok-None.field-0-is c.in-Ok-None.ensures.frame) run reached.0).is_over
+    ((subst (λ (o : Option Frame). Progresses o c.args.self.now.outbound c.choose.new.self.outbound) c.in-Ok-None.field-0-is c.in-Ok-None.ensures.frame) run reached.0).stand.over
     (subst (λ (o : Option Frame). IfNone o (GetsQuiet g.L.Lane.got (coming g.L.Lane.got g.L.Lane.ahead) c.args.self.now c.choose.new.self)) c.in-Ok-None.field-0-is c.in-Ok-None.ensures.quiet run (s.serves alive))
 
 pub returns-in-Ok-None-clause-ended : goal.returns-in-Ok-None-clause-ended
 returns-in-Ok-None-clause-ended g c = λ run reached s alive.
-    ended-if run c.choose.new.self.outbound c.choose.new.self.streams.entries c.choose.new.self.others.entries
+    ended-if run c.choose.new.self.outbound c.choose.new.self.streams.entries
     (subst (λ (o : Option Frame). IfNone o (IsSpent c.choose.new.self.outbound)) c.in-Ok-None.field-0-is c.in-Ok-None.ensures.spent)
-    ((subst (λ (o : Option Frame). Progresses o c.args.self.now.outbound c.choose.new.self.outbound) c.in-Ok-None.field-0-is c.in-Ok-None.ensures.frame) run reached.0).is_over
+    ((subst (λ (o : Option Frame). Progresses o c.args.self.now.outbound c.choose.new.self.outbound) c.in-Ok-None.field-0-is c.in-Ok-None.ensures.frame) run reached.0).stand.over
     (subst (λ (o : Option Frame). HoldsOn g.L.Lane.got o c.args.self.now c.choose.new.self) c.in-Ok-None.field-0-is c.in-Ok-None.ensures.served run (s.serves alive)).2
 
 pub returns-in-Ok-None-2-clause-ended : goal.returns-in-Ok-None-2-clause-ended
 returns-in-Ok-None-2-clause-ended g c = λ run reached s alive.
-    ended-if run c.choose.new.self.outbound c.choose.new.self.streams.entries c.choose.new.self.others.entries
+    ended-if run c.choose.new.self.outbound c.choose.new.self.streams.entries
     (subst (λ (o : Option Frame). IfNone o (IsSpent c.choose.new.self.outbound)) c.in-Ok-None.field-0-is c.in-Ok-None.ensures.spent)
-    ((subst (λ (o : Option Frame). Progresses o c.args.self.now.outbound c.choose.new.self.outbound) c.in-Ok-None.field-0-is c.in-Ok-None.ensures.frame) run reached.0).is_over
+    ((subst (λ (o : Option Frame). Progresses o c.args.self.now.outbound c.choose.new.self.outbound) c.in-Ok-None.field-0-is c.in-Ok-None.ensures.frame) run reached.0).stand.over
     (subst (λ (o : Option Frame). HoldsOn g.L.Lane.got o c.args.self.now c.choose.new.self) c.in-Ok-None.field-0-is c.in-Ok-None.ensures.served run (s.serves alive)).2
 
 pub returns-in-Err-clause-parts : goal.returns-in-Err-clause-parts
 returns-in-Err-clause-parts g c = λ run reached parts dead may last code.
     let between = c.is_between-may_part.ensures may in
-    may-part run _ _ _ _ _ _ _ last code between.begun between.going between.no_block (reached c.if-self.false).0
+    may-part run _ _ _ _ _ _ last code between.begun between.going between.no_block (reached c.if-self.false).0

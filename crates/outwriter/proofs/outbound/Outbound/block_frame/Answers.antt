@@ -12,13 +12,13 @@ use Rattle.outwriter.proofs.outbound.Outbound.block_frame.Goals as goal
 pub returns-clause-frame : goal.returns-clause-frame
 returns-clause-frame c = λ run m.
     let is : c.args.self.now.block ≡ Some c.in-Some.block = sym c.take.ensures.value ∙ c.in-Some.is in
-    continuation-written run _ _ _ _ _ c.in-Some.block _ _ _ c.in_ok-frame.ensures.frame c.in_ok-frame.ensures.rest c.requires.begun c.requires.going
-    (subst (λ (b : Option HeaderBlock). Mirrors run c.args.self.now.begun c.args.self.now.gone c.args.self.now.windows c.args.self.now.over.entries c.args.self.now.due.items b c.args.self.now.credit) is m)
+    continuation-written run _ _ _ _ c.in-Some.block _ _ _ c.in_ok-frame.ensures.frame c.in_ok-frame.ensures.rest c.requires.begun c.requires.going
+    (subst (λ (b : Option HeaderBlock). Mirrors run c.args.self.now.begun c.args.self.now.gone c.args.self.now.windows c.args.self.now.due.items b c.args.self.now.states) is m)
 
 pub returns-clause-own : goal.returns-clause-own
 returns-clause-own c =
     let is : c.args.self.now.block ≡ Some c.in-Some.block = sym c.take.ensures.value ∙ c.in-Some.is in (
-      λ id. (refl, refl),
+      λ id. (refl, refl, λ e. e),
       inl (
         λ run marks spells. (
           λ e. absurd (true≢false (sym c.requires.begun ∙ e)),
@@ -26,7 +26,7 @@ returns-clause-own c =
               (next-tells run c.in-Some.block c.in_ok-frame.frame c.in_ok-frame.rest c.args.self.now.encoder marks c.in_ok-frame.ensures.frame c.in_ok-frame.ensures.rest
               (subst (λ (b : Option HeaderBlock). Spells run b c.args.self.now.encoder marks) is spells.1)),
         ),
-        refl,
+        λ id. (refl, refl),
         ([], refl, none-over c.args.self.now),
       ),
     )

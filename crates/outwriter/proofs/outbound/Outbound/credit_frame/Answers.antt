@@ -1,4 +1,4 @@
-use Rattle.std.proofs.Common.{inl, refl, []}
+use Rattle.std.proofs.Common.{◌∙◌, inl, refl, []}
 use Rattle.outwriter.specs.Frames.{update_frame}
 use Rattle.outwriter.proofs.TellSteps.{plain-tells}
 use Rattle.outwriter.proofs.EndSteps.{update-written}
@@ -6,19 +6,19 @@ use Rattle.outwriter.proofs.TellStepsOwn.{none-over}
 use Rattle.outwriter.proofs.outbound.Outbound.credit_frame.Goals as goal
 
 pub returns-clause-frame : goal.returns-clause-frame
-returns-clause-frame c = λ run m. update-written run _ _ _ _ _ _ _ _ (c.in-Some.id, c.in-Some.n) _ c.in_ok-make_update.ensures
-    c.requires.between.begun c.requires.between.going c.requires.between.no_block c.in-Some.ensures.takes m
+returns-clause-frame c = λ run m. update-written run _ _ _ _ _ _ _ (c.in-Some.id, c.in-Some.n) _ c.in_ok-make_update.ensures
+    c.requires.between.begun c.requires.between.going c.requires.between.no_block c.in-Some.ensures.takes c.next.ensures.ends m
 
 pub returns-clause-own : goal.returns-clause-own
 returns-clause-own c = (
-  λ id. ((c.in-Some.ensures.takes.5 id).0, (c.in-Some.ensures.takes.5 id).2),
+  λ id. ((c.in-Some.ensures.takes.5 id).0, (c.in-Some.ensures.takes.5 id).2, λ e. (c.next.ensures.ends id).1 ∙ e),
   inl (
     λ run marks spells. (
       spells.0,
       plain-tells run (update_frame c.in-Some.id c.in-Some.n) _ c.args.self.now.block c.args.self.now.block c.args.self.now.encoder marks c.in_ok-make_update.ensures
           (λ begun. refl) c.requires.between.no_block c.requires.between.no_block spells.1,
     ),
-    refl,
+    c.next.ensures.ends,
     ([], refl, none-over c.args.self.now),
   ),
 )

@@ -6,18 +6,18 @@ use Rattle.outwriter.proofs.TellStepsOwn.{none-over}
 use Rattle.outwriter.proofs.outbound.Outbound.first_frame.Goals as goal
 
 pub returns-clause-written : goal.returns-clause-written
-returns-clause-written c = λ run m. first-written run _ _ _ _ _ _ _ _ c.make_first_settings.ensures c.requires.begun c.requires.going m
+returns-clause-written c = λ run m. first-written run _ _ _ _ _ _ _ c.make_first_settings.ensures c.requires.begun c.requires.going m
 
 pub returns-clause-own : goal.returns-clause-own
 returns-clause-own c = (
-  λ id. (refl, refl),
+  λ id. (refl, refl, λ e. e),
   inl (
     λ run marks spells. (
       λ e. cc,
       plain-tells run first_settings _ c.args.self.now.block c.args.self.now.block c.args.self.now.encoder marks c.make_first_settings.ensures
           (λ begun. refl) (spells.0 c.requires.begun) (spells.0 c.requires.begun) spells.1,
     ),
-    refl,
+    λ id. (refl, refl),
     ([], refl, none-over c.args.self.now),
   ),
 )

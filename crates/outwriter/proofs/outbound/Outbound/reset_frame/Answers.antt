@@ -1,16 +1,17 @@
-use Rattle.std.proofs.Common.{refl}
+use Rattle.std.proofs.Common.{true, refl}
 use Rattle.outwriter.specs.Frames.{reset_frame}
 use Rattle.outwriter.proofs.TellSteps.{plain-tells}
+use Rattle.outwriter.proofs.StateLemmas.{still-heard}
 use Rattle.outwriter.proofs.EndSteps.{reset-written}
 use Rattle.outwriter.proofs.outbound.Outbound.reset_frame.Goals as goal
 
 pub returns-clause-written : goal.returns-clause-written
-returns-clause-written c = λ run m. reset-written run _ _ _ _ _ _ _ _ _ c.args.id c.args.code _ c.in_ok-frame.ensures c.requires.between.begun c.requires.between.going c.requires.between.no_block
-    c.requires.stream c.requires.is c.requires.open c.in_ok-close.ensures.windows c.in_ok-close.ensures.over m
+returns-clause-written c = λ run m. reset-written run _ _ _ _ _ _ _ _ c.args.id c.args.code _ c.in_ok-frame.ensures c.requires.between.begun c.requires.between.going c.requires.between.no_block
+    c.requires.stream c.requires.is c.requires.open c.in_ok-close.ensures.windows c.in_ok-close.ensures.ends c.in_ok-close.ensures.owed m
 
 pub returns-clause-own : goal.returns-clause-own
 returns-clause-own c = (
-  (refl, λ id. (refl, refl)),
+  (refl, λ id. ((c.in_ok-close.ensures.owed.0 id).0, (c.in_ok-close.ensures.owed.0 id).2, still-heard c.args.self.now.states c.close.new.states c.args.id true c.in_ok-close.ensures.ends id)),
   (
     (
       _,
@@ -20,6 +21,6 @@ returns-clause-own c = (
             c.in_ok-frame.ensures (λ begun. refl) c.requires.between.no_block c.requires.between.no_block spells.1,
       ),
     ),
-    (c.requires.open, c.in_ok-close.ensures.over),
+    (c.requires.open, c.in_ok-close.ensures.ends),
   ),
 )

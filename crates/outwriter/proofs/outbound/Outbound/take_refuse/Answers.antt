@@ -5,13 +5,11 @@ use Rattle.outwriter.specs.declared.due.Due.{Due}
 use Rattle.outwriter.specs.declared.due.Due.TheVariants as due_kind
 use Rattle.outwriter.specs.RunState.{HasDue}
 use Rattle.outwriter.specs.Steps.{Taken}
-use Rattle.outwriter.proofs.RunStateSteps.{taken, more-due}
-use Rattle.outwriter.proofs.WindowRuns.{nothing-taken}
+use Rattle.outwriter.proofs.RunStateSteps.{refuse-led, more-due}
 use Rattle.outwriter.proofs.outbound.Outbound.take_refuse.Goals as goal
 
-pub returns-clause-taken : goal.returns-clause-taken
-returns-clause-taken c = λ run m.
-    taken (order.Refuse c.args.id c.args.fields) run _ _ _ _ _ _ _ _ _ m (nothing-taken run (order.Refuse c.args.id c.args.fields) c.args.self.now.windows (λ h. refl) m.windows_follow)
+pub returns-in-Ok-clause-taken : goal.returns-in-Ok-clause-taken
+returns-in-Ok-clause-taken c = λ run m.
+    refuse-led c.args.id c.args.fields run _ _ _ _ _ _ c.args.self.now.states c.hear.new.self c.in-Ok.ensures.over c.in-Ok.ensures.owed
     (subst (λ (xs : List Due). HasDue (Taken (order.Refuse c.args.id c.args.fields) ∷ run) xs) (sym c.push_back_reserved.ensures.items)
-    (more-due (order.Refuse c.args.id c.args.fields) run c.args.self.now.due.items (due_kind.Refuse c.args.id c.args.fields) refl (All-nil _) m.answers))
-    m.resets m.owes
+    (more-due (order.Refuse c.args.id c.args.fields) run c.args.self.now.due.items (due_kind.Refuse c.args.id c.args.fields) refl (All-nil _) m.answers)) m

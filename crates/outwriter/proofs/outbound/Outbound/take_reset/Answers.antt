@@ -20,8 +20,8 @@ returns-then-is_due-clause-taken c = λ run m.
       | then-written w ↦ w.if-written.true
       | else-written w ↦ absurd (true≢false (sym c.if-is_due.true ∙ w.is_due-is ∙ w.if-written.false))
     ] in
-    reset-led c.args.id c.args.code c.args.written run _ _ _ _ _ _ _ _ c.args.self.now.credit c.reset_credit.new.credit c.in_ok-reset_credit.ensures.owed c.in_ok-reset_credit.ensures.pays
-    c.in_ok-reset_credit.ensures.known c.in_ok-reset_credit.ensures.resets
+    reset-led c.args.id c.args.code c.args.written run _ _ _ _ _ _ _ c.args.self.now.states c.reset_state.new.states c.in_ok-reset_state.ensures.owed c.in_ok-reset_state.ensures.pays
+    c.in_ok-reset_state.ensures.known c.in_ok-reset_state.ensures.resets c.in_ok-reset_state.ensures.over
     (reset-taken run c.args.id c.args.code c.args.written c.args.self.now.windows c.close.new.self c.close.ensures.follows m.windows_follow)
     (subst (λ (xs : List Due). HasDue (Taken reset ∷ run) xs) (sym c.push_back_reserved.ensures.items)
     (more-due reset run c.args.self.now.due.items (due_kind.Reset c.args.id c.args.code) refl
@@ -31,7 +31,7 @@ returns-then-is_due-clause-taken c = λ run m.
 pub returns-else-is_due-clause-taken : goal.returns-else-is_due-clause-taken
 returns-else-is_due-clause-taken c = λ run m.
     let reset : Order = order.Reset c.args.id c.args.code c.args.written in
-    reset-led c.args.id c.args.code c.args.written run _ _ _ _ _ _ _ _ c.args.self.now.credit c.reset_credit.new.credit c.in_ok-reset_credit.ensures.owed c.in_ok-reset_credit.ensures.pays
-    c.in_ok-reset_credit.ensures.known c.in_ok-reset_credit.ensures.resets
+    reset-led c.args.id c.args.code c.args.written run _ _ _ _ _ _ _ c.args.self.now.states c.reset_state.new.states c.in_ok-reset_state.ensures.owed c.in_ok-reset_state.ensures.pays
+    c.in_ok-reset_state.ensures.known c.in_ok-reset_state.ensures.resets c.in_ok-reset_state.ensures.over
     (reset-taken run c.args.id c.args.code c.args.written c.args.self.now.windows c.close.new.self c.close.ensures.follows m.windows_follow)
     (same-due reset run c.args.self.now.due.items refl m.answers) m

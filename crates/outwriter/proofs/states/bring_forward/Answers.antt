@@ -1,8 +1,8 @@
 use Rattle.std.proofs.Common.{refl}
 use Rattle.std.proofs.lemmas.List.Sorted.{All-permutation}
-use Rattle.outwriter.specs.Credits.{Fits}
-use Rattle.outwriter.proofs.CreditLemmas.{settled-swap}
-use Rattle.outwriter.proofs.credit.bring_forward.Goals as goal
+use Rattle.outwriter.specs.States.{Fits}
+use Rattle.outwriter.proofs.StateLemmas.{settled-swap}
+use Rattle.outwriter.proofs.states.bring_forward.Goals as goal
 
 pub returns-clause-settled : goal.returns-clause-settled
 returns-clause-settled c = settled-swap c.args.streams.now.entries c.args.place c.args.owing c.if-place-owing.false c.requires.place c.requires.settled _ refl
