@@ -1,4 +1,10 @@
 pub mod WrittenSteps
 pub mod Turns
 pub mod Rows
+pub mod Seats
+pub mod SlotSteps
+pub mod Heard
+pub mod Fronts
 pub mod CallData
+pub mod SeatRows
+pub mod Reports

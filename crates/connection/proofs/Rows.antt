@@ -1,7 +1,6 @@
 -- The rows of a slot's calls.
-use Rattle.std.proofs.Common.{◌≡◌, ◌∙◌, inl, inr, ap, refl, subst, sym, ℕ, zero, suc, Bool, List, [], ◌∷◌, ◌++◌, Option, None, Some, append-nil, All, slice_get}
+use Rattle.std.proofs.Common.{◌≡◌, ◌∙◌, inl, inr, ap, refl, subst, sym, ℕ, zero, suc, Bool, List, [], ◌∷◌, ◌++◌, Option, None, Some, append-nil, slice_get}
 use Rattle.std.specs.Prelude.{IfSome, IsSomeAnd}
-use Rattle.std.proofs.lemmas.List.Elements.{All-append, All-cons, All-nil}
 use mathlib.Core.List.{IsPrefix}
 use Rattle.lane.specs.Cuts.{segment}
 use Rattle.lane.specs.End.{of_end}
@@ -13,7 +12,7 @@ use Rattle.callbox.specs.declared.piece.InPiece.{InPiece}
 use Rattle.callbox.specs.Slots.{IsUnsent}
 use Rattle.handlers.specs.declared.step.Step.{Step}
 use Rattle.connection.specs.declared.report.CallReport.{CallReport}
-use Rattle.connection.specs.Accounts.{HasAccount, IsWithin, unsent}
+use Rattle.connection.specs.Accounts.{IsWithin}
 use Rattle.connection.specs.Workers.{Answers, EachAnswers, EachStands, HaveRows, Stands}
 
 -- what is so of more answers is so of these
@@ -98,20 +97,6 @@ module _ (answers : ℕ → List (List ℕ) → Bool → Step → Type 0) where
       (λ k. subst (λ (gs : List (List OutItem)). IsUnsent (segment feds k) (segment ((past ++ got ∷ []) ++ []) k) (segment gs k)) is_given
       (subst (λ (xs : List (List InPiece)). IsUnsent (segment feds k) (segment xs k) (segment given_all k)) (is_all ∙ sym (append-nil (past ++ got ∷ []))) (lawful k))) each n)
 
-  all_from : (rows : List CallReport) → ((n : ℕ) → IfSome (slice_get rows n) (λ row. HasAccount row)) → All (λ row. HasAccount row) rows
-  all_from [] each = All-nil (λ row. HasAccount row)
-  all_from (row ∷ rows) each = All-cons (λ row. HasAccount row) row rows (each 0) (all_from rows (λ n. each (suc n)))
-
-  weaker : (rows : List CallReport) (n : ℕ) (fed : List InPiece) (given : List OutItem) → IfSome (slice_get rows n) (λ row. Stands answers fed given row) → IfSome (slice_get rows n) (λ row. HasAccount row)
-  weaker [] zero fed given has = tt
-  weaker [] (suc n) fed given has = tt
-  weaker (row ∷ rows) zero fed given has = (unsent fed has.0 has.1 given, has.2.lawful, has.2.answered.taken, has.2.answered.told)
-  weaker (row ∷ rows) (suc n) fed given has = weaker rows n fed given has
-
-  -- each row of a slot has its account
-  pub all_have : (feds : List (List InPiece)) (gives : List (List OutItem)) (rows : List CallReport) → EachStands answers feds gives rows → All (λ row. HasAccount row) rows
-  all_have feds gives rows each = all_from rows (λ n. weaker rows n (segment feds n) (segment gives n) (each n))
-
 -- ---- at the end
 
 module _ {G S : Type 0} where
@@ -132,23 +117,6 @@ module _ (answers : ℕ → List (List ℕ) → Bool → Step → Type 0) {V : T
   seat_rows (Some rows) None past all got gives given_all is_all is_given lawful has = absurd lawful
   seat_rows (Some rows) (Some feds) past all got gives given_all is_all is_given lawful has =
       (given_all, each_stands answers feds past all got gives given_all is_given.0 (items rows) is_all is_given.1 lawful has)
-
-  pub rows_have : (calls : Option V) (half : Option (List (List InPiece)))
-      → IfSome calls (λ rows. IsSomeAnd half (λ feds. (given : List (List OutItem)) × EachStands answers feds given (items rows)))
-      → IfSome calls (λ rows. All (λ row. HasAccount row) (items rows))
-  rows_have None half has = tt
-  rows_have (Some rows) None has = absurd has
-  rows_have (Some rows) (Some feds) has = all_have answers feds has.0 (items rows) has.1
-
-  pub joined_have : (all rows both : Option V)
-      → IfSome both (λ b. IsSomeAnd all (λ before. IsSomeAnd rows (λ more. items b ≡ items before ++ items more)))
-      → IfSome all (λ rows. All (λ row. HasAccount row) (items rows)) → IfSome rows (λ rows. All (λ row. HasAccount row) (items rows))
-      → IfSome both (λ rows. All (λ row. HasAccount row) (items rows))
-  joined_have all rows None is first second = tt
-  joined_have None rows (Some b) is first second = absurd is
-  joined_have (Some before) None (Some b) is first second = absurd is
-  joined_have (Some before) (Some more) (Some b) is first second =
-      subst (λ (xs : List CallReport). All (λ row. HasAccount row) xs) (sym is) (All-append (λ row. HasAccount row) (items before) (items more) first second)
 
   pub no_rows : (calls : Option V) (rows : V) (gots : List (List InPiece)) (gives : List (List OutItem)) → calls ≡ Some rows → items rows ≡ [] → gots ≡ [] → gives ≡ []
       → IfSome calls (λ v. EachAnswers answers gots gives (items v))

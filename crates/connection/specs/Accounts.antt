@@ -17,10 +17,6 @@ use Rattle.connection.specs.declared.report.CallReport.{CallReport}
 abbrev pub answers_by : {A : Type 0} → (A → List (List ℕ) → Bool → Step → Type 0) → List A → ℕ → List (List ℕ) → Bool → Step → Type 0
 answers_by of_method methods index messages ended answer = IsSomeAnd (slice_get methods index) (λ method. of_method method messages ended answer)
 
--- nothing is said of what methods answer
-abbrev pub unheard : ℕ → List (List ℕ) → Bool → Step → Type 0
-unheard index messages ended answer = ⊥
-
 -- each answer of the first is one of the second
 abbrev pub IsWithin : (ℕ → List (List ℕ) → Bool → Step → Type 0) → (ℕ → List (List ℕ) → Bool → Step → Type 0) → Type 0
 IsWithin narrow wide = (index : ℕ) (messages : List (List ℕ)) (ended : Bool) (answer : Step) → narrow index messages ended answer → wide index messages ended answer
@@ -48,7 +44,3 @@ pub record StandsOn (answers : ℕ → List (List ℕ) → Bool → Step → Typ
 -- the account of a call of which nothing is known to be sent
 abbrev pub unsent : List InPiece → List (List ℕ) → Option Told → List OutItem → Account
 unsent fed messages said given = record { fed = bytes_of fed; shut = shut_of fed; taken = messages; told = said; given = given; sent = [] }
-
--- Behind a row is a lawful account: as many messages were taken as the row has, and the same was told. It isn't said that it is that of the row's stream.
-abbrev pub HasAccount : CallReport → Type 0
-HasAccount row = (account : Account) × IsLawful account × (row.messages ≡ count_of account.taken) × (row.told ≡ account.told)

@@ -3,3 +3,7 @@ pub mod Halves
 pub mod Streams
 pub mod Accounts
 pub mod Workers
+pub mod Calls
+pub mod Reports
+pub mod Seats
+pub mod SeatExamples

@@ -2,16 +2,18 @@
 
 ghost use Rattle.std.specs.Prelude.{◌≡◌, [], ◌∷◌, ◌++◌, IfSome};
 ghost use Rattle.lane.specs.End.{of_end};
-ghost use Rattle.connection.specs.Accounts.{unheard};
+ghost use Rattle.handlers.specs.Listed.{listed};
+ghost use Rattle.connection.specs.Accounts.{IsWithin, answers_by};
 ghost use Rattle.connection.specs.Workers.{HaveRows, IsFresh};
 
-use crate::answering::Unheard;
+use crate::answering::Answering;
 use crate::slot::{InLane, OutLane};
 use crate::worker::{Seen, Worker};
 use account::OutItem;
 use callbox::{GivenShut, Giver, InPiece, Taker};
 use handlers::Methods;
 use lane::{End, Lane, RingLane};
+use std::marker::PhantomData;
 use std::snapshot::Snapshot;
 use std::sync::ledger::Ledger;
 use std::sync::{Arc, Wait};
@@ -19,35 +21,39 @@ use std::thread;
 use std::thread::{Promise, PromisedHandle, Threads};
 use std::time::Clock;
 
-/// What a thread does with the methods.
-trait Work<R, T> {
+/// What a thread does with the methods, of whose answers so much is known.
+trait Work<M: Answering, R, T> {
     ghost can_work: { Self → Type 0 };
 
     ghost comes_to: { Self → T → Type 0 };
 
     fn work(self, rt: &R, methods: &Methods) -> T
-        requires { can_work self }
+        requires can { can_work self }
+        requires known { IsWithin M.known (answers_by (λ method. answers (method.vtable, method.value)) (listed methods.now)) }
         ensures { comes_to self result };
 }
 
 /// Starts a thread that does this. None where no thread can be had: then the work is dropped.
-fn start<K, P, R, T>(
+fn start<K, M, P, R, T>(
     rt: R,
     promise: P,
     work: K,
     methods: Arc<Methods>,
 ) -> Option<PromisedHandle<T, P>>
 where
-    K: Work<R, T> + Send + Drop + 'static,
+    K: Work<M, R, T> + Send + Drop + 'static,
+    M: Answering + Send + Sync + 'static,
     P: Promise<T> + Drop,
     R: Threads + Copy + Send + Drop + 'static,
     T: Send + Drop + 'static,
     requires can { K.can_work work }
+    requires known { IsWithin M.known (answers_by (λ method. answers (method.vtable, method.value)) (listed methods.value)) }
     requires keeps { (end : T) → K.comes_to work end → P.kept_by promise end }
     ensures promise { IfSome result (λ handle. handle.promise ≡ promise) }
 {
     let job = move || -> T
-        requires { K.can_work work }
+        requires can { K.can_work work }
+        requires known { IsWithin M.known (answers_by (λ method. answers (method.vtable, method.value)) (listed methods.value)) }
         ensures { K.comes_to work result }
     { work.work(&rt, &methods) };
     match thread::spawn_with(&rt, promise, job) {
@@ -64,14 +70,17 @@ struct WithEnds<A: Ledger, B: Ledger, C: Ledger> {
     giver: Giver<OutLane>,
 }
 
-impl<A: Ledger, B: Ledger, C: Ledger, R: Wait + Clock> Work<R, Seen<InLane, OutLane>>
-    for WithEnds<A, B, C> {
+impl<A: Ledger, B: Ledger, C: Ledger, M: Answering, R: Wait + Clock> Work<
+    M,
+    R,
+    Seen<InLane, OutLane>,
+> for WithEnds<A, B, C> {
     ghost can_work = { λ it. IsFresh (⟦<RingLane<InPiece> as Lane>⟧.got it.taker.rx) it.taker.progress × (⟦<RingLane<InPiece> as Lane>⟧.past_out it.taker.rx ≡ [])
         × (⟦<RingLane<OutItem> as Lane>⟧.past_in it.giver.tx ≡ []) × (⟦<RingLane<OutItem> as Lane>⟧.put_in it.giver.tx ≡ []) };
 
     ghost comes_to = { λ it seen. (⟦<RingLane<InPiece> as Lane>⟧.ring_of (⟦<RingLane<InPiece> as Lane>⟧.out_name seen.taker.rx) ≡ ⟦<RingLane<InPiece> as Lane>⟧.ring_of (⟦<RingLane<InPiece> as Lane>⟧.out_name it.taker.rx))
         × (⟦<RingLane<OutItem> as Lane>⟧.ring_of (of_end (λ g. ⟦<RingLane<OutItem> as Lane>⟧.in_name g.tx) (λ s. ⟦<RingLane<OutItem> as Lane>⟧.shut_name s.shut) seen.end) ≡ ⟦<RingLane<OutItem> as Lane>⟧.ring_of (⟦<RingLane<OutItem> as Lane>⟧.in_name it.giver.tx))
-        × IfSome seen.calls (λ rows. HaveRows unheard (⟦<RingLane<InPiece> as Lane>⟧.past_out seen.taker.rx) (⟦<RingLane<InPiece> as Lane>⟧.got seen.taker.rx)
+        × IfSome seen.calls (λ rows. HaveRows M.known (⟦<RingLane<InPiece> as Lane>⟧.past_out seen.taker.rx) (⟦<RingLane<InPiece> as Lane>⟧.got seen.taker.rx)
         (of_end (λ g. ⟦<RingLane<OutItem> as Lane>⟧.past_in g.tx) (λ s. ⟦<RingLane<OutItem> as Lane>⟧.past_shut s.shut ++ ⟦<RingLane<OutItem> as Lane>⟧.put_shut s.shut ∷ []) seen.end) rows.items) };
 
     fn work(self, rt: &R, methods: &Methods) -> Seen<InLane, OutLane> {
@@ -80,50 +89,55 @@ impl<A: Ledger, B: Ledger, C: Ledger, R: Wait + Clock> Work<R, Seen<InLane, OutL
             taker,
             giver,
         } = self;
-        worker.work::<InLane, OutLane, Unheard, R>(rt, methods, taker, giver)
+        worker.work::<InLane, OutLane, M, R>(rt, methods, taker, giver)
     }
 }
 
 /// What a worker was given. It promises that the ends that it hands back are of the same lanes, and that the rows of its calls are
-/// as these ends say.
+/// as these ends say, and as is known of what methods answer.
 #[derive(Drop)]
-pub(crate) struct Hired<I: Lane<Item = InPiece>, O: Lane<Item = OutItem>> {
+pub(crate) struct Hired<I: Lane<Item = InPiece>, O: Lane<Item = OutItem>, M: Answering> {
     pub(crate) taker: Snapshot<Taker<I>>,
     pub(crate) giver: Snapshot<Giver<O>>,
+    known: PhantomData<M>,
 }
 
-impl<I: Lane<Item = InPiece>, O: Lane<Item = OutItem>> Promise<Seen<I, O>> for Hired<I, O> {
+impl<I: Lane<Item = InPiece>, O: Lane<Item = OutItem>, M: Answering> Promise<Seen<I, O>>
+    for Hired<I, O, M> {
     ghost kept_by = { λ hired seen. (I.ring_of (I.out_name seen.taker.rx) ≡ I.ring_of (I.out_name hired.taker.value.rx))
         × (O.ring_of (of_end (λ g. O.in_name g.tx) (λ s. O.shut_name s.shut) seen.end) ≡ O.ring_of (O.in_name hired.giver.value.tx))
-        × IfSome seen.calls (λ rows. HaveRows unheard (I.past_out seen.taker.rx) (I.got seen.taker.rx)
+        × IfSome seen.calls (λ rows. HaveRows M.known (I.past_out seen.taker.rx) (I.got seen.taker.rx)
         (of_end (λ g. O.past_in g.tx) (λ s. O.past_shut s.shut ++ O.put_shut s.shut ∷ []) seen.end) rows.items) };
 }
 
 /// Starts a worker with these ends. None where no thread can be had.
-pub(crate) fn hire<A, B, C, R>(
+pub(crate) fn hire<A, B, C, M, R>(
     rt: R,
     worker: Worker<A, B, C>,
     methods: Arc<Methods>,
     taker: Taker<InLane>,
     giver: Giver<OutLane>,
-) -> Option<PromisedHandle<Seen<InLane, OutLane>, Hired<InLane, OutLane>>>
+) -> Option<PromisedHandle<Seen<InLane, OutLane>, Hired<InLane, OutLane, M>>>
 where
     A: Ledger + Send + Sync + 'static,
     B: Ledger + Send + Sync + 'static,
     C: Ledger + Send + Sync + 'static,
+    M: Answering + Send + Sync + 'static,
     R: Threads + Wait + Clock + Copy + Send + Sync + Drop + 'static,
     requires fresh { IsFresh (⟦<RingLane<InPiece> as Lane>⟧.got taker.rx) taker.progress × (⟦<RingLane<InPiece> as Lane>⟧.past_out taker.rx ≡ []) }
     requires ungiven { (⟦<RingLane<OutItem> as Lane>⟧.past_in giver.tx ≡ []) × (⟦<RingLane<OutItem> as Lane>⟧.put_in giver.tx ≡ []) }
+    requires known { IsWithin M.known (answers_by (λ method. answers (method.vtable, method.value)) (listed methods.value)) }
     ensures ends { IfSome result (λ handle. (handle.promise.taker.value ≡ taker) × (handle.promise.giver.value ≡ giver)) }
 {
-    let hired = Hired {
+    let hired: Hired<InLane, OutLane, M> = Hired {
         taker: Snapshot::of(&taker),
         giver: Snapshot::of(&giver),
+        known: PhantomData,
     };
     let work = WithEnds {
         worker,
         taker,
         giver,
     };
-    start(rt, hired, work, methods)
+    start::<_, M, _, _, _>(rt, hired, work, methods)
 }

@@ -9,12 +9,12 @@
 //!
 //! - `shared`: what the threads of a connection share.
 //! - `intake`: the reader's hold on the credit book, `outlet` the writer's.
-//! - `slot`: what the threads see of a slot; `slots`: what the reader has of all, and `half` of each; `senders`: what the writer
-//!   has.
+//! - `slot`: what the threads see of a slot; `slots`: what the reader has of all, `seat` of each, and `half` of the half of
+//!   its call; `senders`: what the writer has.
 //! - `worker`: what a worker does with its calls; `hired`: its thread, and what it promises; `answering`: what methods answer.
 //! - `orders`: what the reader has the writer do.
 //! - `reader`: what becomes of each event; `writer`: orders and credit in, frames out.
-//! - `serve`: one connection from its first byte to its last.
+//! - `serve`: one connection from its first byte to its last; `laws`: what its clauses come to by the frames.
 #![tactic(auto)]
 
 mod answering;
@@ -26,6 +26,7 @@ mod orders;
 mod outlet;
 mod reader;
 mod report;
+mod seat;
 mod senders;
 mod serve;
 mod shared;

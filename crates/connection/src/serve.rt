@@ -1,10 +1,14 @@
 //! One connection from its first byte to its last.
 
-ghost use Rattle.std.specs.Prelude.{◌≡◌, ◌<◌, ℕ, List, All, Option, Some, IfOk, IfSome};
+ghost use Rattle.std.specs.Prelude.{◌≡◌, ◌<◌, ℕ, List, Option, Some, IfOk, IfSome};
 ghost use Rattle.connection.specs.declared.report.Ending.TheVariants as ending;
-ghost use Rattle.connection.specs.Accounts.{HasAccount};
+ghost use Rattle.std.specs.Io.KnownBytes.{Consumes};
+ghost use Rattle.handlers.specs.Listed.{listed};
+ghost use Rattle.connection.specs.Accounts.{IsWithin, answers_by};
+ghost use Rattle.connection.specs.Reports.{AreAccounted};
 ghost use Rattle.connection.specs.Written.{HasWritten};
 
+use crate::answering::Answering;
 use crate::intake::Intake;
 use crate::orders::{ORDERS, Orders};
 use crate::outlet::Outlet;
@@ -40,11 +44,14 @@ where
     O: ConnWrite + Send + Drop + 'static,
     R: Threads + Wait + Clock + Copy + Send + Sync + Drop + 'static,
     ensures served { IfSome result.output (HasWritten O.contents O.failed (O.contents output) (Some result.ending)) }
-    // Behind each row is a lawful account, of as many messages, and told the same.
-    ensures calls { IfSome result.calls (λ rows. All (λ row. HasAccount row) rows.items) }
+    // Each row stands on the lawful account of its stream's call, by the first events of the bytes that came.
+    ensures calls { IfSome result.calls (λ rows. (came : List ℕ) × Consumes (I.remaining input.old) (I.remaining input.new) came
+        × AreAccounted (answers_by (λ method. answers (method.vtable, method.value)) (listed methods.value)) came rows.items) }
 {
     let blanks = (Blank::new(1), Blank::new(1), Blank::new(1));
-    match serve_over::<Brand, Brand, Brand, I, O, R>(rt, alloc, blanks, input, output, methods) {
+    match serve_over::<Brand, Brand, Brand, Brand, I, O, R>(
+        rt, alloc, blanks, input, output, methods,
+    ) {
         Ok(served) => served,
         Err(AllocError) => Served {
             ending: Ending::OutOfMemory,
@@ -55,7 +62,7 @@ where
 }
 
 /// The same, over ledgers of its own. Out of memory before the connection began nothing was read or written.
-fn serve_over<A, B, C, I, O, R>(
+fn serve_over<A, B, C, M, I, O, R>(
     rt: R,
     alloc: Global,
     blanks: (Blank, Blank, Blank),
@@ -67,14 +74,16 @@ where
     A: Ledger + Send + Sync + 'static,
     B: Ledger + Send + Sync + 'static,
     C: Ledger + Send + Sync + 'static,
+    M: Answering + Send + Sync + 'static,
     I: ConnRead,
     O: ConnWrite + Send + Drop + 'static,
     R: Threads + Wait + Clock + Copy + Send + Sync + Drop + 'static,
     requires received { (blanks.0.name ≡ A.name) × (blanks.0.parts ≡ A.parts) × (0 < A.parts) }
     requires admitted { (blanks.1.name ≡ B.name) × (blanks.1.parts ≡ B.parts) × (0 < B.parts) }
     requires announced { (blanks.2.name ≡ C.name) × (blanks.2.parts ≡ C.parts) × (0 < C.parts) }
+    requires known { IsWithin M.known (answers_by (λ method. answers (method.vtable, method.value)) (listed methods.value)) }
     ensures served { IfOk result (λ served. IfSome served.output (HasWritten O.contents O.failed (O.contents output) (Some served.ending))) }
-    ensures calls { IfOk result (λ served. IfSome served.calls (λ rows. All (λ row. HasAccount row) rows.items)) }
+    ensures calls { IfOk result (λ served. IfSome served.calls (λ rows. (came : List ℕ) × Consumes (I.remaining input.old) (I.remaining input.new) came × AreAccounted M.known came rows.items)) }
 {
     let (received, came) = blanks.0.open::<A>();
     let (admitted, calls) = blanks.1.open::<B>();
@@ -90,7 +99,7 @@ where
         are_unrung: false,
     };
     let mut intake = Intake::new(shared, came, calls);
-    let mut reader: Reader<A, B, C, R> = Reader::new(rt, alloc, orders, start);
+    let mut reader: Reader<A, B, C, M, R> = Reader::new(rt, alloc, orders, start);
     let writing = writer::start(rt, alloc, taking, outlet, output)?;
     let read = reader.read(&mut intake, input, &methods);
     let calls = reader.end();

@@ -1,28 +1,35 @@
 //! The slots of a connection, as its reader has them.
 
-ghost use Rattle.std.specs.Prelude.{◌≡◌, List, [], ◌∷◌, ◌++◌, All, Some, IfOk, IfSome, IsSomeAnd};
-ghost use Rattle.std.specs.Option.{IsSomeAnd-prop};
-ghost use Rattle.account.specs.declared.call.OutItem.{OutItem as Item};
-ghost use Rattle.connection.specs.Accounts.{unheard};
-ghost use Rattle.connection.specs.Halves.{half_by};
+ghost use Rattle.std.specs.Prelude.{◌≡◌, ◌≢◌, ◌<◌, ℕ, List, [], ◌∷◌, ◌++◌, All, true, None, Some, Ok, OnOk, OnErr, IfOk, IfSome, IsSome, IsSomeAnd, position};
+ghost use Rattle.lane.specs.RingLane.{got};
+ghost use Rattle.callhead.specs.declared.head.CallHead.{CallHead as Head};
+ghost use Rattle.connbook.specs.declared.answers.Receipt.TheVariants.{Feed};
+ghost use Rattle.handlers.specs.Listed.{listed};
+ghost use Rattle.session.specs.declared.event.InEvent.TheVariants as events;
+ghost use Rattle.calltable.specs.Steps.{Admitted, Received, Step, Told, shut_at};
+ghost use Rattle.calltable.specs.Kept.{Concerns};
+ghost use Rattle.connection.specs.Accounts.{IsWithin, answers_by};
+ghost use Rattle.connection.specs.Reports.{IsAccounted};
+ghost use Rattle.connection.specs.Seats.{Hears, IsSeat, Keeps, Kept, feeds};
 
+use crate::answering::Answering;
 use crate::half::Half;
-use crate::hired::{Hired, hire};
+use crate::hired::hire;
 use crate::report::CallReport;
+use crate::seat::Seat;
 use crate::shared::Shared;
 use crate::slot::{InLane, Job, OutLane, Slot};
-use crate::worker::{Seen, Worker};
-use account::OutItem;
+use crate::worker::Worker;
+use account::Shut;
 use bytes::Bytes;
-use callbox::{FedShut, FeedFault, Feeder, InPiece, Sender, open_in, open_out};
+use callbox::{FeedFault, Sender, open_in, open_out};
 use flow::MAX_LIVE;
 use h2frame::StreamId;
 use handlers::Methods;
-use lane::{Lane, RingLane};
 use std::alloc::{AllocError, Global};
 use std::sync::ledger::Ledger;
 use std::sync::{Arc, Wait};
-use std::thread::{PromisedHandle, Threads};
+use std::thread::Threads;
 use std::time::{Clock, Instant};
 
 /// Room for the pieces of a call's DATA: as many as the bytes that a window lets through.
@@ -31,59 +38,72 @@ const IN_ROOM: usize = 65_536;
 /// Room for what a call is answered with: so many messages wait at most to be written.
 const OUT_ROOM: usize = 16;
 
-/// A slot, and what the reader has of it: the half of its call, and its worker.
-#[derive(Drop)]
-struct Seat<I: Lane<Item = InPiece>, O: Lane<Item = OutItem>> {
-    slot: Arc<Slot>,
-    /// The stream of its call, or of its last one.
-    id: StreamId,
-    half: Half<Feeder<I>, FedShut<I>>,
-    worker: PromisedHandle<Seen<I, O>, Hired<I, O>>,
-    /// The worker takes what the half is fed.
-    ghost one_ring: { IsSomeAnd (half_by (λ f. I.ring_of (I.in_name f.tx)) (λ s. I.ring_of (I.shut_name s.shut)) half) (λ ring. ring ≡ I.ring_of (I.out_name worker.promise.taker.value.rx)) } by { IsSomeAnd-prop (half_by (λ f. I.ring_of (I.in_name f.tx)) (λ s. I.ring_of (I.shut_name s.shut)) half) (λ ring. ring ≡ I.ring_of (I.out_name worker.promise.taker.value.rx))
-        (λ ring. I.name_set ring (I.ring_of (I.out_name worker.promise.taker.value.rx))) },
-}
-
 /// A slot that was made for its first call. Of its sender nothing was got.
 #[derive(Drop)]
-pub(crate) struct Made<O: Lane<Item = OutItem>> {
+pub(crate) struct Made {
     /// The slot's number.
     pub(crate) place: usize,
     pub(crate) slot: Arc<Slot>,
-    pub(crate) sender: Sender<O>,
-    ghost unused: { O.got sender.rx ≡ [] },
+    pub(crate) sender: Sender<OutLane>,
+    ghost unused: { got sender.rx ≡ [] },
 }
 
 /// The slots of a connection, at most as many as calls may be live, by their numbers.
 #[derive(Drop)]
-pub(crate) struct Slots<I: Lane<Item = InPiece>, O: Lane<Item = OutItem>> {
+pub(crate) struct Slots<M: Answering> {
     alloc: Global,
-    seats: Vec<Seat<I, O>>,
+    seats: Vec<Seat<M>>,
+    /// The stream of the call that was begun last, 0 for none.
+    last: StreamId,
 }
 
-impl<I: Lane<Item = InPiece>, O: Lane<Item = OutItem>> Slots<I, O> {
-    ghost use Rattle.connection.specs.Accounts.{HasAccount};
-
-    pub(crate) fn new(alloc: Global) -> Slots<I, O> {
+impl<M: Answering> Slots<M> {
+    pub(crate) fn new(alloc: Global) -> Slots<M>
+        ensures { Kept [] result }
+    {
         Slots {
             alloc,
             seats: Vec::new(alloc),
+            last: 0,
         }
     }
 
-    /// A free slot for a call of this stream, the latest first.
-    pub(crate) fn engage(&mut self, id: StreamId) -> Option<usize>
-        requires ring_in { (n : I.Name) → I.ring_of (I.next_name n) ≡ I.ring_of n }
+    /// The stream of the call that was begun last, 0 for none.
+    pub(crate) fn last(&self) -> StreamId
+        ensures { result ≡ self.now.last }
     {
-        for place in (0..self.seats.len()).rev() {
-            let Some(seat) = self.seats.get_mut(place) else {
-                continue;
-            };
-            if seat.begin(id) {
-                return Some(place);
+        self.last
+    }
+
+    /// A free slot for a call of this stream, the first of them. Where none is free nothing is begun.
+    pub(crate) fn engage(&mut self, id: StreamId) -> Result<Option<usize>, AllocError>
+        requires above { self.old.last < id }
+        ensures heard { IfOk result (λ place. IsSome place → (head : Head) → Hears (Told (events.Open id head) Admitted) self.old self.new) }
+        ensures stays { IfOk result (λ place. place ≡ None → Keeps self.old self.new × (self.new.last ≡ self.old.last)) }
+        ensures memory { OnErr result (Keeps self.old self.new × (self.new.last ≡ self.old.last)) }
+    {
+        'seats: for place in 0..self.seats.len() {
+            if self.engage_at(place, id)? {
+                return Ok(Some(place));
             }
         }
-        None
+        Ok(None)
+    }
+
+    /// Engages the slot of this number for a call of this stream, if it is free.
+    fn engage_at(&mut self, place: usize, id: StreamId) -> Result<bool, AllocError>
+        requires above { self.old.last < id }
+        ensures heard { result ≡ Ok true → (head : Head) → Hears (Told (events.Open id head) Admitted) self.old self.new }
+        ensures stays { result ≢ Ok true → Keeps self.old self.new × (self.new.last ≡ self.old.last) }
+    {
+        let Some(seat) = self.seats.get_mut(place) else {
+            return Ok(false);
+        };
+        if !seat.begin(id)? {
+            return Ok(false);
+        }
+        self.last = id;
+        Ok(true)
     }
 
     /// Hands a slot's worker its call. Its bell is still to be rung.
@@ -93,35 +113,56 @@ impl<I: Lane<Item = InPiece>, O: Lane<Item = OutItem>> Slots<I, O> {
         }
     }
 
-    /// Feeds a piece to the call of a slot, whose bell is to be rung once all that came with it is there.
-    pub(crate) fn feed(&mut self, place: usize, bytes: Bytes) -> Result<(), FeedFault> {
+    /// The number of the slot that is at a call of this stream, where more may be fed to it.
+    fn find(&self, id: StreamId) -> Option<usize>
+        ensures { result ≡ position (λ seat. feeds id seat) self.now.seats.items }
+    {
+        self.seats
+            .iter()
+            .position(|seat| seat.id == id && seat.half.is_open())
+    }
+
+    /// Feeds a piece to the call of this stream, if more may be fed to it. Its bell is to be rung once all that came with it is there.
+    pub(crate) fn feed(&mut self, id: StreamId, piece: Bytes) -> Result<(), FeedFault>
+        ensures heard { OnOk result ((counted : ℕ) → Hears (Told (events.Data id piece counted) (Received Feed)) self.old self.new) }
+        ensures stays { OnErr result (Keeps self.old self.new) }
+        ensures last { self.new.last ≡ self.old.last }
+    {
+        let Some(place) = self.find(id) else {
+            return Ok(());
+        };
         let Some(seat) = self.seats.get_mut(place) else {
             return Ok(());
         };
-        seat.half.feed(bytes)?;
-        seat.slot.note();
-        Ok(())
+        seat.feed(piece)
     }
 
-    /// The client has ended the half of a slot's call, which its worker is to see.
-    pub(crate) fn end_half(&mut self, place: usize) {
-        if let Some(seat) = self.seats.get_mut(place) {
-            seat.half.end();
-            seat.slot.note();
-        }
-    }
-
-    /// Resets the half of a slot's call, which its worker is to see.
-    pub(crate) fn reset(&mut self, place: usize, code: u32) {
-        if let Some(seat) = self.seats.get_mut(place) {
-            seat.half.reset(code);
-            seat.slot.note();
-        }
+    /// Shuts the half of the call of this stream in this way, which its worker is to see. Where it was shut before nothing changes.
+    pub(crate) fn shut(&mut self, id: StreamId, kind: Shut)
+        ensures heard { (step : Step) → Concerns id step → shut_at id step ≡ Some kind → Hears step self.old self.new }
+        ensures last { self.new.last ≡ self.old.last }
+    {
+        let Some(place) = self.find(id) else {
+            return;
+        };
+        let Some(seat) = self.seats.get_mut(place) else {
+            return;
+        };
+        seat.shut(kind);
     }
 
     /// How many there are.
     pub(crate) fn len(&self) -> usize {
         self.seats.len()
+    }
+
+    /// The stream of a slot's call, where its half isn't shut.
+    pub(crate) fn fed(&self, place: usize) -> Option<StreamId> {
+        let seat = self.seats.get(place)?;
+        if seat.half.is_open() {
+            return Some(seat.id);
+        }
+        None
     }
 
     /// The stream of a slot's call, where it was answered and its half wasn't shut.
@@ -151,9 +192,9 @@ impl<I: Lane<Item = InPiece>, O: Lane<Item = OutItem>> Slots<I, O> {
 
     /// Has each worker answer its call to the end, and waits for all: the rows of all calls, or none for want of memory.
     pub(crate) fn end(self, rt: &impl Threads) -> Option<Vec<CallReport>>
-        ensures rows { IfSome result (λ rows. All (λ row. HasAccount row) rows.items) }
+        ensures rows { (told : List Step) → Kept told self → IfSome result (λ rows. All (λ row. IsAccounted M.known told row) rows.items) }
     {
-        let Slots { alloc, seats } = self;
+        let Slots { alloc, seats, .. } = self;
         for seat in &seats {
             seat.slot.end();
         }
@@ -166,7 +207,7 @@ impl<I: Lane<Item = InPiece>, O: Lane<Item = OutItem>> Slots<I, O> {
     }
 }
 
-impl Slots<InLane, OutLane> {
+impl<M: Answering + Send + Sync + 'static> Slots<M> {
     /// A new slot for a call of this stream. None where there are as many as there may be. That no thread can be made counts as
     /// want of memory.
     pub(crate) fn open<A, B, C, R>(
@@ -176,12 +217,17 @@ impl Slots<InLane, OutLane> {
         methods: &Arc<Methods>,
         start: Instant,
         id: StreamId,
-    ) -> Result<Option<Made<OutLane>>, AllocError>
+    ) -> Result<Option<Made>, AllocError>
     where
         A: Ledger + Send + Sync + 'static,
         B: Ledger + Send + Sync + 'static,
         C: Ledger + Send + Sync + 'static,
         R: Threads + Wait + Clock + Copy + Send + Sync + Drop + 'static,
+        requires known { IsWithin M.known (answers_by (λ method. answers (method.vtable, method.value)) (listed methods.now.value)) }
+        requires above { self.old.last < id }
+        ensures heard { IfOk result (λ made. IsSome made → (head : Head) → Hears (Told (events.Open id head) Admitted) self.old self.new) }
+        ensures stays { IfOk result (λ made. made ≡ None → self.new ≡ self.old) }
+        ensures memory { OnErr result (Keeps self.old self.new × (self.new.last ≡ self.old.last)) }
     {
         let place = self.seats.len();
         if place >= MAX_LIVE {
@@ -199,6 +245,7 @@ impl Slots<InLane, OutLane> {
         let methods = Arc::try_clone(methods)?;
         let (seat, sender) = open_seat(rt, self.alloc, worker, methods, slot, id)?;
         self.seats.push_reserved(seat);
+        self.last = id;
         Ok(Some(Made {
             place,
             slot: told,
@@ -208,20 +255,24 @@ impl Slots<InLane, OutLane> {
 }
 
 /// A slot of this stream's call with a worker of its own, and its sender.
-fn open_seat<A, B, C, R>(
+fn open_seat<A, B, C, M, R>(
     rt: R,
     alloc: Global,
     worker: Worker<A, B, C>,
     methods: Arc<Methods>,
     slot: Arc<Slot>,
     id: StreamId,
-) -> Result<(Seat<InLane, OutLane>, Sender<OutLane>), AllocError>
+) -> Result<(Seat<M>, Sender<OutLane>), AllocError>
 where
     A: Ledger + Send + Sync + 'static,
     B: Ledger + Send + Sync + 'static,
     C: Ledger + Send + Sync + 'static,
+    M: Answering + Send + Sync + 'static,
     R: Threads + Wait + Clock + Copy + Send + Sync + Drop + 'static,
-    ensures unused { IfOk result (λ r. ⟦<RingLane<OutItem> as Lane>⟧.got r.1.rx ≡ []) }
+    requires known { IsWithin M.known (answers_by (λ method. answers (method.vtable, method.value)) (listed methods.value)) }
+    ensures unused { IfOk result (λ r. got r.1.rx ≡ []) }
+    ensures id { IfOk result (λ r. r.0.id ≡ id) }
+    ensures heard { IfOk result (λ r. (told : List Step) (head : Head) → IsSeat (Told (events.Open id head) Admitted ∷ told) r.0) }
 {
     let (feeder, taker) = open_in::<InLane>(alloc, IN_ROOM)?;
     let (giver, sender) = open_out::<OutLane>(alloc, id, OUT_ROOM)?;
@@ -230,6 +281,7 @@ where
     };
     let seat = Seat {
         slot,
+        ids: Vec::new(alloc),
         id,
         half: Half::Open(feeder),
         worker,
@@ -246,32 +298,5 @@ fn joined(all: Option<Vec<CallReport>>, rows: Option<Vec<CallReport>>) -> Option
     match all.append(&mut rows) {
         Ok(()) => Some(all),
         Err(_e) => None,
-    }
-}
-
-impl<I: Lane<Item = InPiece>, O: Lane<Item = OutItem>> Seat<I, O> {
-    ghost use Rattle.connection.specs.Workers.{EachStands};
-
-    /// Where the slot is free it is engaged for a call of this stream.
-    fn begin(&mut self, id: StreamId) -> bool
-        requires ring_in { (n : I.Name) → I.ring_of (I.next_name n) ≡ I.ring_of n }
-    {
-        if !self.slot.is_free() || !self.half.begin() {
-            return false;
-        }
-        self.slot.engage();
-        self.id = id;
-        true
-    }
-
-    /// Waits for the worker, and brings the half and what the worker had together: the rows of the slot's calls.
-    fn end(self, rt: &impl Threads) -> Option<Vec<CallReport>>
-        ensures rows { IfSome result (λ rows. IsSomeAnd (half_by (λ f. I.past_in f.tx ++ I.put_in f.tx ∷ []) (λ s. I.past_shut s.shut ++ I.put_shut s.shut ∷ []) self.half)
-            (λ feds. (gives : List (List Item)) × EachStands unheard feds gives rows.items)) }
-    {
-        let Seat { half, worker, .. } = self;
-        let Seen { taker, end, calls } = worker.join(rt);
-        half.settle(taker, end);
-        calls
     }
 }

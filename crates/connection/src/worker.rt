@@ -140,14 +140,14 @@ impl<A: Ledger, B: Ledger, C: Ledger> Worker<A, B, C> {
         O: Lane<Item = OutItem>,
         M: Answering,
         R: Wait + Clock,
-        requires answers { IsWithin M.answers (answers_by (λ method. (⟦<dyn Method as Method>⟧ method.vtable).answers method.value) (listed methods.now)) }
+        requires known { IsWithin M.known (answers_by (λ method. answers (method.vtable, method.value)) (listed methods.now)) }
         requires fresh { IsFresh (I.got taker.rx) taker.progress × (I.past_out taker.rx ≡ []) }
         requires ungiven { (O.past_in giver.tx ≡ []) × (O.put_in giver.tx ≡ []) }
         requires ring_in { (n : I.Name) → I.ring_of (I.next_name n) ≡ I.ring_of n }
         requires ring_out { (n : O.Name) → O.ring_of (O.next_name n) ≡ O.ring_of n }
         ensures in_ring { I.ring_of (I.out_name result.taker.rx) ≡ I.ring_of (I.out_name taker.rx) }
         ensures out_ring { O.ring_of (of_end (λ g. O.in_name g.tx) (λ s. O.shut_name s.shut) result.end) ≡ O.ring_of (O.in_name giver.tx) }
-        ensures rows { IfSome result.calls (λ rows. HaveRows M.answers (I.past_out result.taker.rx) (I.got result.taker.rx)
+        ensures rows { IfSome result.calls (λ rows. HaveRows M.known (I.past_out result.taker.rx) (I.got result.taker.rx)
             (of_end (λ g. O.past_in g.tx) (λ s. O.past_shut s.shut ++ O.put_shut s.shut ∷ []) result.end) rows.items) }
     {
         let mut seen = Seen {
@@ -180,10 +180,10 @@ impl<A: Ledger, B: Ledger, C: Ledger> Worker<A, B, C> {
         O: Lane<Item = OutItem>,
         M: Answering,
         R: Wait + Clock,
-        requires answers { IsWithin M.answers (answers_by (λ method. (⟦<dyn Method as Method>⟧ method.vtable).answers method.value) (listed methods.now)) }
+        requires known { IsWithin M.known (answers_by (λ method. answers (method.vtable, method.value)) (listed methods.now)) }
         requires fresh { IsFresh (I.got seen.taker.rx) seen.taker.progress }
         requires ungiven { of_end (λ g. O.put_in g.tx) (λ s. []) seen.end ≡ [] }
-        requires rows { IfSome seen.calls (λ rows. EachAnswers M.answers (I.past_out seen.taker.rx)
+        requires rows { IfSome seen.calls (λ rows. EachAnswers M.known (I.past_out seen.taker.rx)
             (of_end (λ g. O.past_in g.tx) (λ s. O.past_shut s.shut ++ O.put_shut s.shut ∷ []) seen.end) rows.items) }
         requires ring_in { (n : I.Name) → I.ring_of (I.next_name n) ≡ I.ring_of n }
         requires ring_out { (n : O.Name) → O.ring_of (O.next_name n) ≡ O.ring_of n }
@@ -193,9 +193,9 @@ impl<A: Ledger, B: Ledger, C: Ledger> Worker<A, B, C> {
         ensures out_ring { IfErr result (λ r. O.ring_of (of_end (λ g. O.in_name g.tx) (λ s. O.shut_name s.shut) r.end) ≡ O.ring_of (of_end (λ g. O.in_name g.tx) (λ s. O.shut_name s.shut) seen.end)) }
         ensures fresh { IfOk result (λ r. IsFresh (I.got r.taker.rx) r.taker.progress) }
         ensures ungiven { IfOk result (λ r. of_end (λ g. O.put_in g.tx) (λ s. []) r.end ≡ []) }
-        ensures rows_on { IfOk result (λ r. IfSome r.calls (λ rows. EachAnswers M.answers (I.past_out r.taker.rx)
+        ensures rows_on { IfOk result (λ r. IfSome r.calls (λ rows. EachAnswers M.known (I.past_out r.taker.rx)
             (of_end (λ g. O.past_in g.tx) (λ s. O.past_shut s.shut ++ O.put_shut s.shut ∷ []) r.end) rows.items)) }
-        ensures rows { IfErr result (λ r. IfSome r.calls (λ rows. HaveRows M.answers (I.past_out r.taker.rx) (I.got r.taker.rx)
+        ensures rows { IfErr result (λ r. IfSome r.calls (λ rows. HaveRows M.known (I.past_out r.taker.rx) (I.got r.taker.rx)
             (of_end (λ g. O.past_in g.tx) (λ s. O.past_shut s.shut ++ O.put_shut s.shut ∷ []) r.end) rows.items)) }
     {
         let Seen { taker, end, calls } = seen;
@@ -286,7 +286,7 @@ impl<A: Ledger, B: Ledger, C: Ledger> Worker<A, B, C> {
         ensures in_past { I.past_out result.taker.rx ≡ I.past_out taker.rx }
         ensures name { O.shut_name result.shut.shut ≡ O.in_name giver.tx }
         ensures past { O.past_shut result.shut.shut ≡ O.past_in giver.tx }
-        ensures answers { Answers (answers_by (λ method. (⟦<dyn Method as Method>⟧ method.vtable).answers method.value) (listed methods.now))
+        ensures answers { Answers (answers_by (λ method. answers (method.vtable, method.value)) (listed methods.now))
             (I.got result.taker.rx) (O.put_shut result.shut.shut) result.row }
     {
         let Job {

@@ -1,3 +1,5 @@
+use Rattle.handlers.specs.Listed.{listed}
+use Rattle.connection.specs.Accounts.{answers_by}
 use Rattle.connection.proofs.serve.serve_connection.Given as goal
 
 abbrev pub ghosts-serve_over-A-Ledger : goal.ghosts-serve_over-A-Ledger
@@ -8,3 +10,7 @@ ghosts-serve_over-B-Ledger g a = record { name = a.blanks.1.name; parts = a.blan
 
 abbrev pub ghosts-serve_over-C-Ledger : goal.ghosts-serve_over-C-Ledger
 ghosts-serve_over-C-Ledger g a = record { name = a.blanks.2.name; parts = a.blanks.2.parts }
+
+-- what its own methods answer
+abbrev pub ghosts-serve_over-M-Answering : goal.ghosts-serve_over-M-Answering
+ghosts-serve_over-M-Answering g a = record { known = answers_by (λ method. (g.dyn-1.0.entry method.vtable).1.answers method.value) (listed a.methods.value) }

@@ -1,5 +1,13 @@
-use Rattle.std.proofs.Common.{◌≡◌, ◌<◌}
+use Rattle.std.proofs.Common.{◌≡◌, ◌<◌, ℕ, List, []}
+use Rattle.std.specs.Io.KnownBytes.{Consumes}
+use Rattle.session.specs.declared.event.InEvent.{InEvent}
+use Rattle.session.specs.CoreStates.{Reached}
+use Rattle.calltable.specs.Steps.{Step, events_of}
+use Rattle.connection.specs.Seats.{Kept}
 use Rattle.connection.proofs.reader.Reader.read.Given as goal
 
+-- all events of the bytes so far were heard
 abbrev pub invariant-pieces : goal.invariant-pieces
 invariant-pieces g l = (l.intake.came.parts ≡ g.A.Ledger.parts) × (0 < g.A.Ledger.parts) × (l.intake.calls.parts ≡ g.B.Ledger.parts) × (0 < g.B.Ledger.parts)
+    × (Kept [] l.fn.self.slots → (came : List ℕ) × (given : List InEvent) × (told : List Step) × Consumes (g.I.ConnRead.remaining l.fn.input) (g.I.ConnRead.remaining l.input) came
+    × Reached came given l.core × (events_of told ≡ given) × Kept told l.self.slots)

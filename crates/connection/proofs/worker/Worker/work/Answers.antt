@@ -6,7 +6,7 @@ pub calls-init : goal.calls-init
 calls-init g c = record {
   fresh = c.requires.fresh.0;
   ungiven = c.requires.ungiven.1;
-  rows = no_rows g.M.Answering.answers (λ v. v.items) _ c.new.result _ _ refl c.new.ensures.items c.requires.fresh.1 c.requires.ungiven.0;
+  rows = no_rows g.M.Answering.known (λ v. v.items) _ c.new.result _ _ refl c.new.ensures.items c.requires.fresh.1 c.requires.ungiven.0;
   in_ring = refl;
   out_ring = refl;
 }

@@ -1,0 +1,77 @@
+-- The first events of the bytes that came.
+use Rattle.std.proofs.Common.{◌≡◌, ◌∙◌, ℕ, List, [], ◌++◌, Option, None, Some, ap, refl, subst, sym, append-nil}
+use Rattle.std.proofs.lemmas.List.{append_assoc}
+use Rattle.std.specs.Io.KnownBytes.{Consumes, Keeps, ReadConsumes}
+use Rattle.std.specs.Prelude.{Result, Ok, Err}
+use mathlib.Core.List.{IsPrefix}
+use Rattle.session.specs.declared.event.InEvent.{InEvent}
+use Rattle.session.specs.CoreStates.{Core, Reached}
+use Rattle.session.proofs.EventLaws.{reached_events}
+use Rattle.session.proofs.OneEvents.{events_go_on, events_one}
+use Rattle.calltable.specs.Steps.{Step, events_of}
+use Rattle.connection.specs.declared.slots.Slots.{Slots}
+use Rattle.connection.specs.Reports.{IsFront}
+use Rattle.connection.specs.Seats.{HearsSome, Kept}
+use Rattle.connection.proofs.Heard.{events-append}
+
+-- what a core answered to the bytes before
+pub front-before : (bytes more : List ℕ) (given : List InEvent) (core : Core) → Reached bytes given core → IsFront (bytes ++ more) given
+front-before bytes more given core reached all are =
+    let on = events_go_on bytes more given all (reached_events bytes given core reached) are in
+    (on.0, sym on.1)
+
+-- a front of what it answered
+pub front-some : (bytes : List ℕ) (told given : List InEvent) (core : Core) → Reached bytes given core → IsPrefix told given → IsFront bytes told
+front-some bytes told given core reached begins all are =
+    (begins.0, begins.1 ∙ events_one bytes given all (reached_events bytes given core reached) are)
+
+-- ---- bytes that are read
+
+pub consumes-none : (known : Option (List ℕ)) → Consumes known known []
+consumes-none None = tt
+consumes-none (Some rest) = refl
+
+pub consumes-keeps : (old mid new : Option (List ℕ)) (bytes : List ℕ) → Consumes old mid bytes → Keeps mid new → Consumes old new bytes
+consumes-keeps None mid new bytes came kept = tt
+consumes-keeps (Some whole) None new bytes came kept = absurd came
+consumes-keeps (Some whole) (Some rest) None bytes came kept = absurd kept
+consumes-keeps (Some whole) (Some rest) (Some now) bytes came kept = came ∙ ap (λ (xs : List ℕ). bytes ++ xs) (sym kept)
+
+pub consumes-then : (old mid new : Option (List ℕ)) (bytes more : List ℕ) → Consumes old mid bytes → Consumes mid new more → Consumes old new (bytes ++ more)
+consumes-then None mid new bytes more came next = tt
+consumes-then (Some whole) None new bytes more came next = absurd came
+consumes-then (Some whole) (Some rest) None bytes more came next = absurd next
+consumes-then (Some whole) (Some rest) (Some now) bytes more came next = came ∙ ap (λ (xs : List ℕ). bytes ++ xs) next ∙ sym (append_assoc bytes more now)
+
+pub read-failed : {E : Type 0} (old new : Option (List ℕ)) (result : Result ℕ E) (buf : List ℕ) → ((n : ℕ) → result ≡ Ok n → ⊥) → ReadConsumes old new result buf → Consumes old new []
+read-failed old new (Ok n) buf not read = absurd (not n refl)
+read-failed old new (Err fault) buf not read = consumes-keeps old old new [] (consumes-none old) read
+
+-- ---- what was heard of the bytes that came
+
+module _ {M : Type 0} where
+  -- some of the events of the last bytes were heard
+  pub last-front : (old new : Slots M) (given before : List InEvent) (told : List Step) (bytes : List ℕ) (core : Core) → HearsSome given old new → Reached bytes (before ++ given) core
+      → events_of told ≡ before → Kept told old → (all : List Step) × Kept all new × IsFront bytes (events_of all)
+  last-front old new given before told bytes core some reached is kept =
+      let more = some told kept in (
+        more.0 ++ told,
+        more.2,
+        front-some bytes (events_of (more.0 ++ told)) (before ++ given) core reached (
+          more.1.0,
+          ap (λ (es : List InEvent). es ++ more.1.0) (events-append more.0 told ∙ ap (λ (es : List InEvent). es ++ events_of more.0) is)
+              ∙ append_assoc before (events_of more.0) more.1.0 ∙ ap (λ (es : List InEvent). before ++ es) more.1.1,
+        ),
+      )
+
+  -- none of them was
+  pub last-none : (slots : Slots M) (before : List InEvent) (told : List Step) (bytes more : List ℕ) (core : Core) → Reached bytes before core → events_of told ≡ before → Kept told slots
+      → (all : List Step) × Kept all slots × IsFront (bytes ++ more) (events_of all)
+  last-none slots before told bytes more core reached is kept =
+      (told, kept, subst (λ (es : List InEvent). IsFront (bytes ++ more) es) (sym is) (front-before bytes more before core reached))
+
+  -- all were
+  pub all-front : (slots : Slots M) (before : List InEvent) (told : List Step) (bytes : List ℕ) (core : Core) → Reached bytes before core → events_of told ≡ before → Kept told slots
+      → (all : List Step) × Kept all slots × IsFront bytes (events_of all)
+  all-front slots before told bytes core reached is kept =
+      (told, kept, front-some bytes (events_of told) before core reached ([], append-nil (events_of told) ∙ is))

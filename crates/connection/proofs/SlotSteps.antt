@@ -1,0 +1,289 @@
+-- What one step more makes of all slots of a connection.
+use Rattle.std.proofs.Common.{◌≡◌, ◌≢◌, ◌∙◌, ℕ, ◌<◌, ◌≤◌, Bool, true, false, List, [], ◌∷◌, ◌++◌, None, Some, ap, arith, eqb-true, get_or, inl, inr, length, map, refl, set, subst, sym, All}
+use Rattle.std.specs.Prelude.{◌&&◌, nat_eq, nat_lt, position, Result, Ok, Err, OnOk, OnErr}
+use Rattle.std.specs.List.{position_or_len}
+use Rattle.std.proofs.lemmas.Bool.{and_left, and_parts, cases_Bool, cases_eq, cases_lt, cond-true, lt-ltb, ne_eqb}
+use Rattle.std.proofs.lemmas.List.{get_or-map, get_or-set_same, get_or-set_other, get_or_append_left, get_or_push, length-map, length-set, length_push, map-set, map_push}
+use Rattle.std.proofs.lemmas.List.Elements.{All-nil, All-push, All-weaker}
+use Rattle.std.proofs.lemmas.List.Quantifiers.{position-Some}
+use Rattle.std.proofs.lemmas.List.Sums.{fails_before_first}
+use Rattle.std.proofs.Math.Seq.{map-set_same}
+use Rattle.callbox.specs.declared.piece.InPiece.{InPiece}
+use Rattle.account.specs.declared.call.Shut.{Shut}
+use Rattle.callhead.specs.declared.head.CallHead.{CallHead}
+use Rattle.session.specs.declared.event.InEvent.TheVariants as events
+use Rattle.calltable.specs.Kept.{Concerns, IsIdle}
+use Rattle.calltable.specs.Steps.{Step, Told, Admitted, admitted_by, last_of}
+use Rattle.connection.specs.declared.half.Half.{Half}
+use Rattle.connection.specs.declared.half.Half.TheVariants.{Open, Shut as Closed, Moving}
+use Rattle.connection.specs.declared.seat.Seat.{Seat}
+use Rattle.connection.specs.declared.slots.Slots.{Slots}
+use Rattle.connection.specs.Calls.{Rises}
+use Rattle.connection.specs.Halves.{is_open, shown}
+use Rattle.connection.specs.Seats.{AreApart, IsSeat, Kept, call_of, feeds}
+use Rattle.connection.proofs.Seats.{seat-passes, seat-shut}
+
+-- ---- a slot that a step passes by
+
+pub rises-not : (told : List Step) (step : Step) → admitted_by step ≡ None → Rises told step
+rises-not told step none = rw none tt
+
+last-not : (told : List Step) (step : Step) → admitted_by step ≡ None → last_of (step ∷ told) ≡ last_of told
+last-not told step none = rw none refl
+
+shut-is-told : {F S : Type 0} (of_open : F → List InPiece) (of_shut : S → List InPiece) (kind_of : S → Shut) (half : Half F S)
+    → is_open half ≡ false → (shown of_open of_shut kind_of half).there ≡ true → (shown of_open of_shut kind_of half).shut ≢ None
+shut-is-told of_open of_shut kind_of (Open feeder) closed there none = absurd cc
+shut-is-told of_open of_shut kind_of (Closed end) closed there none = absurd cc
+shut-is-told of_open of_shut kind_of Moving closed there none = absurd cc
+
+module _ {M : Type 0} where
+  -- its call is of another stream, or was shut
+  pub seat-by : (told : List Step) (step : Step) (id : ℕ) (seat : Seat M) → Concerns id step → feeds id seat ≡ false → IsSeat told seat → IsSeat (step ∷ told) seat
+  seat-by told step id seat concerns unfed are = elim (cases_Bool (nat_eq seat.id id)) [
+    | inl same ↦
+        seat-shut told step _ _ seat.id (call_of seat) (rises-not told step concerns.admits)
+        (shut-is-told _ _ _ seat.half (ap (λ (b : Bool). b && is_open seat.half) (sym same) ∙ unfed) are.last.half.there) are
+    | inr other ↦
+        seat-passes told step _ _ seat.id (call_of seat) (rises-not told step concerns.admits)
+        (record { shuts = concerns.shuts seat.id other; feeds = concerns.feeds seat.id other }) are
+  ]
+
+  seat-idle : (told : List Step) (step : Step) (seat : Seat M) → IsIdle step → IsSeat told seat → IsSeat (step ∷ told) seat
+  seat-idle told step seat idle are = seat-passes told step _ _ seat.id (call_of seat) (rises-not told step idle.admits) (record { shuts = idle.shuts seat.id; feeds = idle.feeds seat.id }) are
+
+  seat-other : (told : List Step) (id : ℕ) (head : CallHead) (seat : Seat M) → last_of told < id → IsSeat told seat → IsSeat (Told (events.Open id head) Admitted ∷ told) seat
+  seat-other told id head seat above are = seat-passes told (Told (events.Open id head) Admitted) _ _ seat.id (call_of seat) above (record { shuts = refl; feeds = refl }) are
+
+  -- ---- ids that are apart
+
+  abbrev ids : List (Seat M) → List ℕ
+  ids seats = map (λ (seat : Seat M). seat.id) seats
+
+  id-at : (seats : List (Seat M)) (n : ℕ) (d : Seat M) → n < length seats → get_or (ids seats) n 0 ≡ (get_or seats n d).id
+  id-at seats n d within = get_or-map (λ (seat : Seat M). seat.id) seats n d 0 within
+
+  ids-length : (seats : List (Seat M)) → length (ids seats) ≡ length seats
+  ids-length seats = length-map seats (λ (seat : Seat M). seat.id)
+
+  -- the slot at another place is at another stream
+  other-id : (seats : List (Seat M)) (place other : ℕ) (d e : Seat M) → AreApart (ids seats) → place < length seats → other < length seats → (other ≡ place → ⊥)
+      → nat_eq (get_or seats other e).id (get_or seats place d).id ≡ false
+  other-id seats place other d e apart there within away =
+      ne_eqb (get_or seats other e).id (get_or seats place d).id
+      (λ same. away
+      (apart other place (omega (arith, within, ids-length seats)) (omega (arith, there, ids-length seats))
+      (id-at seats other e within ∙ (same ∙ sym (id-at seats place d there)))))
+
+  apart-set : (seats : List (Seat M)) (place : ℕ) (d moved : Seat M) → moved.id ≡ (get_or seats place d).id → AreApart (ids seats) → AreApart (ids (set seats place moved))
+  apart-set seats place d moved same apart =
+      subst (λ (all : List ℕ). AreApart all) (sym (map-set_same (λ (seat : Seat M). seat.id) seats place moved d same)) apart
+
+at-new : (all : List ℕ) (place id n : ℕ) → n < length (set all place id) → n ≡ place → get_or (set all place id) n 0 ≡ id
+at-new all place id n within is =
+    ap (λ (m : ℕ). get_or (set all place id) m 0) is ∙ get_or-set_same all place id 0 (omega (arith, within, is, length-set all place id))
+
+abbrev AreBelow : List ℕ → ℕ → Type 0
+AreBelow all id = (n : ℕ) → n < length all → get_or all n 0 < id
+
+not-new : (all : List ℕ) (place id n : ℕ) → AreBelow all id → n < length (set all place id) → (n ≡ place → ⊥) → get_or (set all place id) n 0 ≡ id → ⊥
+not-new all place id n above within away same =
+    let low = above n (omega (arith, within, length-set all place id)) in
+    let is : get_or all n 0 ≡ id = sym (get_or-set_other all place n id 0 away) ∙ same in
+    omega (arith, low, is)
+
+-- a new id is apart from those below it
+apart-new : (all : List ℕ) (place id : ℕ) → AreBelow all id → AreApart all → AreApart (set all place id)
+apart-new all place id above apart one other lt more same = elim (cases_eq one place) [
+  | inl is ↦ elim (cases_eq other place) [
+    | inl too ↦ is ∙ sym too
+    | inr away ↦ absurd (not-new all place id other above more away (sym same ∙ at-new all place id one lt is))
+  ]
+  | inr away ↦ elim (cases_eq other place) [
+    | inl too ↦ absurd (not-new all place id one above lt away (same ∙ at-new all place id other more too))
+    | inr apart_too ↦
+        apart one other (omega (arith, lt, length-set all place id)) (omega (arith, more, length-set all place id))
+        (sym (get_or-set_other all place one id 0 away) ∙ (same ∙ get_or-set_other all place other id 0 apart_too))
+  ]
+]
+
+not-pushed : (all : List ℕ) (id n : ℕ) → AreBelow all id → n < length all → get_or (all ++ id ∷ []) n 0 ≡ id → ⊥
+not-pushed all id n above within same =
+    let low = above n within in
+    let is : get_or all n 0 ≡ id = sym (get_or_append_left all (id ∷ []) 0 n within) ∙ same in
+    omega (arith, low, is)
+
+last-pushed : (all : List ℕ) (id n : ℕ) → n < length (all ++ id ∷ []) → length all ≤ n → n ≡ length all
+last-pushed all id n within behind = omega (arith, within, behind, length_push all id)
+
+apart-pushed : (all : List ℕ) (id : ℕ) → AreBelow all id → AreApart all → AreApart (all ++ id ∷ [])
+apart-pushed all id above apart one other lt more same = elim (cases_lt one (length all)) [
+  | inl within ↦ elim (cases_lt other (length all)) [
+    | inl too ↦ apart one other within too (sym (get_or_append_left all (id ∷ []) 0 one within) ∙ (same ∙ get_or_append_left all (id ∷ []) 0 other too))
+    | inr behind ↦ absurd (not-pushed all id one above within (same ∙ get_or_push all id 0 other (sym (last-pushed all id other more behind))))
+  ]
+  | inr behind ↦ elim (cases_lt other (length all)) [
+    | inl within ↦ absurd (not-pushed all id other above within (sym same ∙ get_or_push all id 0 one (sym (last-pushed all id one lt behind))))
+    | inr too ↦ last-pushed all id one lt behind ∙ sym (last-pushed all id other more too)
+  ]
+]
+
+module _ {M : Type 0} where
+  -- the streams of the slots were admitted, so they are below the next
+  are-below : (told : List Step) (seats : List (Seat M)) (id : ℕ) → last_of told < id → All (λ (seat : Seat M). IsSeat told seat) seats → AreBelow (ids seats) id
+  are-below told [] id above each n within = absurd (omega (arith, within))
+  are-below told (seat ∷ seats) id above each n within =
+      let inside : n < length (seat ∷ seats) = omega (arith, within, ids-length (seat ∷ seats)) in
+      let low = (each n seat inside).last.within in
+      let is = id-at (seat ∷ seats) n seat inside in
+      omega (arith, low, is, above)
+
+-- ---- each slot, where one is changed
+
+module _ {X : Type 0} (P Q : X → Type 0) where
+  set-each : (xs : List X) (place : ℕ) (one : X) → place < length xs → Q one
+      → ((k : ℕ) (d : X) → k < length xs → (k ≡ place → ⊥) → P (get_or xs k d) → Q (get_or xs k d)) → All P xs → All Q (set xs place one)
+  set-each xs place one there first others all k d within = elim (cases_eq k place) [
+    | inl same ↦ subst Q (sym (ap (λ (n : ℕ). get_or (set xs place one) n d) same ∙ get_or-set_same xs place one d there)) first
+    | inr away ↦
+        let inside : k < length xs = omega (arith, within, length-set xs place one) in
+        subst Q (sym (get_or-set_other xs place k one d away)) (others k d inside away (all k d inside))
+  ]
+
+-- ---- all slots
+
+module _ {M : Type 0} where
+  -- a step that is nothing to any call
+  pub kept-idle : (told : List Step) (step : Step) (slots : Slots M) → IsIdle step → Kept told slots → Kept (step ∷ told) slots
+  kept-idle told step slots idle k = record {
+    rising = (rises-not told step idle.admits, k.rising);
+    last = k.last ∙ sym (last-not told step idle.admits);
+    each = All-weaker (IsSeat told) (IsSeat (step ∷ told)) (λ seat are. seat-idle told step seat idle are) slots.seats.items k.each;
+    apart = k.apart;
+  }
+
+none-passes : {X : Type 0} (p : X → Bool) (xs : List X) → position p xs ≡ None → length xs ≤ position_or_len p xs
+none-passes p xs none = elim (cases_lt (position_or_len p xs) (length xs)) [
+  | inl lt ↦
+      let some = sym (cond-true (nat_lt (position_or_len p xs) (length xs)) (Some (position_or_len p xs)) None (lt-ltb (position_or_len p xs) (length xs) lt)) ∙ none in
+      absurd cc
+  | inr all ↦ all
+]
+
+none-at : {X : Type 0} (p : X → Bool) (xs : List X) (n : ℕ) (d : X) → position p xs ≡ None → n < length xs → p (get_or xs n d) ≡ false
+none-at p xs n d none within = fails_before_first p xs n d (omega (arith, within, none-passes p xs none))
+
+module _ {M : Type 0} where
+  -- a step that concerns a call that isn't fed
+  pub kept-none : (told : List Step) (step : Step) (slots : Slots M) (id : ℕ) → position (λ (seat : Seat M). feeds id seat) slots.seats.items ≡ None → Concerns id step
+      → Kept told slots → Kept (step ∷ told) slots
+  kept-none told step slots id none concerns k = record {
+    rising = (rises-not told step concerns.admits, k.rising);
+    last = k.last ∙ sym (last-not told step concerns.admits);
+    each = λ n d within.
+        seat-by told step id (get_or slots.seats.items n d) concerns (none-at (λ (seat : Seat M). feeds id seat) slots.seats.items n d none within) (k.each n d within);
+    apart = k.apart;
+  }
+
+  -- a slot that was found is at its stream
+  pub is-at : (seats : List (Seat M)) (place id : ℕ) (seat : Seat M) → position (λ (s : Seat M). feeds id s) seats ≡ Some place → seat ≡ get_or seats place seat → nat_eq seat.id id ≡ true
+  is-at seats place id seat found is =
+      let fed = (position-Some (λ (s : Seat M). feeds id s) seats place seat found).1 in
+      (and_parts (nat_eq seat.id id) (is_open seat.half) (subst (λ (s : Seat M). feeds id s ≡ true) (sym is) fed)).0
+
+-- the slots with one of them changed
+module _ {M : Type 0} (old new : Slots M) (place : ℕ) (seat moved : Seat M) (there : place < length old.seats.items) (is : seat ≡ get_or old.seats.items place seat)
+    (items : new.seats.items ≡ set old.seats.items place moved) where
+  was : (told : List Step) → Kept told old → IsSeat told seat
+  was told k = subst (λ (s : Seat M). IsSeat told s) (sym is) (k.each place seat there)
+
+  -- another slot isn't at its stream
+  unfed-there : (n id : ℕ) (d : Seat M) → AreApart (ids old.seats.items) → nat_eq seat.id id ≡ true → n < length old.seats.items → (n ≡ place → ⊥) → feeds id (get_or old.seats.items n d) ≡ false
+  unfed-there n id d apart of within away =
+      let at : id ≡ (get_or old.seats.items place seat).id = sym (eqb-true seat.id id of) ∙ ap (λ (s : Seat M). s.id) is in
+      and_left (nat_eq (get_or old.seats.items n d).id id) (is_open (get_or old.seats.items n d).half)
+      (subst (λ (m : ℕ). nat_eq (get_or old.seats.items n d).id m ≡ false) (sym at) (other-id old.seats.items place n seat d apart there within away))
+
+  still-apart : moved.id ≡ seat.id → AreApart (ids old.seats.items) → AreApart (ids new.seats.items)
+  still-apart same apart =
+      subst (λ (seats : List (Seat M)). AreApart (ids seats)) (sym items) (apart-set old.seats.items place seat moved (same ∙ ap (λ (s : Seat M). s.id) is) apart)
+
+  -- a step that concerns its call
+  pub kept-set : (told : List Step) (step : Step) (id : ℕ) → new.last ≡ old.last → moved.id ≡ seat.id → nat_eq seat.id id ≡ true → Concerns id step
+      → (IsSeat told seat → IsSeat (step ∷ told) moved) → Kept told old → Kept (step ∷ told) new
+  kept-set told step id last same of concerns goes k = record {
+    rising = (rises-not told step concerns.admits, k.rising);
+    last = last ∙ (k.last ∙ sym (last-not told step concerns.admits));
+    each = subst (λ (seats : List (Seat M)). All (λ (s : Seat M). IsSeat (step ∷ told) s) seats) (sym items)
+        (set-each (IsSeat told) (IsSeat (step ∷ told)) old.seats.items place moved there (goes (was told k))
+        (λ n d within away one. seat-by told step id (get_or old.seats.items n d) concerns (unfed-there n id d k.apart of within away) one) k.each);
+    apart = still-apart same k.apart;
+  }
+
+  -- no step
+  pub keeps-set : (told : List Step) → new.last ≡ old.last → moved.id ≡ seat.id → (IsSeat told seat → IsSeat told moved) → Kept told old → Kept told new
+  keeps-set told last same stays k = record {
+    rising = k.rising;
+    last = last ∙ k.last;
+    each = subst (λ (seats : List (Seat M)). All (λ (s : Seat M). IsSeat told s) seats) (sym items)
+        (set-each (IsSeat told) (IsSeat told) old.seats.items place moved there (stays (was told k)) (λ n d within away one. one) k.each);
+    apart = still-apart same k.apart;
+  }
+
+  -- it begins the next call
+  pub kept-begins : (told : List Step) (id : ℕ) (head : CallHead) → old.last < id → new.last ≡ id → moved.id ≡ id
+      → (last_of told < id → IsSeat told seat → IsSeat (Told (events.Open id head) Admitted ∷ told) moved) → Kept told old → Kept (Told (events.Open id head) Admitted ∷ told) new
+  kept-begins told id head above last next begins k =
+      let step = Told (events.Open id head) Admitted in
+      let higher : last_of told < id = subst (λ (n : ℕ). n < id) k.last above in
+      let set_at : ids new.seats.items ≡ set (ids old.seats.items) place id =
+      ap ids items ∙ (map-set (λ (s : Seat M). s.id) old.seats.items place moved ∙ ap (λ (n : ℕ). set (ids old.seats.items) place n) next) in
+      record {
+        rising = (higher, k.rising);
+        last = last;
+        each = subst (λ (seats : List (Seat M)). All (λ (s : Seat M). IsSeat (step ∷ told) s) seats) (sym items)
+            (set-each (IsSeat told) (IsSeat (step ∷ told)) old.seats.items place moved there (begins higher (was told k))
+            (λ n d within away one. seat-other told id head (get_or old.seats.items n d) higher one) k.each);
+        apart = subst (λ (all : List ℕ). AreApart all) (sym set_at) (apart-new (ids old.seats.items) place id (are-below told old.seats.items id higher k.each) k.apart);
+      }
+
+module _ {M : Type 0} where
+  -- a slot is made for a call
+  pub kept-pushed : (old new : Slots M) (seat : Seat M) (told : List Step) (id : ℕ) (head : CallHead) → new.seats.items ≡ old.seats.items ++ seat ∷ [] → old.last < id → new.last ≡ id → seat.id ≡ id
+      → IsSeat (Told (events.Open id head) Admitted ∷ told) seat → Kept told old → Kept (Told (events.Open id head) Admitted ∷ told) new
+  kept-pushed old new seat told id head items above last next one k =
+      let step = Told (events.Open id head) Admitted in
+      let higher : last_of told < id = subst (λ (n : ℕ). n < id) k.last above in
+      let pushed : ids new.seats.items ≡ ids old.seats.items ++ id ∷ [] =
+      ap ids items ∙ (map_push (λ (s : Seat M). s.id) old.seats.items seat ∙ ap (λ (n : ℕ). ids old.seats.items ++ n ∷ []) next) in
+      record {
+        rising = (higher, k.rising);
+        last = last;
+        each = subst (λ (seats : List (Seat M)). All (λ (s : Seat M). IsSeat (step ∷ told) s) seats) (sym items)
+            (All-push (IsSeat (step ∷ told)) old.seats.items seat
+            (All-weaker (IsSeat told) (IsSeat (step ∷ told)) (λ s are. seat-other told id head s higher are) old.seats.items k.each) one);
+        apart = subst (λ (all : List ℕ). AreApart all) (sym pushed) (apart-pushed (ids old.seats.items) id (are-below told old.seats.items id higher k.each) k.apart);
+      }
+
+  -- no slot is there yet
+  pub kept-none-yet : (slots : Slots M) → slots.seats.items ≡ [] → slots.last ≡ 0 → Kept [] slots
+  kept-none-yet slots none last = record {
+    rising = tt;
+    last = last;
+    each = subst (λ (seats : List (Seat M)). All (λ (s : Seat M). IsSeat [] s) seats) (sym none) (All-nil (λ (s : Seat M). IsSeat [] s));
+    apart = subst (λ (seats : List (Seat M)). AreApart (ids seats)) (sym none) (λ one other lt more same. absurd (omega (arith, lt)));
+  }
+
+-- ---- what is so where a call went well, or failed
+
+pub on-ok : {T E : Type 0} (result : Result T E) (P Q : Type 0) → (P → Q) → OnOk result P → OnOk result Q
+on-ok (Ok value) P Q follows p = follows p
+on-ok (Err fault) P Q follows p = tt
+
+pub on-err : {T E : Type 0} (result : Result T E) (P Q : Type 0) → (P → Q) → OnErr result P → OnErr result Q
+on-err (Ok value) P Q follows p = tt
+on-err (Err fault) P Q follows p = follows p
+
+pub err-both : {T E : Type 0} (result : Result T E) (P Q : Type 0) → P → Q → OnErr result (P × Q)
+err-both (Ok value) P Q p q = tt
+err-both (Err fault) P Q p q = (p, q)

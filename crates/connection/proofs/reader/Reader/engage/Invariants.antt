@@ -1,0 +1,7 @@
+use Rattle.std.proofs.Common.{◌≡◌, []}
+use Rattle.connection.specs.Seats.{HearsAll}
+use Rattle.connection.proofs.reader.Reader.engage.Given as goal
+
+-- calls may have been let go
+abbrev pub invariant-looks : goal.invariant-looks
+invariant-looks g l = HearsAll [] l.fn.self.slots l.self.slots × (l.self.slots.last ≡ l.fn.self.slots.last)

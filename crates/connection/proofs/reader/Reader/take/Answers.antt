@@ -1,0 +1,13 @@
+use Rattle.connection.proofs.Fronts.{last-front, last-none}
+use Rattle.connection.proofs.reader.Reader.take.Goals as goal
+
+pub returns-in_err-events-clause-last : goal.returns-in_err-events-clause-last
+returns-in_err-events-clause-last g c = λ not bytes before told reached is kept. last-none _ before told bytes c.args.piece.now _ reached is kept
+
+pub returns-in_err-code-clause-last : goal.returns-in_err-code-clause-last
+returns-in_err-code-clause-last g c = λ not bytes before told reached is kept.
+    last-front _ _ _ before told _ _ c.heed.ensures.some (c.in_ok-events.ensures.events bytes before reached) is kept
+
+pub returns-in-Some-clause-last : goal.returns-in-Some-clause-last
+returns-in-Some-clause-last g c = λ not bytes before told reached is kept.
+    last-front _ _ _ before told _ _ c.heed.ensures.some (c.in_ok-events.ensures.events bytes before reached) is kept

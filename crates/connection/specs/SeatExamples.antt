@@ -1,0 +1,42 @@
+-- Worked histories of a slot, computed: two calls that it served one after another. A list of steps has the latest first.
+use Rattle.std.proofs.Common.{lit<}
+use Rattle.std.specs.Prelude.{◌≡◌, refl, List, [], ◌∷◌, None}
+use Rattle.account.specs.declared.call.Shut.TheVariants as shut
+use Rattle.callbox.specs.declared.piece.InPiece.TheVariants as in_piece
+use Rattle.callbox.specs.InSides.{bytes_of, shut_of}
+use Rattle.callhead.specs.declared.head.CallHead.{CallHead}
+use Rattle.connbook.specs.declared.answers.Receipt.TheVariants.{Feed, Discard}
+use Rattle.session.specs.declared.event.InEvent.TheVariants as events
+use Rattle.calltable.specs.Steps.{Plain, Admitted, Received, Step, Told, fed_by, shut_by, since}
+use Rattle.connection.specs.Calls.{Rises}
+
+-- the slot is at call 5, which was fed a byte; call 1 was fed two bytes, and ended; what comes for it later is lost
+abbrev pub two_calls : CallHead → List Step
+two_calls head =
+    Told (events.Data 1 (12 ∷ []) 1) (Received Discard)
+    ∷ Told (events.Data 5 (20 ∷ []) 1) (Received Feed)
+    ∷ Told (events.Open 5 head) Admitted
+    ∷ Told (events.End 1) Plain
+    ∷ Told (events.Data 1 (10 ∷ 11 ∷ []) 2) (Received Feed)
+    ∷ Told (events.Open 1 head) Admitted
+    ∷ []
+
+-- the items of its two calls
+pub first_call : (head : CallHead) → bytes_of (in_piece.Bytes (10 ∷ 11 ∷ []) ∷ in_piece.Shut shut.End ∷ []) ≡ fed_by 1 (since 1 (two_calls head))
+first_call head = refl
+
+pub first_has_ended : (head : CallHead) → shut_of (in_piece.Bytes (10 ∷ 11 ∷ []) ∷ in_piece.Shut shut.End ∷ []) ≡ shut_by 1 (since 1 (two_calls head))
+first_has_ended head = refl
+
+pub second_call : (head : CallHead) → bytes_of (in_piece.Bytes (20 ∷ []) ∷ []) ≡ fed_by 5 (since 5 (two_calls head))
+second_call head = refl
+
+pub second_is_open : (head : CallHead) → shut_by 5 (since 5 (two_calls head)) ≡ None
+second_is_open head = refl
+
+-- call 7 may be next, and nothing is asked of DATA
+pub seven_rises : (head : CallHead) → Rises (two_calls head) (Told (events.Open 7 head) Admitted)
+seven_rises head = lit< tt
+
+pub data_rises : (head : CallHead) → Rises (two_calls head) (Told (events.Data 5 [] 9) (Received Feed))
+data_rises head = tt
