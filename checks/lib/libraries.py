@@ -61,9 +61,10 @@ def build_below(names, root=crates.ROOT):
                 if is_well and len(beside) < lanes and built.issuperset(uses[it]) and not any(held[it] & held[other] for other in beside):
                     chosen.append(it)
             idle = processors() - sum(jobs for _, jobs in running.values())
-            for name in chosen:
-                # The largest, which the others above wait for longest, gets the processors that are free. The rest get one each.
-                jobs, idle = max(1, idle), 0
+            for place, name in enumerate(chosen):
+                # The largest, which the others above wait for longest, gets the processors that are free, and two at least: the
+                # small ones beside it soon end. The rest get one each.
+                jobs = 1 if place else max(2, idle)
                 left.remove(name)
                 running[pool.submit(build, name, jobs, root)] = name, jobs
             for it in wait(running, return_when=FIRST_COMPLETED).done:
