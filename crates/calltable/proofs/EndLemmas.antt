@@ -131,7 +131,7 @@ abbrev pub IsWhole : ℕ → List ℕ → List InEvent → Type 0
 IsWhole id fed given =
     (before : List InEvent) × (after : List InEvent) × (given ≡ before ++ events.End id ∷ after) × (fed ≡ pieces id before) × (ending_told id given ≡ Finished)
 
-one-more : (xs ys : List InEvent) (x y : InEvent) → (xs ++ x ∷ ys) ++ y ∷ [] ≡ xs ++ x ∷ (ys ++ y ∷ [])
+pub one-more : (xs ys : List InEvent) (x y : InEvent) → (xs ++ x ∷ ys) ++ y ∷ [] ≡ xs ++ x ∷ (ys ++ y ∷ [])
 one-more xs ys x y = append_assoc xs (x ∷ ys) (y ∷ [])
 
 ended-before : (id : ℕ) (fed fed_now : List ℕ) (given : List InEvent) (event : InEvent) → fed_now ≡ fed → IsWhole id fed given → IsWhole id fed_now (given ++ event ∷ [])
@@ -197,8 +197,14 @@ not-once : (id : ℕ) (found : Option ℕ) → is_of id found ≡ false → list
 not-once id None e = refl
 not-once id (Some other) e = ap (λ (b : Bool). b || false) e
 
+-- a call that this step doesn't admit was admitted before
+pub known-before : (id : ℕ) (step : Step) (before : List Step) → is_of id (admitted_by step) ≡ false → list_any (nat_eq id) (admitted (step ∷ before)) ≡ true → list_any (nat_eq id) (admitted before) ≡ true
+known-before id step before other there =
+    or_before (list_any (nat_eq id) (admitted before)) (list_any (nat_eq id) (once (admitted_by step))) (not-once id (admitted_by step) other)
+    (sym (list_any-append (nat_eq id) (admitted before) (once (admitted_by step))) ∙ there)
+
 -- the step that admits a call
-admits : (id : ℕ) (step : Step) → is_of id (admitted_by step) ≡ true → (head : CallHead) × (step ≡ Told (events.Open id head) Admitted)
+pub admits : (id : ℕ) (step : Step) → is_of id (admitted_by step) ≡ true → (head : CallHead) × (step ≡ Told (events.Open id head) Admitted)
 admits id (Told (events.Open other head) Admitted) e = (head, ap (λ (n : ℕ). Told (events.Open n head) Admitted) (sym (eqb-true id other e)))
 admits id _ e = absurd cc
 
@@ -223,8 +229,7 @@ since-with : (id : ℕ) (step : Step) (before : List Step) (here : Bool) → is_
 since-with id step before true is behind there = since-now id step before is
 since-with id step before false is behind there =
     since-step id step before
-    (behind (or_before (list_any (nat_eq id) (admitted before)) (list_any (nat_eq id) (once (admitted_by step))) (not-once id (admitted_by step) is)
-    (sym (list_any-append (nat_eq id) (admitted before) (once (admitted_by step))) ∙ there)))
+    (behind (known-before id step before is there))
 
 pub since-opening : (id : ℕ) (told : List Step) → list_any (nat_eq id) (admitted told) ≡ true
     → (before : List InEvent) × (head : CallHead) × (events_of told ≡ before ++ events.Open id head ∷ events_of (since id told))

@@ -90,7 +90,7 @@ below-with (Some id) ids last rising each =
     (All-cons (λ (other : ℕ). other ≤ id) id [] (omega arith) (All-nil (λ (other : ℕ). other ≤ id)))
 
 -- none is above the last
-below-last : (told : List Step) → IsRising told → All (λ (id : ℕ). id ≤ last_of told) (admitted told)
+pub below-last : (told : List Step) → IsRising told → All (λ (id : ℕ). id ≤ last_of told) (admitted told)
 below-last [] rising = All-nil (λ (id : ℕ). id ≤ 0)
 below-last (step ∷ before) rising = below-with (admitted_by step) (admitted before) (last_of before) rising.0 (below-last before rising.1)
 

@@ -9,7 +9,7 @@ use Rattle.h2frame.specs.declared.error_code.ErrorCode.TheVariants.{FlowControlE
 use Rattle.outwriter.specs.declared.control.Control.TheVariants.{Reset, Goaway}
 use Rattle.session.specs.declared.event.InEvent.TheVariants as events
 use Rattle.calltable.specs.Orders.{order_at}
-use Rattle.calltable.specs.Steps.{Plain, Admitted, Unknown, TurnedAway, Received, Missed, Step, Told, CutOff, admitted, last_of, IsRising, since, shut_by, fed_by}
+use Rattle.calltable.specs.Steps.{Plain, Admitted, Unknown, TurnedAway, Received, Missed, Step, Told, CutOff, admitted, head_of, last_of, IsRising, since, shut_by, fed_by, lets_go, WasLetGo}
 
 -- call 1 is fed four bytes in two pieces, and its half ends
 abbrev pub one_call : CallHead → List Step
@@ -71,6 +71,13 @@ fifth_is_last head = refl
 pub two_rise : (head : CallHead) → IsRising (two_calls head)
 two_rise head = (tt, (lit< tt, (tt, (lit< tt, tt))))
 
+-- a head that was turned away is that of no call
+pub first_head : (head : CallHead) → head_of 1 (two_calls head) ≡ Some head
+first_head head = refl
+
+pub no_head_of_seventh : (head : CallHead) → head_of 7 (two_calls head) ≡ None
+no_head_of_seventh head = refl
+
 -- what came before a call was admitted is nothing to it
 pub since_begins_anew : (head : CallHead) → since 5 (two_calls head) ≡ Told (events.Open 7 head) (TurnedAway refused.TooMany) ∷ []
 since_begins_anew head = refl
@@ -96,3 +103,28 @@ open_is_cut = refl
 
 pub shut_is_not_cut : order_at 5 false (CutOff 1) ≡ None
 shut_is_not_cut = refl
+
+-- a piece that is lost lets the half go, padding alone doesn't, and a reset of the client's is none of it
+pub missed_lets_go : lets_go 1 (Told (events.Data 1 (11 ∷ []) 1) Missed) ≡ true
+missed_lets_go = refl
+
+pub padding_lets_none : lets_go 1 (Told (events.Data 1 [] 5) (Received Discard)) ≡ false
+padding_lets_none = refl
+
+pub client_resets : lets_go 1 (Told (events.Reset 1 Cancel) Plain) ≡ false
+client_resets = refl
+
+-- END_STREAM comes behind the piece that was missed
+pub missed_before_end : (head : CallHead) → WasLetGo 1 11 (Told (events.End 1) Plain ∷ one_is_missed head)
+missed_before_end head = record {
+  later = Told (events.End 1) Plain ∷ Told (events.Data 1 (12 ∷ []) 1) (Received Feed) ∷ [];
+  step = Told (events.Data 1 (11 ∷ []) 1) Missed;
+  before = Told (events.Data 1 (10 ∷ []) 1) (Received Feed) ∷ Told (events.Open 1 head) Admitted ∷ [];
+  parts = refl;
+  heard = refl;
+  known = refl;
+  unshut = refl;
+  lets = refl;
+  shuts = refl;
+  ended = refl;
+}

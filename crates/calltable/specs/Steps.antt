@@ -1,9 +1,12 @@
 -- What the reader of a connection hears, and what it makes of the client's half of each call (RFC 9113, sections 5.1, 5.4.2,
 -- 6.4 and 6.9.1).
 -- A list of steps has the latest first.
-use Rattle.std.specs.Prelude.{◌<◌, ℕ, Bool, true, false, nat_eq, if◌then◌else◌, List, [], ◌∷◌, ◌++◌, Option, Some, None, MatchOption, unwrap_or}
+use Rattle.std.specs.Prelude.{◌≡◌, ◌<◌, ◌&&◌, ℕ, Bool, true, false, nat_eq, if◌then◌else◌, List, [], ◌∷◌, ◌++◌, Option, Some, None, MatchOption, unwrap_or}
+use Rattle.std.specs.List.{list_any}
+use Rattle.std.specs.Option.{is_some}
 use Rattle.account.specs.declared.call.Shut.{Shut}
 use Rattle.account.specs.declared.call.Shut.TheVariants as shut
+use Rattle.callhead.specs.declared.head.CallHead.{CallHead}
 use Rattle.connbook.specs.declared.answers.AdmitFault.{AdmitFault}
 use Rattle.connbook.specs.declared.answers.Receipt.{Receipt}
 use Rattle.connbook.specs.declared.answers.Receipt.TheVariants.{Feed, Discard, CallWindow, Overrun}
@@ -11,7 +14,7 @@ use Rattle.h2frame.specs.declared.error_code.ErrorCode.TheVariants.{FlowControlE
 use Rattle.h2frame.specs.ErrorCode.{error_number}
 use Rattle.session.specs.declared.event.InEvent.{InEvent}
 use Rattle.session.specs.declared.event.InEvent.TheVariants as events
-use Rattle.session.specs.StreamData.{piece_of}
+use Rattle.session.specs.StreamData.{Finished, ending_told, piece_of}
 
 -- What became of an event: nothing was to be answered; of a call that begins, the lock admitted it, its path names no method,
 -- or the lock turned it away; of bytes that came, what the lock said of them, or that they were to be fed and the call's lane
@@ -67,6 +70,16 @@ abbrev pub since : ℕ → List Step → List Step
 since id [] = []
 since id (step ∷ before) = if is_of id (admitted_by step) then [] else step ∷ since id before
 
+-- the head of the call that it admits
+abbrev pub head_at : Step → Option CallHead
+head_at (Told (events.Open id head) Admitted) = Some head
+head_at _ = None
+
+-- the head with which a call was admitted
+abbrev pub head_of : ℕ → List Step → Option CallHead
+head_of id [] = None
+head_of id (step ∷ before) = if is_of id (admitted_by step) then head_at step else head_of id before
+
 -- ---- the client's half of a call
 
 abbrev pub data_at : ℕ → Step → List ℕ
@@ -119,3 +132,24 @@ abbrev pub events_of : List Step → List InEvent
 events_of [] = []
 events_of (Told event fate ∷ before) = events_of before ++ event ∷ []
 events_of (CutOff id ∷ before) = events_of before
+
+-- ---- what lets a call's half go
+
+-- whether a step lets the half go, whatever its client does to the stream: a piece is lost, or no more of it is heard
+abbrev pub lets_go : ℕ → Step → Bool
+lets_go id (Told (events.Data other piece counted) fate) = nat_eq id other && is_some (lost piece fate)
+lets_go id (CutOff other) = nat_eq id other
+lets_go id _ = false
+
+-- This step reset the half of a call that was open, with this code: it let it go, and only later END_STREAM was told.
+pub record WasLetGo (id code : ℕ) (told : List Step) : Type 0 where
+  pub later : List Step
+  pub step : Step
+  pub before : List Step
+  pub parts : told ≡ later ++ step ∷ before
+  pub heard : since id told ≡ later ++ step ∷ since id before
+  pub known : list_any (nat_eq id) (admitted before) ≡ true
+  pub unshut : shut_by id (since id before) ≡ None
+  pub lets : lets_go id step ≡ true
+  pub shuts : shut_at id step ≡ Some (shut.Reset code)
+  pub ended : ending_told id (events_of later) ≡ Finished

@@ -1,7 +1,7 @@
 -- What the ends of a `Ring` show.
-use Rattle.std.specs.Prelude.{ℕ, List}
+use Rattle.std.specs.Prelude.{ℕ, ◌+◌, ◌<◌, List, length}
 use Rattle.rtrb.specs.Ring.{sent, received, known_items}
-use Rattle.lane.specs.RingEnds.{RingName, producer_name, consumer_name, popped_count}
+use Rattle.lane.specs.RingEnds.{RingName, slots_of, producer_name, consumer_name, popped_count}
 use Rattle.lane.specs.declared.ring.RingIn.{RingIn}
 use Rattle.lane.specs.declared.ring.RingOut.{RingOut}
 
@@ -20,6 +20,10 @@ module _ {T : Type 0} where
   -- how many items the writing end has seen taken
   abbrev pub seen_taken : RingIn T → ℕ
   seen_taken tx = popped_count tx.producer
+
+  -- a slot is free: of what was put, fewer items than it has slots were not seen taken
+  abbrev pub HasRoom : RingIn T → Type 0
+  HasRoom tx = length (put_in tx) < seen_taken tx + slots_of (in_name tx)
 
   -- what was taken, oldest first
   abbrev pub taken : RingOut T → List T

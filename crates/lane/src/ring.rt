@@ -56,10 +56,21 @@ impl Ring {
 }
 
 impl<T> RingIn<T> {
-    ghost use Rattle.std.specs.Prelude.{[], ◌∷◌, ◌++◌, OnOk, OnErr, IfErr};
+    ghost use Rattle.std.specs.Prelude.{[], ◌∷◌, ◌++◌, true, false, IsOk, OnOk, OnErr, IfErr};
     ghost use Rattle.lane.specs.RingEnds.{slots_of};
     ghost use Rattle.lane.specs.PutFault.{item_of, IsFull};
-    ghost use Rattle.lane.specs.Ring.{in_name, put_in, seen_taken};
+    ghost use Rattle.lane.specs.Ring.{HasRoom, in_name, put_in, seen_taken};
+
+    /// Whether a slot is free. Where one is, the next `put` puts its item.
+    pub fn has_room(&mut self) -> bool
+        ensures name { in_name self.new ≡ in_name self.old }
+        ensures put { put_in self.new ≡ put_in self.old }
+        ensures seen { seen_taken self.old ≤ seen_taken self.new }
+        ensures free { result ≡ true → HasRoom self.new }
+        ensures full { result ≡ false → length (put_in self.new) ≡ seen_taken self.new + slots_of (in_name self.new) }
+    {
+        !self.producer.is_full()
+    }
 
     /// Puts the item behind all others, or hands it back. It takes no memory.
     pub fn put(&mut self, item: T) -> Result<(), PutFault<T>>
@@ -70,6 +81,7 @@ impl<T> RingIn<T> {
         ensures handed_back { IfErr result (λ e. item_of e ≡ item) }
         ensures full { IfErr result
             (IsFull (slots_of (in_name self.old)) (length (put_in self.old)) (seen_taken self.new)) }
+        ensures succeeds { HasRoom self.old → IsOk result }
     {
         if self.producer.is_full() {
             let waiting = self.producer.capacity() as u64;
