@@ -3,13 +3,12 @@
 //! `fill` stops where a frame of the greatest length might not fit, so the buffer never has more than eight of those, and it
 //! is used again for the next frames.
 
-ghost use Rattle.std.specs.Prelude.{◌≡◌, ◌≢◌, ◌≤◌, ◌<◌, ◌+◌, ℕ, true, List, [], ◌∷◌, Option, Some, IsErr, OnOk, OnErr, OnSome, IfSome, IfNone, length, nat_eq, vec_len, vec_capacity};
-ghost use Rattle.std.specs.Map.{lookup};
+ghost use Rattle.std.specs.Prelude.{◌≡◌, ◌≢◌, ◌≤◌, ◌<◌, ◌+◌, ℕ, true, List, [], ◌∷◌, Option, Some, IsErr, OnOk, OnErr, OnSome, IfSome, IfNone, length, vec_len, vec_capacity};
 ghost use Rattle.std.specs.Io.KnownBytes.{Appends};
 ghost use Rattle.device.specs.Bytes.{AppendsPrefix};
 ghost use Rattle.flow.specs.Windows.{room};
 ghost use Rattle.outwriter.specs.Calls.{TellFronts, TellReturned, TellOthers};
-ghost use Rattle.outwriter.specs.Cores.{calls, IsUnused};
+ghost use Rattle.outwriter.specs.Cores.{calls, open_stream, IsUnused};
 ghost use Rattle.h2frame.specs.Spelling.{IsWritable};
 ghost use Rattle.outwriter.specs.Frames.{ends_stream};
 ghost use Rattle.outwriter.specs.Polls.{coming};
@@ -103,7 +102,7 @@ impl<L: Lane<Item = OutItem>, W: ConnWrite> ConnWriter<L, W> {
 
     /// Whether an item of the stream is in hand that a window keeps back.
     pub fn held(&self, id: StreamId) -> bool
-        ensures { result ≡ is_held (lookup (nat_eq id) self.now.core.streams.entries) (room self.now.core.outbound.windows id) }
+        ensures { result ≡ is_held (open_stream self.now.core id) (room self.now.core.outbound.windows id) }
     {
         self.core.held(id)
     }

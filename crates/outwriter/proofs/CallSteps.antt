@@ -1,12 +1,12 @@
 -- What a writer keeps of its calls, after a control that it takes.
-use Rattle.std.proofs.Common.{◌≡◌, ℕ, ◌<◌, ◌==◌, ◌⊎◌, inl, inr, refl, sym, ap, subst, ◌∙◌, Bool, true, false, List, [], ◌∷◌, ◌++◌, Option, Some, None, length, get_or, arith, nat_eq, true≢false}
+use Rattle.std.proofs.Common.{◌≡◌, ℕ, ◌<◌, ◌==◌, ◌⊎◌, inl, inr, refl, sym, ap, subst, ◌∙◌, Bool, true, false, List, [], ◌∷◌, ◌++◌, Option, Some, None, length, get_or, arith, true≢false}
 use Rattle.std.specs.Prelude.{All, ◌||◌, ◌&&◌, is_some, if◌then◌else◌}
 use Rattle.std.specs.List.{list_any}
-use Rattle.std.specs.Map.{lookup}
 use Rattle.std.proofs.lemmas.Bool.{eqb-true}
 use Rattle.std.proofs.lemmas.List.Elements.{All-append, All-head, All-nil, All-tail, All-weaker}
 use Rattle.account.specs.declared.call.OutItem.{OutItem}
 use Rattle.lists.specs.declared.field.Field.{Field}
+use Rattle.outwriter.specs.OpenStreams.{Closes, OpenStreams}
 use Rattle.outwriter.specs.declared.due.Due.{Due}
 use Rattle.outwriter.specs.declared.due.Due.TheVariants as due_kind
 use Rattle.outwriter.specs.declared.outbound.Outbound.{Outbound}
@@ -15,7 +15,6 @@ use Rattle.outwriter.specs.Calls.{is_fresh, is_served, IsRefused}
 use Rattle.outwriter.specs.Runs.{was_reset}
 use Rattle.outwriter.specs.States.{States, SameOver, is_heard, knows, nothing_known, over_on}
 use Rattle.outwriter.specs.Histories.{is_stream}
-use Rattle.outwriter.specs.CoreChanges.{Closes}
 use Rattle.outwriter.specs.Parts.{Mark, marks_on}
 use Rattle.outwriter.specs.CallState.{Serves, Takes, MayBeDue, IsEnded, has_reason, none_is_new, refuses}
 use Rattle.outwriter.specs.Steps.{Step}
@@ -46,10 +45,10 @@ none-ended over told e = subst (λ (l : List Mark). IsEnded over l []) (sym e) (
 -- ---- what is due
 
 -- a stream of which a refusal or a reset is due is so still
-module _ (run after : List Step) (o new : Outbound) (streams left : List (ℕ × OpenStream)) where
+module _ (run after : List Step) (o new : Outbound) (streams left : OpenStreams) where
   pub record StaysDue : Type 0 where
     pub refused : (id : ℕ) → is_fresh id run ≡ false → is_served id run ≡ false → (is_fresh id after ≡ false) × (is_served id after ≡ false)
-    pub reset : (id : ℕ) → lookup (nat_eq id) streams ≡ None → is_heard o.states id ≡ true → (lookup (nat_eq id) left ≡ None) × (is_heard new.states id ≡ true)
+    pub reset : (id : ℕ) → streams id ≡ None → is_heard o.states id ≡ true → (left id ≡ None) × (is_heard new.states id ≡ true)
     pub asked : (id : ℕ) (fields : List Field) → IsRefused id fields run → IsRefused id fields after
     pub reason : (id : ℕ) → has_reason id run ≡ true → has_reason id after ≡ true
 
@@ -67,7 +66,7 @@ module _ (run after : List Step) (o new : Outbound) (streams left : List (ℕ ×
   all-due s waiting all = All-weaker (MayBeDue run o streams) (MayBeDue after new left) (stays-due s) waiting all
 
 -- a stream whose refusal is due has a reason to be none of those that are open
-refused-reason : (run : List Step) (o : Outbound) (streams : List (ℕ × OpenStream)) (id : ℕ) (one : Due) → refuses id one ≡ true → MayBeDue run o streams one
+refused-reason : (run : List Step) (o : Outbound) (streams : OpenStreams) (id : ℕ) (one : Due) → refuses id one ≡ true → MayBeDue run o streams one
     → (is_fresh id run ≡ false) × (has_reason id run ≡ true)
 refused-reason run o streams id (due_kind.Refuse stream fields) e may =
     subst (λ n. (is_fresh n run ≡ false) × (has_reason n run ≡ true)) (sym (eqb-true id stream e)) (may.0, may.5)
@@ -76,7 +75,7 @@ refused-reason run o streams id due_kind.SettingsAck e may = absurd (true≢fals
 refused-reason run o streams id (due_kind.PingAck bytes) e may = absurd (true≢false (sym e))
 refused-reason run o streams id (due_kind.Goaway last code) e may = absurd (true≢false (sym e))
 
-refused-or-heard : (id : ℕ) (more : List Due) (heard : Bool) (run : List Step) (o : Outbound) (streams : List (ℕ × OpenStream)) → All (MayBeDue run o streams) more
+refused-or-heard : (id : ℕ) (more : List Due) (heard : Bool) (run : List Step) (o : Outbound) (streams : OpenStreams) → All (MayBeDue run o streams) more
     → (list_any (refuses id) more || heard) ≡ true → ((is_fresh id run ≡ false) × (has_reason id run ≡ true)) ⊎ (heard ≡ true)
 refused-or-heard id [] heard run o streams all e = inr e
 refused-or-heard id (one ∷ rest) heard run o streams all e =
@@ -93,7 +92,7 @@ refused-or-heard id (one ∷ rest) heard run o streams all e =
 abbrev pub HeardBy : List Step → Outbound → Outbound → Type 0
 HeardBy after o new = (id : ℕ) → is_heard new.states id ≡ true → ((is_fresh id after ≡ true → was_reset id after ≡ true) × (has_reason id after ≡ true)) ⊎ (is_heard o.states id ≡ true)
 
-pub serves-step : (run after : List Step) (o new : Outbound) (streams : List (ℕ × OpenStream)) (calls : List (ℕ × List OutItem)) (marks : List (ℕ × Mark)) (more : List Due)
+pub serves-step : (run after : List Step) (o new : Outbound) (streams : OpenStreams) (calls : List (ℕ × List OutItem)) (marks : List (ℕ × Mark)) (more : List Due)
     → SpellsOf after new marks → new.due.items ≡ o.due.items ++ more → ((id : ℕ) → knows new.states id ≡ knows o.states id) → SameOver o.states new.states
     → ((id : ℕ) → is_heard o.states id ≡ true → is_heard new.states id ≡ true) → HeardBy after o new
     → ((id : ℕ) → is_fresh id run ≡ false → is_fresh id after ≡ false) → ((id : ℕ) → is_served id after ≡ is_served id run) → Later run after
@@ -141,7 +140,7 @@ serves-step run after o new streams calls marks more spells dues knowing over he
     }
 
 -- a control that isn't a Reset
-pub serves-same : (run after : List Step) (o new : Outbound) (streams : List (ℕ × OpenStream)) (calls : List (ℕ × List OutItem))
+pub serves-same : (run after : List Step) (o new : Outbound) (streams : OpenStreams) (calls : List (ℕ × List OutItem))
     (marks : List (ℕ × Mark)) (more : List Due) (limits : List ℕ) → Takes more none_is_new limits o new → SpellsOf after new marks
     → ((id : ℕ) → is_fresh id run ≡ false → is_fresh id after ≡ false) → ((id : ℕ) → is_served id after ≡ is_served id run) → Later run after
     → All (MayBeDue after new streams) more
@@ -160,12 +159,12 @@ none-opened true = refl
 none-opened false = refl
 
 -- nothing was told, and no stream is known
-pub serves-nothing : (o : Outbound) (streams : List (ℕ × OpenStream)) (calls : List (ℕ × List OutItem))
-    → SpellsOf [] o [] → o.due.items ≡ [] → o.states ≡ nothing_known → streams ≡ [] → calls ≡ []
+pub serves-nothing : (o : Outbound) (streams : OpenStreams) (calls : List (ℕ × List OutItem))
+    → SpellsOf [] o [] → o.due.items ≡ [] → o.states ≡ nothing_known → streams ≡ (λ id. None) → calls ≡ []
     → Serves [] o streams calls []
 serves-nothing o streams calls spells due states no_streams no_calls =
-    let none : (id : ℕ) (stream : OpenStream) → lookup (nat_eq id) streams ≡ Some stream → ⊥ =
-    λ id stream e. not-some (lookup (nat_eq id) streams) stream (ap (λ (l : List (ℕ × OpenStream)). lookup (nat_eq id) l) no_streams) e in
+    let none : (id : ℕ) (stream : OpenStream) → streams id ≡ Some stream → ⊥ =
+    λ id stream e. not-some (streams id) stream (ap (λ (l : OpenStreams). l id) no_streams) e in
     let empty : (k : ℕ) → k < length calls → ⊥ = λ k within. omega (arith, within, ap length no_calls) in
     record {
       spells = spells;
@@ -190,7 +189,7 @@ serves-nothing o streams calls spells due states no_streams no_calls =
 -- ---- a call's stream is reset
 
 -- what was told of it begins what its items spell
-pub serves-closed : (run : List Step) (o : Outbound) (streams left : List (ℕ × OpenStream)) (calls : List (ℕ × List OutItem))
+pub serves-closed : (run : List Step) (o : Outbound) (streams left : OpenStreams) (calls : List (ℕ × List OutItem))
     (marks : List (ℕ × Mark)) (id : ℕ) → Closes id streams left → was_reset id run ≡ true → has_reason id run ≡ true
     → Serves run o streams calls marks → Serves run o left calls marks
 serves-closed run o streams left calls marks id closes reset reason s = record {
@@ -198,7 +197,7 @@ serves-closed run o streams left calls marks id closes reset reason s = record {
   exact = λ k stream e. s.exact k stream (was-open k stream e);
   not_over = λ k stream e. s.not_over k stream (was-open k stream e);
   known = λ k stream e. s.known k stream (was-open k stream e);
-  ended = λ k d within none is. ended k d within is (lookup (nat_eq (get_or calls k d).0) streams) refl;
+  ended = λ k d within none is. ended k d within is (streams (get_or calls k d).0) refl;
   returned = λ k items is e. let h = s.returned k items is e in (still-none k h.0, h.1);
   stale = s.stale;
   apart = s.apart;
@@ -211,47 +210,47 @@ serves-closed run o streams left calls marks id closes reset reason s = record {
   }) o.due.items s.due;
   unknown = s.unknown;
   other = s.other;
-  stays = λ k is there none. stays k is there none (lookup (nat_eq k) streams) refl;
+  stays = λ k is there none. stays k is there none (streams k) refl;
   early = s.early;
-  reasons = λ k there none known. reasons k there none known (lookup (nat_eq k) streams) refl;
+  reasons = λ k there none known. reasons k there none known (streams k) refl;
   brought = s.brought;
   uncalled = s.uncalled;
 }
   where
-    was-open : (k : ℕ) (stream : OpenStream) → lookup (nat_eq k) left ≡ Some stream → lookup (nat_eq k) streams ≡ Some stream
+    was-open : (k : ℕ) (stream : OpenStream) → left k ≡ Some stream → streams k ≡ Some stream
     was-open k stream e = by (k == id) refl
       where
-        by : (b : Bool) → (k == id) ≡ b → lookup (nat_eq k) streams ≡ Some stream
-        by true p = absurd (not-some (lookup (nat_eq k) left) stream (closes k ∙ ap (λ b. if b then None else lookup (nat_eq k) streams) p) e)
-        by false p = sym (closes k ∙ ap (λ b. if b then None else lookup (nat_eq k) streams) p) ∙ e
+        by : (b : Bool) → (k == id) ≡ b → streams k ≡ Some stream
+        by true p = absurd (not-some (left k) stream (closes k ∙ ap (λ b. if b then None else streams k) p) e)
+        by false p = sym (closes k ∙ ap (λ b. if b then None else streams k) p) ∙ e
 
-    still-none : (k : ℕ) → lookup (nat_eq k) streams ≡ None → lookup (nat_eq k) left ≡ None
+    still-none : (k : ℕ) → streams k ≡ None → left k ≡ None
     still-none k e = by (k == id) refl
       where
-        by : (b : Bool) → (k == id) ≡ b → lookup (nat_eq k) left ≡ None
-        by true p = closes k ∙ ap (λ b. if b then None else lookup (nat_eq k) streams) p
-        by false p = closes k ∙ ap (λ b. if b then None else lookup (nat_eq k) streams) p ∙ e
+        by : (b : Bool) → (k == id) ≡ b → left k ≡ None
+        by true p = closes k ∙ ap (λ b. if b then None else streams k) p
+        by false p = closes k ∙ ap (λ b. if b then None else streams k) p ∙ e
 
-    reasons : (k : ℕ) → is_stream k ≡ true → lookup (nat_eq k) left ≡ None → is_heard o.states k ≡ true
-        → (found : Option OpenStream) → lookup (nat_eq k) streams ≡ found → (is_some (over_on o.states k) ≡ true) ⊎ (has_reason k run ≡ true)
+    reasons : (k : ℕ) → is_stream k ≡ true → left k ≡ None → is_heard o.states k ≡ true
+        → (found : Option OpenStream) → streams k ≡ found → (is_some (over_on o.states k) ≡ true) ⊎ (has_reason k run ≡ true)
     reasons k there none known None p = s.reasons k there p known
     reasons k there none known (Some stream) p = inr (by (k == id) refl)
       where
         by : (b : Bool) → (k == id) ≡ b → has_reason k run ≡ true
         by true q = subst (λ (n : ℕ). has_reason n run ≡ true) (sym (eqb-true k id q)) reason
-        by false q = absurd (not-some (lookup (nat_eq k) streams) stream (sym (closes k ∙ ap (λ b. if b then None else lookup (nat_eq k) streams) q) ∙ none) p)
+        by false q = absurd (not-some (streams k) stream (sym (closes k ∙ ap (λ b. if b then None else streams k) q) ∙ none) p)
 
-    stays : (k : ℕ) → is_served k run ≡ true → is_stream k ≡ true → lookup (nat_eq k) left ≡ None → (found : Option OpenStream) → lookup (nat_eq k) streams ≡ found
+    stays : (k : ℕ) → is_served k run ≡ true → is_stream k ≡ true → left k ≡ None → (found : Option OpenStream) → streams k ≡ found
         → (is_some (over_on o.states k) ≡ true) ⊎ (was_reset k run ≡ true)
     stays k is there none None p = s.stays k is there p
     stays k is there none (Some stream) p = inr (by (k == id) refl)
       where
         by : (b : Bool) → (k == id) ≡ b → was_reset k run ≡ true
         by true q = subst (λ (n : ℕ). was_reset n run ≡ true) (sym (eqb-true k id q)) reset
-        by false q = absurd (not-some (lookup (nat_eq k) streams) stream (sym (closes k ∙ ap (λ b. if b then None else lookup (nat_eq k) streams) q) ∙ none) p)
+        by false q = absurd (not-some (streams k) stream (sym (closes k ∙ ap (λ b. if b then None else streams k) q) ∙ none) p)
 
     ended : (k : ℕ) (d : ℕ × List OutItem) → k < length calls → is_served (get_or calls k d).0 run ≡ true
-        → (found : Option OpenStream) → lookup (nat_eq (get_or calls k d).0) streams ≡ found
+        → (found : Option OpenStream) → streams (get_or calls k d).0 ≡ found
         → IsEnded (over_on o.states (get_or calls k d).0) (marks_on (get_or calls k d).0 marks) (get_or calls k d).1
     ended k d within is None p = s.ended k d within p is
     ended k d within is (Some stream) p =
@@ -260,22 +259,22 @@ serves-closed run o streams left calls marks id closes reset reason s = record {
 
 -- ---- without a step
 
-pub serves-kept : (run : List Step) (o new : Outbound) (streams : List (ℕ × OpenStream)) (calls : List (ℕ × List OutItem))
+pub serves-kept : (run : List Step) (o new : Outbound) (streams : OpenStreams) (calls : List (ℕ × List OutItem))
     (marks : List (ℕ × Mark)) → Takes [] none_is_new [] o new → Serves run o streams calls marks → Serves run new streams calls marks
 serves-kept run o new streams calls marks takes s =
     serves-same run run o new streams calls marks [] [] takes (takes-tells [] none_is_new o new takes run marks s.spells) (λ id e. e) (λ id. refl) (later-none run)
     (All-nil (MayBeDue run new streams)) s
 
 -- more is due
-pub serves-owing : (run : List Step) (o new : Outbound) (streams : List (ℕ × OpenStream)) (calls : List (ℕ × List OutItem))
+pub serves-owing : (run : List Step) (o new : Outbound) (streams : OpenStreams) (calls : List (ℕ × List OutItem))
     (marks : List (ℕ × Mark)) (more : List Due) → Takes more none_is_new [] o new → All (MayBeDue run new streams) more
     → Serves run o streams calls marks → Serves run new streams calls marks
 serves-owing run o new streams calls marks more takes due s =
     serves-same run run o new streams calls marks more [] takes (takes-tells more none_is_new o new takes run marks s.spells) (λ id e. e) (λ id. refl) (later-none run) due s
 
 -- the same streams
-pub serves-equal : (run : List Step) (o : Outbound) (streams left : List (ℕ × OpenStream)) (calls now : List (ℕ × List OutItem)) (marks : List (ℕ × Mark))
+pub serves-equal : (run : List Step) (o : Outbound) (streams left : OpenStreams) (calls now : List (ℕ × List OutItem)) (marks : List (ℕ × Mark))
     → left ≡ streams → now ≡ calls → Serves run o streams calls marks → Serves run o left now marks
 serves-equal run o streams left calls now marks a c s =
-    subst (λ (l : List (ℕ × OpenStream)). Serves run o l now marks) (sym a)
+    subst (λ (l : OpenStreams). Serves run o l now marks) (sym a)
     (subst (λ (l : List (ℕ × List OutItem)). Serves run o streams l marks) (sym c) s)

@@ -1,9 +1,11 @@
 -- What a core keeps of its calls after a control, as callers see it.
-use Rattle.std.proofs.Common.{◌≡◌, ℕ, sym, ap, subst, ◌∙◌, Bool, false, List, [], ◌∷◌, Result, Ok, Err}
+use Rattle.std.proofs.Common.{◌≡◌, ℕ, refl, sym, ap, subst, ◌∙◌, Bool, false, List, [], ◌∷◌, Result, Ok, Err}
 use Rattle.std.specs.Prelude.{All, OnOk, OnErr, IfErr, if◌then◌else◌, ◌||◌}
 use Rattle.std.proofs.lemmas.List.Elements.{All-cons, All-nil, All-weaker}
 use Rattle.account.specs.declared.call.OutItem.{OutItem}
 use Rattle.callbox.specs.declared.sender.Sender.{Sender}
+use Rattle.outwriter.specs.States.{open_at}
+use Rattle.outwriter.specs.OpenStreams.{OpenStreams}
 use Rattle.outwriter.specs.declared.control.Control.{Control}
 use Rattle.outwriter.specs.declared.control.OutFault.{OutFault}
 use Rattle.outwriter.specs.declared.control.OutFault.TheVariants.{OutOfMemory, PeerWindow}
@@ -11,19 +13,19 @@ use Rattle.outwriter.specs.declared.due.Due.{Due}
 use Rattle.outwriter.specs.declared.due.Due.TheVariants as due_kind
 use Rattle.outwriter.specs.declared.out_core.OutCore.{OutCore}
 use Rattle.outwriter.specs.declared.outbound.Outbound.{Outbound}
-use Rattle.outwriter.specs.declared.stream.OpenStream.{OpenStream}
 use Rattle.outwriter.specs.Calls.{is_closed, closes, is_fresh, is_served, calls_off, refuses_stream}
 use Rattle.outwriter.specs.Cores.{ServesControl, ServesOn, ServesStill, IsUnused, calls}
 use Rattle.outwriter.specs.CoreChanges.{KeepsServing, KeepsHeeds}
 use Rattle.outwriter.specs.RunState.{IsMemory}
 use Rattle.outwriter.specs.Runs.{resets_stream, opens_stream}
-use Rattle.outwriter.specs.CallState.{Heeds, Takes, MayBeDue, none_is_new}
+use Rattle.outwriter.specs.CallState.{Takes, MayBeDue, none_is_new}
 use Rattle.outwriter.specs.Steps.{Step, Taken, order_of}
 use Rattle.outwriter.specs.TableLimits.{limits_of}
 use Rattle.outwriter.proofs.CallSteps.{serves-equal, serves-kept}
 use Rattle.outwriter.proofs.CallStepsCores.{serving-on}
 use Rattle.outwriter.proofs.CallStepsOrders.{serves-ordered}
 use Rattle.outwriter.proofs.EndsKept.{heeds-calm, heeds-takes}
+use Rattle.outwriter.proofs.HeedSteps.{heeds-equal}
 
 -- ---- what is due of no stream
 
@@ -32,7 +34,7 @@ IsPlainDue (due_kind.Refuse id fields) = ⊥
 IsPlainDue (due_kind.Reset id code) = ⊥
 IsPlainDue _ = Unit {0}
 
-plain-may : (run : List Step) (o : Outbound) (streams : List (ℕ × OpenStream)) (one : Due) → IsPlainDue one → MayBeDue run o streams one
+plain-may : (run : List Step) (o : Outbound) (streams : OpenStreams) (one : Due) → IsPlainDue one → MayBeDue run o streams one
 plain-may run o streams (due_kind.Refuse id fields) h = absurd h
 plain-may run o streams (due_kind.Reset id code) h = absurd h
 plain-may run o streams due_kind.SettingsAck h = tt
@@ -57,10 +59,12 @@ module _ {L In Out Shut : Type 0} (got : Out → List OutItem) (old : OutCore L 
   -- room for what is due
   pub keeps-room : (made : Outbound) → Takes [] none_is_new [] old.outbound made → KeepsServing got [] old (record old { outbound = made })
   keeps-room made takes run marks s =
-      serves-kept run old.outbound made old.streams.entries (calls got old.senders.items) marks takes s
+      serves-equal run made (open_at old.outbound.states) (open_at made.states) (calls got old.senders.items) (calls got old.senders.items) marks (takes.same_open (λ id. refl)) refl
+      (serves-kept run old.outbound made (open_at old.outbound.states) (calls got old.senders.items) marks takes s)
 
   heeds-room : (made : Outbound) → Takes [] none_is_new [] old.outbound made → KeepsHeeds got [] old (record old { outbound = made })
-  heeds-room made takes run marks s heeds = heeds-takes run [] [] old.outbound made old.streams.entries takes heeds
+  heeds-room made takes run marks s heeds =
+      heeds-equal run made (open_at old.outbound.states) (open_at made.states) (takes.same_open (λ id. refl)) (heeds-takes run [] [] old.outbound made (open_at old.outbound.states) takes heeds)
 
   pub serving-room : (made : Outbound) → Takes [] none_is_new [] old.outbound made → ServesStill got old (record old { outbound = made })
   serving-room made takes = serving-on got old (record old { outbound = made }) [] alive (λ run e. e) (keeps-room made takes) (heeds-room made takes)
@@ -68,25 +72,25 @@ module _ {L In Out Shut : Type 0} (got : Out → List OutItem) (old : OutCore L 
   -- a control that is none of a stream
   pub serving-plain : (new : OutCore L In Out Shut) (made : Outbound) (control given : Control (Sender L In Out Shut)) (more : List Due)
       → control ≡ given → ((id : ℕ) → opens_stream id (order_of given) ≡ false) → ((id : ℕ) → refuses_stream id (order_of given) ≡ false) → ((id : ℕ) (opened : Bool) → calls_off id opened (order_of given) ≡ false) → ((id : ℕ) → resets_stream id (order_of given) ≡ false) → All IsPlainDue more
-      → (closes (order_of given) || old.closed) ≡ new.closed → new.streams ≡ old.streams → new.senders ≡ old.senders
+      → (closes (order_of given) || old.closed) ≡ new.closed → new.senders ≡ old.senders
       → Takes [] none_is_new [] old.outbound made → Takes more none_is_new (limits_of (order_of given)) made new.outbound → ServesOn got (Taken (order_of control)) old new
-  serving-plain new made control given more is opens refuses calm unreset plain closed streams senders room takes =
+  serving-plain new made control given more is opens refuses calm unreset plain closed senders room takes =
       subst (λ (c : Control (Sender L In Out Shut)). ServesOn got (Taken (order_of c)) old new) (sym is)
       (serving-on got old new (Taken (order_of given) ∷ []) alive (λ run e. ap (λ b. closes (order_of given) || b) e ∙ closed) (λ run marks s.
-      serves-equal (Taken (order_of given) ∷ run) new.outbound old.streams.entries new.streams.entries
+      serves-equal (Taken (order_of given) ∷ run) new.outbound (open_at made.states) (open_at new.outbound.states)
       (calls got old.senders.items) (calls got new.senders.items) marks
-      (ap (λ map. map.entries) streams) (ap (λ list. calls got list.items) senders)
-      (serves-ordered run made new.outbound old.streams.entries (calls got old.senders.items) marks (order_of given) more opens
+      (takes.same_open (λ id. refl)) (ap (λ list. calls got list.items) senders)
+      (serves-ordered run made new.outbound (open_at made.states) (calls got old.senders.items) marks (order_of given) more opens
       (λ id. ap (λ b. if b then false else (if refuses_stream id (order_of given) then false else is_fresh id run)) (opens id)
       ∙ ap (λ b. if b then false else is_fresh id run) (refuses id))
       (λ id. ap (λ b. if b then is_fresh id run else is_served id run) (opens id))
-      (All-weaker IsPlainDue (MayBeDue (Taken (order_of given) ∷ run) new.outbound old.streams.entries)
-      (plain-may (Taken (order_of given) ∷ run) new.outbound old.streams.entries) more plain)
+      (All-weaker IsPlainDue (MayBeDue (Taken (order_of given) ∷ run) new.outbound (open_at made.states))
+      (plain-may (Taken (order_of given) ∷ run) new.outbound (open_at made.states)) more plain)
       takes
       (keeps-room made room run marks s)))
       (λ run marks s heeds.
-      subst (λ streams. Heeds (Taken (order_of given) ∷ run) new.outbound streams.entries) (sym streams)
-      (heeds-calm run (order_of given) more (limits_of (order_of given)) made new.outbound old.streams.entries calm unreset takes (heeds-room made room run marks s heeds))))
+      heeds-equal (Taken (order_of given) ∷ run) new.outbound (open_at made.states) (open_at new.outbound.states) (takes.same_open (λ id. refl))
+      (heeds-calm run (order_of given) more (limits_of (order_of given)) made new.outbound (open_at made.states) calm unreset takes (heeds-room made room run marks s heeds))))
 
   -- one that is, as it is answered
   pub serving-answered : (new : OutCore L In Out Shut) (made : Outbound) (result : Result (Unit {0}) (OutFault (Sender L In Out Shut)))

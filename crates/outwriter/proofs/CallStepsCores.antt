@@ -3,13 +3,13 @@ use Rattle.std.proofs.Common.{◌≡◌, ℕ, true≢false, refl, sym, ap, subst
 use Rattle.std.proofs.lemmas.List.{length-map, map-append}
 use Rattle.account.specs.declared.call.OutItem.{OutItem}
 use Rattle.callbox.specs.declared.sender.Sender.{Sender}
+use Rattle.outwriter.specs.OpenStreams.{OpenStreams}
 use Rattle.outwriter.specs.declared.control.Control.TheVariants as order
 use Rattle.outwriter.specs.declared.out_core.OutCore.{OutCore}
 use Rattle.outwriter.specs.declared.outbound.Outbound.{Outbound}
-use Rattle.outwriter.specs.declared.stream.OpenStream.{OpenStream}
 use Rattle.outwriter.specs.Calls.{TellFronts, is_closed}
 use Rattle.outwriter.specs.Cores.{Serving, calls, ServesOn}
-use Rattle.outwriter.specs.States.{States, is_reset, nothing_known}
+use Rattle.outwriter.specs.States.{States, is_reset, nothing_known, open_at}
 use Rattle.outwriter.specs.CoreChanges.{KeepsServing, KeepsHeeds, Prepares}
 use Rattle.outwriter.specs.Parts.{Mark}
 use Rattle.outwriter.specs.CallState.{Serves}
@@ -27,9 +27,9 @@ module _ {L In Out Shut : Type 0} (got : Out → List OutItem) (old new : OutCor
       let m = s.serves alive in
       let after = keeps run m.0 m.1 in
       record {
-        fronts = fronts_of (more ++ run) new.outbound new.streams.entries (calls got new.senders.items) m.0 after;
-        returned = returned_of (more ++ run) new.outbound new.streams.entries (calls got new.senders.items) m.0 after;
-        others = others_of (more ++ run) new.outbound new.streams.entries (calls got new.senders.items) m.0 after;
+        fronts = fronts_of (more ++ run) new.outbound (open_at new.outbound.states) (calls got new.senders.items) m.0 after;
+        returned = returned_of (more ++ run) new.outbound (open_at new.outbound.states) (calls got new.senders.items) m.0 after;
+        others = others_of (more ++ run) new.outbound (open_at new.outbound.states) (calls got new.senders.items) m.0 after;
         closed = closed run s.closed;
         serves = λ still. (m.0, after, heeds run m.0 m.1 m.2);
       }
@@ -47,16 +47,16 @@ module _ {L In Out Shut : Type 0} (got : Out → List OutItem) (old new : OutCor
 
 -- a core of which nothing is kept
 module _ {L In Out Shut : Type 0} (got : Out → List OutItem) (core : OutCore L In Out Shut) where
-  pub serving-nothing : core.closed ≡ false → core.senders.items ≡ [] → core.streams.entries ≡ []
+  pub serving-nothing : core.closed ≡ false → core.senders.items ≡ []
       → SpellsOf [] core.outbound [] → core.outbound.due.items ≡ [] → core.outbound.states ≡ nothing_known
       → Serving got [] core
-  serving-nothing closed senders streams spells due states =
+  serving-nothing closed senders spells due states =
       let none : calls got core.senders.items ≡ [] = ap (calls got) senders in
-      let serves = serves-nothing core.outbound core.streams.entries (calls got core.senders.items) spells due states streams none in
+      let serves = serves-nothing core.outbound (open_at core.outbound.states) (calls got core.senders.items) spells due states (ap (λ (s : States). (open_at s)) states) none in
       record {
-        fronts = fronts_of [] core.outbound core.streams.entries (calls got core.senders.items) [] serves;
-        returned = returned_of [] core.outbound core.streams.entries (calls got core.senders.items) [] serves;
-        others = others_of [] core.outbound core.streams.entries (calls got core.senders.items) [] serves;
+        fronts = fronts_of [] core.outbound (open_at core.outbound.states) (calls got core.senders.items) [] serves;
+        returned = returned_of [] core.outbound (open_at core.outbound.states) (calls got core.senders.items) [] serves;
+        others = others_of [] core.outbound (open_at core.outbound.states) (calls got core.senders.items) [] serves;
         closed = sym closed;
         serves = λ still. (
           [],
@@ -81,7 +81,7 @@ module _ {L In Out Shut : Type 0} (got : Out → List OutItem) where
       ∙ ap (λ (l : List OutItem). calls got old ++ (id, l) ∷ []) none
 
   -- a call begins
-  pub serves-began : (run : List Step) (o new : Outbound) (streams left : List (ℕ × OpenStream))
+  pub serves-began : (run : List Step) (o new : Outbound) (streams left : OpenStreams)
       (old senders now : List (ℕ × Sender L In Out Shut)) (marks : List (ℕ × Mark)) (id : ℕ) (sender : Sender L In Out Shut)
       → Prepares id (length old) o new streams left → senders ≡ old → now ≡ senders ++ (id, sender) ∷ [] → got sender.rx ≡ []
       → Serves run o streams (calls got old) marks → Serves (Taken (order.Open id tt) ∷ run) new left (calls got now) marks

@@ -1,11 +1,11 @@
 -- What a writer keeps of its calls, after an Open.
-use Rattle.std.proofs.Common.{◌≡◌, ℕ, suc, zero, ◌<◌, ◌==◌, inl, inr, refl, sym, ap, subst, ◌∙◌, ◌⊎◌, Bool, true, false, List, [], ◌∷◌, ◌++◌, Option, Some, None, length, get_or, arith, append-nil, nat_eq, true≢false, length-append}
+use Rattle.std.proofs.Common.{◌≡◌, ℕ, suc, zero, ◌<◌, ◌==◌, inl, inr, refl, sym, ap, subst, ◌∙◌, ◌⊎◌, Bool, true, false, List, [], ◌∷◌, ◌++◌, Option, Some, None, length, get_or, arith, append-nil, true≢false, length-append}
 use Rattle.std.specs.Prelude.{All, ◌&&◌, ◌||◌, not, is_some, if◌then◌else◌}
-use Rattle.std.specs.Map.{lookup}
 use Rattle.std.proofs.lemmas.Bool.{eqb-true, eq-eqb}
 use Rattle.std.proofs.lemmas.List.{get_or_append_left}
 use Rattle.std.proofs.Math.Seq.{get_or-append_seam}
 use Rattle.account.specs.declared.call.OutItem.{OutItem}
+use Rattle.outwriter.specs.OpenStreams.{OpenStreams, stream_at}
 use Rattle.outwriter.specs.declared.control.Control.TheVariants as order
 use Rattle.outwriter.specs.declared.outbound.Outbound.{Outbound}
 use Rattle.outwriter.specs.declared.stream.OpenStream.{OpenStream}
@@ -13,7 +13,7 @@ use Rattle.outwriter.specs.Calls.{is_fresh, is_served}
 use Rattle.outwriter.specs.Runs.{was_reset, is_opened}
 use Rattle.outwriter.specs.States.{is_heard, knows, over_on}
 use Rattle.outwriter.specs.Histories.{is_stream}
-use Rattle.outwriter.specs.CoreChanges.{Prepares, is_new_call, becomes_open, stream_at}
+use Rattle.outwriter.specs.CoreChanges.{Prepares, is_new_call, becomes_open}
 use Rattle.outwriter.specs.Parts.{Mark, marks_on, spelled}
 use Rattle.outwriter.specs.CallState.{Serves, MayBeDue, IsEnded, IsExact, has_reason}
 use Rattle.outwriter.specs.Steps.{Step, Taken}
@@ -72,7 +72,7 @@ module _ (run : List Step) (id : ℕ) where
 
 -- ---- all of it
 
-module _ (run : List Step) (o new : Outbound) (streams left : List (ℕ × OpenStream)) (calls : List (ℕ × List OutItem)) (marks : List (ℕ × Mark)) (id : ℕ)
+module _ (run : List Step) (o new : Outbound) (streams left : OpenStreams) (calls : List (ℕ × List OutItem)) (marks : List (ℕ × Mark)) (id : ℕ)
     (s : Serves run o streams calls marks) (p : Prepares id (length calls) o new streams left) where
   abbrev after : List Step
   after = Taken (order.Open id tt) ∷ run
@@ -88,36 +88,36 @@ module _ (run : List Step) (o new : Outbound) (streams left : List (ℕ × OpenS
       (a.0, unheard-knows o.states id unheard, unheard)
 
   -- an open stream is the new one, or it was open
-  opened-by : (k : ℕ) (found : Option OpenStream) → lookup (nat_eq k) left ≡ found
-      → ((becomes_open o id ≡ true) × (k ≡ id) × (found ≡ Some (stream_at (length calls)))) ⊎ (lookup (nat_eq k) streams ≡ found)
+  opened-by : (k : ℕ) (found : Option OpenStream) → left k ≡ found
+      → ((becomes_open o id ≡ true) × (k ≡ id) × (found ≡ Some (stream_at (length calls)))) ⊎ (streams k ≡ found)
   opened-by k found e = by (becomes_open o id && (k == id)) refl
     where
       by : (b : Bool) → (becomes_open o id && (k == id)) ≡ b
-          → ((becomes_open o id ≡ true) × (k ≡ id) × (found ≡ Some (stream_at (length calls)))) ⊎ (lookup (nat_eq k) streams ≡ found)
+          → ((becomes_open o id ≡ true) × (k ≡ id) × (found ≡ Some (stream_at (length calls)))) ⊎ (streams k ≡ found)
       by true q =
           let t = both (becomes_open o id) (k == id) q in
-          inl (t.0, eqb-true k id t.1, sym e ∙ p.opens k ∙ ap (λ b. if b then Some (stream_at (length calls)) else lookup (nat_eq k) streams) q)
-      by false q = inr (sym (p.opens k ∙ ap (λ b. if b then Some (stream_at (length calls)) else lookup (nat_eq k) streams) q) ∙ e)
+          inl (t.0, eqb-true k id t.1, sym e ∙ p.opens k ∙ ap (λ b. if b then Some (stream_at (length calls)) else streams k) q)
+      by false q = inr (sym (p.opens k ∙ ap (λ b. if b then Some (stream_at (length calls)) else streams k) q) ∙ e)
 
   -- what isn't open wasn't
-  less-none : (k : ℕ) → lookup (nat_eq k) left ≡ None → lookup (nat_eq k) streams ≡ None
+  less-none : (k : ℕ) → left k ≡ None → streams k ≡ None
   less-none k e = by (opened-by k None e)
     where
-      by : ((becomes_open o id ≡ true) × (k ≡ id) × (None ≡ Some (stream_at (length calls)))) ⊎ (lookup (nat_eq k) streams ≡ None) → lookup (nat_eq k) streams ≡ None
+      by : ((becomes_open o id ≡ true) × (k ≡ id) × (None ≡ Some (stream_at (length calls)))) ⊎ (streams k ≡ None) → streams k ≡ None
       by (inl h) = absurd (not-some None (stream_at (length calls)) refl h.2)
       by (inr h) = h
 
   -- and a stream that was heard of doesn't become open
-  still-none : (k : ℕ) → lookup (nat_eq k) streams ≡ None → is_heard o.states k ≡ true → lookup (nat_eq k) left ≡ None
-  still-none k e known = by (lookup (nat_eq k) left) refl
+  still-none : (k : ℕ) → streams k ≡ None → is_heard o.states k ≡ true → left k ≡ None
+  still-none k e known = by (left k) refl
     where
-      by : (found : Option OpenStream) → lookup (nat_eq k) left ≡ found → found ≡ None
+      by : (found : Option OpenStream) → left k ≡ found → found ≡ None
       by None f = refl
       by (Some stream) f = cases (opened-by k (Some stream) f)
         where
-          cases : ((becomes_open o id ≡ true) × (k ≡ id) × (Some stream ≡ Some (stream_at (length calls)))) ⊎ (lookup (nat_eq k) streams ≡ Some stream) → Some stream ≡ None
+          cases : ((becomes_open o id ≡ true) × (k ≡ id) × (Some stream ≡ Some (stream_at (length calls)))) ⊎ (streams k ≡ Some stream) → Some stream ≡ None
           cases (inl h) = absurd (true≢false (sym known ∙ ap (λ n. is_heard o.states n) h.1 ∙ (was-unknown h.0).2))
-          cases (inr h) = absurd (not-some (lookup (nat_eq k) streams) stream e h)
+          cases (inr h) = absurd (not-some (streams k) stream e h)
 
   over : (k : ℕ) → over_on new.states k ≡ over_on o.states k
   over = p.takes.over
@@ -145,7 +145,7 @@ module _ (run : List Step) (o new : Outbound) (streams left : List (ℕ × OpenS
           let is_new : is_new_call o id ≡ true = ap (λ b. b && not (knows o.states id)) e ∙ ap not f in
           p.takes.knows id ∙ ap (λ b. (b && (id == id)) || knows o.states id) is_new ∙ ap (λ b. b || knows o.states id) (eq-eqb id id refl)
 
-  exact : (k : ℕ) (stream : OpenStream) → lookup (nat_eq k) left ≡ Some stream → IsExact k stream more (marks_on k marks)
+  exact : (k : ℕ) (stream : OpenStream) → left k ≡ Some stream → IsExact k stream more (marks_on k marks)
   exact k stream e = by (opened-by k (Some stream) e)
     where
       some-is : (a b : OpenStream) → Some a ≡ Some b → a ≡ b
@@ -161,7 +161,7 @@ module _ (run : List Step) (o new : Outbound) (streams left : List (ℕ × OpenS
             ),
           )
 
-      by : ((becomes_open o id ≡ true) × (k ≡ id) × (Some stream ≡ Some (stream_at (length calls)))) ⊎ (lookup (nat_eq k) streams ≡ Some stream)
+      by : ((becomes_open o id ≡ true) × (k ≡ id) × (Some stream ≡ Some (stream_at (length calls)))) ⊎ (streams k ≡ Some stream)
           → IsExact k stream more (marks_on k marks)
       by (inl h) = subst (λ (t : OpenStream). IsExact k t more (marks_on k marks)) (sym (some-is stream (stream_at (length calls)) h.2))
           (subst (λ n. IsExact n (stream_at (length calls)) more (marks_on n marks)) (sym h.1) (here h.0))
@@ -175,16 +175,16 @@ module _ (run : List Step) (o new : Outbound) (streams left : List (ℕ × OpenS
           )
 
   -- what is known of an open stream
-  of-open : (P : ℕ → Type 0) → (becomes_open o id ≡ true → P id) → ((k : ℕ) (stream : OpenStream) → lookup (nat_eq k) streams ≡ Some stream → P k)
-      → (k : ℕ) (stream : OpenStream) → lookup (nat_eq k) left ≡ Some stream → P k
+  of-open : (P : ℕ → Type 0) → (becomes_open o id ≡ true → P id) → ((k : ℕ) (stream : OpenStream) → streams k ≡ Some stream → P k)
+      → (k : ℕ) (stream : OpenStream) → left k ≡ Some stream → P k
   of-open P here before k stream e = by (opened-by k (Some stream) e)
     where
-      by : ((becomes_open o id ≡ true) × (k ≡ id) × (Some stream ≡ Some (stream_at (length calls)))) ⊎ (lookup (nat_eq k) streams ≡ Some stream) → P k
+      by : ((becomes_open o id ≡ true) × (k ≡ id) × (Some stream ≡ Some (stream_at (length calls)))) ⊎ (streams k ≡ Some stream) → P k
       by (inl h) = subst P (sym h.1) (here h.0)
       by (inr h) = before k stream h
 
   abbrev Ended : ℕ × List OutItem → Type 0
-  Ended c = lookup (nat_eq c.0) left ≡ None → is_served c.0 (Taken (order.Open id tt) ∷ run) ≡ true
+  Ended c = left c.0 ≡ None → is_served c.0 (Taken (order.Open id tt) ∷ run) ≡ true
       → IsEnded (over_on new.states c.0) (marks_on c.0 marks) c.1
 
   old-served : (k : ℕ) → is_fresh k run ≡ false → is_served k (Taken (order.Open id tt) ∷ run) ≡ true → is_served k run ≡ true
@@ -224,29 +224,29 @@ module _ (run : List Step) (o new : Outbound) (streams left : List (ℕ × OpenS
       (λ end same. absurd (differ (last ∙ sym end))))
 
   -- the stream of a call whose sender was given back isn't the new one
-  returned-none : (k : ℕ) → is_served k run ≡ true → lookup (nat_eq k) streams ≡ None → lookup (nat_eq k) left ≡ None
-  returned-none k is e = by (lookup (nat_eq k) left) refl
+  returned-none : (k : ℕ) → is_served k run ≡ true → streams k ≡ None → left k ≡ None
+  returned-none k is e = by (left k) refl
     where
-      by : (found : Option OpenStream) → lookup (nat_eq k) left ≡ found → found ≡ None
+      by : (found : Option OpenStream) → left k ≡ found → found ≡ None
       by None f = refl
       by (Some stream) f = cases (opened-by k (Some stream) f)
         where
-          cases : ((becomes_open o id ≡ true) × (k ≡ id) × (Some stream ≡ Some (stream_at (length calls)))) ⊎ (lookup (nat_eq k) streams ≡ Some stream) → Some stream ≡ None
+          cases : ((becomes_open o id ≡ true) × (k ≡ id) × (Some stream ≡ Some (stream_at (length calls)))) ⊎ (streams k ≡ Some stream) → Some stream ≡ None
           cases (inl h) =
               let u = was-unknown h.0 in
               let knows-it : knows o.states id ≡ true = subst (λ n. knows o.states n ≡ true) h.1 (served-known run o s.brought k is (ap is_stream h.1 ∙ u.0)) in
               absurd (true≢false (sym knows-it ∙ u.1))
-          cases (inr h) = absurd (not-some (lookup (nat_eq k) streams) stream e h)
+          cases (inr h) = absurd (not-some (streams k) stream e h)
 
   -- a stream of which nothing was heard is open now
-  opens-new : is_stream id ≡ true → is_heard o.states id ≡ false → lookup (nat_eq id) left ≡ None → ⊥
+  opens-new : is_stream id ≡ true → is_heard o.states id ≡ false → left id ≡ None → ⊥
   opens-new there unheard closed =
       let new_one : becomes_open o id ≡ true = ap (λ b. b && not (is_heard o.states id)) there ∙ ap not unheard in
-      not-some (lookup (nat_eq id) left) (stream_at (length calls)) closed
-      (p.opens id ∙ ap (λ b. if b && (id == id) then Some (stream_at (length calls)) else lookup (nat_eq id) streams) new_one
-      ∙ ap (λ b. if b then Some (stream_at (length calls)) else lookup (nat_eq id) streams) (eq-eqb id id refl))
+      not-some (left id) (stream_at (length calls)) closed
+      (p.opens id ∙ ap (λ b. if b && (id == id) then Some (stream_at (length calls)) else streams id) new_one
+      ∙ ap (λ b. if b then Some (stream_at (length calls)) else streams id) (eq-eqb id id refl))
 
-  opens-unless : is_fresh id run ≡ true → is_stream id ≡ true → lookup (nat_eq id) left ≡ None → (b : Bool) → is_heard o.states id ≡ b → was_reset id run ≡ true
+  opens-unless : is_fresh id run ≡ true → is_stream id ≡ true → left id ≡ None → (b : Bool) → is_heard o.states id ≡ b → was_reset id run ≡ true
   opens-unless fresh there none true e = s.early id e fresh
   opens-unless fresh there none false e = absurd (opens-new there e none)
 
@@ -263,7 +263,7 @@ module _ (run : List Step) (o new : Outbound) (streams left : List (ℕ × OpenS
   unheard k e = was-false (is_heard o.states k) (is_heard new.states k) (takes-heard [] (λ other. is_new_call o id && (other == id)) [] o new p.takes k) e
 
   -- what isn't open was heard of before
-  heard-before : (k : ℕ) → is_stream k ≡ true → lookup (nat_eq k) left ≡ None → is_heard new.states k ≡ true → is_heard o.states k ≡ true
+  heard-before : (k : ℕ) → is_stream k ≡ true → left k ≡ None → is_heard new.states k ≡ true → is_heard o.states k ≡ true
   heard-before k there none known = cases (heard-by k known) (is_heard o.states k) refl
     where
       cases : ((k == id) ≡ true) ⊎ (is_heard o.states k ≡ true) → (b : Bool) → is_heard o.states k ≡ b → b ≡ true
@@ -271,9 +271,9 @@ module _ (run : List Step) (o new : Outbound) (streams left : List (ℕ × OpenS
       cases (inr old) false e = absurd (true≢false (sym old ∙ e))
       cases (inl here) false e =
           let same : k ≡ id = eqb-true k id here in
-          absurd (opens-new (ap is_stream (sym same) ∙ there) (ap (λ n. is_heard o.states n) (sym same) ∙ e) (subst (λ n. lookup (nat_eq n) left ≡ None) same none))
+          absurd (opens-new (ap is_stream (sym same) ∙ there) (ap (λ n. is_heard o.states n) (sym same) ∙ e) (subst (λ n. left n ≡ None) same none))
 
-  reasons : (k : ℕ) → is_stream k ≡ true → lookup (nat_eq k) left ≡ None → is_heard new.states k ≡ true
+  reasons : (k : ℕ) → is_stream k ≡ true → left k ≡ None → is_heard new.states k ≡ true
       → (is_some (over_on new.states k) ≡ true) ⊎ (has_reason k after ≡ true)
   reasons k there none known =
       ended-later (over_on o.states k) (over_on new.states k) (has_reason k run) (has_reason k after) (over k) (reason-taken run (order.Open id tt) k)
@@ -308,13 +308,13 @@ module _ (run : List Step) (o new : Outbound) (streams left : List (ℕ × OpenS
           ap (λ b. (is_new_call o id && b) || (is_stream k && is_opened k run)) q ∙ elsewhere (is_new_call o id) (is_stream k && is_opened k run)
           ∙ sym (ap (λ b. is_stream k && (b || is_opened k run)) q)
 
-  stays : (k : ℕ) → is_served k after ≡ true → is_stream k ≡ true → lookup (nat_eq k) left ≡ None → (b : Bool) → (k == id) ≡ b
+  stays : (k : ℕ) → is_served k after ≡ true → is_stream k ≡ true → left k ≡ None → (b : Bool) → (k == id) ≡ b
       → (is_some (over_on new.states k) ≡ true) ⊎ (was_reset k after ≡ true)
   stays k is there none true q =
       let same : k ≡ id = eqb-true k id q in
       let fresh : is_fresh id run ≡ true = ap (λ n. is_fresh n run) (sym same) ∙ sym (served-here run id k q) ∙ is in
       inr (subst (λ n. was_reset n after ≡ true) (sym same) (reset-taken run (order.Open id tt) id
-      (opens-unless fresh (ap is_stream (sym same) ∙ there) (subst (λ n. lookup (nat_eq n) left ≡ None) same none) (is_heard o.states id) refl)))
+      (opens-unless fresh (ap is_stream (sym same) ∙ there) (subst (λ n. left n ≡ None) same none) (is_heard o.states id) refl)))
   stays k is there none false q =
       ended-later (over_on o.states k) (over_on new.states k) (was_reset k run) (was_reset k after) (over k) (reset-taken run (order.Open id tt) k)
       (s.stays k (sym (served-else run id k q) ∙ is) there (less-none k none))

@@ -1,13 +1,13 @@
 -- What a writer keeps of its calls, after a Refuse, a Reset, and what brings no stream and ends none.
-use Rattle.std.proofs.Common.{◌≡◌, ℕ, ◌==◌, ◌⊎◌, inl, inr, refl, sym, ap, subst, ◌∙◌, Bool, true, false, List, [], ◌∷◌, Option, Some, None, append-nil, nat_eq, true≢false}
+use Rattle.std.proofs.Common.{◌≡◌, ℕ, ◌==◌, ◌⊎◌, inl, inr, refl, sym, ap, subst, ◌∙◌, Bool, true, false, List, [], ◌∷◌, Option, Some, None, append-nil, true≢false}
 use Rattle.std.specs.Prelude.{All, ◌&&◌, ◌||◌, not, is_some, if◌then◌else◌}
-use Rattle.std.specs.Map.{lookup}
 use Rattle.std.proofs.lemmas.Bool.{eqb-true, eq-eqb}
 use Rattle.hpack_codec.proofs.HuffmanTable.{and_true}
 use Rattle.std.proofs.lemmas.List.Elements.{All-cons, All-nil}
 use Rattle.account.specs.declared.call.OutItem.{OutItem}
 use Rattle.h2frame.specs.declared.error_code.ErrorCode.{ErrorCode}
 use Rattle.lists.specs.declared.field.Field.{Field}
+use Rattle.outwriter.specs.OpenStreams.{Closes, OpenStreams}
 use Rattle.outwriter.specs.declared.control.Control.TheVariants as order
 use Rattle.outwriter.specs.declared.due.Due.{Due}
 use Rattle.outwriter.specs.declared.due.Due.TheVariants as due_kind
@@ -15,7 +15,7 @@ use Rattle.outwriter.specs.declared.outbound.Outbound.{Outbound}
 use Rattle.outwriter.specs.declared.stream.OpenStream.{OpenStream}
 use Rattle.outwriter.specs.Calls.{is_fresh, is_served, is_called_off, is_dropped}
 use Rattle.outwriter.specs.Runs.{was_reset, is_opened, opens_stream}
-use Rattle.outwriter.specs.CoreChanges.{Closes, due_reset, may_write}
+use Rattle.outwriter.specs.CoreChanges.{due_reset, may_write}
 use Rattle.outwriter.specs.States.{SameOver, is_heard, is_reset, knows, over_on}
 use Rattle.outwriter.specs.Histories.{is_stream}
 use Rattle.outwriter.specs.Parts.{Mark}
@@ -35,12 +35,13 @@ takes-nothing o = record {
   heard = λ id. refl;
   resets = λ id. refl;
   over = λ k. refl;
+  same_open = λ none. refl;
   begun = refl;
   block = refl;
   encoder = refl;
 }
 
-module _ (run : List Step) (o new : Outbound) (streams : List (ℕ × OpenStream)) (calls : List (ℕ × List OutItem)) (marks : List (ℕ × Mark)) where
+module _ (run : List Step) (o new : Outbound) (streams : OpenStreams) (calls : List (ℕ × List OutItem)) (marks : List (ℕ × Mark)) where
   -- a control that is none of a stream's beginning
   pub serves-ordered : (taken : Order) (more : List Due) → ((id : ℕ) → opens_stream id taken ≡ false) → ((id : ℕ) → is_fresh id (Taken taken ∷ run) ≡ is_fresh id run)
       → ((id : ℕ) → is_served id (Taken taken ∷ run) ≡ is_served id run) → All (MayBeDue (Taken taken ∷ run) new streams) more → Takes more none_is_new (limits_of taken) o new
@@ -51,7 +52,7 @@ module _ (run : List Step) (o new : Outbound) (streams : List (ℕ × OpenStream
 
   -- a Reset is due, of a stream that isn't open any more
   pub serves-reset : (id : ℕ) (code : ErrorCode) (is_due : Bool)
-      → (is_due ≡ true → (lookup (nat_eq id) streams ≡ None) × (is_heard new.states id ≡ true))
+      → (is_due ≡ true → (streams id ≡ None) × (is_heard new.states id ≡ true))
       → Takes (if is_due then due_kind.Reset id code ∷ [] else []) none_is_new [] o new
       → Serves run o streams calls marks → Serves run new streams calls marks
   serves-reset id code is_due may takes s =
@@ -79,7 +80,7 @@ reason-here run id code false =
 -- ---- a Reset
 
 -- It closes its stream; RST_STREAM is due then.
-pub serves-ended : (run : List Step) (o new : Outbound) (streams left : List (ℕ × OpenStream)) (calls : List (ℕ × List OutItem)) (marks : List (ℕ × Mark))
+pub serves-ended : (run : List Step) (o new : Outbound) (streams left : OpenStreams) (calls : List (ℕ × List OutItem)) (marks : List (ℕ × Mark))
     (id : ℕ) (code : ErrorCode) (written : Bool) → Takes (due_reset o id code written) none_is_new [] (record o { states = new.states }) new
     → ((k : ℕ) → knows new.states k ≡ knows o.states k) → ((k : ℕ) → is_heard new.states k ≡ ((is_stream id && (k == id)) || is_heard o.states k)) → SameOver o.states new.states
     → Closes id streams left → Serves run o streams calls marks → Serves (Taken (order.Reset id code written) ∷ run) new left calls marks
@@ -94,10 +95,10 @@ serves-ended run o new streams left calls marks id code written takes known hear
     mid = record new { due = o.due }
 
     waits : Takes (due_reset o id code written) none_is_new [] mid new
-    waits = record { due = takes.due; knows = λ k. refl; heard = takes.heard; resets = λ k. refl; over = λ k. refl; begun = refl; block = refl; encoder = refl }
+    waits = record { due = takes.due; knows = λ k. refl; heard = takes.heard; resets = λ k. refl; over = λ k. refl; same_open = λ none. refl; begun = refl; block = refl; encoder = refl }
 
     nothing : Takes [] none_is_new [] (record o { states = new.states }) mid
-    nothing = record { due = sym (append-nil o.due.items); knows = λ k. refl; heard = λ k. refl; resets = λ k. refl; over = λ k. refl; begun = takes.begun; block = takes.block; encoder = takes.encoder }
+    nothing = record { due = sym (append-nil o.due.items); knows = λ k. refl; heard = λ k. refl; resets = λ k. refl; over = λ k. refl; same_open = λ none. refl; begun = takes.begun; block = takes.block; encoder = takes.encoder }
 
     heard-by : HeardBy after o mid
     heard-by k e = by (is_stream id) (k == id) refl (sym (heard k) ∙ e)
@@ -120,9 +121,9 @@ serves-ended run o new streams left calls marks id code written takes known hear
     number true b c e = refl
     number false b c e = e
 
-    closed : may_write o id ≡ true → (lookup (nat_eq id) left ≡ None) × (is_heard new.states id ≡ true)
+    closed : may_write o id ≡ true → (left id ≡ None) × (is_heard new.states id ≡ true)
     closed may = (
-      closes id ∙ ap (λ b. if b then None else lookup (nat_eq id) streams) (eq-eqb id id refl),
+      closes id ∙ ap (λ b. if b then None else streams id) (eq-eqb id id refl),
       heard id ∙ ap (λ b. (b && (id == id)) || is_heard o.states id) (number (is_stream id) (not (is_some (over_on o.states id))) (not (is_reset o.states id)) may)
           ∙ ap (λ b. b || is_heard o.states id) (eq-eqb id id refl),
     )
@@ -136,7 +137,7 @@ fresh-less run id fields k e = by (k == id)
     by true = refl
     by false = e
 
-module _ (run : List Step) (o : Outbound) (streams : List (ℕ × OpenStream)) (calls : List (ℕ × List OutItem)) (marks : List (ℕ × Mark))
+module _ (run : List Step) (o : Outbound) (streams : OpenStreams) (calls : List (ℕ × List OutItem)) (marks : List (ℕ × Mark))
     (id : ℕ) (fields : List Field) where
   -- of a stream that was opened, refused or reset before, and of none
   pub serves-unrefused : Serves run o streams calls marks → Serves (Taken (order.Refuse id fields) ∷ run) o streams calls marks
@@ -160,7 +161,7 @@ module _ (run : List Step) (o : Outbound) (streams : List (ℕ × OpenStream)) (
       (All-cons (MayBeDue after new streams) (due_kind.Refuse id fields) [] (
         ap (λ b. if b then false else is_fresh id run) (eq-eqb id id refl),
         unserved unknown (is_served id run) refl,
-        closed unknown (lookup (nat_eq id) streams) refl,
+        closed unknown (streams id) refl,
         takes.heard id ∙ ap (λ b. (b || false) || is_heard o.states id) (eq-eqb id id refl),
         inl (refl, refl),
         reason,
@@ -175,6 +176,6 @@ module _ (run : List Step) (o : Outbound) (streams : List (ℕ × OpenStream)) (
       unopened unknown true e = absurd (true≢false (sym (opened-known run o s.brought id e there) ∙ unknown))
       unopened unknown false e = refl
 
-      closed : knows o.states id ≡ false → (found : Option OpenStream) → lookup (nat_eq id) streams ≡ found → found ≡ None
+      closed : knows o.states id ≡ false → (found : Option OpenStream) → streams id ≡ found → found ≡ None
       closed unknown None e = refl
       closed unknown (Some stream) e = absurd (true≢false (sym (s.known id stream e) ∙ unknown))

@@ -26,7 +26,7 @@ use Rattle.outwriter.specs.RunState.{Mirrors, resets_of, HasWindows, HasOver, Ha
 use Rattle.outwriter.specs.Runs.{due, IsAsked, Fragments, Continues, MayWrite, fragments, unfinished, updated, granted, is_opened, may_owe, owed as given, resets_stream, was_reset}
 use Rattle.outwriter.specs.Steps.{Step, Taken, Granted, Written, Returned, frames_of}
 use Rattle.outwriter.proofs.Others.{or-true}
-use Rattle.outwriter.proofs.RunStateSteps.{same-block, over-kept, owed-kept, credit-kept}
+use Rattle.outwriter.proofs.RunStateSteps.{same-block, over-kept, owed-kept, credit-kept, stand-but-open}
 use Rattle.outwriter.proofs.FrameSteps.{in-answers, in-goaways, not-over, none-over, none-begun, no-updates, credits-none, tells-first, due-told, no-block, over-same, stand-same, due-same, tells-none, credit-same, owes-same, windows-same, head-same, plain-written, IsPlain}
 
 -- the windows go on by what a frame closes and spends
@@ -202,7 +202,8 @@ headed-stand run id true whole fragment old new sets same there none h =
     (no-updates run (headers_frame id true whole fragment) refl) (λ e. absurd (true≢false (sym e))) there sets same none h
 headed-stand run id false whole fragment old new is same there none h =
     subst (HasStates (Written (headers_frame id false whole fragment) ∷ run)) (sym is)
-    (stand-same run (headers_frame id false whole fragment) old (head-ends id false whole fragment) refl (no-updates run (headers_frame id false whole fragment) refl) h)
+    (stand-but-open (Written (headers_frame id false whole fragment) ∷ run) old new.opened
+    (stand-same run (headers_frame id false whole fragment) old (head-ends id false whole fragment) refl (no-updates run (headers_frame id false whole fragment) refl) h))
 
 headed-head : (run : List Step) (id : ℕ) (ends_it whole : Bool) (fragment : List ℕ) (left : Option HeaderBlock) → Keeps id whole left
     → list_any (resets id) (frames_of run) ≡ false → HasHead (headers_frame id ends_it whole fragment ∷ frames_of run) left

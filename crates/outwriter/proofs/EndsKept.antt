@@ -1,21 +1,21 @@
 -- How streams end: what has ended or is to end does so still, and the ends that controls ask for are heeded.
-use Rattle.std.proofs.Common.{◌≡◌, ◌⊎◌, ℕ, ◌==◌, inl, inr, refl, sym, ap, subst, ◌∙◌, Bool, true, false, List, [], ◌∷◌, ◌++◌, Option, Some, None, nat_eq, true≢false}
+use Rattle.std.proofs.Common.{◌≡◌, ◌⊎◌, ℕ, ◌==◌, inl, inr, refl, sym, ap, subst, ◌∙◌, Bool, true, false, List, [], ◌∷◌, ◌++◌, Option, Some, None, true≢false}
 use Rattle.std.specs.Prelude.{◌||◌, ◌&&◌, not, is_some, if◌then◌else◌}
 use Rattle.std.specs.List.{list_any}
-use Rattle.std.specs.Map.{lookup}
 use Rattle.std.proofs.lemmas.Bool.{eqb-true}
 use Rattle.std.proofs.lemmas.List.Folds.{list_any-append}
 use Rattle.h2frame.specs.declared.error_code.ErrorCode.{ErrorCode}
 use Rattle.h2frame.specs.declared.frame.Frame.{Frame}
 use Rattle.lists.specs.declared.field.Field.{Field}
+use Rattle.outwriter.specs.OpenStreams.{OpenStreams}
 use Rattle.outwriter.specs.declared.due.Due.{Due}
 use Rattle.outwriter.specs.declared.due.Due.TheVariants as due_kind
 use Rattle.outwriter.specs.declared.stream.OpenStream.{OpenStream}
 use Rattle.outwriter.specs.declared.outbound.Outbound.{Outbound}
 use Rattle.outwriter.specs.Calls.{calls_off, is_called_off, is_dropped, TellEnds}
-use Rattle.outwriter.specs.States.{States, SameOver, SameOwed, SetsEnd, is_heard, is_reset, over_on}
+use Rattle.outwriter.specs.States.{States, SameOver, SameOwed, SetsEnd, StandAs, is_heard, is_reset, over_on}
 use Rattle.outwriter.specs.Histories.{is_stream, is_over}
-use Rattle.outwriter.specs.RunState.{Ends, HasOver, IsSpent}
+use Rattle.outwriter.specs.RunState.{Ends, HasOver, IsSpent, SameButOpen}
 use Rattle.outwriter.specs.Runs.{resets_stream, was_reset, is_opened}
 use Rattle.outwriter.specs.CallState.{AreOver, Heeds, HeedsEnds, HeedsOpen, IsEnding, IsOwn, Rests, Takes, is_due_of, none_is_new, refuses}
 use Rattle.outwriter.specs.Steps.{Step, Order, Taken}
@@ -117,11 +117,11 @@ pub rests-ends : (old new : Outbound) → Rests old new → KeepsEnds old new
 rests-ends old new r = ends-written old new r.due.0 (λ id. (r.standing id).1) r.due.1 (λ id there e. over-same old new (λ k. (r.over k).0) id (r.due.2 id there e)) (over-same old new (λ k. (r.over k).0))
 
 pub own-ends : (frame : Frame) (old new : Outbound) → IsOwn frame old new → KeepsEnds old new
-own-ends frame old new (known, inl plain) =
+own-ends frame old new (known, inl plain, kept) =
     ends-written old new plain.2.0 (λ id. (known id).1) plain.2.1 (λ id there e. over-same old new (λ k. (plain.1 k).0) id (plain.2.2 id there e)) (over-same old new (λ k. (plain.1 k).0))
-own-ends frame old new (known, inr (inl r)) =
+own-ends frame old new (known, inr (inl r), kept) =
     one-ends old new r.0 true (due_kind.Reset r.0 r.1) r.2 (λ id. (known id).1) (reset-at old.states r.0 r.1) r.3 r.7 r.6 (append-one r.2 new.due.items (due_kind.Reset r.0 r.1))
-own-ends frame old new (known, inr (inr r)) =
+own-ends frame old new (known, inr (inr r), kept) =
     one-ends old new r.0 false (due_kind.Refuse r.0 r.1) r.2 (λ id. (known id).1) (refuse-at old.states r.0 r.1) r.3 r.7 r.6 (append-one r.2 new.due.items (due_kind.Refuse r.0 r.1))
 
 -- ---- frames of an open stream
@@ -131,7 +131,7 @@ still-due : (old new : Outbound) (id : ℕ) → new.due ≡ old.due → is_reset
 still-due old new id due same waits =
     ap (λ due. list_any (is_due_of new.states id) due.items) due ∙ dues-same old.states new.states id same old.due.items ∙ waits
 
-pub same-ends : (old new : Outbound) → new.due ≡ old.due → new.states ≡ old.states → KeepsEnds old new
+pub same-ends : (old new : Outbound) → new.due ≡ old.due → StandAs old.states new.states → KeepsEnds old new
 same-ends old new due states id there (inl ended) = inl (ap (λ s. is_some (over_on s id)) states ∙ ended)
 same-ends old new due states id there (inr waits) = inr (still-due old new id due (ap (λ s. is_reset s id) states) waits)
 
@@ -161,8 +161,8 @@ takes-ends more is_new limits old new takes id there (inr waits) =
 -- ---- what was asked for
 
 -- the streams stand as they did, and none opened
-pub heeds-kept : (run : List Step) (old new : Outbound) (streams left : List (ℕ × OpenStream)) → KeepsEnds old new → SameStanding old new
-    → ((id : ℕ) → lookup (nat_eq id) streams ≡ None → lookup (nat_eq id) left ≡ None) → Heeds run old streams → Heeds run new left
+pub heeds-kept : (run : List Step) (old new : Outbound) (streams left : OpenStreams) → KeepsEnds old new → SameStanding old new
+    → ((id : ℕ) → streams id ≡ None → left id ≡ None) → Heeds run old streams → Heeds run new left
 heeds-kept run old new streams left keeps same closed heeds = (
   λ id there e. by id there (heeds.0 id there e),
   λ id there. (same id).1 ∙ heeds.1 id there,
@@ -174,24 +174,30 @@ heeds-kept run old new streams left keeps same closed heeds = (
     by id there (inl ending) = inl (keeps id there ending)
     by id there (inr dropped) = inr dropped
 
-    still-unreset : (run : List Step) (streams left : List (ℕ × OpenStream)) → ((id : ℕ) → lookup (nat_eq id) streams ≡ None → lookup (nat_eq id) left ≡ None)
+    still-unreset : (run : List Step) (streams left : OpenStreams) → ((id : ℕ) → streams id ≡ None → left id ≡ None)
         → HeedsOpen run streams → HeedsOpen run left
-    still-unreset run streams left closed unreset id is = at (lookup (nat_eq id) streams) refl
+    still-unreset run streams left closed unreset id is = at (streams id) refl
       where
-        at : (found : Option OpenStream) → lookup (nat_eq id) streams ≡ found → was_reset id run ≡ false
+        at : (found : Option OpenStream) → streams id ≡ found → was_reset id run ≡ false
         at None p = absurd (true≢false (sym is ∙ ap is_some (closed id p)))
         at (Some stream) p = unreset id (ap is_some p)
 
-pub heeds-own : (run : List Step) (old new : Outbound) (streams : List (ℕ × OpenStream)) → KeepsEnds old new → SameStanding old new
+pub heeds-own : (run : List Step) (old new : Outbound) (streams : OpenStreams) → KeepsEnds old new → SameStanding old new
     → Heeds run old streams → Heeds run new streams
 heeds-own run old new streams keeps same heeds = heeds-kept run old new streams streams keeps same (λ id none. none) heeds
+
+-- what is kept of the open streams changes
+pub heeds-but-open : (run : List Step) (o after : Outbound) (streams : OpenStreams) → SameButOpen o after → Heeds run o streams → Heeds run after streams
+heeds-but-open run o after streams e heeds =
+    subst (λ (x : Outbound). Heeds run x streams) (sym e)
+    (heeds-own run o (record o { states = record o.states { opened = after.states.opened } }) streams (λ id there ending. ending) (λ id. (refl, refl, λ heard. heard)) heeds)
 
 -- no stream is forgotten
 pub takes-heard : (more : List Due) (is_new : ℕ → Bool) (limits : List ℕ) (old new : Outbound) → Takes more is_new limits old new → (id : ℕ) → is_heard old.states id ≡ true → is_heard new.states id ≡ true
 takes-heard more is_new limits old new takes id e = takes.heard id ∙ or-true (is_new id || list_any (refuses id) more) (is_heard old.states id) e
 
 -- nothing changes of how the streams stand
-pub heeds-takes : (run : List Step) (more : List Due) (limits : List ℕ) (old new : Outbound) (streams : List (ℕ × OpenStream)) → Takes more none_is_new limits old new
+pub heeds-takes : (run : List Step) (more : List Due) (limits : List ℕ) (old new : Outbound) (streams : OpenStreams) → Takes more none_is_new limits old new
     → Heeds run old streams → Heeds run new streams
 heeds-takes run more limits old new streams takes heeds =
     heeds-own run old new streams (takes-ends more none_is_new limits old new takes) (λ id. (takes.knows id, takes.resets id, takes-heard more none_is_new limits old new takes id)) heeds
@@ -216,7 +222,7 @@ unreset-taken : (run : List Step) (order : Order) (id : ℕ) → resets_stream i
 unreset-taken run order id none = or-false (resets_stream id order) (was_reset id run) none
 
 -- of a control that is no Reset, from what is kept before it, the ends apart
-pub heeds-taken : (run : List Step) (order : Order) (old new : Outbound) (streams left : List (ℕ × OpenStream))
+pub heeds-taken : (run : List Step) (order : Order) (old new : Outbound) (streams left : OpenStreams)
     → ((id : ℕ) → resets_stream id order ≡ false) → HeedsEnds (Taken order ∷ run) new → ((id : ℕ) → is_reset new.states id ≡ is_reset old.states id)
     → HeedsOpen run left
     → ((id : ℕ) → is_heard old.states id ≡ true → is_heard new.states id ≡ true)
@@ -228,7 +234,7 @@ heeds-taken run order old new streams left none ends same unreset still heeds = 
   λ id there e. still id (heeds.3 id there (sym (unreset-taken run order id (none id)) ∙ e)),
 )
 
-pub heeds-calm : (run : List Step) (order : Order) (more : List Due) (limits : List ℕ) (old new : Outbound) (streams : List (ℕ × OpenStream))
+pub heeds-calm : (run : List Step) (order : Order) (more : List Due) (limits : List ℕ) (old new : Outbound) (streams : OpenStreams)
     → ((id : ℕ) (opened : Bool) → calls_off id opened order ≡ false) → ((id : ℕ) → resets_stream id order ≡ false) → Takes more none_is_new limits old new
     → Heeds run old streams → Heeds (Taken order ∷ run) new streams
 heeds-calm run order more limits old new streams calm none takes heeds =
@@ -256,7 +262,7 @@ ends-told run o none over heeds id there e = by (heeds id there e)
     by (inl (inr waits)) = absurd (true≢false (sym waits ∙ ap (list_any (is_due_of o.states id)) none))
     by (inr dropped) = inr dropped
 
-pub ended-if : (run : List Step) (o : Outbound) (streams : List (ℕ × OpenStream)) → IsSpent o → HasOver run o.states → Heeds run o streams
+pub ended-if : (run : List Step) (o : Outbound) (streams : OpenStreams) → IsSpent o → HasOver run o.states → Heeds run o streams
     → (o.gone ≡ true) ⊎ TellEnds run
 ended-if run o streams (inl gone) over heeds = inl gone
 ended-if run o streams (inr (no_block, none, owed)) over heeds = inr (ends-told run o none over heeds.0)

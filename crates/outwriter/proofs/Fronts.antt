@@ -1,7 +1,6 @@
 -- What was told of each call follows from what a writer keeps of its calls.
 use Rattle.std.proofs.Common.{◌≡◌, ℕ, ◌<◌, ◌==◌, ◌⊎◌, inl, inr, refl, sym, ap, subst, ◌∙◌, Bool, true, false, List, [], ◌∷◌, ◌++◌, Option, Some, None, length, get_or, append_assoc, nat_eq, true≢false}
 use Rattle.std.specs.Prelude.{map, filter}
-use Rattle.std.specs.Map.{lookup}
 use Rattle.std.proofs.lemmas.Bool.{eqb-true, eq-eqb}
 use Rattle.std.proofs.lemmas.List.{map-append}
 use Rattle.std.proofs.lemmas.List.Elements.{filter-append, All-from_get_or}
@@ -10,6 +9,7 @@ use Rattle.account.specs.declared.call.OutItem.{OutItem}
 use Rattle.lists.specs.declared.field.Field.{Field}
 use Rattle.hpack_codec.specs.Codec.{Encoding}
 use Rattle.hpack_codec.specs.Table.{Table}
+use Rattle.outwriter.specs.OpenStreams.{OpenStreams}
 use Rattle.outwriter.specs.declared.blocks.HeaderBlock.{HeaderBlock}
 use Rattle.outwriter.specs.declared.outbound.Outbound.{Outbound}
 use Rattle.outwriter.specs.declared.stream.OpenStream.{OpenStream}
@@ -56,9 +56,9 @@ front-less told rest all (inr (front, code, begins, is)) = by (before-last told 
 -- ---- calls
 
 -- what was told of an open stream begins what its call's items spell
-pub open-begins : (run : List Step) (o : Outbound) (streams : List (ℕ × OpenStream)) (calls : List (ℕ × List OutItem)) (marks : List (ℕ × Mark))
+pub open-begins : (run : List Step) (o : Outbound) (streams : OpenStreams) (calls : List (ℕ × List OutItem)) (marks : List (ℕ × Mark))
     → Serves run o streams calls marks → (k : ℕ) (d : ℕ × List OutItem) (stream : OpenStream) → k < length calls
-    → lookup (nat_eq (get_or calls k d).0) streams ≡ Some stream → is_served (get_or calls k d).0 run ≡ true
+    → streams (get_or calls k d).0 ≡ Some stream → is_served (get_or calls k d).0 run ≡ true
     → Begins (marks_on (get_or calls k d).0 marks) (spelled (get_or calls k d).1)
 open-begins run o streams calls marks s k d stream within found served = by (nat_eq stream.place k) refl
   where
@@ -78,12 +78,12 @@ open-begins run o streams calls marks s k d stream within found served = by (nat
         absurd (true≢false (sym so ∙ not))
 
 -- what was told of each call is a front of what its items spell
-pub call-front : (run : List Step) (o : Outbound) (streams : List (ℕ × OpenStream)) (calls : List (ℕ × List OutItem)) (marks : List (ℕ × Mark))
+pub call-front : (run : List Step) (o : Outbound) (streams : OpenStreams) (calls : List (ℕ × List OutItem)) (marks : List (ℕ × Mark))
     → Serves run o streams calls marks → (k : ℕ) (d : ℕ × List OutItem) → k < length calls → is_served (get_or calls k d).0 run ≡ true
     → IsFrontOf (marks_on (get_or calls k d).0 marks) (spelled (get_or calls k d).1)
-call-front run o streams calls marks s k d within served = by (lookup (nat_eq (get_or calls k d).0) streams) refl
+call-front run o streams calls marks s k d within served = by (streams (get_or calls k d).0) refl
   where
-    by : (found : Option OpenStream) → lookup (nat_eq (get_or calls k d).0) streams ≡ found
+    by : (found : Option OpenStream) → streams (get_or calls k d).0 ≡ found
         → IsFrontOf (marks_on (get_or calls k d).0 marks) (spelled (get_or calls k d).1)
     by None e = (s.ended k d within e served).0
     by (Some stream) e = inl (open-begins run o streams calls marks s k d stream within e served)
@@ -98,14 +98,14 @@ front-now id items run o marks (begins, (table, told, rest, tells, owes, is, lea
       (subst (λ (l : List Mark). IsFrontOf l (spelled items)) (ap (marks_on id) is ∙ marks-append id told rest) front),
 )
 
-pub fronts_of : (run : List Step) (o : Outbound) (streams : List (ℕ × OpenStream)) (calls : List (ℕ × List OutItem)) (marks : List (ℕ × Mark))
+pub fronts_of : (run : List Step) (o : Outbound) (streams : OpenStreams) (calls : List (ℕ × List OutItem)) (marks : List (ℕ × Mark))
     → Serves run o streams calls marks → TellFronts run calls
 fronts_of run o streams calls marks s =
     All-from_get_or (λ (call : ℕ × List OutItem). is_served call.0 run ≡ true → (part : List Mark) × IsPart call.0 run part × IsFrontOf part (spelled call.1)) calls (0, [])
     (λ k within served. front-now (get_or calls k (0, [])).0 (get_or calls k (0, [])).1 run o marks s.spells
     (call-front run o streams calls marks s k (0, []) within served))
 
-pub returned_of : (run : List Step) (o : Outbound) (streams : List (ℕ × OpenStream)) (calls : List (ℕ × List OutItem)) (marks : List (ℕ × Mark))
+pub returned_of : (run : List Step) (o : Outbound) (streams : OpenStreams) (calls : List (ℕ × List OutItem)) (marks : List (ℕ × Mark))
     → Serves run o streams calls marks → TellReturned run
 returned_of run o streams calls marks s id items is served = front-now id items run o marks s.spells (s.returned id items is served).1.0
 
@@ -149,7 +149,7 @@ other-front id run (x ∷ told) rest (inr (fields, ends_it, is)) other =
     by (inr (inr (found, asked, e))) = absurd (not-end told fields (end_mark ends_it) cc)
 
 -- what was told of each stream that no Open opened
-pub others_of : (run : List Step) (o : Outbound) (streams : List (ℕ × OpenStream)) (calls : List (ℕ × List OutItem)) (marks : List (ℕ × Mark))
+pub others_of : (run : List Step) (o : Outbound) (streams : OpenStreams) (calls : List (ℕ × List OutItem)) (marks : List (ℕ × Mark))
     → Serves run o streams calls marks → TellOthers run
 others_of run o streams calls marks s id unopened =
     let spells = s.spells.1 in

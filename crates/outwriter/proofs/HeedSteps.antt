@@ -1,21 +1,21 @@
 -- The Resets and Refuses of a run are heeded after a Reset, a Refuse and an Open.
-use Rattle.std.proofs.Common.{◌≡◌, ◌⊎◌, ℕ, ◌==◌, inl, inr, refl, sym, ap, subst, ◌∙◌, Bool, true, false, List, [], ◌∷◌, ◌++◌, Option, Some, None, nat_eq, true≢false}
+use Rattle.std.proofs.Common.{◌≡◌, ◌⊎◌, ℕ, ◌==◌, inl, inr, refl, sym, ap, subst, ◌∙◌, Bool, true, false, List, [], ◌∷◌, ◌++◌, Option, Some, None, true≢false}
 use Rattle.std.specs.Prelude.{◌||◌, ◌&&◌, not, is_some, if◌then◌else◌}
 use Rattle.std.specs.List.{list_any}
-use Rattle.std.specs.Map.{lookup}
 use Rattle.std.proofs.lemmas.Bool.{eqb-true}
 use Rattle.std.proofs.lemmas.List.Folds.{list_any-append}
 use Rattle.account.specs.declared.call.OutItem.{OutItem}
 use Rattle.h2frame.specs.declared.error_code.ErrorCode.{ErrorCode}
 use Rattle.hpack_codec.proofs.HuffmanTable.{and_true}
 use Rattle.lists.specs.declared.field.Field.{Field}
+use Rattle.outwriter.specs.OpenStreams.{Closes, OpenStreams, stream_at}
 use Rattle.outwriter.specs.declared.control.Control.TheVariants as order
 use Rattle.outwriter.specs.declared.due.Due.TheVariants as due_kind
 use Rattle.outwriter.specs.declared.outbound.Outbound.{Outbound}
 use Rattle.outwriter.specs.declared.stream.OpenStream.{OpenStream}
 use Rattle.outwriter.specs.Calls.{is_called_off, is_dropped}
 use Rattle.outwriter.specs.CallState.{Heeds, HeedsEnds, IsEnding, Serves, Takes, has_reason, is_due_of, none_is_new}
-use Rattle.outwriter.specs.CoreChanges.{Closes, Prepares, becomes_open, due_reset, is_new_call, may_write, stream_at}
+use Rattle.outwriter.specs.CoreChanges.{Prepares, becomes_open, due_reset, is_new_call, may_write}
 use Rattle.outwriter.specs.States.{SameOver, is_heard, is_reset, knows, over_on}
 use Rattle.outwriter.specs.Histories.{is_stream}
 use Rattle.outwriter.specs.Parts.{Mark}
@@ -26,8 +26,8 @@ use Rattle.outwriter.proofs.EndsKept.{either-true, heeds-before, heeds-called, h
 use Rattle.outwriter.proofs.Others.{or-true, dropped-taken, known-opened, reason-taken}
 
 -- the same streams
-pub heeds-equal : (run : List Step) (o : Outbound) (streams left : List (ℕ × OpenStream)) → left ≡ streams → Heeds run o streams → Heeds run o left
-heeds-equal run o streams left a heeds = subst (λ (l : List (ℕ × OpenStream)). Heeds run o l) (sym a) heeds
+pub heeds-equal : (run : List Step) (o : Outbound) (streams left : OpenStreams) → left ≡ streams → Heeds run o streams → Heeds run o left
+heeds-equal run o streams left a heeds = subst (λ (l : OpenStreams). Heeds run o l) (sym a) heeds
 
 -- ---- a Reset
 
@@ -142,7 +142,7 @@ module _ (run : List Step) (id : ℕ) (code : ErrorCode) (written : Bool) (old n
       at true p = marked-here k there p ∙ sym (was-here k p)
       at false p = marked-else k p ∙ resets k there ∙ sym (was-else k p)
 
-  pub reset-heeds : (streams left : List (ℕ × OpenStream)) → Closes id streams left → Heeds run old streams → Heeds (Taken reset ∷ run) new left
+  pub reset-heeds : (streams left : OpenStreams) → Closes id streams left → Heeds run old streams → Heeds (Taken reset ∷ run) new left
   reset-heeds streams left closes heeds = (
     reset-ends heeds.0 heeds.1,
     reset-marks heeds.1,
@@ -150,9 +150,9 @@ module _ (run : List Step) (id : ℕ) (code : ErrorCode) (written : Bool) (old n
     λ k there e. heard-now k there e (k == id) refl,
   )
     where
-      unreset : (k : ℕ) → is_some (lookup (nat_eq k) left) ≡ true → (b : Bool) → (k == id) ≡ b → was_reset k (Taken reset ∷ run) ≡ false
-      unreset k is true p = absurd (true≢false (sym is ∙ ap is_some (closes k ∙ ap (λ b. if b then None else lookup (nat_eq k) streams) p)))
-      unreset k is false p = was-else k p ∙ heeds.2 k (sym (ap is_some (closes k ∙ ap (λ b. if b then None else lookup (nat_eq k) streams) p)) ∙ is)
+      unreset : (k : ℕ) → is_some (left k) ≡ true → (b : Bool) → (k == id) ≡ b → was_reset k (Taken reset ∷ run) ≡ false
+      unreset k is true p = absurd (true≢false (sym is ∙ ap is_some (closes k ∙ ap (λ b. if b then None else streams k) p)))
+      unreset k is false p = was-else k p ∙ heeds.2 k (sym (ap is_some (closes k ∙ ap (λ b. if b then None else streams k) p)) ∙ is)
 
       heard-now : (k : ℕ) → is_stream k ≡ true → was_reset k (Taken reset ∷ run) ≡ true → (b : Bool) → (k == id) ≡ b → is_heard new.states k ≡ true
       heard-now k there e true p =
@@ -161,7 +161,7 @@ module _ (run : List Step) (id : ℕ) (code : ErrorCode) (written : Bool) (old n
 
 -- ---- a Refuse
 
-module _ (run : List Step) (id : ℕ) (fields : List Field) (o : Outbound) (streams : List (ℕ × OpenStream)) (calls : List (ℕ × List OutItem))
+module _ (run : List Step) (id : ℕ) (fields : List Field) (o : Outbound) (streams : OpenStreams) (calls : List (ℕ × List OutItem))
     (marks : List (ℕ × Mark)) (s : Serves run o streams calls marks) where
   abbrev refuse : Order
   refuse = order.Refuse id fields
@@ -177,7 +177,7 @@ module _ (run : List Step) (id : ℕ) (fields : List Field) (o : Outbound) (stre
       unknown unopened true e = absurd (true≢false (sym unopened ∙ ap not (known-opened run o s.brought id e)))
       unknown unopened false e = refl
 
-      closed : knows o.states id ≡ false → (found : Option OpenStream) → lookup (nat_eq id) streams ≡ found → found ≡ None
+      closed : knows o.states id ≡ false → (found : Option OpenStream) → streams id ≡ found → found ≡ None
       closed isnt None e = refl
       closed isnt (Some stream) e = absurd (true≢false (sym (s.known id stream e) ∙ isnt))
 
@@ -195,7 +195,7 @@ module _ (run : List Step) (id : ℕ) (fields : List Field) (o : Outbound) (stre
           let unopened : not (is_opened id run) ≡ true = ap (λ n. not (is_opened n run)) same ∙ unopened_k in
           let number : is_stream id ≡ true = ap is_stream same ∙ there in
           subst (λ n. IsEnding n o ⊎ (is_dropped n (Taken refuse ∷ run) ≡ true)) same
-          (ended (s.reasons id number (closed (unknown unopened (knows o.states id) refl) (lookup (nat_eq id) streams) refl) (heard number)) number)
+          (ended (s.reasons id number (closed (unknown unopened (knows o.states id) refl) (streams id) refl) (heard number)) number)
 
   -- of another, whose end is due now
   pub refuse-heeds : (new : Outbound) → is_heard o.states id ≡ false → Takes (due_kind.Refuse id fields ∷ []) none_is_new [] o new → Heeds run o streams → Heeds (Taken refuse ∷ run) new streams
@@ -219,7 +219,7 @@ module _ (run : List Step) (id : ℕ) (fields : List Field) (o : Outbound) (stre
 
 -- ---- an Open
 
-pub open-heeds : (run : List Step) (id place : ℕ) (o new : Outbound) (streams left : List (ℕ × OpenStream)) → Prepares id place o new streams left
+pub open-heeds : (run : List Step) (id place : ℕ) (o new : Outbound) (streams left : OpenStreams) → Prepares id place o new streams left
     → Heeds run o streams → Heeds (Taken (order.Open id tt) ∷ run) new left
 open-heeds run id place o new streams left p heeds =
     heeds-taken run opening o new streams left (λ k. refl)
@@ -238,9 +238,9 @@ open-heeds run id place o new streams left p heeds =
     was-not true e = absurd (true≢false (sym e))
     was-not false e = refl
 
-    unreset : (k : ℕ) → is_some (lookup (nat_eq k) left) ≡ true → (b : Bool) → (becomes_open o id && (k == id)) ≡ b → was_reset k run ≡ false
+    unreset : (k : ℕ) → is_some (left k) ≡ true → (b : Bool) → (becomes_open o id && (k == id)) ≡ b → was_reset k run ≡ false
     unreset k is true q =
         let a = and_true (becomes_open o id) (k == id) q in
         let opens = and_true (is_stream id) (not (is_heard o.states id)) a.0 in
         ap (λ n. was_reset n run) (eqb-true k id a.1) ∙ fresh opens.0 (was-not (is_heard o.states id) opens.1) (was_reset id run) refl
-    unreset k is false q = heeds.2 k (sym (ap is_some (p.opens k ∙ ap (λ b. if b then Some (stream_at place) else lookup (nat_eq k) streams) q)) ∙ is)
+    unreset k is false q = heeds.2 k (sym (ap is_some (p.opens k ∙ ap (λ b. if b then Some (stream_at place) else streams k) q)) ∙ is)

@@ -1,8 +1,8 @@
 -- When nothing can be written on any open stream.
 use Rattle.std.proofs.Common.{◌≡◌, ◌⊎◌, inl, inr, Result, Ok, Err, ℕ, zero, suc, ◌+◌, ◌<◌, ◌≤◌, refl, sym, ap, subst, ◌∙◌, Bool, true, false, List, [], ◌∷◌, Option, Some, None, length, get_or, arith, nat_eq, true≢false}
-use Rattle.std.specs.Prelude.{All, is_some, IfNone, IfOk, if◌then◌else◌, slice_get}
-use Rattle.std.specs.Map.{lookup}
+use Rattle.std.specs.Prelude.{All, is_some, map, IfNone, IfOk, nat_lt}
 use Rattle.std.proofs.lemmas.Bool.{eqb-true, eq-eqb}
+use Rattle.std.proofs.lemmas.Bool.Decides.{nat_tests}
 use Rattle.std.proofs.lemmas.List.{get_or-map, length-map}
 use Rattle.account.specs.declared.call.OutItem.{OutItem}
 use Rattle.callbox.specs.declared.sender.Sender.{Sender}
@@ -15,102 +15,115 @@ use Rattle.outwriter.specs.Calls.{is_served}
 use Rattle.outwriter.specs.Runs.{was_reset}
 use Rattle.outwriter.specs.Histories.{is_stream}
 use Rattle.outwriter.specs.Parts.{Mark}
-use Rattle.outwriter.specs.States.{over_on}
+use Rattle.outwriter.specs.States.{over_on, open_at}
 use Rattle.outwriter.specs.CallState.{Serves}
 use Rattle.outwriter.specs.RunState.{HasOver, IsBetween, Progress, SameOwn, Stays}
-use Rattle.outwriter.specs.StreamLooks.{AllStuck, GetsQuiet, GetsStuck, Holds, HoldsOn, KeepsFronts, StuckAt, aheads, ids}
+use Rattle.outwriter.specs.StreamLooks.{AllStuck, GetsQuiet, GetsStuck, Holds, HoldsOn, KeepsFronts, StuckAt, aheads}
 use Rattle.outwriter.specs.Steps.{Step}
+use Rattle.outwriter.proofs.ServeStepsCore.{own-then}
 
--- an open stream stands somewhere among the map's keys
-found-at : (streams : List (ℕ × OpenStream)) (id : ℕ) (stream : OpenStream) → lookup (nat_eq id) streams ≡ Some stream
-    → (k : ℕ) × (k < length (ids streams)) × (get_or (ids streams) k 0 ≡ id)
-found-at [] id stream found = absurd (none-is found)
-  where
-    none-is : None ≡ Some stream → ⊥
-    none-is e = cc
-found-at (e ∷ es) id stream found = by (found-at es id stream) (nat_eq id e.0) refl
-  where
-    more : (k : ℕ) × (k < length (ids es)) × (get_or (ids es) k 0 ≡ id) → (k : ℕ) × (k < length (ids (e ∷ es))) × (get_or (ids (e ∷ es)) k 0 ≡ id)
-    more (k, within, is) = (suc k, omega (arith, within), is)
+pub lt-from : (a b : ℕ) → true ≡ nat_lt a b → a < b
+lt-from a b e = grind (arith, nat_tests)
 
-    by : (lookup (nat_eq id) es ≡ Some stream → (k : ℕ) × (k < length (ids es)) × (get_or (ids es) k 0 ≡ id)) → (b : Bool) → nat_eq id e.0 ≡ b
-        → (k : ℕ) × (k < length (ids (e ∷ es))) × (get_or (ids (e ∷ es)) k 0 ≡ id)
-    by rest true p = (0, omega arith, sym (eqb-true id e.0 p))
-    by rest false p = more (rest (sym (ap (λ b. if b then Some e.1 else lookup (nat_eq id) es) p) ∙ found))
+-- the streams of the senders, in their order
+module _ {L In Out Shut : Type 0} where
+  abbrev pub numbers : List (ℕ × Sender L In Out Shut) → List ℕ
+  numbers senders = map (λ call. call.0) senders
+
+  -- they are the same, where the senders are ends of the same lanes
+  lanes-numbers : {Name : Type 0} (name : Out → Name) (senders : List (ℕ × Sender L In Out Shut)) → map (λ lane. lane.0) (lanes name senders) ≡ numbers senders
+  lanes-numbers name [] = refl
+  lanes-numbers name (call ∷ senders) = ap (λ (rest : List ℕ). call.0 ∷ rest) (lanes-numbers name senders)
+
+  pub same-numbers : {Name : Type 0} (name : Out → Name) (old new : List (ℕ × Sender L In Out Shut)) → lanes name new ≡ lanes name old → numbers new ≡ numbers old
+  same-numbers {Name} name old new e = sym (lanes-numbers name new) ∙ ap (λ (all : List (ℕ × ℕ × Name)). map (λ lane. lane.0) all) e ∙ lanes-numbers name old
+
+  -- the number at a place
+  pub number-at : (senders : List (ℕ × Sender L In Out Shut)) (n : ℕ) (e : ℕ × Sender L In Out Shut) → n < length senders → e ≡ get_or senders n e → get_or (numbers senders) n 0 ≡ e.0
+  number-at senders n e within is = get_or-map (λ (call : ℕ × Sender L In Out Shut). call.0) senders n e 0 within ∙ ap (λ (call : ℕ × Sender L In Out Shut). call.0) (sym is)
+
+  pub number-of : (got : Out → List OutItem) (senders : List (ℕ × Sender L In Out Shut)) (n : ℕ) (d : ℕ × List OutItem) → n < length (calls got senders)
+      → get_or (numbers senders) n 0 ≡ (get_or (calls got senders) n d).0
+  number-of got [] n d within = absurd (omega (arith, within))
+  number-of got (call ∷ senders) zero d within = refl
+  number-of got (call ∷ senders) (suc n) d within = number-of got senders n d (omega (arith, within))
 
 module _ {L In Out Shut : Type 0} (got ahead : Out → List OutItem) where
-  -- nothing can be written on the streams at the first places
+  -- nothing can be written on the streams of the first senders
   abbrev pub StuckBelow : ℕ → OutCore L In Out Shut → OutCore L In Out Shut → Type 0
-  StuckBelow n old new = (ids new.streams.entries ≡ ids old.streams.entries)
-      × ((run : List Step) → Holds got run old → Holds got run new × ((k : ℕ) → k < n → StuckAt ahead (get_or (ids old.streams.entries) k 0) new))
+  StuckBelow n old new = (numbers new.senders.items ≡ numbers old.senders.items)
+      × ((run : List Step) → Holds got run old → Holds got run new × ((k : ℕ) → k < n → StuckAt ahead (get_or (numbers old.senders.items) k 0) new))
 
   pub stuck-below-none : (core : OutCore L In Out Shut) → StuckBelow 0 core core
   stuck-below-none core = (refl, λ run h. (h, λ k within. absurd (omega (arith, within))))
 
   -- with one more
-  pub stuck-below-more : (n : ℕ) (old mid new : OutCore L In Out Shut) (id : ℕ) → StuckBelow n old mid → get_or (ids mid.streams.entries) n 0 ≡ id
-      → HoldsOn got None mid new → ids new.streams.entries ≡ ids mid.streams.entries → GetsStuck got ahead id mid new → StuckBelow (n + 1) old new
-  stuck-below-more n old mid new id below at keeps same gets = (same ∙ below.0, λ run h. (keeps run (below.1 run h).0, λ k within. by run h k within (nat_eq (get_or (ids old.streams.entries) k 0) id) refl))
+  pub stuck-below-more : (n : ℕ) (old mid new : OutCore L In Out Shut) (id : ℕ) → StuckBelow n old mid → get_or (numbers mid.senders.items) n 0 ≡ id
+      → HoldsOn got None mid new → numbers new.senders.items ≡ numbers mid.senders.items → GetsStuck got ahead id mid new → StuckBelow (n + 1) old new
+  stuck-below-more n old mid new id below at keeps same gets =
+      (same ∙ below.0, λ run h. (keeps run (below.1 run h).0, λ k within. by run h k within (nat_eq (get_or (numbers old.senders.items) k 0) id) refl))
     where
-      here : get_or (ids old.streams.entries) n 0 ≡ id
+      here : get_or (numbers old.senders.items) n 0 ≡ id
       here = ap (λ (l : List ℕ). get_or l n 0) (sym below.0) ∙ at
 
-      by : (run : List Step) → Holds got run old → (k : ℕ) → k < n + 1 → (b : Bool) → nat_eq (get_or (ids old.streams.entries) k 0) id ≡ b → StuckAt ahead (get_or (ids old.streams.entries) k 0) new
+      by : (run : List Step) → Holds got run old → (k : ℕ) → k < n + 1 → (b : Bool) → nat_eq (get_or (numbers old.senders.items) k 0) id ≡ b
+          → StuckAt ahead (get_or (numbers old.senders.items) k 0) new
       by run h k within true e =
-          subst (λ (i : ℕ). StuckAt ahead i new) (sym (eqb-true (get_or (ids old.streams.entries) k 0) id e)) (gets run (below.1 run h).0).0
+          subst (λ (i : ℕ). StuckAt ahead i new) (sym (eqb-true (get_or (numbers old.senders.items) k 0) id e)) (gets run (below.1 run h).0).0
       by run h k within false e =
-          let apart : get_or (ids old.streams.entries) k 0 ≡ id → ⊥ = λ same. true≢false (sym (eq-eqb (get_or (ids old.streams.entries) k 0) id same) ∙ e) in
-          let other : k ≡ n → ⊥ = λ same. apart (ap (λ j. get_or (ids old.streams.entries) j 0) same ∙ here) in
+          let apart : get_or (numbers old.senders.items) k 0 ≡ id → ⊥ = λ same. true≢false (sym (eq-eqb (get_or (numbers old.senders.items) k 0) id same) ∙ e) in
+          let other : k ≡ n → ⊥ = λ same. apart (ap (λ j. get_or (numbers old.senders.items) j 0) same ∙ here) in
           let less : k < n = omega (arith, within, other) in
-          (gets run (below.1 run h).0).1 (get_or (ids old.streams.entries) k 0) apart ((below.1 run h).1 k less)
+          (gets run (below.1 run h).0).1 (get_or (numbers old.senders.items) k 0) apart ((below.1 run h).1 k less)
 
-  -- with all of them
-  pub all-stuck : (n : ℕ) (old new : OutCore L In Out Shut) → StuckBelow n old new → length (ids old.streams.entries) ≤ n → (run : List Step) → Holds got run old
-      → AreStuck new.outbound new.streams.entries (aheads ahead new.senders.items)
+  -- with all of them: each open stream has its sender
+  pub all-stuck : (n : ℕ) (old new : OutCore L In Out Shut) → StuckBelow n old new → length old.senders.items ≤ n → (run : List Step) → Holds got run old
+      → AreStuck new.outbound (open_at new.outbound.states) (aheads ahead new.senders.items)
   all-stuck n old new below all run h id stream found =
-      let there = found-at new.streams.entries id stream found in
-      let within : there.0 < n = omega (arith, there.1, all, ap length below.0) in
-      let is : get_or (ids old.streams.entries) there.0 0 ≡ id = ap (λ (l : List ℕ). get_or l there.0 0) (sym below.0) ∙ there.2 in
-      subst (λ (i : ℕ). StuckAt ahead i new) is ((below.1 run h).1 there.0 within) stream found
-
--- the key at a place
-pub key-at : (streams : List (ℕ × OpenStream)) (n : ℕ) (e : ℕ × OpenStream) → Some e ≡ slice_get streams n → get_or (ids streams) n 0 ≡ e.0
-key-at [] n e is = absurd (none-is is)
-  where
-    none-is : Some e ≡ None → ⊥
-    none-is f = cc
-key-at (x ∷ xs) zero e is = sym (first is)
-  where
-    first : Some e ≡ Some x → e.0 ≡ x.0
-    first f = cc
-key-at (x ∷ xs) (suc n) e is = key-at xs n e is
+      let call_of : ℕ × Sender L In Out Shut → ℕ × List OutItem = λ call. (call.0, got call.1.rx) in
+      let after = below.1 run h in
+      let there = after.0.1.exact id stream found in
+      let long : length (numbers new.senders.items) ≡ length (numbers old.senders.items) = ap length below.0 in
+      let within : stream.place < n =
+      omega (
+        arith,
+        there.0,
+        all,
+        long,
+        length-map new.senders.items call_of,
+        length-map new.senders.items (λ (call : ℕ × Sender L In Out Shut). call.0),
+        length-map old.senders.items (λ (call : ℕ × Sender L In Out Shut). call.0),
+      ) in
+      let is : get_or (numbers old.senders.items) stream.place 0 ≡ id =
+      ap (λ (l : List ℕ). get_or l stream.place 0) (sym below.0) ∙ number-of got new.senders.items stream.place (0, []) there.0 ∙ (there.1 (0, [])).0 in
+      subst (λ (i : ℕ). StuckAt ahead i new) is (after.1 stream.place within) stream found
 
 module _ {L In Out Shut Name : Type 0} (got ahead : Out → List OutItem) (name : Out → Name) where
-  -- what holds of the loop over all streams
+  -- what holds of the loop over all senders
   abbrev pub Looked : ℕ → OutCore L In Out Shut → OutCore L In Out Shut → Type 0
   Looked n old now = IsBetween now.outbound × SameOwn old.outbound now.outbound × Stays old.outbound now.outbound × (now.closed ≡ old.closed)
       × HoldsOn got None old now × KeepsFronts got old now × (now.is_dead ≡ old.is_dead)
       × (lanes name now.senders.items ≡ lanes name old.senders.items) × StuckBelow got ahead n old now
 
   -- after a stream that has no frame
-  pub looked-more : (n : ℕ) (old mid new : OutCore L In Out Shut) (id : ℕ) (o : Option Frame) → o ≡ None → Looked n old mid → get_or (ids mid.streams.entries) n 0 ≡ id
+  pub looked-more : (n : ℕ) (old mid new : OutCore L In Out Shut) (id : ℕ) (o : Option Frame) → o ≡ None → Looked n old mid → get_or (numbers mid.senders.items) n 0 ≡ id
       → Progress o mid.outbound new.outbound → IfNone o (SameOwn mid.outbound new.outbound) → new.closed ≡ mid.closed → HoldsOn got o mid new
-      → KeepsFronts got mid new → new.is_dead ≡ mid.is_dead → lanes name new.senders.items ≡ lanes name mid.senders.items → IfNone o (ids new.streams.entries ≡ ids mid.streams.entries)
+      → KeepsFronts got mid new → new.is_dead ≡ mid.is_dead → lanes name new.senders.items ≡ lanes name mid.senders.items
       → IfNone o (GetsStuck got ahead id mid new) → Looked (n + 1) old new
-  looked-more n old mid new id (Some frame) e l at progress own closed served fronts dead senders same gets = absurd (some-is e)
+  looked-more n old mid new id (Some frame) e l at progress own closed served fronts dead senders gets = absurd (some-is e)
     where
       some-is : Some frame ≡ None → ⊥
       some-is f = cc
-  looked-more n old mid new id None e l at progress own closed served fronts dead senders same gets = (
+  looked-more n old mid new id None e l at progress own closed served fronts dead senders gets = (
     progress.1,
-    (own.0 ∙ l.1.0, own.1 ∙ l.1.1, own.2 ∙ l.1.2),
+    own-then old.outbound mid.outbound new.outbound l.1 own,
     λ run m. progress.0 run (l.2 run m),
     closed ∙ l.3,
     λ run h. served run (l.4 run h),
     λ run f. fronts run (l.5 run f),
     dead ∙ l.6,
     senders ∙ l.7,
-    stuck-below-more got ahead n old mid new id l.8 at served same gets,
+    stuck-below-more got ahead n old mid new id l.8 at served (same-numbers name mid.senders.items new.senders.items senders) gets,
   )
 
 -- what is stuck behind a step that writes nothing
@@ -134,11 +147,11 @@ holds-none got old new o e = subst (λ (x : Option Frame). HoldsOn got x old new
 -- ---- each call
 
 module _ {L In Out Shut : Type 0} (got ahead : Out → List OutItem) (run : List Step) (core : OutCore L In Out Shut) (marks : List (ℕ × Mark))
-    (s : Serves run core.outbound core.streams.entries (calls got core.senders.items) marks) (over : HasOver run core.outbound.states)
-    (stuck : AreStuck core.outbound core.streams.entries (aheads ahead core.senders.items)) where
+    (s : Serves run core.outbound (open_at core.outbound.states) (calls got core.senders.items) marks) (over : HasOver run core.outbound.states)
+    (stuck : AreStuck core.outbound (open_at core.outbound.states) (aheads ahead core.senders.items)) where
   -- the call of an open stream stands at the stream's place
   place-of : (k : ℕ) (d : ℕ × List OutItem) (stream : OpenStream) → k < length (calls got core.senders.items)
-      → lookup (nat_eq (get_or (calls got core.senders.items) k d).0) core.streams.entries ≡ Some stream
+      → (open_at core.outbound.states) (get_or (calls got core.senders.items) k d).0 ≡ Some stream
       → is_served (get_or (calls got core.senders.items) k d).0 run ≡ true → stream.place ≡ k
   place-of k d stream within found served = by (nat_eq stream.place k) refl
     where
@@ -151,7 +164,7 @@ module _ {L In Out Shut : Type 0} (got ahead : Out → List OutItem) (run : List
           absurd (true≢false (sym (ap (λ n. is_served n run) (there.1 d).0 ∙ served) ∙ not))
 
   no-frame-at : (k : ℕ) (d : ℕ × Sender L In Out Shut) → k < length core.senders.items → (id : ℕ) → (get_or core.senders.items k d).0 ≡ id
-      → is_served id run ≡ true → is_stream id ≡ true → (found : Option OpenStream) → lookup (nat_eq id) core.streams.entries ≡ found
+      → is_served id run ≡ true → is_stream id ≡ true → (found : Option OpenStream) → (open_at core.outbound.states) id ≡ found
       → HasNoFrame run core id (ahead (get_or core.senders.items k d).1.rx)
   no-frame-at k d within id is served there None e = by (s.stays id served there e)
     where
@@ -165,14 +178,14 @@ module _ {L In Out Shut : Type 0} (got ahead : Out → List OutItem) (run : List
       let number : (get_or (calls got core.senders.items) k (0, [])).0 ≡ id = ap (λ (c : ℕ × List OutItem). c.0) at ∙ is in
       let place : stream.place ≡ k =
       place-of k (0, []) stream (omega (arith, within, length-map core.senders.items call))
-      (ap (λ n. lookup (nat_eq n) core.streams.entries) number ∙ e) (ap (λ n. is_served n run) number ∙ served) in
+      (ap (λ n. (open_at core.outbound.states) n) number ∙ e) (ap (λ n. is_served n run) number ∙ served) in
       let hand : get_or (aheads ahead core.senders.items) stream.place [] ≡ ahead (get_or core.senders.items k d).1.rx =
       ap (λ n. get_or (aheads ahead core.senders.items) n []) place ∙ get_or-map (λ (c : ℕ × Sender L In Out Shut). ahead c.1.rx) core.senders.items k d [] within in
       Stuck stream e (subst (IsStuck (room core.outbound.windows id) stream.in_hand) hand (stuck id stream e))
 
   pub all-no-frame : All (λ call. is_served call.0 run ≡ true → is_stream call.0 ≡ true → HasNoFrame run core call.0 (ahead call.1.rx)) core.senders.items
   all-no-frame k d within served there =
-      no-frame-at k d within (get_or core.senders.items k d).0 refl served there (lookup (nat_eq (get_or core.senders.items k d).0) core.streams.entries) refl
+      no-frame-at k d within (get_or core.senders.items k d).0 refl served there ((open_at core.outbound.states) (get_or core.senders.items k d).0) refl
 
 pub no-frame-if : {L In Out Shut : Type 0} (got ahead : Out → List OutItem) (run : List Step) (core : OutCore L In Out Shut) → Holds got run core
     → HasOver run core.outbound.states → IsQuiet ahead core → HaveNoFrame ahead run core

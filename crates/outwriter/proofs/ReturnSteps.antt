@@ -1,8 +1,7 @@
 -- What a writer keeps of its calls, after a sender was given back.
-use Rattle.std.proofs.Common.{◌≡◌, ◌⊎◌, ℕ, ◌+◌, ◌-◌, ◌<◌, ◌==◌, inl, inr, refl, sym, ap, subst, ◌∙◌, Bool, true, false, List, [], ◌∷◌, ◌++◌, Option, Some, None, length, get_or, arith, nat_eq, true≢false}
+use Rattle.std.proofs.Common.{◌≡◌, ◌⊎◌, ℕ, ◌+◌, ◌-◌, ◌<◌, ◌==◌, inl, inr, refl, sym, ap, subst, ◌∙◌, Bool, true, false, List, [], ◌∷◌, ◌++◌, Option, Some, None, length, get_or, arith, true≢false}
 use Rattle.std.specs.Prelude.{◌≢◌, is_some, min, set, if◌then◌else◌}
 use Rattle.std.specs.List.{swap_remove}
-use Rattle.std.specs.Map.{lookup}
 use Rattle.std.proofs.lemmas.Bool.{eqb-true, eq-eqb}
 use Rattle.std.proofs.lemmas.List.{get_or-map, length-map, length-take, length-set, get_or-take, get_or-set_same, get_or-set_other}
 use Rattle.std.proofs.lemmas.List.Sums.{sum_by-cons}
@@ -16,17 +15,18 @@ use Rattle.outwriter.specs.Histories.{is_over}
 use Rattle.outwriter.specs.Cores.{Serving, ServesOn, calls}
 use Rattle.outwriter.specs.Parts.{Mark, marks_on, spelled, IsPart, IsFrontOf}
 use Rattle.outwriter.specs.CallState.{IsEnded, IsExact, Serves, bytes_marks}
-use Rattle.outwriter.specs.Releases.{PlaceIs, with_place, IsAt, MovedTo, Releases, HasEnded}
+use Rattle.outwriter.specs.OpenStreams.{OpenStreams, PlaceIs, Shown, shown, shows, with_place}
+use Rattle.outwriter.specs.Releases.{IsAt, MovedTo, Releases, HasEnded}
 use Rattle.outwriter.specs.Runs.{granted_by, was_reset}
-use Rattle.outwriter.specs.RunState.{MirrorsOf, GoesOn}
-use Rattle.outwriter.specs.States.{over_on}
+use Rattle.outwriter.specs.RunState.{MirrorsOf, GoesOn, SameButOpen}
+use Rattle.outwriter.specs.States.{over_on, open_at}
 use Rattle.outwriter.specs.Steps.{Step, Returned}
-use Rattle.outwriter.specs.StreamLooks.{Shown, shown, shows}
 use Rattle.outwriter.specs.ToldByNow.{SpellsOf}
 use Rattle.outwriter.proofs.CallSteps.{all-due}
-use Rattle.outwriter.proofs.EndsKept.{heeds-kept}
-use Rattle.outwriter.proofs.RunStateSteps.{same-block}
+use Rattle.outwriter.proofs.EndsKept.{heeds-but-open, heeds-kept}
+use Rattle.outwriter.proofs.RunStateSteps.{mirrors-but-open, same-block}
 use Rattle.outwriter.proofs.ServeSteps.{none-some, some-none, none-shown, from_some}
+use Rattle.outwriter.proofs.ServeStepsOwn.{serves-but-open}
 use Rattle.outwriter.proofs.TellSteps.{spells-same}
 
 -- ---- the run
@@ -44,9 +44,8 @@ mirrors-returned run o id items m = record {
   stand = record { over = m.stand.over; silent = m.stand.silent; resets = m.stand.resets; owes = m.stand.owes; no_stream_0 = m.stand.no_stream_0 };
 }
 
-pub goes-returned : (o new : Outbound) (id : ℕ) (items : List OutItem) → new ≡ o → GoesOn (Returned id items) o new
-goes-returned o new id items same run reached =
-    subst (λ (x : Outbound). GoesOn (Returned id items) o x) (sym same) (λ before r. (mirrors-returned before o id items r.0, r.1)) run reached
+pub goes-returned : (o new : Outbound) (id : ℕ) (items : List OutItem) → SameButOpen o new → GoesOn (Returned id items) o new
+goes-returned o new id items same run reached = (mirrors-but-open (Returned id items ∷ run) o new same (mirrors-returned run o id items reached.0), reached.1)
 
 -- nothing more is told
 spells-returned : (run : List Step) (o : Outbound) (marks : List (ℕ × Mark)) (id : ℕ) (items : List OutItem) → SpellsOf run o marks → SpellsOf (Returned id items ∷ run) o marks
@@ -115,26 +114,26 @@ abbrev pub Stands : ℕ → ℕ → ℕ → ℕ → ℕ → ℕ → Type 0
 Stands place last moved id stands stood = ((stands ≡ place) × (stood ≡ last)) ⊎ ((stands ≡ stood) × (stood ≡ last → place < last → id ≢ moved))
 
 -- an open stream was open, and what was in hand is so still
-pub record Follows (place last moved : ℕ) (streams left : List (ℕ × OpenStream)) : Type 0 where
-  pub was : (k : ℕ) (stream : OpenStream) → lookup (nat_eq k) left ≡ Some stream → (old : OpenStream) × (lookup (nat_eq k) streams ≡ Some old) × (old.in_hand ≡ stream.in_hand)
+pub record Follows (place last moved : ℕ) (streams left : OpenStreams) : Type 0 where
+  pub was : (k : ℕ) (stream : OpenStream) → left k ≡ Some stream → (old : OpenStream) × (streams k ≡ Some old) × (old.in_hand ≡ stream.in_hand)
       × Stands place last moved k stream.place old.place
-  pub closed : (k : ℕ) → lookup (nat_eq k) streams ≡ None → lookup (nat_eq k) left ≡ None
-  pub still : (k : ℕ) → lookup (nat_eq k) left ≡ None → lookup (nat_eq k) streams ≡ None
+  pub closed : (k : ℕ) → streams k ≡ None → left k ≡ None
+  pub still : (k : ℕ) → left k ≡ None → streams k ≡ None
 
 -- where no sender moves
-pub follows-same : (place last moved : ℕ) (streams left : List (ℕ × OpenStream)) → left ≡ streams → (place < last → ⊥) → Follows place last moved streams left
+pub follows-same : (place last moved : ℕ) (streams left : OpenStreams) → left ≡ streams → (place < last → ⊥) → Follows place last moved streams left
 follows-same place last moved streams left e out = record {
-  was = λ k stream found. (stream, ap (λ (l : List (ℕ × OpenStream)). lookup (nat_eq k) l) (sym e) ∙ found, refl, inr (refl, λ at lt. absurd (out lt)));
-  closed = λ k none. ap (λ (l : List (ℕ × OpenStream)). lookup (nat_eq k) l) e ∙ none;
-  still = λ k none. ap (λ (l : List (ℕ × OpenStream)). lookup (nat_eq k) l) (sym e) ∙ none;
+  was = λ k stream found. (stream, ap (λ (l : OpenStreams). l k) (sym e) ∙ found, refl, inr (refl, λ at lt. absurd (out lt)));
+  closed = λ k none. ap (λ (l : OpenStreams). l k) e ∙ none;
+  still = λ k none. ap (λ (l : OpenStreams). l k) (sym e) ∙ none;
 }
 
 -- where the last one does
-pub follows-moved : (place last moved : ℕ) (streams left : List (ℕ × OpenStream)) → PlaceIs moved last place streams left → Follows place last moved streams left
+pub follows-moved : (place last moved : ℕ) (streams left : OpenStreams) → PlaceIs moved last place streams left → Follows place last moved streams left
 follows-moved place last moved streams left is = record {
-  was = λ k stream found. was k stream found (lookup (nat_eq k) streams) refl (k == moved) refl;
-  closed = λ k none. none-shown (lookup (nat_eq k) left) (is k ∙ closed-by (k == moved) (shows streams k) (ap shown none));
-  still = λ k none. none-shown (lookup (nat_eq k) streams) (still-by (k == moved) (shows streams k) (sym (is k) ∙ ap shown none));
+  was = λ k stream found. was k stream found (streams k) refl (k == moved) refl;
+  closed = λ k none. none-shown (left k) (is k ∙ closed-by (k == moved) (shows streams k) (ap shown none));
+  still = λ k none. none-shown (streams k) (still-by (k == moved) (shows streams k) (sym (is k) ∙ ap shown none));
 }
   where
     closed-by : (b : Bool) (v : Shown) → v ≡ None → (if b then with_place last place v else v) ≡ None
@@ -147,12 +146,12 @@ follows-moved place last moved streams left is = record {
     still-by false v e = e
 
     Was : ℕ → OpenStream → Type 0
-    Was k stream = (old : OpenStream) × (lookup (nat_eq k) streams ≡ Some old) × (old.in_hand ≡ stream.in_hand) × Stands place last moved k stream.place old.place
+    Was k stream = (old : OpenStream) × (streams k ≡ Some old) × (old.in_hand ≡ stream.in_hand) × Stands place last moved k stream.place old.place
 
     first : (a b : ℕ × Option (List ℕ)) → Some a ≡ Some b → (a.0 ≡ b.0) × (a.1 ≡ b.1)
     first a b e = (ap (λ (x : Shown). (from_some a x).0) e, ap (λ (x : Shown). (from_some a x).1) e)
 
-    was : (k : ℕ) (stream : OpenStream) → lookup (nat_eq k) left ≡ Some stream → (found : Option OpenStream) → lookup (nat_eq k) streams ≡ found
+    was : (k : ℕ) (stream : OpenStream) → left k ≡ Some stream → (found : Option OpenStream) → streams k ≡ found
         → (b : Bool) → (k == moved) ≡ b → Was k stream
     was k stream e None f b p =
         absurd (none-some (stream.place, stream.in_hand) (sym (closed-by (k == moved) (shows streams k) (ap shown f)) ∙ sym (is k) ∙ ap shown e))
@@ -173,23 +172,23 @@ follows-moved place last moved streams left is = record {
 
 -- ---- all of it
 
-module _ (run : List Step) (o : Outbound) (streams left : List (ℕ × OpenStream)) (all now : List (ℕ × List OutItem)) (marks : List (ℕ × Mark))
+module _ (run : List Step) (o : Outbound) (streams left : OpenStreams) (all now : List (ℕ × List OutItem)) (marks : List (ℕ × Mark))
     (place moved id : ℕ) (items : List OutItem) (t : TakesOut place all now) (moved_is : place < length now → (get_or now place (0, [])).0 ≡ moved) (f : Follows place (length now) moved streams left)
-    (is : (d : ℕ × List OutItem) → get_or all place d ≡ (id, items)) (none : lookup (nat_eq id) streams ≡ None) (s : Serves run o streams all marks) where
+    (is : (d : ℕ × List OutItem) → get_or all place d ≡ (id, items)) (none : streams id ≡ None) (s : Serves run o streams all marks) where
   abbrev from : ℕ → ℕ
   from k = came-from place (length now) k
 
-  exact : (k : ℕ) (stream : OpenStream) → lookup (nat_eq k) left ≡ Some stream → IsExact k stream now (marks_on k marks)
+  exact : (k : ℕ) (stream : OpenStream) → left k ≡ Some stream → IsExact k stream now (marks_on k marks)
   exact k stream e = let w = f.was k stream e in by w.0 w.1 w.2 (s.exact k w.0 w.1) w.3
     where
-      by : (old : OpenStream) → lookup (nat_eq k) streams ≡ Some old → old.in_hand ≡ stream.in_hand → IsExact k old all (marks_on k marks)
+      by : (old : OpenStream) → streams k ≡ Some old → old.in_hand ≡ stream.in_hand → IsExact k old all (marks_on k marks)
           → Stands place (length now) moved k stream.place old.place → IsExact k stream now (marks_on k marks)
       by old found hand x stands = cases stands
         where
           apart-from : old.place ≡ place → ⊥
           apart-from e =
               let same : k ≡ id = sym (x.1 (0, [])).0 ∙ ap (λ n. (get_or all n (0, [])).0) e ∙ ap (λ (c : ℕ × List OutItem). c.0) (is (0, [])) in
-              none-some old (sym (subst (λ n. lookup (nat_eq n) streams ≡ None) (sym same) none) ∙ found)
+              none-some old (sym (subst (λ n. streams n ≡ None) (sym same) none) ∙ found)
 
           stood : stream.place < length now → ((d : ℕ × List OutItem) → get_or now stream.place d ≡ get_or all old.place d) → IsExact k stream now (marks_on k marks)
           stood lt same = (
@@ -223,7 +222,7 @@ module _ (run : List Step) (o : Outbound) (streams left : List (ℕ × OpenStrea
   of-call P each k d lt = let c = source place all now t k d lt in subst P (sym c.1) (each (from k) d c.0)
 
   abbrev Ended : ℕ × List OutItem → Type 0
-  Ended c = lookup (nat_eq c.0) left ≡ None → is_served c.0 run ≡ true → IsEnded (over_on o.states c.0) (marks_on c.0 marks) c.1
+  Ended c = left c.0 ≡ None → is_served c.0 run ≡ true → IsEnded (over_on o.states c.0) (marks_on c.0 marks) c.1
 
   apart : (i j : ℕ) (d : ℕ × List OutItem) → i < length now → j < length now → i ≢ j → (get_or now i d).0 ≡ (get_or now j d).0 → is_served (get_or now i d).0 run ≡ false
   apart i j d first second differ same =
@@ -235,14 +234,14 @@ module _ (run : List Step) (o : Outbound) (streams left : List (ℕ × OpenStrea
 
   taken-ended : is_served id run ≡ true → IsEnded (over_on o.states id) (marks_on id marks) items
   taken-ended served =
-      let P : ℕ × List OutItem → Type 0 = λ c. lookup (nat_eq c.0) streams ≡ None → is_served c.0 run ≡ true → IsEnded (over_on o.states c.0) (marks_on c.0 marks) c.1 in
+      let P : ℕ × List OutItem → Type 0 = λ c. streams c.0 ≡ None → is_served c.0 run ≡ true → IsEnded (over_on o.states c.0) (marks_on c.0 marks) c.1 in
       subst P (is (0, [])) (s.ended place (0, []) t.within) none served
 
   returned : (k : ℕ) (got : List OutItem) → IsReturned k got (Returned id items ∷ run) → is_served k run ≡ true
-      → (lookup (nat_eq k) left ≡ None) × IsEnded (over_on o.states k) (marks_on k marks) got
+      → (left k ≡ None) × IsEnded (over_on o.states k) (marks_on k marks) got
   returned k got (inl (same, given)) served =
-      subst (λ n. (lookup (nat_eq n) left ≡ None) × IsEnded (over_on o.states n) (marks_on n marks) got) (sym same)
-      (subst (λ (l : List OutItem). (lookup (nat_eq id) left ≡ None) × IsEnded (over_on o.states id) (marks_on id marks) l) (sym given)
+      subst (λ n. (left n ≡ None) × IsEnded (over_on o.states n) (marks_on n marks) got) (sym same)
+      (subst (λ (l : List OutItem). (left id ≡ None) × IsEnded (over_on o.states id) (marks_on id marks) l) (sym given)
       (f.closed id none, taken-ended (ap (λ n. is_served n run) (sym same) ∙ served)))
   returned k got (inr before) served = let h = s.returned k got before served in (f.closed k h.0, h.1)
 
@@ -310,13 +309,13 @@ module _ {L In Out Shut : Type 0} (got : Out → List OutItem) where
   call-at senders place entry d within is =
       get_or-map (λ (call : ℕ × Sender L In Out Shut). (call.0, got call.1.rx)) senders place entry d within ∙ ap (λ (call : ℕ × Sender L In Out Shut). (call.0, got call.1.rx)) (sym is)
 
-  pub serving-returned : (old new : OutCore L In Out Shut) (place moved id : ℕ) (items : List OutItem) → new ≡ record old { senders = new.senders; streams = new.streams }
+  pub serving-returned : (old new : OutCore L In Out Shut) (place moved id : ℕ) (items : List OutItem) → new ≡ record old { senders = new.senders; outbound = new.outbound } → SameButOpen old.outbound new.outbound
       → TakesOut place (calls got old.senders.items) (calls got new.senders.items)
       → (place < length (calls got new.senders.items) → (get_or (calls got new.senders.items) place (0, [])).0 ≡ moved)
-      → Follows place (length (calls got new.senders.items)) moved old.streams.entries new.streams.entries
-      → ((d : ℕ × List OutItem) → get_or (calls got old.senders.items) place d ≡ (id, items)) → lookup (nat_eq id) old.streams.entries ≡ None
+      → Follows place (length (calls got new.senders.items)) moved (open_at old.outbound.states) (open_at new.outbound.states)
+      → ((d : ℕ × List OutItem) → get_or (calls got old.senders.items) place d ≡ (id, items)) → (open_at old.outbound.states) id ≡ None
       → ServesOn got (Returned id items) old new
-  serving-returned old new place moved id items rest t moved_is f is none run s =
+  serving-returned old new place moved id items rest same_out t moved_is f is none run s =
       subst (λ (x : OutCore L In Out Shut). Serving got (Returned id items ∷ run) x) (sym rest) (record {
         fronts = λ k d lt. let c = source place (calls got old.senders.items) (calls got new.senders.items) t k d lt in
             subst (λ (call : ℕ × List OutItem). is_served call.0 run ≡ true → Front call.0 call.1) (sym c.1)
@@ -326,9 +325,11 @@ module _ {L In Out Shut : Type 0} (got : Out → List OutItem) where
         closed = s.closed;
         serves = λ alive. let m = s.serves alive in (
           m.0,
-          serves-returned run old.outbound old.streams.entries new.streams.entries (calls got old.senders.items) (calls got new.senders.items) m.0
-              place moved id items t moved_is f is none m.1,
-          heeds-kept run old.outbound old.outbound old.streams.entries new.streams.entries (λ k there e. e) (λ k. (refl, refl, λ e. e)) f.closed m.2,
+          serves-but-open (Returned id items ∷ run) old.outbound new.outbound (open_at new.outbound.states) (calls got new.senders.items) m.0 same_out
+              (serves-returned run old.outbound (open_at old.outbound.states) (open_at new.outbound.states) (calls got old.senders.items) (calls got new.senders.items) m.0
+              place moved id items t moved_is f is none m.1),
+          heeds-but-open (Returned id items ∷ run) old.outbound new.outbound (open_at new.outbound.states) same_out
+              (heeds-kept run old.outbound old.outbound (open_at old.outbound.states) (open_at new.outbound.states) (λ k there e. e) (λ k. (refl, refl, λ e. e)) f.closed m.2),
         );
       })
     where
@@ -343,39 +344,42 @@ module _ {L In Out Shut : Type 0} (got : Out → List OutItem) where
           subst (λ n. Front n given) (sym same) (subst (λ (l : List OutItem). Front id l) (sym e) (here (ap (λ n. is_served n run) (sym same) ∙ served)))
 
   pub released : (old mid new : OutCore L In Out Shut) (place id : ℕ) (entry : ℕ × Sender L In Out Shut) → mid ≡ record old { senders = mid.senders }
-      → new ≡ record mid { streams = new.streams } → IsAt id place old.senders.items → entry ≡ get_or old.senders.items place entry
-      → mid.senders.items ≡ swap_remove old.senders.items place entry → lookup (nat_eq id) old.streams.entries ≡ None
-      → MovedTo place mid.senders.items old.streams.entries new.streams.entries
+      → new ≡ record mid { outbound = new.outbound } → SameButOpen mid.outbound new.outbound → IsAt id place old.senders.items → entry ≡ get_or old.senders.items place entry
+      → mid.senders.items ≡ swap_remove old.senders.items place entry → (open_at old.outbound.states) id ≡ None
+      → MovedTo place mid.senders.items (open_at old.outbound.states) (open_at new.outbound.states)
       → ServesOn got (Returned id (got entry.1.rx)) old new
-  released old mid new place id entry before after at is removed none moved =
+  released old mid new place id entry before after same_out at is removed none moved =
       let removed_new : new.senders.items ≡ swap_remove old.senders.items place entry = ap (λ (x : OutCore L In Out Shut). x.senders.items) after ∙ removed in
       let t = takes-out old.senders.items new.senders.items place entry at.0 removed_new in
       let same : entry.0 ≡ id = ap (λ (e : ℕ × Sender L In Out Shut). e.0) is ∙ at.1 entry in
       let call : (d : ℕ × List OutItem) → get_or (calls got old.senders.items) place d ≡ (id, got entry.1.rx) =
       λ d. call-at old.senders.items place entry d at.0 is ∙ ap (λ n. (n, got entry.1.rx)) same in
-      by t call (subst (λ (l : List (ℕ × Sender L In Out Shut)). MovedTo place l old.streams.entries new.streams.entries)
+      by t call (subst (λ (l : List (ℕ × Sender L In Out Shut)). MovedTo place l (open_at old.outbound.states) (open_at new.outbound.states))
       (sym (ap (λ (x : OutCore L In Out Shut). x.senders.items) after)) moved)
     where
-      rest : new ≡ record old { senders = new.senders; streams = new.streams }
+      rest : new ≡ record old { senders = new.senders; outbound = new.outbound }
       rest =
-          let e : new ≡ record old { senders = mid.senders; streams = new.streams } = after ∙ ap (λ (x : OutCore L In Out Shut). record x { streams = new.streams }) before in
-          subst (λ senders. new ≡ record old { senders = senders; streams = new.streams }) (sym (ap (λ (x : OutCore L In Out Shut). x.senders) after)) e
+          let e : new ≡ record old { senders = mid.senders; outbound = new.outbound } = after ∙ ap (λ (x : OutCore L In Out Shut). record x { outbound = new.outbound }) before in
+          subst (λ senders. new ≡ record old { senders = senders; outbound = new.outbound }) (sym (ap (λ (x : OutCore L In Out Shut). x.senders) after)) e
+
+      but_open : SameButOpen old.outbound new.outbound
+      but_open = subst (λ (o : Outbound). SameButOpen o new.outbound) (ap (λ (x : OutCore L In Out Shut). x.outbound) before) same_out
 
       short : length (calls got new.senders.items) ≡ length new.senders.items
       short = length-map new.senders.items (λ (call : ℕ × Sender L In Out Shut). (call.0, got call.1.rx))
 
       by : TakesOut place (calls got old.senders.items) (calls got new.senders.items) → ((d : ℕ × List OutItem) → get_or (calls got old.senders.items) place d ≡ (id, got entry.1.rx))
-          → MovedTo place new.senders.items old.streams.entries new.streams.entries → ServesOn got (Returned id (got entry.1.rx)) old new
+          → MovedTo place new.senders.items (open_at old.outbound.states) (open_at new.outbound.states) → ServesOn got (Returned id (got entry.1.rx)) old new
       by t call (inl (moved, at_place, is_there)) =
-          serving-returned old new place moved.0 id (got entry.1.rx) rest t
+          serving-returned old new place moved.0 id (got entry.1.rx) rest but_open t
           (λ lt. ap (λ (c : ℕ × List OutItem). c.0) (call-at new.senders.items place moved (0, []) (omega (arith, lt, short)) at_place))
-          (subst (λ n. Follows place n moved.0 old.streams.entries new.streams.entries) (sym short)
-          (follows-moved place (length new.senders.items) moved.0 old.streams.entries new.streams.entries is_there))
+          (subst (λ n. Follows place n moved.0 (open_at old.outbound.states) (open_at new.outbound.states)) (sym short)
+          (follows-moved place (length new.senders.items) moved.0 (open_at old.outbound.states) (open_at new.outbound.states) is_there))
           call none
       by t call (inr (same, out)) =
           let out_of : place < length (calls got new.senders.items) → ⊥ = λ lt. out (omega (arith, lt, short)) in
-          serving-returned old new place 0 id (got entry.1.rx) rest t (λ lt. absurd (out_of lt))
-          (follows-same place (length (calls got new.senders.items)) 0 old.streams.entries new.streams.entries same out_of)
+          serving-returned old new place 0 id (got entry.1.rx) rest but_open t (λ lt. absurd (out_of lt))
+          (follows-same place (length (calls got new.senders.items)) 0 (open_at old.outbound.states) (open_at new.outbound.states) same out_of)
           call none
 
   pub released-entry : (old new : List (ℕ × Sender L In Out Shut)) (place id : ℕ) (entry : ℕ × Sender L In Out Shut) → IsAt id place old → entry ≡ get_or old place entry
@@ -385,7 +389,7 @@ module _ {L In Out Shut : Type 0} (got : Out → List OutItem) where
       let pair : entry ≡ (id, entry.1) = ap (λ n. (n, entry.1)) same in
       (place, at.0, subst (λ (e : ℕ × Sender L In Out Shut). e ≡ get_or old place e) pair is, subst (λ (e : ℕ × Sender L In Out Shut). new ≡ swap_remove old place e) pair removed)
 
-  pub has-ended : (core : OutCore L In Out Shut) (id : ℕ) → lookup (nat_eq id) core.streams.entries ≡ None → HasEnded got id core
+  pub has-ended : (core : OutCore L In Out Shut) (id : ℕ) → (open_at core.outbound.states) id ≡ None → HasEnded got id core
   has-ended core id none run reached s alive there served = by ((s.serves alive).1.stays id served there none)
     where
       by : (is_some (over_on core.outbound.states id) ≡ true) ⊎ (was_reset id run ≡ true) → (is_over id run ≡ true) ⊎ (was_reset id run ≡ true)

@@ -17,11 +17,12 @@ use Rattle.outwriter.specs.declared.control.Control.TheVariants.{Open, Refuse, R
 use Rattle.outwriter.specs.declared.due.Due.{Due}
 use Rattle.outwriter.specs.declared.outbound.Outbound.{Outbound}
 use Rattle.outwriter.specs.declared.states.StreamState.{StreamState}
+use Rattle.outwriter.specs.declared.stream.OpenStream.{OpenStream}
 use Rattle.outwriter.specs.declared.states.StreamState.TheVariants.{NoCall, Call}
 use Rattle.outwriter.specs.declared.states.StreamState.TheVariants.{Reset as StreamReset}
 use Rattle.outwriter.specs.States.{States, Grants, SameEnds, SameOver, SameOwed, amount_of, is_paid, is_reset, knows, more, owed_on, pays, state_on}
 use Rattle.outwriter.specs.Histories.{Takes, is_stream}
-use Rattle.outwriter.specs.RunState.{Mirrors, HasWindows, HasCredit, HasOver, HasDue, HasBlock, HasOwed, HasResets, HasStates, AreAsked, Reached, GoesOn, Stays, duties_of, resets_of}
+use Rattle.outwriter.specs.RunState.{Mirrors, HasWindows, HasCredit, HasOver, HasDue, HasBlock, HasOwed, HasResets, HasStates, AreAsked, MirrorsOf, Reached, GoesOn, SameButOpen, Stays, duties_of, resets_of}
 use Rattle.outwriter.specs.Runs.{IsAsked, Fragments, unfinished, granted_by, is_opened, may_owe, opens_stream, owed, due, due_by, told, resets_stream, was_reset}
 use Rattle.outwriter.specs.Steps.{Step, Order, Taken, Granted, order_of}
 use Rattle.outwriter.proofs.Others.{or-true}
@@ -231,6 +232,22 @@ stand-kept run kept left over same h = record {
   owes = owed-kept run kept left same h.owes;
   no_stream_0 = over 0 ∙ h.no_stream_0;
 }
+
+-- what is kept of the open streams changes
+pub stand-but-open : (run : List Step) (states : States) (opened : List (ℕ × Option OpenStream)) → HasStates run states → HasStates run (record states { opened = opened })
+stand-but-open run states opened h = record { over = h.over; silent = h.silent; resets = h.resets; owes = h.owes; no_stream_0 = h.no_stream_0 }
+
+pub mirrors-but-open : (run : List Step) (o after : Outbound) → SameButOpen o after → MirrorsOf run o → MirrorsOf run after
+mirrors-but-open run o after e m = subst (MirrorsOf run) (sym e) (record {
+  begins = m.begins;
+  goes = m.goes;
+  windows_follow = m.windows_follow;
+  answers = m.answers;
+  goes_on = m.goes_on;
+  not_reset = m.not_reset;
+  credits = m.credits;
+  stand = stand-but-open run o.states after.states.opened m.stand;
+})
 
 -- a Refuse
 pub refuse-led : (id : ℕ) (fields : List Field) (run : List Step) (begun gone : Bool) (w : Windows) (waiting after : List Due) (block : Option HeaderBlock) (kept left : States)

@@ -1,11 +1,11 @@
 -- What is kept of the calls follows from the run still: after a frame, after an item, and after what tells nothing.
-use Rattle.std.proofs.Common.{◌≡◌, ℕ, suc, ◌<◌, ◌==◌, ◌⊎◌, inl, refl, sym, ap, subst, ◌∙◌, Bool, true, false, List, [], ◌∷◌, ◌++◌, Option, Some, None, length, arith, nat_eq}
+use Rattle.std.proofs.Common.{◌≡◌, ℕ, suc, ◌<◌, ◌==◌, ◌⊎◌, inl, refl, sym, ap, subst, ◌∙◌, Bool, true, false, List, [], ◌∷◌, ◌++◌, Option, Some, None, length, arith}
 use Rattle.std.specs.Prelude.{◌&&◌, All, map, filter, get_or, is_some, if◌then◌else◌}
-use Rattle.std.specs.Map.{lookup}
 use Rattle.std.proofs.lemmas.Bool.{eq-eqb}
 use Rattle.std.proofs.lemmas.List.{map-append}
 use Rattle.std.proofs.lemmas.List.Elements.{filter-append}
 use Rattle.account.specs.declared.call.OutItem.{OutItem}
+use Rattle.outwriter.specs.OpenStreams.{OpenStreams, Shown, shown, shows}
 use Rattle.outwriter.specs.declared.due.Due.{Due}
 use Rattle.outwriter.specs.declared.due.Due.TheVariants as due_kind
 use Rattle.outwriter.specs.declared.outbound.Outbound.{Outbound}
@@ -15,7 +15,6 @@ use Rattle.outwriter.specs.Runs.{was_reset}
 use Rattle.outwriter.specs.States.{is_heard, knows, over_on}
 use Rattle.outwriter.specs.Histories.{is_stream}
 use Rattle.outwriter.specs.Parts.{Mark, marks_on, on_stream, spelled}
-use Rattle.outwriter.specs.StreamLooks.{Shown, shown, shows}
 use Rattle.outwriter.specs.CallState.{bytes_marks, IsExact, IsEnded, IsUncalled, MayBeDue, Serves, has_reason}
 use Rattle.outwriter.specs.Steps.{Step}
 use Rattle.outwriter.specs.ToldByNow.{SpellsOf}
@@ -73,7 +72,7 @@ shown-some (Some stream) s e = (stream, refl, ap (λ o. (from_some s o).0) e, ap
 -- ---- a change
 
 -- Of what is kept of the calls these parts change: of all streams but some, nothing; and of those, what follows from the run.
-pub record Change (run next : List Step) (o after : Outbound) (streams left : List (ℕ × OpenStream)) (calls now : List (ℕ × List OutItem)) (marks told : List (ℕ × Mark)) (is_changed : ℕ → Bool) : Type 0 where
+pub record Change (run next : List Step) (o after : Outbound) (streams left : OpenStreams) (calls now : List (ℕ × List OutItem)) (marks told : List (ℕ × Mark)) (is_changed : ℕ → Bool) : Type 0 where
   pub same_fresh : (id : ℕ) → is_fresh id next ≡ is_fresh id run
   pub same_served : (id : ℕ) → is_served id next ≡ is_served id run
   pub later : Later run next
@@ -87,17 +86,17 @@ pub record Change (run next : List Step) (o after : Outbound) (streams left : Li
   pub same_calls : (k : ℕ) (d : ℕ × List OutItem) → k < length calls → is_changed (get_or calls k d).0 ≡ false → get_or now k d ≡ get_or calls k d
   pub same_length : length now ≡ length calls
   pub numbers : (k : ℕ) (d : ℕ × List OutItem) → k < length calls → (get_or now k d).0 ≡ (get_or calls k d).0
-  pub closed : (id : ℕ) → lookup (nat_eq id) streams ≡ None → lookup (nat_eq id) left ≡ None
-  pub exact : (id : ℕ) (stream : OpenStream) → is_changed id ≡ true → lookup (nat_eq id) left ≡ Some stream → IsExact id stream now (marks_on id told)
-  pub not_over : (id : ℕ) (stream : OpenStream) → is_changed id ≡ true → lookup (nat_eq id) left ≡ Some stream → over_on after.states id ≡ None
-  pub ended : (k : ℕ) (d : ℕ × List OutItem) → k < length calls → is_changed (get_or calls k d).0 ≡ true → lookup (nat_eq (get_or calls k d).0) left ≡ None
+  pub closed : (id : ℕ) → streams id ≡ None → left id ≡ None
+  pub exact : (id : ℕ) (stream : OpenStream) → is_changed id ≡ true → left id ≡ Some stream → IsExact id stream now (marks_on id told)
+  pub not_over : (id : ℕ) (stream : OpenStream) → is_changed id ≡ true → left id ≡ Some stream → over_on after.states id ≡ None
+  pub ended : (k : ℕ) (d : ℕ × List OutItem) → k < length calls → is_changed (get_or calls k d).0 ≡ true → left (get_or calls k d).0 ≡ None
       → is_served (get_or calls k d).0 run ≡ true
       → IsEnded (over_on after.states (get_or calls k d).0) (marks_on (get_or calls k d).0 told) (get_or now k d).1
-  pub returned : (id : ℕ) (items : List OutItem) → is_changed id ≡ true → lookup (nat_eq id) streams ≡ None → is_served id run ≡ true
+  pub returned : (id : ℕ) (items : List OutItem) → is_changed id ≡ true → streams id ≡ None → is_served id run ≡ true
       → IsEnded (over_on o.states id) (marks_on id marks) items → IsEnded (over_on after.states id) (marks_on id told) items
   pub unknown : (id : ℕ) → is_changed id ≡ true → is_heard o.states id ≡ false → marks_on id told ≡ []
   pub other : (id : ℕ) → is_changed id ≡ true → is_fresh id run ≡ true → IsEnded (over_on after.states id) (marks_on id told) []
-  pub stays : (id : ℕ) → is_changed id ≡ true → lookup (nat_eq id) left ≡ None → is_some (over_on after.states id) ≡ true
+  pub stays : (id : ℕ) → is_changed id ≡ true → left id ≡ None → is_some (over_on after.states id) ≡ true
   pub uncalled : (id : ℕ) → is_changed id ≡ true → knows o.states id ≡ false → IsUncalled id next (over_on after.states id) (marks_on id told)
 
 exact-same : (id : ℕ) (a b : OpenStream) (calls now : List (ℕ × List OutItem)) (told after : List Mark) → a.place ≡ b.place → a.in_hand ≡ b.in_hand
@@ -127,9 +126,9 @@ All-later P (x ∷ xs) back all = All-later P xs back (All-rest P x (xs ++ back)
 All-weaker : {A : Type 0} (P Q : A → Type 0) (list : List A) → ((x : A) → P x → Q x) → All P list → All Q list
 All-weaker P Q list f all k d lt = f (get_or list k d) (all k d lt)
 
-due-same : (run next : List Step) (o after : Outbound) (streams left : List (ℕ × OpenStream))
+due-same : (run next : List Step) (o after : Outbound) (streams left : OpenStreams)
     → Later run next → ((id : ℕ) → is_fresh id next ≡ is_fresh id run) → ((id : ℕ) → is_served id next ≡ is_served id run)
-    → ((id : ℕ) → is_heard after.states id ≡ is_heard o.states id) → ((id : ℕ) → lookup (nat_eq id) streams ≡ None → lookup (nat_eq id) left ≡ None)
+    → ((id : ℕ) → is_heard after.states id ≡ is_heard o.states id) → ((id : ℕ) → streams id ≡ None → left id ≡ None)
     → (one : Due) → MayBeDue run o streams one → MayBeDue next after left one
 due-same run next o after streams left later fresh served heard closed (due_kind.Refuse id fields) m =
     (fresh id ∙ m.0, served id ∙ m.1, closed id m.2, heard id ∙ m.3, later.refused id fields m.4, later.reason id m.5)
@@ -138,12 +137,12 @@ due-same run next o after streams left later fresh served heard closed due_kind.
 due-same run next o after streams left later fresh served heard closed (due_kind.PingAck bytes) m = tt
 due-same run next o after streams left later fresh served heard closed (due_kind.Goaway last code) m = tt
 
-was-open : (streams left : List (ℕ × OpenStream)) (id : ℕ) (stream : OpenStream) → (lookup (nat_eq id) streams ≡ None → lookup (nat_eq id) left ≡ None)
-    → lookup (nat_eq id) left ≡ Some stream → (o : Option OpenStream) → lookup (nat_eq id) streams ≡ o → (st : OpenStream) × (lookup (nat_eq id) streams ≡ Some st)
+was-open : (streams left : OpenStreams) (id : ℕ) (stream : OpenStream) → (streams id ≡ None → left id ≡ None)
+    → left id ≡ Some stream → (o : Option OpenStream) → streams id ≡ o → (st : OpenStream) × (streams id ≡ Some st)
 was-open streams left id stream closed e None f = absurd (none-some stream (sym (closed f) ∙ e))
 was-open streams left id stream closed e (Some st) f = (st, f)
 
-pub serves-changed : (run next : List Step) (o after : Outbound) (streams left : List (ℕ × OpenStream)) (calls now : List (ℕ × List OutItem))
+pub serves-changed : (run next : List Step) (o after : Outbound) (streams left : OpenStreams) (calls now : List (ℕ × List OutItem))
     (marks told : List (ℕ × Mark)) (is_changed : ℕ → Bool)
     → Change run next o after streams left calls now marks told is_changed → Serves run o streams calls marks
     → Serves next after left now told
@@ -151,7 +150,7 @@ serves-changed run next o after streams left calls now marks told is_changed c s
   spells = c.spells;
   exact = λ id stream e. exact-by id stream e (is_changed id) refl;
   not_over = λ id stream e. not_over-by id stream e (is_changed id) refl;
-  known = λ id stream e. let was = was-open streams left id stream (c.closed id) e (lookup (nat_eq id) streams) refl in c.same_knows id ∙ s.known id was.0 was.1;
+  known = λ id stream e. let was = was-open streams left id stream (c.closed id) e (streams id) refl in c.same_knows id ∙ s.known id was.0 was.1;
   ended = λ k d lt. subst (Ended k d) (sym (c.numbers k d (within k lt))) (ended-by k d (within k lt) (is_changed (get_or calls k d).0) refl);
   returned = λ id items is served.
       let was = s.returned id items (c.later.returned id items is) (sym (c.same_served id) ∙ served) in
@@ -176,20 +175,20 @@ serves-changed run next o after streams left calls now marks told is_changed c s
     within k lt = omega (arith, lt, c.same_length)
 
     Ended : ℕ → ℕ × List OutItem → ℕ → Type 0
-    Ended k d n = lookup (nat_eq n) left ≡ None → is_served n next ≡ true → IsEnded (over_on after.states n) (marks_on n told) (get_or now k d).1
+    Ended k d n = left n ≡ None → is_served n next ≡ true → IsEnded (over_on after.states n) (marks_on n told) (get_or now k d).1
 
-    exact-by : (id : ℕ) (stream : OpenStream) → lookup (nat_eq id) left ≡ Some stream → (b : Bool) → is_changed id ≡ b → IsExact id stream now (marks_on id told)
+    exact-by : (id : ℕ) (stream : OpenStream) → left id ≡ Some stream → (b : Bool) → is_changed id ≡ b → IsExact id stream now (marks_on id told)
     exact-by id stream e true p = c.exact id stream p e
     exact-by id stream e false p =
-        let found = shown-some (lookup (nat_eq id) streams) (stream.place, stream.in_hand) (sym (c.same_shown id p) ∙ ap shown e) in
+        let found = shown-some (streams id) (stream.place, stream.in_hand) (sym (c.same_shown id p) ∙ ap shown e) in
         let old = s.exact id found.0 found.1 in
         exact-same id found.0 stream calls now (marks_on id marks) (marks_on id told) found.2 found.3 c.same_length (c.same_marks id p)
         (λ d. c.same_calls found.0.place d old.0 (ap is_changed (old.1 d).0 ∙ p)) old
 
-    not_over-by : (id : ℕ) (stream : OpenStream) → lookup (nat_eq id) left ≡ Some stream → (b : Bool) → is_changed id ≡ b → over_on after.states id ≡ None
+    not_over-by : (id : ℕ) (stream : OpenStream) → left id ≡ Some stream → (b : Bool) → is_changed id ≡ b → over_on after.states id ≡ None
     not_over-by id stream e true p = c.not_over id stream p e
     not_over-by id stream e false p =
-        let found = shown-some (lookup (nat_eq id) streams) (stream.place, stream.in_hand) (sym (c.same_shown id p) ∙ ap shown e) in
+        let found = shown-some (streams id) (stream.place, stream.in_hand) (sym (c.same_shown id p) ∙ ap shown e) in
         c.same_over id p ∙ s.not_over id found.0 found.1
 
     ended-by : (k : ℕ) (d : ℕ × List OutItem) → k < length calls → (b : Bool) → is_changed (get_or calls k d).0 ≡ b → Ended k d (get_or calls k d).0
@@ -198,9 +197,9 @@ serves-changed run next o after streams left calls now marks told is_changed c s
         let n : ℕ = (get_or calls k d).0 in
         ended-same (over_on o.states n) (over_on after.states n) (marks_on n marks) (marks_on n told) (get_or calls k d).1 (get_or now k d).1
         (c.same_over n p) (c.same_marks n p) (ap (λ (x : ℕ × List OutItem). x.1) (c.same_calls k d lt p))
-        (s.ended k d lt (none-shown (lookup (nat_eq n) streams) (sym (c.same_shown n p) ∙ ap shown none)) (sym (c.same_served n) ∙ served))
+        (s.ended k d lt (none-shown (streams n) (sym (c.same_shown n p) ∙ ap shown none)) (sym (c.same_served n) ∙ served))
 
-    returned-by : (id : ℕ) (items : List OutItem) → lookup (nat_eq id) streams ≡ None → is_served id run ≡ true
+    returned-by : (id : ℕ) (items : List OutItem) → streams id ≡ None → is_served id run ≡ true
         → IsEnded (over_on o.states id) (marks_on id marks) items → (b : Bool) → is_changed id ≡ b
         → IsEnded (over_on after.states id) (marks_on id told) items
     returned-by id items none served ended true p = c.returned id items p none served ended
@@ -224,16 +223,16 @@ serves-changed run next o after streams left calls now marks told is_changed c s
         uncalled-same run next id (over_on o.states id) (over_on after.states id) (marks_on id marks) (marks_on id told) (c.later.refused id)
         (c.same_over id p) (c.same_marks id p) (s.uncalled id e)
 
-    stays-by : (id : ℕ) → is_served id run ≡ true → is_stream id ≡ true → lookup (nat_eq id) left ≡ None → (b : Bool) → is_changed id ≡ b
+    stays-by : (id : ℕ) → is_served id run ≡ true → is_stream id ≡ true → left id ≡ None → (b : Bool) → is_changed id ≡ b
         → (is_some (over_on after.states id) ≡ true) ⊎ (was_reset id next ≡ true)
     stays-by id served there none true p = inl (c.stays id p none)
     stays-by id served there none false p =
         ended-later (over_on o.states id) (over_on after.states id) (was_reset id run) (was_reset id next) (c.same_over id p) (c.later.reset id)
-        (s.stays id served there (none-shown (lookup (nat_eq id) streams) (sym (c.same_shown id p) ∙ ap shown none)))
+        (s.stays id served there (none-shown (streams id) (sym (c.same_shown id p) ∙ ap shown none)))
 
-    reasons-by : (id : ℕ) → is_stream id ≡ true → lookup (nat_eq id) left ≡ None → is_heard o.states id ≡ true → (b : Bool) → is_changed id ≡ b
+    reasons-by : (id : ℕ) → is_stream id ≡ true → left id ≡ None → is_heard o.states id ≡ true → (b : Bool) → is_changed id ≡ b
         → (is_some (over_on after.states id) ≡ true) ⊎ (has_reason id next ≡ true)
     reasons-by id there none known true p = inl (c.stays id p none)
     reasons-by id there none known false p =
         ended-later (over_on o.states id) (over_on after.states id) (has_reason id run) (has_reason id next) (c.same_over id p) (c.later.reason id)
-        (s.reasons id there (none-shown (lookup (nat_eq id) streams) (sym (c.same_shown id p) ∙ ap shown none)) known)
+        (s.reasons id there (none-shown (streams id) (sym (c.same_shown id p) ∙ ap shown none)) known)

@@ -1,7 +1,6 @@
 -- A look at an open stream: what is taken of it is written, or kept in hand.
-use Rattle.std.proofs.Common.{◌≡◌, ℕ, ◌<◌, ◌==◌, ◌⊎◌, inl, inr, refl, sym, ap, subst, ◌∙◌, Bool, true, false, List, [], ◌∷◌, ◌++◌, Option, Some, None, length, nat_eq, append_assoc, true≢false, arith}
-use Rattle.std.specs.Prelude.{Result, Ok, Err, map, get_or, if◌then◌else◌}
-use Rattle.std.specs.Map.{lookup}
+use Rattle.std.proofs.Common.{◌≡◌, ℕ, ◌<◌, ◌==◌, ◌⊎◌, inl, inr, refl, sym, ap, subst, ◌∙◌, Bool, true, false, List, [], ◌∷◌, ◌++◌, Option, Some, None, length, append_assoc, true≢false, arith}
+use Rattle.std.specs.Prelude.{IfNone, Result, Ok, Err, map, get_or, if◌then◌else◌}
 use Rattle.std.proofs.lemmas.Bool.{eqb-true, eq-eqb}
 use Rattle.std.proofs.lemmas.Grind.{flat_map-append}
 use Rattle.std.proofs.lemmas.List.{map-append}
@@ -18,20 +17,23 @@ use Rattle.outwriter.specs.declared.stream.Polled.{Polled}
 use Rattle.outwriter.specs.declared.stream.Polled.TheVariants as polled
 use Rattle.outwriter.specs.Calls.{is_served, TellFronts}
 use Rattle.outwriter.specs.Cores.{calls}
-use Rattle.outwriter.specs.States.{SameOwed, is_heard, knows, over_on}
-use Rattle.outwriter.specs.RunState.{Ends}
+use Rattle.outwriter.specs.States.{SameOpen, SameOwed, StandAs, States, is_heard, knows, over_on, open_at}
+use Rattle.outwriter.specs.OpenStreams.{Closes, HandIs, HandKeeps, OpenStreams, Removes, Shown, shown, shows, with_hand}
+use Rattle.outwriter.specs.RunState.{Ends, Heads, IsBetween, MirrorsOf, Progress, SameButOpen, Stays}
+use Rattle.outwriter.specs.RunState.{Writes as WritesFrame}
 use Rattle.outwriter.specs.Parts.{Mark, Byte, Fields, End, on_stream, spelled, marks_of_item, IsFrontOf, IsPart}
-use Rattle.outwriter.specs.StreamLooks.{Shown, shown, shows, with_hand, one_more, HandIs, HandKeeps, Removes, TakesAt, TellsData, aheads, HoldsOn, KeepsFronts}
+use Rattle.outwriter.specs.StreamLooks.{one_more, SameAhead, SameElsewhere, TakesAt, TakesHand, TellsData, aheads, HoldsOn, KeepsFronts}
 use Rattle.outwriter.specs.Polls.{block_item, GotNone}
 use Rattle.outwriter.specs.CallState.{Heeds, bytes_marks, Serves}
 use Rattle.outwriter.specs.Steps.{Step, Written}
 use Rattle.outwriter.specs.ToldByNow.{SpellsOf, SameStanding, TellsMore, TellsBlock, block_marks}
 use Rattle.outwriter.proofs.ServeSteps.{append-nil, none-shown}
 use Rattle.outwriter.proofs.EndsKept.{KeepsEnds, heeds-kept, same-ends, block-ends, ends-heard}
-use Rattle.outwriter.proofs.TellStepsOwn.{ends-same, standing-same}
+use Rattle.outwriter.proofs.TellStepsOwn.{ends-as, standing-as}
 use Rattle.outwriter.proofs.Others.{later-none, later-written}
 use Rattle.outwriter.proofs.ServeStepsOpen.{Grows, grows-none, grows-one, goes-on, ends}
-use Rattle.outwriter.proofs.ServeStepsOwn.{serves-hands}
+use Rattle.outwriter.proofs.RunStateSteps.{mirrors-but-open}
+use Rattle.outwriter.proofs.ServeStepsOwn.{serves-but-open, serves-hands}
 
 -- ---- what is told is a front still
 
@@ -141,7 +143,7 @@ takes-fronts (Some (place, None)) old new ahead from to (Err e) t run all = fron
 
 -- ---- what is in hand then
 
-pub hand-then : (id place : ℕ) (was hand : Option (List ℕ)) (streams left : List (ℕ × OpenStream)) → shows streams id ≡ Some (place, was) → HandIs id hand streams left
+pub hand-then : (id place : ℕ) (was hand : Option (List ℕ)) (streams left : OpenStreams) → shows streams id ≡ Some (place, was) → HandIs id hand streams left
     → (k : ℕ) → shows left k ≡ (if k == id then Some (place, hand) else shows streams k)
 hand-then id place was hand streams left view is k = is k ∙ by (k == id) refl
   where
@@ -153,7 +155,7 @@ if-twice : {A : Type 0} (b : Bool) (x y z : A) → (if b then x else (if b then 
 if-twice true x y z = refl
 if-twice false x y z = refl
 
-pub hand-twice : (id place : ℕ) (was hand : Option (List ℕ)) (streams middle left : List (ℕ × OpenStream)) → shows streams id ≡ Some (place, was)
+pub hand-twice : (id place : ℕ) (was hand : Option (List ℕ)) (streams middle left : OpenStreams) → shows streams id ≡ Some (place, was)
     → HandIs id None streams middle → HandIs id hand middle left
     → (k : ℕ) → shows left k ≡ (if k == id then Some (place, hand) else shows streams k)
 hand-twice id place was hand streams middle left view none is k =
@@ -163,7 +165,7 @@ hand-twice id place was hand streams middle left view none is k =
     ∙ ap (λ (v : Shown). if k == id then Some (place, hand) else v) (hand-then id place was None streams middle view none k)
     ∙ if-twice (k == id) (Some (place, hand)) (Some (place, None)) (shows streams k)
 
-hand-kept : (id place : ℕ) (was : Option (List ℕ)) (rest : List ℕ) (streams middle left : List (ℕ × OpenStream)) → shows streams id ≡ Some (place, was)
+hand-kept : (id place : ℕ) (was : Option (List ℕ)) (rest : List ℕ) (streams middle left : OpenStreams) → shows streams id ≡ Some (place, was)
     → HandIs id None streams middle → HandKeeps id rest middle left
     → (hand : Option (List ℕ)) × ((k : ℕ) → shows left k ≡ (if k == id then Some (place, hand) else shows streams k)) × (bytes_marks hand ≡ map Byte rest)
 hand-kept id place was [] streams middle left view none keeps = (None, λ k. keeps k ∙ hand-then id place was None streams middle view none k, refl)
@@ -172,24 +174,28 @@ hand-kept id place was (b ∷ bs) streams middle left view none keeps =
 
 -- ---- the frames
 
-same-outbound : (old mid : Outbound) → mid ≡ record old { encoder = mid.encoder } → mid.encoder ≡ old.encoder → mid ≡ old
-same-outbound old mid e f = e ∙ ap (λ (x : Option Encoding). record old { encoder = x }) f
+same-outbound : (old mid : Outbound) → mid ≡ record old { encoder = mid.encoder; states = record old.states { opened = mid.states.opened } } → mid.encoder ≡ old.encoder → SameButOpen old mid
+same-outbound old mid e f = e ∙ ap (λ (x : Option Encoding). record old { encoder = x; states = record old.states { opened = mid.states.opened } }) f
 
-data-serves : (run : List Step) (o after : Outbound) (windows : Windows) (streams middle left : List (ℕ × OpenStream)) (calls now : List (ℕ × List OutItem))
+-- one look behind another
+but-then : (old mid new : Outbound) → SameButOpen old mid → SameButOpen mid new → SameButOpen old new
+but-then old mid new a b = b ∙ ap (λ (x : Outbound). record x { states = record x.states { opened = new.states.opened } }) a
+
+data-serves : (run : List Step) (o after : Outbound) (windows : Windows) (streams middle left : OpenStreams) (calls now : List (ℕ × List OutItem))
     (marks : List (ℕ × Mark)) (id place : ℕ) (was : Option (List ℕ)) (news : List OutItem) (bytes front rest : List ℕ) (frame : Frame)
     → shows streams id ≡ Some (place, was) → Grows place news calls now → (bytes_marks was ++ spelled news) ≡ map Byte bytes
     → HandIs id None streams middle → bytes ≡ front ++ rest → HandKeeps id rest middle left
-    → TellsMore frame (on_stream id (map Byte front)) o after → after ≡ record o { windows = windows }
+    → TellsMore frame (on_stream id (map Byte front)) o after → after ≡ record o { windows = windows; states = record o.states { opened = after.states.opened } }
     → Serves run o streams calls marks → Serves (Written frame ∷ run) after left now (marks ++ on_stream id (map Byte front))
 data-serves run o after windows streams middle left calls now marks id place was news bytes front rest frame view g bal none cut keeps tells is s =
     let kept = hand-kept id place was rest streams middle left view none keeps in
     goes-on run (Written frame ∷ run) o after streams left calls now marks id place was kept.0 (map Byte front) news (λ k. refl) (λ k. refl) (later-written run frame)
     (tells run marks s.spells)
-    (ap (λ (x : Outbound). x.due.items) (sym is)) (λ k. ap (λ (x : Outbound). knows x.states k) is) (ends-same o after (ap (λ (x : Outbound). x.states) is))
+    (ap (λ (x : Outbound). x.due.items) (sym is)) (λ k. ap (λ (x : Outbound). knows x.states k) is) (ends-as o after (ap (λ (x : Outbound). x.states) is))
     view kept.1 g
     (bal ∙ ap (map Byte) cut ∙ map-append Byte front rest ∙ ap (λ (l : List Mark). map Byte front ++ l) (sym kept.2)) s
 
-kept-serves : (run : List Step) (o : Outbound) (streams middle left : List (ℕ × OpenStream)) (calls now : List (ℕ × List OutItem))
+kept-serves : (run : List Step) (o : Outbound) (streams middle left : OpenStreams) (calls now : List (ℕ × List OutItem))
     (marks : List (ℕ × Mark)) (id place : ℕ) (was : Option (List ℕ)) (news : List OutItem) (bytes : List ℕ)
     → shows streams id ≡ Some (place, was) → Grows place news calls now → (bytes_marks was ++ spelled news) ≡ map Byte bytes
     → HandIs id None streams middle → HandIs id (Some bytes) middle left
@@ -200,7 +206,7 @@ kept-serves run o streams middle left calls now marks id place was news bytes vi
     refl (λ k. refl) (λ k. (refl, refl)) view (hand-twice id place was (Some bytes) streams middle left view none keeps) g bal s
 
 -- a message without bytes tells nothing
-empty-serves : (run : List Step) (o : Outbound) (streams left : List (ℕ × OpenStream)) (calls now : List (ℕ × List OutItem))
+empty-serves : (run : List Step) (o : Outbound) (streams left : OpenStreams) (calls now : List (ℕ × List OutItem))
     (marks : List (ℕ × Mark)) (id place : ℕ) (was : Option (List ℕ)) (news : List OutItem) (bytes : List ℕ)
     → shows streams id ≡ Some (place, was) → Grows place news calls now → (bytes_marks was ++ spelled news) ≡ map Byte bytes → bytes ≡ []
     → HandIs id None streams left → Serves run o streams calls marks → Serves run o left now (marks ++ on_stream id [])
@@ -215,7 +221,7 @@ no-bytes (byte ∷ bytes) is_empty is e = let wrong : length (byte ∷ bytes) �
     let no : ⊥ = omega (arith, wrong) in absurd no
 
 -- a call that was left tells nothing more
-left-serves : (run : List Step) (o : Outbound) (streams left : List (ℕ × OpenStream)) (calls now : List (ℕ × List OutItem))
+left-serves : (run : List Step) (o : Outbound) (streams left : OpenStreams) (calls now : List (ℕ × List OutItem))
     (marks : List (ℕ × Mark)) (id place : ℕ)
     → shows streams id ≡ Some (place, None) → now ≡ one_more place item.Left calls → HandIs id None streams left
     → Serves run o streams calls marks → Serves run o left now (marks ++ on_stream id [])
@@ -224,7 +230,15 @@ left-serves run o streams left calls now marks id place view is none s =
     (subst (λ (l : List (ℕ × Mark)). SpellsOf run o l) (sym (append-nil marks)) s.spells)
     refl (λ k. refl) (λ k. (refl, refl)) view (hand-then id place None None streams left view none) (grows-one place item.Left calls now is) refl s
 
-head-serves : (run : List Step) (o after : Outbound) (streams middle left : List (ℕ × OpenStream)) (calls now : List (ℕ × List OutItem))
+-- what is shown of a stream that isn't open any more
+shows-removed : (id : ℕ) (middle left : OpenStreams) → Closes id middle left → (k : ℕ) → shows left k ≡ (if k == id then None else shows middle k)
+shows-removed id middle left is k = ap shown (is k) ∙ by (k == id)
+  where
+    by : (b : Bool) → shown (if b then None else middle k) ≡ (if b then None else shows middle k)
+    by true = refl
+    by false = refl
+
+head-serves : (run : List Step) (o after : Outbound) (streams middle left : OpenStreams) (calls now : List (ℕ × List OutItem))
     (marks : List (ℕ × Mark)) (id place : ℕ) (fields : List Field) (ends_it : Bool) (frame : Frame)
     → shows streams id ≡ Some (place, None) → Grows place (block_item ends_it fields ∷ []) calls now
     → HandIs id None streams middle → Removes id ends_it middle left
@@ -234,7 +248,7 @@ head-serves : (run : List Step) (o after : Outbound) (streams middle left : List
 head-serves run o after streams middle left calls now marks id place fields true frame view g none removes spells due known over s =
     ends run (Written frame ∷ run) o after streams left calls now marks id place None (Fields fields ∷ End ∷ []) (block_item true fields ∷ []) (λ k. refl) (λ k. refl) (later-written run frame)
     spells due known over view
-    (λ k. removes k ∙ ap (λ (v : Shown). if k == id then None else v) (hand-then id place None None streams middle view none k)
+    (λ k. shows-removed id middle left removes k ∙ ap (λ (v : Shown). if k == id then None else v) (hand-then id place None None streams middle view none k)
     ∙ if-twice (k == id) None (Some (place, None)) (shows streams k)) g refl s
 head-serves run o after streams middle left calls now marks id place fields false frame view g none removes spells due known over s =
     goes-on run (Written frame ∷ run) o after streams left calls now marks id place None None (Fields fields ∷ []) (block_item false fields ∷ []) (λ k. refl) (λ k. refl) (later-written run frame)
@@ -243,51 +257,105 @@ head-serves run o after streams middle left calls now marks id place fields fals
 
 -- ---- no stream opens
 
-hand-closed : (id : ℕ) (hand : Option (List ℕ)) (streams left : List (ℕ × OpenStream)) → HandIs id hand streams left
-    → (k : ℕ) → lookup (nat_eq k) streams ≡ None → lookup (nat_eq k) left ≡ None
-hand-closed id hand streams left is k none = none-shown (lookup (nat_eq k) left) (is k ∙ by (k == id))
+hand-closed : (id : ℕ) (hand : Option (List ℕ)) (streams left : OpenStreams) → HandIs id hand streams left
+    → (k : ℕ) → streams k ≡ None → left k ≡ None
+hand-closed id hand streams left is k none = none-shown (left k) (is k ∙ by (k == id))
   where
     by : (b : Bool) → (if b then with_hand hand (shows streams k) else shows streams k) ≡ None
     by true = ap (λ (o : Option OpenStream). with_hand hand (shown o)) none
     by false = ap shown none
 
-keeps-closed : (id : ℕ) (bytes : List ℕ) (streams left : List (ℕ × OpenStream)) → HandKeeps id bytes streams left
-    → (k : ℕ) → lookup (nat_eq k) streams ≡ None → lookup (nat_eq k) left ≡ None
-keeps-closed id [] streams left same k none = none-shown (lookup (nat_eq k) left) (same k ∙ ap shown none)
+keeps-closed : (id : ℕ) (bytes : List ℕ) (streams left : OpenStreams) → HandKeeps id bytes streams left
+    → (k : ℕ) → streams k ≡ None → left k ≡ None
+keeps-closed id [] streams left same k none = none-shown (left k) (same k ∙ ap shown none)
 keeps-closed id (byte ∷ bytes) streams left is k none = hand-closed id (Some (byte ∷ bytes)) streams left is k none
 
-removes-closed : (id : ℕ) (ends_it : Bool) (streams left : List (ℕ × OpenStream)) → Removes id ends_it streams left
-    → (k : ℕ) → lookup (nat_eq k) streams ≡ None → lookup (nat_eq k) left ≡ None
-removes-closed id true streams left is k none = none-shown (lookup (nat_eq k) left) (is k ∙ by (k == id))
+removes-closed : (id : ℕ) (ends_it : Bool) (streams left : OpenStreams) → Removes id ends_it streams left
+    → (k : ℕ) → streams k ≡ None → left k ≡ None
+removes-closed id true streams left is k none = is k ∙ by (k == id)
   where
-    by : (b : Bool) → (if b then None else shows streams k) ≡ None
+    by : (b : Bool) → (if b then None else streams k) ≡ None
     by true = refl
-    by false = ap shown none
-removes-closed id false streams left same k none = none-shown (lookup (nat_eq k) left) (same k ∙ ap shown none)
+    by false = none
+removes-closed id false streams left same k none = none-shown (left k) (same k ∙ ap shown none)
+
+-- where the end of a stream is written, if it is
+ends-from : (old new : States) (opened : List (ℕ × Option OpenStream)) (id : ℕ) (ends_it : Bool) → Ends (record old { opened = opened }) id ends_it new → Ends old id ends_it new
+ends-from old new opened id true over = over
+ends-from old new opened id false over = over
+
+-- ---- what follows from the run
+
+pub unchanged-none : {X : Type 0} (r : Option X) (old new : States) → r ≡ None → IfNone r (new ≡ old) → new ≡ old
+unchanged-none {X} r old new none same = subst (λ (o : Option X). IfNone o (new ≡ old)) none same
+
+-- where what was in hand was taken, and what its sender had
+pub progress-none : (old mid : Outbound) → mid ≡ record old { encoder = mid.encoder; states = record old.states { opened = mid.states.opened } } → IsBetween old → Stays old mid × IsBetween mid
+progress-none old mid e between = (
+  λ run m. subst (MirrorsOf run) (sym e) (mirrors-encoder run (record old { states = record old.states { opened = mid.states.opened } }) mid.encoder
+      (mirrors-but-open run old (record old { states = record old.states { opened = mid.states.opened } }) refl m)),
+  subst IsBetween (sym e) (record { begun = between.begun; going = between.going; no_block = between.no_block }),
+)
+  where
+    mirrors-encoder : (run : List Step) (o : Outbound) (encoder : Option Encoding) → MirrorsOf run o → MirrorsOf run (record o { encoder = encoder })
+    mirrors-encoder run o encoder m = m
+
+pub progress-after : (o : Option Frame) (old mid new : Outbound) → Stays old mid → Progress o mid new → Progress o old new
+progress-after (Some frame) old mid new stays progress = λ run m. progress run (stays run m)
+progress-after None old mid new stays progress = (λ run m. progress.0 run (stays run m), progress.1)
+
+pub stays-end : (old mid fin : Outbound) → Stays old mid → SameButOpen mid fin → Stays old fin
+stays-end old mid fin stays same run m = mirrors-but-open run mid fin same (stays run m)
+
+pub heads-after : (frame : Frame) (old fin after : Outbound) → Stays old fin → Heads frame fin after → WritesFrame frame old after
+heads-after frame old fin after stays heads run m = let n = stays run m in heads run fin.due.items n n.answers
 
 -- ---- a core
 
 module _ {L In Out Shut : Type 0} where
   -- Resets and Refuses are heeded still
   heeds-look : (run : List Step) (old new : OutCore L In Out Shut) → KeepsEnds old.outbound new.outbound → SameStanding old.outbound new.outbound
-      → ((k : ℕ) → lookup (nat_eq k) old.streams.entries ≡ None → lookup (nat_eq k) new.streams.entries ≡ None)
-      → Heeds run old.outbound old.streams.entries → Heeds run new.outbound new.streams.entries
+      → ((k : ℕ) → (open_at old.outbound.states) k ≡ None → (open_at new.outbound.states) k ≡ None)
+      → Heeds run old.outbound (open_at old.outbound.states) → Heeds run new.outbound (open_at new.outbound.states)
   heeds-look run old new keeps standing closed heeds =
-      heeds-kept run old.outbound new.outbound old.streams.entries new.streams.entries keeps standing closed heeds
+      heeds-kept run old.outbound new.outbound (open_at old.outbound.states) (open_at new.outbound.states) keeps standing closed heeds
 
-  heeds-still : (run : List Step) (old new : OutCore L In Out Shut) → new.outbound ≡ old.outbound
-      → ((k : ℕ) → lookup (nat_eq k) old.streams.entries ≡ None → lookup (nat_eq k) new.streams.entries ≡ None)
-      → Heeds run old.outbound old.streams.entries → Heeds run new.outbound new.streams.entries
+  heeds-still : (run : List Step) (old new : OutCore L In Out Shut) → SameButOpen old.outbound new.outbound
+      → ((k : ℕ) → (open_at old.outbound.states) k ≡ None → (open_at new.outbound.states) k ≡ None)
+      → Heeds run old.outbound (open_at old.outbound.states) → Heeds run new.outbound (open_at new.outbound.states)
   heeds-still run old new same closed heeds =
       heeds-look run old new (same-ends old.outbound new.outbound (ap (λ (x : Outbound). x.due) same) (ap (λ (x : Outbound). x.states) same))
-      (standing-same old.outbound new.outbound (ap (λ (x : Outbound). x.states) same)) closed heeds
+      (standing-as old.outbound new.outbound (ap (λ (x : Outbound). x.states) same)) closed heeds
 
   -- what was taken, and the encoder and the streams after it
   pub record Took (E : Type 0) (got ahead : Out → List OutItem) (old mid : OutCore L In Out Shut) (id : ℕ) (result : Result Polled E) : Type 0 where
-    pub takes : TakesAt (shows old.streams.entries id) (calls got old.senders.items) (calls got mid.senders.items) (aheads ahead mid.senders.items)
+    pub takes : TakesAt (shows (open_at old.outbound.states) id) (calls got old.senders.items) (calls got mid.senders.items) (aheads ahead mid.senders.items)
         old.outbound.encoder mid.outbound.encoder result
-    pub outbound : mid.outbound ≡ record old.outbound { encoder = mid.outbound.encoder }
-    pub hands : HandIs id None old.streams.entries mid.streams.entries
+    pub outbound : mid.outbound ≡ record old.outbound { encoder = mid.outbound.encoder; states = record old.outbound.states { opened = mid.outbound.states.opened } }
+    pub hands : HandIs id None (open_at old.outbound.states) (open_at mid.outbound.states)
+
+  -- what was in hand is taken, and then what the sender has
+  pub took : {E : Type 0} (got ahead : Out → List OutItem) (old mid : OutCore L In Out Shut) (states : States) (id place : ℕ) (hand : Option (List ℕ)) (result : Result Polled E)
+      → mid.outbound ≡ record old.outbound { states = states; encoder = mid.outbound.encoder } → StandAs old.outbound.states states
+      → HandIs id None (open_at old.outbound.states) (open_at states) → shows (open_at old.outbound.states) id ≡ Some (place, hand)
+      → TakesHand hand place (calls got old.senders.items) (calls got mid.senders.items) (aheads ahead mid.senders.items) old.outbound.encoder mid.outbound.encoder result
+      → Took E got ahead old mid id result
+  took got ahead old mid states id place hand result outbound stands hands there takes =
+      let opened : mid.outbound.states.opened ≡ states.opened = ap (λ (x : Outbound). x.states.opened) outbound in
+      let kept : open_at mid.outbound.states ≡ open_at states = ap (λ (x : Outbound). open_at x.states) outbound in
+      record {
+        takes = subst (λ (v : Shown). TakesAt v (calls got old.senders.items) (calls got mid.senders.items) (aheads ahead mid.senders.items) old.outbound.encoder mid.outbound.encoder result)
+            (sym there) takes;
+        outbound = outbound ∙ ap (λ (x : States). record old.outbound { states = x; encoder = mid.outbound.encoder })
+            (stands ∙ ap (λ (o : List (ℕ × Option OpenStream)). record old.outbound.states { opened = o }) (sym opened));
+        hands = subst (λ (o : OpenStreams). HandIs id None (open_at old.outbound.states) o) (sym kept) hands;
+      }
+
+  pub took-ahead : (ahead : Out → List OutItem) (old mid : OutCore L In Out Shut) (id place : ℕ) (hand : Option (List ℕ)) → shows (open_at old.outbound.states) id ≡ Some (place, hand)
+      → SameElsewhere place (aheads ahead old.senders.items) (aheads ahead mid.senders.items)
+      → SameAhead (shows (open_at old.outbound.states) id) (aheads ahead old.senders.items) (aheads ahead mid.senders.items)
+  took-ahead ahead old mid id place hand there same =
+      subst (λ (v : Shown). SameAhead v (aheads ahead old.senders.items) (aheads ahead mid.senders.items)) (sym there) same
 
   pub fronts-still : (got : Out → List OutItem) (old mid new : OutCore L In Out Shut) → KeepsFronts got old mid → new.senders ≡ mid.senders → KeepsFronts got old new
   fronts-still got old mid new keeps e run all = subst (λ senders. TellFronts run (calls got senders.items)) (sym e) (keeps run all)
@@ -295,31 +363,31 @@ module _ {L In Out Shut : Type 0} where
   pub look-nothing : (E : Type 0) (got ahead : Out → List OutItem) (old mid : OutCore L In Out Shut) (id : ℕ) (result : Polled)
       → Took E got ahead old mid id (Ok result) → result ≡ polled.Nothing → HoldsOn got None old mid
   look-nothing E got ahead old mid id result took is run (marks, s, heeds) =
-      let t = subst (λ (p : Polled). TakesAt {E = E} (shows old.streams.entries id) (calls got old.senders.items) (calls got mid.senders.items) (aheads ahead mid.senders.items) old.outbound.encoder mid.outbound.encoder (Ok p)) is took.takes in
-      let found = takes-nothing E (shows old.streams.entries id) (calls got old.senders.items) (calls got mid.senders.items) (aheads ahead mid.senders.items) old.outbound.encoder mid.outbound.encoder t in
+      let t = subst (λ (p : Polled). TakesAt {E = E} (shows (open_at old.outbound.states) id) (calls got old.senders.items) (calls got mid.senders.items) (aheads ahead mid.senders.items) old.outbound.encoder mid.outbound.encoder (Ok p)) is took.takes in
+      let found = takes-nothing E (shows (open_at old.outbound.states) id) (calls got old.senders.items) (calls got mid.senders.items) (aheads ahead mid.senders.items) old.outbound.encoder mid.outbound.encoder t in
       let same = same-outbound old.outbound mid.outbound took.outbound found.1 in
       let all = told found.0 found.2 in (
         all.0,
-        subst (λ (o : Outbound). Serves run o mid.streams.entries (calls got mid.senders.items) all.0) (sym same) all.1,
-        heeds-still run old mid same (hand-closed id None old.streams.entries mid.streams.entries took.hands) heeds,
+        serves-but-open run old.outbound mid.outbound (open_at mid.outbound.states) (calls got mid.senders.items) all.0 same all.1,
+        heeds-still run old mid same (hand-closed id None (open_at old.outbound.states) (open_at mid.outbound.states) took.hands) heeds,
       )
     where
-      by : (k : ℕ) → with_hand None (shows old.streams.entries id) ≡ shows old.streams.entries id → (b : Bool) → (k == id) ≡ b
-          → (if b then with_hand None (shows old.streams.entries k) else shows old.streams.entries k) ≡ shows old.streams.entries k
-      by k same true p = subst (λ n. with_hand None (shows old.streams.entries n) ≡ shows old.streams.entries n) (sym (eqb-true k id p)) same
+      by : (k : ℕ) → with_hand None (shows (open_at old.outbound.states) id) ≡ shows (open_at old.outbound.states) id → (b : Bool) → (k == id) ≡ b
+          → (if b then with_hand None (shows (open_at old.outbound.states) k) else shows (open_at old.outbound.states) k) ≡ shows (open_at old.outbound.states) k
+      by k same true p = subst (λ n. with_hand None (shows (open_at old.outbound.states) n) ≡ shows (open_at old.outbound.states) n) (sym (eqb-true k id p)) same
       by k same false p = refl
 
-      told : LeftAt (shows old.streams.entries id) (calls got old.senders.items) (calls got mid.senders.items) → with_hand None (shows old.streams.entries id) ≡ shows old.streams.entries id
-          → (after : List (ℕ × Mark)) × Serves run old.outbound mid.streams.entries (calls got mid.senders.items) after
+      told : LeftAt (shows (open_at old.outbound.states) id) (calls got old.senders.items) (calls got mid.senders.items) → with_hand None (shows (open_at old.outbound.states) id) ≡ shows (open_at old.outbound.states) id
+          → (after : List (ℕ × Mark)) × Serves run old.outbound (open_at mid.outbound.states) (calls got mid.senders.items) after
       told (inl none) hand = (
         marks,
-        subst (λ (l : List (ℕ × List OutItem)). Serves run old.outbound mid.streams.entries l marks) (sym none)
-            (serves-hands run old.outbound old.streams.entries mid.streams.entries (calls got old.senders.items) marks
+        subst (λ (l : List (ℕ × List OutItem)). Serves run old.outbound (open_at mid.outbound.states) l marks) (sym none)
+            (serves-hands run old.outbound (open_at old.outbound.states) (open_at mid.outbound.states) (calls got old.senders.items) marks
             (λ k. took.hands k ∙ by k hand (k == id) refl) s),
       )
       told (inr (place, view, left)) hand = (
         marks ++ on_stream id [],
-        left-serves run old.outbound old.streams.entries mid.streams.entries (calls got old.senders.items) (calls got mid.senders.items) marks id place view left took.hands s,
+        left-serves run old.outbound (open_at old.outbound.states) (open_at mid.outbound.states) (calls got old.senders.items) (calls got mid.senders.items) marks id place view left took.hands s,
       )
 
   pub look-data : (E : Type 0) (got ahead : Out → List OutItem) (old mid new : OutCore L In Out Shut) (id : ℕ) (bytes : List ℕ) (result : Polled) (o : Option Frame)
@@ -327,71 +395,80 @@ module _ {L In Out Shut : Type 0} where
       → TellsData id bytes o mid new → new.senders ≡ mid.senders
       → HoldsOn got o old new
   look-data E got ahead old mid new id bytes result (Some frame) took is tells senders = λ run m.
-      let t = subst (λ (p : Polled). TakesAt {E = E} (shows old.streams.entries id) (calls got old.senders.items) (calls got mid.senders.items) (aheads ahead mid.senders.items) old.outbound.encoder mid.outbound.encoder (Ok p)) is took.takes in
-      let found = takes-message E (shows old.streams.entries id) (calls got old.senders.items) (calls got mid.senders.items) (aheads ahead mid.senders.items) old.outbound.encoder mid.outbound.encoder bytes t in
+      let t = subst (λ (p : Polled). TakesAt {E = E} (shows (open_at old.outbound.states) id) (calls got old.senders.items) (calls got mid.senders.items) (aheads ahead mid.senders.items) old.outbound.encoder mid.outbound.encoder (Ok p)) is took.takes in
+      let found = takes-message E (shows (open_at old.outbound.states) id) (calls got old.senders.items) (calls got mid.senders.items) (aheads ahead mid.senders.items) old.outbound.encoder mid.outbound.encoder bytes t in
       let same = same-outbound old.outbound mid.outbound took.outbound found.6 in (
         m.0 ++ on_stream id (map Byte tells.0),
-        subst (λ senders. Serves (Written frame ∷ run) new.outbound new.streams.entries (calls got senders.items) (m.0 ++ on_stream id (map Byte tells.0))) (sym senders)
-            (data-serves run old.outbound new.outbound new.outbound.windows old.streams.entries mid.streams.entries new.streams.entries
+        subst (λ senders. Serves (Written frame ∷ run) new.outbound (open_at new.outbound.states) (calls got senders.items) (m.0 ++ on_stream id (map Byte tells.0))) (sym senders)
+            (data-serves run old.outbound new.outbound new.outbound.windows (open_at old.outbound.states) (open_at mid.outbound.states) (open_at new.outbound.states)
             (calls got old.senders.items) (calls got mid.senders.items) m.0 id found.0 found.1 found.2 bytes tells.0 tells.1 frame found.3 found.4 found.5 took.hands tells.2 tells.3
             (subst (λ (x : Outbound). TellsMore frame (on_stream id (map Byte tells.0)) x new.outbound) same tells.4)
-            (subst (λ (x : Outbound). new.outbound ≡ record x { windows = new.outbound.windows }) same tells.5) m.1),
-        let is : new.outbound ≡ record old.outbound { windows = new.outbound.windows } = subst (λ (x : Outbound). new.outbound ≡ record x { windows = new.outbound.windows }) same tells.5 in
+            (told same tells.5) m.1),
+        let is = told same tells.5 in
             heeds-look run old new (same-ends old.outbound new.outbound (ap (λ (x : Outbound). x.due) is) (ap (λ (x : Outbound). x.states) is))
-            (standing-same old.outbound new.outbound (ap (λ (x : Outbound). x.states) is))
-            (λ k none. keeps-closed id tells.1 mid.streams.entries new.streams.entries tells.3 k (hand-closed id None old.streams.entries mid.streams.entries took.hands k none)) m.2,
+            (standing-as old.outbound new.outbound (ap (λ (x : Outbound). x.states) is))
+            (λ k none. keeps-closed id tells.1 (open_at mid.outbound.states) (open_at new.outbound.states) tells.3 k (hand-closed id None (open_at old.outbound.states) (open_at mid.outbound.states) took.hands k none)) m.2,
       )
+    where
+      told : SameButOpen old.outbound mid.outbound
+          → new.outbound ≡ record mid.outbound { windows = new.outbound.windows; states = record mid.outbound.states { opened = new.outbound.states.opened } }
+          → new.outbound ≡ record old.outbound { windows = new.outbound.windows; states = record old.outbound.states { opened = new.outbound.states.opened } }
+      told same is = subst (λ (x : Outbound). new.outbound ≡ record x { windows = new.outbound.windows; states = record x.states { opened = new.outbound.states.opened } }) same is
   look-data E got ahead old mid new id bytes result None took is tells senders = λ run m.
-      let t = subst (λ (p : Polled). TakesAt {E = E} (shows old.streams.entries id) (calls got old.senders.items) (calls got mid.senders.items) (aheads ahead mid.senders.items) old.outbound.encoder mid.outbound.encoder (Ok p)) is took.takes in
-      let found = takes-message E (shows old.streams.entries id) (calls got old.senders.items) (calls got mid.senders.items) (aheads ahead mid.senders.items) old.outbound.encoder mid.outbound.encoder bytes t in
+      let t = subst (λ (p : Polled). TakesAt {E = E} (shows (open_at old.outbound.states) id) (calls got old.senders.items) (calls got mid.senders.items) (aheads ahead mid.senders.items) old.outbound.encoder mid.outbound.encoder (Ok p)) is took.takes in
+      let found = takes-message E (shows (open_at old.outbound.states) id) (calls got old.senders.items) (calls got mid.senders.items) (aheads ahead mid.senders.items) old.outbound.encoder mid.outbound.encoder bytes t in
       let same = same-outbound old.outbound mid.outbound took.outbound found.6 in (
         m.0 ++ on_stream id [],
-        subst (λ (x : Outbound). Serves run x new.streams.entries (calls got new.senders.items) (m.0 ++ on_stream id [])) (sym (tells.1 ∙ same))
-            (subst (λ senders. Serves run old.outbound new.streams.entries (calls got senders.items) (m.0 ++ on_stream id [])) (sym senders)
-            (kept-serves run old.outbound old.streams.entries mid.streams.entries new.streams.entries
+        serves-but-open run old.outbound new.outbound (open_at new.outbound.states) (calls got new.senders.items) (m.0 ++ on_stream id []) (but-then old.outbound mid.outbound new.outbound same tells.1)
+            (subst (λ senders. Serves run old.outbound (open_at new.outbound.states) (calls got senders.items) (m.0 ++ on_stream id [])) (sym senders)
+            (kept-serves run old.outbound (open_at old.outbound.states) (open_at mid.outbound.states) (open_at new.outbound.states)
             (calls got old.senders.items) (calls got mid.senders.items) m.0 id found.0 found.1 found.2 bytes found.3 found.4 found.5 took.hands tells.0 m.1)),
-        heeds-still run old new (tells.1 ∙ same)
-            (λ k none. hand-closed id (Some bytes) mid.streams.entries new.streams.entries tells.0 k (hand-closed id None old.streams.entries mid.streams.entries took.hands k none)) m.2,
+        heeds-still run old new (but-then old.outbound mid.outbound new.outbound same tells.1)
+            (λ k none. hand-closed id (Some bytes) (open_at mid.outbound.states) (open_at new.outbound.states) tells.0 k (hand-closed id None (open_at old.outbound.states) (open_at mid.outbound.states) took.hands k none)) m.2,
       )
 
   pub look-empty : (E : Type 0) (got ahead : Out → List OutItem) (old mid : OutCore L In Out Shut) (id : ℕ) (bytes : List ℕ) (result : Polled)
       → Took E got ahead old mid id (Ok result) → result ≡ polled.Message bytes → bytes ≡ [] → HoldsOn got None old mid
   look-empty E got ahead old mid id bytes result took is none = λ run m.
-      let t = subst (λ (p : Polled). TakesAt {E = E} (shows old.streams.entries id) (calls got old.senders.items) (calls got mid.senders.items) (aheads ahead mid.senders.items) old.outbound.encoder mid.outbound.encoder (Ok p)) is took.takes in
-      let found = takes-message E (shows old.streams.entries id) (calls got old.senders.items) (calls got mid.senders.items) (aheads ahead mid.senders.items) old.outbound.encoder mid.outbound.encoder bytes t in
+      let t = subst (λ (p : Polled). TakesAt {E = E} (shows (open_at old.outbound.states) id) (calls got old.senders.items) (calls got mid.senders.items) (aheads ahead mid.senders.items) old.outbound.encoder mid.outbound.encoder (Ok p)) is took.takes in
+      let found = takes-message E (shows (open_at old.outbound.states) id) (calls got old.senders.items) (calls got mid.senders.items) (aheads ahead mid.senders.items) old.outbound.encoder mid.outbound.encoder bytes t in
       let same = same-outbound old.outbound mid.outbound took.outbound found.6 in (
         m.0 ++ on_stream id [],
-        subst (λ (x : Outbound). Serves run x mid.streams.entries (calls got mid.senders.items) (m.0 ++ on_stream id [])) (sym same)
-            (empty-serves run old.outbound old.streams.entries mid.streams.entries
+        serves-but-open run old.outbound mid.outbound (open_at mid.outbound.states) (calls got mid.senders.items) (m.0 ++ on_stream id []) same
+            (empty-serves run old.outbound (open_at old.outbound.states) (open_at mid.outbound.states)
             (calls got old.senders.items) (calls got mid.senders.items) m.0 id found.0 found.1 found.2 bytes found.3 found.4 found.5 none took.hands m.1),
-        heeds-still run old mid same (hand-closed id None old.streams.entries mid.streams.entries took.hands) m.2,
+        heeds-still run old mid same (hand-closed id None (open_at old.outbound.states) (open_at mid.outbound.states) took.hands) m.2,
       )
 
   pub look-block : (E : Type 0) (got ahead : Out → List OutItem) (old mid fin : OutCore L In Out Shut) (after : Outbound) (id : ℕ) (bytes : List ℕ) (ends_it : Bool) (result : Polled) (frame : Frame)
       → Took E got ahead old mid id (Ok result) → result ≡ polled.Block bytes ends_it
-      → fin.outbound ≡ mid.outbound → Removes id ends_it mid.streams.entries fin.streams.entries → fin.senders ≡ mid.senders
+      → SameButOpen mid.outbound fin.outbound → Removes id ends_it (open_at mid.outbound.states) (open_at fin.outbound.states) → fin.senders ≡ mid.senders
       → TellsBlock id ends_it bytes frame fin.outbound after → Ends fin.outbound.states id ends_it after.states → SameOwed fin.outbound.states after.states
-      → after ≡ record fin.outbound { windows = after.windows; states = after.states; block = after.block }
+      → SameOpen fin.outbound.states after.states → after ≡ record fin.outbound { windows = after.windows; states = after.states; block = after.block }
       → HoldsOn got (Some frame) old (record fin { outbound = after })
-  look-block E got ahead old mid fin after id bytes ends_it result frame took is_block outbound removes senders tells over owed is run (marks, s, heeds) =
-      let t = subst (λ (p : Polled). TakesAt {E = E} (shows old.streams.entries id) (calls got old.senders.items) (calls got mid.senders.items) (aheads ahead mid.senders.items) old.outbound.encoder mid.outbound.encoder (Ok p)) is_block took.takes in
-      let found = takes-block E (shows old.streams.entries id) (calls got old.senders.items) (calls got mid.senders.items) (aheads ahead mid.senders.items) old.outbound.encoder mid.outbound.encoder bytes ends_it t in
-      let same : fin.outbound ≡ record old.outbound { encoder = mid.outbound.encoder } = outbound ∙ took.outbound in
+  look-block E got ahead old mid fin after id bytes ends_it result frame took is_block outbound removes senders tells over owed kept is run (marks, s, heeds) =
+      let t = subst (λ (p : Polled). TakesAt {E = E} (shows (open_at old.outbound.states) id) (calls got old.senders.items) (calls got mid.senders.items) (aheads ahead mid.senders.items) old.outbound.encoder mid.outbound.encoder (Ok p)) is_block took.takes in
+      let found = takes-block E (shows (open_at old.outbound.states) id) (calls got old.senders.items) (calls got mid.senders.items) (aheads ahead mid.senders.items) old.outbound.encoder mid.outbound.encoder bytes ends_it t in
+      let same : fin.outbound ≡ record old.outbound { encoder = mid.outbound.encoder; states = record old.outbound.states { opened = fin.outbound.states.opened } } =
+      outbound ∙ ap (λ (x : Outbound). record x { states = record x.states { opened = fin.outbound.states.opened } }) took.outbound in
       let told : TellsBlock id ends_it bytes frame (record old.outbound { encoder = mid.outbound.encoder }) after =
       subst (λ (x : Outbound). TellsBlock id ends_it bytes frame x after) same tells in
       let owed_same : SameOwed old.outbound.states after.states = subst (λ (x : Outbound). SameOwed x.states after.states) same owed in
+      let ended : Ends old.outbound.states id ends_it after.states =
+      ends-from old.outbound.states after.states fin.outbound.states.opened id ends_it (subst (λ (x : Outbound). Ends x.states id ends_it after.states) same over) in
       let rest : after ≡ record old.outbound { encoder = mid.outbound.encoder; windows = after.windows; states = after.states; block = after.block } =
-      subst (λ (x : Outbound). after ≡ record x { windows = after.windows; states = after.states; block = after.block }) same is in (
+      subst (λ (x : Outbound). after ≡ record x { windows = after.windows; states = after.states; block = after.block }) same is in
+      let served : Serves (Written frame ∷ run) after (open_at fin.outbound.states) (calls got mid.senders.items) (marks ++ block_marks id found.1 ends_it) =
+      head-serves run old.outbound after (open_at old.outbound.states) (open_at mid.outbound.states) (open_at fin.outbound.states) (calls got old.senders.items) (calls got mid.senders.items)
+      marks id found.0 found.1 ends_it frame found.2 found.3 took.hands removes
+      (told run marks found.1 old.outbound.encoder s.spells.1 found.4)
+      (ap (λ (x : Outbound). x.due.items) (sym rest)) (λ k. (owed_same.0 k).0) ended s in (
         marks ++ block_marks id found.1 ends_it,
-        subst (λ senders. Serves (Written frame ∷ run) after fin.streams.entries (calls got senders.items) (marks ++ block_marks id found.1 ends_it)) (sym senders)
-            (head-serves run old.outbound after old.streams.entries mid.streams.entries fin.streams.entries (calls got old.senders.items) (calls got mid.senders.items)
-            marks id found.0 found.1 ends_it frame found.2 found.3 took.hands removes
-            (told run marks found.1 old.outbound.encoder s.spells.1 found.4)
-            (ap (λ (x : Outbound). x.due.items) (sym rest)) (λ k. (owed_same.0 k).0)
-            (subst (λ (x : Outbound). Ends x.states id ends_it after.states) same over) s),
+        subst (λ (streams : OpenStreams). Serves (Written frame ∷ run) after streams (calls got fin.senders.items) (marks ++ block_marks id found.1 ends_it)) (sym kept)
+            (subst (λ senders. Serves (Written frame ∷ run) after (open_at fin.outbound.states) (calls got senders.items) (marks ++ block_marks id found.1 ends_it)) (sym senders) served),
         heeds-look run old (record fin { outbound = after })
-            (block-ends old.outbound after id ends_it (ap (λ (x : Outbound). x.due) rest) owed_same
-            (subst (λ (x : Outbound). Ends x.states id ends_it after.states) same over))
-            (λ k. ((owed_same.0 k).0, (owed_same.0 k).2, ends-heard old.outbound.states after.states id ends_it (subst (λ (x : Outbound). Ends x.states id ends_it after.states) same over) k))
-            (λ k none. removes-closed id ends_it mid.streams.entries fin.streams.entries removes k (hand-closed id None old.streams.entries mid.streams.entries took.hands k none)) heeds,
+            (block-ends old.outbound after id ends_it (ap (λ (x : Outbound). x.due) rest) owed_same ended)
+            (λ k. ((owed_same.0 k).0, (owed_same.0 k).2, ends-heard old.outbound.states after.states id ends_it ended k))
+            (λ k none. ap (λ (o : OpenStreams). o k) kept
+            ∙ removes-closed id ends_it (open_at mid.outbound.states) (open_at fin.outbound.states) removes k (hand-closed id None (open_at old.outbound.states) (open_at mid.outbound.states) took.hands k none)) heeds,
       )

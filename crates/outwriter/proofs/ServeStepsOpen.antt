@@ -1,17 +1,17 @@
 -- What a frame of an open stream leads to: DATA, a head, or trailers, after which it is open no more.
-use Rattle.std.proofs.Common.{◌≡◌, ℕ, ◌<◌, ◌==◌, inl, refl, sym, ap, subst, ◌∙◌, Bool, true, false, List, [], ◌∷◌, ◌++◌, Option, Some, None, length, arith, nat_eq, append_assoc, true≢false}
+use Rattle.std.proofs.Common.{◌≡◌, ℕ, ◌<◌, ◌==◌, inl, refl, sym, ap, subst, ◌∙◌, Bool, true, false, List, [], ◌∷◌, ◌++◌, Option, Some, None, length, arith, append_assoc, true≢false}
 use Rattle.std.specs.Prelude.{get_or, ◌≢◌, is_some, if◌then◌else◌}
-use Rattle.std.specs.Map.{lookup}
 use Rattle.std.proofs.lemmas.Bool.{eqb-true, eq-eqb}
 use Rattle.std.proofs.lemmas.Grind.{flat_map-append}
 use Rattle.std.proofs.lemmas.List.{get_or-set_same, get_or-set_other, length-set, get_or_default}
 use Rattle.account.specs.declared.call.OutItem.{OutItem}
+use Rattle.outwriter.specs.OpenStreams.{OpenStreams, Shown, shown, shows}
 use Rattle.outwriter.specs.declared.outbound.Outbound.{Outbound}
 use Rattle.outwriter.specs.declared.stream.OpenStream.{OpenStream}
 use Rattle.outwriter.specs.Calls.{is_fresh, is_served}
 use Rattle.outwriter.specs.States.{SameEnds, SetsEnd, is_heard, knows, over_on}
 use Rattle.outwriter.specs.Parts.{Mark, marks_on, on_stream, spelled, marks_of_item}
-use Rattle.outwriter.specs.StreamLooks.{Shown, shown, shows, with_item, one_more}
+use Rattle.outwriter.specs.StreamLooks.{with_item, one_more}
 use Rattle.outwriter.specs.CallState.{bytes_marks, IsExact, IsEnded, Serves}
 use Rattle.outwriter.specs.Steps.{Step}
 use Rattle.outwriter.specs.ToldByNow.{SpellsOf}
@@ -64,7 +64,7 @@ balance told old more rest items news e f =
 
 -- ---- an open stream goes on
 
-pub goes-on : (run next : List Step) (o after : Outbound) (streams left : List (ℕ × OpenStream)) (calls now : List (ℕ × List OutItem))
+pub goes-on : (run next : List Step) (o after : Outbound) (streams left : OpenStreams) (calls now : List (ℕ × List OutItem))
     (marks : List (ℕ × Mark)) (id place : ℕ) (was hand : Option (List ℕ)) (more : List Mark) (news : List OutItem)
     → ((k : ℕ) → is_fresh k next ≡ is_fresh k run) → ((k : ℕ) → is_served k next ≡ is_served k run) → Later run next
     → SpellsOf next after (marks ++ on_stream id more)
@@ -93,15 +93,15 @@ goes-on run next o after streams left calls now marks id place was hand more new
           subst (λ (n : ℕ). IsExact n st now (marks_on n (marks ++ on_stream id more))) (sym (eqb-true k id p)) (exact-here st (same k st p e));
       not_over = λ k st p e. (same_ends k).0 ∙ subst (λ (n : ℕ). over_on o.states n ≡ None) (sym (eqb-true k id p)) (s.not_over id f.0 f.1);
       ended = λ k d lt p none is. absurd (still (get_or calls k d).0 p none);
-      returned = λ k items p none is e. absurd (none-some f.0 (sym (subst (λ (n : ℕ). lookup (nat_eq n) streams ≡ None) (eqb-true k id p) none) ∙ f.1));
+      returned = λ k items p none is e. absurd (none-some f.0 (sym (subst (λ (n : ℕ). streams n ≡ None) (eqb-true k id p) none) ∙ f.1));
       unknown = λ k p e. absurd (true≢false (sym (knows-heard o.states id (s.known id f.0 f.1)) ∙ subst (λ (n : ℕ). is_heard o.states n ≡ false) (eqb-true k id p) e));
       other = λ k p is. absurd (true≢false (sym is ∙ ap (λ n. is_fresh n run) (eqb-true k id p) ∙ known-stale run o s.brought id (s.known id f.0 f.1)));
       stays = λ k p none. absurd (still k p none);
       uncalled = λ k p e. absurd (true≢false (sym (s.known id f.0 f.1) ∙ subst (λ (n : ℕ). knows o.states n ≡ false) (eqb-true k id p) e));
     }) s
   where
-    f : (stream : OpenStream) × (lookup (nat_eq id) streams ≡ Some stream) × (stream.place ≡ place) × (stream.in_hand ≡ was)
-    f = shown-some (lookup (nat_eq id) streams) (place, was) view
+    f : (stream : OpenStream) × (streams id ≡ Some stream) × (stream.place ≡ place) × (stream.in_hand ≡ was)
+    f = shown-some (streams id) (place, was) view
 
     within : place < length calls
     within = omega (arith, (s.exact id f.0 f.1).0, f.2)
@@ -113,17 +113,17 @@ goes-on run next o after streams left calls now marks id place was hand more new
     there : (k : ℕ) → (k == id) ≡ true → shows left k ≡ Some (place, hand)
     there k p = left_shows k ∙ ap (λ b. if b then Some (place, hand) else shows streams k) p
 
-    still : (k : ℕ) → (k == id) ≡ true → lookup (nat_eq k) left ≡ None → ⊥
+    still : (k : ℕ) → (k == id) ≡ true → left k ≡ None → ⊥
     still k p none = none-some (place, hand) (sym (ap shown none) ∙ there k p)
 
-    same : (k : ℕ) (st : OpenStream) → (k == id) ≡ true → lookup (nat_eq k) left ≡ Some st → (st.place ≡ place) × (st.in_hand ≡ hand)
+    same : (k : ℕ) (st : OpenStream) → (k == id) ≡ true → left k ≡ Some st → (st.place ≡ place) × (st.in_hand ≡ hand)
     same k st p e =
         let both : Some (st.place, st.in_hand) ≡ Some (place, hand) = sym (ap shown e) ∙ there k p in
         (ap (λ (x : Shown). (from_some (place, hand) x).0) both, ap (λ (x : Shown). (from_some (place, hand) x).1) both)
 
-    closed-by : (k : ℕ) → lookup (nat_eq k) streams ≡ None → (b : Bool) → (k == id) ≡ b → lookup (nat_eq k) left ≡ None
-    closed-by k none true p = absurd (none-some f.0 (sym (subst (λ (n : ℕ). lookup (nat_eq n) streams ≡ None) (eqb-true k id p) none) ∙ f.1))
-    closed-by k none false p = none-shown (lookup (nat_eq k) left) (left_shows k ∙ ap (λ b. if b then Some (place, hand) else shows streams k) p ∙ ap shown none)
+    closed-by : (k : ℕ) → streams k ≡ None → (b : Bool) → (k == id) ≡ b → left k ≡ None
+    closed-by k none true p = absurd (none-some f.0 (sym (subst (λ (n : ℕ). streams n ≡ None) (eqb-true k id p) none) ∙ f.1))
+    closed-by k none false p = none-shown (left k) (left_shows k ∙ ap (λ b. if b then Some (place, hand) else shows streams k) p ∙ ap shown none)
 
     exact-here : (st : OpenStream) → (st.place ≡ place) × (st.in_hand ≡ hand) → IsExact id st now (marks_on id (marks ++ on_stream id more))
     exact-here st is = (
@@ -139,7 +139,7 @@ goes-on run next o after streams left calls now marks id place was hand more new
 
 -- ---- an open stream ends
 
-pub ends : (run next : List Step) (o after : Outbound) (streams left : List (ℕ × OpenStream)) (calls now : List (ℕ × List OutItem))
+pub ends : (run next : List Step) (o after : Outbound) (streams left : OpenStreams) (calls now : List (ℕ × List OutItem))
     (marks : List (ℕ × Mark)) (id place : ℕ) (was : Option (List ℕ)) (more : List Mark) (news : List OutItem)
     → ((k : ℕ) → is_fresh k next ≡ is_fresh k run) → ((k : ℕ) → is_served k next ≡ is_served k run) → Later run next
     → SpellsOf next after (marks ++ on_stream id more)
@@ -167,15 +167,15 @@ ends run next o after streams left calls now marks id place was more news fresh 
       exact = λ k st p e. absurd (gone k p st e);
       not_over = λ k st p e. absurd (gone k p st e);
       ended = λ k d lt p none is. ended-by k d lt p is (k == place) refl;
-      returned = λ k items p none is e. absurd (none-some f.0 (sym (subst (λ (n : ℕ). lookup (nat_eq n) streams ≡ None) (eqb-true k id p) none) ∙ f.1));
+      returned = λ k items p none is e. absurd (none-some f.0 (sym (subst (λ (n : ℕ). streams n ≡ None) (eqb-true k id p) none) ∙ f.1));
       unknown = λ k p e. absurd (true≢false (sym (knows-heard o.states id (s.known id f.0 f.1)) ∙ subst (λ (n : ℕ). is_heard o.states n ≡ false) (eqb-true k id p) e));
       other = λ k p is. absurd (true≢false (sym is ∙ ap (λ n. is_fresh n run) (eqb-true k id p) ∙ known-stale run o s.brought id (s.known id f.0 f.1)));
       stays = λ k p none. ap is_some (sets.0 k ∙ ap (λ b. if b then Some false else over_on o.states k) p);
       uncalled = λ k p e. absurd (true≢false (sym (s.known id f.0 f.1) ∙ subst (λ (n : ℕ). knows o.states n ≡ false) (eqb-true k id p) e));
     }) s
   where
-    f : (stream : OpenStream) × (lookup (nat_eq id) streams ≡ Some stream) × (stream.place ≡ place) × (stream.in_hand ≡ was)
-    f = shown-some (lookup (nat_eq id) streams) (place, was) view
+    f : (stream : OpenStream) × (streams id ≡ Some stream) × (stream.place ≡ place) × (stream.in_hand ≡ was)
+    f = shown-some (streams id) (place, was) view
 
     within : place < length calls
     within = omega (arith, (s.exact id f.0 f.1).0, f.2)
@@ -184,12 +184,12 @@ ends run next o after streams left calls now marks id place was more news fresh 
     at d = subst (λ (n : ℕ). ((get_or calls n d).0 ≡ id) × (marks_on id marks ++ bytes_marks was ≡ spelled (get_or calls n d).1)) f.2
         (subst (λ (h : Option (List ℕ)). ((get_or calls f.0.place d).0 ≡ id) × (marks_on id marks ++ bytes_marks h ≡ spelled (get_or calls f.0.place d).1)) f.3 ((s.exact id f.0 f.1).1 d))
 
-    gone : (k : ℕ) → (k == id) ≡ true → (st : OpenStream) → lookup (nat_eq k) left ≡ Some st → ⊥
+    gone : (k : ℕ) → (k == id) ≡ true → (st : OpenStream) → left k ≡ Some st → ⊥
     gone k p st e = some-none (st.place, st.in_hand) (sym (ap shown e) ∙ left_shows k ∙ ap (λ (b : Bool). if b then None else shows streams k) p)
 
-    closed-by : (k : ℕ) → lookup (nat_eq k) streams ≡ None → (b : Bool) → (k == id) ≡ b → lookup (nat_eq k) left ≡ None
-    closed-by k none true p = none-shown (lookup (nat_eq k) left) (left_shows k ∙ ap (λ (b : Bool). if b then None else shows streams k) p)
-    closed-by k none false p = none-shown (lookup (nat_eq k) left) (left_shows k ∙ ap (λ (b : Bool). if b then None else shows streams k) p ∙ ap shown none)
+    closed-by : (k : ℕ) → streams k ≡ None → (b : Bool) → (k == id) ≡ b → left k ≡ None
+    closed-by k none true p = none-shown (left k) (left_shows k ∙ ap (λ (b : Bool). if b then None else shows streams k) p)
+    closed-by k none false p = none-shown (left k) (left_shows k ∙ ap (λ (b : Bool). if b then None else shows streams k) p ∙ ap shown none)
 
     all-told : (d : ℕ × List OutItem) → marks_on id (marks ++ on_stream id more) ≡ spelled (get_or now place d).1
     all-told d = more-here id marks more ∙ sym (append-nil (marks_on id marks ++ more))

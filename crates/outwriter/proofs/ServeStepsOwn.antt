@@ -1,19 +1,18 @@
 -- What a frame that is none of an open stream leads to, and what was due and isn't written.
-use Rattle.std.proofs.Common.{◌≡◌, ℕ, ◌==◌, inl, inr, refl, sym, ap, subst, ◌∙◌, Bool, true, false, List, [], ◌∷◌, ◌++◌, Option, Some, None, arith, nat_eq, append_assoc, true≢false}
+use Rattle.std.proofs.Common.{◌≡◌, ℕ, ◌==◌, inl, inr, refl, sym, ap, subst, ◌∙◌, Bool, true, false, List, [], ◌∷◌, ◌++◌, Option, Some, None, arith, append_assoc, true≢false}
 use Rattle.std.specs.Prelude.{All, get_or, is_some, if◌then◌else◌}
-use Rattle.std.specs.Map.{lookup}
 use Rattle.std.proofs.lemmas.Bool.{eqb-true}
 use Rattle.account.specs.declared.call.OutItem.{OutItem}
 use Rattle.h2frame.specs.declared.frame.Frame.{Frame}
 use Rattle.outwriter.specs.declared.due.Due.{Due}
 use Rattle.outwriter.specs.declared.due.Due.TheVariants as due_kind
 use Rattle.outwriter.specs.declared.outbound.Outbound.{Outbound}
-use Rattle.outwriter.specs.declared.stream.OpenStream.{OpenStream}
 use Rattle.outwriter.specs.Calls.{is_fresh, is_served, IsRefused}
 use Rattle.outwriter.specs.States.{SameEnds, is_heard, knows, over_on}
 use Rattle.outwriter.specs.Parts.{Mark, Fields, End, Reset, marks_on, on_stream}
-use Rattle.outwriter.specs.StreamLooks.{shown, SameHands}
+use Rattle.outwriter.specs.OpenStreams.{OpenStreams, SameHands, shown}
 use Rattle.outwriter.specs.CallState.{IsEnded, MayBeDue, Serves, has_reason, IsPlain, IsReset, IsRefusal, Rests}
+use Rattle.outwriter.specs.RunState.{SameButOpen}
 use Rattle.outwriter.specs.Steps.{Step, Written}
 use Rattle.outwriter.specs.ToldByNow.{SpellsOf, block_marks}
 use Rattle.outwriter.proofs.Others.{Later, later-none, later-written}
@@ -22,7 +21,7 @@ use Rattle.outwriter.proofs.StateLemmas.{hears-again}
 use Rattle.outwriter.proofs.ServeSteps.{append-nil, All-later, more-here, more-elsewhere, marks-append, none-some, some-none, none-shown, serves-changed}
 
 -- of no stream anything changes
-pub serves-same : (run next : List Step) (o after : Outbound) (streams left : List (ℕ × OpenStream)) (calls : List (ℕ × List OutItem))
+pub serves-same : (run next : List Step) (o after : Outbound) (streams left : OpenStreams) (calls : List (ℕ × List OutItem))
     (marks told : List (ℕ × Mark))
     → ((k : ℕ) → is_fresh k next ≡ is_fresh k run) → ((k : ℕ) → is_served k next ≡ is_served k run) → Later run next → SpellsOf next after told
     → (front : List Due) → o.due.items ≡ front ++ after.due.items → ((k : ℕ) → knows after.states k ≡ knows o.states k)
@@ -44,7 +43,7 @@ serves-same run next o after streams left calls marks told fresh served later sp
       same_calls = λ k d lt p. refl;
       same_length = refl;
       numbers = λ k d lt. refl;
-      closed = λ k none. none-shown (lookup (nat_eq k) left) (hands k ∙ ap shown none);
+      closed = λ k none. none-shown (left k) (hands k ∙ ap shown none);
       exact = λ k st p e. absurd (true≢false (sym p));
       not_over = λ k st p e. absurd (true≢false (sym p));
       ended = λ k d lt p none is. absurd (true≢false (sym p));
@@ -56,18 +55,26 @@ serves-same run next o after streams left calls marks told fresh served later sp
     }) s
 
 -- the streams' places and what is in hand are the same
-pub serves-hands : (run : List Step) (o : Outbound) (streams left : List (ℕ × OpenStream)) (calls : List (ℕ × List OutItem))
+pub serves-hands : (run : List Step) (o : Outbound) (streams left : OpenStreams) (calls : List (ℕ × List OutItem))
     (marks : List (ℕ × Mark)) → SameHands streams left → Serves run o streams calls marks → Serves run o left calls marks
 serves-hands run o streams left calls marks hands s =
     serves-same run run o o streams left calls marks marks (λ k. refl) (λ k. refl) (later-none run) s.spells [] refl (λ k. refl) (λ k. (refl, refl)) hands (λ k. refl) s
 
-pub serves-rests : (run : List Step) (o after : Outbound) (streams : List (ℕ × OpenStream)) (calls : List (ℕ × List OutItem))
+-- what a writer keeps of them changes
+pub serves-but-open : (run : List Step) (o after : Outbound) (streams : OpenStreams) (calls : List (ℕ × List OutItem))
+    (marks : List (ℕ × Mark)) → SameButOpen o after → Serves run o streams calls marks → Serves run after streams calls marks
+serves-but-open run o after streams calls marks e s =
+    subst (λ (x : Outbound). Serves run x streams calls marks) (sym e)
+    (serves-same run run o (record o { states = record o.states { opened = after.states.opened } }) streams streams calls marks marks (λ k. refl) (λ k. refl) (later-none run) s.spells [] refl
+    (λ k. refl) (λ k. (refl, refl)) (λ k. refl) (λ k. refl) s)
+
+pub serves-rests : (run : List Step) (o after : Outbound) (streams : OpenStreams) (calls : List (ℕ × List OutItem))
     (marks : List (ℕ × Mark)) → Rests o after → Serves run o streams calls marks → Serves run after streams calls marks
 serves-rests run o after streams calls marks r s =
     serves-same run run o after streams streams calls marks marks (λ k. refl) (λ k. refl) (later-none run) (rests-tells o after r run marks s.spells) r.due.0 r.due.1 (λ k. (r.standing k).0)
     r.over (λ k. refl) (λ k. refl) s
 
-pub serves-plain : (run : List Step) (o after : Outbound) (streams : List (ℕ × OpenStream)) (calls : List (ℕ × List OutItem))
+pub serves-plain : (run : List Step) (o after : Outbound) (streams : OpenStreams) (calls : List (ℕ × List OutItem))
     (marks : List (ℕ × Mark)) (frame : Frame) → ((k : ℕ) → knows after.states k ≡ knows o.states k) → IsPlain frame o after
     → Serves run o streams calls marks → Serves (Written frame ∷ run) after streams calls (marks ++ [])
 serves-plain run o after streams calls marks frame known plain s =
@@ -75,7 +82,7 @@ serves-plain run o after streams calls marks frame known plain s =
     plain.2.0 plain.2.1 known plain.1 (λ k. refl)
     (λ k. marks-append k marks [] ∙ append-nil (marks_on k marks)) s
 
-first-due : (run : List Step) (o : Outbound) (streams : List (ℕ × OpenStream)) (front rest : List Due) (one : Due)
+first-due : (run : List Step) (o : Outbound) (streams : OpenStreams) (front rest : List Due) (one : Due)
     → o.due.items ≡ front ++ one ∷ rest → All (MayBeDue run o streams) o.due.items → MayBeDue run o streams one
 first-due run o streams front rest one e all =
     All-later (MayBeDue run o streams) front (one ∷ rest) (subst (All (MayBeDue run o streams)) e all) 0 one (omega arith)
@@ -90,7 +97,7 @@ reset-ends : (over after : Option Bool) (told more : List Mark) (items : List Ou
     → IsEnded over told items → IsEnded after more items
 reset-ends over after told more items code none is e ended = (inr (told, code, ended.1 (none-true over none), e), λ ne. absurd (ne is))
 
-pub serves-reset : (run : List Step) (o after : Outbound) (streams : List (ℕ × OpenStream)) (calls : List (ℕ × List OutItem))
+pub serves-reset : (run : List Step) (o after : Outbound) (streams : OpenStreams) (calls : List (ℕ × List OutItem))
     (marks : List (ℕ × Mark)) (frame : Frame) → ((k : ℕ) → knows after.states k ≡ knows o.states k) → (r : IsReset frame o after)
     → Serves run o streams calls marks → Serves (Written frame ∷ run) after streams calls (marks ++ on_stream r.0 (Reset r.4.0 ∷ []))
 serves-reset run o after streams calls marks frame known r s =
@@ -128,11 +135,11 @@ serves-reset run o after streams calls marks frame known r s =
     more : List Mark
     more = Reset r.4.0 ∷ []
 
-    may : (lookup (nat_eq id) streams ≡ None) × (is_heard o.states id ≡ true)
+    may : (streams id ≡ None) × (is_heard o.states id ≡ true)
     may = first-due run o streams r.2 after.due.items (due_kind.Reset id r.1) r.3 s.due
 
-    none : (k : ℕ) → (k == id) ≡ true → lookup (nat_eq k) streams ≡ None
-    none k p = subst (λ (n : ℕ). lookup (nat_eq n) streams ≡ None) (sym (eqb-true k id p)) may.0
+    none : (k : ℕ) → (k == id) ≡ true → streams k ≡ None
+    none k p = subst (λ (n : ℕ). streams n ≡ None) (sym (eqb-true k id p)) may.0
 
     was-open : (k : ℕ) → (k == id) ≡ true → over_on o.states k ≡ None
     was-open k p = subst (λ (n : ℕ). over_on o.states n ≡ None) (sym (eqb-true k id p)) r.5
@@ -148,7 +155,7 @@ serves-reset run o after streams calls marks frame known r s =
         (more-at k p)
         ended
 
-pub serves-refusal : (run : List Step) (o after : Outbound) (streams : List (ℕ × OpenStream)) (calls : List (ℕ × List OutItem))
+pub serves-refusal : (run : List Step) (o after : Outbound) (streams : OpenStreams) (calls : List (ℕ × List OutItem))
     (marks : List (ℕ × Mark)) (frame : Frame) → ((k : ℕ) → knows after.states k ≡ knows o.states k) → (r : IsRefusal frame o after)
     → Serves run o streams calls marks → Serves (Written frame ∷ run) after streams calls (marks ++ block_marks r.0 r.1 true)
 serves-refusal run o after streams calls marks frame known r s =
@@ -190,11 +197,11 @@ serves-refusal run o after streams calls marks frame known r s =
     more : List Mark
     more = Fields r.1 ∷ End ∷ []
 
-    may : (is_fresh id run ≡ false) × (is_served id run ≡ false) × (lookup (nat_eq id) streams ≡ None) × (is_heard o.states id ≡ true) × IsRefused id r.1 run × (has_reason id run ≡ true)
+    may : (is_fresh id run ≡ false) × (is_served id run ≡ false) × (streams id ≡ None) × (is_heard o.states id ≡ true) × IsRefused id r.1 run × (has_reason id run ≡ true)
     may = first-due run o streams r.2 after.due.items (due_kind.Refuse id r.1) r.3 s.due
 
-    none : (k : ℕ) → (k == id) ≡ true → lookup (nat_eq k) streams ≡ None
-    none k p = subst (λ (n : ℕ). lookup (nat_eq n) streams ≡ None) (sym (eqb-true k id p)) may.2
+    none : (k : ℕ) → (k == id) ≡ true → streams k ≡ None
+    none k p = subst (λ (n : ℕ). streams n ≡ None) (sym (eqb-true k id p)) may.2
 
     was-open : (k : ℕ) → (k == id) ≡ true → over_on o.states k ≡ None
     was-open k p = subst (λ (n : ℕ). over_on o.states n ≡ None) (sym (eqb-true k id p)) r.5

@@ -9,11 +9,12 @@ use Rattle.callbox.specs.declared.sender.Sender.{Sender}
 use Rattle.lane.specs.Lawful.{last_of}
 use Rattle.lane.proofs.KnownItems.{last_of_push}
 use Rattle.hpack_codec.specs.Codec.{Encoding}
+use Rattle.outwriter.specs.OpenStreams.{Shown, shown}
 use Rattle.outwriter.specs.declared.stream.OpenStream.{OpenStream}
 use Rattle.outwriter.specs.declared.stream.Polled.{Polled}
 use Rattle.outwriter.specs.declared.stream.Polled.TheVariants as polled
 use Rattle.outwriter.specs.Cores.{calls, lanes}
-use Rattle.outwriter.specs.StreamLooks.{Shown, shown, with_item, one_more, TakesHand, TakesAt, SameAhead, aheads}
+use Rattle.outwriter.specs.StreamLooks.{with_item, one_more, TakesHand, TakesAt, SameAhead, aheads}
 use Rattle.outwriter.specs.Polls.{Polls, block_item, GotNone, to_write}
 
 module _ {L In Out Shut : Type 0} where

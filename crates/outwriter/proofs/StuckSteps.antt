@@ -1,7 +1,7 @@
 -- Where a look at a stream finds nothing to write, nothing can be written on it, and of the other streams all is the same.
-use Rattle.std.proofs.Common.{true, ◌≡◌, ℕ, refl, sym, ap, subst, ◌∙◌, Bool, false, List, [], Option, Some, None, nat_eq, true≢false}
-use Rattle.std.specs.Prelude.{IfOk, Result, Ok, Err, get_or, ◌≢◌, ◌&&◌, not, is_some, if◌then◌else◌}
-use Rattle.std.specs.Map.{lookup}
+use Rattle.std.proofs.Common.{true, ◌≡◌, inl, inr, ℕ, refl, sym, ap, subst, ◌∙◌, false, List, [], Option, Some, None, true≢false}
+use Rattle.std.specs.Prelude.{IfOk, Result, Ok, Err, get_or, ◌≢◌, is_some, if◌then◌else◌}
+use Rattle.std.specs.Option.{option_map}
 use Rattle.std.proofs.lemmas.Bool.{eq-eqb, ne_eqb}
 use Rattle.account.specs.declared.call.OutItem.{OutItem}
 use Rattle.flow.specs.Windows.{Windows, room}
@@ -13,10 +13,12 @@ use Rattle.outwriter.specs.declared.stream.Polled.TheVariants as polled
 use Rattle.outwriter.specs.declared.stream.Looked.{Looked}
 use Rattle.outwriter.specs.declared.stream.Looked.TheVariants as looked
 use Rattle.outwriter.specs.Cores.{calls, IsStuck}
-use Rattle.outwriter.specs.CoreChanges.{may_write}
+use Rattle.outwriter.specs.declared.states.StreamState.{StreamState}
+use Rattle.outwriter.specs.declared.states.StreamState.TheVariants.{NoCall, Call, Reset}
 use Rattle.outwriter.specs.Histories.{is_stream}
-use Rattle.outwriter.specs.States.{is_reset, over_on}
-use Rattle.outwriter.specs.StreamLooks.{Shown, shown, shows, with_hand, HandIs, TakesAt, SameAhead, TellsData, aheads, Holds, HoldsOn, StuckAt, GetsStuck, LeavesStuck, LooksAt, frame_in}
+use Rattle.outwriter.specs.States.{IsShut, by_reset, can_write, end_of, is_reset, is_reset_state, state_on, open_at}
+use Rattle.outwriter.specs.OpenStreams.{HandIs, OpenStreams, Shown, shown, shows, with_hand}
+use Rattle.outwriter.specs.StreamLooks.{TakesAt, SameAhead, TellsData, aheads, Holds, HoldsOn, StuckAt, GetsStuck, LeavesStuck, LooksAt, frame_in}
 use Rattle.outwriter.specs.Steps.{Step}
 use Rattle.outwriter.proofs.Others.{known-stream}
 use Rattle.outwriter.proofs.ServeSteps.{shown-some, from_some, none-some}
@@ -33,89 +35,95 @@ stuck-same : (r room_now : ℕ) (h hand : Option (List ℕ)) (a ahead : List Out
 stuck-same r room_now h hand a ahead e f g is =
     subst (λ (n : ℕ). IsStuck n hand ahead) (sym e) (subst (λ (x : Option (List ℕ)). IsStuck r x ahead) (sym f) (subst (λ (l : List OutItem). IsStuck r h l) (sym g) is))
 
-here-is : (hand : Option (List ℕ)) (id : ℕ) (middle left : List (ℕ × OpenStream)) (stream : OpenStream) → HandIs id hand middle left → lookup (nat_eq id) left ≡ Some stream
+here-is : (hand : Option (List ℕ)) (id : ℕ) (middle left : OpenStreams) (stream : OpenStream) → HandIs id hand middle left → left id ≡ Some stream
     → with_hand hand (shows middle id) ≡ Some (stream.place, stream.in_hand)
 here-is hand id middle left stream is e =
     sym (is id ∙ ap (λ b. if b then with_hand hand (shows middle id) else shows middle id) (eq-eqb id id refl)) ∙ ap shown e
 
-elsewhere-is : (hand : Option (List ℕ)) (id k : ℕ) (middle left : List (ℕ × OpenStream)) → HandIs id hand middle left → k ≢ id → shows left k ≡ shows middle k
+elsewhere-is : (hand : Option (List ℕ)) (id k : ℕ) (middle left : OpenStreams) → HandIs id hand middle left → k ≢ id → shows left k ≡ shows middle k
 elsewhere-is hand id k middle left is ne = is k ∙ ap (λ b. if b then with_hand hand (shows middle k) else shows middle k) (ne_eqb k id ne)
 
 module _ {L In Out Shut : Type 0} where
   others-stuck : (got ahead : Out → List OutItem) (old mid new : OutCore L In Out Shut) (id : ℕ) (run : List Step) → Holds got run old
-      → SameAhead (shows old.streams.entries id) (aheads ahead old.senders.items) (aheads ahead mid.senders.items)
-      → ((k : ℕ) → k ≢ id → shows new.streams.entries k ≡ shows old.streams.entries k) → new.senders ≡ mid.senders → new.outbound.windows ≡ old.outbound.windows
+      → SameAhead (shows (open_at old.outbound.states) id) (aheads ahead old.senders.items) (aheads ahead mid.senders.items)
+      → ((k : ℕ) → k ≢ id → shows (open_at new.outbound.states) k ≡ shows (open_at old.outbound.states) k) → new.senders ≡ mid.senders → new.outbound.windows ≡ old.outbound.windows
       → (k : ℕ) → k ≢ id → StuckAt ahead k old → StuckAt ahead k new
   others-stuck got ahead old mid new id run (marks, s, heeds) same hands senders windows k ne stuck stream e =
       stuck-same (room old.outbound.windows k) (room new.outbound.windows k) f.0.in_hand stream.in_hand
       (get_or (aheads ahead old.senders.items) f.0.place []) (get_or (aheads ahead new.senders.items) stream.place [])
       (ap (λ (w : Windows). room w k) windows) (sym f.3)
-      (ap (λ senders. get_or (aheads ahead senders.items) stream.place []) senders ∙ by (shows old.streams.entries id) refl same
+      (ap (λ senders. get_or (aheads ahead senders.items) stream.place []) senders ∙ by (shows (open_at old.outbound.states) id) refl same
       ∙ ap (λ n. get_or (aheads ahead old.senders.items) n []) (sym f.2)) (stuck f.0 f.1)
     where
-      f : (st : OpenStream) × (lookup (nat_eq k) old.streams.entries ≡ Some st) × (st.place ≡ stream.place) × (st.in_hand ≡ stream.in_hand)
-      f = shown-some (lookup (nat_eq k) old.streams.entries) (stream.place, stream.in_hand) (sym (hands k ne) ∙ ap shown e)
+      f : (st : OpenStream) × ((open_at old.outbound.states) k ≡ Some st) × (st.place ≡ stream.place) × (st.in_hand ≡ stream.in_hand)
+      f = shown-some ((open_at old.outbound.states) k) (stream.place, stream.in_hand) (sym (hands k ne) ∙ ap shown e)
 
-      apart : (x : ℕ × Option (List ℕ)) → shows old.streams.entries id ≡ Some x → stream.place ≡ x.0 → ⊥
+      apart : (x : ℕ × Option (List ℕ)) → shows (open_at old.outbound.states) id ≡ Some x → stream.place ≡ x.0 → ⊥
       apart x v p =
-          let i = shown-some (lookup (nat_eq id) old.streams.entries) x v in
+          let i = shown-some ((open_at old.outbound.states) id) x v in
           let d : ℕ × List OutItem = (0, []) in
           ne (sym ((s.exact k f.0 f.1).1 d).0 ∙ ap (λ n. (get_or (calls got old.senders.items) n d).0) (f.2 ∙ p ∙ sym i.2) ∙ ((s.exact id i.0 i.1).1 d).0)
 
-      by : (v : Shown) → shows old.streams.entries id ≡ v → SameAhead v (aheads ahead old.senders.items) (aheads ahead mid.senders.items)
+      by : (v : Shown) → shows (open_at old.outbound.states) id ≡ v → SameAhead v (aheads ahead old.senders.items) (aheads ahead mid.senders.items)
           → get_or (aheads ahead mid.senders.items) stream.place [] ≡ get_or (aheads ahead old.senders.items) stream.place []
       by None v same_all = ap (λ (l : List (List OutItem)). get_or l stream.place []) same_all
       by (Some x) v same_but = same_but stream.place (apart x v)
 
-  -- a stream that is over or was reset, or none
-  pub stuck-over : (got ahead : Out → List OutItem) (core : OutCore L In Out Shut) (id : ℕ) (may : Bool) → may ≡ false → may ≡ may_write core.outbound id → GetsStuck got ahead id core core
-  stuck-over got ahead core id may denied is run (marks, s, heeds) = (
-    λ stream e.
-        let there : is_stream id ≡ true = known-stream run core.outbound s.brought id (s.known id stream e) in
-        let unreset : is_reset core.outbound.states id ≡ false = heeds.1 id there ∙ heeds.2 id (ap is_some e) in
-        absurd (true≢false (sym (ap (λ b. (b && not (is_some (over_on core.outbound.states id))) && not (is_reset core.outbound.states id)) there
-        ∙ ap (λ (o : Option Bool). not (is_some o) && not (is_reset core.outbound.states id)) (s.not_over id stream e)
-        ∙ ap (λ b. not b) unreset) ∙ sym is ∙ denied)),
-    λ k ne stuck. stuck,
-  )
+  -- a stream on which nothing more may be written, or that isn't open
+  pub stuck-shut : (got ahead : Out → List OutItem) (core : OutCore L In Out Shut) (id : ℕ) → IsShut core.outbound.states id → GetsStuck got ahead id core core
+  stuck-shut got ahead core id shut run (marks, s, heeds) = (λ stream e. absurd (by stream e shut), λ k ne stuck. stuck)
+    where
+      written : (state : StreamState) → option_map by_reset (end_of state) ≡ None → is_reset_state state ≡ false → can_write state ≡ true
+      written (NoCall None) over unreset = refl
+      written (NoCall (Some by)) over unreset = absurd (none-some (by_reset by) (sym over))
+      written (Call owed None) over unreset = refl
+      written (Call owed (Some by)) over unreset = absurd (none-some (by_reset by) (sym over))
+      written (Reset is_call over_by) over unreset = absurd (true≢false unreset)
+
+      by : (stream : OpenStream) → (open_at core.outbound.states) id ≡ Some stream → IsShut core.outbound.states id → ⊥
+      by stream e (inl denied) =
+          let there : is_stream id ≡ true = known-stream run core.outbound s.brought id (s.known id stream e) in
+          let unreset : is_reset core.outbound.states id ≡ false = heeds.1 id there ∙ heeds.2 id (ap is_some e) in
+          true≢false (sym (written (state_on core.outbound.states id) (s.not_over id stream e) unreset) ∙ denied)
+      by stream e (inr none) = none-some stream (sym none ∙ e)
 
   pub stuck-nothing : (E : Type 0) (got ahead : Out → List OutItem) (old mid : OutCore L In Out Shut) (id : ℕ) (result : Polled)
-      → Took E got ahead old mid id (Ok result) → SameAhead (shows old.streams.entries id) (aheads ahead old.senders.items) (aheads ahead mid.senders.items)
+      → Took E got ahead old mid id (Ok result) → SameAhead (shows (open_at old.outbound.states) id) (aheads ahead old.senders.items) (aheads ahead mid.senders.items)
       → result ≡ polled.Nothing → GetsStuck got ahead id old mid
   stuck-nothing E got ahead old mid id result took same is run h = (
     λ stream e.
-        let found = takes-nothing E (shows old.streams.entries id) (calls got old.senders.items) (calls got mid.senders.items) (aheads ahead mid.senders.items) old.outbound.encoder mid.outbound.encoder
-        (subst (λ (p : Polled). TakesAt {E = E} (shows old.streams.entries id) (calls got old.senders.items) (calls got mid.senders.items) (aheads ahead mid.senders.items) old.outbound.encoder mid.outbound.encoder (Ok p)) is took.takes) in
-        let hand = hand-of None (shows old.streams.entries id) (stream.place, stream.in_hand) (here-is None id old.streams.entries mid.streams.entries stream took.hands e) in
+        let found = takes-nothing E (shows (open_at old.outbound.states) id) (calls got old.senders.items) (calls got mid.senders.items) (aheads ahead mid.senders.items) old.outbound.encoder mid.outbound.encoder
+        (subst (λ (p : Polled). TakesAt {E = E} (shows (open_at old.outbound.states) id) (calls got old.senders.items) (calls got mid.senders.items) (aheads ahead mid.senders.items) old.outbound.encoder mid.outbound.encoder (Ok p)) is took.takes) in
+        let hand = hand-of None (shows (open_at old.outbound.states) id) (stream.place, stream.in_hand) (here-is None id (open_at old.outbound.states) (open_at mid.outbound.states) stream took.hands e) in
         subst (λ (x : Option (List ℕ)). IsStuck (room mid.outbound.windows id) x (get_or (aheads ahead mid.senders.items) stream.place [])) (sym hand.0)
         (found.3 (stream.place, hand.1.0) hand.1.1),
-    others-stuck got ahead old mid mid id run h same (λ k ne. elsewhere-is None id k old.streams.entries mid.streams.entries took.hands ne) refl
+    others-stuck got ahead old mid mid id run h same (λ k ne. elsewhere-is None id k (open_at old.outbound.states) (open_at mid.outbound.states) took.hands ne) refl
         (ap (λ (o : Outbound). o.windows) took.outbound),
   )
 
   pub stuck-data : (E : Type 0) (got ahead : Out → List OutItem) (old mid new : OutCore L In Out Shut) (id : ℕ) (bytes : List ℕ) (result : Result Polled E)
-      → Took E got ahead old mid id result → SameAhead (shows old.streams.entries id) (aheads ahead old.senders.items) (aheads ahead mid.senders.items)
+      → Took E got ahead old mid id result → SameAhead (shows (open_at old.outbound.states) id) (aheads ahead old.senders.items) (aheads ahead mid.senders.items)
       → TellsData id bytes None mid new → new.senders ≡ mid.senders → GetsStuck got ahead id old new
   stuck-data E got ahead old mid new id bytes result took same tells senders run h = (
     λ stream e.
-        let hand = hand-of (Some bytes) (shows mid.streams.entries id) (stream.place, stream.in_hand) (here-is (Some bytes) id mid.streams.entries new.streams.entries stream tells.0 e) in
+        let hand = hand-of (Some bytes) (shows (open_at mid.outbound.states) id) (stream.place, stream.in_hand) (here-is (Some bytes) id (open_at mid.outbound.states) (open_at new.outbound.states) stream tells.0 e) in
         subst (λ (x : Option (List ℕ)). IsStuck (room new.outbound.windows id) x (get_or (aheads ahead new.senders.items) stream.place [])) (sym hand.0)
         (ap (λ (o : Outbound). room o.windows id) tells.1 ∙ tells.2),
     others-stuck got ahead old mid new id run h same
-        (λ k ne. elsewhere-is (Some bytes) id k mid.streams.entries new.streams.entries tells.0 ne ∙ elsewhere-is None id k old.streams.entries mid.streams.entries took.hands ne) senders
+        (λ k ne. elsewhere-is (Some bytes) id k (open_at mid.outbound.states) (open_at new.outbound.states) tells.0 ne ∙ elsewhere-is None id k (open_at old.outbound.states) (open_at mid.outbound.states) took.hands ne) senders
         (ap (λ (o : Outbound). o.windows) tells.1 ∙ ap (λ (o : Outbound). o.windows) took.outbound),
   )
 
   -- a message without bytes
   pub leaves-empty : (E : Type 0) (got ahead : Out → List OutItem) (old mid : OutCore L In Out Shut) (id : ℕ) (result : Polled)
-      → Took E got ahead old mid id (Ok result) → SameAhead (shows old.streams.entries id) (aheads ahead old.senders.items) (aheads ahead mid.senders.items)
+      → Took E got ahead old mid id (Ok result) → SameAhead (shows (open_at old.outbound.states) id) (aheads ahead old.senders.items) (aheads ahead mid.senders.items)
       → LeavesStuck got ahead id old mid
   leaves-empty E got ahead old mid id result took same run h =
-      others-stuck got ahead old mid mid id run h same (λ k ne. elsewhere-is None id k old.streams.entries mid.streams.entries took.hands ne) refl
+      others-stuck got ahead old mid mid id run h same (λ k ne. elsewhere-is None id k (open_at old.outbound.states) (open_at mid.outbound.states) took.hands ne) refl
       (ap (λ (o : Outbound). o.windows) took.outbound)
 
   pub looks-data : (E : Type 0) {F : Type 0} (got ahead : Out → List OutItem) (old mid new : OutCore L In Out Shut) (id : ℕ) (bytes : List ℕ) (result : Result Polled E) (found : Result Looked F)
-      → Took E got ahead old mid id result → SameAhead (shows old.streams.entries id) (aheads ahead old.senders.items) (aheads ahead mid.senders.items)
+      → Took E got ahead old mid id result → SameAhead (shows (open_at old.outbound.states) id) (aheads ahead old.senders.items) (aheads ahead mid.senders.items)
       → IfOk found (λ l. l ≢ looked.Empty) → IfOk found (λ l. TellsData id bytes (frame_in l) mid new) → new.senders ≡ mid.senders
       → IfOk found (λ l. LooksAt got ahead id l old new)
   looks-data E got ahead old mid new id bytes result (Ok (looked.Frame frame)) took same ne tells senders = tt

@@ -12,7 +12,7 @@ use Rattle.outwriter.specs.declared.due.Due.{Due}
 use Rattle.outwriter.specs.declared.due.Due.TheVariants as due_kind
 use Rattle.outwriter.specs.declared.outbound.Outbound.{Outbound}
 use Rattle.outwriter.specs.CoreChanges.{may_write}
-use Rattle.outwriter.specs.States.{SameEnds, SameOwed, SetsEnd, is_heard, is_reset, knows, over_on}
+use Rattle.outwriter.specs.States.{SameEnds, SameOpen, SameOwed, SetsEnd, StandAs, is_heard, is_reset, knows, over_on, open_at}
 use Rattle.outwriter.specs.Histories.{is_stream}
 use Rattle.outwriter.specs.RunState.{Ends}
 use Rattle.outwriter.specs.Parts.{Mark}
@@ -29,6 +29,13 @@ standing-then old mid new a b id = ((b id).0 ∙ (a id).0, (b id).1 ∙ (a id).1
 -- and where what is owed is the same
 pub standing-same : (old new : Outbound) → new.states ≡ old.states → SameStanding old new
 standing-same old new e id = (ap (λ s. knows s id) e, ap (λ s. is_reset s id) e, λ heard. ap (λ s. is_heard s id) e ∙ heard)
+
+-- or what is kept of the open streams changes
+pub standing-as : (old new : Outbound) → StandAs old.states new.states → SameStanding old new
+standing-as old new e id = (ap (λ s. knows s id) e, ap (λ s. is_reset s id) e, λ heard. ap (λ s. is_heard s id) e ∙ heard)
+
+pub ends-as : (old new : Outbound) → StandAs old.states new.states → SameEnds old.states new.states
+ends-as old new e id = (ap (λ s. over_on s id) e, ap (λ s. is_heard s id) e)
 
 -- and whose ends were written
 ends-then : (old mid new : Outbound) → SameEnds old.states mid.states → SameEnds mid.states new.states → SameEnds old.states new.states
@@ -65,6 +72,7 @@ rests-rests old mid new a b = record {
   );
   standing = standing-then old mid new a.standing b.standing;
   over = ends-then old mid new a.over b.over;
+  same_open = b.same_open ∙ a.same_open;
   begun = b.begun ∙ a.begun;
   block = b.block ∙ a.block;
   encoder = b.encoder ∙ a.encoder;
@@ -82,7 +90,7 @@ still-set old mid new id value e sets =
     (λ k. sets.0 k ∙ ap (λ o. if k == id then Some value else o) (e k).0, λ k. sets.1 k ∙ ap (λ b. (k == id) || b) (e k).1)
 
 pub rests-own : (old mid new : Outbound) (frame : Frame) → Rests old mid → IsOwn frame mid new → IsOwn frame old new
-rests-own old mid new frame rests (known, inl (tells, over, (front, due, dropped))) = (
+rests-own old mid new frame rests (known, inl (tells, over, (front, due, dropped)), kept) = (
   standing-then old mid new rests.standing known,
   inl (
     more-after frame [] old mid new (rests-tells old mid rests) tells,
@@ -93,8 +101,9 @@ rests-own old mid new frame rests (known, inl (tells, over, (front, due, dropped
       more-over old mid rests.due.0 front rests.over rests.standing rests.due.2 dropped,
     ),
   ),
+  kept ∙ rests.same_open,
 )
-rests-own old mid new frame rests (known, inr (inl (id, code, front, due, tells, none, sets, dropped))) = (
+rests-own old mid new frame rests (known, inr (inl (id, code, front, due, tells, none, sets, dropped)), kept) = (
   standing-then old mid new rests.standing known,
   inr (inl (
     id,
@@ -106,8 +115,9 @@ rests-own old mid new frame rests (known, inr (inl (id, code, front, due, tells,
     still-set old mid new id true rests.over sets,
     more-over old mid rests.due.0 front rests.over rests.standing rests.due.2 dropped,
   )),
+  kept ∙ rests.same_open,
 )
-rests-own old mid new frame rests (known, inr (inr (id, fields, front, due, tells, none, sets, dropped))) = (
+rests-own old mid new frame rests (known, inr (inr (id, fields, front, due, tells, none, sets, dropped)), kept) = (
   standing-then old mid new rests.standing known,
   inr (inr (
     id,
@@ -119,6 +129,7 @@ rests-own old mid new frame rests (known, inr (inr (id, fields, front, due, tell
     still-set old mid new id false rests.over sets,
     more-over old mid rests.due.0 front rests.over rests.standing rests.due.2 dropped,
   )),
+  kept ∙ rests.same_open,
 )
 
 pub rests-either : (old mid new : Outbound) (o : Option Frame) → Rests old mid → OwnOrRests o mid new → OwnOrRests o old new
@@ -132,6 +143,7 @@ dropped-rests mid popped one first is over = record {
   due = (one ∷ [], first, over);
   standing = standing-same mid popped (ap (λ (o : Outbound). o.states) is);
   over = ends-same mid popped (ap (λ (o : Outbound). o.states) is);
+  same_open = ap (λ (o : Outbound). (open_at o.states)) is;
   begun = ap (λ (o : Outbound). o.begun) is;
   block = ap (λ (o : Outbound). o.block) is;
   encoder = ap (λ (o : Outbound). o.encoder) is;
@@ -144,16 +156,16 @@ popped-tells mid popped is run marks spells = subst (λ (o : Outbound). SpellsOf
 -- its frame is none of an open stream
 due-own : (mid popped new : Outbound) (one : Due) (frame : Frame) → mid.due.items ≡ one ∷ popped.due.items → popped ≡ record mid { due = popped.due }
     → OwnByDue one frame popped new → IsOwn frame mid new
-due-own mid popped new due_kind.SettingsAck frame first is ((same, known), (tells, over)) =
+due-own mid popped new due_kind.SettingsAck frame first is ((same, known, kept), (tells, over)) =
     rests-own mid popped new frame (dropped-rests mid popped due_kind.SettingsAck first is (λ id there e. absurd (true≢false (sym e))))
-    (known, inl (tells, over, ([], ap (λ due. due.items) (sym same), none-over popped)))
-due-own mid popped new (due_kind.PingAck bytes) frame first is ((same, known), (tells, over)) =
+    (known, inl (tells, over, ([], ap (λ due. due.items) (sym same), none-over popped)), kept)
+due-own mid popped new (due_kind.PingAck bytes) frame first is ((same, known, kept), (tells, over)) =
     rests-own mid popped new frame (dropped-rests mid popped (due_kind.PingAck bytes) first is (λ id there e. absurd (true≢false (sym e))))
-    (known, inl (tells, over, ([], ap (λ due. due.items) (sym same), none-over popped)))
-due-own mid popped new (due_kind.Goaway last code) frame first is ((same, known), (tells, over)) =
+    (known, inl (tells, over, ([], ap (λ due. due.items) (sym same), none-over popped)), kept)
+due-own mid popped new (due_kind.Goaway last code) frame first is ((same, known, kept), (tells, over)) =
     rests-own mid popped new frame (dropped-rests mid popped (due_kind.Goaway last code) first is (λ id there e. absurd (true≢false (sym e))))
-    (known, inl (tells, over, ([], ap (λ due. due.items) (sym same), none-over popped)))
-due-own mid popped new (due_kind.Reset id code) frame first is ((same, known), (tells, (none, sets))) = (
+    (known, inl (tells, over, ([], ap (λ due. due.items) (sym same), none-over popped)), kept)
+due-own mid popped new (due_kind.Reset id code) frame first is ((same, known, kept), (tells, (none, sets))) = (
   standing-then mid popped new (standing-same mid popped (ap (λ (o : Outbound). o.states) is)) known,
   inr (inl (
     id,
@@ -165,8 +177,9 @@ due-own mid popped new (due_kind.Reset id code) frame first is ((same, known), (
     still-set mid popped new id true (ends-same mid popped (ap (λ (o : Outbound). o.states) is)) sets,
     none-over mid,
   )),
+  kept ∙ ap (λ (o : Outbound). (open_at o.states)) is,
 )
-due-own mid popped new (due_kind.Refuse id fields) frame first is ((same, known), (tells, (none, sets))) = (
+due-own mid popped new (due_kind.Refuse id fields) frame first is ((same, known, kept), (tells, (none, sets))) = (
   standing-then mid popped new (standing-same mid popped (ap (λ (o : Outbound). o.states) is)) known,
   inr (inr (
     id,
@@ -178,6 +191,7 @@ due-own mid popped new (due_kind.Refuse id fields) frame first is ((same, known)
     still-set mid popped new id false (ends-same mid popped (ap (λ (o : Outbound). o.states) is)) sets,
     none-over mid,
   )),
+  kept ∙ ap (λ (o : Outbound). (open_at o.states)) is,
 )
 
 pub due-first : (old mid popped new : Outbound) (one : Due) (frame : Frame) → Rests old mid → mid.due.items ≡ one ∷ popped.due.items
@@ -223,12 +237,12 @@ not-refused o at fields may denied is id there e = by (id == at) (is_reset o.sta
 
 pub refusal-own : {E : Type 0} (id : ℕ) (fields : List Field) (bytes : List ℕ) (result : Result Frame E) (old mid new : Outbound)
     → mid ≡ record old { encoder = mid.encoder } → over_on old.states id ≡ None → Writes old.encoder fields bytes mid.encoder
-    → IfOk result (λ frame. TellsBlock id true bytes frame mid new) → OnOk result (Ends mid.states id true new.states) → OnOk result (SameOwed mid.states new.states)
+    → IfOk result (λ frame. TellsBlock id true bytes frame mid new) → OnOk result (Ends mid.states id true new.states) → OnOk result (SameOwed mid.states new.states) → OnOk result (SameOpen mid.states new.states)
     → OnOk result (new ≡ record mid { windows = new.windows; states = new.states; block = new.block })
     → IfOk result (λ frame. OwnByDue (due_kind.Refuse id fields) frame old new)
-refusal-own id fields bytes (Err e) old mid new is none writes tells sets same rest = tt
-refusal-own id fields bytes (Ok frame) old mid new is none writes tells sets same rest = (
-  (ap (λ (o : Outbound). o.due) rest ∙ ap (λ (o : Outbound). o.due) is, standing-then old mid new (standing-same old mid (ap (λ (o : Outbound). o.states) is)) (λ k. ((same.0 k).0, (same.0 k).2, λ e. still-heard mid.states new.states id false sets k e))),
+refusal-own id fields bytes (Err e) old mid new is none writes tells sets same kept rest = tt
+refusal-own id fields bytes (Ok frame) old mid new is none writes tells sets same kept rest = (
+  (ap (λ (o : Outbound). o.due) rest ∙ ap (λ (o : Outbound). o.due) is, standing-then old mid new (standing-same old mid (ap (λ (o : Outbound). o.states) is)) (λ k. ((same.0 k).0, (same.0 k).2, λ e. still-heard mid.states new.states id false sets k e)), kept ∙ ap (λ (o : Outbound). (open_at o.states)) is),
   (
     λ run marks spells. tells run marks fields old.encoder
         (subst (λ (b : Option HeaderBlock). Spells run b old.encoder marks) (sym (ap (λ (o : Outbound). o.block) is)) spells.1) writes,

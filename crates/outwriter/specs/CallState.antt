@@ -1,7 +1,6 @@
 -- What a writer keeps of its calls follows from its run.
-use Rattle.std.specs.Prelude.{◌≡◌, ◌≢◌, ◌⊎◌, ◌||◌, ◌&&◌, not, ℕ, ◌==◌, ◌<◌, Bool, true, false, All, List, [], ◌∷◌, ◌++◌, map, length, get_or, Option, None, Some, is_some, nat_eq}
+use Rattle.std.specs.Prelude.{◌≡◌, ◌≢◌, ◌⊎◌, ◌||◌, ◌&&◌, not, ℕ, ◌==◌, ◌<◌, Bool, true, false, All, List, [], ◌∷◌, ◌++◌, map, length, get_or, Option, None, Some, is_some}
 use Rattle.std.specs.List.{list_any}
-use Rattle.std.specs.Map.{lookup}
 use Rattle.account.specs.Accounts.{Begins}
 use Rattle.account.specs.declared.call.OutItem.{OutItem}
 use Rattle.h2frame.specs.declared.frame.Frame.{Frame}
@@ -13,8 +12,9 @@ use Rattle.outwriter.specs.declared.outbound.Outbound.{Outbound}
 use Rattle.outwriter.specs.declared.stream.OpenStream.{OpenStream}
 use Rattle.outwriter.specs.Calls.{is_fresh, is_served, is_called_off, is_dropped, IsRefused, IsOther, IsReturned}
 use Rattle.outwriter.specs.Runs.{was_reset, is_opened}
-use Rattle.outwriter.specs.States.{States, SameEnds, SameOver, SetsEnd, is_heard, is_reset, knows, over_on}
+use Rattle.outwriter.specs.States.{States, SameEnds, SameOpen, SameOver, SetsEnd, is_heard, is_reset, knows, over_on}
 use Rattle.outwriter.specs.Histories.{is_stream}
+use Rattle.outwriter.specs.OpenStreams.{OpenStreams}
 use Rattle.outwriter.specs.RunState.{HasResets}
 use Rattle.outwriter.specs.Parts.{Mark, Byte, marks_on, spelled, IsFrontOf}
 use Rattle.outwriter.specs.Steps.{Step}
@@ -46,10 +46,10 @@ abbrev pub has_reason : ℕ → List Step → Bool
 has_reason id run = is_called_off id run || is_dropped id run
 
 -- what is due of a stream that was refused or reset
-abbrev pub MayBeDue : List Step → Outbound → List (ℕ × OpenStream) → Due → Type 0
-MayBeDue run o streams (due_kind.Refuse id fields) = (is_fresh id run ≡ false) × (is_served id run ≡ false) × (lookup (nat_eq id) streams ≡ None)
+abbrev pub MayBeDue : List Step → Outbound → OpenStreams → Due → Type 0
+MayBeDue run o streams (due_kind.Refuse id fields) = (is_fresh id run ≡ false) × (is_served id run ≡ false) × (streams id ≡ None)
     × (is_heard o.states id ≡ true) × IsRefused id fields run × (has_reason id run ≡ true)
-MayBeDue run o streams (due_kind.Reset id code) = (lookup (nat_eq id) streams ≡ None) × (is_heard o.states id ≡ true)
+MayBeDue run o streams (due_kind.Reset id code) = (streams id ≡ None) × (is_heard o.states id ≡ true)
 MayBeDue run o streams _ = Unit {0}
 
 -- ---- how streams end
@@ -69,15 +69,15 @@ abbrev pub HeedsEnds : List Step → Outbound → Type 0
 HeedsEnds run o = (id : ℕ) → is_stream id ≡ true → is_called_off id run ≡ true → IsEnding id o ⊎ (is_dropped id run ≡ true)
 
 -- an open stream wasn't reset
-abbrev pub HeedsOpen : List Step → List (ℕ × OpenStream) → Type 0
-HeedsOpen run streams = (id : ℕ) → is_some (lookup (nat_eq id) streams) ≡ true → was_reset id run ≡ false
+abbrev pub HeedsOpen : List Step → OpenStreams → Type 0
+HeedsOpen run streams = (id : ℕ) → is_some (streams id) ≡ true → was_reset id run ≡ false
 
 -- one that was is heard of
 abbrev pub HeedsHeard : List Step → Outbound → Type 0
 HeedsHeard run o = (id : ℕ) → is_stream id ≡ true → was_reset id run ≡ true → is_heard o.states id ≡ true
 
 -- the Resets and Refuses of a run are heeded
-abbrev pub Heeds : List Step → Outbound → List (ℕ × OpenStream) → Type 0
+abbrev pub Heeds : List Step → Outbound → OpenStreams → Type 0
 Heeds run o streams = HeedsEnds run o × HasResets run o.states × HeedsOpen run streams × HeedsHeard run o
 
 -- the ends that were due here were written before
@@ -87,18 +87,18 @@ AreOver o dues = (id : ℕ) → is_stream id ≡ true → list_any (is_due_of o.
 -- ---- all of them
 
 -- The streams of a writer, of which its frames tell these marks: those that are open, and the calls in the order of their Opens.
-pub record Serves (run : List Step) (o : Outbound) (streams : List (ℕ × OpenStream)) (calls : List (ℕ × List OutItem)) (marks : List (ℕ × Mark)) : Type 0 where
+pub record Serves (run : List Step) (o : Outbound) (streams : OpenStreams) (calls : List (ℕ × List OutItem)) (marks : List (ℕ × Mark)) : Type 0 where
   pub spells : SpellsOf run o marks
   -- of an open stream all is told but what is in hand
-  pub exact : (id : ℕ) (stream : OpenStream) → lookup (nat_eq id) streams ≡ Some stream → IsExact id stream calls (marks_on id marks)
-  pub not_over : (id : ℕ) (stream : OpenStream) → lookup (nat_eq id) streams ≡ Some stream → over_on o.states id ≡ None
-  pub known : (id : ℕ) (stream : OpenStream) → lookup (nat_eq id) streams ≡ Some stream → knows o.states id ≡ true
+  pub exact : (id : ℕ) (stream : OpenStream) → streams id ≡ Some stream → IsExact id stream calls (marks_on id marks)
+  pub not_over : (id : ℕ) (stream : OpenStream) → streams id ≡ Some stream → over_on o.states id ≡ None
+  pub known : (id : ℕ) (stream : OpenStream) → streams id ≡ Some stream → knows o.states id ≡ true
   -- of a call whose stream isn't open, a front
-  pub ended : (k : ℕ) (d : ℕ × List OutItem) → k < length calls → lookup (nat_eq (get_or calls k d).0) streams ≡ None → is_served (get_or calls k d).0 run ≡ true
+  pub ended : (k : ℕ) (d : ℕ × List OutItem) → k < length calls → streams (get_or calls k d).0 ≡ None → is_served (get_or calls k d).0 run ≡ true
       → IsEnded (over_on o.states (get_or calls k d).0) (marks_on (get_or calls k d).0 marks) (get_or calls k d).1
   -- so of a call whose sender was given back
   pub returned : (id : ℕ) (items : List OutItem) → IsReturned id items run → is_served id run ≡ true
-      → (lookup (nat_eq id) streams ≡ None) × IsEnded (over_on o.states id) (marks_on id marks) items
+      → (streams id ≡ None) × IsEnded (over_on o.states id) (marks_on id marks) items
   pub stale : (id : ℕ) (items : List OutItem) → IsReturned id items run → is_fresh id run ≡ false
   -- a stream that two calls have is none that is served
   pub apart : (i j : ℕ) (d : ℕ × List OutItem) → i < length calls → j < length calls → i ≢ j → (get_or calls i d).0 ≡ (get_or calls j d).0
@@ -110,11 +110,11 @@ pub record Serves (run : List Step) (o : Outbound) (streams : List (ℕ × OpenS
   -- of one that was neither opened nor refused, at most a reset
   pub other : (id : ℕ) → is_fresh id run ≡ true → IsEnded (over_on o.states id) (marks_on id marks) []
   -- a call's stream is open until its end was written or a Reset of it was taken
-  pub stays : (id : ℕ) → is_served id run ≡ true → is_stream id ≡ true → lookup (nat_eq id) streams ≡ None
+  pub stays : (id : ℕ) → is_served id run ≡ true → is_stream id ≡ true → streams id ≡ None
       → (is_some (over_on o.states id) ≡ true) ⊎ (was_reset id run ≡ true)
   pub early : (id : ℕ) → is_heard o.states id ≡ true → is_fresh id run ≡ true → was_reset id run ≡ true
   -- a stream that was heard of is open until its end was written, or it was called off or dropped
-  pub reasons : (id : ℕ) → is_stream id ≡ true → lookup (nat_eq id) streams ≡ None → is_heard o.states id ≡ true
+  pub reasons : (id : ℕ) → is_stream id ≡ true → streams id ≡ None → is_heard o.states id ≡ true
       → (is_some (over_on o.states id) ≡ true) ⊎ (has_reason id run ≡ true)
   -- a stream is a call's where an Open of it was taken
   pub brought : (id : ℕ) → knows o.states id ≡ (is_stream id && is_opened id run)
@@ -135,6 +135,7 @@ pub record Takes (more : List Due) (is_new : ℕ → Bool) (limits : List ℕ) (
   pub heard : (id : ℕ) → is_heard new.states id ≡ ((is_new id || list_any (refuses id) more) || is_heard old.states id)
   pub resets : (id : ℕ) → is_reset new.states id ≡ is_reset old.states id
   pub over : SameOver old.states new.states
+  pub same_open : ((id : ℕ) → is_new id ≡ false) → SameOpen old.states new.states
   pub begun : new.begun ≡ old.begun
   pub block : new.block ≡ old.block
   pub encoder : new.encoder ≡ limited_by old.encoder limits
@@ -158,13 +159,14 @@ IsRefusal frame old new = (id : ℕ) × (fields : List Field) × (front : List D
 
 -- a frame that is none of an open stream
 abbrev pub IsOwn : Frame → Outbound → Outbound → Type 0
-IsOwn frame old new = SameStanding old new × (IsPlain frame old new ⊎ (IsReset frame old new ⊎ IsRefusal frame old new))
+IsOwn frame old new = SameStanding old new × (IsPlain frame old new ⊎ (IsReset frame old new ⊎ IsRefusal frame old new)) × SameOpen old.states new.states
 
 -- no frame: what was due is dropped at most
 pub record Rests (old new : Outbound) : Type 0 where
   pub due : (front : List Due) × (old.due.items ≡ front ++ new.due.items) × AreOver old front
   pub standing : SameStanding old new
   pub over : SameEnds old.states new.states
+  pub same_open : SameOpen old.states new.states
   pub begun : new.begun ≡ old.begun
   pub block : new.block ≡ old.block
   pub encoder : new.encoder ≡ old.encoder

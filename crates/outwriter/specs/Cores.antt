@@ -1,11 +1,11 @@
 -- What callers see of a writer's core: over any list of its calls, what was told of each call begins what its sender gave.
 -- `Reached` (the law of runs) and `Serving` (what was told of each call) are two invariants over the same run. Neither
 -- needs the other, so a caller may use one alone.
-use Rattle.std.specs.Prelude.{◌≡◌, ◌⊎◌, ℕ, true, false, All, List, [], ◌∷◌, ◌++◌, map, get_or, Option, None, Some, Result, Ok, Err, nat_eq}
-use Rattle.std.specs.Map.{lookup}
+use Rattle.std.specs.Prelude.{◌≡◌, ◌⊎◌, ℕ, true, false, All, List, [], ◌∷◌, ◌++◌, map, get_or, Option, None, Some, Result, Ok, Err}
 use Rattle.account.specs.declared.call.OutItem.{OutItem}
 use Rattle.callbox.specs.declared.sender.Sender.{Sender}
 use Rattle.flow.specs.Windows.{room}
+use Rattle.outwriter.specs.States.{open_at}
 use Rattle.outwriter.specs.declared.control.Control.{Control}
 use Rattle.outwriter.specs.declared.control.Control.TheVariants.{Open, Goaway}
 use Rattle.outwriter.specs.declared.control.OutFault.{OutFault}
@@ -19,6 +19,7 @@ use Rattle.outwriter.specs.Calls.{TellEnds, TellFronts, TellReturned, TellOthers
 use Rattle.h2frame.specs.declared.error_code.ErrorCode.{ErrorCode}
 use Rattle.outwriter.specs.Frames.{goaway_frame}
 use Rattle.outwriter.specs.Histories.{is_stream, is_over}
+use Rattle.outwriter.specs.OpenStreams.{OpenStreams}
 use Rattle.outwriter.specs.RunState.{Reached}
 use Rattle.outwriter.specs.Runs.{MayWrite, was_reset}
 use Rattle.outwriter.specs.Parts.{Mark}
@@ -37,11 +38,15 @@ IsStuck room_now None ahead = ahead ≡ []
 IsStuck room_now (Some bytes) ahead = room_now ≡ 0
 
 -- of each open stream, where this is ahead of the senders
-abbrev pub AreStuck : Outbound → List (ℕ × OpenStream) → List (List OutItem) → Type 0
-AreStuck o streams aheads = (id : ℕ) (stream : OpenStream) → lookup (nat_eq id) streams ≡ Some stream
+abbrev pub AreStuck : Outbound → OpenStreams → List (List OutItem) → Type 0
+AreStuck o streams aheads = (id : ℕ) (stream : OpenStream) → streams id ≡ Some stream
     → IsStuck (room o.windows id) stream.in_hand (get_or aheads stream.place [])
 
 module _ {L In Out Shut : Type 0} where
+  -- what is kept of a stream, if it is open
+  abbrev pub open_stream : OutCore L In Out Shut → ℕ → Option OpenStream
+  open_stream core id = (open_at core.outbound.states) id
+
   -- each call's stream, with the items that its sender gave, in the order of the Opens
   abbrev pub calls : (Out → List OutItem) → List (ℕ × Sender L In Out Shut) → List (ℕ × List OutItem)
   calls got senders = map (λ call. (call.0, got call.1.rx)) senders
@@ -65,7 +70,7 @@ module _ {L In Out Shut : Type 0} where
     pub others : TellOthers run
     pub closed : is_closed run ≡ core.closed
     pub serves : core.is_dead ≡ false
-        → (marks : List (ℕ × Mark)) × Serves run core.outbound core.streams.entries (calls got core.senders.items) marks × Heeds run core.outbound core.streams.entries
+        → (marks : List (ℕ × Mark)) × Serves run core.outbound (open_at core.outbound.states) (calls got core.senders.items) marks × Heeds run core.outbound (open_at core.outbound.states)
 
   -- whatever run led to the core before, with this step it leads to the core after
   abbrev pub ServesOn : (Out → List OutItem) → Step → OutCore L In Out Shut → OutCore L In Out Shut → Type 0
@@ -97,7 +102,7 @@ module _ {L In Out Shut : Type 0} where
   -- sender, or what is in hand has no room.
   abbrev pub IsQuiet : (Out → List OutItem) → OutCore L In Out Shut → Type 0
   IsQuiet ahead core = (core.outbound.gone ≡ true)
-      ⊎ AreStuck core.outbound core.streams.entries (map (λ call. ahead call.1.rx) core.senders.items)
+      ⊎ AreStuck core.outbound (open_at core.outbound.states) (map (λ call. ahead call.1.rx) core.senders.items)
 
   abbrev pub QuietNext : (Out → List OutItem) → Next → OutCore L In Out Shut → Type 0
   QuietNext ahead (next.Frame frame) core = Unit {0}
@@ -109,7 +114,7 @@ module _ {L In Out Shut : Type 0} where
   pub data HasNoFrame (run : List Step) (core : OutCore L In Out Shut) (id : ℕ) (ahead : List OutItem) : Type 0 where
     Ended : is_over id run ≡ true → HasNoFrame run core id ahead
     WasReset : was_reset id run ≡ true → HasNoFrame run core id ahead
-    Stuck : (stream : OpenStream) → lookup (nat_eq id) core.streams.entries ≡ Some stream → IsStuck (room core.outbound.windows id) stream.in_hand ahead
+    Stuck : (stream : OpenStream) → open_stream core id ≡ Some stream → IsStuck (room core.outbound.windows id) stream.in_hand ahead
         → HasNoFrame run core id ahead
 
   -- so it is of each, unless the last frame was a GOAWAY with an error

@@ -1,6 +1,7 @@
 pub mod Steps
 pub mod Frames
 pub mod Histories
+pub mod OpenStreams
 pub mod Runs
 pub mod Parts
 pub mod ToldByNow

@@ -1,37 +1,27 @@
 -- Which sender is given back.
-use Rattle.std.specs.Prelude.{◌≡◌, ◌≢◌, ◌⊎◌, ◌<◌, ℕ, ◌==◌, All, true, false, List, Option, None, Some, length, get_or, nat_eq, if◌then◌else◌}
+use Rattle.std.specs.Prelude.{◌≡◌, ◌≢◌, ◌⊎◌, ◌<◌, ℕ, All, true, false, List, Option, None, Some, length, get_or}
 use Rattle.std.specs.List.{swap_remove}
-use Rattle.std.specs.Map.{lookup}
 use Rattle.account.specs.declared.call.OutItem.{OutItem}
 use Rattle.callbox.specs.declared.sender.Sender.{Sender}
 use Rattle.outwriter.specs.declared.blocks.HeaderBlock.{HeaderBlock}
 use Rattle.outwriter.specs.declared.out_core.OutCore.{OutCore}
-use Rattle.outwriter.specs.declared.stream.OpenStream.{OpenStream}
 use Rattle.outwriter.specs.Calls.{is_served}
 use Rattle.outwriter.specs.Runs.{was_reset}
-use Rattle.outwriter.specs.Cores.{Serving}
+use Rattle.outwriter.specs.Cores.{Serving, open_stream}
 use Rattle.outwriter.specs.Histories.{is_stream, is_over}
 use Rattle.outwriter.specs.RunState.{Reached}
 use Rattle.outwriter.specs.Steps.{Step}
-use Rattle.outwriter.specs.StreamLooks.{Shown, shows}
+use Rattle.outwriter.specs.OpenStreams.{OpenStreams, PlaceIs}
 
 -- the header block that was begun is none of this stream's
 abbrev pub IsWhole : ℕ → Option HeaderBlock → Type 0
 IsWhole id None = Unit {0}
 IsWhole id (Some block) = block.id ≢ id
 
--- a sender stands at another place
-abbrev pub with_place : ℕ → ℕ → Shown → Shown
-with_place from to None = None
-with_place from to (Some s) = Some (if s.0 == from then to else s.0, s.1)
-
-abbrev pub PlaceIs : ℕ → ℕ → ℕ → List (ℕ × OpenStream) → List (ℕ × OpenStream) → Type 0
-PlaceIs id from to old new = (k : ℕ) → shows new k ≡ (if k == id then with_place from to (shows old k) else shows old k)
-
 module _ {L In Out Shut : Type 0} where
   -- a stream isn't open, and no header block of it is unfinished
   abbrev pub IsThrough : ℕ → OutCore L In Out Shut → Type 0
-  IsThrough id core = (lookup (nat_eq id) core.streams.entries ≡ None) × IsWhole id core.outbound.block
+  IsThrough id core = (open_stream core id ≡ None) × IsWhole id core.outbound.block
 
   -- no sender of this stream is kept
   abbrev pub HasNone : ℕ → List (ℕ × Sender L In Out Shut) → Type 0
@@ -46,7 +36,7 @@ module _ {L In Out Shut : Type 0} where
   IsAt id place senders = (place < length senders) × ((d : ℕ × Sender L In Out Shut) → (get_or senders place d).0 ≡ id)
 
   -- the sender that was last stands at this place now, if any does
-  abbrev pub MovedTo : ℕ → List (ℕ × Sender L In Out Shut) → List (ℕ × OpenStream) → List (ℕ × OpenStream) → Type 0
+  abbrev pub MovedTo : ℕ → List (ℕ × Sender L In Out Shut) → OpenStreams → OpenStreams → Type 0
   MovedTo place senders streams left = ((moved : ℕ × Sender L In Out Shut) × (moved ≡ get_or senders place moved) × PlaceIs moved.0 (length senders) place streams left)
       ⊎ ((left ≡ streams) × (place < length senders → ⊥))
 

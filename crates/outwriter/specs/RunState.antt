@@ -17,7 +17,7 @@ use Rattle.outwriter.specs.declared.next.Next.TheVariants as next
 use Rattle.outwriter.specs.declared.due.Due.{Due}
 use Rattle.outwriter.specs.declared.due.Due.TheVariants as due_kind
 use Rattle.outwriter.specs.declared.outbound.Outbound.{Outbound}
-use Rattle.outwriter.specs.States.{States, SetsEnd, over_on, owed_on, pays, knows, is_reset}
+use Rattle.outwriter.specs.States.{States, SetsEnd, StandAs, over_on, owed_on, pays, knows, is_reset}
 use Rattle.outwriter.specs.Frames.{is_last, resets, settings_ack, ping_ack, goaway_frame}
 use Rattle.outwriter.specs.Histories.{HasHistory, HasWindow, Overflows, window_sizes, is_over, is_stream}
 use Rattle.outwriter.specs.Runs.{IsLawful, has_begun, IsAsked, due, told, unfinished, granted, updated, owed, may_owe, is_opened, was_reset, MayWrite}
@@ -103,7 +103,7 @@ Keeps id false left = MatchOption left ⊥ (λ block. (block.begun ≡ true) × 
 -- the end of a stream is written, where it is one
 abbrev pub Ends : States → ℕ → Bool → States → Type 0
 Ends old id true new = SetsEnd old id false new
-Ends old id false new = new ≡ old
+Ends old id false new = StandAs old new
 
 -- ---- all of it
 
@@ -210,7 +210,11 @@ AnswersAll next.Over o = (run : List Step) → Reached run o → IsAnswered run
 
 -- what is due and what is owed is the same
 abbrev pub SameOwn : Outbound → Outbound → Type 0
-SameOwn old new = (new.due ≡ old.due) × (new.states ≡ old.states) × (new.block ≡ old.block)
+SameOwn old new = (new.due ≡ old.due) × ((id : ℕ) → owed_on new.states id ≡ owed_on old.states id) × (new.block ≡ old.block)
+
+-- but for what is kept of the open streams, all is the same
+abbrev pub SameButOpen : Outbound → Outbound → Type 0
+SameButOpen old new = new ≡ record old { states = record old.states { opened = new.states.opened } }
 
 -- an item is in hand, and the windows let nothing through
 abbrev pub is_held : Option OpenStream → ℕ → Bool

@@ -1,6 +1,5 @@
 -- What a look at an open stream changes.
-use Rattle.std.specs.Prelude.{◌≡◌, ◌≢◌, ℕ, ◌==◌, Bool, true, false, List, [], ◌∷◌, ◌++◌, map, set, get_or, Option, None, Some, Result, Ok, Err, nat_eq, if◌then◌else◌}
-use Rattle.std.specs.Map.{lookup}
+use Rattle.std.specs.Prelude.{◌≡◌, ◌≢◌, ℕ, List, [], ◌∷◌, ◌++◌, map, set, get_or, Option, None, Some, Result, Ok, Err}
 use Rattle.account.specs.declared.call.OutItem.{OutItem}
 use Rattle.account.specs.declared.call.OutItem.TheVariants as item
 use Rattle.callbox.specs.declared.sender.Sender.{Sender}
@@ -8,6 +7,7 @@ use Rattle.flow.specs.Windows.{room}
 use Rattle.h2frame.specs.declared.frame.Frame.{Frame}
 use Rattle.lists.specs.declared.field.Field.{Field}
 use Rattle.hpack_codec.specs.Codec.{Encoding, Writes}
+use Rattle.outwriter.specs.States.{open_at}
 use Rattle.outwriter.specs.declared.out_core.OutCore.{OutCore}
 use Rattle.outwriter.specs.declared.stream.OpenStream.{OpenStream}
 use Rattle.outwriter.specs.declared.stream.Polled.{Polled}
@@ -19,45 +19,10 @@ use Rattle.outwriter.specs.Cores.{calls, IsStuck, AreStuck, IsQuiet}
 use Rattle.outwriter.specs.Parts.{Mark, Byte, on_stream}
 use Rattle.outwriter.specs.Polls.{block_item, GotNone}
 use Rattle.outwriter.specs.CallState.{Serves, Heeds}
+use Rattle.outwriter.specs.OpenStreams.{HandIs, HandKeeps, Shown}
+use Rattle.outwriter.specs.RunState.{SameButOpen}
 use Rattle.outwriter.specs.Steps.{Step, Written}
 use Rattle.outwriter.specs.ToldByNow.{TellsMore}
-
--- ---- streams
-
--- the place of an open stream, and what is in hand
-abbrev pub Shown : Type 0
-Shown = Option (ℕ × Option (List ℕ))
-
-abbrev pub shown : Option OpenStream → Shown
-shown None = None
-shown (Some stream) = Some (stream.place, stream.in_hand)
-
-abbrev pub shows : List (ℕ × OpenStream) → ℕ → Shown
-shows streams id = shown (lookup (nat_eq id) streams)
-
-abbrev pub with_hand : Option (List ℕ) → Shown → Shown
-with_hand hand None = None
-with_hand hand (Some s) = Some (s.0, hand)
-
-abbrev pub SameHands : List (ℕ × OpenStream) → List (ℕ × OpenStream) → Type 0
-SameHands old new = (k : ℕ) → shows new k ≡ shows old k
-
--- this is in hand of one stream now
-abbrev pub HandIs : ℕ → Option (List ℕ) → List (ℕ × OpenStream) → List (ℕ × OpenStream) → Type 0
-HandIs id hand old new = (k : ℕ) → shows new k ≡ (if k == id then with_hand hand (shows old k) else shows old k)
-
--- bytes are kept in hand, where there are any
-abbrev pub HandKeeps : ℕ → List ℕ → List (ℕ × OpenStream) → List (ℕ × OpenStream) → Type 0
-HandKeeps id [] old new = SameHands old new
-HandKeeps id (byte ∷ bytes) old new = HandIs id (Some (byte ∷ bytes)) old new
-
--- a stream is open no more, where it ends
-abbrev pub Removes : ℕ → Bool → List (ℕ × OpenStream) → List (ℕ × OpenStream) → Type 0
-Removes id true old new = (k : ℕ) → shows new k ≡ (if k == id then None else shows old k)
-Removes id false old new = SameHands old new
-
-abbrev pub ids : List (ℕ × OpenStream) → List ℕ
-ids streams = map (λ e. e.0) streams
 
 -- ---- calls
 
@@ -108,7 +73,7 @@ module _ {L In Out Shut : Type 0} where
 
   -- all that is kept of the calls follows from the run
   abbrev pub Holds : (Out → List OutItem) → List Step → OutCore L In Out Shut → Type 0
-  Holds got run core = (marks : List (ℕ × Mark)) × Serves run core.outbound core.streams.entries (calls got core.senders.items) marks × Heeds run core.outbound core.streams.entries
+  Holds got run core = (marks : List (ℕ × Mark)) × Serves run core.outbound (open_at core.outbound.states) (calls got core.senders.items) marks × Heeds run core.outbound (open_at core.outbound.states)
 
   -- a frame, if there is one, is the next step
   abbrev pub HoldsOn : (Out → List OutItem) → Option Frame → OutCore L In Out Shut → OutCore L In Out Shut → Type 0
@@ -121,13 +86,13 @@ module _ {L In Out Shut : Type 0} where
 
   -- DATA of a front of some bytes, of which the rest is kept; or all of them are, as there is no room
   abbrev pub TellsData : ℕ → List ℕ → Option Frame → OutCore L In Out Shut → OutCore L In Out Shut → Type 0
-  TellsData id bytes (Some frame) old new = (front : List ℕ) × (rest : List ℕ) × (bytes ≡ front ++ rest) × HandKeeps id rest old.streams.entries new.streams.entries
-      × TellsMore frame (on_stream id (map Byte front)) old.outbound new.outbound × (new.outbound ≡ record old.outbound { windows = new.outbound.windows })
-  TellsData id bytes None old new = HandIs id (Some bytes) old.streams.entries new.streams.entries × (new.outbound ≡ old.outbound) × (room old.outbound.windows id ≡ 0)
+  TellsData id bytes (Some frame) old new = (front : List ℕ) × (rest : List ℕ) × (bytes ≡ front ++ rest) × HandKeeps id rest (open_at old.outbound.states) (open_at new.outbound.states)
+      × TellsMore frame (on_stream id (map Byte front)) old.outbound new.outbound × (new.outbound ≡ record old.outbound { windows = new.outbound.windows; states = record old.outbound.states { opened = new.outbound.states.opened } })
+  TellsData id bytes None old new = HandIs id (Some bytes) (open_at old.outbound.states) (open_at new.outbound.states) × SameButOpen old.outbound new.outbound × (room old.outbound.windows id ≡ 0)
 
   -- nothing can be written on this stream, if it is open
   abbrev pub StuckAt : (Out → List OutItem) → ℕ → OutCore L In Out Shut → Type 0
-  StuckAt ahead id core = (stream : OpenStream) → lookup (nat_eq id) core.streams.entries ≡ Some stream
+  StuckAt ahead id core = (stream : OpenStream) → (open_at core.outbound.states) id ≡ Some stream
       → IsStuck (room core.outbound.windows id) stream.in_hand (get_or (aheads ahead core.senders.items) stream.place [])
 
   -- nor on any on which nothing could be before
@@ -146,7 +111,7 @@ module _ {L In Out Shut : Type 0} where
 
   -- nothing can be written on any open stream
   abbrev pub AllStuck : (Out → List OutItem) → (Out → List OutItem) → OutCore L In Out Shut → OutCore L In Out Shut → Type 0
-  AllStuck got ahead old new = (run : List Step) → Holds got run old → AreStuck new.outbound new.streams.entries (aheads ahead new.senders.items)
+  AllStuck got ahead old new = (run : List Step) → Holds got run old → AreStuck new.outbound (open_at new.outbound.states) (aheads ahead new.senders.items)
 
   -- or the last frame was a GOAWAY with an error
   abbrev pub GetsQuiet : (Out → List OutItem) → (Out → List OutItem) → OutCore L In Out Shut → OutCore L In Out Shut → Type 0

@@ -9,7 +9,7 @@ use Rattle.outwriter.specs.declared.blocks.HeaderBlock.{HeaderBlock}
 use Rattle.outwriter.specs.declared.due.Due.{Due}
 use Rattle.outwriter.specs.declared.due.Due.TheVariants as due_kind
 use Rattle.outwriter.specs.declared.outbound.Outbound.{Outbound}
-use Rattle.outwriter.specs.States.{SameEnds, SetsEnd, is_heard, is_reset, knows, over_on}
+use Rattle.outwriter.specs.States.{SameEnds, SameOpen, SetsEnd, is_heard, is_reset, knows, over_on}
 use Rattle.outwriter.specs.Parts.{Mark, Fields, Reset, end_mark, on_stream, Tells}
 use Rattle.outwriter.specs.Runs.{Fragments, unfinished}
 use Rattle.outwriter.specs.Steps.{Step, Written}
@@ -70,9 +70,9 @@ abbrev pub SameStanding : Outbound → Outbound → Type 0
 SameStanding old new = (id : ℕ) → (knows new.states id ≡ knows old.states id) × (is_reset new.states id ≡ is_reset old.states id)
     × (is_heard old.states id ≡ true → is_heard new.states id ≡ true)
 
--- what else is due is the same, and how the streams stand
+-- what else is due is the same, and how the streams stand, and what is kept of the open ones
 abbrev pub KeepsDue : Outbound → Outbound → Type 0
-KeepsDue old new = (new.due ≡ old.due) × SameStanding old new
+KeepsDue old new = (new.due ≡ old.due) × SameStanding old new × SameOpen old.states new.states
 
 -- a stream is over, on which nothing was
 abbrev pub EndsOne : ℕ → Bool → Outbound → Outbound → Type 0

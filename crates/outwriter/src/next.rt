@@ -4,7 +4,6 @@
 //! stream that a window holds isn't among them, so it costs the others that look and no more.
 
 ghost use Rattle.std.specs.Prelude.{◌≡◌, ◌≢◌, ◌<◌, ◌^◌, length, List, true, false, None, Err, IfOk, IfErr, IfSome, IfNone, nat_eq};
-ghost use Rattle.std.specs.Map.{lookup};
 
 use crate::control::OutFault;
 use crate::out_core::OutCore;
@@ -36,11 +35,12 @@ impl<L: Lane<Item = OutItem>> OutCore<L> {
     ghost use Rattle.h2frame.specs.Spelling.{IsWritable};
     ghost use Rattle.outwriter.specs.Frames.{IsSound};
     ghost use Rattle.outwriter.specs.Cores.{Serving, ServesNext, QuietNext, NoFrameNext, EndedNext, ClosedNext, PartsAfter, calls, lanes};
-    ghost use Rattle.outwriter.specs.States.{is_reset, over_on};
+    ghost use Rattle.outwriter.specs.States.{is_reset, open_at, over_on};
     ghost use Rattle.outwriter.specs.Polls.{coming};
-    ghost use Rattle.outwriter.specs.StreamLooks.{shows, SameHands, HandIs, HandKeeps, Removes, ids, TakesAt, SameAhead, aheads, HoldsOn, KeepsFronts, TellsData, GetsStuck, LooksAt, frame_in, AllStuck, GetsQuiet};
+    ghost use Rattle.outwriter.specs.OpenStreams.{SameHands, Removes};
+    ghost use Rattle.outwriter.specs.StreamLooks.{TakesHand, SameElsewhere, aheads, HoldsOn, KeepsFronts, TellsData, GetsStuck, LooksAt, frame_in, AllStuck, GetsQuiet};
     ghost use Rattle.outwriter.specs.Steps.{Step};
-    ghost use Rattle.outwriter.specs.RunState.{Answers, AnswersAll, Reached, SameOwn, IsSpent, Progress, Progresses, Stays, IsBetween, MirrorsOf};
+    ghost use Rattle.outwriter.specs.RunState.{Answers, AnswersAll, Reached, SameButOpen, SameOwn, IsSpent, Progress, Progresses, Stays, IsBetween, MirrorsOf};
 
     /// The next frame. Once it was out of memory the core is dead, and answers that again.
     pub fn next_frame(&mut self) -> Result<Next, OutFault<Sender<L>>>
@@ -143,7 +143,8 @@ impl<L: Lane<Item = OutItem>> OutCore<L> {
         self.frame_of_any()
     }
 
-    /// A frame of the stream at the cursor, if it isn't in the queue anyway.
+    /// A frame of the stream at the cursor, if it isn't in the queue anyway. With as many in the queue as there are senders, none
+    /// is out of turn.
     fn frame_out_of_turn(&mut self) -> Result<Option<Frame>, AllocError>
         requires { IsBetween self.old.outbound }
         ensures sound { IfOk result (λ o. IfSome o IsSound) }
@@ -156,20 +157,23 @@ impl<L: Lane<Item = OutItem>> OutCore<L> {
         ensures senders { lanes L.out_name self.new.senders.items ≡ lanes L.out_name self.old.senders.items }
         ensures alive { self.new.is_dead ≡ self.old.is_dead }
     {
-        let next = if self.cursor < self.streams.len() {
+        if self.ready.len() >= self.senders.len() {
+            return Ok(None);
+        }
+        let next = if self.cursor < self.senders.len() {
             self.cursor
         } else {
             0
         };
         self.cursor = next.saturating_add(1);
-        let id = match self.streams.get_index(next) {
-            Some((id, stream)) if !stream.in_turn => *id,
+        let id = match self.senders.get(next) {
+            Some((id, _)) if self.outbound.states.waits(*id) => *id,
             _ => return Ok(None),
         };
         self.frame_of(id)
     }
 
-    /// A frame of the first stream in the queue that has one. Those that have none leave the queue.
+    /// A frame of the first stream in the queue that has one, which goes behind the others. Those that have none leave the queue.
     fn frame_in_turn(&mut self) -> Result<Option<Frame>, AllocError>
         requires { IsBetween self.old.outbound }
         ensures sound { IfOk result (λ o. IfSome o IsSound) }
@@ -186,7 +190,8 @@ impl<L: Lane<Item = OutItem>> OutCore<L> {
             let Some(id) = self.ready.pop_front() else {
                 return Ok(None);
             };
-            if let Some(frame) = self.frame_of(id)? {
+            if let Some(frame) = self.look(id)? {
+                self.ready.push_back(id)?;
                 return Ok(Some(frame));
             }
             self.leave_turns(id);
@@ -194,7 +199,7 @@ impl<L: Lane<Item = OutItem>> OutCore<L> {
         Ok(None)
     }
 
-    /// A frame of the first open stream that has one.
+    /// A frame of the first open stream that has one, in the order of the senders. Each open stream has its own.
     fn frame_of_any(&mut self) -> Result<Option<Frame>, AllocError>
         requires { IsBetween self.old.outbound }
         ensures sound { IfOk result (λ o. IfSome o IsSound) }
@@ -208,8 +213,8 @@ impl<L: Lane<Item = OutItem>> OutCore<L> {
         ensures alive { self.new.is_dead ≡ self.old.is_dead }
         ensures quiet { IfOk result (λ o. IfNone o (AllStuck L.got (coming L.got L.ahead) self.old self.new)) }
     {
-        for index in 0..self.streams.len() {
-            let id = match self.streams.get_index(index) {
+        for index in 0..self.senders.len() {
+            let id = match self.senders.get(index) {
                 Some((id, _)) => *id,
                 None => return Ok(None),
             };
@@ -232,7 +237,6 @@ impl<L: Lane<Item = OutItem>> OutCore<L> {
         ensures fronts { KeepsFronts L.got self.old self.new }
         ensures senders { lanes L.out_name self.new.senders.items ≡ lanes L.out_name self.old.senders.items }
         ensures alive { self.new.is_dead ≡ self.old.is_dead }
-        ensures ids { IfOk result (λ o. IfNone o (ids self.new.streams.entries ≡ ids self.old.streams.entries)) }
         ensures quiet { IfOk result (λ o. IfNone o (GetsStuck L.got (coming L.got L.ahead) id self.old self.new)) }
     {
         let Some(frame) = self.look(id)? else {
@@ -244,31 +248,26 @@ impl<L: Lane<Item = OutItem>> OutCore<L> {
 
     /// Puts a stream behind all others that take turns, if it is still open.
     fn take_turns(&mut self, id: StreamId) -> Result<(), AllocError>
-        ensures outbound { self.new.outbound ≡ self.old.outbound }
+        ensures outbound { SameButOpen self.old.outbound self.new.outbound }
         ensures closed { self.new.closed ≡ self.old.closed }
-        ensures hands { SameHands self.old.streams.entries self.new.streams.entries }
-        ensures ids { ids self.new.streams.entries ≡ ids self.old.streams.entries }
+        ensures hands { SameHands (open_at self.old.outbound.states) (open_at self.new.outbound.states) }
         ensures senders { self.new.senders ≡ self.old.senders }
         ensures alive { self.new.is_dead ≡ self.old.is_dead }
     {
-        if let Some(stream) = self.streams.get_mut(&id) {
-            stream.in_turn = true;
+        if self.outbound.states.turn(id, true) {
             self.ready.push_back(id)?;
         }
         Ok(())
     }
 
     fn leave_turns(&mut self, id: StreamId)
-        ensures outbound { self.new.outbound ≡ self.old.outbound }
+        ensures outbound { SameButOpen self.old.outbound self.new.outbound }
         ensures closed { self.new.closed ≡ self.old.closed }
-        ensures hands { SameHands self.old.streams.entries self.new.streams.entries }
-        ensures ids { ids self.new.streams.entries ≡ ids self.old.streams.entries }
+        ensures hands { SameHands (open_at self.old.outbound.states) (open_at self.new.outbound.states) }
         ensures senders { self.new.senders ≡ self.old.senders }
         ensures alive { self.new.is_dead ≡ self.old.is_dead }
     {
-        if let Some(stream) = self.streams.get_mut(&id) {
-            stream.in_turn = false;
-        }
+        self.outbound.states.turn(id, false);
     }
 
     /// A frame of this stream, if it is open and has one that may be written now. For a message without bytes nothing is
@@ -284,7 +283,6 @@ impl<L: Lane<Item = OutItem>> OutCore<L> {
         ensures fronts { KeepsFronts L.got self.old self.new }
         ensures senders { lanes L.out_name self.new.senders.items ≡ lanes L.out_name self.old.senders.items }
         ensures alive { self.new.is_dead ≡ self.old.is_dead }
-        ensures ids { IfOk result (λ o. IfNone o (ids self.new.streams.entries ≡ ids self.old.streams.entries)) }
         ensures quiet { IfOk result (λ o. IfNone o (GetsStuck L.got (coming L.got L.ahead) id self.old self.new)) }
     {
         for _ in 0..u32::MAX {
@@ -309,13 +307,12 @@ impl<L: Lane<Item = OutItem>> OutCore<L> {
         ensures fronts { KeepsFronts L.got self.old self.new }
         ensures senders { lanes L.out_name self.new.senders.items ≡ lanes L.out_name self.old.senders.items }
         ensures alive { self.new.is_dead ≡ self.old.is_dead }
-        ensures ids { IfOk result (λ l. IfNone (frame_in l) (ids self.new.streams.entries ≡ ids self.old.streams.entries)) }
         ensures looks { IfOk result (λ l. LooksAt L.got (coming L.got L.ahead) id l self.old self.new) }
     {
-        if !self.outbound.may_write(id) {
+        let Some((place, hand)) = self.outbound.states.take_hand(id) else {
             return Ok(Looked::Nothing);
-        }
-        match self.take(id)? {
+        };
+        match self.take(place, hand)? {
             Polled::Nothing => Ok(Looked::Nothing),
             Polled::Message(bytes) => {
                 if bytes.is_empty() {
@@ -330,24 +327,19 @@ impl<L: Lane<Item = OutItem>> OutCore<L> {
         }
     }
 
-    /// What is next on a stream: what is in hand, or what its sender has.
-    fn take(&mut self, id: StreamId) -> Result<Polled, AllocError>
+    /// What is next on a stream: what was in hand, or what its sender has.
+    fn take(&mut self, place: usize, hand: Option<Bytes>) -> Result<Polled, AllocError>
         ensures outbound { self.new.outbound ≡ record self.old.outbound { encoder = self.new.outbound.encoder } }
         ensures closed { self.new.closed ≡ self.old.closed }
-        ensures hands { HandIs id None self.old.streams.entries self.new.streams.entries }
-        ensures takes { TakesAt (shows self.old.streams.entries id) (calls L.got self.old.senders.items) (calls L.got self.new.senders.items) (aheads (coming L.got L.ahead) self.new.senders.items) self.old.outbound.encoder self.new.outbound.encoder result }
-        ensures ahead { SameAhead (shows self.old.streams.entries id) (aheads (coming L.got L.ahead) self.old.senders.items) (aheads (coming L.got L.ahead) self.new.senders.items) }
+        ensures takes { TakesHand hand place (calls L.got self.old.senders.items) (calls L.got self.new.senders.items) (aheads (coming L.got L.ahead) self.new.senders.items) self.old.outbound.encoder self.new.outbound.encoder result }
+        ensures ahead { SameElsewhere place (aheads (coming L.got L.ahead) self.old.senders.items) (aheads (coming L.got L.ahead) self.new.senders.items) }
         ensures senders { lanes L.out_name self.new.senders.items ≡ lanes L.out_name self.old.senders.items }
-        ensures ids { ids self.new.streams.entries ≡ ids self.old.streams.entries }
         ensures alive { self.new.is_dead ≡ self.old.is_dead }
     {
-        let Some(stream) = self.streams.get_mut(&id) else {
-            return Ok(Polled::Nothing);
-        };
-        if let Some(bytes) = stream.in_hand.take() {
-            return Ok(Polled::Message(bytes));
+        match hand {
+            Some(bytes) => Ok(Polled::Message(bytes)),
+            None => poll_at(&mut self.senders, place, &mut self.outbound.encoder),
         }
-        poll_at(&mut self.senders, stream.place, &mut self.outbound.encoder)
     }
 
     /// The next DATA of a message, as far as the windows let it through. What is left is kept in hand.
@@ -365,55 +357,37 @@ impl<L: Lane<Item = OutItem>> OutCore<L> {
         ensures closed { self.new.closed ≡ self.old.closed }
         ensures data { IfOk result (λ l. TellsData id bytes (frame_in l) self.old self.new) }
         ensures looks { IfOk result (λ l. l ≢ looked.Empty) }
-        ensures ids { ids self.new.streams.entries ≡ ids self.old.streams.entries }
         ensures senders { self.new.senders ≡ self.old.senders }
         ensures alive { self.new.is_dead ≡ self.old.is_dead }
     {
         let len = self.outbound.room(id, bytes.len());
         if len == 0 {
-            self.keep(id, bytes);
+            self.outbound.states.keep(id, bytes);
             return Ok(Looked::Nothing);
         }
         let mut rest = bytes;
         let piece = rest.split_to(len)?;
-        self.keep(id, rest);
+        self.outbound.states.keep(id, rest);
         Ok(Looked::Frame(self.outbound.data_frame(id, piece)))
     }
 
     /// Closes a stream whose trailers are written.
     fn end(&mut self, id: StreamId, ends: bool)
-        ensures outbound { self.new.outbound ≡ self.old.outbound }
+        ensures outbound { SameButOpen self.old.outbound self.new.outbound }
         ensures closed { self.new.closed ≡ self.old.closed }
-        ensures ended { Removes id ends self.old.streams.entries self.new.streams.entries }
+        ensures ended { Removes id ends (open_at self.old.outbound.states) (open_at self.new.outbound.states) }
         ensures senders { self.new.senders ≡ self.old.senders }
         ensures alive { self.new.is_dead ≡ self.old.is_dead }
     {
         if ends {
-            self.streams.swap_remove(&id);
-        }
-    }
-
-    /// Keeps what is left of a message, if anything is.
-    fn keep(&mut self, id: StreamId, bytes: Bytes)
-        ensures outbound { self.new.outbound ≡ self.old.outbound }
-        ensures closed { self.new.closed ≡ self.old.closed }
-        ensures kept { HandKeeps id bytes self.old.streams.entries self.new.streams.entries }
-        ensures ids { ids self.new.streams.entries ≡ ids self.old.streams.entries }
-        ensures senders { self.new.senders ≡ self.old.senders }
-        ensures alive { self.new.is_dead ≡ self.old.is_dead }
-    {
-        if bytes.is_empty() {
-            return;
-        }
-        if let Some(stream) = self.streams.get_mut(&id) {
-            stream.in_hand = Some(bytes);
+            self.outbound.states.close(id);
         }
     }
 }
 
 ghost use Rattle.outwriter.specs.Cores.{calls as calls_of, lanes as lanes_of};
 ghost use Rattle.outwriter.specs.Polls.{coming as coming_of};
-ghost use Rattle.outwriter.specs.StreamLooks.{aheads as aheads_of, TakesHand, SameElsewhere};
+ghost use Rattle.outwriter.specs.StreamLooks.{aheads as aheads_of, TakesHand as TakesHandAt, SameElsewhere as SameButAt};
 
 /// The next item of the sender at a place, if there is one.
 fn poll_at<L: Lane<Item = OutItem>>(
@@ -421,8 +395,8 @@ fn poll_at<L: Lane<Item = OutItem>>(
     place: usize,
     encoder: &mut Encoder,
 ) -> Result<Polled, AllocError>
-    ensures takes { TakesHand None place (calls_of L.got senders.old.items) (calls_of L.got senders.new.items) (aheads_of (coming_of L.got L.ahead) senders.new.items) encoder.old encoder.new result }
-    ensures ahead { SameElsewhere place (aheads_of (coming_of L.got L.ahead) senders.old.items) (aheads_of (coming_of L.got L.ahead) senders.new.items) }
+    ensures takes { TakesHandAt None place (calls_of L.got senders.old.items) (calls_of L.got senders.new.items) (aheads_of (coming_of L.got L.ahead) senders.new.items) encoder.old encoder.new result }
+    ensures ahead { SameButAt place (aheads_of (coming_of L.got L.ahead) senders.old.items) (aheads_of (coming_of L.got L.ahead) senders.new.items) }
     ensures senders { lanes_of L.out_name senders.new.items ≡ lanes_of L.out_name senders.old.items }
 {
     match senders.get_mut(place) {

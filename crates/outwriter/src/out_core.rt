@@ -10,18 +10,18 @@
 ghost use Rattle.std.specs.Prelude.{◌≡◌, ◌<◌, ◌++◌, ◌==◌, ◌&&◌, ◌||◌, ℕ, List, [], ◌∷◌, Some, None, Err, false, true, OnOk, OnErr, IfOk, IfErr, IfSome, nat_eq, map, length};
 ghost use Rattle.std.specs.VecDeque.{deque_len, deque_capacity};
 ghost use Rattle.std.specs.Prelude.{vec_len, vec_capacity};
-ghost use Rattle.outwriter.specs.Cores.{calls, Serving, ServesOn, ServesControl, Brings, Parts};
+ghost use Rattle.outwriter.specs.Cores.{calls, open_stream, Serving, ServesOn, ServesControl, Brings, Parts};
 ghost use Rattle.outwriter.specs.declared.control.OutFault.TheVariants as out_fault;
 ghost use Rattle.outwriter.specs.RunState.{Reached, GoesOn, Takes, Leads, Stays, Blames, Concerns, HasRoom, IsMemory, is_held};
-ghost use Rattle.std.specs.Map.{lookup};
 ghost use Rattle.flow.specs.Windows.{room};
 ghost use Rattle.outwriter.specs.Calls.{TellFronts, TellReturned, TellOthers};
-ghost use Rattle.outwriter.specs.States.{SameOver, is_heard, is_reset, knows};
+ghost use Rattle.outwriter.specs.States.{SameOver, is_heard, is_reset, knows, open_at};
 ghost use Rattle.outwriter.specs.Histories.{is_stream as is_number};
 ghost use Rattle.h2frame.specs.Spelling.{IsWritable};
 ghost use Rattle.outwriter.specs.Frames.{goaway_frame};
 ghost use Rattle.outwriter.specs.Runs.{MayWrite};
-ghost use Rattle.outwriter.specs.CoreChanges.{KeepsServing, KeepsHeeds, Prepares, Closes, due_reset};
+ghost use Rattle.outwriter.specs.CoreChanges.{KeepsServing, KeepsHeeds, Prepares, due_reset};
+ghost use Rattle.outwriter.specs.OpenStreams.{Closes};
 ghost use Rattle.outwriter.specs.CallState.{none_is_new};
 ghost use Rattle.outwriter.specs.CallState.{Takes as KeepsCalls};
 ghost use Rattle.outwriter.specs.Steps.{Step, Taken, Granted};
@@ -31,11 +31,9 @@ ghost use Rattle.outwriter.specs.declared.control.Control.TheVariants as order;
 use crate::control::{Control, OutFault};
 use crate::frames::make_goaway;
 use crate::outbound::{Outbound, is_stream};
-use crate::stream::OpenStream;
 use account::OutItem;
 use callbox::Sender;
 use h2frame::{ErrorCode, Frame, StreamId};
-use indexmap::IndexMap;
 use lane::Lane;
 use lists::{Field, Sequence};
 use std::alloc::{AllocError, Global};
@@ -53,11 +51,9 @@ pub struct OutCore<L: Lane<Item = OutItem>> {
     pub(crate) outbound: Outbound,
     /// The senders that weren't given back.
     pub(crate) senders: Vec<(StreamId, Sender<L>)>,
-    /// The open streams.
-    pub(crate) streams: IndexMap<StreamId, OpenStream>,
     /// The open streams that had something when they were looked at last, and take turns.
     pub(crate) ready: VecDeque<StreamId>,
-    /// Which open stream is looked at next out of turn.
+    /// Whose stream is looked at next out of turn, of the senders.
     pub(crate) cursor: usize,
 }
 
@@ -76,7 +72,6 @@ impl<L: Lane<Item = OutItem>> OutCore<L> {
             closed: false,
             outbound: Outbound::new(alloc),
             senders: Vec::new(alloc),
-            streams: IndexMap::new(alloc),
             ready: VecDeque::new(alloc),
             cursor: 0,
         }
@@ -183,12 +178,9 @@ impl<L: Lane<Item = OutItem>> OutCore<L> {
 
     /// Whether an item of the stream is in hand that a window keeps back.
     pub fn held(&self, id: StreamId) -> bool
-        ensures { result ≡ is_held (lookup (nat_eq id) self.now.streams.entries) (room self.now.outbound.windows id) }
+        ensures { result ≡ is_held (open_stream self.now id) (room self.now.outbound.windows id) }
     {
-        match self.streams.get(&id) {
-            Some(stream) => stream.in_hand.is_some() && self.outbound.windows.room(id) == 0,
-            None => false,
-        }
+        self.outbound.states.has_hand(id) && self.outbound.windows.room(id) == 0
     }
 
     /// The senders that are kept: of each call whose sender wasn't given back.
@@ -236,29 +228,19 @@ impl<L: Lane<Item = OutItem>> OutCore<L> {
         ensures taken { OnOk result (Leads (Taken (order.Open id tt)) self.old.outbound self.new.outbound) }
         ensures room { OnOk result (vec_len self.new.senders < vec_capacity self.new.senders) }
         ensures stays { OnErr result (Stays self.old.outbound self.new.outbound) }
-        ensures call { OnOk result (Prepares id (length self.old.senders.items) self.old.outbound self.new.outbound self.old.streams.entries self.new.streams.entries) }
+        ensures call { OnOk result (Prepares id (length self.old.senders.items) self.old.outbound self.new.outbound (open_at self.old.outbound.states) (open_at self.new.outbound.states)) }
         ensures none { OnErr result (KeepsCalls [] none_is_new [] self.old.outbound self.new.outbound) }
-        ensures streams { OnErr result (self.new.streams.entries ≡ self.old.streams.entries) }
+        ensures streams { OnErr result ((open_at self.new.outbound.states) ≡ (open_at self.old.outbound.states)) }
         ensures senders { self.new.senders.items ≡ self.old.senders.items }
         ensures closed { self.new.closed ≡ self.old.closed }
         ensures alive { self.new.is_dead ≡ self.old.is_dead }
         ensures encoder { self.new.outbound.encoder ≡ self.old.outbound.encoder }
     {
         self.senders.reserve(1)?;
-        self.ready.reserve(self.streams.len().saturating_add(1))?;
-        self.streams.reserve(1)?;
+        let place = self.senders.len();
+        self.ready.reserve(place.saturating_add(1))?;
         let is_new = is_stream(id) && !self.outbound.states.state(id).is_call();
-        let is_open = is_stream(id) && !self.outbound.states.is_heard(id);
-        self.outbound.take_open(id, is_new)?;
-        if is_open {
-            let stream = OpenStream {
-                place: self.senders.len(),
-                in_hand: None,
-                in_turn: false,
-            };
-            let _ = self.streams.insert(id, stream);
-        }
-        Ok(())
+        self.outbound.take_open(id, is_new, place)
     }
 
     /// Refuses a stream of which nothing was or will be written.
@@ -317,16 +299,16 @@ impl<L: Lane<Item = OutItem>> OutCore<L> {
         ensures marks { OnOk result ((k : ℕ) → (knows self.new.outbound.states k ≡ knows self.old.outbound.states k) × (is_reset self.new.outbound.states k ≡ ((is_number id && (k == id)) || is_reset self.old.outbound.states k))) }
         ensures heard { OnOk result ((k : ℕ) → is_heard self.new.outbound.states k ≡ ((is_number id && (k == id)) || is_heard self.old.outbound.states k)) }
         ensures over { OnOk result (SameOver self.old.outbound.states self.new.outbound.states) }
-        ensures closes { OnOk result (Closes id self.old.streams.entries self.new.streams.entries) }
+        ensures closes { OnOk result (Closes id (open_at self.old.outbound.states) (open_at self.new.outbound.states)) }
         ensures outbound { OnErr result (self.new.outbound ≡ self.old.outbound) }
-        ensures streams { OnErr result (self.new.streams.entries ≡ self.old.streams.entries) }
+        ensures streams { OnErr result ((open_at self.new.outbound.states) ≡ (open_at self.old.outbound.states)) }
         ensures senders { self.new.senders.items ≡ self.old.senders.items }
         ensures closed { self.new.closed ≡ self.old.closed }
         ensures alive { self.new.is_dead ≡ self.old.is_dead }
         ensures encoder { self.new.outbound.encoder ≡ self.old.outbound.encoder }
     {
         self.outbound.take_reset(id, code, written)?;
-        self.streams.swap_remove(&id);
+        self.outbound.states.close(id);
         Ok(())
     }
 }

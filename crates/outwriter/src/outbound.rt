@@ -4,11 +4,12 @@
 //! that frame: whatever run led to the state before, the frame might be written behind it, and the run with the frame
 //! leads to the state behind it.
 
-ghost use Rattle.std.specs.Prelude.{Err, ◌==◌, ◌∷◌, if◌then◌else◌, ◌≢◌, ◌≡◌, ◌≤◌, ◌<◌, ◌^◌, ◌&&◌, ◌||◌, not, true, false, nat_lt, nat_le, ℕ, All, List, [], None, OnOk, OnErr, IfErr, length};
+ghost use Rattle.std.specs.Prelude.{Err, ◌==◌, ◌∷◌, if◌then◌else◌, ◌≢◌, ◌≡◌, ◌≤◌, ◌<◌, ◌^◌, ◌&&◌, ◌||◌, not, true, false, nat_lt, nat_le, ℕ, All, List, [], Some, None, OnOk, OnErr, IfErr, length};
 ghost use Rattle.flow.specs.WindowHistory.{Follows, CanCredit, CanResize};
 ghost use Rattle.flow.specs.WindowHistory.{Step as WindowStep};
 ghost use Rattle.flow.specs.Windows.{balance};
-ghost use Rattle.outwriter.specs.States.{SameOver, is_heard, is_reset, knows, owed_on, nothing_known, pays};
+ghost use Rattle.outwriter.specs.States.{BecomesOpen, SameOpen, SameOver, open_at, is_heard, is_reset, knows, owed_on, nothing_known, pays};
+ghost use Rattle.outwriter.specs.OpenStreams.{stream_at};
 ghost use Rattle.outwriter.specs.RunState.{HasOver};
 ghost use Rattle.outwriter.specs.Histories.{is_stream as is_number, table_sizes};
 ghost use Rattle.outwriter.specs.TableLimits.{limited_by};
@@ -48,7 +49,7 @@ impl Outbound {
     ghost use Rattle.outwriter.specs.Histories.{opens, HasWindow, Overflows, window_sizes};
     ghost use Rattle.outwriter.specs.RunState.{IsBetween, MirrorsOf, Leads, Stays};
     ghost use Rattle.outwriter.specs.CallState.{Takes, none_is_new};
-    ghost use Rattle.outwriter.specs.CoreChanges.{due_reset};
+    ghost use Rattle.outwriter.specs.CoreChanges.{becomes_open, due_reset};
     ghost use Rattle.outwriter.specs.declared.control.Control.TheVariants as order;
     ghost use Rattle.outwriter.specs.declared.due.Due.TheVariants as due_kind;
 
@@ -127,23 +128,30 @@ impl Outbound {
         !is_overflow(credited)
     }
 
-    /// Opens the window of a call's stream, unless it is open or over, and its state, if the stream is new. Out of
-    /// memory, it changes nothing.
-    pub(crate) fn take_open(&mut self, id: StreamId, is_new: bool) -> Result<(), AllocError>
+    /// Opens the window of a call's stream, unless it is open or over, and its state, if the stream is new. It becomes
+    /// open where nothing was heard of it; its sender stands at a place. Out of memory, it changes nothing.
+    pub(crate) fn take_open(
+        &mut self,
+        id: StreamId,
+        is_new: bool,
+        place: usize,
+    ) -> Result<(), AllocError>
         requires { is_new ≡ (is_number id && not (knows self.old.states id)) }
         ensures taken { OnOk result (Leads (Taken (order.Open id tt)) self.old self.new) }
         ensures stays { OnErr result (Stays self.old self.new) }
         ensures takes { OnOk result (Takes [] (λ other. is_new && (other == id)) [] self.old self.new) }
         ensures takes_none { OnErr result (Takes [] none_is_new [] self.old self.new) }
+        ensures becomes { OnOk result ((k : ℕ) → (open_at self.new.states) k ≡ (if becomes_open self.old id && (k == id) then Some (stream_at place) else (open_at self.old.states) k)) }
+        ensures states { OnErr result (self.new.states ≡ self.old.states) }
         ensures encoder { self.new.encoder ≡ self.old.encoder }
     {
         if !self.opens(id) {
-            return open_state(&mut self.states, id, is_new);
+            return open_state(&mut self.states, id, is_new, place);
         }
         let Ok(()) = self.windows.open(id) else {
             return Err(AllocError);
         };
-        match open_state(&mut self.states, id, is_new) {
+        match open_state(&mut self.states, id, is_new, place) {
             Ok(()) => Ok(()),
             Err(e) => {
                 self.windows.close(id);
@@ -199,6 +207,7 @@ impl Outbound {
         ensures marks { OnOk result ((k : ℕ) → (knows self.new.states k ≡ knows self.old.states k) × (is_reset self.new.states k ≡ ((is_number id && (k == id)) || is_reset self.old.states k))) }
         ensures heard { OnOk result ((k : ℕ) → is_heard self.new.states k ≡ ((is_number id && (k == id)) || is_heard self.old.states k)) }
         ensures over { OnOk result (SameOver self.old.states self.new.states) }
+        ensures open { OnOk result (SameOpen self.old.states self.new.states) }
         ensures unchanged { OnErr result (self.new ≡ self.old) }
         ensures encoder { self.new.encoder ≡ self.old.encoder }
     {
@@ -252,7 +261,12 @@ pub(crate) fn is_stream(id: StreamId) -> bool
 }
 
 /// The state of a call's stream, if the stream is new.
-fn open_state(states: &mut StreamStates, id: StreamId, is_new: bool) -> Result<(), AllocError>
+fn open_state(
+    states: &mut StreamStates,
+    id: StreamId,
+    is_new: bool,
+    place: usize,
+) -> Result<(), AllocError>
     requires { is_new ≡ (is_number id && not (knows states.old id)) }
     ensures owed { OnOk result ((other : ℕ) → owed_on states.new other ≡ owed_on states.old other) }
     ensures pays { OnOk result ((other : ℕ) → pays states.new other ≡ (if is_new && (other == id) then not (is_reset states.old id) else pays states.old other)) }
@@ -260,12 +274,14 @@ fn open_state(states: &mut StreamStates, id: StreamId, is_new: bool) -> Result<(
     ensures resets { OnOk result ((other : ℕ) → is_reset states.new other ≡ is_reset states.old other) }
     ensures heard { OnOk result ((other : ℕ) → is_heard states.new other ≡ ((is_new && (other == id)) || is_heard states.old other)) }
     ensures over { OnOk result (SameOver states.old states.new) }
+    ensures same { OnOk result (is_new ≡ false → SameOpen states.old states.new) }
+    ensures becomes { OnOk result (is_new ≡ true → BecomesOpen states.old id (Some (stream_at place)) states.new) }
     ensures unchanged { OnErr result (states.new ≡ states.old) }
 {
     if !is_new {
         return Ok(());
     }
-    states.open(id)
+    states.open(id, place)
 }
 
 /// The state of a stream that is reset.
@@ -276,6 +292,7 @@ fn reset_state(states: &mut StreamStates, id: StreamId) -> Result<(), AllocError
     ensures resets { OnOk result ((k : ℕ) → is_reset states.new k ≡ ((is_number id && (k == id)) || is_reset states.old k)) }
     ensures heard { OnOk result ((k : ℕ) → is_heard states.new k ≡ ((is_number id && (k == id)) || is_heard states.old k)) }
     ensures over { OnOk result (SameOver states.old states.new) }
+    ensures open { OnOk result (SameOpen states.old states.new) }
     ensures unchanged { OnErr result (states.new ≡ states.old) }
 {
     if !is_stream(id) {

@@ -4,20 +4,19 @@
 //! a reset. What is still ahead of its sender nobody asks for any more, so whoever gets the sender polls that away.
 
 ghost use Rattle.std.specs.Prelude.{◌≡◌, true, false, IfSome, IfNone, OnSome};
-ghost use Rattle.outwriter.specs.Releases.{IsWhole, PlaceIs};
+ghost use Rattle.outwriter.specs.Releases.{IsWhole};
 
 use crate::out_core::OutCore;
-use crate::stream::OpenStream;
 use account::OutItem;
 use callbox::Sender;
 use h2frame::StreamId;
-use indexmap::IndexMap;
 use lane::Lane;
 
 impl<L: Lane<Item = OutItem>> OutCore<L> {
     ghost use Rattle.outwriter.specs.Cores.{ServesOn};
     ghost use Rattle.outwriter.specs.Releases.{IsThrough, HasNone, IsAt, MovedTo, Releases, HasEnded};
-    ghost use Rattle.outwriter.specs.RunState.{GoesOn};
+    ghost use Rattle.outwriter.specs.RunState.{GoesOn, SameButOpen};
+    ghost use Rattle.outwriter.specs.States.{open_at};
     ghost use Rattle.outwriter.specs.Steps.{Returned};
 
     /// Gives back the sender of a call that is through: its stream isn't open any more, and no header block of it is
@@ -35,9 +34,12 @@ impl<L: Lane<Item = OutItem>> OutCore<L> {
         ensures none { IfNone result (IsThrough id self.old → HasNone id self.old.senders.items) }
         ensures ended { OnSome result (HasEnded L.got id self.old) }
         ensures unchanged { IfNone result (self.new ≡ self.old) }
-        ensures rest { self.new ≡ record self.old { senders = self.new.senders; streams = self.new.streams } }
+        ensures rest { self.new ≡ record self.old { senders = self.new.senders; outbound = self.new.outbound } }
+
+        // It changes no more than where the sender stands that takes its place.
+        ensures same { SameButOpen self.old.outbound self.new.outbound }
     {
-        if self.streams.contains_key(&id) || self.is_in_block(id) {
+        if self.outbound.states.is_open(id) || self.is_in_block(id) {
             return None;
         }
         let place = self.place_of(id)?;
@@ -48,13 +50,14 @@ impl<L: Lane<Item = OutItem>> OutCore<L> {
 
     /// The sender that was last stands at a place now, unless that was the last.
     fn move_last(&mut self, place: usize)
-        ensures moved { MovedTo place self.old.senders.items self.old.streams.entries self.new.streams.entries }
-        ensures rest { self.new ≡ record self.old { streams = self.new.streams } }
+        ensures moved { MovedTo place self.old.senders.items (open_at self.old.outbound.states) (open_at self.new.outbound.states) }
+        ensures rest { self.new ≡ record self.old { outbound = self.new.outbound } }
+        ensures same { SameButOpen self.old.outbound self.new.outbound }
     {
         let senders = self.senders.as_slice();
         let last = senders.len();
         match senders.get(place) {
-            Some(call) => move_place(&mut self.streams, call.0, last, place),
+            Some(call) => self.outbound.states.move_place(call.0, last, place),
             None => {}
         }
     }
@@ -83,16 +86,5 @@ impl<L: Lane<Item = OutItem>> OutCore<L> {
             }
         }
         None
-    }
-}
-
-/// The sender of a stream stands at another place, if it stood there.
-fn move_place(streams: &mut IndexMap<StreamId, OpenStream>, id: StreamId, from: usize, to: usize)
-    ensures { PlaceIs id from to streams.old.entries streams.new.entries }
-{
-    if let Some(stream) = streams.get_mut(&id) {
-        if stream.place == from {
-            stream.place = to;
-        }
     }
 }

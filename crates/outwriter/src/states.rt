@@ -1,10 +1,13 @@
 //! How each stream stands of which something was heard or written (RFC 9113, section 5.1), and the credit that is owed to
 //! the peer (section 6.9).
 
-ghost use Rattle.std.specs.Prelude.{◌≡◌, ◌<◌, ◌≤◌, ◌^◌, ℕ, Some, false, true, not, IfSome, OnOk, OnErr, length, nat_eq};
+ghost use Rattle.std.specs.Prelude.{◌≡◌, ◌<◌, ◌≤◌, ◌^◌, ◌⊎◌, ℕ, List, Option, None, Some, false, true, not, is_some, IfSome, IfNone, OnSome, OnOk, OnErr, MatchOption, length, nat_eq};
 ghost use Rattle.std.specs.Map.{lookup};
-ghost use Rattle.outwriter.specs.States.{nothing_known, knows, is_reset, state_on, amount_of, by_reset, more, is_heard, Hears, Opens, Grants, Resets, SameEnds, SameOver, SameOwed, SetsEnd, Puts, TakesAll, Adds, AllFit, IsSettledBut, IsSettledFrom, TakesAt, TakesLast};
+ghost use Rattle.outwriter.specs.States.{nothing_known, open_at, knows, is_reset, state_on, over_on, amount_of, by_reset, more, is_heard, can_write, IsShut, Hears, Opens, BecomesOpen, Grants, Resets, SameEnds, SameOver, SameOwed, SameOpen, StandAs, SetsEnd, Puts, PutsState, Edits, TakesAll, Adds, AllFit, IsSettledBut, IsSettledFrom, TakesAt, TakesLast, opened_of};
+ghost use Rattle.outwriter.specs.OpenStreams.{Closes, HandIs, HandKeeps, PlaceIs, SameHands, has_hand, shown, shows, stream_at, with_hand, with_place};
 
+use crate::stream::OpenStream;
+use bytes::Bytes;
 use flow::MAX_WINDOW;
 use h2frame::StreamId;
 use indexmap::IndexMap;
@@ -50,6 +53,13 @@ impl StreamState {
             StreamState::NoCall { .. } => false,
             StreamState::Call { .. } => false,
         }
+    }
+
+    /// Whether neither it has ended, nor was it reset.
+    pub(crate) fn can_write(&self) -> bool
+        ensures { result ≡ can_write self.now }
+    {
+        self.over().is_none() && !self.is_reset()
     }
 
     /// What was written of its end.
@@ -113,21 +123,85 @@ impl StreamState {
     }
 }
 
+/// What is kept of a stream.
+#[derive(Drop)]
+pub(crate) struct Stream {
+    state: StreamState,
+    /// What is written of it, while it is open.
+    opened: Option<OpenStream>,
+}
+
+impl Stream {
+    /// Takes what is in hand of an open stream, with the place of its sender, if something may be written on it.
+    fn take_hand(&mut self) -> Option<(usize, Option<Bytes>)>
+        ensures state { self.new.state ≡ self.old.state }
+        ensures none { IfNone result ((can_write self.old.state ≡ false) ⊎ (self.old.opened ≡ None)) }
+        ensures unchanged { IfNone result (self.new ≡ self.old) }
+        ensures some { IfSome result (λ hand. shown self.old.opened ≡ Some hand) }
+        ensures writable { OnSome result (can_write self.old.state ≡ true) }
+        ensures hand { OnSome result (shown self.new.opened ≡ with_hand None (shown self.old.opened)) }
+    {
+        if !self.state.can_write() {
+            return None;
+        }
+        match &mut self.opened {
+            Some(stream) => Some((stream.place, stream.in_hand.take())),
+            None => None,
+        }
+    }
+
+    /// Keeps bytes in hand, if it is open.
+    fn keep(&mut self, bytes: Bytes)
+        ensures state { self.new.state ≡ self.old.state }
+        ensures hand { shown self.new.opened ≡ with_hand (Some bytes) (shown self.old.opened) }
+    {
+        if let Some(stream) = &mut self.opened {
+            stream.in_hand = Some(bytes);
+        }
+    }
+
+    /// Whether it takes turns from now on, if it is open. It answers whether it is.
+    fn turn(&mut self, in_turn: bool) -> bool
+        ensures state { self.new.state ≡ self.old.state }
+        ensures hand { shown self.new.opened ≡ shown self.old.opened }
+    {
+        match &mut self.opened {
+            Some(stream) => {
+                stream.in_turn = in_turn;
+                true
+            }
+            None => false,
+        }
+    }
+
+    /// Its sender stands at another place, if it is open and that stood there.
+    fn move_place(&mut self, from: usize, to: usize)
+        ensures state { self.new.state ≡ self.old.state }
+        ensures place { shown self.new.opened ≡ with_place from to (shown self.old.opened) }
+    {
+        if let Some(stream) = &mut self.opened {
+            if stream.place == from {
+                stream.place = to;
+            }
+        }
+    }
+}
+
 /// The streams of a connection, and the bytes to be credited to the peer on the connection itself.
 #[derive(Drop)]
 pub(crate) struct StreamStates {
     connection: u32,
-    streams: IndexMap<StreamId, StreamState>,
+    streams: IndexMap<StreamId, Stream>,
     /// Nothing is owed on the streams from here on.
     owing: usize,
 }
 
 impl Model for StreamStates {
-    ghost use Rattle.outwriter.specs.States.{States, IsWithin};
+    ghost use Rattle.outwriter.specs.States.{States, IsWithin, states_of};
 
     ghost Value = { States };
 
-    ghost view = { λ c. record { connection = c.connection; streams = c.streams.entries } };
+    ghost view = { λ c. states_of c.connection c.streams.entries };
 
     ghost invariant = { λ c. IsWithin c.connection c.streams.entries c.owing };
 }
@@ -149,7 +223,7 @@ impl StreamStates {
         ensures { result ≡ state_on self.now id }
     {
         match self.streams.get(&id) {
-            Some(state) => *state,
+            Some(stream) => stream.state,
             None => StreamState::NoCall { over: None },
         }
     }
@@ -161,18 +235,59 @@ impl StreamStates {
         self.streams.contains_key(&id)
     }
 
-    /// The stream of a call that begins. None is owed on one that was reset.
-    pub(crate) fn open(&mut self, id: StreamId) -> Result<(), AllocError>
+    /// Whether a stream is open.
+    pub(crate) fn is_open(&self, id: StreamId) -> bool
+        ensures { result ≡ is_some ((open_at self.now) id) }
+    {
+        match self.streams.get(&id) {
+            Some(stream) => stream.opened.is_some(),
+            None => false,
+        }
+    }
+
+    /// Whether a stream is open, and takes no turns.
+    pub(crate) fn waits(&self, id: StreamId) -> bool {
+        match self.streams.get(&id) {
+            Some(stream) => match &stream.opened {
+                Some(opened) => !opened.in_turn,
+                None => false,
+            },
+            None => false,
+        }
+    }
+
+    /// Whether an item of an open stream is in hand.
+    pub(crate) fn has_hand(&self, id: StreamId) -> bool
+        ensures { result ≡ has_hand ((open_at self.now) id) }
+    {
+        match self.streams.get(&id) {
+            Some(stream) => match &stream.opened {
+                Some(opened) => opened.in_hand.is_some(),
+                None => false,
+            },
+            None => false,
+        }
+    }
+
+    /// The stream of a call that begins, whose sender stands at a place. It becomes open, if nothing was heard of it. None
+    /// is owed on one that was reset.
+    pub(crate) fn open(&mut self, id: StreamId, place: usize) -> Result<(), AllocError>
         requires stream { 0 < id }
         requires number { id < 2 ^ 31 }
         requires not_open { knows self.old id ≡ false }
         ensures ok { OnOk result (Opens self.old id self.new) }
         ensures hears { OnOk result (Hears self.old id self.new) }
         ensures over { OnOk result (SameOver self.old self.new) }
+        ensures becomes { OnOk result (BecomesOpen self.old id (Some (stream_at place)) self.new) }
         ensures unchanged { OnErr result (self.new ≡ self.old) }
     {
         let state = self.state(id).opened();
-        self.put(id, state)
+        let stream = OpenStream {
+            place,
+            in_hand: None,
+            in_turn: false,
+        };
+        self.put(id, state, Some(stream))
     }
 
     /// A stream is heard of. It stands as it did.
@@ -182,10 +297,11 @@ impl StreamStates {
         ensures hears { OnOk result (Hears self.old id self.new) }
         ensures over { OnOk result (SameOver self.old self.new) }
         ensures owed { OnOk result (SameOwed self.old self.new) }
+        ensures open { OnOk result (SameOpen self.old self.new) }
         ensures unchanged { OnErr result (self.new ≡ self.old) }
     {
         let state = self.state(id);
-        self.put(id, state)
+        self.put(id, state, None)
     }
 
     /// A stream is reset: nothing is owed on it, now and later. Out of memory, nothing changes.
@@ -195,10 +311,11 @@ impl StreamStates {
         ensures ok { OnOk result (Resets self.old id self.new) }
         ensures hears { OnOk result (Hears self.old id self.new) }
         ensures over { OnOk result (SameOver self.old self.new) }
+        ensures open { OnOk result (SameOpen self.old self.new) }
         ensures unchanged { OnErr result (self.new ≡ self.old) }
     {
         let state = self.state(id).reset();
-        self.put(id, state)
+        self.put(id, state, None)
     }
 
     /// The end of a stream is written. What is owed on it stays.
@@ -207,25 +324,81 @@ impl StreamStates {
         requires number { id < 2 ^ 31 }
         ensures ok { OnOk result (SetsEnd self.old id (by_reset by) self.new) }
         ensures owed { OnOk result (SameOwed self.old self.new) }
+        ensures open { OnOk result (SameOpen self.old self.new) }
         ensures unchanged { OnErr result (self.new ≡ self.old) }
     {
         let state = self.state(id).ended(by);
-        self.put(id, state)
+        self.put(id, state, None)
     }
 
-    /// Puts the state of a stream, on which no more may be owed by it.
-    fn put(&mut self, id: StreamId, state: StreamState) -> Result<(), AllocError>
+    /// Puts the state of a stream, on which no more may be owed by it. One of which nothing was heard becomes open, where
+    /// that is given.
+    fn put(
+        &mut self,
+        id: StreamId,
+        state: StreamState,
+        opened: Option<OpenStream>,
+    ) -> Result<(), AllocError>
         requires stream { 0 < id }
         requires number { id < 2 ^ 31 }
         requires amount { amount_of state ≤ amount_of (state_on self.old id) }
-        ensures puts { OnOk result (Puts self.old.streams id state self.new.streams) }
+        ensures puts { OnOk result (Puts self.old id state self.new) }
+        ensures becomes { OnOk result (BecomesOpen self.old id opened self.new) }
+        ensures open { OnOk result (opened ≡ None → SameOpen self.old self.new) }
         ensures connection { self.new.connection ≡ self.old.connection }
         ensures unchanged { OnErr result (self.new ≡ self.old) }
     {
-        match self.streams.insert(id, state) {
-            Ok(_before) => Ok(()),
-            Err(_refused) => Err(AllocError),
+        put_state(&mut self.streams, id, state, opened)
+    }
+
+    /// Takes what is in hand of an open stream, with the place of its sender, if something may be written on it.
+    pub(crate) fn take_hand(&mut self, id: StreamId) -> Option<(usize, Option<Bytes>)>
+        ensures stands { StandAs self.old self.new }
+        ensures none { IfNone result (IsShut self.old id) }
+        ensures unchanged { IfNone result (self.new ≡ self.old) }
+        ensures some { IfSome result (λ hand. shows (open_at self.old) id ≡ Some hand) }
+        ensures hand { OnSome result (HandIs id None (open_at self.old) (open_at self.new)) }
+        ensures stream { OnSome result (0 < id) }
+        ensures number { OnSome result (id < 2 ^ 31) }
+        ensures open { OnSome result (over_on self.old id ≡ None) }
+        ensures unreset { OnSome result (is_reset self.old id ≡ false) }
+    {
+        take_hand_of(&mut self.streams, id)
+    }
+
+    /// Keeps what is left of a message in hand of an open stream, if anything is.
+    pub(crate) fn keep(&mut self, id: StreamId, bytes: Bytes)
+        ensures stands { StandAs self.old self.new }
+        ensures kept { HandKeeps id bytes (open_at self.old) (open_at self.new) }
+    {
+        if bytes.is_empty() {
+            return;
         }
+        keep_of(&mut self.streams, id, bytes);
+    }
+
+    /// Whether a stream takes turns from now on, if it is open. It answers whether it is.
+    pub(crate) fn turn(&mut self, id: StreamId, in_turn: bool) -> bool
+        ensures stands { StandAs self.old self.new }
+        ensures hands { SameHands (open_at self.old) (open_at self.new) }
+    {
+        turn_of(&mut self.streams, id, in_turn)
+    }
+
+    /// The sender of an open stream stands at another place, if it stood there.
+    pub(crate) fn move_place(&mut self, id: StreamId, from: usize, to: usize)
+        ensures stands { StandAs self.old self.new }
+        ensures place { PlaceIs id from to (open_at self.old) (open_at self.new) }
+    {
+        move_place_of(&mut self.streams, id, from, to);
+    }
+
+    /// A stream isn't open any more.
+    pub(crate) fn close(&mut self, id: StreamId)
+        ensures stands { StandAs self.old self.new }
+        ensures closes { Closes id (open_at self.old) (open_at self.new) }
+    {
+        close_of(&mut self.streams, id);
     }
 
     /// Owes n bytes more, on a stream or on the connection where it is 0: at most 2^31 - 1 at once, the most that a
@@ -233,6 +406,7 @@ impl StreamStates {
     pub(crate) fn grant(&mut self, id: StreamId, n: u32)
         ensures grants { Grants self.old id n self.new }
         ensures ends { SameEnds self.old self.new }
+        ensures open { SameOpen self.old self.new }
     {
         if id == 0 {
             self.connection = sum(self.connection, n);
@@ -245,6 +419,7 @@ impl StreamStates {
     pub(crate) fn next(&mut self) -> Option<(StreamId, u32)>
         ensures takes { TakesAll self.old result self.new }
         ensures ends { SameEnds self.old self.new }
+        ensures open { SameOpen self.old self.new }
         ensures numbered { IfSome result (λ taken. taken.0 < 2 ^ 31) }
     {
         if self.connection > 0 {
@@ -258,16 +433,95 @@ impl StreamStates {
     }
 }
 
+/// Puts the state of a stream. One of which nothing was heard becomes open, where that is given.
+fn put_state(
+    streams: &mut IndexMap<StreamId, Stream>,
+    id: StreamId,
+    state: StreamState,
+    opened: Option<OpenStream>,
+) -> Result<(), AllocError>
+    ensures puts { OnOk result (PutsState streams.old.entries id state opened streams.new.entries) }
+    ensures unchanged { OnErr result (streams.new.entries ≡ streams.old.entries) }
+{
+    if let Some(stream) = streams.get_mut(&id) {
+        stream.state = state;
+        return Ok(());
+    }
+    match streams.insert(id, Stream { state, opened }) {
+        Ok(_before) => Ok(()),
+        Err(_refused) => Err(AllocError),
+    }
+}
+
+/// Takes what is in hand of an open stream, with the place of its sender, if something may be written on it.
+fn take_hand_of(
+    streams: &mut IndexMap<StreamId, Stream>,
+    id: StreamId,
+) -> Option<(usize, Option<Bytes>)>
+    ensures edits { Edits streams.old.entries id streams.new.entries }
+    ensures none { IfNone result (MatchOption (lookup (nat_eq id) streams.old.entries) (streams.new.entries ≡ streams.old.entries)
+        (λ was. ((can_write was.state ≡ false) ⊎ (was.opened ≡ None)) × (streams.new.entries ≡ streams.old.entries))) }
+    ensures some { IfSome result (λ hand. MatchOption (lookup (nat_eq id) streams.old.entries) ⊥
+        (λ was. (shown was.opened ≡ Some hand) × (can_write was.state ≡ true))) }
+    ensures hand { OnSome result (shown (opened_of (lookup (nat_eq id) streams.new.entries)) ≡ with_hand None (shown (opened_of (lookup (nat_eq id) streams.old.entries)))) }
+{
+    match streams.get_mut(&id) {
+        Some(stream) => stream.take_hand(),
+        None => None,
+    }
+}
+
+/// Keeps bytes in hand of an open stream.
+fn keep_of(streams: &mut IndexMap<StreamId, Stream>, id: StreamId, bytes: Bytes)
+    ensures edits { Edits streams.old.entries id streams.new.entries }
+    ensures hand { shown (opened_of (lookup (nat_eq id) streams.new.entries)) ≡ with_hand (Some bytes) (shown (opened_of (lookup (nat_eq id) streams.old.entries))) }
+{
+    if let Some(stream) = streams.get_mut(&id) {
+        stream.keep(bytes);
+    }
+}
+
+/// Whether a stream takes turns from now on, if it is open. It answers whether it is.
+fn turn_of(streams: &mut IndexMap<StreamId, Stream>, id: StreamId, in_turn: bool) -> bool
+    ensures edits { Edits streams.old.entries id streams.new.entries }
+    ensures hand { shown (opened_of (lookup (nat_eq id) streams.new.entries)) ≡ shown (opened_of (lookup (nat_eq id) streams.old.entries)) }
+{
+    match streams.get_mut(&id) {
+        Some(stream) => stream.turn(in_turn),
+        None => false,
+    }
+}
+
+/// The sender of an open stream stands at another place, if it stood there.
+fn move_place_of(streams: &mut IndexMap<StreamId, Stream>, id: StreamId, from: usize, to: usize)
+    ensures edits { Edits streams.old.entries id streams.new.entries }
+    ensures place { shown (opened_of (lookup (nat_eq id) streams.new.entries)) ≡ with_place from to (shown (opened_of (lookup (nat_eq id) streams.old.entries))) }
+{
+    if let Some(stream) = streams.get_mut(&id) {
+        stream.move_place(from, to);
+    }
+}
+
+/// A stream isn't open any more.
+fn close_of(streams: &mut IndexMap<StreamId, Stream>, id: StreamId)
+    ensures edits { Edits streams.old.entries id streams.new.entries }
+    ensures closed { opened_of (lookup (nat_eq id) streams.new.entries) ≡ None }
+{
+    if let Some(stream) = streams.get_mut(&id) {
+        stream.opened = None;
+    }
+}
+
 /// Adds to what is owed on a stream, and answers its place.
-fn add(streams: &mut IndexMap<StreamId, StreamState>, id: StreamId, n: u32) -> Option<usize>
+fn add(streams: &mut IndexMap<StreamId, Stream>, id: StreamId, n: u32) -> Option<usize>
     ensures { Adds streams.old.entries id n result streams.new.entries }
 {
-    let (place, owed, over) = match streams.get_full(&id) {
-        Some((place, _id, StreamState::Call { owed, over })) => (place, *owed, *over),
-        _ => return None,
+    let (place, _id, stream) = streams.get_full(&id)?;
+    let StreamState::Call { owed, over } = stream.state else {
+        return None;
     };
-    if let Some(state) = streams.get_index_mut(place) {
-        *state = StreamState::Call {
+    if let Some(stream) = streams.get_index_mut(place) {
+        stream.state = StreamState::Call {
             owed: sum(owed, n),
             over,
         };
@@ -276,7 +530,7 @@ fn add(streams: &mut IndexMap<StreamId, StreamState>, id: StreamId, n: u32) -> O
 }
 
 /// Brings the stream at a place among those on which something may be owed, and answers how many these are.
-fn bring_forward(streams: &mut IndexMap<StreamId, StreamState>, place: usize, owing: usize) -> usize
+fn bring_forward(streams: &mut IndexMap<StreamId, Stream>, place: usize, owing: usize) -> usize
     requires place { place < length streams.old.entries }
     requires owing { owing ≤ length streams.old.entries }
     requires settled { IsSettledBut place owing streams.old.entries }
@@ -296,7 +550,7 @@ fn bring_forward(streams: &mut IndexMap<StreamId, StreamState>, place: usize, ow
 
 /// Takes what is owed at the last of the first places at which something is. Nothing is owed from there on.
 fn take_last(
-    streams: &mut IndexMap<StreamId, StreamState>,
+    streams: &mut IndexMap<StreamId, Stream>,
     owing: usize,
 ) -> (usize, Option<(StreamId, u32)>)
     requires owing { owing ≤ length streams.old.entries }
@@ -317,19 +571,20 @@ fn take_last(
 }
 
 /// Takes what is owed at a place.
-fn take_at(streams: &mut IndexMap<StreamId, StreamState>, place: usize) -> Option<(StreamId, u32)>
+fn take_at(streams: &mut IndexMap<StreamId, Stream>, place: usize) -> Option<(StreamId, u32)>
     requires { place < length streams.old.entries }
     ensures { TakesAt streams.old.entries place result streams.new.entries }
 {
-    let (id, owed, over) = match streams.get_index(place) {
-        Some((id, StreamState::Call { owed, over })) => (*id, *owed, *over),
-        _ => return None,
+    let (id, stream) = streams.get_index(place)?;
+    let id = *id;
+    let StreamState::Call { owed, over } = stream.state else {
+        return None;
     };
     if owed == 0 {
         return None;
     }
-    if let Some(state) = streams.get_index_mut(place) {
-        *state = StreamState::Call { owed: 0, over };
+    if let Some(stream) = streams.get_index_mut(place) {
+        stream.state = StreamState::Call { owed: 0, over };
     }
     Some((id, owed))
 }

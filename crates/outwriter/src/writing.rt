@@ -5,7 +5,7 @@ ghost use Rattle.flow.specs.Windows.{room};
 ghost use Rattle.flow.specs.WindowHistory.{Follows, Closing, room_after};
 ghost use Rattle.flow.specs.WindowHistory.{Step as WindowStep};
 ghost use Rattle.outwriter.specs.RunState.{Ends, closing, spent};
-ghost use Rattle.outwriter.specs.States.{SameOwed, SetsEnd, by_reset, over_on};
+ghost use Rattle.outwriter.specs.States.{SameOpen, SameOwed, SetsEnd, by_reset, over_on};
 
 use crate::blocks::HeaderBlock;
 use crate::due::Due;
@@ -253,6 +253,7 @@ impl Outbound {
         ensures tells { IfOk result (λ frame. TellsBlock id ends bytes frame self.old self.new) }
         ensures ends { OnOk result (Ends self.old.states id ends self.new.states) }
         ensures owed { OnOk result (SameOwed self.old.states self.new.states) }
+        ensures open { OnOk result (SameOpen self.old.states self.new.states) }
         ensures rest { OnOk result (self.new ≡ record self.old { windows = self.new.windows; states = self.new.states; block = self.new.block }) }
     {
         close_if(&mut self.windows, &mut self.states, id, ends)?;
@@ -321,6 +322,7 @@ fn close(
     ensures windows { OnOk result ((history : List WindowStep) → Follows history windows.old → Follows (Closing id ∷ history) windows.new) }
     ensures ends { OnOk result (SetsEnd states.old id (by_reset by) states.new) }
     ensures owed { OnOk result (SameOwed states.old states.new) }
+    ensures open { OnOk result (SameOpen states.old states.new) }
 {
     states.end(id, by)?;
     windows.close(id);
@@ -339,6 +341,7 @@ fn close_if(
     ensures windows { OnOk result ((history : List WindowStep) → Follows history windows.old → Follows (closing id ends ++ history) windows.new) }
     ensures ends { OnOk result (Ends states.old id ends states.new) }
     ensures owed { OnOk result (SameOwed states.old states.new) }
+    ensures open { OnOk result (SameOpen states.old states.new) }
 {
     if ends {
         return close(windows, states, id, Over::EndStream);

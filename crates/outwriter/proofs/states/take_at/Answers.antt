@@ -2,13 +2,21 @@ use Rattle.std.proofs.Common.{◌≡◌, nat_eq, ◌∙◌, sym, ap, Some, arith
 use Rattle.std.specs.Map.{lookup}
 use Rattle.std.proofs.lemmas.Cmp.{nat_eq_equiv}
 use Rattle.indexmap.proofs.CallerLemmas.{updates-with_value_at}
+use Rattle.outwriter.specs.declared.states.Stream.{Stream}
+use Rattle.outwriter.specs.declared.states.StreamState.{StreamState}
 use Rattle.outwriter.specs.declared.states.StreamState.TheVariants.{Call}
+use Rattle.outwriter.proofs.StateLemmas.{value-at}
 use Rattle.outwriter.proofs.states.take_at.Goals as goal
 
 pub returns-in-Some : goal.returns-in-Some
 returns-in-Some c =
-    let was = c.in-Some-default-Call in
-    let found : lookup (nat_eq was.id.now) c.args.streams.now.entries ≡ Some (Call was.owed was.over) =
-    was.ensures.value ∙ ap Some was.field-0-1-is in
-    let updates = updates-with_value_at c.args.streams.now c.args.place (Call 0 was.over) nat_eq_equiv c.in-Some.ensures.unique was.id.now _ (sym was.ensures.entry) in
-    (was.over, omega (arith, c.if-owed-eq0.false), found, updates.0, refl)
+    let was = c.in_ok-id in
+    let now : Stream = c.in-Some.stream.now in
+    let same_stream : now ≡ was.stream.now = value-at c.args.streams.now.entries c.args.place (was.id.now, was.stream.now) now (sym was.ensures.entry) c.in-Some.ensures.value in
+    let here : was.stream.now ≡ record { state = Call c.in-Call.owed c.in-Call.over; opened = c.in-Some.stream.now.opened } =
+    ap (λ (s : StreamState). record was.stream.now { state = s }) c.in-Call.is ∙ ap (λ (x : Stream). record { state = Call c.in-Call.owed c.in-Call.over; opened = x.opened }) (sym same_stream) in
+    let found : lookup (nat_eq was.id.now) c.args.streams.now.entries ≡ Some (record { state = Call c.in-Call.owed c.in-Call.over; opened = c.in-Some.stream.now.opened }) =
+    was.ensures.value ∙ ap (λ (s : Stream). Some s) here in
+    let new : Stream = record { state = Call 0 c.in-Call.over; opened = c.in-Some.stream.now.opened } in
+    let updates = updates-with_value_at c.args.streams.now c.args.place new nat_eq_equiv c.in-Some.ensures.unique was.id.now _ (sym was.ensures.entry) in
+    (c.in-Call.over, c.in-Some.stream.now.opened, omega (arith, c.if-owed-eq0.false), found, updates.0, refl)

@@ -32,42 +32,42 @@ returns-in_default-clause-served g c = serving-room g.L.Lane.got c.args.self.now
 pub returns-in-Ok-take_settings-clause-served : goal.returns-in-Ok-take_settings-clause-served
 returns-in-Ok-take_settings-clause-served g c = λ unused.
     serving-plain g.L.Lane.got c.args.self.now c.if-self.false (record c.args.self.now { outbound = c.take_settings.new.self }) c.make_room.new.self c.args.control (order.Settings c.in-Settings.settings)
-    (due_kind.SettingsAck ∷ []) c.in-Settings.is (λ id. refl) (λ id. refl) (λ id opened. refl) (λ id. refl) (one-plain due_kind.SettingsAck tt) refl refl refl c.make_room.ensures.takes c.take_settings.ensures.takes
+    (due_kind.SettingsAck ∷ []) c.in-Settings.is (λ id. refl) (λ id. refl) (λ id opened. refl) (λ id. refl) (one-plain due_kind.SettingsAck tt) refl refl c.make_room.ensures.takes c.take_settings.ensures.takes
 
 pub returns-in-Settings-clause-served : goal.returns-in-Settings-clause-served
 returns-in-Settings-clause-served g c =
     serving-plain g.L.Lane.got c.args.self.now c.if-self.false (record c.args.self.now { outbound = c.take_settings.new.self }) c.make_room.new.self c.args.control (order.Settings c.in-Settings.settings)
-    (due_kind.SettingsAck ∷ []) c.in-Settings.is (λ id. refl) (λ id. refl) (λ id opened. refl) (λ id. refl) (one-plain due_kind.SettingsAck tt) refl refl refl c.make_room.ensures.takes c.take_settings.ensures.takes
+    (due_kind.SettingsAck ∷ []) c.in-Settings.is (λ id. refl) (λ id. refl) (λ id opened. refl) (λ id. refl) (one-plain due_kind.SettingsAck tt) refl refl c.make_room.ensures.takes c.take_settings.ensures.takes
 
 pub returns-in-Ping-clause-served : goal.returns-in-Ping-clause-served
 returns-in-Ping-clause-served g c = λ unused.
     serving-plain g.L.Lane.got c.args.self.now c.if-self.false (record c.args.self.now { outbound = c.take_ping.new.self }) c.make_room.new.self c.args.control (order.Ping c.in-Ping.bytes)
-    (due_kind.PingAck c.in-Ping.bytes ∷ []) c.in-Ping.is (λ id. refl) (λ id. refl) (λ id opened. refl) (λ id. refl) (one-plain (due_kind.PingAck c.in-Ping.bytes) tt) refl refl refl c.make_room.ensures.takes c.take_ping.ensures.takes
+    (due_kind.PingAck c.in-Ping.bytes ∷ []) c.in-Ping.is (λ id. refl) (λ id. refl) (λ id opened. refl) (λ id. refl) (one-plain (due_kind.PingAck c.in-Ping.bytes) tt) refl refl c.make_room.ensures.takes c.take_ping.ensures.takes
 
 pub returns-then-take_window-clause-served : goal.returns-then-take_window-clause-served
 returns-then-take_window-clause-served g c = λ unused.
     serving-plain g.L.Lane.got c.args.self.now c.if-self.false (record c.args.self.now { outbound = c.take_window.new.self }) c.make_room.new.self c.args.control (order.Window c.in-Window.id c.in-Window.increment)
-    [] c.in-Window.is (λ id. refl) (λ id. refl) (λ id opened. refl) (λ id. refl) none-plain refl refl refl c.make_room.ensures.takes c.take_window.ensures.takes
+    [] c.in-Window.is (λ id. refl) (λ id. refl) (λ id opened. refl) (λ id. refl) none-plain refl refl c.make_room.ensures.takes c.take_window.ensures.takes
 
 pub returns-in-Window-clause-served : goal.returns-in-Window-clause-served
 returns-in-Window-clause-served g c =
     serving-plain g.L.Lane.got c.args.self.now c.if-self.false (record c.args.self.now { outbound = c.take_window.new.self }) c.make_room.new.self c.args.control (order.Window c.in-Window.id c.in-Window.increment)
-    [] c.in-Window.is (λ id. refl) (λ id. refl) (λ id opened. refl) (λ id. refl) none-plain refl refl refl c.make_room.ensures.takes c.take_window.ensures.takes
+    [] c.in-Window.is (λ id. refl) (λ id. refl) (λ id opened. refl) (λ id. refl) none-plain refl refl c.make_room.ensures.takes c.take_window.ensures.takes
 
 pub returns-in-Goaway-clause-served : goal.returns-in-Goaway-clause-served
 returns-in-Goaway-clause-served g c = λ unused.
     serving-plain g.L.Lane.got c.args.self.now c.if-self.false (record c.args.self.now { outbound = c.take_goaway.new.self }) c.make_room.new.self c.args.control (order.Goaway c.in-Goaway.last c.in-Goaway.code)
-    (due_kind.Goaway c.in-Goaway.last c.in-Goaway.code ∷ []) c.in-Goaway.is (λ id. refl) (λ id. refl) (λ id opened. refl) (λ id. refl) (one-plain (due_kind.Goaway c.in-Goaway.last c.in-Goaway.code) tt) refl refl refl c.make_room.ensures.takes c.take_goaway.ensures.takes
+    (due_kind.Goaway c.in-Goaway.last c.in-Goaway.code ∷ []) c.in-Goaway.is (λ id. refl) (λ id. refl) (λ id opened. refl) (λ id. refl) (one-plain (due_kind.Goaway c.in-Goaway.last c.in-Goaway.code) tt) refl refl c.make_room.ensures.takes c.take_goaway.ensures.takes
 
 pub returns-in-InputEnded-clause-served : goal.returns-in-InputEnded-clause-served
 returns-in-InputEnded-clause-served g c = λ unused.
     serving-plain g.L.Lane.got c.args.self.now c.if-self.false (record c.args.self.now { outbound = c.make_room.new.self }) c.make_room.new.self c.args.control (order.InputEnded)
-    [] c.in-InputEnded.is (λ id. refl) (λ id. refl) (λ id opened. refl) (λ id. refl) none-plain refl refl refl c.make_room.ensures.takes (takes-nothing c.make_room.new.self)
+    [] c.in-InputEnded.is (λ id. refl) (λ id. refl) (λ id opened. refl) (λ id. refl) none-plain refl refl c.make_room.ensures.takes (takes-nothing c.make_room.new.self)
 
 pub returns-clause-served : goal.returns-clause-served
 returns-clause-served g c = λ unused.
     serving-plain g.L.Lane.got c.args.self.now c.if-self.false (record c.args.self.now { closed = true; outbound = c.make_room.new.self }) c.make_room.new.self c.args.control (order.Close)
-    [] c.in-Close.is (λ id. refl) (λ id. refl) (λ id opened. refl) (λ id. refl) none-plain refl refl refl c.make_room.ensures.takes (takes-nothing c.make_room.new.self)
+    [] c.in-Close.is (λ id. refl) (λ id. refl) (λ id opened. refl) (λ id. refl) none-plain refl refl c.make_room.ensures.takes (takes-nothing c.make_room.new.self)
 
 pub returns-in-Open-clause-served : goal.returns-in-Open-clause-served
 returns-in-Open-clause-served g c =

@@ -1,6 +1,7 @@
 use Rattle.std.proofs.Common.{Option, subst}
 use Rattle.h2frame.specs.declared.frame.Frame.{Frame}
 use Rattle.std.specs.Prelude.{IfNone, IfSome, ◌<◌, ◌^◌}
+use Rattle.outwriter.specs.States.{open_at}
 use Rattle.outwriter.specs.Frames.{IsSound}
 use Rattle.outwriter.specs.Polls.{coming}
 use Rattle.outwriter.specs.RunState.{IsSpent, Progresses}
@@ -57,14 +58,14 @@ returns-in-Ok-None-2-clause-no_frame g c = λ run reached s alive.
 
 pub returns-in-Ok-None-clause-ended : goal.returns-in-Ok-None-clause-ended
 returns-in-Ok-None-clause-ended g c = λ run reached s alive.
-    ended-if run c.choose.new.self.outbound c.choose.new.self.streams.entries
+    ended-if run c.choose.new.self.outbound (open_at c.choose.new.self.outbound.states)
     (subst (λ (o : Option Frame). IfNone o (IsSpent c.choose.new.self.outbound)) c.in-Ok-None.field-0-is c.in-Ok-None.ensures.spent)
     ((subst (λ (o : Option Frame). Progresses o c.args.self.now.outbound c.choose.new.self.outbound) c.in-Ok-None.field-0-is c.in-Ok-None.ensures.frame) run reached.0).stand.over
     (subst (λ (o : Option Frame). HoldsOn g.L.Lane.got o c.args.self.now c.choose.new.self) c.in-Ok-None.field-0-is c.in-Ok-None.ensures.served run (s.serves alive)).2
 
 pub returns-in-Ok-None-2-clause-ended : goal.returns-in-Ok-None-2-clause-ended
 returns-in-Ok-None-2-clause-ended g c = λ run reached s alive.
-    ended-if run c.choose.new.self.outbound c.choose.new.self.streams.entries
+    ended-if run c.choose.new.self.outbound (open_at c.choose.new.self.outbound.states)
     (subst (λ (o : Option Frame). IfNone o (IsSpent c.choose.new.self.outbound)) c.in-Ok-None.field-0-is c.in-Ok-None.ensures.spent)
     ((subst (λ (o : Option Frame). Progresses o c.args.self.now.outbound c.choose.new.self.outbound) c.in-Ok-None.field-0-is c.in-Ok-None.ensures.frame) run reached.0).stand.over
     (subst (λ (o : Option Frame). HoldsOn g.L.Lane.got o c.args.self.now c.choose.new.self) c.in-Ok-None.field-0-is c.in-Ok-None.ensures.served run (s.serves alive)).2

@@ -5,12 +5,12 @@ use Rattle.outwriter.proofs.out_core.OutCore.release.Goals as goal
 pub returns-clause-taken : goal.returns-clause-taken
 returns-clause-taken g c =
     goes-returned c.args.self.now.outbound c.move_last.new.self.outbound c.args.id (g.L.Lane.got c.swap_remove-id.result.1.rx)
-    (ap (λ core. core.outbound) c.move_last.ensures.rest)
+    c.move_last.ensures.same
 
 pub returns-clause-served : goal.returns-clause-served
 returns-clause-served g c =
     released g.L.Lane.got c.args.self.now (record c.args.self.now { senders = c.swap_remove-id.new.self }) c.move_last.new.self c.in_ok-place.place c.args.id c.swap_remove-id.result
-    refl c.move_last.ensures.rest c.in_ok-place.ensures.some c.swap_remove-id.ensures.value c.swap_remove-id.ensures.items
+    refl c.move_last.ensures.rest c.move_last.ensures.same c.in_ok-place.ensures.some c.swap_remove-id.ensures.value c.swap_remove-id.ensures.items
     (search rules) c.move_last.ensures.moved
 
 pub returns-clause-releases : goal.returns-clause-releases

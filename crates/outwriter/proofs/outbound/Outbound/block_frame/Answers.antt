@@ -29,4 +29,5 @@ returns-clause-own c =
         λ id. (refl, refl),
         ([], refl, none-over c.args.self.now),
       ),
+      refl,
     )

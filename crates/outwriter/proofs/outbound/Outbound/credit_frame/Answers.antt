@@ -21,4 +21,5 @@ returns-clause-own c = (
     c.next.ensures.ends,
     ([], refl, none-over c.args.self.now),
   ),
+  c.next.ensures.open,
 )

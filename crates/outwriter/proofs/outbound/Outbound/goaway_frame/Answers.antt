@@ -16,7 +16,7 @@ returns-clause-written c = λ run m. due-written run _ _ _ _ (Goaway c.args.last
 
 pub returns-clause-own : goal.returns-clause-own
 returns-clause-own c = (
-  (refl, λ id. (refl, refl, λ e. e)),
+  (refl, λ id. (refl, refl, λ e. e), refl),
   (
     λ run marks spells. (
       spells.0,

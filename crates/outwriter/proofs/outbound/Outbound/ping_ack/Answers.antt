@@ -18,7 +18,7 @@ returns-clause-written c = IfOk-weaker c.make_ping_ack.result (λ (frame : Frame
 pub returns-clause-own : goal.returns-clause-own
 returns-clause-own c = IfOk-weaker c.make_ping_ack.result (λ (frame : Frame). frame ≡ ping_ack c.args.bytes) (λ (frame : Frame). OwnByDue (PingAck c.args.bytes) frame c.args.self.now c.args.self.now)
     (λ frame is. (
-      (refl, λ id. (refl, refl, λ e. e)),
+      (refl, λ id. (refl, refl, λ e. e), refl),
       (
         λ run marks spells. (
           spells.0,

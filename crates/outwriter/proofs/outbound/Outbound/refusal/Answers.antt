@@ -17,4 +17,4 @@ pub returns-clause-own : goal.returns-clause-own
 returns-clause-own c = refusal-own c.args.id c.args.fields c.in_ok-bytes.bytes c.headers_frame.result c.args.self.now (record c.args.self.now { encoder = c.encoded.new.encoder }) c.headers_frame.new.self
     refl c.requires.open
     (subst (λ (fields : List Field). Writes c.args.self.now.encoder fields c.in_ok-bytes.bytes c.encoded.new.encoder) c.as_slice.ensures c.in_ok-bytes.ensures)
-    c.headers_frame.ensures.tells c.headers_frame.ensures.ends c.headers_frame.ensures.owed c.headers_frame.ensures.rest
+    c.headers_frame.ensures.tells c.headers_frame.ensures.ends c.headers_frame.ensures.owed c.headers_frame.ensures.open c.headers_frame.ensures.rest

@@ -11,7 +11,7 @@ returns-clause-written c = λ run m. reset-written run _ _ _ _ _ _ _ _ c.args.id
 
 pub returns-clause-own : goal.returns-clause-own
 returns-clause-own c = (
-  (refl, λ id. ((c.in_ok-close.ensures.owed.0 id).0, (c.in_ok-close.ensures.owed.0 id).2, still-heard c.args.self.now.states c.close.new.states c.args.id true c.in_ok-close.ensures.ends id)),
+  (refl, λ id. ((c.in_ok-close.ensures.owed.0 id).0, (c.in_ok-close.ensures.owed.0 id).2, still-heard c.args.self.now.states c.close.new.states c.args.id true c.in_ok-close.ensures.ends id), c.in_ok-close.ensures.open),
   (
     (
       _,

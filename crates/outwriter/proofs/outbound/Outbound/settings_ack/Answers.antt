@@ -11,7 +11,7 @@ returns-clause-written c = λ run m. due-written run _ _ _ _ SettingsAck _ _ _ _
 
 pub returns-clause-own : goal.returns-clause-own
 returns-clause-own c = (
-  (refl, λ id. (refl, refl, λ e. e)),
+  (refl, λ id. (refl, refl, λ e. e), refl),
   (
     λ run marks spells. (
       spells.0,

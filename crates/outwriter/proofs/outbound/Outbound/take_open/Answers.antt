@@ -1,10 +1,13 @@
-use Rattle.std.proofs.Common.{◌≡◌, ◌∷◌, subst, sym, ap, ◌∙◌, None, Result, Ok, Err, OnOk}
+use Rattle.std.proofs.Common.{◌≡◌, ◌∷◌, subst, sym, ap, ◌∙◌, None, Some, Result, Ok, Err, OnOk}
 use Rattle.std.specs.Prelude.{if◌then◌else◌}
 use Rattle.flow.specs.WindowHistory.{Opening, Follows}
 use Rattle.flow.specs.Windows.{Windows, closed, balance}
+use Rattle.outwriter.specs.Histories.{is_stream}
+use Rattle.outwriter.specs.OpenStreams.{stream_at}
 use Rattle.outwriter.specs.States.{States}
 use Rattle.outwriter.specs.RunState.{Mirrors}
 use Rattle.outwriter.proofs.RunStateSteps.{open-led}
+use Rattle.outwriter.proofs.StateLemmas.{on-both, opened-when}
 use Rattle.outwriter.proofs.WindowRuns.{closed-again, open-taken}
 use Rattle.outwriter.proofs.outbound.Outbound.take_open.Goals as goal
 
@@ -35,3 +38,13 @@ returns-in-Ok-open_state-clause-taken c = λ run m.
     (open-taken run c.args.id c.args.self.now.windows c.open.new.self c.opens.result (λ h f. c.opens.ensures.value run h m.stand.over f)
     (λ h f. subst (λ b. Follows (if b then Opening c.args.id ∷ h else h) c.open.new.self) (sym c.if-not-opens.false) (c.in-Ok.ensures.follows h f))
     m.windows_follow) m
+
+pub returns-then-not-opens-clause-becomes : goal.returns-then-not-opens-clause-becomes
+returns-then-not-opens-clause-becomes c = on-both c.open_state.result _ _ _
+    (opened-when c.args.id (Some (stream_at c.args.place)) c.args.self.now.states c.open_state.new.states (is_stream c.args.id) c.args.is_new c.requires)
+    c.open_state.ensures.same c.open_state.ensures.becomes
+
+pub returns-in-Ok-open_state-clause-becomes : goal.returns-in-Ok-open_state-clause-becomes
+returns-in-Ok-open_state-clause-becomes c =
+    opened-when c.args.id (Some (stream_at c.args.place)) c.args.self.now.states c.open_state-2.new.states (is_stream c.args.id) c.args.is_new c.requires
+    c.in-Ok-open_state.ensures.same c.in-Ok-open_state.ensures.becomes
