@@ -24,7 +24,7 @@ use Rattle.callbox.specs.declared.piece.InPiece.{InPiece}
 use Rattle.callbox.specs.declared.piece.InPiece.TheVariants as piece
 use Rattle.account.specs.Accounts.{MayTell}
 use Rattle.account.specs.Runs.{after, run, opened, telling}
-use Rattle.callbox.specs.InSides.{pieces_of, bytes_of, shut_of, ends_at_shut, all_end_at_shut, fits_shut, once, in_account, in_events, Took}
+use Rattle.callbox.specs.InSides.{pieces_of, bytes_of, shut_of, ends_at_shut, all_end_at_shut, shut_if, once, in_account, in_events, Took}
 use Rattle.account.proofs.SerialLemmas.{MayTell-longer, MayTell-shut, after-feed, after-shut, after-take_message, after-take_more, after-take_fault}
 
 -- ---- one item more
@@ -77,9 +77,9 @@ pub placed_last : (placed : Bool) (put new : List InPiece) (kind : Shut) → shu
 placed_last true put new kind e is = ap ends_at_shut is ∙ ends_at_shut-push put (piece.Shut kind) e
 placed_last false put new kind e is = ap ends_at_shut is ∙ ends_at_shut-open put e
 
-pub placed_fits : (placed : Bool) (put new : List InPiece) (kind : Shut) → shut_of put ≡ None → Placed placed put new kind → fits_shut (shut_of new) kind ≡ kind
-placed_fits true put new kind e is = ap (λ (items : List InPiece). fits_shut (shut_of items) kind) is ∙ ap (λ (o : Option Shut). fits_shut o kind) (shut_of-push put (piece.Shut kind) e)
-placed_fits false put new kind e is = ap (λ (items : List InPiece). fits_shut (shut_of items) kind) is ∙ ap (λ (o : Option Shut). fits_shut o kind) e
+pub placed_shut : (placed : Bool) (put new : List InPiece) (kind : Shut) → shut_of put ≡ None → Placed placed put new kind → shut_of new ≡ shut_if placed kind
+placed_shut true put new kind e is = ap shut_of is ∙ shut_of-push put (piece.Shut kind) e
+placed_shut false put new kind e is = ap shut_of is ∙ e
 
 -- ---- what was polled is a front of what was put
 
@@ -190,9 +190,10 @@ fits_some : (o closed : Option Shut) (s : Shut) → o ≡ Some s → fits_end o 
 fits_some None closed s e fits = absurd cc
 fits_some (Some other) closed s e fits = fits ∙ e
 
-pub fits_kind : (o : Option Shut) (kind : Shut) → fits_shut o kind ≡ kind → fits_end o (Some kind)
-fits_kind None kind e = tt
-fits_kind (Some s) kind e = ap (λ (x : Shut). Some x) (sym e)
+pub fits_kind : (o : Option Shut) (placed : Bool) (kind : Shut) → o ≡ shut_if placed kind → fits_end o (Some kind)
+fits_kind None placed kind e = tt
+fits_kind (Some s) true kind e = sym e
+fits_kind (Some s) false kind e = absurd cc
 
 pub fits_open : (o : Option Shut) → o ≡ None → fits_end o None
 fits_open None e = tt

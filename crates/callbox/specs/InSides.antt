@@ -132,7 +132,7 @@ abbrev pub in_events : List (List ℕ) → Option Shut → List (List ℕ) → O
 in_events pieces closed messages said =
     map event.Feed pieces ++ (once event.Shut closed ++ (map (λ _. event.Take) messages ++ once (λ _. event.Take) said))
 
--- the shut that was put, or where none was, the one that was wanted
-abbrev pub fits_shut : Option Shut → Shut → Shut
-fits_shut None kind = kind
-fits_shut (Some closed) kind = closed
+-- the shut, where it was put
+abbrev pub shut_if : Bool → Shut → Option Shut
+shut_if true kind = Some kind
+shut_if false kind = None

@@ -3,7 +3,7 @@
 ghost use Rattle.std.specs.Prelude.{◌≡◌, true, None, [], ◌∷◌, ◌++◌, length, IfErr, IfOk, OnErr, OnOk, MatchBool};
 ghost use Rattle.lane.specs.Lawful.{count_of};
 ghost use Rattle.lane.specs.PutFault.{item_of, MayRefuse};
-ghost use Rattle.callbox.specs.InSides.{all_end_at_shut, bytes_of, ends_at_shut, shut_of, fits_shut};
+ghost use Rattle.callbox.specs.InSides.{all_end_at_shut, bytes_of, ends_at_shut, shut_if, shut_of};
 ghost use Rattle.callbox.specs.declared.piece.InPiece.TheVariants as in_piece;
 ghost use Rattle.account.specs.declared.call.Shut.TheVariants as shut;
 
@@ -34,7 +34,7 @@ pub struct FedShut<L: Lane<Item = InPiece>> {
     pub(crate) fed: u64,
     ghost counted: { fed ≡ count_of (bytes_of (L.put_shut shut)) },
     ghost last: { ends_at_shut (L.put_shut shut) ≡ true },
-    ghost fits: { fits_shut (shut_of (L.put_shut shut)) kind ≡ kind },
+    ghost put: { shut_of (L.put_shut shut) ≡ shut_if (L.was_placed shut) kind },
     ghost past: { all_end_at_shut (L.past_shut shut) ≡ true },
 }
 

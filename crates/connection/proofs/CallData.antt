@@ -27,10 +27,10 @@ nothing-behind id given before after event parts here none =
     ∙ ap (λ (b : List ℕ). pieces id before ++ b) (pieces_append id (event ∷ []) after ∙ ap (λ (b : List ℕ). b ++ pieces id after) here ∙ none) ∙ append-nil (pieces id before)
 
 -- Of a stream that begins with this event, what is told behind it is all data, and the end.
-abbrev IsAllBehind : ℕ → List InEvent → List Entry → List InEvent → Type 0
+abbrev pub IsAllBehind : ℕ → List InEvent → List Entry → List InEvent → Type 0
 IsAllBehind id given entries behind = (pieces id behind ≡ data_of id entries) × (ending_told id behind ≡ ending_of id entries)
 
-all-behind : (came : List ℕ) (given before behind : List InEvent) (event : InEvent) (entries : List Entry) (id : ℕ) → Framed came given entries → given ≡ before ++ event ∷ behind → is_opening id event ≡ true
+pub all-behind : (came : List ℕ) (given before behind : List InEvent) (event : InEvent) (entries : List Entry) (id : ℕ) → Framed came given entries → given ≡ before ++ event ∷ behind → is_opening id event ≡ true
     → pieces id (event ∷ []) ≡ [] → end_told id event ≡ Unended → IsAllBehind id given entries behind
 all-behind came given before behind event entries id framed parts opens here quiet =
     let told : list_any (is_opening id) given ≡ true = opening_told id given before event behind parts opens in

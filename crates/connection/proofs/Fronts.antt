@@ -1,16 +1,18 @@
 -- The first events of the bytes that came.
-use Rattle.std.proofs.Common.{◌≡◌, ◌∙◌, ℕ, List, [], ◌++◌, Option, None, Some, ap, refl, subst, sym, append-nil}
+use Rattle.std.proofs.Common.{◌≡◌, ◌∙◌, ℕ, false, true≢false, List, [], ◌++◌, Option, None, Some, ap, refl, subst, sym, take, append-nil}
 use Rattle.std.proofs.lemmas.List.{append_assoc}
 use Rattle.std.specs.Io.KnownBytes.{Consumes, Keeps, ReadConsumes}
 use Rattle.std.specs.Prelude.{Result, Ok, Err}
 use mathlib.Core.List.{IsPrefix}
 use Rattle.session.specs.declared.event.InEvent.{InEvent}
 use Rattle.session.specs.CoreStates.{Core, Reached}
+use Rattle.session.specs.Events.{Events}
 use Rattle.session.proofs.EventLaws.{reached_events}
 use Rattle.session.proofs.OneEvents.{events_go_on, events_one}
 use Rattle.calltable.specs.Steps.{Step, events_of}
 use Rattle.connection.specs.declared.slots.Slots.{Slots}
-use Rattle.connection.specs.Reports.{IsFront}
+use Rattle.connection.specs.declared.report.Ending.{Ending}
+use Rattle.connection.specs.Reports.{AreHeard, IsFront, is_input_end}
 use Rattle.connection.specs.Seats.{HearsSome, Kept}
 use Rattle.connection.proofs.Heard.{events-append}
 
@@ -49,10 +51,10 @@ read-failed old new (Err fault) buf not read = consumes-keeps old old new [] (co
 
 -- ---- what was heard of the bytes that came
 
-module _ {M : Type 0} where
+module _ {M : Type 0} {names : List ℕ → ℕ → Type 0} where
   -- some of the events of the last bytes were heard
-  pub last-front : (old new : Slots M) (given before : List InEvent) (told : List Step) (bytes : List ℕ) (core : Core) → HearsSome given old new → Reached bytes (before ++ given) core
-      → events_of told ≡ before → Kept told old → (all : List Step) × Kept all new × IsFront bytes (events_of all)
+  pub last-front : (old new : Slots M) (given before : List InEvent) (told : List Step) (bytes : List ℕ) (core : Core) → HearsSome names given old new → Reached bytes (before ++ given) core
+      → events_of told ≡ before → Kept names told old → (all : List Step) × Kept names all new × IsFront bytes (events_of all)
   last-front old new given before told bytes core some reached is kept =
       let more = some told kept in (
         more.0 ++ told,
@@ -65,13 +67,28 @@ module _ {M : Type 0} where
       )
 
   -- none of them was
-  pub last-none : (slots : Slots M) (before : List InEvent) (told : List Step) (bytes more : List ℕ) (core : Core) → Reached bytes before core → events_of told ≡ before → Kept told slots
-      → (all : List Step) × Kept all slots × IsFront (bytes ++ more) (events_of all)
+  pub last-none : (slots : Slots M) (before : List InEvent) (told : List Step) (bytes more : List ℕ) (core : Core) → Reached bytes before core → events_of told ≡ before → Kept names told slots
+      → (all : List Step) × Kept names all slots × IsFront (bytes ++ more) (events_of all)
   last-none slots before told bytes more core reached is kept =
       (told, kept, subst (λ (es : List InEvent). IsFront (bytes ++ more) es) (sym is) (front-before bytes more before core reached))
 
-  -- all were
-  pub all-front : (slots : Slots M) (before : List InEvent) (told : List Step) (bytes : List ℕ) (core : Core) → Reached bytes before core → events_of told ≡ before → Kept told slots
-      → (all : List Step) × Kept all slots × IsFront bytes (events_of all)
-  all-front slots before told bytes core reached is kept =
-      (told, kept, front-some bytes (events_of told) before core reached ([], append-nil (events_of told) ∙ is))
+  -- nothing more is said of a connection that ended otherwise than by its input
+  pub front-alone : (end : Ending) (slots : Slots M) (bytes : List ℕ) → is_input_end end ≡ false → (all : List Step) × Kept names all slots × IsFront bytes (events_of all)
+      → (all : List Step) × Kept names all slots × AreHeard end bytes (events_of all)
+  front-alone end slots bytes other found = (found.0, found.1, record { front = found.2; whole = λ ended. absurd (true≢false (sym ended ∙ other)) })
+
+  -- all were heard
+  pub all-heard : (end : Ending) (slots : Slots M) (before : List InEvent) (told : List Step) (bytes given : List ℕ) (core : Core) → given ≡ bytes → Reached bytes before core → events_of told ≡ before
+      → Kept names told slots → (all : List Step) × Kept names all slots × AreHeard end given (events_of all)
+  all-heard end slots before told bytes given core same reached is kept = (
+    told,
+    kept,
+    subst (λ (bs : List ℕ). AreHeard end bs (events_of told)) (sym same) (record {
+      front = front-some bytes (events_of told) before core reached ([], append-nil (events_of told) ∙ is);
+      whole = λ ended. subst (λ (es : List InEvent). Events bytes es) (sym is) (reached_events bytes before core reached);
+    }),
+  )
+
+-- none came
+pub none-more : (bytes buf : List ℕ) (count : ℕ) → count ≡ 0 → bytes ++ take count buf ≡ bytes
+none-more bytes buf count none = ap (λ (n : ℕ). bytes ++ take n buf) none ∙ append-nil bytes

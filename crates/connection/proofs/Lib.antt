@@ -1,3 +1,4 @@
+pub mod OrderSteps
 pub mod WrittenSteps
 pub mod Turns
 pub mod Rows
@@ -6,5 +7,9 @@ pub mod SlotSteps
 pub mod Heard
 pub mod Fronts
 pub mod CallData
+pub mod CallEnd
 pub mod SeatRows
+pub mod SlotRows
 pub mod Reports
+pub mod Ids
+pub mod Answered

@@ -1,6 +1,9 @@
 -- The rows of a slot's calls.
-use Rattle.std.proofs.Common.{◌≡◌, ◌∙◌, inl, inr, ap, refl, subst, sym, ℕ, zero, suc, Bool, List, [], ◌∷◌, ◌++◌, Option, None, Some, append-nil, slice_get}
-use Rattle.std.specs.Prelude.{IfSome, IsSomeAnd}
+use Rattle.std.proofs.Common.{◌≡◌, ◌∙◌, inl, inr, ap, arith, refl, subst, sym, ℕ, ◌+◌, ◌<◌, ◌≤◌, zero, suc, Bool, true, false, List, [], ◌∷◌, ◌++◌, Option, None, Some, length, length-append, slice_get}
+use Rattle.std.proofs.Math.ListN.{get_or-append}
+use Rattle.std.proofs.lemmas.List.{get_or_past, get_or_push}
+use Rattle.std.proofs.lemmas.List.Elements.{All-append, All-cons, All-nil}
+use Rattle.std.specs.Prelude.{IfSome, IsSomeAnd, is_some}
 use mathlib.Core.List.{IsPrefix}
 use Rattle.lane.specs.Cuts.{segment}
 use Rattle.lane.specs.End.{of_end}
@@ -9,21 +12,85 @@ use Rattle.lane.specs.declared.lane.End.TheVariants as ends
 use Rattle.lane.proofs.Prefixes.{IsPrefix-trans}
 use Rattle.account.specs.declared.call.OutItem.{OutItem}
 use Rattle.callbox.specs.declared.piece.InPiece.{InPiece}
-use Rattle.callbox.specs.Slots.{IsUnsent}
+use Rattle.callbox.specs.declared.taker.Progress.{Progress}
+use Rattle.callbox.specs.InSides.{Took}
 use Rattle.handlers.specs.declared.step.Step.{Step}
+use Rattle.callrun.specs.Outcomes.{Unended}
 use Rattle.connection.specs.declared.report.CallReport.{CallReport}
-use Rattle.connection.specs.Accounts.{IsWithin}
-use Rattle.connection.specs.Workers.{Answers, EachAnswers, EachStands, HaveRows, Stands}
+use Rattle.connection.specs.declared.slot.Answered.{Answered}
+use Rattle.connection.specs.declared.slot.Job.{Job}
+use Rattle.connection.specs.Accounts.{IsWithin, unanswered}
+use Rattle.connection.specs.Workers.{Answers, AreTrue, HasTrailers, HaveRows, TellsOf}
+
+-- ---- two lists, place by place
+
+-- at each place of the first list there is one in the second that fits
+abbrev pub At : {A B : Type 0} → (ℕ → A → B → Type 0) → List A → List B → Type 0
+At P xs ys = (n : ℕ) → IfSome (slice_get xs n) (λ x. IsSomeAnd (slice_get ys n) (λ y. P n x y))
+
+at-push : {A B : Type 0} (P : ℕ → A → B → Type 0) (xs : List A) (ys : List B) (x : A) (y : B) → length ys ≡ length xs → At P xs ys → P (length xs) x y
+    → At P (xs ++ x ∷ []) (ys ++ y ∷ [])
+at-push P [] [] x y same at one zero = one
+at-push P [] [] x y same at one (suc n) = tt
+at-push P [] (b ∷ ys) x y same at one n = absurd (omega (arith, same))
+at-push P (a ∷ xs) [] x y same at one n = absurd (omega (arith, same))
+at-push P (a ∷ xs) (b ∷ ys) x y same at one zero = at zero
+at-push P (a ∷ xs) (b ∷ ys) x y same at one (suc n) = at-push (λ k. P (suc k)) xs ys x y (omega (arith, same)) (λ k. at (suc k)) one n
+
+at-follows : {A B : Type 0} (P Q : ℕ → A → B → Type 0) (xs : List A) (ys : List B) → ((n : ℕ) (x : A) (y : B) → n < length xs → P n x y → Q n x y)
+    → At P xs ys → At Q xs ys
+at-follows P Q [] ys follows at n = tt
+at-follows P Q (a ∷ xs) [] follows at n = absurd (at zero)
+at-follows P Q (a ∷ xs) (b ∷ ys) follows at zero = follows zero a b (omega arith) (at zero)
+at-follows P Q (a ∷ xs) (b ∷ ys) follows at (suc n) =
+    at-follows (λ k. P (suc k)) (λ k. Q (suc k)) xs ys (λ k x y within. follows (suc k) x y (omega (arith, within))) (λ k. at (suc k)) n
+
+get-left : {A : Type 0} (P : A → Type 0) (xs ys : List A) (n : ℕ) → IsSomeAnd (slice_get xs n) P → IsSomeAnd (slice_get (xs ++ ys) n) P
+get-left P [] ys n has = absurd has
+get-left P (x ∷ xs) ys zero has = has
+get-left P (x ∷ xs) ys (suc n) has = get-left P xs ys n has
+
+get-last : {A : Type 0} (P : A → Type 0) (xs : List A) (x : A) → P x → IsSomeAnd (slice_get (xs ++ x ∷ []) (length xs)) P
+get-last P [] x has = has
+get-last P (y ∷ xs) x has = get-last P xs x has
+
+-- ---- segments
+
+module _ {T : Type 0} where
+  segment-before : (past : List (List T)) (items : List T) (n : ℕ) → n < length past → segment (past ++ items ∷ []) n ≡ segment past n
+  segment-before past items n within = get_or-append past (items ∷ []) [] n within
+
+  segment-last : (past : List (List T)) (items : List T) (n : ℕ) → length past ≡ n → segment (past ++ items ∷ []) n ≡ items
+  segment-last past items n is = get_or_push past items [] n is
+
+  segment-past : (past : List (List T)) (n : ℕ) → length past ≤ n → segment past n ≡ []
+  segment-past past n past_it = get_or_past past n [] past_it
+
+  segment-none : (past : List (List T)) (n : ℕ) → segment (past ++ [] ∷ []) n ≡ segment past n
+  segment-none [] zero = refl
+  segment-none [] (suc n) = refl
+  segment-none (items ∷ past) zero = refl
+  segment-none (items ∷ past) (suc n) = segment-none past n
+
+  -- of an open end to which nothing was put
+  pub given-none : {G S : Type 0} (past_in : G → List (List T)) (past_shut : S → List (List T)) (put_in : G → List T) (put_shut : S → List T) (end : End G S)
+      → of_end put_in (λ s. []) end ≡ []
+      → (n : ℕ) → segment (of_end past_in past_shut end ++ of_end put_in put_shut end ∷ []) n ≡ segment (of_end past_in (λ s. past_shut s ++ put_shut s ∷ []) end) n
+  given-none past_in past_shut put_in put_shut (ends.Open giver) none n = ap (λ (items : List T). segment (past_in giver ++ items ∷ []) n) none ∙ segment-none (past_in giver) n
+  given-none past_in past_shut put_in put_shut (ends.Shut shut) none n = refl
+
+-- ---- one row
 
 -- what is so of more answers is so of these
-pub of_fewer : (wide narrow : ℕ → List (List ℕ) → Bool → Step → Type 0) (got : List InPiece) (given : List OutItem) (row : CallReport)
-    → IsWithin narrow wide → Answers wide got given row → Answers narrow got given row
-of_fewer wide narrow got given row within has = record {
+pub of_fewer : (wide narrow : ℕ → List (List ℕ) → Bool → Step → Type 0) (got : List InPiece) (given : List OutItem) (job : Job) (row : CallReport)
+    → IsWithin narrow wide → Answers wide got given job row → Answers narrow got given job row
+of_fewer wide narrow got given job row within has = record {
   messages = has.messages;
   said = has.said;
   took = has.took;
+  id = has.id;
+  method = has.method;
   answered = record {
-    head = has.answered.head;
     overdue = has.answered.overdue;
     items = has.answered.items;
     outcome = λ answer is. has.answered.outcome answer (within row.method has.messages _ answer is);
@@ -33,10 +100,35 @@ of_fewer wide narrow got given row within has = record {
   };
 }
 
+-- nothing was taken yet
+abbrev pub untaken : Progress
+untaken = record { splitter = []; unread = false; shut = None; told = None; taken = 0; owed = 0 }
+
+took-none : Took [] untaken []
+took-none = record { missing = []; whole = refl; each = λ k d within. absurd (omega (arith, within)); unread = refl; closed = refl; telling = tt; count = refl }
+
 module _ (answers : ℕ → List (List ℕ) → Bool → Step → Type 0) where
+  -- the row of a call to which nothing was given
+  pub none_answered : (got : List InPiece) (given : List OutItem) (job : Job) → given ≡ [] → Answers answers got given job (unanswered job.id job.index)
+  none_answered got given job none = record {
+    messages = [];
+    said = None;
+    took = record { front = []; progress = untaken; begins = (got, refl); took = took-none; told = refl };
+    id = refl;
+    method = refl;
+    answered = record {
+      overdue = false;
+      items = [];
+      outcome = λ answer is. Unended [] (answer.replies, refl) (inl (refl, refl)) refl;
+      ends = inl none;
+      taken = refl;
+      told = refl;
+    };
+  }
+
   -- what is got behind was drained
-  pub drained : (got all : List InPiece) (given : List OutItem) (row : CallReport) → IsPrefix got all → Answers answers got given row → Answers answers all given row
-  drained got all given row begins has = record {
+  drained : (got all : List InPiece) (given : List OutItem) (job : Job) (row : CallReport) → IsPrefix got all → Answers answers got given job row → Answers answers all given job row
+  drained got all given job row begins has = record {
     messages = has.messages;
     said = has.said;
     took = record {
@@ -46,113 +138,138 @@ module _ (answers : ℕ → List (List ℕ) → Bool → Step → Type 0) where
       took = has.took.took;
       told = has.took.told;
     };
+    id = has.id;
+    method = has.method;
     answered = has.answered;
   }
 
-  pub each_push : (gots : List (List InPiece)) (gives : List (List OutItem)) (rows : List CallReport) (got : List InPiece) (given : List OutItem) (row : CallReport)
-      → EachAnswers answers gots gives rows → Answers answers got given row → EachAnswers answers (gots ++ got ∷ []) (gives ++ given ∷ []) (rows ++ row ∷ [])
-  each_push [] [] [] got given row each one = (one, tt)
-  each_push [] [] (r ∷ rows) got given row each one = absurd each
-  each_push [] (v ∷ gives) rows got given row each one = absurd each
-  each_push (g ∷ gots) [] rows got given row each one = absurd each
-  each_push (g ∷ gots) (v ∷ gives) [] got given row each one = absurd each
-  each_push (g ∷ gots) (v ∷ gives) (r ∷ rows) got given row each one = (each.0, each_push gots gives rows got given row each.1 one)
+  of-same : (got new_got : List InPiece) (given new_given : List OutItem) (job : Job) (row : CallReport) → new_got ≡ got → new_given ≡ given
+      → Answers answers got given job row → Answers answers new_got new_given job row
+  of-same got new_got given new_given job row same_got same_given has =
+      subst (λ (g : List InPiece). Answers answers g new_given job row) (sym same_got) (subst (λ (v : List OutItem). Answers answers got v job row) (sym same_given) has)
 
-  -- the rows with one more
-  pub with_one : {V : Type 0} (items : V → List CallReport) (calls after : Option V) (gots : List (List InPiece)) (gives : List (List OutItem)) (got : List InPiece) (given : List OutItem) (row : CallReport)
-      → IfSome after (λ rows. IsSomeAnd calls (λ before. items rows ≡ items before ++ row ∷ []))
-      → IfSome calls (λ rows. EachAnswers answers gots gives (items rows)) → Answers answers got given row
-      → IfSome after (λ rows. EachAnswers answers (gots ++ got ∷ []) (gives ++ given ∷ []) (items rows))
-  with_one items calls None gots gives got given row more each one = tt
-  with_one items None (Some rows) gots gives got given row more each one = absurd more
-  with_one items (Some before) (Some rows) gots gives got given row more each one =
-      subst (λ (xs : List CallReport). EachAnswers answers (gots ++ got ∷ []) (gives ++ given ∷ []) xs) (sym more) (each_push gots gives (items before) got given row each one)
+  -- ---- the rows of all jobs
 
-  stand_at : (fed : ℕ → List InPiece) (gots rest : List (List InPiece)) (gives more : List (List OutItem)) (rows : List CallReport)
-      → ((n : ℕ) → IsUnsent (fed n) (segment (gots ++ rest) n) (segment (gives ++ more) n)) → EachAnswers answers gots gives rows
-      → (n : ℕ) → IfSome (slice_get rows n) (λ row. Stands answers (fed n) (segment (gives ++ more) n) row)
-  stand_at fed [] rest [] more [] lawful each zero = tt
-  stand_at fed [] rest [] more [] lawful each (suc n) = tt
-  stand_at fed [] rest [] more (row ∷ rows) lawful each n = absurd each
-  stand_at fed [] rest (given ∷ gives) more rows lawful each n = absurd each
-  stand_at fed (got ∷ gots) rest [] more rows lawful each n = absurd each
-  stand_at fed (got ∷ gots) rest (given ∷ gives) more [] lawful each n = absurd each
-  stand_at fed (got ∷ gots) rest (given ∷ gives) more (row ∷ rows) lawful each zero =
-      (each.0.messages, each.0.said, record { lawful = lawful 0 each.0.messages each.0.said each.0.took; answered = each.0.answered })
-  stand_at fed (got ∷ gots) rest (given ∷ gives) more (row ∷ rows) lawful each (suc n) =
-      stand_at (λ k. fed (suc k)) gots rest gives more rows (λ k. lawful (suc k)) each.1 n
+  -- by other lists of the same segments
+  same_rows : (gots new_gots : List (List InPiece)) (gives new_gives : List (List OutItem)) (jobs : List Job) (rows : List CallReport)
+      → ((n : ℕ) → n < length jobs → segment new_gots n ≡ segment gots n) → ((n : ℕ) → segment new_gives n ≡ segment gives n)
+      → HaveRows answers gots gives jobs rows → HaveRows answers new_gots new_gives jobs rows
+  same_rows gots new_gots gives new_gives jobs rows same_gots same_gives has = record {
+    count = has.count;
+    each = at-follows (λ n j r. Answers answers (segment gots n) (segment gives n) j r) (λ n j r. Answers answers (segment new_gots n) (segment new_gives n) j r) jobs rows
+        (λ n j r within one. of-same (segment gots n) (segment new_gots n) (segment gives n) (segment new_gives n) j r (same_gots n within) (same_gives n) one) has.each;
+    beyond = λ n past. same_gives n ∙ has.beyond n past;
+  }
 
-  pub each_stands : (feds past all : List (List InPiece)) (got : List InPiece) (gives given_all more : List (List OutItem)) (rows : List CallReport)
-      → all ≡ past ++ got ∷ [] → given_all ≡ gives ++ more
-      → ((n : ℕ) → IsUnsent (segment feds n) (segment all n) (segment given_all n)) → HaveRows answers past got gives rows
-      → EachStands answers feds given_all rows
-  each_stands feds past all got gives given_all more rows is_all is_given lawful (inl each) = λ n.
-      subst (λ (gs : List (List OutItem)). IfSome (slice_get rows n) (λ row. Stands answers (segment feds n) (segment gs n) row)) (sym is_given)
-      (stand_at (λ k. segment feds k) past (got ∷ []) gives more rows
-      (λ k. subst (λ (gs : List (List OutItem)). IsUnsent (segment feds k) (segment (past ++ got ∷ []) k) (segment gs k)) is_given
-      (subst (λ (xs : List (List InPiece)). IsUnsent (segment feds k) (segment xs k) (segment given_all k)) is_all (lawful k))) each n)
-  each_stands feds past all got gives given_all more rows is_all is_given lawful (inr each) = λ n.
-      subst (λ (gs : List (List OutItem)). IfSome (slice_get rows n) (λ row. Stands answers (segment feds n) (segment gs n) row)) (sym is_given)
-      (stand_at (λ k. segment feds k) (past ++ got ∷ []) [] gives more rows
-      (λ k. subst (λ (gs : List (List OutItem)). IsUnsent (segment feds k) (segment ((past ++ got ∷ []) ++ []) k) (segment gs k)) is_given
-      (subst (λ (xs : List (List InPiece)). IsUnsent (segment feds k) (segment xs k) (segment given_all k)) (is_all ∙ sym (append-nil (past ++ got ∷ []))) (lawful k))) each n)
+  -- one job more, by the same segments
+  one_row : (gots : List (List InPiece)) (gives : List (List OutItem)) (jobs : List Job) (rows : List CallReport) (job : Job) (row : CallReport)
+      → HaveRows answers gots gives jobs rows → Answers answers (segment gots (length jobs)) (segment gives (length jobs)) job row
+      → HaveRows answers gots gives (jobs ++ job ∷ []) (rows ++ row ∷ [])
+  one_row gots gives jobs rows job row has one = record {
+    count = length-append rows (row ∷ []) ∙ (ap (λ (n : ℕ). n + 1) has.count ∙ sym (length-append jobs (job ∷ [])));
+    each = at-push (λ n j r. Answers answers (segment gots n) (segment gives n) j r) jobs rows job row has.count has.each one;
+    beyond = λ n past. has.beyond n (omega (arith, past, length-append jobs (job ∷ [])));
+  }
 
--- ---- at the end
+  -- a job that was never begun
+  unbegun_row : (gots : List (List InPiece)) (gives : List (List OutItem)) (jobs : List Job) (rows : List CallReport) (job : Job)
+      → HaveRows answers gots gives jobs rows → HaveRows answers gots gives (jobs ++ job ∷ []) (rows ++ unanswered job.id job.index ∷ [])
+  unbegun_row gots gives jobs rows job has =
+      one_row gots gives jobs rows job (unanswered job.id job.index) has
+      (none_answered (segment gots (length jobs)) (segment gives (length jobs)) job (has.beyond (length jobs) (omega arith)))
 
-module _ {G S : Type 0} where
-  -- the ended segments of a giving end, and behind them the one that is open
-  pub behind_ended : (past_in : G → List (List OutItem)) (past_shut : S → List (List OutItem)) (put_in : G → List OutItem) (put_shut : S → List OutItem) (end : End G S)
-      → (more : List (List OutItem)) × (of_end past_in past_shut end ++ of_end put_in put_shut end ∷ [] ≡ of_end past_in (λ s. past_shut s ++ put_shut s ∷ []) end ++ more)
-  behind_ended past_in past_shut put_in put_shut (ends.Open giver) = (put_in giver ∷ [], refl)
-  behind_ended past_in past_shut put_in put_shut (ends.Shut shut) = ([], sym (append-nil (past_shut shut ++ put_shut shut ∷ [])))
+  -- ---- one call more of a worker
 
-module _ (answers : ℕ → List (List ℕ) → Bool → Step → Type 0) {V : Type 0} (items : V → List CallReport) where
-  -- the rows of a slot whose ends were brought together
-  pub seat_rows : (calls : Option V) (half : Option (List (List InPiece))) (past all : List (List InPiece)) (got : List InPiece) (gives given_all : List (List OutItem))
-      → all ≡ past ++ got ∷ [] → (more : List (List OutItem)) × (given_all ≡ gives ++ more)
-      → IsSomeAnd half (λ feds. (n : ℕ) → IsUnsent (segment feds n) (segment all n) (segment given_all n))
-      → IfSome calls (λ rows. HaveRows answers past got gives (items rows))
-      → IfSome calls (λ rows. IsSomeAnd half (λ feds. (given : List (List OutItem)) × EachStands answers feds given (items rows)))
-  seat_rows None half past all got gives given_all is_all is_given lawful has = tt
-  seat_rows (Some rows) None past all got gives given_all is_all is_given lawful has = absurd lawful
-  seat_rows (Some rows) (Some feds) past all got gives given_all is_all is_given lawful has =
-      (given_all, each_stands answers feds past all got gives given_all is_given.0 (items rows) is_all is_given.1 lawful has)
+  -- its call is the last of the segments
+  last_row : (gots : List (List InPiece)) (gives : List (List OutItem)) (all : List InPiece) (given : List OutItem) (jobs : List Job) (rows : List CallReport) (job : Job) (row : CallReport)
+      → length gots ≡ length jobs → length gives ≡ length jobs → HaveRows answers gots gives jobs rows → Answers answers all given job row
+      → HaveRows answers (gots ++ all ∷ []) (gives ++ given ∷ []) (jobs ++ job ∷ []) (rows ++ row ∷ [])
+  last_row gots gives all given jobs rows job row got_each gave_each has one = record {
+    count = length-append rows (row ∷ []) ∙ (ap (λ (n : ℕ). n + 1) has.count ∙ sym (length-append jobs (job ∷ [])));
+    each = at-push (λ n j r. Answers answers (segment (gots ++ all ∷ []) n) (segment (gives ++ given ∷ []) n) j r) jobs rows job row has.count
+        (at-follows (λ n j r. Answers answers (segment gots n) (segment gives n) j r) (λ n j r. Answers answers (segment (gots ++ all ∷ []) n) (segment (gives ++ given ∷ []) n) j r) jobs rows
+        (λ n j r within is. of-same (segment gots n) (segment (gots ++ all ∷ []) n) (segment gives n) (segment (gives ++ given ∷ []) n) j r
+        (segment-before gots all n (omega (arith, within, got_each))) (segment-before gives given n (omega (arith, within, gave_each))) is) has.each)
+        (of-same all (segment (gots ++ all ∷ []) (length jobs)) given (segment (gives ++ given ∷ []) (length jobs)) job row
+        (segment-last gots all (length jobs) got_each) (segment-last gives given (length jobs) gave_each) one);
+    beyond = λ n past. segment-past (gives ++ given ∷ []) n (omega (arith, past, gave_each, length-append jobs (job ∷ []), length-append gives (given ∷ [])));
+  }
 
-  pub no_rows : (calls : Option V) (rows : V) (gots : List (List InPiece)) (gives : List (List OutItem)) → calls ≡ Some rows → items rows ≡ [] → gots ≡ [] → gives ≡ []
-      → IfSome calls (λ v. EachAnswers answers gots gives (items v))
-  no_rows calls rows gots gives some none no_gots no_gives =
-      subst (λ (c : Option V). IfSome c (λ v. EachAnswers answers gots gives (items v))) (sym some)
-      (subst (λ (xs : List CallReport). EachAnswers answers gots gives xs) (sym none)
-      (subst (λ (xs : List (List InPiece)). EachAnswers answers xs gives []) (sym no_gots)
-      (subst (λ (ys : List (List OutItem)). EachAnswers answers [] ys []) (sym no_gives) tt)))
+  module _ {V : Type 0} (items : V → List CallReport) where
+    pub no_rows : (calls : Option V) (rows : V) (gots : List (List InPiece)) (gives : List (List OutItem)) (jobs : List Job) → calls ≡ Some rows → items rows ≡ []
+        → gots ≡ [] → gives ≡ [] → jobs ≡ [] → IfSome calls (λ v. HaveRows answers gots gives jobs (items v))
+    no_rows calls rows gots gives jobs some none no_gots no_gives no_jobs =
+        subst (λ (c : Option V). IfSome c (λ v. HaveRows answers gots gives jobs (items v))) (sym some) (record {
+          count = ap length none ∙ sym (ap length no_jobs);
+          each = subst (λ (js : List Job). At (λ n j r. Answers answers (segment gots n) (segment gives n) j r) js (items rows)) (sym no_jobs) (λ n. tt);
+          beyond = λ n past. ap (λ (xs : List (List OutItem)). segment xs n) no_gives;
+        })
 
-  -- ---- one call more
+    -- the call was answered
+    pub one_more : (calls after : Option V) (gots new_gots : List (List InPiece)) (gives new_gives : List (List OutItem)) (jobs new_jobs : List Job) (got all : List InPiece) (given : List OutItem) (job : Job) (row : CallReport)
+        → IfSome after (λ rows. IsSomeAnd calls (λ before. items rows ≡ items before ++ row ∷ []))
+        → new_jobs ≡ jobs ++ job ∷ [] → new_gots ≡ gots ++ all ∷ [] → new_gives ≡ gives ++ given ∷ [] → length gots ≡ length jobs → length gives ≡ length jobs
+        → IfSome calls (λ rows. HaveRows answers gots gives jobs (items rows)) → IsPrefix got all → Answers answers got given job row
+        → IfSome after (λ rows. HaveRows answers new_gots new_gives new_jobs (items rows))
+    one_more calls None gots new_gots gives new_gives jobs new_jobs got all given job row more is_jobs is_gots is_gives got_each gave_each has begins one = tt
+    one_more None (Some rows) gots new_gots gives new_gives jobs new_jobs got all given job row more is_jobs is_gots is_gives got_each gave_each has begins one = absurd more
+    one_more (Some before) (Some rows) gots new_gots gives new_gives jobs new_jobs got all given job row more is_jobs is_gots is_gives got_each gave_each has begins one =
+        subst (λ (xs : List (List InPiece)). HaveRows answers xs new_gives new_jobs (items rows)) (sym is_gots)
+        (subst (λ (xs : List (List OutItem)). HaveRows answers (gots ++ all ∷ []) xs new_jobs (items rows)) (sym is_gives)
+        (subst (λ (xs : List Job). HaveRows answers (gots ++ all ∷ []) (gives ++ given ∷ []) xs (items rows)) (sym is_jobs)
+        (subst (λ (xs : List CallReport). HaveRows answers (gots ++ all ∷ []) (gives ++ given ∷ []) (jobs ++ job ∷ []) xs) (sym more)
+        (last_row gots gives all given jobs (items before) job row got_each gave_each has (drained got all given job row begins one)))))
 
-  if_some : {P Q : V → Type 0} (calls : Option V) → ((v : V) → P v → Q v) → IfSome calls P → IfSome calls Q
-  if_some None follows has = tt
-  if_some (Some v) follows has = follows v has
+    -- the call couldn't begin
+    pub not_begun : (calls after : Option V) (gots : List (List InPiece)) (gives new_gives : List (List OutItem)) (jobs new_jobs : List Job) (got : List InPiece) (job : Job) (row : CallReport)
+        → IfSome after (λ rows. IsSomeAnd calls (λ before. items rows ≡ items before ++ row ∷ []))
+        → new_jobs ≡ jobs ++ job ∷ [] → new_gives ≡ gives → length gots ≡ length jobs → row ≡ unanswered job.id job.index
+        → IfSome calls (λ rows. HaveRows answers gots gives jobs (items rows))
+        → IfSome after (λ rows. HaveRows answers (gots ++ got ∷ []) new_gives new_jobs (items rows))
+    not_begun calls None gots gives new_gives jobs new_jobs got job row more is_jobs is_gives got_each is_row has = tt
+    not_begun None (Some rows) gots gives new_gives jobs new_jobs got job row more is_jobs is_gives got_each is_row has = absurd more
+    not_begun (Some before) (Some rows) gots gives new_gives jobs new_jobs got job row more is_jobs is_gives got_each is_row has =
+        subst (λ (xs : List (List OutItem)). HaveRows answers (gots ++ got ∷ []) xs new_jobs (items rows)) (sym is_gives)
+        (subst (λ (xs : List Job). HaveRows answers (gots ++ got ∷ []) gives xs (items rows)) (sym is_jobs)
+        (subst (λ (xs : List CallReport). HaveRows answers (gots ++ got ∷ []) gives (jobs ++ job ∷ []) xs) (sym (more ∙ ap (λ (r : CallReport). items before ++ r ∷ []) is_row))
+        (unbegun_row (gots ++ got ∷ []) gives jobs (items before) job
+        (same_rows gots (gots ++ got ∷ []) gives gives jobs (items before) (λ n within. segment-before gots got n (omega (arith, within, got_each))) (λ n. refl) has))))
 
-  -- a worker that went on
-  pub gone_on : (calls after : Option V) (gots new_gots : List (List InPiece)) (gives new_gives : List (List OutItem)) (got all : List InPiece) (given : List OutItem) (row : CallReport)
-      → IfSome after (λ rows. IsSomeAnd calls (λ before. items rows ≡ items before ++ row ∷ []))
-      → IfSome calls (λ rows. EachAnswers answers gots gives (items rows)) → IsPrefix got all → new_gots ≡ gots ++ all ∷ [] → new_gives ≡ gives ++ given ∷ []
-      → Answers answers got given row → IfSome after (λ rows. EachAnswers answers new_gots new_gives (items rows))
-  gone_on calls after gots new_gots gives new_gives got all given row more each begins is_gots is_gives one =
-      subst (λ (xs : List (List InPiece)). IfSome after (λ rows. EachAnswers answers xs new_gives (items rows))) (sym is_gots)
-      (subst (λ (ys : List (List OutItem)). IfSome after (λ rows. EachAnswers answers (gots ++ all ∷ []) ys (items rows))) (sym is_gives)
-      (with_one answers items calls after gots gives all given row more each (drained answers got all given row begins one)))
+    -- no call came
+    pub none_came : (calls : Option V) (gots : List (List InPiece)) (gives new_gives : List (List OutItem)) (jobs new_jobs : List Job) (got : List InPiece)
+        → new_jobs ≡ jobs → ((n : ℕ) → segment new_gives n ≡ segment gives n) → length gots ≡ length jobs
+        → IfSome calls (λ rows. HaveRows answers gots gives jobs (items rows)) → IfSome calls (λ rows. HaveRows answers (gots ++ got ∷ []) new_gives new_jobs (items rows))
+    none_came None gots gives new_gives jobs new_jobs got is_jobs same_gives got_each has = tt
+    none_came (Some rows) gots gives new_gives jobs new_jobs got is_jobs same_gives got_each has =
+        subst (λ (xs : List Job). HaveRows answers (gots ++ got ∷ []) new_gives xs (items rows)) (sym is_jobs)
+        (same_rows gots (gots ++ got ∷ []) gives new_gives jobs (items rows) (λ n within. segment-before gots got n (omega (arith, within, got_each))) same_gives has)
 
-  -- one that stayed at the call
-  pub stayed : (calls after : Option V) (gots new_gots : List (List InPiece)) (gives new_gives : List (List OutItem)) (got all : List InPiece) (given : List OutItem) (row : CallReport)
-      → IfSome after (λ rows. IsSomeAnd calls (λ before. items rows ≡ items before ++ row ∷ []))
-      → IfSome calls (λ rows. EachAnswers answers gots gives (items rows)) → IsPrefix got all → new_gots ≡ gots → new_gives ≡ gives ++ given ∷ []
-      → Answers answers got given row → IfSome after (λ rows. HaveRows answers new_gots all new_gives (items rows))
-  stayed calls after gots new_gots gives new_gives got all given row more each begins is_gots is_gives one =
-      if_some after (λ v has. inr has)
-      (gone_on calls after gots (new_gots ++ all ∷ []) gives new_gives got all given row more each begins (ap (λ (xs : List (List InPiece)). xs ++ all ∷ []) is_gots) is_gives one)
+-- ---- what a worker told
 
-  -- one to which no call came
-  pub left_so : (calls : Option V) (gots : List (List InPiece)) (gives new_gives : List (List OutItem)) (got : List InPiece) → new_gives ≡ gives
-      → IfSome calls (λ rows. EachAnswers answers gots gives (items rows)) → IfSome calls (λ rows. HaveRows answers gots got new_gives (items rows))
-  left_so calls gots gives new_gives got is_gives each =
-      if_some calls (λ v has. inl (subst (λ (ys : List (List OutItem)). EachAnswers answers gots ys (items v)) (sym is_gives) has)) each
+-- more rows say what fewer say
+tells-on : (told : List Answered) (rows more : List CallReport) → AreTrue told rows → AreTrue told (rows ++ more)
+tells-on told rows more are = λ k d within answered. let is = are k d within answered in (is.0, get-left _ rows more is.0 is.1)
+
+tells-one : (id : ℕ) (before after : List Answered) (rows : List CallReport) (row : CallReport) → row.id ≡ id → TellsOf id (is_some row.status) before after
+    → AreTrue before rows → AreTrue after (rows ++ row ∷ [])
+tells-one id before after rows row is_id (inl same) are = subst (λ (xs : List Answered). AreTrue xs (rows ++ row ∷ [])) (sym same) (tells-on before rows (row ∷ []) are)
+tells-one id before after rows row is_id (inr more) are =
+    let P : Answered → Type 0 = λ answered. answered.has_trailers ≡ true → HasTrailers answered.id (rows ++ row ∷ []) in
+    let one : Answered = record { id = id; has_trailers = is_some row.status; was_live = more.0 } in
+    subst (λ (xs : List Answered). AreTrue xs (rows ++ row ∷ [])) (sym more.1)
+    (All-append P before (one ∷ []) (tells-on before rows (row ∷ []) are)
+    (All-cons P one [] (λ answered. (length rows, get-last (λ r. (r.id ≡ id) × (is_some r.status ≡ true)) rows row (is_id, answered))) (All-nil P)))
+
+module _ {V : Type 0} (items : V → List CallReport) where
+  pub tells_more : (calls after : Option V) (id : ℕ) (before told : List Answered) (row : CallReport)
+      → IfSome after (λ rows. IsSomeAnd calls (λ some. items rows ≡ items some ++ row ∷ [])) → row.id ≡ id → TellsOf id (is_some row.status) before told
+      → IfSome calls (λ rows. AreTrue before (items rows)) → IfSome after (λ rows. AreTrue told (items rows))
+  tells_more calls None id before told row more is_id tells are = tt
+  tells_more None (Some rows) id before told row more is_id tells are = absurd more
+  tells_more (Some some) (Some rows) id before told row more is_id tells are =
+      subst (λ (xs : List CallReport). AreTrue told xs) (sym more) (tells-one id before told (items some) row is_id tells are)
+
+  pub tells_nothing : (calls : Option V) (rows : V) (told : List Answered) → calls ≡ Some rows → told ≡ [] → IfSome calls (λ v. AreTrue told (items v))
+  tells_nothing calls rows told some none =
+      subst (λ (c : Option V). IfSome c (λ v. AreTrue told (items v))) (sym some)
+      (subst (λ (xs : List Answered). AreTrue xs (items rows)) (sym none) (All-nil (λ answered. answered.has_trailers ≡ true → HasTrailers answered.id (items rows))))

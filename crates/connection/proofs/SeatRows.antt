@@ -1,129 +1,187 @@
 -- The rows of a slot's calls, each on what was heard of its stream.
-use Rattle.std.proofs.Common.{◌≡◌, ◌∙◌, ap, arith, subst, sym, ℕ, ◌+◌, ◌<◌, ◌≤◌, zero, suc, Bool, true, List, [], ◌∷◌, ◌++◌, Option, None, Some, All, get_or, length, slice_get}
+use Rattle.std.proofs.Common.{◌≡◌, ◌∙◌, ap, arith, refl, subst, sym, ℕ, ◌+◌, zero, suc, Bool, true, List, [], ◌∷◌, ◌++◌, Option, None, Some, All, length, map, slice_get}
 use Rattle.std.specs.Prelude.{IfSome, IsSomeAnd}
-use Rattle.std.proofs.lemmas.List.Elements.{All-append, All-cons, All-nil}
+use Rattle.std.proofs.lemmas.List.Elements.{All-cons, All-nil}
 use Rattle.lane.specs.Cuts.{segment}
-use Rattle.account.specs.declared.call.Account.{Account}
 use Rattle.account.specs.declared.call.OutItem.{OutItem}
 use Rattle.account.specs.declared.call.Shut.{Shut}
 use Rattle.callbox.specs.declared.piece.InPiece.{InPiece}
-use Rattle.callbox.specs.InSides.{bytes_of, fits_shut, shut_of}
+use Rattle.callbox.specs.InSides.{bytes_of, shut_of}
+use Rattle.callbox.specs.Slots.{IsUnsent}
 use Rattle.calltable.specs.Halves.{Shown}
-use Rattle.calltable.specs.Steps.{Step, fed_by, shut_by, since}
+use Rattle.calltable.specs.Steps.{Step, fed_by, head_of, shut_by, since}
 use Rattle.handlers.specs.declared.step.Step.{Step as Answer}
 use Rattle.connection.specs.declared.half.Half.{Half}
 use Rattle.connection.specs.declared.half.Half.TheVariants.{Open, Shut as Closed, Moving}
 use Rattle.connection.specs.declared.report.CallReport.{CallReport}
-use Rattle.connection.specs.Accounts.{StandsOn, unsent}
+use Rattle.connection.specs.declared.slot.Job.{Job}
+use Rattle.connection.specs.Accounts.{unanswered, unsent}
 use Rattle.connection.specs.Calls.{AreCalls, ArePast, IsCall, IsPast, is_admitted}
 use Rattle.connection.specs.Halves.{half_by, shown}
-use Rattle.connection.specs.Reports.{IsAccounted}
-use Rattle.connection.specs.Workers.{EachStands, Stands}
+use Rattle.connection.specs.Reports.{AreRows, IsAccounted}
+use Rattle.connection.specs.Workers.{Answers, HaveRows}
+use Rattle.connection.proofs.Rows.{none_answered}
 
 -- ---- what was heard of each call
 
--- A call of this stream was admitted, and these items are what was heard of it.
-pub record IsHeard (told : List Step) (id : ℕ) (items : List InPiece) : Type 0 where
-  pub known : is_admitted id told ≡ true
-  pub fed : bytes_of items ≡ fed_by id (since id told)
-  pub shut : (kind : Shut) → shut_of items ≡ Some kind → shut_by id (since id told) ≡ Some kind
-
 -- a shut among the items is how the call was shut
 abbrev pub TellsShut : Shown → Type 0
-TellsShut call = (kind : Shut) → shut_of call.items ≡ Some kind → call.shut ≡ Some kind
+TellsShut call = shut_of call.items ≡ call.shut
 
-heard-now : (told : List Step) (id : ℕ) (call : Shown) → TellsShut call → IsCall told id call → IsHeard told id call.items
-heard-now told id call tells is = record { known = is.known; fed = is.half.fed; shut = λ kind among. sym is.half.shut ∙ tells kind among }
+module _ (names : List ℕ → ℕ → Type 0) (told : List Step) where
+  -- The call of this job was admitted, and these items are what was heard of it.
+  pub record IsHeard (job : Job) (items : List InPiece) : Type 0 where
+    pub known : is_admitted job.id told ≡ true
+    pub opened : head_of job.id told ≡ Some job.head
+    pub named : names job.head.path job.index
+    pub fed : bytes_of items ≡ fed_by job.id (since job.id told)
+    pub shut : shut_of items ≡ shut_by job.id (since job.id told)
 
-heard-past : (told : List Step) (id : ℕ) (items : List InPiece) → IsPast told id items → IsHeard told id items
-heard-past told id items is =
-    heard-now told id (record { there = true; items = items; shut = Some is.kind })
-    (λ kind among. ap (λ (k : Shut). Some k) (sym is.fits ∙ ap (λ (found : Option Shut). fits_shut found is.kind) among)) is.call
+  -- so it is of each of these jobs
+  abbrev pub EachHeard : (ℕ → List InPiece) → List Job → Type 0
+  EachHeard fed jobs = (n : ℕ) → IfSome (slice_get jobs n) (λ job. IsHeard job (fed n))
 
--- each call of a slot, in order
-each-heard : (told : List Step) (ids : List ℕ) (past : List (List InPiece)) (id : ℕ) (items : List InPiece) → ArePast told ids past → IsHeard told id items
-    → (n : ℕ) → n < length ids + 1 → IsHeard told (get_or ids n id) (segment (past ++ items ∷ []) n)
-each-heard told [] [] id items before now zero within = now
-each-heard told [] [] id items before now (suc n) within = absurd (omega (arith, within))
-each-heard told [] (first ∷ past) id items before now n within = absurd before
-each-heard told (one ∷ ids) [] id items before now n within = absurd before
-each-heard told (one ∷ ids) (first ∷ past) id items before now zero within = heard-past told one first before.0
-each-heard told (one ∷ ids) (first ∷ past) id items before now (suc n) within = each-heard told ids past id items before.1 now n (omega (arith, within))
+  heard-now : (job : Job) (call : Shown) → TellsShut call → IsCall names told job call → IsHeard job call.items
+  heard-now job call tells is = record {
+    known = is.known;
+    opened = is.opened;
+    named = is.named;
+    fed = is.half.fed;
+    shut = tells ∙ is.half.shut;
+  }
 
-module _ {F S : Type 0} (past_in : F → List (List InPiece)) (past_shut : S → List (List InPiece)) (put_in : F → List InPiece) (put_shut : S → List InPiece) (kind_of : S → Shut) where
-  pub seat-heard : (half : Half F S) (told : List Step) (ids : List ℕ) (id : ℕ) → TellsShut (shown put_in put_shut kind_of half)
-      → AreCalls told ids (half_by past_in past_shut half) id (shown put_in put_shut kind_of half)
-      → IsSomeAnd (half_by (λ f. past_in f ++ put_in f ∷ []) (λ s. past_shut s ++ put_shut s ∷ []) half)
-      (λ feds. (n : ℕ) → n < length ids + 1 → IsHeard told (get_or ids n id) (segment feds n))
-  seat-heard (Open feeder) told ids id tells are =
-      each-heard told ids (past_in feeder) id (put_in feeder) are.before (heard-now told id (record { there = true; items = put_in feeder; shut = None }) tells are.last)
-  seat-heard (Closed shut) told ids id tells are =
-      each-heard told ids (past_shut shut) id (put_shut shut) are.before (heard-now told id (record { there = true; items = put_shut shut; shut = Some (kind_of shut) }) tells are.last)
-  seat-heard Moving told ids id tells are = absurd are.before
+  heard-past : (job : Job) (items : List InPiece) → IsPast names told job items → IsHeard job items
+  heard-past job items is =
+      heard-now job (record { there = true; items = items; shut = Some is.kind }) is.closed is.call
 
--- ---- the rows
+  -- each call of a slot, in order
+  each-heard : (earlier : List Job) (past : List (List InPiece)) (job : Job) (items : List InPiece) → ArePast names told earlier past → IsHeard job items
+      → EachHeard (λ n. segment (past ++ items ∷ []) n) (earlier ++ job ∷ [])
+  each-heard [] [] job items before now zero = now
+  each-heard [] [] job items before now (suc zero) = tt
+  each-heard [] [] job items before now (suc (suc n)) = tt
+  each-heard [] (first ∷ past) job items before now n = absurd before
+  each-heard (one ∷ earlier) [] job items before now n = absurd before
+  each-heard (one ∷ earlier) (first ∷ past) job items before now zero = heard-past one first before.0
+  each-heard (one ∷ earlier) (first ∷ past) job items before now (suc n) = each-heard earlier past job items before.1 now n
 
--- an account is no other for the stream of its row
-of-stream : (answers : ℕ → List (List ℕ) → Bool → Answer → Type 0) (account : Account) (row : CallReport) (id : ℕ) → StandsOn answers account row → StandsOn answers account (record row { id = id })
-of-stream answers account row id stands = record {
-  lawful = stands.lawful;
-  answered = record {
-    head = stands.answered.head;
-    overdue = stands.answered.overdue;
-    items = stands.answered.items;
-    outcome = stands.answered.outcome;
-    ends = stands.answered.ends;
-    taken = stands.answered.taken;
-    told = stands.answered.told;
-  };
-}
+  module _ {F S : Type 0} (past_in : F → List (List InPiece)) (past_shut : S → List (List InPiece)) (put_in : F → List InPiece) (put_shut : S → List InPiece) (kind_of : S → Shut) where
+    seat-heard : (half : Half F S) (jobs : List Job) (id : ℕ) → TellsShut (shown put_in put_shut kind_of half)
+        → AreCalls names told jobs (half_by past_in past_shut half) id (shown put_in put_shut kind_of half)
+        → IsSomeAnd (half_by (λ f. past_in f ++ put_in f ∷ []) (λ s. past_shut s ++ put_shut s ∷ []) half) (λ feds. EachHeard (λ n. segment feds n) jobs)
+    seat-heard (Open feeder) jobs id tells are =
+        subst (λ (all : List Job). EachHeard (λ n. segment (past_in feeder ++ put_in feeder ∷ []) n) all) (sym are.all)
+        (each-heard are.earlier (past_in feeder) are.job (put_in feeder) are.before (heard-now are.job (record { there = true; items = put_in feeder; shut = None }) tells are.last))
+    seat-heard (Closed shut) jobs id tells are =
+        subst (λ (all : List Job). EachHeard (λ n. segment (past_shut shut ++ put_shut shut ∷ []) n) all) (sym are.all)
+        (each-heard are.earlier (past_shut shut) are.job (put_shut shut) are.before
+        (heard-now are.job (record { there = true; items = put_shut shut; shut = Some (kind_of shut) }) tells are.last))
+    seat-heard Moving jobs id tells are = absurd are.before
 
-accounted : (answers : ℕ → List (List ℕ) → Bool → Answer → Type 0) (told : List Step) (id : ℕ) (items : List InPiece) (given : List OutItem) (old row : CallReport) → row ≡ record old { id = id } → IsHeard told id items
-    → Stands answers items given old → IsAccounted answers told row
-accounted answers told id items given old row is heard stands =
-    subst (λ (r : CallReport). IsAccounted answers told r) (sym is)
-    (record {
-      account = unsent items stands.0 stands.1 given;
-      known = heard.known;
-      fed = heard.fed;
-      shut = heard.shut;
-      stands = of-stream answers (unsent items stands.0 stands.1 given) old id stands.2;
-    })
+-- ---- a row for each job
 
-at-place : (answers : ℕ → List (List ℕ) → Bool → Answer → Type 0) (told : List Step) (id : ℕ) (items : List InPiece) (given : List OutItem) (old new : Option CallReport)
-    → IfSome new (λ row. IsSomeAnd old (λ before. row ≡ record before { id = id })) → IsHeard told id items
-    → IfSome old (λ row. Stands answers items given row) → IfSome new (λ row. IsAccounted answers told row)
-at-place answers told id items given old None is heard stands = tt
-at-place answers told id items given None (Some row) is heard stands = absurd is
-at-place answers told id items given (Some before) (Some row) is heard stands = accounted answers told id items given before row is heard stands
+-- row number n is as this says of job number n
+abbrev pub EachRow : (ℕ → Job → CallReport → Type 0) → List Job → List CallReport → Type 0
+EachRow P jobs rows = (n : ℕ) → IfSome (slice_get jobs n) (λ job. IsSomeAnd (slice_get rows n) (λ row. P n job row))
 
-module _ (P : CallReport → Type 0) where
-  all-at : (rows : List CallReport) → ((n : ℕ) → n < length rows → IfSome (slice_get rows n) P) → All P rows
-  all-at [] each = All-nil P
-  all-at (row ∷ rows) each = All-cons P row rows (each 0 (omega arith)) (all-at rows (λ n within. each (suc n) (omega (arith, within))))
+each-append : (P : ℕ → Job → CallReport → Type 0) (jobs left : List Job) (rows more : List CallReport) → length rows ≡ length jobs → EachRow P jobs rows
+    → ((n k : ℕ) → k ≡ length jobs + n → IfSome (slice_get left n) (λ job. IsSomeAnd (slice_get more n) (λ row. P k job row))) → EachRow P (jobs ++ left) (rows ++ more)
+each-append P [] left [] more count first rest n = rest n n (omega arith)
+each-append P [] left (row ∷ rows) more count first rest n = absurd (omega (arith, count))
+each-append P (job ∷ jobs) left [] more count first rest n = absurd (omega (arith, count))
+each-append P (job ∷ jobs) left (row ∷ rows) more count first rest zero = first 0
+each-append P (job ∷ jobs) left (row ∷ rows) more count first rest (suc n) =
+    each-append (λ k. P (suc k)) jobs left rows more (omega (arith, count)) (λ k. first (suc k)) (λ m k is. rest m (suc k) (omega (arith, is))) n
 
--- each row is that of a call of the slot
-pub seat-accounted : (answers : ℕ → List (List ℕ) → Bool → Answer → Type 0) (told : List Step) (ids : List ℕ) (id : ℕ) (half : Option (List (List InPiece))) (rows new : List CallReport)
-    → length new ≤ length ids + 1
-    → ((n : ℕ) → IfSome (slice_get new n) (λ row. IsSomeAnd (slice_get rows n) (λ before. row ≡ record before { id = get_or ids n id })))
-    → IsSomeAnd half (λ feds. (n : ℕ) → n < length ids + 1 → IsHeard told (get_or ids n id) (segment feds n))
-    → IsSomeAnd half (λ feds. (given : List (List OutItem)) × EachStands answers feds given rows)
-    → All (λ row. IsAccounted answers told row) new
-seat-accounted answers told ids id None rows new count each heard stands = absurd heard
-seat-accounted answers told ids id (Some feds) rows new count each heard stands =
-    all-at (λ row. IsAccounted answers told row) new
-    (λ n within. at-place answers told (get_or ids n id) (segment feds n) (segment stands.0 n) (slice_get rows n) (slice_get new n) (each n) (heard n (omega (arith, within, count))) (stands.1 n))
+each-map : (P : ℕ → Job → CallReport → Type 0) (row_of : Job → CallReport) (jobs : List Job) → ((n : ℕ) (job : Job) → P n job (row_of job)) → EachRow P jobs (map row_of jobs)
+each-map P row_of [] every zero = tt
+each-map P row_of [] every (suc n) = tt
+each-map P row_of (job ∷ jobs) every zero = every 0 job
+each-map P row_of (job ∷ jobs) every (suc n) = each-map (λ k. P (suc k)) row_of jobs (λ k. every (suc k)) n
+
+length-more : (rows : List CallReport) (jobs left : List Job) (row_of : Job → CallReport) → length rows ≡ length jobs → length (rows ++ map row_of left) ≡ length (jobs ++ left)
+length-more [] [] [] row_of count = refl
+length-more [] [] (job ∷ left) row_of count = ap (λ (n : ℕ). suc n) (length-more [] [] left row_of refl)
+length-more [] (job ∷ jobs) left row_of count = absurd (omega (arith, count))
+length-more (row ∷ rows) [] left row_of count = absurd (omega (arith, count))
+length-more (row ∷ rows) (job ∷ jobs) left row_of count = ap (λ (n : ℕ). suc n) (length-more rows jobs left row_of (omega (arith, count)))
+
+-- what is so of each row and its job
+all-rows : (Q : CallReport → Type 0) (R : ℕ → Job → Type 0) (P : ℕ → Job → CallReport → Type 0) (jobs : List Job) (rows : List CallReport) → length rows ≡ length jobs
+    → ((n : ℕ) → IfSome (slice_get jobs n) (R n)) → EachRow P jobs rows → ((n : ℕ) (job : Job) (row : CallReport) → R n job → P n job row → Q row × (row.id ≡ job.id))
+    → All Q rows × (map (λ (row : CallReport). row.id) rows ≡ map (λ (job : Job). job.id) jobs)
+all-rows Q R P [] [] count heard each says = (All-nil Q, refl)
+all-rows Q R P [] (row ∷ rows) count heard each says = absurd (omega (arith, count))
+all-rows Q R P (job ∷ jobs) [] count heard each says = absurd (omega (arith, count))
+all-rows Q R P (job ∷ jobs) (row ∷ rows) count heard each says =
+    let first = says 0 job row (heard 0) (each 0) in
+    let rest = all-rows Q (λ n. R (suc n)) (λ n. P (suc n)) jobs rows (omega (arith, count)) (λ n. heard (suc n)) (λ n. each (suc n)) (λ n. says (suc n)) in
+    (All-cons Q row rows first.0 rest.0, same-cons row.id job.id (map (λ (r : CallReport). r.id) rows) (map (λ (j : Job). j.id) jobs) first.1 rest.1)
+  where
+    same-cons : (x y : ℕ) (xs ys : List ℕ) → x ≡ y → xs ≡ ys → (x ∷ xs) ≡ (y ∷ ys)
+    same-cons x y xs ys same rest = cc
+
+-- ---- the accounts
+
+module _ (answers : ℕ → List (List ℕ) → Bool → Answer → Type 0) where
+  -- the rows of a worker, and those of the calls that it didn't take
+  have-rest : (gots : List (List InPiece)) (gives : List (List OutItem)) (jobs left : List Job) (rows : List CallReport) → HaveRows answers gots gives jobs rows
+      → EachRow (λ n. Answers answers (segment gots n) (segment gives n)) (jobs ++ left) (rows ++ map (λ job. unanswered job.id job.index) left)
+  have-rest gots gives jobs left rows has =
+      each-append (λ n. Answers answers (segment gots n) (segment gives n)) jobs left rows (map (λ job. unanswered job.id job.index) left) has.count has.each
+      (λ n k is. each-map (λ m. Answers answers (segment gots k) (segment gives k)) (λ job. unanswered job.id job.index) left
+      (λ m job. none_answered answers (segment gots k) (segment gives k) job (has.beyond k (omega (arith, is)))) n)
+
+  module _ (names : List ℕ → ℕ → Type 0) (told : List Step) where
+    -- a row on what was heard of its call
+    accounted : (fed got : List InPiece) (given : List OutItem) (job : Job) (row : CallReport) → IsUnsent fed got given → IsHeard names told job fed → Answers answers got given job row
+        → IsAccounted answers names told row
+    accounted fed got given job row lawful heard has = record {
+      account = unsent fed has.messages has.said given;
+      head = job.head;
+      known = subst (λ (id : ℕ). is_admitted id told ≡ true) (sym has.id) heard.known;
+      opened = subst (λ (id : ℕ). head_of id told ≡ Some job.head) (sym has.id) heard.opened;
+      named = subst (λ (index : ℕ). names job.head.path index) (sym has.method) heard.named;
+      fed = subst (λ (id : ℕ). bytes_of fed ≡ fed_by id (since id told)) (sym has.id) heard.fed;
+      shut = subst (λ (id : ℕ). shut_of fed ≡ shut_by id (since id told)) (sym has.id) heard.shut;
+      stands = record { lawful = lawful has.messages has.said has.took; answered = has.answered };
+    }
+
+    -- the rows of all calls of a slot
+    slot-rows : (feds gots : List (List InPiece)) (gives : List (List OutItem)) (all jobs left : List Job) (rows new : List CallReport) → jobs ++ left ≡ all
+        → ((n : ℕ) → IsUnsent (segment feds n) (segment gots n) (segment gives n)) → EachHeard names told (λ n. segment feds n) all
+        → HaveRows answers gots gives jobs rows → new ≡ rows ++ map (λ job. unanswered job.id job.index) left → AreRows answers names told (map (λ job. job.id) all) new
+    slot-rows feds gots gives all jobs left rows new parts lawful heard has is =
+        let both = all-rows (IsAccounted answers names told) (λ n job. IsHeard names told job (segment feds n)) (λ n. Answers answers (segment gots n) (segment gives n))
+        (jobs ++ left) (rows ++ map (λ job. unanswered job.id job.index) left) (length-more rows jobs left (λ job. unanswered job.id job.index) has.count)
+        (subst (λ (js : List Job). EachHeard names told (λ n. segment feds n) js) (sym parts) heard) (have-rest gots gives jobs left rows has)
+        (λ n job row hears answer. (accounted (segment feds n) (segment gots n) (segment gives n) job row (lawful n) hears answer, answer.id)) in
+        subst (λ (rs : List CallReport). AreRows answers names told (map (λ job. job.id) all) rs) (sym is)
+        (record { each = both.0; streams = both.1 ∙ ap (λ (js : List Job). map (λ (job : Job). job.id) js) parts })
+
+    module _ {F S : Type 0} (past_in : F → List (List InPiece)) (past_shut : S → List (List InPiece)) (put_in : F → List InPiece) (put_shut : S → List InPiece) (kind_of : S → Shut) where
+      settled-rows : (feds : Option (List (List InPiece))) (gots : List (List InPiece)) (gives : List (List OutItem)) (all jobs left : List Job) (rows new : List CallReport) → jobs ++ left ≡ all
+          → IsSomeAnd feds (λ fs. (n : ℕ) → IsUnsent (segment fs n) (segment gots n) (segment gives n)) → IsSomeAnd feds (λ fs. EachHeard names told (λ n. segment fs n) all)
+          → HaveRows answers gots gives jobs rows → new ≡ rows ++ map (λ job. unanswered job.id job.index) left → AreRows answers names told (map (λ job. job.id) all) new
+      settled-rows None gots gives all jobs left rows new parts lawful heard has is = absurd lawful
+      settled-rows (Some feds) gots gives all jobs left rows new parts lawful heard has is = slot-rows feds gots gives all jobs left rows new parts lawful heard has is
+
+      -- the rows of a slot whose ends were brought together
+      pub seat-rows : (half : Half F S) (id : ℕ) (gots : List (List InPiece)) (gives : List (List OutItem)) (all jobs left : List Job) (rows new : List CallReport) → jobs ++ left ≡ all
+          → IsSomeAnd (half_by (λ f. past_in f ++ put_in f ∷ []) (λ s. past_shut s ++ put_shut s ∷ []) half) (λ fs. (n : ℕ) → IsUnsent (segment fs n) (segment gots n) (segment gives n))
+          → TellsShut (shown put_in put_shut kind_of half) → HaveRows answers gots gives jobs rows → new ≡ rows ++ map (λ job. unanswered job.id job.index) left
+          → AreCalls names told all (half_by past_in past_shut half) id (shown put_in put_shut kind_of half) → AreRows answers names told (map (λ job. job.id) all) new
+      seat-rows half id gots gives all jobs left rows new parts lawful tells has is are =
+          settled-rows (half_by (λ f. past_in f ++ put_in f ∷ []) (λ s. past_shut s ++ put_shut s ∷ []) half) gots gives all jobs left rows new parts lawful
+          (seat-heard names told past_in past_shut put_in put_shut kind_of half all id tells are) has is
+
+-- what is left in a ring stands behind what was taken
+pub met-parts : {A : Type 0} (taken after left put_after put : List A) → after ≡ taken → after ++ left ≡ put_after → put_after ≡ put → taken ++ left ≡ put
+met-parts {A} taken after left put_after put same all put_same = ap (λ (xs : List A). xs ++ left) (sym same) ∙ (all ∙ put_same)
 
 pub at-some : {A : Type 0} (P : A → Type 0) (found : Option A) (v : A) → found ≡ Some v → IfSome found P → P v
 at-some {A} P found v is has = subst (λ (o : Option A). IfSome o P) is has
 
--- all rows of two lists
-pub joined-accounted : {V : Type 0} (answers : ℕ → List (List ℕ) → Bool → Answer → Type 0) (items : V → List CallReport) (told : List Step) (all rows both : Option V)
-    → IfSome both (λ b. IsSomeAnd all (λ before. IsSomeAnd rows (λ more. items b ≡ items before ++ items more)))
-    → IfSome all (λ v. All (λ row. IsAccounted answers told row) (items v)) → IfSome rows (λ v. All (λ row. IsAccounted answers told row) (items v))
-    → IfSome both (λ v. All (λ row. IsAccounted answers told row) (items v))
-joined-accounted answers items told all rows None is first second = tt
-joined-accounted answers items told None rows (Some b) is first second = absurd is
-joined-accounted answers items told (Some before) None (Some b) is first second = absurd is
-joined-accounted answers items told (Some before) (Some more) (Some b) is first second =
-    subst (λ (xs : List CallReport). All (λ row. IsAccounted answers told row) xs) (sym is) (All-append (λ row. IsAccounted answers told row) (items before) (items more) first second)
+pub if-follows : {A : Type 0} (found : Option A) (P Q : A → Type 0) → ((v : A) → P v → Q v) → IfSome found P → IfSome found Q
+if-follows None P Q follows has = tt
+if-follows (Some v) P Q follows has = follows v has

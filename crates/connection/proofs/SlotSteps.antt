@@ -1,27 +1,28 @@
 -- What one step more makes of all slots of a connection.
-use Rattle.std.proofs.Common.{◌≡◌, ◌≢◌, ◌∙◌, ℕ, ◌<◌, ◌≤◌, Bool, true, false, List, [], ◌∷◌, ◌++◌, None, Some, ap, arith, eqb-true, get_or, inl, inr, length, map, refl, set, subst, sym, All}
+use Rattle.std.proofs.Common.{◌≡◌, ◌≢◌, ◌∙◌, ℕ, zero, suc, ◌+◌, ◌<◌, ◌≤◌, Bool, true, false, List, [], ◌∷◌, ◌++◌, None, Some, ap, append-nil, arith, eqb-true, get_or, inl, inr, length, map, refl, set, subst, sym, All}
 use Rattle.std.specs.Prelude.{◌&&◌, nat_eq, nat_lt, position, Result, Ok, Err, OnOk, OnErr}
 use Rattle.std.specs.List.{position_or_len}
 use Rattle.std.proofs.lemmas.Bool.{and_left, and_parts, cases_Bool, cases_eq, cases_lt, cond-true, lt-ltb, ne_eqb}
-use Rattle.std.proofs.lemmas.List.{get_or-map, get_or-set_same, get_or-set_other, get_or_append_left, get_or_push, length-map, length-set, length_push, map-set, map_push}
+use Rattle.std.proofs.lemmas.List.{get_or-map, get_or-set_same, get_or-set_other, get_or_append_left, get_or_push, length-map, length-set, length_push, map-append, map-set, map_push}
 use Rattle.std.proofs.lemmas.List.Elements.{All-nil, All-push, All-weaker}
 use Rattle.std.proofs.lemmas.List.Quantifiers.{position-Some}
 use Rattle.std.proofs.lemmas.List.Sums.{fails_before_first}
 use Rattle.std.proofs.Math.Seq.{map-set_same}
 use Rattle.callbox.specs.declared.piece.InPiece.{InPiece}
 use Rattle.account.specs.declared.call.Shut.{Shut}
-use Rattle.callhead.specs.declared.head.CallHead.{CallHead}
-use Rattle.session.specs.declared.event.InEvent.TheVariants as events
 use Rattle.calltable.specs.Kept.{Concerns, IsIdle}
-use Rattle.calltable.specs.Steps.{Step, Told, Admitted, admitted_by, last_of}
+use Rattle.calltable.specs.Steps.{Step, admitted, admitted_by, last_of}
 use Rattle.connection.specs.declared.half.Half.{Half}
 use Rattle.connection.specs.declared.half.Half.TheVariants.{Open, Shut as Closed, Moving}
 use Rattle.connection.specs.declared.seat.Seat.{Seat}
+use Rattle.connection.specs.declared.slot.Job.{Job}
 use Rattle.connection.specs.declared.slots.Slots.{Slots}
 use Rattle.connection.specs.Calls.{Rises}
 use Rattle.connection.specs.Halves.{is_open, shown}
-use Rattle.connection.specs.Seats.{AreApart, IsSeat, Kept, call_of, feeds}
-use Rattle.connection.proofs.Seats.{seat-passes, seat-shut}
+use Rattle.connection.specs.Ids.{times}
+use Rattle.connection.specs.Seats.{AreApart, IsSeat, Kept, call_of, feeds, ids_of, jobs_of, times_in}
+use Rattle.connection.proofs.Ids.{times-append}
+use Rattle.connection.proofs.Seats.{opening, seat-passes, seat-shut}
 
 -- ---- a slot that a step passes by
 
@@ -37,9 +38,12 @@ shut-is-told of_open of_shut kind_of (Open feeder) closed there none = absurd cc
 shut-is-told of_open of_shut kind_of (Closed end) closed there none = absurd cc
 shut-is-told of_open of_shut kind_of Moving closed there none = absurd cc
 
-module _ {M : Type 0} where
+admitted-not : (told : List Step) (step : Step) → admitted_by step ≡ None → admitted (step ∷ told) ≡ admitted told
+admitted-not told step none = rw none (append-nil (admitted told))
+
+module _ {M : Type 0} {names : List ℕ → ℕ → Type 0} where
   -- its call is of another stream, or was shut
-  pub seat-by : (told : List Step) (step : Step) (id : ℕ) (seat : Seat M) → Concerns id step → feeds id seat ≡ false → IsSeat told seat → IsSeat (step ∷ told) seat
+  pub seat-by : (told : List Step) (step : Step) (id : ℕ) (seat : Seat M) → Concerns id step → feeds id seat ≡ false → IsSeat names told seat → IsSeat names (step ∷ told) seat
   seat-by told step id seat concerns unfed are = elim (cases_Bool (nat_eq seat.id id)) [
     | inl same ↦
         seat-shut told step _ _ seat.id (call_of seat) (rises-not told step concerns.admits)
@@ -49,12 +53,13 @@ module _ {M : Type 0} where
         (record { shuts = concerns.shuts seat.id other; feeds = concerns.feeds seat.id other }) are
   ]
 
-  seat-idle : (told : List Step) (step : Step) (seat : Seat M) → IsIdle step → IsSeat told seat → IsSeat (step ∷ told) seat
+  seat-idle : (told : List Step) (step : Step) (seat : Seat M) → IsIdle step → IsSeat names told seat → IsSeat names (step ∷ told) seat
   seat-idle told step seat idle are = seat-passes told step _ _ seat.id (call_of seat) (rises-not told step idle.admits) (record { shuts = idle.shuts seat.id; feeds = idle.feeds seat.id }) are
 
-  seat-other : (told : List Step) (id : ℕ) (head : CallHead) (seat : Seat M) → last_of told < id → IsSeat told seat → IsSeat (Told (events.Open id head) Admitted ∷ told) seat
-  seat-other told id head seat above are = seat-passes told (Told (events.Open id head) Admitted) _ _ seat.id (call_of seat) above (record { shuts = refl; feeds = refl }) are
+  seat-other : (told : List Step) (job : Job) (seat : Seat M) → last_of told < job.id → IsSeat names told seat → IsSeat names (opening job ∷ told) seat
+  seat-other told job seat above are = seat-passes told (opening job) _ _ seat.id (call_of seat) above (record { shuts = refl; feeds = refl }) are
 
+module _ {M : Type 0} where
   -- ---- ids that are apart
 
   abbrev ids : List (Seat M) → List ℕ
@@ -128,15 +133,47 @@ apart-pushed all id above apart one other lt more same = elim (cases_lt one (len
   ]
 ]
 
-module _ {M : Type 0} where
+module _ {M : Type 0} {names : List ℕ → ℕ → Type 0} where
+  low-seat : (told : List Step) (seat : Seat M) → IsSeat names told seat → seat.id ≤ last_of told
+  low-seat told seat are = subst (λ (n : ℕ). n ≤ last_of told) (sym are.at) are.last.within
+
   -- the streams of the slots were admitted, so they are below the next
-  are-below : (told : List Step) (seats : List (Seat M)) (id : ℕ) → last_of told < id → All (λ (seat : Seat M). IsSeat told seat) seats → AreBelow (ids seats) id
+  are-below : (told : List Step) (seats : List (Seat M)) (id : ℕ) → last_of told < id → All (λ (seat : Seat M). IsSeat names told seat) seats → AreBelow (ids seats) id
   are-below told [] id above each n within = absurd (omega (arith, within))
   are-below told (seat ∷ seats) id above each n within =
       let inside : n < length (seat ∷ seats) = omega (arith, within, ids-length (seat ∷ seats)) in
-      let low = (each n seat inside).last.within in
+      let low = low-seat told (get_or (seat ∷ seats) n seat) (each n seat inside) in
       let is = id-at (seat ∷ seats) n seat inside in
       omega (arith, low, is, above)
+
+-- ---- the streams of all their calls
+
+module _ {M : Type 0} where
+  -- a slot is changed, whose calls are these
+  times-set : (id : ℕ) (seats : List (Seat M)) (place : ℕ) (d moved : Seat M) (more : List ℕ) → place < length seats → ids_of moved ≡ ids_of (get_or seats place d) ++ more
+      → times_in id (set seats place moved) ≡ times_in id seats + times id more
+  times-set id [] place d moved more there is = absurd (omega (arith, there))
+  times-set id (seat ∷ seats) zero d moved more there is =
+      let now : times id (ids_of moved) ≡ times id (ids_of seat) + times id more = ap (λ (all : List ℕ). times id all) is ∙ times-append id (ids_of seat) more in
+      omega (arith, now)
+  times-set id (seat ∷ seats) (suc place) d moved more there is =
+      let rest = times-set id seats place d moved more (omega (arith, there)) is in
+      omega (arith, rest)
+
+  -- one is there more
+  pub times-pushed : (id : ℕ) (seats : List (Seat M)) (seat : Seat M) → times_in id (seats ++ seat ∷ []) ≡ times_in id seats + times id (ids_of seat)
+  times-pushed id [] seat = omega arith
+  times-pushed id (first ∷ seats) seat = let rest = times-pushed id seats seat in omega (arith, rest)
+
+-- so often an id is among those that were admitted
+abbrev HasAll : (ℕ → ℕ) → List Step → Type 0
+HasAll count told = (id : ℕ) → count id ≡ times id (admitted told)
+
+all-not : (count : ℕ → ℕ) (told : List Step) (step : Step) → admitted_by step ≡ None → HasAll count told → HasAll count (step ∷ told)
+all-not count told step none all = λ id. all id ∙ ap (λ (ids : List ℕ). times id ids) (sym (admitted-not told step none))
+
+all-more : (count new : ℕ → ℕ) (told : List Step) (job : Job) → ((id : ℕ) → new id ≡ count id + times id (job.id ∷ [])) → HasAll count told → HasAll new (opening job ∷ told)
+all-more count new told job more all = λ id. more id ∙ (ap (λ (n : ℕ). n + times id (job.id ∷ [])) (all id) ∙ sym (times-append id (admitted told) (job.id ∷ [])))
 
 -- ---- each slot, where one is changed
 
@@ -152,14 +189,15 @@ module _ {X : Type 0} (P Q : X → Type 0) where
 
 -- ---- all slots
 
-module _ {M : Type 0} where
+module _ {M : Type 0} {names : List ℕ → ℕ → Type 0} where
   -- a step that is nothing to any call
-  pub kept-idle : (told : List Step) (step : Step) (slots : Slots M) → IsIdle step → Kept told slots → Kept (step ∷ told) slots
+  pub kept-idle : (told : List Step) (step : Step) (slots : Slots M) → IsIdle step → Kept names told slots → Kept names (step ∷ told) slots
   kept-idle told step slots idle k = record {
     rising = (rises-not told step idle.admits, k.rising);
     last = k.last ∙ sym (last-not told step idle.admits);
-    each = All-weaker (IsSeat told) (IsSeat (step ∷ told)) (λ seat are. seat-idle told step seat idle are) slots.seats.items k.each;
+    each = All-weaker (IsSeat names told) (IsSeat names (step ∷ told)) (λ seat are. seat-idle told step seat idle are) slots.seats.items k.each;
     apart = k.apart;
+    all = all-not (λ id. times_in id slots.seats.items) told step idle.admits k.all;
   }
 
 none-passes : {X : Type 0} (p : X → Bool) (xs : List X) → position p xs ≡ None → length xs ≤ position_or_len p xs
@@ -173,18 +211,20 @@ none-passes p xs none = elim (cases_lt (position_or_len p xs) (length xs)) [
 none-at : {X : Type 0} (p : X → Bool) (xs : List X) (n : ℕ) (d : X) → position p xs ≡ None → n < length xs → p (get_or xs n d) ≡ false
 none-at p xs n d none within = fails_before_first p xs n d (omega (arith, within, none-passes p xs none))
 
-module _ {M : Type 0} where
+module _ {M : Type 0} {names : List ℕ → ℕ → Type 0} where
   -- a step that concerns a call that isn't fed
   pub kept-none : (told : List Step) (step : Step) (slots : Slots M) (id : ℕ) → position (λ (seat : Seat M). feeds id seat) slots.seats.items ≡ None → Concerns id step
-      → Kept told slots → Kept (step ∷ told) slots
+      → Kept names told slots → Kept names (step ∷ told) slots
   kept-none told step slots id none concerns k = record {
     rising = (rises-not told step concerns.admits, k.rising);
     last = k.last ∙ sym (last-not told step concerns.admits);
     each = λ n d within.
         seat-by told step id (get_or slots.seats.items n d) concerns (none-at (λ (seat : Seat M). feeds id seat) slots.seats.items n d none within) (k.each n d within);
     apart = k.apart;
+    all = all-not (λ n. times_in n slots.seats.items) told step concerns.admits k.all;
   }
 
+module _ {M : Type 0} where
   -- a slot that was found is at its stream
   pub is-at : (seats : List (Seat M)) (place id : ℕ) (seat : Seat M) → position (λ (s : Seat M). feeds id s) seats ≡ Some place → seat ≡ get_or seats place seat → nat_eq seat.id id ≡ true
   is-at seats place id seat found is =
@@ -194,9 +234,6 @@ module _ {M : Type 0} where
 -- the slots with one of them changed
 module _ {M : Type 0} (old new : Slots M) (place : ℕ) (seat moved : Seat M) (there : place < length old.seats.items) (is : seat ≡ get_or old.seats.items place seat)
     (items : new.seats.items ≡ set old.seats.items place moved) where
-  was : (told : List Step) → Kept told old → IsSeat told seat
-  was told k = subst (λ (s : Seat M). IsSeat told s) (sym is) (k.each place seat there)
-
   -- another slot isn't at its stream
   unfed-there : (n id : ℕ) (d : Seat M) → AreApart (ids old.seats.items) → nat_eq seat.id id ≡ true → n < length old.seats.items → (n ≡ place → ⊥) → feeds id (get_or old.seats.items n d) ≡ false
   unfed-there n id d apart of within away =
@@ -208,70 +245,94 @@ module _ {M : Type 0} (old new : Slots M) (place : ℕ) (seat moved : Seat M) (t
   still-apart same apart =
       subst (λ (seats : List (Seat M)). AreApart (ids seats)) (sym items) (apart-set old.seats.items place seat moved (same ∙ ap (λ (s : Seat M). s.id) is) apart)
 
+  -- its calls are so many more
+  times-moved : (jobs : List Job) (id : ℕ) → jobs_of moved ≡ jobs_of seat ++ jobs → times_in id new.seats.items ≡ times_in id old.seats.items + times id (map (λ (job : Job). job.id) jobs)
+  times-moved jobs id more =
+      let streams : ids_of moved ≡ ids_of (get_or old.seats.items place seat) ++ map (λ (job : Job). job.id) jobs =
+      ap (λ (all : List Job). map (λ (job : Job). job.id) all) more ∙ (map-append (λ (job : Job). job.id) (jobs_of seat) jobs
+      ∙ ap (λ (s : Seat M). ids_of s ++ map (λ (job : Job). job.id) jobs) is) in
+      ap (λ (seats : List (Seat M)). times_in id seats) items ∙ times-set id old.seats.items place seat moved (map (λ (job : Job). job.id) jobs) there streams
+
+  still-all : (told : List Step) → jobs_of moved ≡ jobs_of seat → HasAll (λ id. times_in id old.seats.items) told → HasAll (λ id. times_in id new.seats.items) told
+  still-all told same all = λ id.
+      let moved_times = times-moved [] id (same ∙ sym (append-nil (jobs_of seat))) in
+      omega (arith, moved_times, all id)
+
+-- the same by what led to them
+module _ {M : Type 0} {names : List ℕ → ℕ → Type 0} (old new : Slots M) (place : ℕ) (seat moved : Seat M) (there : place < length old.seats.items) (is : seat ≡ get_or old.seats.items place seat)
+    (items : new.seats.items ≡ set old.seats.items place moved) where
+  was : (told : List Step) → Kept names told old → IsSeat names told seat
+  was told k = subst (λ (s : Seat M). IsSeat names told s) (sym is) (k.each place seat there)
+
   -- a step that concerns its call
-  pub kept-set : (told : List Step) (step : Step) (id : ℕ) → new.last ≡ old.last → moved.id ≡ seat.id → nat_eq seat.id id ≡ true → Concerns id step
-      → (IsSeat told seat → IsSeat (step ∷ told) moved) → Kept told old → Kept (step ∷ told) new
-  kept-set told step id last same of concerns goes k = record {
+  pub kept-set : (told : List Step) (step : Step) (id : ℕ) → new.last ≡ old.last → moved.id ≡ seat.id → jobs_of moved ≡ jobs_of seat → nat_eq seat.id id ≡ true → Concerns id step
+      → (IsSeat names told seat → IsSeat names (step ∷ told) moved) → Kept names told old → Kept names (step ∷ told) new
+  kept-set told step id last same jobs of concerns goes k = record {
     rising = (rises-not told step concerns.admits, k.rising);
     last = last ∙ (k.last ∙ sym (last-not told step concerns.admits));
-    each = subst (λ (seats : List (Seat M)). All (λ (s : Seat M). IsSeat (step ∷ told) s) seats) (sym items)
-        (set-each (IsSeat told) (IsSeat (step ∷ told)) old.seats.items place moved there (goes (was told k))
-        (λ n d within away one. seat-by told step id (get_or old.seats.items n d) concerns (unfed-there n id d k.apart of within away) one) k.each);
-    apart = still-apart same k.apart;
+    each = subst (λ (seats : List (Seat M)). All (λ (s : Seat M). IsSeat names (step ∷ told) s) seats) (sym items)
+        (set-each (IsSeat names told) (IsSeat names (step ∷ told)) old.seats.items place moved there (goes (was told k))
+        (λ n d within away one. seat-by told step id (get_or old.seats.items n d) concerns (unfed-there old new place seat moved there is items n id d k.apart of within away) one) k.each);
+    apart = still-apart old new place seat moved there is items same k.apart;
+    all = all-not (λ n. times_in n new.seats.items) told step concerns.admits (still-all old new place seat moved there is items told jobs k.all);
   }
 
   -- no step
-  pub keeps-set : (told : List Step) → new.last ≡ old.last → moved.id ≡ seat.id → (IsSeat told seat → IsSeat told moved) → Kept told old → Kept told new
-  keeps-set told last same stays k = record {
+  pub keeps-set : (told : List Step) → new.last ≡ old.last → moved.id ≡ seat.id → jobs_of moved ≡ jobs_of seat → (IsSeat names told seat → IsSeat names told moved) → Kept names told old → Kept names told new
+  keeps-set told last same jobs stays k = record {
     rising = k.rising;
     last = last ∙ k.last;
-    each = subst (λ (seats : List (Seat M)). All (λ (s : Seat M). IsSeat told s) seats) (sym items)
-        (set-each (IsSeat told) (IsSeat told) old.seats.items place moved there (stays (was told k)) (λ n d within away one. one) k.each);
-    apart = still-apart same k.apart;
+    each = subst (λ (seats : List (Seat M)). All (λ (s : Seat M). IsSeat names told s) seats) (sym items)
+        (set-each (IsSeat names told) (IsSeat names told) old.seats.items place moved there (stays (was told k)) (λ n d within away one. one) k.each);
+    apart = still-apart old new place seat moved there is items same k.apart;
+    all = still-all old new place seat moved there is items told jobs k.all;
   }
 
   -- it begins the next call
-  pub kept-begins : (told : List Step) (id : ℕ) (head : CallHead) → old.last < id → new.last ≡ id → moved.id ≡ id
-      → (last_of told < id → IsSeat told seat → IsSeat (Told (events.Open id head) Admitted ∷ told) moved) → Kept told old → Kept (Told (events.Open id head) Admitted ∷ told) new
-  kept-begins told id head above last next begins k =
-      let step = Told (events.Open id head) Admitted in
-      let higher : last_of told < id = subst (λ (n : ℕ). n < id) k.last above in
-      let set_at : ids new.seats.items ≡ set (ids old.seats.items) place id =
+  pub kept-begins : (told : List Step) (job : Job) → old.last < job.id → new.last ≡ job.id → moved.id ≡ job.id → jobs_of moved ≡ jobs_of seat ++ job ∷ []
+      → (last_of told < job.id → IsSeat names told seat → IsSeat names (opening job ∷ told) moved) → Kept names told old → Kept names (opening job ∷ told) new
+  kept-begins told job above last next jobs begins k =
+      let higher : last_of told < job.id = subst (λ (n : ℕ). n < job.id) k.last above in
+      let set_at : ids new.seats.items ≡ set (ids old.seats.items) place job.id =
       ap ids items ∙ (map-set (λ (s : Seat M). s.id) old.seats.items place moved ∙ ap (λ (n : ℕ). set (ids old.seats.items) place n) next) in
       record {
         rising = (higher, k.rising);
         last = last;
-        each = subst (λ (seats : List (Seat M)). All (λ (s : Seat M). IsSeat (step ∷ told) s) seats) (sym items)
-            (set-each (IsSeat told) (IsSeat (step ∷ told)) old.seats.items place moved there (begins higher (was told k))
-            (λ n d within away one. seat-other told id head (get_or old.seats.items n d) higher one) k.each);
-        apart = subst (λ (all : List ℕ). AreApart all) (sym set_at) (apart-new (ids old.seats.items) place id (are-below told old.seats.items id higher k.each) k.apart);
+        each = subst (λ (seats : List (Seat M)). All (λ (s : Seat M). IsSeat names (opening job ∷ told) s) seats) (sym items)
+            (set-each (IsSeat names told) (IsSeat names (opening job ∷ told)) old.seats.items place moved there (begins higher (was told k))
+            (λ n d within away one. seat-other told job (get_or old.seats.items n d) higher one) k.each);
+        apart = subst (λ (all : List ℕ). AreApart all) (sym set_at) (apart-new (ids old.seats.items) place job.id (are-below told old.seats.items job.id higher k.each) k.apart);
+        all = all-more (λ n. times_in n old.seats.items) (λ n. times_in n new.seats.items) told job (λ id. times-moved old new place seat moved there is items (job ∷ []) id jobs) k.all;
       }
 
-module _ {M : Type 0} where
+module _ {M : Type 0} {names : List ℕ → ℕ → Type 0} where
   -- a slot is made for a call
-  pub kept-pushed : (old new : Slots M) (seat : Seat M) (told : List Step) (id : ℕ) (head : CallHead) → new.seats.items ≡ old.seats.items ++ seat ∷ [] → old.last < id → new.last ≡ id → seat.id ≡ id
-      → IsSeat (Told (events.Open id head) Admitted ∷ told) seat → Kept told old → Kept (Told (events.Open id head) Admitted ∷ told) new
-  kept-pushed old new seat told id head items above last next one k =
-      let step = Told (events.Open id head) Admitted in
-      let higher : last_of told < id = subst (λ (n : ℕ). n < id) k.last above in
-      let pushed : ids new.seats.items ≡ ids old.seats.items ++ id ∷ [] =
+  pub kept-pushed : (old new : Slots M) (seat : Seat M) (told : List Step) (job : Job) → new.seats.items ≡ old.seats.items ++ seat ∷ [] → old.last < job.id → new.last ≡ job.id → seat.id ≡ job.id
+      → jobs_of seat ≡ job ∷ [] → IsSeat names (opening job ∷ told) seat → Kept names told old → Kept names (opening job ∷ told) new
+  kept-pushed old new seat told job items above last next jobs one k =
+      let higher : last_of told < job.id = subst (λ (n : ℕ). n < job.id) k.last above in
+      let pushed : ids new.seats.items ≡ ids old.seats.items ++ job.id ∷ [] =
       ap ids items ∙ (map_push (λ (s : Seat M). s.id) old.seats.items seat ∙ ap (λ (n : ℕ). ids old.seats.items ++ n ∷ []) next) in
       record {
         rising = (higher, k.rising);
         last = last;
-        each = subst (λ (seats : List (Seat M)). All (λ (s : Seat M). IsSeat (step ∷ told) s) seats) (sym items)
-            (All-push (IsSeat (step ∷ told)) old.seats.items seat
-            (All-weaker (IsSeat told) (IsSeat (step ∷ told)) (λ s are. seat-other told id head s higher are) old.seats.items k.each) one);
-        apart = subst (λ (all : List ℕ). AreApart all) (sym pushed) (apart-pushed (ids old.seats.items) id (are-below told old.seats.items id higher k.each) k.apart);
+        each = subst (λ (seats : List (Seat M)). All (λ (s : Seat M). IsSeat names (opening job ∷ told) s) seats) (sym items)
+            (All-push (IsSeat names (opening job ∷ told)) old.seats.items seat
+            (All-weaker (IsSeat names told) (IsSeat names (opening job ∷ told)) (λ s are. seat-other told job s higher are) old.seats.items k.each) one);
+        apart = subst (λ (all : List ℕ). AreApart all) (sym pushed) (apart-pushed (ids old.seats.items) job.id (are-below told old.seats.items job.id higher k.each) k.apart);
+        all = all-more (λ n. times_in n old.seats.items) (λ n. times_in n new.seats.items) told job
+            (λ id. ap (λ (seats : List (Seat M)). times_in id seats) items ∙ (times-pushed id old.seats.items seat
+            ∙ ap (λ (all : List Job). times_in id old.seats.items + times id (map (λ (j : Job). j.id) all)) jobs)) k.all;
       }
 
   -- no slot is there yet
-  pub kept-none-yet : (slots : Slots M) → slots.seats.items ≡ [] → slots.last ≡ 0 → Kept [] slots
+  pub kept-none-yet : (slots : Slots M) → slots.seats.items ≡ [] → slots.last ≡ 0 → Kept names [] slots
   kept-none-yet slots none last = record {
     rising = tt;
     last = last;
-    each = subst (λ (seats : List (Seat M)). All (λ (s : Seat M). IsSeat [] s) seats) (sym none) (All-nil (λ (s : Seat M). IsSeat [] s));
+    each = subst (λ (seats : List (Seat M)). All (λ (s : Seat M). IsSeat names [] s) seats) (sym none) (All-nil (λ (s : Seat M). IsSeat names [] s));
     apart = subst (λ (seats : List (Seat M)). AreApart (ids seats)) (sym none) (λ one other lt more same. absurd (omega (arith, lt)));
+    all = λ id. ap (λ (seats : List (Seat M)). times_in id seats) none;
   }
 
 -- ---- what is so where a call went well, or failed

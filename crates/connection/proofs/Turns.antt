@@ -1,5 +1,5 @@
 -- The turns of a call, and what stands at its end.
-use Rattle.std.proofs.Common.{◌≡◌, ◌∙◌, inl, inr, ap, refl, subst, sym, ℕ, Bool, true, false, List, [], ◌∷◌, ◌++◌, Option, None, Some, append-nil, append_assoc}
+use Rattle.std.proofs.Common.{◌≡◌, ◌∙◌, ◌⊎◌, inl, inr, ap, refl, subst, sym, ℕ, Bool, true, false, List, [], ◌∷◌, ◌++◌, Option, None, Some, append-nil, append_assoc}
 use Rattle.std.specs.Prelude.{IfSome, IsSomeAnd, MatchBool, slice_get}
 use Rattle.account.specs.declared.call.OutItem.{OutItem}
 use Rattle.account.specs.declared.call.OutItem.TheVariants.{Left}
@@ -19,8 +19,10 @@ use Rattle.callrun.specs.Sides.{Shown, is_open, shown}
 use Rattle.callrun.proofs.Ahead.{with_none}
 use Rattle.callrun.proofs.Listing.{closed_run}
 use Rattle.connection.specs.declared.report.CallReport.{CallReport}
-use Rattle.connection.specs.Accounts.{IsGivenAs, answers_by}
-use Rattle.connection.specs.Workers.{Answers}
+use Rattle.connection.specs.declared.slot.Answered.{Answered}
+use Rattle.connection.specs.declared.slot.Job.{Job}
+use Rattle.connection.specs.Accounts.{IsGivenAs, answers_by, unanswered}
+use Rattle.connection.specs.Workers.{Answers, TellsOf}
 
 -- what leads to the first leads to the second, with more messages
 abbrev pub Goes : (List (List ℕ) → Bool → Step → Type 0) → (MethodState → List (List ℕ) → Step → Type 0)
@@ -114,48 +116,49 @@ module _ {A : Type 0} (answers : A → List (List ℕ) → Bool → Step → Typ
 
 -- what stands of a call whose method is there, as its row says
 pub row_answers : {A : Type 0} (answers : A → List (List ℕ) → Bool → Step → Type 0) (stands : A → MethodState → List (List ℕ) → Step → Type 0)
-    (methods : List A) (found : Option A) (index : ℕ) (got1 got : List InPiece) (p1 p : Progress) (call : Call) (shows : Shown) (given : List OutItem) (row : CallReport)
-    → found ≡ slice_get methods index → (found ≡ None → ⊥) → got ≡ got1
+    (methods : List A) (found : Option A) (job : Job) (got1 got : List InPiece) (p1 p : Progress) (call : Call) (shows : Shown) (given : List OutItem) (row : CallReport)
+    → found ≡ slice_get methods job.index → (found ≡ None → ⊥) → call.head ≡ job.head → got ≡ got1
     → IfSome found (λ m. (messages : List (List ℕ)) × Took got1 p1 messages × HasRun (answers m) (stands m) p1.told messages call shows)
     → (items : List OutItem) × IsGivenAs items given × ((answer : Step) → GivesOf p1.told answer call shows → IsOutcome call.head call.overdue p1.told answer items row.status)
-    → (row.method ≡ index) × (row.messages ≡ p1.taken) × (row.told ≡ p1.told)
-    → Answers (answers_by answers methods) got given row
-row_answers answers stands methods None index got1 got p1 p call shows given row is some same_got run gives says = absurd (some refl)
-row_answers {A} answers stands methods (Some m) index got1 got p1 p call shows given row is some same_got run gives says = record {
+    → (row.id ≡ job.id) × (row.method ≡ job.index) × (row.messages ≡ p1.taken) × (row.told ≡ p1.told)
+    → Answers (answers_by answers methods) got given job row
+row_answers answers stands methods None job got1 got p1 p call shows given row is some same_head same_got run gives says = absurd (some refl)
+row_answers {A} answers stands methods (Some m) job got1 got p1 p call shows given row is some same_head same_got run gives says = record {
   messages = run.0;
   said = p1.told;
   took = record { front = got1; progress = p1; begins = ([], append-nil got1 ∙ sym same_got); took = run.1; told = refl };
+  id = says.0;
+  method = says.1;
   answered = record {
-    head = call.head;
     overdue = call.overdue;
     items = gives.0;
-    outcome = λ answer answered. gives.2 answer (run.2.each answer
-        (subst (λ (o : Option A). IsSomeAnd o (λ n. answers n run.0 (is_end p1.told) answer)) (ap (λ (i : ℕ). slice_get methods i) says.0 ∙ sym is) answered));
+    outcome = λ answer answered. subst (λ (head : CallHead). IsOutcome head call.overdue p1.told answer gives.0 row.status) same_head (gives.2 answer (run.2.each answer
+        (subst (λ (o : Option A). IsSomeAnd o (λ n. answers n run.0 (is_end p1.told) answer)) (ap (λ (i : ℕ). slice_get methods i) says.1 ∙ sym is) answered)));
     ends = gives.1;
-    taken = says.1 ∙ run.1.count;
-    told = says.2;
+    taken = says.2 ∙ run.1.count;
+    told = says.3;
   };
 }
 
 -- the row of a call whose method isn't there
-pub row_without : {A : Type 0} (answers : A → List (List ℕ) → Bool → Step → Type 0) (methods : List A) (index : ℕ) (got : List InPiece) (p : Progress) (given : List OutItem) (row : CallReport) (head : CallHead)
-    → slice_get methods index ≡ None → Took got p [] → p.told ≡ None
-    → (row.method ≡ index) × (row.messages ≡ p.taken) × (row.told ≡ p.told)
-    → Answers (answers_by answers methods) got given row
-row_without {A} answers methods index got p given row head none took untold says = record {
+pub row_without : {A : Type 0} (answers : A → List (List ℕ) → Bool → Step → Type 0) (methods : List A) (job : Job) (got : List InPiece) (p : Progress) (given : List OutItem) (row : CallReport)
+    → slice_get methods job.index ≡ None → Took got p [] → p.told ≡ None → row ≡ unanswered job.id job.index
+    → Answers (answers_by answers methods) got given job row
+row_without {A} answers methods job got p given row none took untold is = subst (λ (r : CallReport). Answers (answers_by answers methods) got given job r) (sym is) (record {
   messages = [];
   said = None;
   took = record { front = got; progress = p; begins = ([], append-nil got); took = took; told = untold };
+  id = refl;
+  method = refl;
   answered = record {
-    head = head;
     overdue = false;
     items = given;
-    outcome = λ answer answered. absurd (subst (λ (o : Option A). IsSomeAnd o (λ n. answers n [] false answer)) (ap (λ (i : ℕ). slice_get methods i) says.0 ∙ none) answered);
+    outcome = λ answer answered. absurd (subst (λ (o : Option A). IsSomeAnd o (λ n. answers n [] false answer)) none answered);
     ends = inl refl;
-    taken = says.1 ∙ took.count;
-    told = says.2 ∙ untold;
+    taken = refl;
+    told = refl;
   };
-}
+})
 
 -- what stands of a call stands of the same
 pub same_outcome : (said0 said1 : Option Told) (call0 call1 : Call) (shown0 shown1 : Shown) (items : List OutItem) (status : Option ℕ) → said1 ≡ said0 → call1 ≡ call0 → shown1 ≡ shown0
@@ -170,3 +173,9 @@ same_outcome said0 said1 call0 call1 shown0 shown1 items status e_said e_call e_
 pub left_as : (placed : Bool) (items given : List OutItem) → MatchBool placed (given ≡ items ++ Left ∷ []) (given ≡ items) → IsGivenAs items given
 left_as true items given is = inr is
 left_as false items given is = inl is
+
+-- what is told of a call is put, or there was no room for it
+pub tells_of : (id : ℕ) (has_trailers was_live : Bool) (before after : List Answered)
+    → (after ≡ before) ⊎ (after ≡ before ++ record { id = id; has_trailers = has_trailers; was_live = was_live } ∷ []) → TellsOf id has_trailers before after
+tells_of id has_trailers was_live before after (inl same) = inl same
+tells_of id has_trailers was_live before after (inr more) = inr (was_live, more)

@@ -1,5 +1,5 @@
 -- On what the row of a call stands.
-use Rattle.std.specs.Prelude.{◌≡◌, ◌⊎◌, ℕ, Bool, List, [], ◌∷◌, ◌++◌, Option, IsSomeAnd, slice_get}
+use Rattle.std.specs.Prelude.{◌≡◌, ◌⊎◌, ℕ, Bool, List, [], ◌∷◌, ◌++◌, Option, None, IsSomeAnd, slice_get}
 use Rattle.lane.specs.Lawful.{count_of}
 use Rattle.account.specs.declared.call.Account.{Account}
 use Rattle.account.specs.declared.call.OutItem.{OutItem}
@@ -25,10 +25,9 @@ IsWithin narrow wide = (index : ℕ) (messages : List (List ℕ)) (ended : Bool)
 abbrev pub IsGivenAs : List OutItem → List OutItem → Type 0
 IsGivenAs items given = (given ≡ items) ⊎ (given ≡ items ++ Left ∷ [])
 
--- Of a call these messages were taken, this was told behind them, and this was given: an outcome of what the method of the row's index answers to what
--- was taken, whatever that is. The row's numbers are those of it.
-pub record IsAnswered (answers : ℕ → List (List ℕ) → Bool → Step → Type 0) (messages : List (List ℕ)) (said : Option Told) (given : List OutItem) (row : CallReport) : Type 0 where
-  pub head : CallHead
+-- Of a call with this head these messages were taken, this was told behind them, and this was given: an outcome of what the method of the row's
+-- index answers to what was taken, whatever that is. The row's numbers are those of it.
+pub record IsAnswered (answers : ℕ → List (List ℕ) → Bool → Step → Type 0) (head : CallHead) (messages : List (List ℕ)) (said : Option Told) (given : List OutItem) (row : CallReport) : Type 0 where
   pub overdue : Bool
   pub items : List OutItem
   pub outcome : (answer : Step) → answers row.method messages (is_end said) answer → IsOutcome head overdue said answer items row.status
@@ -36,11 +35,16 @@ pub record IsAnswered (answers : ℕ → List (List ℕ) → Bool → Step → T
   pub taken : row.messages ≡ count_of messages
   pub told : row.told ≡ said
 
--- A row stands on a lawful account.
-pub record StandsOn (answers : ℕ → List (List ℕ) → Bool → Step → Type 0) (account : Account) (row : CallReport) : Type 0 where
+-- A row stands on a lawful account of a call with this head.
+pub record StandsOn (answers : ℕ → List (List ℕ) → Bool → Step → Type 0) (head : CallHead) (account : Account) (row : CallReport) : Type 0 where
   pub lawful : IsLawful account
-  pub answered : IsAnswered answers account.taken account.told account.given row
+  pub answered : IsAnswered answers head account.taken account.told account.given row
 
 -- the account of a call of which nothing is known to be sent
 abbrev pub unsent : List InPiece → List (List ℕ) → Option Told → List OutItem → Account
 unsent fed messages said given = record { fed = bytes_of fed; shut = shut_of fed; taken = messages; told = said; given = given; sent = [] }
+
+-- the row of a call of which nothing was taken, and to which nothing was given
+abbrev pub unanswered : ℕ → ℕ → CallReport
+unanswered id method =
+    record { id = id; method = method; messages = 0; bytes = 0; told = None; given = 0; given_bytes = 0; status = None }

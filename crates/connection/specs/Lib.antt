@@ -1,3 +1,5 @@
+pub mod Orders
+pub mod OrderExamples
 pub mod Written
 pub mod Halves
 pub mod Streams
@@ -7,3 +9,4 @@ pub mod Calls
 pub mod Reports
 pub mod Seats
 pub mod SeatExamples
+pub mod Ids

@@ -1,32 +1,59 @@
 -- The rows of a connection's report, each on what the reader heard of its stream.
-use Rattle.std.specs.Prelude.{◌≡◌, ℕ, Bool, true, List, Some, All}
+use Rattle.std.specs.Prelude.{◌≡◌, ℕ, Bool, true, false, List, Some, All, map}
 use mathlib.Core.List.{IsPrefix}
 use Rattle.account.specs.declared.call.Account.{Account}
 use Rattle.account.specs.declared.call.Shut.{Shut}
+use Rattle.callhead.specs.declared.head.CallHead.{CallHead}
 use Rattle.handlers.specs.declared.step.Step.{Step as Answer}
 use Rattle.session.specs.declared.event.InEvent.{InEvent}
 use Rattle.session.specs.Events.{Events}
-use Rattle.calltable.specs.Steps.{Step, events_of, fed_by, shut_by, since, IsRising}
+use Rattle.calltable.specs.Steps.{Step, admitted, events_of, fed_by, head_of, shut_by, since, IsRising}
 use Rattle.connection.specs.declared.report.CallReport.{CallReport}
+use Rattle.connection.specs.declared.report.Ending.{Ending}
+use Rattle.connection.specs.declared.report.Ending.TheVariants as ending
 use Rattle.connection.specs.Accounts.{StandsOn}
 use Rattle.connection.specs.Calls.{is_admitted}
-
--- A call of the row's stream was admitted, and the row stands on its lawful account: what it was fed is what was heard of it, and if it was
--- shut, then in the way that was heard first (`calltable`'s `fed_by` and `shut_by`).
-pub record IsAccounted (answers : ℕ → List (List ℕ) → Bool → Answer → Type 0) (told : List Step) (row : CallReport) : Type 0 where
-  pub account : Account
-  pub known : is_admitted row.id told ≡ true
-  pub fed : account.fed ≡ fed_by row.id (since row.id told)
-  pub shut : (kind : Shut) → account.shut ≡ Some kind → shut_by row.id (since row.id told) ≡ Some kind
-  pub stands : StandsOn answers account row
 
 -- these events are the first of those of the bytes that came
 abbrev pub IsFront : List ℕ → List InEvent → Type 0
 IsFront came given = (all : List InEvent) → Events came all → IsPrefix given all
 
--- These bytes came, and each row is that of a call by the first of their events.
-pub record AreAccounted (answers : ℕ → List (List ℕ) → Bool → Answer → Type 0) (came : List ℕ) (rows : List CallReport) : Type 0 where
-  pub told : List Step
-  pub rising : IsRising told
-  pub front : IsFront came (events_of told)
-  pub each : All (λ row. IsAccounted answers told row) rows
+-- whether the input was heard to its end
+abbrev pub is_input_end : Ending → Bool
+is_input_end ending.InputEnded = true
+is_input_end ending.PeerGoaway = true
+is_input_end (ending.ProtocolError code) = false
+is_input_end ending.ReadFailed = false
+is_input_end ending.WriteFailed = false
+is_input_end ending.OutOfMemory = false
+
+-- These events are the first of those of the bytes that came, and where the input was heard to its end all of them.
+pub record AreHeard (end : Ending) (came : List ℕ) (given : List InEvent) : Type 0 where
+  pub front : IsFront came given
+  pub whole : is_input_end end ≡ true → Events came given
+
+module _ (answers : ℕ → List (List ℕ) → Bool → Answer → Type 0) (names : List ℕ → ℕ → Type 0) where
+  -- A call of the row's stream was admitted with a head whose path names the row's method. The row stands on the call's lawful account: what it
+  -- was fed is what was heard of it, and how it was shut is what was heard first (`calltable`'s `fed_by` and `shut_by`).
+  pub record IsAccounted (told : List Step) (row : CallReport) : Type 0 where
+    pub account : Account
+    pub head : CallHead
+    pub known : is_admitted row.id told ≡ true
+    pub opened : head_of row.id told ≡ Some head
+    pub named : names head.path row.method
+    pub fed : account.fed ≡ fed_by row.id (since row.id told)
+    pub shut : account.shut ≡ shut_by row.id (since row.id told)
+    pub stands : StandsOn answers head account row
+
+  -- There is a row for each of the calls of these streams, in this order.
+  pub record AreRows (told : List Step) (ids : List ℕ) (rows : List CallReport) : Type 0 where
+    pub each : All (λ row. IsAccounted told row) rows
+    pub streams : map (λ row. row.id) rows ≡ ids
+
+  -- These bytes came, and the rows are those of the calls by the first of their events, by all of them where the input was heard to its end: one
+  -- for each call that was admitted, in that order.
+  pub record AreAccounted (end : Ending) (came : List ℕ) (rows : List CallReport) : Type 0 where
+    pub told : List Step
+    pub rising : IsRising told
+    pub heard : AreHeard end came (events_of told)
+    pub calls : AreRows told (admitted told) rows

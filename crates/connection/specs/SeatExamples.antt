@@ -1,14 +1,14 @@
 -- Worked histories of a slot, computed: two calls that it served one after another. A list of steps has the latest first.
-use Rattle.std.proofs.Common.{lit<}
-use Rattle.std.specs.Prelude.{◌≡◌, refl, List, [], ◌∷◌, None}
+use Rattle.std.proofs.Common.{ap, arith, lit<}
+use Rattle.std.specs.Prelude.{◌≡◌, ◌≢◌, ◌<◌, ◌≤◌, refl, ℕ, zero, suc, List, [], ◌∷◌, None, Some, get_or}
 use Rattle.account.specs.declared.call.Shut.TheVariants as shut
 use Rattle.callbox.specs.declared.piece.InPiece.TheVariants as in_piece
 use Rattle.callbox.specs.InSides.{bytes_of, shut_of}
 use Rattle.callhead.specs.declared.head.CallHead.{CallHead}
 use Rattle.connbook.specs.declared.answers.Receipt.TheVariants.{Feed, Discard}
 use Rattle.session.specs.declared.event.InEvent.TheVariants as events
-use Rattle.calltable.specs.Steps.{Plain, Admitted, Received, Step, Told, fed_by, shut_by, since}
-use Rattle.connection.specs.Calls.{Rises}
+use Rattle.calltable.specs.Steps.{Plain, Admitted, Received, Step, Told, fed_by, head_of, shut_by, since}
+use Rattle.connection.specs.Calls.{IsFirstWith, Rises}
 
 -- the slot is at call 5, which was fed a byte; call 1 was fed two bytes, and ended; what comes for it later is lost
 abbrev pub two_calls : CallHead → List Step
@@ -40,3 +40,18 @@ seven_rises head = lit< tt
 
 pub data_rises : (head : CallHead) → Rises (two_calls head) (Told (events.Data 5 [] 9) (Received Feed))
 data_rises head = tt
+
+-- each call has the head with which it was admitted
+pub first_head : (head : CallHead) → head_of 1 (two_calls head) ≡ Some head
+first_head head = refl
+
+-- of three methods that are called a, b and b the second is the first with its path
+abbrev pub three_paths : List (List ℕ)
+three_paths = (97 ∷ []) ∷ (98 ∷ []) ∷ (98 ∷ []) ∷ []
+
+not_before : (place : ℕ) (d : List ℕ) → 0 ≤ place → place < 1 → get_or three_paths place d ≢ 98 ∷ []
+not_before zero d low high same = let heads : 97 ≡ 98 = ap (λ (path : List ℕ). get_or path 0 0) same in omega (arith, heads)
+not_before (suc place) d low high same = omega (arith, high)
+
+pub second_is_first : IsFirstWith (λ path. path) three_paths (98 ∷ []) 1
+second_is_first = record { within = lit< tt; found = λ d. refl; least = not_before }

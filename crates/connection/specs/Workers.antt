@@ -1,5 +1,5 @@
 -- What a worker did with the calls of its slot.
-use Rattle.std.specs.Prelude.{◌≡◌, ◌⊎◌, ℕ, Bool, List, [], ◌∷◌, ◌++◌, Option, None, IfSome, slice_get}
+use Rattle.std.specs.Prelude.{◌≡◌, ◌≤◌, ◌⊎◌, ℕ, Bool, true, List, [], ◌∷◌, ◌++◌, length, Option, None, IfSome, IsSome, IsSomeAnd, All, slice_get}
 use Rattle.lane.specs.Cuts.{segment}
 use Rattle.account.specs.declared.call.OutItem.{OutItem}
 use Rattle.account.specs.declared.call.Told.{Told}
@@ -9,37 +9,45 @@ use Rattle.callbox.specs.InSides.{Took}
 use Rattle.callbox.specs.Slots.{TookOf}
 use Rattle.handlers.specs.declared.step.Step.{Step}
 use Rattle.connection.specs.declared.report.CallReport.{CallReport}
-use Rattle.connection.specs.Accounts.{IsAnswered, StandsOn, unsent}
+use Rattle.connection.specs.declared.slot.Answered.{Answered}
+use Rattle.connection.specs.declared.slot.Job.{Job}
+use Rattle.connection.specs.Accounts.{IsAnswered}
 
 module _ (answers : ℕ → List (List ℕ) → Bool → Step → Type 0) where
-  -- Of a call this was got and given, and this is its row.
-  pub record Answers (got : List InPiece) (given : List OutItem) (row : CallReport) : Type 0 where
+  -- Of the call of this job this was got and given, and this is its row.
+  pub record Answers (got : List InPiece) (given : List OutItem) (job : Job) (row : CallReport) : Type 0 where
     pub messages : List (List ℕ)
     pub said : Option Told
     pub took : TookOf got messages said
-    pub answered : IsAnswered answers messages said given row
+    pub id : row.id ≡ job.id
+    pub method : row.method ≡ job.index
+    pub answered : IsAnswered answers job.head messages said given row
 
-  -- the same of each call, in order
-  abbrev pub EachAnswers : List (List InPiece) → List (List OutItem) → List CallReport → Type 0
-  EachAnswers [] [] [] = Unit {0}
-  EachAnswers [] [] (row ∷ rows) = ⊥
-  EachAnswers [] (given ∷ gives) rows = ⊥
-  EachAnswers (got ∷ gots) [] rows = ⊥
-  EachAnswers (got ∷ gots) (given ∷ gives) [] = ⊥
-  EachAnswers (got ∷ gots) (given ∷ gives) (row ∷ rows) = Answers got given row × EachAnswers gots gives rows
-
-  -- each call that a worker went on from, and maybe the one it is at, has its row
-  abbrev pub HaveRows : List (List InPiece) → List InPiece → List (List OutItem) → List CallReport → Type 0
-  HaveRows past got gives rows = EachAnswers past gives rows ⊎ EachAnswers (past ++ got ∷ []) gives rows
-
-  -- a row stands on the account of a call of which this was fed and given
-  abbrev pub Stands : List InPiece → List OutItem → CallReport → Type 0
-  Stands fed given row = (messages : List (List ℕ)) × (said : Option Told) × StandsOn answers (unsent fed messages said given) row
-
-  -- row number n of a slot stands on the account of its call of that number
-  abbrev pub EachStands : List (List InPiece) → List (List OutItem) → List CallReport → Type 0
-  EachStands feds gives rows = (n : ℕ) → IfSome (slice_get rows n) (λ row. Stands (segment feds n) (segment gives n) row)
+  -- Each job has its row, in the same order: row number n is of what was got and given of the call of that number. Of a call beyond
+  -- them nothing was given.
+  pub record HaveRows (gots : List (List InPiece)) (gives : List (List OutItem)) (jobs : List Job) (rows : List CallReport) : Type 0 where
+    pub count : length rows ≡ length jobs
+    pub each : (n : ℕ) → IfSome (slice_get jobs n) (λ job. IsSomeAnd (slice_get rows n) (λ row. Answers (segment gots n) (segment gives n) job row))
+    pub beyond : (n : ℕ) → length jobs ≤ n → segment gives n ≡ []
 
 -- nothing was got of a call yet, nothing taken, and nothing told
 abbrev pub IsFresh : List InPiece → Progress → Type 0
 IsFresh got progress = (got ≡ []) × Took [] progress [] × (progress.told ≡ None)
+
+-- a row says that the call of this stream was answered with trailers
+abbrev pub HasTrailers : ℕ → List CallReport → Type 0
+HasTrailers id rows = (n : ℕ) × IsSomeAnd (slice_get rows n) (λ row. (row.id ≡ id) × IsSome row.status)
+
+-- it was told of this call that it was answered with trailers
+abbrev pub TellsTrailers : ℕ → List Answered → Type 0
+TellsTrailers id [] = ⊥
+TellsTrailers id (answered ∷ told) = ((answered.id ≡ id) × (answered.has_trailers ≡ true)) ⊎ TellsTrailers id told
+
+-- where it was told of a call that it was answered with trailers, a row says so too
+abbrev pub AreTrue : List Answered → List CallReport → Type 0
+AreTrue told rows = All (λ answered. answered.has_trailers ≡ true → HasTrailers answered.id rows) told
+
+-- it was told of this call besides, if at all
+abbrev pub TellsOf : ℕ → Bool → List Answered → List Answered → Type 0
+TellsOf id has_trailers before after =
+    (after ≡ before) ⊎ ((was_live : Bool) × (after ≡ before ++ record { id = id; has_trailers = has_trailers; was_live = was_live } ∷ []))

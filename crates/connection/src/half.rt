@@ -1,8 +1,7 @@
 //! The half of a slot's call that its client sends, as the reader has it.
 
 ghost use Rattle.std.specs.Prelude.{◌≡◌, ℕ, List, [], ◌∷◌, ◌++◌, true, false, Some, IsSomeAnd, OnOk, OnErr};
-ghost use Rattle.account.specs.declared.call.Shut.{Shut as ShutOf};
-ghost use Rattle.callbox.specs.InSides.{fits_shut, pieces_of, shut_of};
+ghost use Rattle.callbox.specs.InSides.{pieces_of, shut_of};
 ghost use Rattle.calltable.specs.Halves.{IsHalf, grown};
 ghost use Rattle.calltable.specs.Steps.{Step, shut_at};
 
@@ -73,7 +72,7 @@ impl<L: Lane<Item = InPiece>> Half<Feeder<L>, FedShut<L>> {
         ensures ring { half_by (λ f. L.ring_of (L.in_name f.tx)) (λ s. L.ring_of (L.shut_name s.shut)) self.new ≡ half_by (λ f. L.ring_of (L.in_name f.tx)) (λ s. L.ring_of (L.shut_name s.shut)) self.old }
         ensures opened { result ≡ true → shown (λ f. L.put_in f.tx) (λ s. L.put_shut s.shut) (λ s. s.kind) self.new ≡ unfed }
         ensures past { result ≡ true → IsSomeAnd (half_by (λ f. L.past_in f.tx) (λ s. L.past_shut s.shut) self.old) (λ past. half_by (λ f. L.past_in f.tx) (λ s. L.past_shut s.shut) self.new ≡ Some (past ++ (shown (λ f. L.put_in f.tx) (λ s. L.put_shut s.shut) (λ s. s.kind) self.old).items ∷ [])) }
-        ensures was_shut { result ≡ true → IsSomeAnd (shown (λ f. L.put_in f.tx) (λ s. L.put_shut s.shut) (λ s. s.kind) self.old).shut (λ kind. fits_shut (shut_of (shown (λ f. L.put_in f.tx) (λ s. L.put_shut s.shut) (λ s. s.kind) self.old).items) kind ≡ kind) }
+        ensures was_shut { result ≡ true → IsSomeAnd (shown (λ f. L.put_in f.tx) (λ s. L.put_shut s.shut) (λ s. s.kind) self.old).shut (λ kind. shut_of (shown (λ f. L.put_in f.tx) (λ s. L.put_shut s.shut) (λ s. s.kind) self.old).items ≡ Some kind) }
         ensures stays { result ≡ false → (shown (λ f. L.put_in f.tx) (λ s. L.put_shut s.shut) (λ s. s.kind) self.new ≡ shown (λ f. L.put_in f.tx) (λ s. L.put_shut s.shut) (λ s. s.kind) self.old) × (half_by (λ f. L.past_in f.tx) (λ s. L.past_shut s.shut) self.new ≡ half_by (λ f. L.past_in f.tx) (λ s. L.past_shut s.shut) self.old) }
     {
         let shut = match mem::replace(self, Half::Moving) {
@@ -105,8 +104,8 @@ impl<L: Lane<Item = InPiece>> Half<Feeder<L>, FedShut<L>> {
         ensures accounts { IsSomeAnd (half_by (λ f. L.past_in f.tx ++ L.put_in f.tx ∷ []) (λ s. L.past_shut s.shut ++ L.put_shut s.shut ∷ []) self) (λ feds. (n : ℕ) → IsUnsent
             (segment feds n) (segment (L.past_out taker.rx ++ L.got taker.rx ∷ []) n)
             (segment (of_end (λ g. O.past_in g.tx) (λ s. O.past_shut s.shut) given ++ of_end (λ g. O.put_in g.tx) (λ s. O.put_shut s.shut) given ∷ []) n)) }
-        ensures shut { (kind : ShutOf) → shut_of (shown (λ f. L.put_in f.tx) (λ s. L.put_shut s.shut) (λ s. s.kind) self).items ≡ Some kind
-            → (shown (λ f. L.put_in f.tx) (λ s. L.put_shut s.shut) (λ s. s.kind) self).shut ≡ Some kind }
+        ensures shut { ((shut : L.Shut) → L.was_placed shut ≡ true) → shut_of (shown (λ f. L.put_in f.tx) (λ s. L.put_shut s.shut) (λ s. s.kind) self).items
+            ≡ (shown (λ f. L.put_in f.tx) (λ s. L.put_shut s.shut) (λ s. s.kind) self).shut }
     {
         match self {
             Half::Open(feeder) => settle_unsent(End::Open(feeder), taker, given),

@@ -2,17 +2,18 @@
 
 ghost use Rattle.std.specs.Prelude.{◌≡◌, [], ◌∷◌, ◌++◌, IfSome};
 ghost use Rattle.lane.specs.End.{of_end};
+ghost use Rattle.lane.specs.Ring.{in_name, out_name, put_in, taken};
 ghost use Rattle.handlers.specs.Listed.{listed};
 ghost use Rattle.connection.specs.Accounts.{IsWithin, answers_by};
-ghost use Rattle.connection.specs.Workers.{HaveRows, IsFresh};
+ghost use Rattle.connection.specs.Workers.{AreTrue, HaveRows, IsFresh};
 
 use crate::answering::Answering;
-use crate::slot::{InLane, OutLane};
+use crate::slot::{Answered, InLane, Job, OutLane};
 use crate::worker::{Seen, Worker};
 use account::OutItem;
 use callbox::{GivenShut, Giver, InPiece, Taker};
 use handlers::Methods;
-use lane::{End, Lane, RingLane};
+use lane::{End, Lane, RingIn, RingLane, RingOut};
 use std::marker::PhantomData;
 use std::snapshot::Snapshot;
 use std::sync::ledger::Ledger;
@@ -62,12 +63,22 @@ where
     }
 }
 
-/// A worker with its ends of the lanes of its slot, of which nothing was made use of.
+/// A worker's ends of the lanes and rings of its slot, of which nothing was made use of.
+#[derive(Drop)]
+pub(crate) struct Ends {
+    pub(crate) taker: Taker<InLane>,
+    pub(crate) giver: Giver<OutLane>,
+    /// Where its calls come from.
+    pub(crate) jobs: RingOut<Job>,
+    /// Where it tells of each call that it has answered.
+    pub(crate) answers: RingIn<Answered>,
+}
+
+/// A worker with its ends.
 #[derive(Drop)]
 struct WithEnds<A: Ledger, B: Ledger, C: Ledger> {
     worker: Worker<A, B, C>,
-    taker: Taker<InLane>,
-    giver: Giver<OutLane>,
+    ends: Ends,
 }
 
 impl<A: Ledger, B: Ledger, C: Ledger, M: Answering, R: Wait + Clock> Work<
@@ -75,30 +86,36 @@ impl<A: Ledger, B: Ledger, C: Ledger, M: Answering, R: Wait + Clock> Work<
     R,
     Seen<InLane, OutLane>,
 > for WithEnds<A, B, C> {
-    ghost can_work = { λ it. IsFresh (⟦<RingLane<InPiece> as Lane>⟧.got it.taker.rx) it.taker.progress × (⟦<RingLane<InPiece> as Lane>⟧.past_out it.taker.rx ≡ [])
-        × (⟦<RingLane<OutItem> as Lane>⟧.past_in it.giver.tx ≡ []) × (⟦<RingLane<OutItem> as Lane>⟧.put_in it.giver.tx ≡ []) };
+    ghost can_work = { λ it. IsFresh (⟦<RingLane<InPiece> as Lane>⟧.got it.ends.taker.rx) it.ends.taker.progress × (⟦<RingLane<InPiece> as Lane>⟧.past_out it.ends.taker.rx ≡ [])
+        × (⟦<RingLane<OutItem> as Lane>⟧.past_in it.ends.giver.tx ≡ []) × (⟦<RingLane<OutItem> as Lane>⟧.put_in it.ends.giver.tx ≡ []) × (taken it.ends.jobs ≡ []) × (put_in it.ends.answers ≡ []) };
 
-    ghost comes_to = { λ it seen. (⟦<RingLane<InPiece> as Lane>⟧.ring_of (⟦<RingLane<InPiece> as Lane>⟧.out_name seen.taker.rx) ≡ ⟦<RingLane<InPiece> as Lane>⟧.ring_of (⟦<RingLane<InPiece> as Lane>⟧.out_name it.taker.rx))
-        × (⟦<RingLane<OutItem> as Lane>⟧.ring_of (of_end (λ g. ⟦<RingLane<OutItem> as Lane>⟧.in_name g.tx) (λ s. ⟦<RingLane<OutItem> as Lane>⟧.shut_name s.shut) seen.end) ≡ ⟦<RingLane<OutItem> as Lane>⟧.ring_of (⟦<RingLane<OutItem> as Lane>⟧.in_name it.giver.tx))
-        × IfSome seen.calls (λ rows. HaveRows M.known (⟦<RingLane<InPiece> as Lane>⟧.past_out seen.taker.rx) (⟦<RingLane<InPiece> as Lane>⟧.got seen.taker.rx)
-        (of_end (λ g. ⟦<RingLane<OutItem> as Lane>⟧.past_in g.tx) (λ s. ⟦<RingLane<OutItem> as Lane>⟧.past_shut s.shut ++ ⟦<RingLane<OutItem> as Lane>⟧.put_shut s.shut ∷ []) seen.end) rows.items) };
+    ghost comes_to = { λ it seen. (⟦<RingLane<InPiece> as Lane>⟧.ring_of (⟦<RingLane<InPiece> as Lane>⟧.out_name seen.taker.rx) ≡ ⟦<RingLane<InPiece> as Lane>⟧.ring_of (⟦<RingLane<InPiece> as Lane>⟧.out_name it.ends.taker.rx))
+        × (⟦<RingLane<OutItem> as Lane>⟧.ring_of (of_end (λ g. ⟦<RingLane<OutItem> as Lane>⟧.in_name g.tx) (λ s. ⟦<RingLane<OutItem> as Lane>⟧.shut_name s.shut) seen.end) ≡ ⟦<RingLane<OutItem> as Lane>⟧.ring_of (⟦<RingLane<OutItem> as Lane>⟧.in_name it.ends.giver.tx))
+        × (out_name seen.jobs ≡ out_name it.ends.jobs) × (in_name seen.answers ≡ in_name it.ends.answers)
+        × IfSome seen.calls (λ rows. HaveRows M.known (⟦<RingLane<InPiece> as Lane>⟧.past_out seen.taker.rx ++ ⟦<RingLane<InPiece> as Lane>⟧.got seen.taker.rx ∷ [])
+        (of_end (λ g. ⟦<RingLane<OutItem> as Lane>⟧.past_in g.tx) (λ s. ⟦<RingLane<OutItem> as Lane>⟧.past_shut s.shut) seen.end ++ of_end (λ g. ⟦<RingLane<OutItem> as Lane>⟧.put_in g.tx) (λ s. ⟦<RingLane<OutItem> as Lane>⟧.put_shut s.shut) seen.end ∷ []) (taken seen.jobs) rows.items)
+        × IfSome seen.calls (λ rows. AreTrue (put_in seen.answers) rows.items) };
 
     fn work(self, rt: &R, methods: &Methods) -> Seen<InLane, OutLane> {
-        let WithEnds {
-            worker,
+        let WithEnds { worker, ends } = self;
+        let Ends {
             taker,
             giver,
-        } = self;
-        worker.work::<InLane, OutLane, M, R>(rt, methods, taker, giver)
+            jobs,
+            answers,
+        } = ends;
+        worker.work::<InLane, OutLane, M, R>(rt, methods, taker, giver, jobs, answers)
     }
 }
 
-/// What a worker was given. It promises that the ends that it hands back are of the same lanes, and that the rows of its calls are
-/// as these ends say, and as is known of what methods answer.
+/// What a worker was given. It promises that the ends that it hands back are of the same lanes and rings, that each job it took
+/// has its row, as these ends say, and as is known of what methods answer, and that what it told of its calls is true.
 #[derive(Drop)]
 pub(crate) struct Hired<I: Lane<Item = InPiece>, O: Lane<Item = OutItem>, M: Answering> {
     pub(crate) taker: Snapshot<Taker<I>>,
     pub(crate) giver: Snapshot<Giver<O>>,
+    pub(crate) jobs: Snapshot<RingOut<Job>>,
+    pub(crate) answers: Snapshot<RingIn<Answered>>,
     known: PhantomData<M>,
 }
 
@@ -106,8 +123,10 @@ impl<I: Lane<Item = InPiece>, O: Lane<Item = OutItem>, M: Answering> Promise<See
     for Hired<I, O, M> {
     ghost kept_by = { λ hired seen. (I.ring_of (I.out_name seen.taker.rx) ≡ I.ring_of (I.out_name hired.taker.value.rx))
         × (O.ring_of (of_end (λ g. O.in_name g.tx) (λ s. O.shut_name s.shut) seen.end) ≡ O.ring_of (O.in_name hired.giver.value.tx))
-        × IfSome seen.calls (λ rows. HaveRows M.known (I.past_out seen.taker.rx) (I.got seen.taker.rx)
-        (of_end (λ g. O.past_in g.tx) (λ s. O.past_shut s.shut ++ O.put_shut s.shut ∷ []) seen.end) rows.items) };
+        × (out_name seen.jobs ≡ out_name hired.jobs.value) × (in_name seen.answers ≡ in_name hired.answers.value)
+        × IfSome seen.calls (λ rows. HaveRows M.known (I.past_out seen.taker.rx ++ I.got seen.taker.rx ∷ [])
+        (of_end (λ g. O.past_in g.tx) (λ s. O.past_shut s.shut) seen.end ++ of_end (λ g. O.put_in g.tx) (λ s. O.put_shut s.shut) seen.end ∷ []) (taken seen.jobs) rows.items)
+        × IfSome seen.calls (λ rows. AreTrue (put_in seen.answers) rows.items) };
 }
 
 /// Starts a worker with these ends. None where no thread can be had.
@@ -115,8 +134,7 @@ pub(crate) fn hire<A, B, C, M, R>(
     rt: R,
     worker: Worker<A, B, C>,
     methods: Arc<Methods>,
-    taker: Taker<InLane>,
-    giver: Giver<OutLane>,
+    ends: Ends,
 ) -> Option<PromisedHandle<Seen<InLane, OutLane>, Hired<InLane, OutLane, M>>>
 where
     A: Ledger + Send + Sync + 'static,
@@ -124,20 +142,19 @@ where
     C: Ledger + Send + Sync + 'static,
     M: Answering + Send + Sync + 'static,
     R: Threads + Wait + Clock + Copy + Send + Sync + Drop + 'static,
-    requires fresh { IsFresh (⟦<RingLane<InPiece> as Lane>⟧.got taker.rx) taker.progress × (⟦<RingLane<InPiece> as Lane>⟧.past_out taker.rx ≡ []) }
-    requires ungiven { (⟦<RingLane<OutItem> as Lane>⟧.past_in giver.tx ≡ []) × (⟦<RingLane<OutItem> as Lane>⟧.put_in giver.tx ≡ []) }
+    requires fresh { IsFresh (⟦<RingLane<InPiece> as Lane>⟧.got ends.taker.rx) ends.taker.progress × (⟦<RingLane<InPiece> as Lane>⟧.past_out ends.taker.rx ≡ []) }
+    requires ungiven { (⟦<RingLane<OutItem> as Lane>⟧.past_in ends.giver.tx ≡ []) × (⟦<RingLane<OutItem> as Lane>⟧.put_in ends.giver.tx ≡ []) }
+    requires unused { (taken ends.jobs ≡ []) × (put_in ends.answers ≡ []) }
     requires known { IsWithin M.known (answers_by (λ method. answers (method.vtable, method.value)) (listed methods.value)) }
-    ensures ends { IfSome result (λ handle. (handle.promise.taker.value ≡ taker) × (handle.promise.giver.value ≡ giver)) }
+    ensures lanes { IfSome result (λ handle. (handle.promise.taker.value ≡ ends.taker) × (handle.promise.giver.value ≡ ends.giver)) }
+    ensures rings { IfSome result (λ handle. (handle.promise.jobs.value ≡ ends.jobs) × (handle.promise.answers.value ≡ ends.answers)) }
 {
     let hired: Hired<InLane, OutLane, M> = Hired {
-        taker: Snapshot::of(&taker),
-        giver: Snapshot::of(&giver),
+        taker: Snapshot::of(&ends.taker),
+        giver: Snapshot::of(&ends.giver),
+        jobs: Snapshot::of(&ends.jobs),
+        answers: Snapshot::of(&ends.answers),
         known: PhantomData,
     };
-    let work = WithEnds {
-        worker,
-        taker,
-        giver,
-    };
-    start::<_, M, _, _, _>(rt, hired, work, methods)
+    start::<_, M, _, _, _>(rt, hired, WithEnds { worker, ends }, methods)
 }

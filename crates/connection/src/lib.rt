@@ -12,20 +12,22 @@
 //! - `slot`: what the threads see of a slot; `slots`: what the reader has of all, `seat` of each, and `half` of the half of
 //!   its call; `senders`: what the writer has.
 //! - `worker`: what a worker does with its calls; `hired`: its thread, and what it promises; `answering`: what methods answer.
-//! - `orders`: what the reader has the writer do.
+//! - `orders`: what the reader has the writer do, and its end of their ring; `inbox`: the writer's.
 //! - `reader`: what becomes of each event; `writer`: orders and credit in, frames out.
-//! - `serve`: one connection from its first byte to its last; `laws`: what its clauses come to by the frames.
+//! - `serve`: one connection from its first byte to its last; `row_order`: the rows of its calls in order; `laws`: what its clauses come to by the frames.
 #![tactic(auto)]
 
 mod answering;
 mod half;
 mod hired;
+mod inbox;
 mod intake;
 pub mod laws;
 mod orders;
 mod outlet;
 mod reader;
 mod report;
+mod row_order;
 mod seat;
 mod senders;
 mod serve;

@@ -1,7 +1,6 @@
 //! What becomes of each event of a connection.
 
-ghost use Rattle.std.specs.Prelude.{◌≡◌, ◌≢◌, ◌<◌, ℕ, List, [], ◌∷◌, ◌++◌, All, None, Some, Ok, IfOk, OnOk, OnErr, IfSome, IsSome};
-ghost use Rattle.callhead.specs.declared.head.CallHead.{CallHead as Head};
+ghost use Rattle.std.specs.Prelude.{◌≡◌, ◌≢◌, ◌<◌, ℕ, List, [], ◌∷◌, ◌++◌, None, Some, Ok, IfOk, IfErr, OnOk, OnErr, IfSome};
 ghost use Rattle.account.specs.declared.call.Shut.TheVariants as shut;
 ghost use Rattle.connbook.specs.declared.answers.Receipt.TheVariants.{Discard};
 ghost use Rattle.h2frame.specs.ErrorCode.{error_number};
@@ -9,18 +8,19 @@ ghost use Rattle.session.specs.declared.event.InEvent.{InEvent as Event};
 ghost use Rattle.session.specs.declared.event.InEvent.TheVariants as events;
 ghost use Rattle.session.specs.CoreStates.{Reached};
 ghost use Rattle.calltable.specs.Kept.{Concerns};
-ghost use Rattle.calltable.specs.Steps.{Fate, IsRising, Plain, Received, Step, Told, events_of, shut_at};
+ghost use Rattle.calltable.specs.Steps.{Fate, IsRising, Plain, Received, Step, Told, admitted, events_of, shut_at};
 ghost use Rattle.std.specs.Io.KnownBytes.{Consumes};
 ghost use Rattle.handlers.specs.Listed.{listed};
 ghost use Rattle.connection.specs.Accounts.{IsWithin, answers_by};
-ghost use Rattle.connection.specs.Reports.{IsAccounted, IsFront};
+ghost use Rattle.connection.specs.Calls.{AreNames, IsFirstWith};
+ghost use Rattle.connection.specs.Reports.{AreHeard, AreRows, IsFront};
 ghost use Rattle.connection.specs.Seats.{Hears, HearsAll, HearsSome, Keeps, Kept};
 
 use crate::answering::Answering;
 use crate::intake::Intake;
-use crate::orders::{Fresh, Opened, Orders};
+use crate::orders::{Fresh, Opened, Orders, Route};
 use crate::report::{CallReport, Ending};
-use crate::slot::Job;
+use crate::slot::{Answered, Job};
 use crate::slots::{Made, Slots};
 use crate::worker::moment;
 use account::Shut;
@@ -29,7 +29,7 @@ use callhead::{CallHead, HeadFault, unknown_method};
 use connbook::{AdmitFault, Receipt};
 use device::ConnRead;
 use h2frame::{ErrorCode, StreamId};
-use handlers::Methods;
+use handlers::{Method, Methods};
 use lists::Sequence;
 use outwriter::Control;
 use session::{Control as PeerControl, InCore, InEvent};
@@ -51,19 +51,12 @@ const STEP: u64 = 1;
 /// How many streams a client may begin (`flow::Halves`); at the last of them it is told to open no more.
 const STREAMS: u32 = 4096;
 
-/// A slot that serves a call: its number, and what the writer is told of it.
-#[derive(Drop)]
-struct Engaged {
-    place: usize,
-    opened: Opened,
-}
-
 /// What the reading thread of a connection has.
 #[derive(Drop)]
-pub(crate) struct Reader<A: Ledger, B: Ledger, C: Ledger, M: Answering, R: Drop> {
+pub(crate) struct Reader<A: Ledger, B: Ledger, C: Ledger, M: Answering, N: Route, R: Drop> {
     pub(crate) rt: R,
     pub(crate) alloc: Global,
-    pub(crate) orders: Orders<A, B, C>,
+    pub(crate) orders: Orders<A, B, C, N>,
     pub(crate) slots: Slots<M>,
     /// How many streams were begun.
     begun: u32,
@@ -73,21 +66,22 @@ pub(crate) struct Reader<A: Ledger, B: Ledger, C: Ledger, M: Answering, R: Drop>
     start: Instant,
 }
 
-impl<A, B, C, M, R> Reader<A, B, C, M, R>
+impl<A, B, C, M, N, R> Reader<A, B, C, M, N, R>
 where
     A: Ledger + Send + Sync + 'static,
     B: Ledger + Send + Sync + 'static,
     C: Ledger + Send + Sync + 'static,
     M: Answering + Send + Sync + 'static,
+    N: Route,
     R: Threads + Wait + Clock + Copy + Send + Sync + Drop + 'static,
 {
     pub(crate) fn new(
         rt: R,
         alloc: Global,
-        orders: Orders<A, B, C>,
+        orders: Orders<A, B, C, N>,
         start: Instant,
-    ) -> Reader<A, B, C, M, R>
-        ensures { Kept [] result.slots }
+    ) -> Reader<A, B, C, M, N, R>
+        ensures { Kept M.names [] result.slots }
     {
         Reader {
             rt,
@@ -108,19 +102,23 @@ where
         methods: &Arc<Methods>,
     ) -> Ending
         requires known { IsWithin M.known (answers_by (λ method. answers (method.vtable, method.value)) (listed methods.now.value)) }
+        requires named { AreNames (IsFirstWith (λ method. (⟦<dyn Method as Method>⟧ method.vtable).name method.value) (listed methods.now.value)) M.names }
         requires whole { (intake.old.came.parts ≡ A.parts) × (0 < A.parts) × (intake.old.calls.parts ≡ B.parts) × (0 < B.parts) }
         ensures whole { (intake.new.came.parts ≡ A.parts) × (0 < A.parts) × (intake.new.calls.parts ≡ B.parts) × (0 < B.parts) }
-        ensures heard { Kept [] self.old.slots → (came : List ℕ) × Consumes (I.remaining input.old) (I.remaining input.new) came
-            × ((told : List Step) × Kept told self.new.slots × IsFront came (events_of told)) }
+        ensures heard { Kept M.names [] self.old.slots → (came : List ℕ) × Consumes (I.remaining input.old) (I.remaining input.new) came
+            × ((told : List Step) × Kept M.names told self.new.slots × AreHeard result came (events_of told)) }
     {
         let mut core = InCore::new(self.alloc);
         let mut piece = [0u8; PIECE];
         let rt = self.rt;
         'pieces: for _ in rt.forever() {
+            if self.orders.shared.has_stopped() {
+                return self.input_ended();
+            }
             let Ok(count) = input.read(&mut piece) else {
                 return Ending::ReadFailed;
             };
-            if count == 0 || self.orders.shared.has_stopped() {
+            if count == 0 {
                 return self.input_ended();
             }
             match self.take(intake, &mut core, &piece[..count], methods) {
@@ -134,10 +132,10 @@ where
         unreachable!()
     }
 
-    /// Ends all halves and workers, and lets the writer end: the rows of all calls, or none for want of memory.
-    pub(crate) fn end(self) -> Option<Vec<CallReport>>
-        ensures rows { (told : List Step) → Kept told self.slots → (all : List Step) × (events_of all ≡ events_of told)
-            × IsRising all × IfSome result (λ rows. All (λ row. IsAccounted M.known all row) rows.items) }
+    /// Ends all halves and workers, and lets the writer end: the rows of all calls, or none for want of memory; and what was ordered.
+    pub(crate) fn end(self) -> (Option<Vec<CallReport>>, Orders<A, B, C, N>)
+        ensures rows { (told : List Step) → Kept M.names told self.slots → (all : List Step) × (events_of all ≡ events_of told)
+            × IsRising all × IfSome result.0 (λ rows. AreRows M.known M.names all (admitted all) rows.items) }
     {
         let mut reader = self;
         reader.cut_all();
@@ -152,12 +150,12 @@ where
         let calls = slots.end(&rt);
         orders.put(&rt, Control::Close);
         orders.shared.writer.ring();
-        calls
+        (calls, orders)
     }
 
     /// Behind the last event: the calls that their clients neither ended nor reset are reset.
     fn cut_all(&mut self)
-        ensures heard { HearsAll [] self.old.slots self.new.slots }
+        ensures heard { HearsAll M.names [] self.old.slots self.new.slots }
     {
         'places: for place in 0..self.slots.len() {
             self.cut_off(place);
@@ -166,7 +164,7 @@ where
 
     /// The same for the slot of this number.
     fn cut_off(&mut self, place: usize)
-        ensures heard { HearsAll [] self.old.slots self.new.slots }
+        ensures heard { HearsAll M.names [] self.old.slots self.new.slots }
     {
         let rt = self.rt;
         let Some(id) = self.slots.fed(place) else {
@@ -187,6 +185,7 @@ where
 
     /// Ends the connection with an error, which the peer is told.
     fn fail(&mut self, code: ErrorCode, ending: Ending) -> Ending
+        ensures ending { result ≡ ending }
         ensures slots { self.new.slots ≡ self.old.slots }
     {
         let last = self.orders.shared.last();
@@ -205,12 +204,13 @@ where
         methods: &Arc<Methods>,
     ) -> Result<Option<ErrorCode>, AllocError>
         requires known { IsWithin M.known (answers_by (λ method. answers (method.vtable, method.value)) (listed methods.now.value)) }
+        requires named { AreNames (IsFirstWith (λ method. (⟦<dyn Method as Method>⟧ method.vtable).name method.value) (listed methods.now.value)) M.names }
         requires whole { (intake.old.came.parts ≡ A.parts) × (0 < A.parts) × (intake.old.calls.parts ≡ B.parts) × (0 < B.parts) }
         ensures whole { (intake.new.came.parts ≡ A.parts) × (0 < A.parts) × (intake.new.calls.parts ≡ B.parts) × (0 < B.parts) }
         ensures on { result ≡ Ok None → (bytes : List ℕ) (before : List Event) → Reached bytes before core.old
-            → (given : List Event) × Reached (bytes ++ piece.now) (before ++ given) core.new × HearsAll given self.old.slots self.new.slots }
-        ensures last { result ≢ Ok None → (bytes : List ℕ) (before : List Event) (told : List Step) → Reached bytes before core.old → events_of told ≡ before → Kept told self.old.slots
-            → (all : List Step) × Kept all self.new.slots × IsFront (bytes ++ piece.now) (events_of all) }
+            → (given : List Event) × Reached (bytes ++ piece.now) (before ++ given) core.new × HearsAll M.names given self.old.slots self.new.slots }
+        ensures last { result ≢ Ok None → (bytes : List ℕ) (before : List Event) (told : List Step) → Reached bytes before core.old → events_of told ≡ before → Kept M.names told self.old.slots
+            → (all : List Step) × Kept M.names all self.new.slots × IsFront (bytes ++ piece.now) (events_of all) }
     {
         let events = core.feed(piece)?;
         if let Some(code) = self.heed(intake, events, methods)? {
@@ -232,10 +232,11 @@ where
         methods: &Arc<Methods>,
     ) -> Result<Option<ErrorCode>, AllocError>
         requires known { IsWithin M.known (answers_by (λ method. answers (method.vtable, method.value)) (listed methods.now.value)) }
+        requires named { AreNames (IsFirstWith (λ method. (⟦<dyn Method as Method>⟧ method.vtable).name method.value) (listed methods.now.value)) M.names }
         requires whole { (intake.old.came.parts ≡ A.parts) × (0 < A.parts) × (intake.old.calls.parts ≡ B.parts) × (0 < B.parts) }
         ensures whole { (intake.new.came.parts ≡ A.parts) × (0 < A.parts) × (intake.new.calls.parts ≡ B.parts) × (0 < B.parts) }
-        ensures all { result ≡ Ok None → HearsAll events.items self.old.slots self.new.slots }
-        ensures some { HearsSome events.items self.old.slots self.new.slots }
+        ensures all { result ≡ Ok None → HearsAll M.names events.items self.old.slots self.new.slots }
+        ensures some { HearsSome M.names events.items self.old.slots self.new.slots }
     {
         'events: for event in events {
             if let Some(code) = self.follow(intake, event, methods)? {
@@ -253,10 +254,11 @@ where
         methods: &Arc<Methods>,
     ) -> Result<Option<ErrorCode>, AllocError>
         requires known { IsWithin M.known (answers_by (λ method. answers (method.vtable, method.value)) (listed methods.now.value)) }
+        requires named { AreNames (IsFirstWith (λ method. (⟦<dyn Method as Method>⟧ method.vtable).name method.value) (listed methods.now.value)) M.names }
         requires whole { (intake.old.came.parts ≡ A.parts) × (0 < A.parts) × (intake.old.calls.parts ≡ B.parts) × (0 < B.parts) }
         ensures whole { (intake.new.came.parts ≡ A.parts) × (0 < A.parts) × (intake.new.calls.parts ≡ B.parts) × (0 < B.parts) }
-        ensures heard { OnOk result (HearsAll (event ∷ []) self.old.slots self.new.slots) }
-        ensures memory { OnErr result (HearsSome (event ∷ []) self.old.slots self.new.slots) }
+        ensures heard { OnOk result (HearsAll M.names (event ∷ []) self.old.slots self.new.slots) }
+        ensures memory { OnErr result (HearsSome M.names (event ∷ []) self.old.slots self.new.slots) }
     {
         let rt = self.rt;
         match event {
@@ -296,10 +298,11 @@ where
         methods: &Arc<Methods>,
     ) -> Result<(), AllocError>
         requires known { IsWithin M.known (answers_by (λ method. answers (method.vtable, method.value)) (listed methods.now.value)) }
+        requires named { AreNames (IsFirstWith (λ method. (⟦<dyn Method as Method>⟧ method.vtable).name method.value) (listed methods.now.value)) M.names }
         requires whole { (intake.old.came.parts ≡ A.parts) × (0 < A.parts) × (intake.old.calls.parts ≡ B.parts) × (0 < B.parts) }
         ensures whole { (intake.new.came.parts ≡ A.parts) × (0 < A.parts) × (intake.new.calls.parts ≡ B.parts) × (0 < B.parts) }
-        ensures heard { OnOk result (HearsAll (events.Open id head ∷ []) self.old.slots self.new.slots) }
-        ensures memory { OnErr result (HearsSome (events.Open id head ∷ []) self.old.slots self.new.slots) }
+        ensures heard { OnOk result (HearsAll M.names (events.Open id head ∷ []) self.old.slots self.new.slots) }
+        ensures memory { OnErr result (HearsSome M.names (events.Open id head ∷ []) self.old.slots self.new.slots) }
     {
         let rt = self.rt;
         self.begin(id);
@@ -348,51 +351,54 @@ where
         methods: &Arc<Methods>,
     ) -> Result<(), AllocError>
         requires known { IsWithin M.known (answers_by (λ method. answers (method.vtable, method.value)) (listed methods.now.value)) }
+        requires named { M.names head.path index }
         requires above { self.old.slots.last < id }
-        ensures heard { OnOk result (HearsAll (events.Open id head ∷ []) self.old.slots self.new.slots) }
-        ensures memory { OnErr result (HearsSome (events.Open id head ∷ []) self.old.slots self.new.slots) }
+        ensures heard { OnOk result (HearsAll M.names (events.Open id head ∷ []) self.old.slots self.new.slots) }
+        ensures memory { OnErr result (HearsSome M.names (events.Open id head ∷ []) self.old.slots self.new.slots) }
     {
         let rt = self.rt;
         let opened = match head.timeout {
             Some(_) => moment(&rt, self.start),
             None => 0,
         };
-        let Some(engaged) = self.engage(id, methods)? else {
-            return self.turn_away(id, AdmitFault::Draining);
-        };
-        self.orders.put(&rt, Control::Open(id, engaged.opened));
         let job = Job {
             id,
             index,
             head,
             opened,
         };
-        self.slots.hand_over(&rt, engaged.place, job);
+        let Ok(opened) = self.engage(job, methods)? else {
+            return self.turn_away(id, AdmitFault::Draining);
+        };
+        self.orders.put(&rt, Control::Open(id, opened));
         Ok(())
     }
 
-    /// A slot for a call of this stream. Where all are at calls, one of them is at a call that is no longer live, and the reader waits
-    /// for it. None where the writer has stopped: then no call is live.
+    /// Hands a call to a slot. Where all are at calls, one of them is at a call that is no longer live, and the reader waits for it. The
+    /// call is handed back where the writer has stopped: then no call is live.
     fn engage(
         &mut self,
-        id: StreamId,
+        job: Job,
         methods: &Arc<Methods>,
-    ) -> Result<Option<Engaged>, AllocError>
+    ) -> Result<Result<Opened, Job>, AllocError>
         requires known { IsWithin M.known (answers_by (λ method. answers (method.vtable, method.value)) (listed methods.now.value)) }
-        requires above { self.old.slots.last < id }
-        ensures engaged { IfOk result (λ engaged. IsSome engaged → (head : Head) → HearsAll (events.Open id head ∷ []) self.old.slots self.new.slots) }
-        ensures none { IfOk result (λ engaged. engaged ≡ None → HearsAll [] self.old.slots self.new.slots) }
-        ensures memory { OnErr result (HearsAll [] self.old.slots self.new.slots) }
+        requires named { M.names job.head.path job.index }
+        requires above { self.old.slots.last < job.id }
+        ensures engaged { IfOk result (λ engaged. OnOk engaged (HearsAll M.names (events.Open job.id job.head ∷ []) self.old.slots self.new.slots)) }
+        ensures none { IfOk result (λ engaged. OnErr engaged (HearsAll M.names [] self.old.slots self.new.slots)) }
+        ensures memory { OnErr result (HearsAll M.names [] self.old.slots self.new.slots) }
     {
         let rt = self.rt;
+        let mut job = job;
         'looks: for _ in rt.forever() {
             let mark = self.orders.shared.reader.mark();
-            if let Some(engaged) = self.engage_now(id, methods)? {
-                return Ok(Some(engaged));
+            match self.engage_now(job, methods)? {
+                Ok(opened) => return Ok(Ok(opened)),
+                Err(back) => job = back,
             }
             let shared = &self.orders.shared;
             if shared.has_stopped() {
-                return Ok(None);
+                return Ok(Err(job));
             }
             self.slots.ring_noted();
             shared.writer.ring();
@@ -403,40 +409,73 @@ where
         unreachable!()
     }
 
-    /// A slot for a call of this stream: a free one, or a new one. None where all are at calls.
+    /// Hands a call to a free slot, or to a new one. It is handed back where all are at calls.
     fn engage_now(
         &mut self,
-        id: StreamId,
+        job: Job,
         methods: &Arc<Methods>,
-    ) -> Result<Option<Engaged>, AllocError>
+    ) -> Result<Result<Opened, Job>, AllocError>
         requires known { IsWithin M.known (answers_by (λ method. answers (method.vtable, method.value)) (listed methods.now.value)) }
-        requires above { self.old.slots.last < id }
-        ensures engaged { IfOk result (λ engaged. IsSome engaged → (head : Head) → HearsAll (events.Open id head ∷ []) self.old.slots self.new.slots) }
-        ensures none { IfOk result (λ engaged. engaged ≡ None → HearsAll [] self.old.slots self.new.slots × (self.new.slots.last ≡ self.old.slots.last)) }
-        ensures memory { OnErr result (HearsAll [] self.old.slots self.new.slots) }
+        requires named { M.names job.head.path job.index }
+        requires above { self.old.slots.last < job.id }
+        ensures engaged { IfOk result (λ engaged. OnOk engaged (HearsAll M.names (events.Open job.id job.head ∷ []) self.old.slots self.new.slots)) }
+        ensures handed_back { IfOk result (λ engaged. IfErr engaged (λ back. back ≡ job)) }
+        ensures none { IfOk result (λ engaged. OnErr engaged (HearsAll M.names [] self.old.slots self.new.slots)) }
+        ensures last { IfOk result (λ engaged. OnErr engaged (self.new.slots.last ≡ self.old.slots.last)) }
+        ensures memory { OnErr result (HearsAll M.names [] self.old.slots self.new.slots) }
     {
-        if let Some(place) = self.slots.engage(id)? {
-            let opened = Opened::Again(place);
-            return Ok(Some(Engaged { place, opened }));
-        }
-        self.shut_answered();
-        let shared = &self.orders.shared;
-        let Some(made) = self.slots.open(self.rt, shared, methods, self.start, id)? else {
-            return Ok(None);
+        let job = match self.engage_free(job) {
+            Ok(place) => return Ok(Ok(Opened::Again(place))),
+            Err(back) => back,
         };
-        let Made {
-            place,
-            slot,
-            sender,
-            ..
-        } = made;
-        let opened = Opened::New(Fresh::new(slot, sender));
-        Ok(Some(Engaged { place, opened }))
+        self.shut_answered();
+        if self.slots.is_full() {
+            return Ok(Err(job));
+        }
+        let shared = &self.orders.shared;
+        let made = self.slots.open(self.rt, shared, methods, self.start, job)?;
+        let Made { slot, sender, .. } = made;
+        Ok(Ok(Opened::New(Fresh::new(slot, sender))))
+    }
+
+    /// Hands a call to the first slot that is free, and answers its number. Before that it looks what became of the slot's last call.
+    fn engage_free(&mut self, job: Job) -> Result<usize, Job>
+        requires named { M.names job.head.path job.index }
+        requires above { self.old.slots.last < job.id }
+        ensures engaged { OnOk result (HearsAll M.names (events.Open job.id job.head ∷ []) self.old.slots self.new.slots) }
+        ensures handed_back { IfErr result (λ back. back ≡ job) }
+        ensures none { OnErr result (HearsAll M.names [] self.old.slots self.new.slots) }
+        ensures last { OnErr result (self.new.slots.last ≡ self.old.slots.last) }
+    {
+        let mut job = job;
+        'places: for place in 0..self.slots.len() {
+            match self.engage_at(place, job) {
+                Ok(()) => return Ok(place),
+                Err(back) => job = back,
+            }
+        }
+        Err(job)
+    }
+
+    /// The same for the slot of this number.
+    fn engage_at(&mut self, place: usize, job: Job) -> Result<(), Job>
+        requires named { M.names job.head.path job.index }
+        requires above { self.old.slots.last < job.id }
+        ensures engaged { OnOk result (HearsAll M.names (events.Open job.id job.head ∷ []) self.old.slots self.new.slots) }
+        ensures handed_back { IfErr result (λ back. back ≡ job) }
+        ensures none { OnErr result (HearsAll M.names [] self.old.slots self.new.slots) }
+        ensures last { OnErr result (self.new.slots.last ≡ self.old.slots.last) }
+    {
+        if !self.slots.is_free(place) {
+            return Err(job);
+        }
+        self.shut_if_answered(place);
+        self.slots.engage(place, job)
     }
 
     /// Shuts the halves of calls that were answered before their client ended them: before that their slots aren't free.
     fn shut_answered(&mut self)
-        ensures heard { HearsAll [] self.old.slots self.new.slots }
+        ensures heard { HearsAll M.names [] self.old.slots self.new.slots }
         ensures last { self.new.slots.last ≡ self.old.slots.last }
     {
         'places: for place in 0..self.slots.len() {
@@ -444,26 +483,33 @@ where
         }
     }
 
-    /// The same for the slot of this number.
+    /// The same for the slot of this number, where it wasn't known yet that its call was answered. A call that was left without trailers is reset.
     fn shut_if_answered(&mut self, place: usize)
-        ensures heard { HearsAll [] self.old.slots self.new.slots }
+        ensures heard { HearsAll M.names [] self.old.slots self.new.slots }
         ensures last { self.new.slots.last ≡ self.old.slots.last }
     {
-        self.reset_if_abandoned(place);
-        let Some(id) = self.slots.answered(place) else {
+        let Some(answered) = self.slots.answered(place) else {
             return;
         };
+        let id = answered.id;
+        self.reset_if_left(answered);
         self.let_go(id, ErrorCode::Cancel);
     }
 
-    /// Resets the stream of the slot's call, where it was left though it was live.
-    fn reset_if_abandoned(&mut self, place: usize)
+    /// Resets the stream of a call that was left without trailers. Where its end was written, or it was reset before, nothing is written.
+    fn reset_if_left(&mut self, answered: Answered)
         ensures slots { self.new.slots ≡ self.old.slots }
     {
-        let rt = self.rt;
-        if let Some(id) = self.slots.abandoned(place) {
-            self.orders.reset(&rt, id, ErrorCode::InternalError, true);
+        if answered.has_trailers {
+            return;
         }
+        let code = if answered.was_live {
+            ErrorCode::InternalError
+        } else {
+            ErrorCode::Cancel
+        };
+        let rt = self.rt;
+        self.orders.reset(&rt, answered.id, code, true);
     }
 
     /// Answers what is no head of a call.
@@ -491,7 +537,7 @@ where
     ) -> Option<ErrorCode>
         requires whole { (intake.old.came.parts ≡ A.parts) × (0 < A.parts) × (intake.old.calls.parts ≡ B.parts) × (0 < B.parts) }
         ensures whole { (intake.new.came.parts ≡ A.parts) × (0 < A.parts) × (intake.new.calls.parts ≡ B.parts) × (0 < B.parts) }
-        ensures heard { (fate : Fate) × Hears (Told (events.Data id bytes flow) fate) self.old.slots self.new.slots }
+        ensures heard { (fate : Fate) × Hears M.names (Told (events.Data id bytes flow) fate) self.old.slots self.new.slots }
     {
         let rt = self.rt;
         let padding = flow.saturating_sub(u32::try_from(bytes.len()).unwrap_or(u32::MAX));
@@ -520,7 +566,7 @@ where
 
     /// Feeds a piece to its call. One that isn't taken resets the call.
     fn feed(&mut self, id: StreamId, bytes: Bytes)
-        ensures heard { (counted : ℕ) → (fate : Fate) × Hears (Told (events.Data id bytes counted) fate) self.old.slots self.new.slots }
+        ensures heard { (counted : ℕ) → (fate : Fate) × Hears M.names (Told (events.Data id bytes counted) fate) self.old.slots self.new.slots }
     {
         match self.slots.feed(id, bytes) {
             Ok(()) => {}
@@ -528,19 +574,30 @@ where
         }
     }
 
-    /// What comes for a call that is no longer live is fed to no one. So the call is never told that its half has ended.
+    /// What comes for a call that is no longer live is fed to no one. So the call is never told that its half has ended, but its stream is reset.
     fn miss(&mut self, id: StreamId, bytes: &Bytes)
-        ensures heard { (counted : ℕ) → Hears (Told (events.Data id bytes.now counted) (Received Discard)) self.old.slots self.new.slots }
+        ensures heard { (counted : ℕ) → Hears M.names (Told (events.Data id bytes.now counted) (Received Discard)) self.old.slots self.new.slots }
     {
         if bytes.is_empty() {
             return;
         }
+        self.reset_if_fed(id);
         self.let_go(id, ErrorCode::Cancel);
+    }
+
+    /// Resets the stream of a call whose half is open.
+    fn reset_if_fed(&mut self, id: StreamId)
+        ensures slots { self.new.slots ≡ self.old.slots }
+    {
+        if self.slots.is_fed(id) {
+            let rt = self.rt;
+            self.orders.reset(&rt, id, ErrorCode::EnhanceYourCalm, true);
+        }
     }
 
     /// The client has ended its half.
     fn end_half(&mut self, id: StreamId)
-        ensures heard { Hears (Told (events.End id) Plain) self.old.slots self.new.slots }
+        ensures heard { Hears M.names (Told (events.End id) Plain) self.old.slots self.new.slots }
     {
         let rt = self.rt;
         self.orders.shared.book.lock(&rt).end_remote(id);
@@ -549,7 +606,7 @@ where
 
     /// A stream is reset: its call is told so, and is live no more.
     fn cut(&mut self, id: StreamId, code: ErrorCode, written: bool)
-        ensures heard { (step : Step) → Concerns id step → shut_at id step ≡ Some (shut.Reset (error_number code)) → Hears step self.old.slots self.new.slots }
+        ensures heard { (step : Step) → Concerns id step → shut_at id step ≡ Some (shut.Reset (error_number code)) → Hears M.names step self.old.slots self.new.slots }
     {
         let rt = self.rt;
         self.orders.reset(&rt, id, code, written);
@@ -559,7 +616,7 @@ where
 
     /// Resets the half of a call, if it is open.
     fn let_go(&mut self, id: StreamId, code: ErrorCode)
-        ensures heard { (step : Step) → Concerns id step → shut_at id step ≡ Some (shut.Reset (error_number code)) → Hears step self.old.slots self.new.slots }
+        ensures heard { (step : Step) → Concerns id step → shut_at id step ≡ Some (shut.Reset (error_number code)) → Hears M.names step self.old.slots self.new.slots }
         ensures last { self.new.slots.last ≡ self.old.slots.last }
     {
         self.slots.shut(id, Shut::Reset(code.code()));

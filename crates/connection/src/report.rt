@@ -1,5 +1,8 @@
 //! How a connection ended, and what became of its calls.
 
+ghost use Rattle.std.specs.Prelude.{◌≡◌};
+ghost use Rattle.connection.specs.Accounts.{unanswered};
+
 use account::Told;
 use h2frame::{ErrorCode, StreamId};
 
@@ -9,11 +12,11 @@ pub struct Served<O: Drop> {
     pub ending: Ending,
     /// What was written to. None where no memory or no thread was to be had before anything was read.
     pub output: Option<O>,
-    /// A row for each call that a worker answered, in no order. None where there was no memory for all of them.
+    /// A row for each call that was admitted, in the order of their streams. None where there was no memory for all of them.
     pub calls: Option<Vec<CallReport>>,
 }
 
-/// What became of a call that a worker answered. A number over the greatest `u64` counts as that.
+/// What became of a call. A number over the greatest `u64` counts as that.
 #[derive(Clone, Copy, Debug, PartialEq, Eq)]
 pub struct CallReport {
     /// Its stream.
@@ -32,6 +35,24 @@ pub struct CallReport {
     pub given_bytes: u64,
     /// The status of its trailers. None where it was left without.
     pub status: Option<u32>,
+}
+
+impl CallReport {
+    /// The row of a call of which nothing was taken, and to which nothing was given.
+    pub(crate) fn unanswered(id: StreamId, method: usize) -> CallReport
+        ensures { result ≡ unanswered id method }
+    {
+        CallReport {
+            id,
+            method,
+            messages: 0,
+            bytes: 0,
+            told: None,
+            given: 0,
+            given_bytes: 0,
+            status: None,
+        }
+    }
 }
 
 /// How a connection ended. Where several are true, the first of `OutOfMemory`, `WriteFailed`, `ProtocolError` and

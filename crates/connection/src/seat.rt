@@ -2,6 +2,8 @@
 
 ghost use Rattle.std.specs.Prelude.{◌≡◌, IsSomeAnd};
 ghost use Rattle.std.specs.Option.{IsSomeAnd-prop};
+ghost use Rattle.lane.specs.Ring as ring;
+ghost use Rattle.lane.specs.RingEnds.{RingName_set};
 ghost use Rattle.lane.specs.RingLane.{LaneName_set, in_name, out_name, ring_of, shut_name};
 ghost use Rattle.connection.specs.Halves.{half_by};
 
@@ -9,13 +11,13 @@ use crate::answering::Answering;
 use crate::half::Half;
 use crate::hired::Hired;
 use crate::report::CallReport;
-use crate::slot::{InLane, OutLane, Slot};
+use crate::slot::{Answered, InLane, Job, OutLane, Slot};
 use crate::worker::Seen;
 use account::Shut;
 use bytes::Bytes;
 use callbox::{FedShut, FeedFault, Feeder};
 use h2frame::StreamId;
-use std::alloc::AllocError;
+use lane::{Ring, RingIn, RingOut};
 use std::sync::Arc;
 use std::thread::{PromisedHandle, Threads};
 
@@ -23,8 +25,10 @@ use std::thread::{PromisedHandle, Threads};
 #[derive(Drop)]
 pub(crate) struct Seat<M: Answering> {
     pub(crate) slot: Arc<Slot>,
-    /// The streams of the calls before it.
-    pub(crate) ids: Vec<StreamId>,
+    /// The calls that the worker is handed.
+    pub(crate) jobs: RingIn<Job>,
+    /// What became of its call, once the worker has given the last item.
+    pub(crate) answers: RingOut<Answered>,
     /// The stream of its call, or of its last one.
     pub(crate) id: StreamId,
     pub(crate) half: Half<Feeder<InLane>, FedShut<InLane>>,
@@ -32,43 +36,69 @@ pub(crate) struct Seat<M: Answering> {
     /// The worker takes what the half is fed.
     ghost one_ring: { IsSomeAnd (half_by (λ f. ring_of (in_name f.tx)) (λ s. ring_of (shut_name s.shut)) half) (λ ring. ring ≡ ring_of (out_name worker.promise.taker.value.rx)) } by { IsSomeAnd-prop (half_by (λ f. ring_of (in_name f.tx)) (λ s. ring_of (shut_name s.shut)) half) (λ ring. ring ≡ ring_of (out_name worker.promise.taker.value.rx))
         (λ ring. LaneName_set ring (ring_of (out_name worker.promise.taker.value.rx))) },
+    /// It takes the calls.
+    ghost one_ring_of_jobs: { ring.in_name jobs ≡ ring.out_name worker.promise.jobs.value } by { RingName_set (ring.in_name jobs) (ring.out_name worker.promise.jobs.value) },
+    /// It tells of their answers.
+    ghost one_ring_of_answers: { ring.in_name worker.promise.answers.value ≡ ring.out_name answers } by { RingName_set (ring.in_name worker.promise.answers.value) (ring.out_name answers) },
 }
 
 impl<M: Answering> Seat<M> {
-    ghost use Rattle.std.specs.Prelude.{◌≢◌, ◌<◌, ℕ, List, ◌∷◌, All, true, Ok, OnOk, OnErr, IfSome};
-    ghost use Rattle.callhead.specs.declared.head.CallHead.{CallHead as Head};
+    ghost use Rattle.std.specs.Prelude.{◌<◌, ℕ, List, [], ◌∷◌, ◌++◌, OnOk, OnErr, IfErr, IfSome, MatchOption, map};
     ghost use Rattle.connbook.specs.declared.answers.Receipt.TheVariants.{Feed};
     ghost use Rattle.session.specs.declared.event.InEvent.TheVariants as events;
     ghost use Rattle.calltable.specs.Steps.{Admitted, Received, Step, Told, last_of, shut_at};
     ghost use Rattle.connection.specs.Calls.{Rises};
-    ghost use Rattle.connection.specs.Reports.{IsAccounted};
-    ghost use Rattle.connection.specs.Seats.{IsSeat};
+    ghost use Rattle.connection.specs.Reports.{AreRows};
+    ghost use Rattle.connection.specs.Seats.{IsSeat, ids_of, jobs_of};
+    ghost use Rattle.connection.specs.Workers.{HasTrailers, TellsTrailers};
 
-    /// Where the slot is free it is engaged for a call of this stream. Else it stays at its call.
-    pub(crate) fn begin(&mut self, id: StreamId) -> Result<bool, AllocError>
-        ensures heard { result ≡ Ok true → (told : List Step) (head : Head) → last_of told < id → IsSeat told self.old → IsSeat (Told (events.Open id head) Admitted ∷ told) self.new }
-        ensures id { result ≡ Ok true → self.new.id ≡ id }
-        ensures stays { result ≢ Ok true → (told : List Step) → IsSeat told self.old → IsSeat told self.new }
-        ensures id_stays { result ≢ Ok true → self.new.id ≡ self.old.id }
+    /// Where the slot is free its worker is handed this call; its bell is still to be rung. Else the call is handed back.
+    pub(crate) fn begin(&mut self, job: Job) -> Result<(), Job>
+        requires named { M.names job.head.path job.index }
+        ensures heard { OnOk result ((told : List Step) → last_of told < job.id → IsSeat M.names told self.old → IsSeat M.names (Told (events.Open job.id job.head) Admitted ∷ told) self.new) }
+        ensures id { OnOk result (self.new.id ≡ job.id) }
+        ensures jobs { OnOk result (jobs_of self.new ≡ jobs_of self.old ++ job ∷ []) }
+        ensures handed_back { IfErr result (λ back. back ≡ job) }
+        ensures stays { OnErr result ((told : List Step) → IsSeat M.names told self.old → IsSeat M.names told self.new) }
+        ensures id_stays { OnErr result (self.new.id ≡ self.old.id) }
+        ensures jobs_stay { OnErr result (jobs_of self.new ≡ jobs_of self.old) }
+        ensures answers { ring.taken self.new.answers ≡ ring.taken self.old.answers }
     {
         if !self.slot.is_free() {
-            return Ok(false);
+            return Err(job);
         }
-        self.ids.reserve(1)?;
+        if !self.jobs.has_room() {
+            return Err(job);
+        }
         if !self.half.begin() {
-            return Ok(false);
+            return Err(job);
         }
         self.slot.engage();
-        self.ids.push_reserved(self.id);
-        self.id = id;
-        Ok(true)
+        self.id = job.id;
+        if let Err(_full) = self.jobs.put(job) {
+            unreachable!();
+        }
+        self.slot.note();
+        Ok(())
+    }
+
+    /// What became of its call, where the worker has given the last item. It is told once.
+    pub(crate) fn answered(&mut self) -> Option<Answered>
+        ensures stays { (told : List Step) → IsSeat M.names told self.old → IsSeat M.names told self.new }
+        ensures id { self.new.id ≡ self.old.id }
+        ensures jobs { jobs_of self.new ≡ jobs_of self.old }
+        ensures answers { MatchOption result (ring.taken self.new.answers ≡ ring.taken self.old.answers) (λ answered. ring.taken self.new.answers ≡ ring.taken self.old.answers ++ answered ∷ []) }
+    {
+        self.answers.take()
     }
 
     /// Feeds a piece to its call, where the half is open. Its bell is to be rung once all that came with it is there.
     pub(crate) fn feed(&mut self, piece: Bytes) -> Result<(), FeedFault>
-        ensures heard { OnOk result ((told : List Step) (counted : ℕ) → IsSeat told self.old → IsSeat (Told (events.Data self.old.id piece counted) (Received Feed) ∷ told) self.new) }
-        ensures stays { OnErr result ((told : List Step) → IsSeat told self.old → IsSeat told self.new) }
+        ensures heard { OnOk result ((told : List Step) (counted : ℕ) → IsSeat M.names told self.old → IsSeat M.names (Told (events.Data self.old.id piece counted) (Received Feed) ∷ told) self.new) }
+        ensures stays { OnErr result ((told : List Step) → IsSeat M.names told self.old → IsSeat M.names told self.new) }
         ensures id { self.new.id ≡ self.old.id }
+        ensures jobs { jobs_of self.new ≡ jobs_of self.old }
+        ensures answers { ring.taken self.new.answers ≡ ring.taken self.old.answers }
     {
         self.half.feed(piece)?;
         self.slot.note();
@@ -77,41 +107,60 @@ impl<M: Answering> Seat<M> {
 
     /// Shuts the half of its call in this way, which its worker is to see.
     pub(crate) fn shut(&mut self, kind: Shut)
-        ensures heard { (told : List Step) (step : Step) → Rises told step → shut_at self.old.id step ≡ Some kind → IsSeat told self.old → IsSeat (step ∷ told) self.new }
+        ensures heard { (told : List Step) (step : Step) → Rises told step → shut_at self.old.id step ≡ Some kind → IsSeat M.names told self.old → IsSeat M.names (step ∷ told) self.new }
         ensures id { self.new.id ≡ self.old.id }
+        ensures jobs { jobs_of self.new ≡ jobs_of self.old }
+        ensures answers { ring.taken self.new.answers ≡ ring.taken self.old.answers }
     {
         self.half.shut(kind);
         self.slot.note();
     }
 
-    /// Waits for the worker, and brings the half and what the worker had together: the rows of the slot's calls.
+    /// Waits for the worker, and brings the half and what the worker had together: the rows of the slot's calls, in order.
     pub(crate) fn end(self, rt: &impl Threads) -> Option<Vec<CallReport>>
-        ensures rows { (told : List Step) → IsSeat told self → IfSome result (λ rows. All (λ row. IsAccounted M.known told row) rows.items) }
+        ensures rows { (told : List Step) → IsSeat M.names told self → IfSome result (λ rows. AreRows M.known M.names told (ids_of self) rows.items) }
+        ensures answered { (id : ℕ) → TellsTrailers id (ring.taken self.answers) → IfSome result (λ rows. HasTrailers id rows.items) }
     {
         let Seat {
             half,
             worker,
-            ids,
-            id,
+            mut jobs,
+            mut answers,
             ..
         } = self;
-        let Seen { taker, end, calls } = worker.join(rt);
+        let Seen {
+            taker,
+            end,
+            jobs: mut rest,
+            answers: mut told,
+            calls,
+        } = worker.join(rt);
+        let count = Ring::meet(&mut jobs, &mut rest);
+        Ring::meet(&mut told, &mut answers);
         half.settle(taker, end);
-        Some(of_streams(calls?, &ids, id))
+        with_rest(calls?, rest, count)
     }
 }
 
-ghost use Rattle.std.specs.Prelude.{◌≤◌, ◌+◌, ℕ, length, get_or, slice_get, IfSome};
+ghost use Rattle.std.specs.Prelude.{◌++◌, IfSome, length, map};
+ghost use Rattle.connection.specs.Accounts.{unanswered};
 
-/// The rows of a slot's calls, each with its stream: of these, and then of the last. What a worker handed back beyond its calls is none.
-fn of_streams(rows: Vec<CallReport>, ids: &Vec<StreamId>, id: StreamId) -> Vec<CallReport>
-    ensures count { length result.items ≤ length ids.now.items + 1 }
-    ensures each { (place : ℕ) → IfSome (slice_get result.items place) (λ row. IsSomeAnd (slice_get rows.items place) (λ old. row ≡ record old { id = get_or ids.now.items place id })) }
+/// The rows with one for each of the calls that are left in the ring, so many: no worker began them. None where there is no memory for them.
+fn with_rest(rows: Vec<CallReport>, jobs: RingOut<Job>, count: u64) -> Option<Vec<CallReport>>
+    requires { count ≡ length (ring.ahead jobs) }
+    ensures { IfSome result (λ all. all.items ≡ rows.items ++ map (λ job. unanswered job.id job.index) (ring.ahead jobs)) }
 {
     let mut rows = rows;
-    rows.truncate(ids.len() + 1);
-    'rows: for place in 0..rows.len() {
-        rows[place].id = ids.get(place).copied().unwrap_or(id);
+    let mut jobs = jobs;
+    let mut left = count;
+    'rest: while left > 0 {
+        let Some(job) = jobs.take() else {
+            unreachable!();
+        };
+        if let Err(_e) = rows.push(CallReport::unanswered(job.id, job.index)) {
+            return None;
+        }
+        left -= 1;
     }
-    rows
+    Some(rows)
 }

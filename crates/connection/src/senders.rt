@@ -1,10 +1,6 @@
 //! The senders of a connection's slots, as its writer has them: each comes once, with its slot's first call, is with the writer's
 //! core while a call is sent, and here between two calls.
 
-ghost use Rattle.std.specs.Prelude.{◌≡◌, [], IfOk, IfSome};
-ghost use Rattle.lane.specs.RingLane.{got};
-ghost use Rattle.outwriter.specs.Cores.{IsUnused};
-
 use crate::orders::{Fresh, Opened, Order, split};
 use crate::slot::{OutLane, Slot};
 use callbox::Sender;
@@ -43,6 +39,13 @@ pub(crate) struct Senders {
 }
 
 impl Senders {
+    ghost use Rattle.std.specs.Prelude.{◌≡◌, [], IfOk, IfErr, IfSome};
+    ghost use Rattle.lane.specs.RingLane.{got};
+    ghost use Rattle.outwriter.specs.declared.control.Control.TheVariants as orders;
+    ghost use Rattle.outwriter.specs.Cores.{IsUnused};
+    ghost use Rattle.outwriter.specs.Steps.{order_of};
+    ghost use Rattle.connection.specs.Orders.{IsBack};
+
     pub(crate) fn new(alloc: Global) -> Senders {
         Senders {
             places: Vec::new(alloc),
@@ -54,6 +57,8 @@ impl Senders {
     pub(crate) fn control_of(&mut self, order: Order) -> Result<Control<Sender<OutLane>>, Untaken>
         // Of that sender nothing of the call was got.
         ensures unused { IfOk result (IsUnused got) }
+        ensures same { IfOk result (λ control. order_of control ≡ order_of order) }
+        ensures back { IfErr result (IsBack (order_of order)) }
     {
         match split(order) {
             Ok(control) => Ok(control),
@@ -103,6 +108,8 @@ impl Senders {
     /// A slot's first call begins.
     fn add(&mut self, id: StreamId, fresh: Fresh) -> Result<Control<Sender<OutLane>>, Untaken>
         ensures unused { IfOk result (IsUnused got) }
+        ensures opens { IfOk result (λ control. order_of control ≡ orders.Open id tt) }
+        ensures back { IfErr result (IsBack (orders.Open id tt)) }
     {
         let Fresh { slot, sender, .. } = fresh;
         let place = Place {

@@ -1,26 +1,31 @@
 //! One connection from its first byte to its last.
 
-ghost use Rattle.std.specs.Prelude.{◌≡◌, ◌<◌, ℕ, List, Option, Some, IfOk, IfSome};
+ghost use Rattle.std.specs.Prelude.{◌≡◌, ◌≢◌, ◌<◌, ℕ, List, [], Option, Some, None, false, true, IfOk, IfSome};
 ghost use Rattle.connection.specs.declared.report.Ending.TheVariants as ending;
 ghost use Rattle.std.specs.Io.KnownBytes.{Consumes};
 ghost use Rattle.handlers.specs.Listed.{listed};
+ghost use Rattle.h2frame.specs.declared.error_code.ErrorCode.{ErrorCode as Code};
 ghost use Rattle.connection.specs.Accounts.{IsWithin, answers_by};
-ghost use Rattle.connection.specs.Reports.{AreAccounted};
+ghost use Rattle.connection.specs.Calls.{AreNames, IsFirstWith};
+ghost use Rattle.connection.specs.Reports.{AreAccounted, is_input_end};
+ghost use Rattle.lane.specs.Ring.{in_name, out_name, put_in, taken};
+ghost use Rattle.outwriter.specs.Steps.{Order as Ordered};
+ghost use Rattle.connection.specs.Orders.{orders_of};
 ghost use Rattle.connection.specs.Written.{HasWritten};
 
 use crate::answering::Answering;
 use crate::intake::Intake;
-use crate::orders::{ORDERS, Orders};
+use crate::orders::{ORDERS, Order, Orders, Route};
 use crate::outlet::Outlet;
 use crate::reader::Reader;
 use crate::report::{CallReport, Ending, Served};
 use crate::shared::Shared;
 use crate::writer;
-use crate::writer::Writing;
+use crate::writer::{Writing, Written};
 use connbook::ConnBook;
 use device::{ConnRead, ConnWrite};
-use handlers::Methods;
-use lane::Ring;
+use handlers::{Method, Methods};
+use lane::{Ring, RingIn, RingOut};
 use std::alloc::{AllocError, Global};
 use std::marker::Brand;
 use std::sync::ledger::{Blank, Ledger};
@@ -43,29 +48,42 @@ where
     I: ConnRead,
     O: ConnWrite + Send + Drop + 'static,
     R: Threads + Wait + Clock + Copy + Send + Sync + Drop + 'static,
-    ensures served { IfSome result.output (HasWritten O.contents O.failed (O.contents output) (Some result.ending)) }
-    // Each row stands on the lawful account of its stream's call, by the first events of the bytes that came.
+    // What was written are the frames of a lawful run, which obeyed these orders.
+    ensures served { IfSome result.output (λ device. (orders : List Ordered) × HasWritten O.contents O.failed (O.contents output) orders (Some result.ending) device) }
+    // A row for each call, on the lawful account of what came of its stream and was answered by the method that its path names.
     ensures calls { IfSome result.calls (λ rows. (came : List ℕ) × Consumes (I.remaining input.old) (I.remaining input.new) came
-        × AreAccounted (answers_by (λ method. answers (method.vtable, method.value)) (listed methods.value)) came rows.items) }
+        × AreAccounted (answers_by (λ method. answers (method.vtable, method.value)) (listed methods.value))
+        (IsFirstWith (λ method. (⟦<dyn Method as Method>⟧ method.vtable).name method.value) (listed methods.value)) result.ending came rows.items) }
 {
     let blanks = (Blank::new(1), Blank::new(1), Blank::new(1));
-    match serve_over::<Brand, Brand, Brand, Brand, I, O, R>(
-        rt, alloc, blanks, input, output, methods,
+    let Ok(ring) = Ring::open(alloc, ORDERS) else {
+        return unserved();
+    };
+    match serve_over::<Brand, Brand, Brand, Brand, Brand, I, O, R>(
+        rt, alloc, blanks, ring, input, output, methods,
     ) {
         Ok(served) => served,
-        Err(AllocError) => Served {
-            ending: Ending::OutOfMemory,
-            output: None,
-            calls: None,
-        },
+        Err(AllocError) => unserved(),
     }
 }
 
-/// The same, over ledgers of its own. Out of memory before the connection began nothing was read or written.
-fn serve_over<A, B, C, M, I, O, R>(
+/// Out of memory before the connection began.
+fn unserved<O: Drop>() -> Served<O>
+    ensures none { (result.output ≡ None) × (result.calls ≡ None) }
+{
+    Served {
+        ending: Ending::OutOfMemory,
+        output: None,
+        calls: None,
+    }
+}
+
+/// The same, over ledgers of its own, and a ring for the orders. Out of memory before the connection began nothing was read or written.
+fn serve_over<A, B, C, M, N, I, O, R>(
     rt: R,
     alloc: Global,
     blanks: (Blank, Blank, Blank),
+    ring: (RingIn<Order>, RingOut<Order>),
     input: &mut I,
     output: O,
     methods: Arc<Methods>,
@@ -75,6 +93,7 @@ where
     B: Ledger + Send + Sync + 'static,
     C: Ledger + Send + Sync + 'static,
     M: Answering + Send + Sync + 'static,
+    N: Route,
     I: ConnRead,
     O: ConnWrite + Send + Drop + 'static,
     R: Threads + Wait + Clock + Copy + Send + Sync + Drop + 'static,
@@ -82,44 +101,59 @@ where
     requires admitted { (blanks.1.name ≡ B.name) × (blanks.1.parts ≡ B.parts) × (0 < B.parts) }
     requires announced { (blanks.2.name ≡ C.name) × (blanks.2.parts ≡ C.parts) × (0 < C.parts) }
     requires known { IsWithin M.known (answers_by (λ method. answers (method.vtable, method.value)) (listed methods.value)) }
-    ensures served { IfOk result (λ served. IfSome served.output (HasWritten O.contents O.failed (O.contents output) (Some served.ending))) }
-    ensures calls { IfOk result (λ served. IfSome served.calls (λ rows. (came : List ℕ) × Consumes (I.remaining input.old) (I.remaining input.new) came × AreAccounted M.known came rows.items)) }
+    requires named { AreNames (IsFirstWith (λ method. (⟦<dyn Method as Method>⟧ method.vtable).name method.value) (listed methods.value)) M.names }
+    requires ring { (N.ring ≡ Some (in_name ring.0)) × (in_name ring.0 ≡ out_name ring.1) × (taken ring.1 ≡ []) }
+    ensures served { IfOk result (λ served. IfSome served.output (λ device. (orders : List Ordered) × HasWritten O.contents O.failed (O.contents output) orders (Some served.ending) device)) }
+    ensures calls { IfOk result (λ served. IfSome served.calls (λ rows. (came : List ℕ) × Consumes (I.remaining input.old) (I.remaining input.new) came × AreAccounted M.known M.names served.ending came rows.items)) }
 {
     let (received, came) = blanks.0.open::<A>();
     let (admitted, calls) = blanks.1.open::<B>();
     let (announced, told) = blanks.2.open::<C>();
     let book = ConnBook::new(alloc, received, admitted, announced);
     let shared = Shared::new(alloc, book)?;
-    let (putting, taking) = Ring::open(alloc, ORDERS)?;
+    let (putting, taking) = ring;
     let start = Instant::now(&rt).map_err(|_| AllocError)?;
     let outlet = Outlet::new(Arc::try_clone(&shared)?, told);
-    let orders = Orders {
-        ring: putting,
-        shared: Arc::try_clone(&shared)?,
-        are_unrung: false,
-    };
+    let orders: Orders<A, B, C, N> = Orders::new(putting, Arc::try_clone(&shared)?);
     let mut intake = Intake::new(shared, came, calls);
-    let mut reader: Reader<A, B, C, M, R> = Reader::new(rt, alloc, orders, start);
+    let mut reader: Reader<A, B, C, M, N, R> = Reader::new(rt, alloc, orders, start);
     let writing = writer::start(rt, alloc, taking, outlet, output)?;
     let read = reader.read(&mut intake, input, &methods);
-    let calls = reader.end();
-    Ok(meet(&rt, read, calls, writing))
+    let (calls, orders) = reader.end();
+    Ok(meet(&rt, read, calls, orders, writing))
 }
 
 /// What became of a connection, where its reader meets its writer.
-fn meet<O>(
+fn meet<A, B, C, N, O>(
     rt: &impl Threads,
     read: Ending,
     calls: Option<Vec<CallReport>>,
+    orders: Orders<A, B, C, N>,
     writing: Writing<O>,
 ) -> Served<O>
 where
+    A: Ledger,
+    B: Ledger,
+    C: Ledger,
+    N: Route,
     O: ConnWrite + Send + Drop + 'static,
-    ensures served { (before : Option (List ℕ)) → O.contents writing.promise.0.value ≡ before → IfSome result.output (HasWritten O.contents O.failed before (Some result.ending)) }
+    requires route { N.ring ≡ Some (out_name writing.promise.orders.value) }
+    // The orders that were put are those that the run obeyed.
+    ensures served { (before : Option (List ℕ)) → O.contents writing.promise.device.value ≡ before
+        → IfSome result.output (HasWritten O.contents O.failed before (orders_of (put_in orders.outbox.ring)) (Some result.ending)) }
+    // None was dropped, unless the ending tells why.
+    ensures dropped { result.ending ≢ ending.OutOfMemory → result.ending ≢ ending.WriteFailed → ((code : Code) → result.ending ≢ ending.ProtocolError code) → orders.has_dropped ≡ false }
     ensures calls { result.calls ≡ calls }
+    ensures input { is_input_end result.ending ≡ true → result.ending ≡ read }
 {
-    let (written, device) = writing.join(rt);
-    let ending = of_both(read, written);
+    let Written {
+        ending,
+        device,
+        orders: rx,
+    } = writing.join(rt);
+    let has_dropped = orders.has_dropped;
+    let are_all = orders.meet(rx);
+    let ending = by_orders(of_both(read, ending), are_all, has_dropped);
     Served {
         ending,
         output: Some(device),
@@ -130,10 +164,33 @@ where
 /// How a connection ended, by what the reader and the writer see.
 fn of_both(read: Ending, written: Option<Ending>) -> Ending
     ensures memory { written ≡ Some ending.OutOfMemory → result ≡ ending.OutOfMemory }
+    ensures failed { written ≡ Some ending.WriteFailed → result ≢ ending.OutOfMemory → result ≡ ending.WriteFailed }
+    ensures blamed { (code : Code) → written ≡ Some (ending.ProtocolError code) → read ≢ ending.OutOfMemory → result ≡ ending.ProtocolError code }
+    ensures input { is_input_end result ≡ true → result ≡ read }
 {
     match (read, written) {
         (Ending::OutOfMemory, _) => Ending::OutOfMemory,
-        (_, Some(ending)) => ending,
+        (_, Some(Ending::OutOfMemory)) => Ending::OutOfMemory,
+        (_, Some(Ending::ProtocolError(code))) => Ending::ProtocolError(code),
+        (_, Some(_)) => Ending::WriteFailed,
         (ending, None) => ending,
+    }
+}
+
+/// The same by whether the writer took all orders that were put, and whether others were dropped. Where no ending tells why, it counts as a
+/// write that failed; but that doesn't come.
+fn by_orders(seen: Ending, are_all: bool, has_dropped: bool) -> Ending
+    ensures memory { seen ≡ ending.OutOfMemory → result ≡ ending.OutOfMemory }
+    ensures failed { seen ≡ ending.WriteFailed → result ≡ ending.WriteFailed }
+    ensures input { is_input_end result ≡ true → result ≡ seen }
+    ensures all { result ≢ ending.OutOfMemory → result ≢ ending.WriteFailed → are_all ≡ true }
+    ensures dropped { result ≢ ending.OutOfMemory → result ≢ ending.WriteFailed → ((code : Code) → result ≢ ending.ProtocolError code) → has_dropped ≡ false }
+{
+    match seen {
+        Ending::OutOfMemory | Ending::WriteFailed => seen,
+        _ if !are_all => Ending::WriteFailed,
+        Ending::ProtocolError(_) => seen,
+        _ if has_dropped => Ending::WriteFailed,
+        _ => seen,
     }
 }

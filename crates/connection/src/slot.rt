@@ -3,13 +3,16 @@
 //! Its flags say when it is free for the next call. Nothing that is proved rests on them: each end that is to go on to the
 //! next call looks by itself whether it can.
 
+ghost use Rattle.std.specs.Prelude.{◌≡◌, ◌⊎◌, [], ◌∷◌, ◌++◌, MatchOption};
+ghost use Rattle.lane.specs.Ring.{in_name, out_name, put_in, taken};
+
 use account::OutItem;
 use callbox::InPiece;
 use callhead::CallHead;
 use h2frame::StreamId;
-use lane::{Bell, RingLane};
+use lane::{Bell, RingIn, RingLane, RingOut};
+use std::sync::Wait;
 use std::sync::atomic::{AtomicBool, Ordering};
-use std::sync::{Mutex, Wait};
 use std::time::Duration;
 
 /// The lane of what a client sends on a call.
@@ -32,18 +35,25 @@ pub(crate) struct Job {
     pub(crate) opened: u64,
 }
 
-/// Where a worker is handed its calls, one after another.
+/// What a worker tells of a call, once it has given the call's last item.
+#[derive(Clone, Copy)]
+pub(crate) struct Answered {
+    pub(crate) id: StreamId,
+    /// Whether that was trailers.
+    pub(crate) has_trailers: bool,
+    /// Whether the call was live until then.
+    pub(crate) was_live: bool,
+}
+
+/// How far a worker is with the calls of its slot.
 #[derive(Drop)]
 pub(crate) struct Slot {
     /// Rung where something comes for the call, or a call comes.
     pub(crate) bell: Bell,
     /// Whether the bell is still to be rung.
     noted: AtomicBool,
-    job: Mutex<Option<Job>>,
     /// Whether the worker has given the last item of its call.
     answered: AtomicBool,
-    /// Whether that was no trailers, though the call was live.
-    abandoned: AtomicBool,
     /// Whether the worker has got all of its call, too.
     idle: AtomicBool,
     /// Whether the writer has the sender between two calls, and has got all of the last.
@@ -58,9 +68,7 @@ impl Slot {
         Slot {
             bell: Bell::new(),
             noted: AtomicBool::new(false),
-            job: Mutex::new(None),
             answered: AtomicBool::new(false),
-            abandoned: AtomicBool::new(false),
             idle: AtomicBool::new(false),
             sent: AtomicBool::new(false),
             over: AtomicBool::new(false),
@@ -75,15 +83,8 @@ impl Slot {
     /// It is to be handed a call.
     pub(crate) fn engage(&self) {
         self.answered.store(false, Ordering::SeqCst);
-        self.abandoned.store(false, Ordering::SeqCst);
         self.idle.store(false, Ordering::SeqCst);
         self.sent.store(false, Ordering::SeqCst);
-    }
-
-    /// Hands the worker a call. Its bell is still to be rung.
-    pub(crate) fn hand_over(&self, rt: &impl Wait, job: Job) {
-        *self.job.lock(rt) = Some(job);
-        self.note();
     }
 
     /// Something came, for which the bell is to be rung once all that came with it is there.
@@ -99,20 +100,19 @@ impl Slot {
         }
     }
 
-    /// The worker has given the last item of its call; `abandoned` where that was no trailers, though the call was live.
-    pub(crate) fn answer(&self, abandoned: bool) {
-        self.abandoned.store(abandoned, Ordering::SeqCst);
+    /// The worker has given the last item of its call, and tells the reader so. It is told of each call before the slot's next
+    /// one begins, so there is room.
+    pub(crate) fn answer(&self, told: &mut RingIn<Answered>, answered: Answered)
+        ensures name { in_name told.new ≡ in_name told.old }
+        ensures put { (put_in told.new ≡ put_in told.old) ⊎ (put_in told.new ≡ put_in told.old ++ answered ∷ []) }
+    {
+        let _ = told.put(answered);
         self.answered.store(true, Ordering::SeqCst);
     }
 
     /// Whether the worker has given the last item of its call.
     pub(crate) fn is_answered(&self) -> bool {
         self.answered.load(Ordering::SeqCst)
-    }
-
-    /// Whether the worker has left a live call, of which nobody knew yet.
-    pub(crate) fn take_abandoned(&self) -> bool {
-        self.abandoned.swap(false, Ordering::SeqCst)
     }
 
     /// The worker has got all of its call.
@@ -137,10 +137,13 @@ impl Slot {
     }
 
     /// Waits for the next call. None where no more calls come.
-    pub(crate) fn next<R: Wait>(&self, rt: &R) -> Option<Job> {
-        for _ in rt.forever() {
+    pub(crate) fn next<R: Wait>(&self, rt: &R, jobs: &mut RingOut<Job>) -> Option<Job>
+        ensures name { out_name jobs.new ≡ out_name jobs.old }
+        ensures taken { MatchOption result (taken jobs.new ≡ taken jobs.old) (λ job. taken jobs.new ≡ taken jobs.old ++ job ∷ []) }
+    {
+        'looks: for _ in rt.forever() {
             let mark = self.bell.mark();
-            let job = self.job.lock(rt).take();
+            let job = jobs.take();
             if job.is_some() {
                 return job;
             }

@@ -1,24 +1,25 @@
 //! The slots of a connection, as its reader has them.
 
-ghost use Rattle.std.specs.Prelude.{◌≡◌, ◌≢◌, ◌<◌, ℕ, List, [], ◌∷◌, ◌++◌, All, true, None, Some, Ok, OnOk, OnErr, IfOk, IfSome, IsSome, IsSomeAnd, position};
+ghost use Rattle.std.specs.Prelude.{◌≡◌, ◌<◌, ℕ, List, [], ◌∷◌, ◌++◌, All, None, true, false, OnOk, OnErr, IfOk, IfErr, IfSome, IsSome, IsSomeAnd, map, position};
 ghost use Rattle.lane.specs.RingLane.{got};
-ghost use Rattle.callhead.specs.declared.head.CallHead.{CallHead as Head};
 ghost use Rattle.connbook.specs.declared.answers.Receipt.TheVariants.{Feed};
 ghost use Rattle.handlers.specs.Listed.{listed};
 ghost use Rattle.session.specs.declared.event.InEvent.TheVariants as events;
-ghost use Rattle.calltable.specs.Steps.{Admitted, Received, Step, Told, shut_at};
+ghost use Rattle.calltable.specs.Steps.{Admitted, Received, Step, Told, admitted, shut_at};
 ghost use Rattle.calltable.specs.Kept.{Concerns};
 ghost use Rattle.connection.specs.Accounts.{IsWithin, answers_by};
-ghost use Rattle.connection.specs.Reports.{IsAccounted};
-ghost use Rattle.connection.specs.Seats.{Hears, IsSeat, Keeps, Kept, feeds};
+ghost use Rattle.connection.specs.Reports.{AreRows};
+ghost use Rattle.connection.specs.Seats.{Hears, HoldsAnswers, IsSeat, Keeps, Kept, WasAnswered, feeds, jobs_of};
+ghost use Rattle.connection.specs.Workers.{HasTrailers};
 
 use crate::answering::Answering;
 use crate::half::Half;
-use crate::hired::hire;
+use crate::hired::{Ends, hire};
 use crate::report::CallReport;
+use crate::row_order::in_order;
 use crate::seat::Seat;
 use crate::shared::Shared;
-use crate::slot::{InLane, Job, OutLane, Slot};
+use crate::slot::{Answered, InLane, Job, OutLane, Slot};
 use crate::worker::Worker;
 use account::Shut;
 use bytes::Bytes;
@@ -26,6 +27,7 @@ use callbox::{FeedFault, Sender, open_in, open_out};
 use flow::MAX_LIVE;
 use h2frame::StreamId;
 use handlers::Methods;
+use lane::Ring;
 use std::alloc::{AllocError, Global};
 use std::sync::ledger::Ledger;
 use std::sync::{Arc, Wait};
@@ -38,11 +40,12 @@ const IN_ROOM: usize = 65_536;
 /// Room for what a call is answered with: so many messages wait at most to be written.
 const OUT_ROOM: usize = 16;
 
+/// How many calls may wait for their worker, and how many answers for the reader. A slot is handed one call at a time.
+const CALLS: usize = 2;
+
 /// A slot that was made for its first call. Of its sender nothing was got.
 #[derive(Drop)]
 pub(crate) struct Made {
-    /// The slot's number.
-    pub(crate) place: usize,
     pub(crate) slot: Arc<Slot>,
     pub(crate) sender: Sender<OutLane>,
     ghost unused: { got sender.rx ≡ [] },
@@ -59,7 +62,7 @@ pub(crate) struct Slots<M: Answering> {
 
 impl<M: Answering> Slots<M> {
     pub(crate) fn new(alloc: Global) -> Slots<M>
-        ensures { Kept [] result }
+        ensures { Kept M.names [] result }
     {
         Slots {
             alloc,
@@ -75,42 +78,31 @@ impl<M: Answering> Slots<M> {
         self.last
     }
 
-    /// A free slot for a call of this stream, the first of them. Where none is free nothing is begun.
-    pub(crate) fn engage(&mut self, id: StreamId) -> Result<Option<usize>, AllocError>
-        requires above { self.old.last < id }
-        ensures heard { IfOk result (λ place. IsSome place → (head : Head) → Hears (Told (events.Open id head) Admitted) self.old self.new) }
-        ensures stays { IfOk result (λ place. place ≡ None → Keeps self.old self.new × (self.new.last ≡ self.old.last)) }
-        ensures memory { OnErr result (Keeps self.old self.new × (self.new.last ≡ self.old.last)) }
-    {
-        'seats: for place in 0..self.seats.len() {
-            if self.engage_at(place, id)? {
-                return Ok(Some(place));
-            }
+    /// Whether the slot of this number may be free for a call.
+    pub(crate) fn is_free(&self, place: usize) -> bool {
+        match self.seats.get(place) {
+            Some(seat) => seat.slot.is_free(),
+            None => false,
         }
-        Ok(None)
     }
 
-    /// Engages the slot of this number for a call of this stream, if it is free.
-    fn engage_at(&mut self, place: usize, id: StreamId) -> Result<bool, AllocError>
-        requires above { self.old.last < id }
-        ensures heard { result ≡ Ok true → (head : Head) → Hears (Told (events.Open id head) Admitted) self.old self.new }
-        ensures stays { result ≢ Ok true → Keeps self.old self.new × (self.new.last ≡ self.old.last) }
+    /// Hands a call to the slot of this number, if it is free; its bell is still to be rung. Else the call is handed back.
+    pub(crate) fn engage(&mut self, place: usize, job: Job) -> Result<(), Job>
+        requires named { M.names job.head.path job.index }
+        requires above { self.old.last < job.id }
+        ensures heard { OnOk result (Hears M.names (Told (events.Open job.id job.head) Admitted) self.old self.new) }
+        ensures handed_back { IfErr result (λ back. back ≡ job) }
+        ensures stays { OnErr result (Keeps M.names self.old self.new) }
+        ensures last_stays { OnErr result (self.new.last ≡ self.old.last) }
+        ensures answers { HoldsAnswers self.old self.new }
     {
         let Some(seat) = self.seats.get_mut(place) else {
-            return Ok(false);
+            return Err(job);
         };
-        if !seat.begin(id)? {
-            return Ok(false);
-        }
+        let id = job.id;
+        seat.begin(job)?;
         self.last = id;
-        Ok(true)
-    }
-
-    /// Hands a slot's worker its call. Its bell is still to be rung.
-    pub(crate) fn hand_over(&self, rt: &impl Wait, place: usize, job: Job) {
-        if let Some(seat) = self.seats.get(place) {
-            seat.slot.hand_over(rt, job);
-        }
+        Ok(())
     }
 
     /// The number of the slot that is at a call of this stream, where more may be fed to it.
@@ -124,9 +116,10 @@ impl<M: Answering> Slots<M> {
 
     /// Feeds a piece to the call of this stream, if more may be fed to it. Its bell is to be rung once all that came with it is there.
     pub(crate) fn feed(&mut self, id: StreamId, piece: Bytes) -> Result<(), FeedFault>
-        ensures heard { OnOk result ((counted : ℕ) → Hears (Told (events.Data id piece counted) (Received Feed)) self.old self.new) }
-        ensures stays { OnErr result (Keeps self.old self.new) }
+        ensures heard { OnOk result ((counted : ℕ) → Hears M.names (Told (events.Data id piece counted) (Received Feed)) self.old self.new) }
+        ensures stays { OnErr result (Keeps M.names self.old self.new) }
         ensures last { self.new.last ≡ self.old.last }
+        ensures answers { HoldsAnswers self.old self.new }
     {
         let Some(place) = self.find(id) else {
             return Ok(());
@@ -139,8 +132,9 @@ impl<M: Answering> Slots<M> {
 
     /// Shuts the half of the call of this stream in this way, which its worker is to see. Where it was shut before nothing changes.
     pub(crate) fn shut(&mut self, id: StreamId, kind: Shut)
-        ensures heard { (step : Step) → Concerns id step → shut_at id step ≡ Some kind → Hears step self.old self.new }
+        ensures heard { (step : Step) → Concerns id step → shut_at id step ≡ Some kind → Hears M.names step self.old self.new }
         ensures last { self.new.last ≡ self.old.last }
+        ensures answers { HoldsAnswers self.old self.new }
     {
         let Some(place) = self.find(id) else {
             return;
@@ -156,6 +150,11 @@ impl<M: Answering> Slots<M> {
         self.seats.len()
     }
 
+    /// Whether there are as many as there may be.
+    pub(crate) fn is_full(&self) -> bool {
+        self.seats.len() >= MAX_LIVE
+    }
+
     /// The stream of a slot's call, where its half isn't shut.
     pub(crate) fn fed(&self, place: usize) -> Option<StreamId> {
         let seat = self.seats.get(place)?;
@@ -165,22 +164,24 @@ impl<M: Answering> Slots<M> {
         None
     }
 
-    /// The stream of a slot's call, where it was answered and its half wasn't shut.
-    pub(crate) fn answered(&self, place: usize) -> Option<StreamId> {
-        let seat = self.seats.get(place)?;
-        if seat.half.is_open() && seat.slot.is_answered() {
-            return Some(seat.id);
-        }
-        None
+    /// Whether more may be fed to the call of this stream.
+    pub(crate) fn is_fed(&self, id: StreamId) -> bool
+        ensures none { result ≡ false → position (λ seat. feeds id seat) self.now.seats.items ≡ None }
+    {
+        self.find(id).is_some()
     }
 
-    /// The stream of a slot's call, where it was left though it was live. It is answered once.
-    pub(crate) fn abandoned(&self, place: usize) -> Option<StreamId> {
-        let seat = self.seats.get(place)?;
-        if seat.slot.take_abandoned() {
-            return Some(seat.id);
-        }
-        None
+    /// What became of a slot's call, once its worker has given the last item. It is told once.
+    pub(crate) fn answered(&mut self, place: usize) -> Option<Answered>
+        ensures stays { Keeps M.names self.old self.new }
+        ensures last { self.new.last ≡ self.old.last }
+        ensures answers { HoldsAnswers self.old self.new }
+        ensures told { IfSome result (λ answered. answered.has_trailers ≡ true → WasAnswered answered.id self.new.seats.items) }
+    {
+        let Some(seat) = self.seats.get_mut(place) else {
+            return None;
+        };
+        seat.answered()
     }
 
     /// Rings the bells of the workers for which something came.
@@ -190,9 +191,11 @@ impl<M: Answering> Slots<M> {
         }
     }
 
-    /// Has each worker answer its call to the end, and waits for all: the rows of all calls, or none for want of memory.
+    /// Has each worker answer its call to the end, and waits for all: the rows of all calls, in the order in which these were begun, or
+    /// none for want of memory.
     pub(crate) fn end(self, rt: &impl Threads) -> Option<Vec<CallReport>>
-        ensures rows { (told : List Step) → Kept told self → IfSome result (λ rows. All (λ row. IsAccounted M.known told row) rows.items) }
+        ensures rows { (told : List Step) → Kept M.names told self → IfSome result (λ rows. AreRows M.known M.names told (admitted told) rows.items) }
+        ensures answered { (id : ℕ) → WasAnswered id self.seats.items → IfSome result (λ rows. HasTrailers id rows.items) }
     {
         let Slots { alloc, seats, .. } = self;
         for seat in &seats {
@@ -203,36 +206,32 @@ impl<M: Answering> Slots<M> {
         'seats: while let Some(seat) = rest.pop() {
             all = joined(all, seat.end(rt));
         }
-        all
+        Some(in_order(all?))
     }
 }
 
 impl<M: Answering + Send + Sync + 'static> Slots<M> {
-    /// A new slot for a call of this stream. None where there are as many as there may be. That no thread can be made counts as
-    /// want of memory.
+    /// A new slot with its first call. That no thread can be made counts as want of memory.
     pub(crate) fn open<A, B, C, R>(
         &mut self,
         rt: R,
         shared: &Arc<Shared<A, B, C>>,
         methods: &Arc<Methods>,
         start: Instant,
-        id: StreamId,
-    ) -> Result<Option<Made>, AllocError>
+        job: Job,
+    ) -> Result<Made, AllocError>
     where
         A: Ledger + Send + Sync + 'static,
         B: Ledger + Send + Sync + 'static,
         C: Ledger + Send + Sync + 'static,
         R: Threads + Wait + Clock + Copy + Send + Sync + Drop + 'static,
         requires known { IsWithin M.known (answers_by (λ method. answers (method.vtable, method.value)) (listed methods.now.value)) }
-        requires above { self.old.last < id }
-        ensures heard { IfOk result (λ made. IsSome made → (head : Head) → Hears (Told (events.Open id head) Admitted) self.old self.new) }
-        ensures stays { IfOk result (λ made. made ≡ None → self.new ≡ self.old) }
-        ensures memory { OnErr result (Keeps self.old self.new × (self.new.last ≡ self.old.last)) }
+        requires named { M.names job.head.path job.index }
+        requires above { self.old.last < job.id }
+        ensures heard { OnOk result (Hears M.names (Told (events.Open job.id job.head) Admitted) self.old self.new) }
+        ensures stays { OnErr result (Keeps M.names self.old self.new) }
+        ensures answers { HoldsAnswers self.old self.new }
     {
-        let place = self.seats.len();
-        if place >= MAX_LIVE {
-            return Ok(None);
-        }
         self.seats.reserve(1)?;
         let slot = Arc::new(self.alloc, Slot::new())?;
         let told = Arc::try_clone(&slot)?;
@@ -243,25 +242,22 @@ impl<M: Answering + Send + Sync + 'static> Slots<M> {
             start,
         };
         let methods = Arc::try_clone(methods)?;
-        let (seat, sender) = open_seat(rt, self.alloc, worker, methods, slot, id)?;
+        let id = job.id;
+        let (seat, sender) = open_seat(rt, self.alloc, worker, methods, slot, job)?;
         self.seats.push_reserved(seat);
         self.last = id;
-        Ok(Some(Made {
-            place,
-            slot: told,
-            sender,
-        }))
+        Ok(Made { slot: told, sender })
     }
 }
 
-/// A slot of this stream's call with a worker of its own, and its sender.
+/// A slot with a worker of its own, which is handed its first call, and its sender.
 fn open_seat<A, B, C, M, R>(
     rt: R,
     alloc: Global,
     worker: Worker<A, B, C>,
     methods: Arc<Methods>,
     slot: Arc<Slot>,
-    id: StreamId,
+    job: Job,
 ) -> Result<(Seat<M>, Sender<OutLane>), AllocError>
 where
     A: Ledger + Send + Sync + 'static,
@@ -270,18 +266,33 @@ where
     M: Answering + Send + Sync + 'static,
     R: Threads + Wait + Clock + Copy + Send + Sync + Drop + 'static,
     requires known { IsWithin M.known (answers_by (λ method. answers (method.vtable, method.value)) (listed methods.value)) }
+    requires named { M.names job.head.path job.index }
     ensures unused { IfOk result (λ r. got r.1.rx ≡ []) }
-    ensures id { IfOk result (λ r. r.0.id ≡ id) }
-    ensures heard { IfOk result (λ r. (told : List Step) (head : Head) → IsSeat (Told (events.Open id head) Admitted ∷ told) r.0) }
+    ensures id { IfOk result (λ r. r.0.id ≡ job.id) }
+    ensures jobs { IfOk result (λ r. jobs_of r.0 ≡ job ∷ []) }
+    ensures heard { IfOk result (λ r. (told : List Step) → IsSeat M.names (Told (events.Open job.id job.head) Admitted ∷ told) r.0) }
 {
+    let id = job.id;
     let (feeder, taker) = open_in::<InLane>(alloc, IN_ROOM)?;
     let (giver, sender) = open_out::<OutLane>(alloc, id, OUT_ROOM)?;
-    let Some(worker) = hire(rt, worker, methods, taker, giver) else {
+    let (mut jobs, taking) = Ring::open(alloc, CALLS)?;
+    let (telling, answers) = Ring::open(alloc, CALLS)?;
+    if let Err(_full) = jobs.put(job) {
+        return Err(AllocError);
+    }
+    let ends = Ends {
+        taker,
+        giver,
+        jobs: taking,
+        answers: telling,
+    };
+    let Some(worker) = hire(rt, worker, methods, ends) else {
         return Err(AllocError);
     };
     let seat = Seat {
         slot,
-        ids: Vec::new(alloc),
+        jobs,
+        answers,
         id,
         half: Half::Open(feeder),
         worker,

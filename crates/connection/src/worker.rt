@@ -1,11 +1,12 @@
 //! What a worker does with its calls.
 //!
-//! `Worker::work` answers one call after another, and hands back the ends of its slot's lanes with a row for each call;
-//! `specs/Workers.antt` has what it promises of them.
+//! `Worker::work` answers one call after another, and hands back the ends of its slot's lanes and rings with a row for each
+//! call; `specs/Workers.antt` has what it promises of them.
 
-ghost use Rattle.std.specs.Prelude.{◌≡◌, ◌<◌, ℕ, List, [], ◌∷◌, ◌++◌, true, false, length, IfSome, IfOk, IfErr, IsSomeAnd, slice_get};
+ghost use Rattle.std.specs.Prelude.{◌≡◌, ◌<◌, ℕ, List, [], ◌∷◌, ◌++◌, true, false, is_some, length, IfSome, IfOk, IfErr, IsSomeAnd, slice_get};
 ghost use mathlib.Core.List.{IsPrefix};
 ghost use Rattle.lane.specs.End.{of_end};
+ghost use Rattle.lane.specs.Ring.{in_name, out_name, put_in, taken};
 ghost use Rattle.account.specs.declared.call.OutItem.{OutItem as Item};
 ghost use Rattle.callbox.specs.declared.piece.InPiece.{InPiece as PieceOf};
 ghost use Rattle.callbox.specs.InSides.{Took};
@@ -14,19 +15,19 @@ ghost use Rattle.handlers.specs.declared.step.Step.{Step};
 ghost use Rattle.callrun.specs.Outcomes.{IsOutcome};
 ghost use Rattle.callrun.specs.Runs.{GivesOf, HasCome};
 ghost use Rattle.callrun.specs.Sides.{is_open, name_by, shown};
-ghost use Rattle.connection.specs.Accounts.{IsGivenAs, IsWithin, answers_by};
-ghost use Rattle.connection.specs.Workers.{Answers, HaveRows, EachAnswers, IsFresh};
+ghost use Rattle.connection.specs.Accounts.{IsGivenAs, IsWithin, answers_by, unanswered};
+ghost use Rattle.connection.specs.Workers.{Answers, AreTrue, HaveRows, IsFresh, TellsOf};
 
 use crate::answering::Answering;
 use crate::report::CallReport;
 use crate::shared::Shared;
-use crate::slot::{IDLE, Job, Slot};
+use crate::slot::{Answered, IDLE, Job, Slot};
 use account::OutItem;
 use callbox::{GivenShut, Giver, InPiece, Taker};
 use callrun::{CallRun, Turn};
 use h2frame::StreamId;
 use handlers::{Method, Methods};
-use lane::{End, Lane};
+use lane::{End, Lane, RingIn, RingOut};
 use std::alloc::Global;
 use std::sync::ledger::Ledger;
 use std::sync::{Arc, Wait};
@@ -109,18 +110,22 @@ pub(crate) struct Worker<A: Ledger, B: Ledger, C: Ledger> {
     pub(crate) start: Instant,
 }
 
-/// A worker's ends of the lanes of its slot, and the rows of the calls that it answered.
+/// A worker's ends of the lanes and rings of its slot, and the rows of its calls.
 #[derive(Drop)]
 pub(crate) struct Seen<I: Lane<Item = InPiece>, O: Lane<Item = OutItem>> {
     pub(crate) taker: Taker<I>,
     pub(crate) end: End<Giver<O>, GivenShut<O>>,
-    /// None where there was no memory for them.
+    /// Where its calls come from.
+    pub(crate) jobs: RingOut<Job>,
+    /// Where it tells of each call that it has answered.
+    pub(crate) answers: RingIn<Answered>,
+    /// A row for each call that it took. None where there was no memory for them.
     pub(crate) calls: Option<Vec<CallReport>>,
 }
 
 /// What is left of a call that was answered.
 #[derive(Drop)]
-struct Answered<I: Lane<Item = InPiece>, O: Lane<Item = OutItem>> {
+struct Finished<I: Lane<Item = InPiece>, O: Lane<Item = OutItem>> {
     taker: Taker<I>,
     shut: GivenShut<O>,
     row: CallReport,
@@ -134,6 +139,8 @@ impl<A: Ledger, B: Ledger, C: Ledger> Worker<A, B, C> {
         methods: &Methods,
         taker: Taker<I>,
         giver: Giver<O>,
+        jobs: RingOut<Job>,
+        told: RingIn<Answered>,
     ) -> Seen<I, O>
     where
         I: Lane<Item = InPiece>,
@@ -143,23 +150,26 @@ impl<A: Ledger, B: Ledger, C: Ledger> Worker<A, B, C> {
         requires known { IsWithin M.known (answers_by (λ method. answers (method.vtable, method.value)) (listed methods.now)) }
         requires fresh { IsFresh (I.got taker.rx) taker.progress × (I.past_out taker.rx ≡ []) }
         requires ungiven { (O.past_in giver.tx ≡ []) × (O.put_in giver.tx ≡ []) }
+        requires unused { (taken jobs ≡ []) × (put_in told ≡ []) }
         requires ring_in { (n : I.Name) → I.ring_of (I.next_name n) ≡ I.ring_of n }
         requires ring_out { (n : O.Name) → O.ring_of (O.next_name n) ≡ O.ring_of n }
         ensures in_ring { I.ring_of (I.out_name result.taker.rx) ≡ I.ring_of (I.out_name taker.rx) }
         ensures out_ring { O.ring_of (of_end (λ g. O.in_name g.tx) (λ s. O.shut_name s.shut) result.end) ≡ O.ring_of (O.in_name giver.tx) }
-        ensures rows { IfSome result.calls (λ rows. HaveRows M.known (I.past_out result.taker.rx) (I.got result.taker.rx)
-            (of_end (λ g. O.past_in g.tx) (λ s. O.past_shut s.shut ++ O.put_shut s.shut ∷ []) result.end) rows.items) }
+        ensures jobs { out_name result.jobs ≡ out_name jobs }
+        ensures answers { in_name result.answers ≡ in_name told }
+        ensures rows { IfSome result.calls (λ rows. HaveRows M.known (I.past_out result.taker.rx ++ I.got result.taker.rx ∷ [])
+            (of_end (λ g. O.past_in g.tx) (λ s. O.past_shut s.shut) result.end ++ of_end (λ g. O.put_in g.tx) (λ s. O.put_shut s.shut) result.end ∷ []) (taken result.jobs) rows.items) }
+        ensures tells { IfSome result.calls (λ rows. AreTrue (put_in result.answers) rows.items) }
     {
         let mut seen = Seen {
             taker,
             end: End::Open(giver),
+            jobs,
+            answers: told,
             calls: Some(Vec::new(self.alloc)),
         };
         'calls: for _ in rt.forever() {
-            let Some(job) = self.slot.next(rt) else {
-                return seen;
-            };
-            match self.serve::<I, O, M, R>(rt, methods, job, seen) {
+            match self.serve::<I, O, M, R>(rt, methods, seen) {
                 Ok(idle) => seen = idle,
                 Err(last) => return last,
             }
@@ -172,7 +182,6 @@ impl<A: Ledger, B: Ledger, C: Ledger> Worker<A, B, C> {
         &self,
         rt: &R,
         methods: &Methods,
-        job: Job,
         seen: Seen<I, O>,
     ) -> Result<Seen<I, O>, Seen<I, O>>
     where
@@ -183,39 +192,59 @@ impl<A: Ledger, B: Ledger, C: Ledger> Worker<A, B, C> {
         requires known { IsWithin M.known (answers_by (λ method. answers (method.vtable, method.value)) (listed methods.now)) }
         requires fresh { IsFresh (I.got seen.taker.rx) seen.taker.progress }
         requires ungiven { of_end (λ g. O.put_in g.tx) (λ s. []) seen.end ≡ [] }
-        requires rows { IfSome seen.calls (λ rows. EachAnswers M.known (I.past_out seen.taker.rx)
-            (of_end (λ g. O.past_in g.tx) (λ s. O.past_shut s.shut ++ O.put_shut s.shut ∷ []) seen.end) rows.items) }
+        requires got_each { length (I.past_out seen.taker.rx) ≡ length (taken seen.jobs) }
+        requires gave_each { length (of_end (λ g. O.past_in g.tx) (λ s. O.past_shut s.shut ++ O.put_shut s.shut ∷ []) seen.end) ≡ length (taken seen.jobs) }
+        requires rows { IfSome seen.calls (λ rows. HaveRows M.known (I.past_out seen.taker.rx) (of_end (λ g. O.past_in g.tx) (λ s. O.past_shut s.shut ++ O.put_shut s.shut ∷ []) seen.end) (taken seen.jobs) rows.items) }
+        requires tells { IfSome seen.calls (λ rows. AreTrue (put_in seen.answers) rows.items) }
         requires ring_in { (n : I.Name) → I.ring_of (I.next_name n) ≡ I.ring_of n }
         requires ring_out { (n : O.Name) → O.ring_of (O.next_name n) ≡ O.ring_of n }
         ensures in_ring_on { IfOk result (λ r. I.ring_of (I.out_name r.taker.rx) ≡ I.ring_of (I.out_name seen.taker.rx)) }
         ensures in_ring { IfErr result (λ r. I.ring_of (I.out_name r.taker.rx) ≡ I.ring_of (I.out_name seen.taker.rx)) }
         ensures out_ring_on { IfOk result (λ r. O.ring_of (of_end (λ g. O.in_name g.tx) (λ s. O.shut_name s.shut) r.end) ≡ O.ring_of (of_end (λ g. O.in_name g.tx) (λ s. O.shut_name s.shut) seen.end)) }
         ensures out_ring { IfErr result (λ r. O.ring_of (of_end (λ g. O.in_name g.tx) (λ s. O.shut_name s.shut) r.end) ≡ O.ring_of (of_end (λ g. O.in_name g.tx) (λ s. O.shut_name s.shut) seen.end)) }
+        ensures rings_on { IfOk result (λ r. (out_name r.jobs ≡ out_name seen.jobs) × (in_name r.answers ≡ in_name seen.answers)) }
+        ensures rings { IfErr result (λ r. (out_name r.jobs ≡ out_name seen.jobs) × (in_name r.answers ≡ in_name seen.answers)) }
         ensures fresh { IfOk result (λ r. IsFresh (I.got r.taker.rx) r.taker.progress) }
         ensures ungiven { IfOk result (λ r. of_end (λ g. O.put_in g.tx) (λ s. []) r.end ≡ []) }
-        ensures rows_on { IfOk result (λ r. IfSome r.calls (λ rows. EachAnswers M.known (I.past_out r.taker.rx)
-            (of_end (λ g. O.past_in g.tx) (λ s. O.past_shut s.shut ++ O.put_shut s.shut ∷ []) r.end) rows.items)) }
-        ensures rows { IfErr result (λ r. IfSome r.calls (λ rows. HaveRows M.known (I.past_out r.taker.rx) (I.got r.taker.rx)
-            (of_end (λ g. O.past_in g.tx) (λ s. O.past_shut s.shut ++ O.put_shut s.shut ∷ []) r.end) rows.items)) }
+        ensures got_each { IfOk result (λ r. length (I.past_out r.taker.rx) ≡ length (taken r.jobs)) }
+        ensures gave_each { IfOk result (λ r. length (of_end (λ g. O.past_in g.tx) (λ s. O.past_shut s.shut ++ O.put_shut s.shut ∷ []) r.end) ≡ length (taken r.jobs)) }
+        ensures rows_on { IfOk result (λ r. IfSome r.calls (λ rows. HaveRows M.known (I.past_out r.taker.rx) (of_end (λ g. O.past_in g.tx) (λ s. O.past_shut s.shut ++ O.put_shut s.shut ∷ []) r.end) (taken r.jobs) rows.items)) }
+        ensures rows { IfErr result (λ r. IfSome r.calls (λ rows. HaveRows M.known (I.past_out r.taker.rx ++ I.got r.taker.rx ∷ [])
+            (of_end (λ g. O.past_in g.tx) (λ s. O.past_shut s.shut) r.end ++ of_end (λ g. O.put_in g.tx) (λ s. O.put_shut s.shut) r.end ∷ []) (taken r.jobs) rows.items)) }
+        ensures tells_on { IfOk result (λ r. IfSome r.calls (λ rows. AreTrue (put_in r.answers) rows.items)) }
+        ensures tells { IfErr result (λ r. IfSome r.calls (λ rows. AreTrue (put_in r.answers) rows.items)) }
     {
-        let Seen { taker, end, calls } = seen;
+        let mut seen = seen;
+        let Some(job) = self.slot.next(rt, &mut seen.jobs) else {
+            return Err(seen);
+        };
+        let Seen {
+            taker,
+            end,
+            jobs,
+            mut answers,
+            calls,
+        } = seen;
         let giver = match self.begin(rt, job.id, end) {
             Ok(giver) => giver,
             Err(shut) => {
                 return Err(Seen {
                     taker,
                     end: End::Shut(shut),
-                    calls,
+                    jobs,
+                    answers,
+                    calls: with_row(calls, CallReport::unanswered(job.id, job.index)),
                 });
             }
         };
-        let Answered { taker, shut, row } = self.answer(rt, methods, job, taker, giver);
-        let mut taker = taker;
-        let goes_on = self.rest(rt, &mut taker);
+        let mut finished = self.answer(rt, methods, job, taker, giver, &mut answers);
+        let goes_on = self.rest(rt, &mut finished.taker);
         let seen = Seen {
-            taker,
-            end: End::Shut(shut),
-            calls: with_row(calls, row),
+            taker: finished.taker,
+            end: End::Shut(finished.shut),
+            jobs,
+            answers,
+            calls: with_row(calls, finished.row),
         };
         if goes_on { Ok(seen) } else { Err(seen) }
     }
@@ -279,7 +308,8 @@ impl<A: Ledger, B: Ledger, C: Ledger> Worker<A, B, C> {
         job: Job,
         taker: Taker<I>,
         giver: Giver<O>,
-    ) -> Answered<I, O>
+        told: &mut RingIn<Answered>,
+    ) -> Finished<I, O>
         requires fresh { IsFresh (I.got taker.rx) taker.progress }
         requires ungiven { O.put_in giver.tx ≡ [] }
         ensures in_name { I.out_name result.taker.rx ≡ I.out_name taker.rx }
@@ -287,7 +317,9 @@ impl<A: Ledger, B: Ledger, C: Ledger> Worker<A, B, C> {
         ensures name { O.shut_name result.shut.shut ≡ O.in_name giver.tx }
         ensures past { O.past_shut result.shut.shut ≡ O.past_in giver.tx }
         ensures answers { Answers (answers_by (λ method. answers (method.vtable, method.value)) (listed methods.now))
-            (I.got result.taker.rx) (O.put_shut result.shut.shut) result.row }
+            (I.got result.taker.rx) (O.put_shut result.shut.shut) job result.row }
+        ensures tells_by { in_name told.new ≡ in_name told.old }
+        ensures tells { TellsOf job.id (is_some result.row.status) (put_in told.old) (put_in told.new) }
     {
         let Job {
             id,
@@ -296,12 +328,12 @@ impl<A: Ledger, B: Ledger, C: Ledger> Worker<A, B, C> {
             opened,
         } = job;
         if methods.get(index).is_none() {
-            return self.pass_over(rt, id, index, taker, giver);
+            return self.pass_over(rt, id, index, taker, giver, told);
         }
         let mut run = CallRun::new(self.alloc, methods, index, head, taker, giver, opened);
         let mut pace = Pace::new();
         self.run(rt, methods, id, &mut run, &mut pace);
-        self.end(rt, id, index, run, pace)
+        self.end(rt, id, index, run, pace, told)
     }
 
     /// Leaves a call whose method isn't there.
@@ -312,27 +344,20 @@ impl<A: Ledger, B: Ledger, C: Ledger> Worker<A, B, C> {
         index: usize,
         taker: Taker<I>,
         giver: Giver<O>,
-    ) -> Answered<I, O>
+        told: &mut RingIn<Answered>,
+    ) -> Finished<I, O>
         ensures taker { result.taker ≡ taker }
         ensures name { O.shut_name result.shut.shut ≡ O.in_name giver.tx }
         ensures past { O.past_shut result.shut.shut ≡ O.past_in giver.tx }
-        ensures row { (result.row.method ≡ index) × (result.row.messages ≡ taker.progress.taken) × (result.row.told ≡ taker.progress.told) }
+        ensures row { result.row ≡ unanswered id index }
+        ensures tells_by { in_name told.new ≡ in_name told.old }
+        ensures tells { TellsOf id false (put_in told.old) (put_in told.new) }
     {
-        self.settle(rt, id, 0, false);
-        let row = CallReport {
-            id,
-            method: index,
-            messages: taker.taken(),
-            bytes: 0,
-            told: taker.told(),
-            given: 0,
-            given_bytes: 0,
-            status: None,
-        };
-        Answered {
+        self.settle(rt, id, 0, false, told);
+        Finished {
             taker,
             shut: giver.leave(),
-            row,
+            row: CallReport::unanswered(id, index),
         }
     }
 
@@ -355,7 +380,7 @@ impl<A: Ledger, B: Ledger, C: Ledger> Worker<A, B, C> {
         ensures in_past { I.past_out run.new.taker.rx ≡ I.past_out run.old.taker.rx }
         ensures name { name_by (λ g. O.in_name g.tx) (λ s. O.shut_name s.shut) run.new.response ≡ name_by (λ g. O.in_name g.tx) (λ s. O.shut_name s.shut) run.old.response }
         ensures past { name_by (λ g. O.past_in g.tx) (λ s. O.past_shut s.shut) run.new.response ≡ name_by (λ g. O.past_in g.tx) (λ s. O.past_shut s.shut) run.old.response }
-        ensures index { run.new.index ≡ run.old.index }
+        ensures same { (run.new.index ≡ run.old.index) × (run.new.call.head ≡ run.old.call.head) }
         ensures over { is_open run.new.response ≡ false }
     {
         'turns: for _ in rt.forever() {
@@ -384,7 +409,7 @@ impl<A: Ledger, B: Ledger, C: Ledger> Worker<A, B, C> {
         ensures in_past { I.past_out run.new.taker.rx ≡ I.past_out run.old.taker.rx }
         ensures name { name_by (λ g. O.in_name g.tx) (λ s. O.shut_name s.shut) run.new.response ≡ name_by (λ g. O.in_name g.tx) (λ s. O.shut_name s.shut) run.old.response }
         ensures past { name_by (λ g. O.past_in g.tx) (λ s. O.past_shut s.shut) run.new.response ≡ name_by (λ g. O.past_in g.tx) (λ s. O.past_shut s.shut) run.old.response }
-        ensures index { run.new.index ≡ run.old.index }
+        ensures same { (run.new.index ≡ run.old.index) × (run.new.call.head ≡ run.old.call.head) }
         ensures over { result ≡ false → is_open run.new.response ≡ false }
     {
         let came = self.slot.bell.mark();
@@ -467,7 +492,7 @@ impl<A: Ledger, B: Ledger, C: Ledger> Worker<A, B, C> {
         ensures in_past { I.past_out run.new.taker.rx ≡ I.past_out run.old.taker.rx }
         ensures name { name_by (λ g. O.in_name g.tx) (λ s. O.shut_name s.shut) run.new.response ≡ name_by (λ g. O.in_name g.tx) (λ s. O.shut_name s.shut) run.old.response }
         ensures past { name_by (λ g. O.past_in g.tx) (λ s. O.past_shut s.shut) run.new.response ≡ name_by (λ g. O.past_in g.tx) (λ s. O.past_shut s.shut) run.old.response }
-        ensures index { run.new.index ≡ run.old.index }
+        ensures same { (run.new.index ≡ run.old.index) × (run.new.call.head ≡ run.old.call.head) }
         ensures over { is_open run.new.response ≡ false }
     {
         'turns: for _ in rt.forever() {
@@ -491,7 +516,8 @@ impl<A: Ledger, B: Ledger, C: Ledger> Worker<A, B, C> {
         index: usize,
         run: CallRun<I, O>,
         pace: Pace,
-    ) -> Answered<I, O>
+        told: &mut RingIn<Answered>,
+    ) -> Finished<I, O>
         ensures rx { result.taker.rx ≡ run.taker.rx }
         ensures progress { result.taker.progress ≡ record run.taker.progress { owed = 0 } }
         ensures name { Some (O.shut_name result.shut.shut) ≡ name_by (λ g. O.in_name g.tx) (λ s. O.shut_name s.shut) run.response }
@@ -499,7 +525,9 @@ impl<A: Ledger, B: Ledger, C: Ledger> Worker<A, B, C> {
         ensures given { (items : List Item) × IsGivenAs items (O.put_shut result.shut.shut)
             × ((answer : Step) → GivesOf run.taker.progress.told answer run.call (shown (λ g. O.put_in g.tx) (λ s. O.put_shut s.shut) (λ s. O.was_placed s.shut) run.response)
             → IsOutcome run.call.head run.call.overdue run.taker.progress.told answer items result.row.status) }
-        ensures row { (result.row.method ≡ index) × (result.row.messages ≡ run.taker.progress.taken) × (result.row.told ≡ run.taker.progress.told) }
+        ensures row { (result.row.id ≡ id) × (result.row.method ≡ index) × (result.row.messages ≡ run.taker.progress.taken) × (result.row.told ≡ run.taker.progress.told) }
+        ensures tells_by { in_name told.new ≡ in_name told.old }
+        ensures tells { TellsOf id (is_some result.row.status) (put_in told.old) (put_in told.new) }
     {
         let mut run = run;
         let mut pace = pace;
@@ -507,7 +535,7 @@ impl<A: Ledger, B: Ledger, C: Ledger> Worker<A, B, C> {
         pace.came(credit);
         let (given, given_bytes) = run.given();
         let (taker, end, status) = run.into_ends();
-        self.settle(rt, id, credit, status.is_some());
+        self.settle(rt, id, credit, status.is_some(), told);
         let row = CallReport {
             id,
             method: index,
@@ -518,27 +546,42 @@ impl<A: Ledger, B: Ledger, C: Ledger> Worker<A, B, C> {
             given_bytes,
             status,
         };
-        Answered {
+        Finished {
             taker,
             shut: shut_of(end),
             row,
         }
     }
 
-    /// Returns what was taken of a call that is over. One without trailers is live no more.
-    fn settle(&self, rt: &impl Wait, id: StreamId, credit: u32, has_trailers: bool) {
-        let mut is_abandoned = false;
-        {
+    /// Returns what was taken of a call that is over, and tells the reader of it. One without trailers is live no more.
+    fn settle(
+        &self,
+        rt: &impl Wait,
+        id: StreamId,
+        credit: u32,
+        has_trailers: bool,
+        told: &mut RingIn<Answered>,
+    )
+        ensures tells_by { in_name told.new ≡ in_name told.old }
+        ensures tells { TellsOf id has_trailers (put_in told.old) (put_in told.new) }
+    {
+        let was_live = {
             let mut book = self.shared.book.lock(rt);
             if credit > 0 {
                 let _ = book.give_back(id, credit);
             }
+            let was_live = book.is_live(id);
             if !has_trailers {
-                is_abandoned = book.is_live(id);
                 book.cut(id);
             }
-        }
-        self.slot.answer(is_abandoned);
+            was_live
+        };
+        let answered = Answered {
+            id,
+            has_trailers,
+            was_live,
+        };
+        self.slot.answer(told, answered);
     }
 
     /// Gets what is left of a call that was answered, up to its end, and is idle then: for the next call the taker goes on. Says

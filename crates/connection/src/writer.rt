@@ -1,13 +1,17 @@
 //! The writing thread of a connection.
 
-ghost use Rattle.std.specs.Prelude.{◌≡◌, ℕ, true, List, Option, Some, IfOk};
+ghost use Rattle.std.specs.Prelude.{◌≡◌, ◌≢◌, ℕ, true, false, List, [], Option, None, Some, IfOk};
+ghost use Rattle.lane.specs.Ring.{out_name, taken};
 ghost use Rattle.lane.specs.RingLane.{got};
 ghost use Rattle.outwriter.specs.Cores.{IsUnused};
+ghost use Rattle.outwriter.specs.Steps.{order_of};
 ghost use Rattle.connwriter.specs.declared.filled.Filled.TheVariants as filling;
 ghost use Rattle.connwriter.specs.declared.standing.Standing.TheVariants as stands;
 ghost use Rattle.connection.specs.declared.report.Ending.TheVariants as ending;
-ghost use Rattle.connection.specs.Written.{HasWritten, IsFlushed, Runs, Ends, RunsOn, RunsOut, Stays};
+ghost use Rattle.connection.specs.Orders.{orders_of};
+ghost use Rattle.connection.specs.Written.{HasWritten, IsFlushed, RunsOn, Stays, Takes, TakesBy, Loses, Led, LedOut, LeadsOn, LeadsOut};
 
+use crate::inbox::Inbox;
 use crate::orders::Order;
 use crate::outlet::Outlet;
 use crate::report::Ending;
@@ -34,27 +38,23 @@ const STEP: u64 = 1000;
 /// What the writing thread of a connection has.
 #[derive(Drop)]
 struct Writer<A: Ledger, B: Ledger, C: Ledger, W: ConnWrite> {
-    orders: RingOut<Order>,
+    orders: Inbox,
     outlet: Outlet<A, B, C>,
     frames: ConnWriter<OutLane, W>,
     /// The senders of slots between two calls.
     senders: Senders,
-    /// An order that can't be taken yet. The others wait behind it.
-    set_aside: Option<Order>,
     /// Whether no more comes from the peer.
     input_ended: bool,
     /// Whether no more orders come.
     closed: bool,
     /// Streams that were called off or have ended, and whose senders may be with the core still.
     called_off: Vec<StreamId>,
-    /// Whether there was no memory for an order.
-    lacks_memory: bool,
     /// The error of its own that the writer ended the connection with.
     failed: Option<ErrorCode>,
 }
 
 impl<A: Ledger, B: Ledger, C: Ledger, W: ConnWrite + Drop> Writer<A, B, C, W> {
-    /// A writer that has written nothing to a device that was so.
+    /// A writer that has taken no orders, and written nothing to a device that was so.
     fn new(
         alloc: Global,
         orders: RingOut<Order>,
@@ -63,27 +63,28 @@ impl<A: Ledger, B: Ledger, C: Ledger, W: ConnWrite + Drop> Writer<A, B, C, W> {
         was: &Snapshot<W>,
     ) -> Writer<A, B, C, W>
         requires was { was.now.value ≡ device }
-        ensures runs { Runs got W.contents W.failed (W.contents was.now.value) result.frames }
+        requires none { taken orders ≡ [] }
+        ensures runs { Led got W.contents W.failed (W.contents was.now.value) result.orders result.frames }
+        ensures ring { result.orders.ring ≡ orders }
     {
         let frames = ConnWriter::new(alloc, device);
         Writer {
-            orders,
+            orders: Inbox::new(orders),
             outlet,
             frames,
             senders: Senders::new(alloc),
-            set_aside: None,
             input_ended: false,
             closed: false,
             called_off: Vec::new(alloc),
-            lacks_memory: false,
             failed: None,
         }
     }
 
-    /// Writes until no more is to be written. It says how the connection ended as far as the writer sees, and gives back what
-    /// it wrote to.
-    fn write(self, rt: &impl Wait) -> (Option<Ending>, W)
-        ensures written { (before : Option (List ℕ)) → Runs got W.contents W.failed before self.frames → HasWritten W.contents W.failed before result.0 result.1 }
+    /// Writes until no more is to be written.
+    fn write(self, rt: &impl Wait) -> Written<W>
+        ensures written { (before : Option (List ℕ)) → Led got W.contents W.failed before self.orders self.frames
+            → HasWritten W.contents W.failed before (orders_of (taken result.orders)) result.ending result.device }
+        ensures name { out_name result.orders ≡ out_name self.orders.ring }
     {
         let mut writer = self;
         'turns: for _ in rt.forever() {
@@ -94,21 +95,27 @@ impl<A: Ledger, B: Ledger, C: Ledger, W: ConnWrite + Drop> Writer<A, B, C, W> {
         unreachable!()
     }
 
-    /// How the connection ended as far as the writer sees, and what it wrote to.
-    fn into_end(self) -> (Option<Ending>, W)
+    /// What it hands back once no more is to be written.
+    fn into_end(self) -> Written<W>
         requires flushed { IsFlushed self.frames }
-        ensures written { (before : Option (List ℕ)) → Ends got W.contents W.failed before self.frames → HasWritten W.contents W.failed before result.0 result.1 }
+        ensures written { (before : Option (List ℕ)) → LedOut got W.contents W.failed before self.orders self.frames
+            → HasWritten W.contents W.failed before (orders_of (taken result.orders)) result.ending result.device }
+        ensures ring { result.orders ≡ self.orders.ring }
     {
         let ending = self.ending();
-        let Writer { frames, .. } = self;
+        let Writer { orders, frames, .. } = self;
         let (_senders, device) = frames.into_parts();
-        (ending, device)
+        Written {
+            ending,
+            device,
+            orders: orders.ring,
+        }
     }
 
     /// Writes what can be written, and waits where that is nothing. Whether no more is to be written.
     fn turn(&mut self, rt: &impl Wait) -> bool
-        ensures runs { RunsOn got W.contents W.failed self.old.frames self.new.frames }
-        ensures over { result ≡ true → RunsOut got W.contents W.failed self.old.frames self.new.frames }
+        ensures runs { LeadsOn got W.contents W.failed self.old.orders self.old.frames self.new.orders self.new.frames }
+        ensures over { result ≡ true → LeadsOut got W.contents W.failed self.old.orders self.old.frames self.new.orders self.new.frames }
         ensures flushed { IsFlushed self.new.frames }
     {
         let mark = self.outlet.shared.writer.mark();
@@ -134,9 +141,9 @@ impl<A: Ledger, B: Ledger, C: Ledger, W: ConnWrite + Drop> Writer<A, B, C, W> {
 
     /// Takes what orders wait, and writes a buffer's worth of frames. Why there aren't more, and whether there was none.
     fn write_once(&mut self, rt: &impl Wait) -> (Filled, bool)
-        ensures runs { RunsOn got W.contents W.failed self.old.frames self.new.frames }
-        ensures over { result.0 ≡ filling.Over → RunsOut got W.contents W.failed self.old.frames self.new.frames }
-        ensures stopped { result.0 ≡ filling.Stopped → RunsOut got W.contents W.failed self.old.frames self.new.frames }
+        ensures runs { LeadsOn got W.contents W.failed self.old.orders self.old.frames self.new.orders self.new.frames }
+        ensures over { result.0 ≡ filling.Over → LeadsOut got W.contents W.failed self.old.orders self.old.frames self.new.orders self.new.frames }
+        ensures stopped { result.0 ≡ filling.Stopped → LeadsOut got W.contents W.failed self.old.orders self.old.frames self.new.orders self.new.frames }
         ensures flushed { IsFlushed self.new.frames }
     {
         self.drain(rt);
@@ -153,7 +160,7 @@ impl<A: Ledger, B: Ledger, C: Ledger, W: ConnWrite + Drop> Writer<A, B, C, W> {
 
     /// Takes all orders that wait.
     fn drain(&mut self, rt: &impl Wait)
-        ensures runs { RunsOn got W.contents W.failed self.old.frames self.new.frames }
+        ensures runs { LeadsOn got W.contents W.failed self.old.orders self.old.frames self.new.orders self.new.frames }
     {
         let mut some = false;
         'orders: for _ in rt.forever() {
@@ -169,9 +176,9 @@ impl<A: Ledger, B: Ledger, C: Ledger, W: ConnWrite + Drop> Writer<A, B, C, W> {
 
     /// Takes the next order. None may be taken where none waits, or where one is set aside.
     fn take_next(&mut self, rt: &impl Wait) -> bool
-        ensures runs { RunsOn got W.contents W.failed self.old.frames self.new.frames }
+        ensures runs { LeadsOn got W.contents W.failed self.old.orders self.old.frames self.new.orders self.new.frames }
     {
-        let Some(order) = self.next_order() else {
+        let Some(order) = self.orders.next() else {
             return false;
         };
         match self.senders.control_of(order) {
@@ -184,27 +191,18 @@ impl<A: Ledger, B: Ledger, C: Ledger, W: ConnWrite + Drop> Writer<A, B, C, W> {
                 true
             }
             Err(Untaken::Early(order)) => {
-                self.set_aside = Some(order);
+                self.orders.set_aside = Some(order);
                 self.outlet.shared.reader.ring();
                 false
             }
         }
     }
 
-    /// The order that was set aside, or else the next that waits.
-    fn next_order(&mut self) -> Option<Order>
-        ensures frames { self.new.frames ≡ self.old.frames }
-    {
-        match self.set_aside.take() {
-            Some(order) => Some(order),
-            None => self.orders.take(),
-        }
-    }
-
     /// Takes an order.
     fn take(&mut self, rt: &impl Wait, order: Control<Sender<OutLane>>)
         requires unused { IsUnused got order }
-        ensures runs { RunsOn got W.contents W.failed self.old.frames self.new.frames }
+        ensures takes { Takes got W.contents W.failed (order_of order) self.old.orders.has_lost self.new.orders.has_lost self.old.frames self.new.frames }
+        ensures orders { self.new.orders ≡ record self.old.orders { has_lost = self.new.orders.has_lost } }
     {
         self.note(&order);
         match self.give(order) {
@@ -217,6 +215,7 @@ impl<A: Ledger, B: Ledger, C: Ledger, W: ConnWrite + Drop> Writer<A, B, C, W> {
     /// The writer has ended a stream, or at 0 the connection.
     fn end(&mut self, rt: &impl Wait, id: StreamId)
         ensures frames { self.new.frames ≡ self.old.frames }
+        ensures orders { self.new.orders ≡ self.old.orders }
     {
         if id == 0 {
             self.failed = Some(ErrorCode::FlowControlError);
@@ -230,6 +229,7 @@ impl<A: Ledger, B: Ledger, C: Ledger, W: ConnWrite + Drop> Writer<A, B, C, W> {
     /// Keeps in mind what ends by an order.
     fn note(&mut self, order: &Control<Sender<OutLane>>)
         ensures frames { self.new.frames ≡ self.old.frames }
+        ensures orders { self.new.orders ≡ self.old.orders }
     {
         match order {
             Control::InputEnded => self.input_ended = true,
@@ -242,7 +242,8 @@ impl<A: Ledger, B: Ledger, C: Ledger, W: ConnWrite + Drop> Writer<A, B, C, W> {
     /// Gives an order to the core.
     fn give(&mut self, order: Control<Sender<OutLane>>) -> Taking<Sender<OutLane>>
         requires unused { IsUnused got order }
-        ensures runs { RunsOn got W.contents W.failed self.old.frames self.new.frames }
+        ensures takes { TakesBy got W.contents W.failed result (order_of order) self.old.frames self.new.frames }
+        ensures orders { self.new.orders ≡ self.old.orders }
     {
         let last = self.outlet.shared.last();
         self.frames.take(order, last)
@@ -250,28 +251,39 @@ impl<A: Ledger, B: Ledger, C: Ledger, W: ConnWrite + Drop> Writer<A, B, C, W> {
 
     /// Ends the connection for want of memory: by GOAWAY where there is memory for that, and behind it nothing is written.
     fn give_up(&mut self, rt: &impl Wait)
-        ensures runs { RunsOn got W.contents W.failed self.old.frames self.new.frames }
+        ensures loses { Loses got W.contents W.failed self.old.frames self.new.frames }
+        ensures orders { self.new.orders ≡ record self.old.orders { has_lost = true } }
     {
-        self.lacks_memory = true;
+        self.orders.has_lost = true;
         self.end_frames();
         self.stop(rt);
     }
 
     /// Ends the frames by a GOAWAY, or without one where there is no memory for it.
     fn end_frames(&mut self)
-        ensures runs { RunsOn got W.contents W.failed self.old.frames self.new.frames }
+        ensures loses { Loses got W.contents W.failed self.old.frames self.new.frames }
+        ensures orders { self.new.orders ≡ self.old.orders }
+    {
+        if !self.part() {
+            self.stop_frames();
+        }
+    }
+
+    /// Gives the core a GOAWAY of the writer's own. Whether it was taken.
+    fn part(&mut self) -> bool
+        ensures loses { Loses got W.contents W.failed self.old.frames self.new.frames }
+        ensures orders { self.new.orders ≡ self.old.orders }
     {
         let last = self.outlet.shared.last();
         let code = ErrorCode::InternalError;
-        let is_taken = matches!(self.give(Control::Goaway { last, code }), Taking::Done);
-        if !is_taken {
-            self.stop_frames();
-        }
+        let taking = self.frames.take(Control::Goaway { last, code }, last);
+        matches!(taking, Taking::Done)
     }
 
     /// Makes no more frames.
     fn stop_frames(&mut self)
         ensures runs { RunsOn got W.contents W.failed self.old.frames self.new.frames }
+        ensures orders { self.new.orders ≡ self.old.orders }
     {
         self.frames.stop();
     }
@@ -279,6 +291,7 @@ impl<A: Ledger, B: Ledger, C: Ledger, W: ConnWrite + Drop> Writer<A, B, C, W> {
     /// Owes the peer what credit is due.
     fn announce(&mut self, rt: &impl Wait)
         ensures runs { RunsOn got W.contents W.failed self.old.frames self.new.frames }
+        ensures orders { self.new.orders ≡ self.old.orders }
     {
         let Writer { outlet, frames, .. } = self;
         outlet.announce(rt, frames);
@@ -287,6 +300,7 @@ impl<A: Ledger, B: Ledger, C: Ledger, W: ConnWrite + Drop> Writer<A, B, C, W> {
     /// Writes what is in the buffer. The calls whose last frame is in it take no more DATA.
     fn flush(&mut self, rt: &impl Wait)
         ensures stays { Stays got W.contents W.failed self.old.frames self.new.frames }
+        ensures orders { self.new.orders ≡ self.old.orders }
         ensures flushed { IsFlushed self.new.frames }
     {
         {
@@ -305,6 +319,7 @@ impl<A: Ledger, B: Ledger, C: Ledger, W: ConnWrite + Drop> Writer<A, B, C, W> {
     /// Notes that a stream was called off, or has ended. Without memory for that its sender is kept to the end.
     fn call_off(&mut self, id: StreamId)
         ensures frames { self.new.frames ≡ self.old.frames }
+        ensures orders { self.new.orders ≡ self.old.orders }
     {
         let _ = self.called_off.push(id);
     }
@@ -313,6 +328,7 @@ impl<A: Ledger, B: Ledger, C: Ledger, W: ConnWrite + Drop> Writer<A, B, C, W> {
     /// begins then. A header block that a full buffer has cut is whole where nothing more can be written now.
     fn let_go(&mut self, filled: Filled)
         ensures stays { Stays got W.contents W.failed self.old.frames self.new.frames }
+        ensures orders { self.new.orders ≡ self.old.orders }
     {
         'ended: for index in 0..self.frames.ended().len() {
             self.let_go_ended(index);
@@ -328,6 +344,7 @@ impl<A: Ledger, B: Ledger, C: Ledger, W: ConnWrite + Drop> Writer<A, B, C, W> {
     /// Lets go of the sender of a call by the place of its END_STREAM in the buffer. Where the call isn't through, it is noted.
     fn let_go_ended(&mut self, index: usize)
         ensures stays { Stays got W.contents W.failed self.old.frames self.new.frames }
+        ensures orders { self.new.orders ≡ self.old.orders }
     {
         let Some(id) = self.frames.ended().get(index).copied() else {
             return;
@@ -340,6 +357,7 @@ impl<A: Ledger, B: Ledger, C: Ledger, W: ConnWrite + Drop> Writer<A, B, C, W> {
     /// Lets go of the sender of a call by its place among the streams that were called off.
     fn let_go_called_off(&mut self, index: usize, filled: Filled)
         ensures stays { Stays got W.contents W.failed self.old.frames self.new.frames }
+        ensures orders { self.new.orders ≡ self.old.orders }
     {
         let Some(id) = self.called_off.get(index).copied() else {
             return;
@@ -353,6 +371,7 @@ impl<A: Ledger, B: Ledger, C: Ledger, W: ConnWrite + Drop> Writer<A, B, C, W> {
     /// Keeps the sender of a call that is through for the next call of its slot, and says whether it is.
     fn release(&mut self, id: StreamId, is_at_end: bool) -> bool
         ensures stays { Stays got W.contents W.failed self.old.frames self.new.frames }
+        ensures orders { self.new.orders ≡ self.old.orders }
     {
         let Some(sender) = self.frames.release(id) else {
             return false;
@@ -398,13 +417,17 @@ impl<A: Ledger, B: Ledger, C: Ledger, W: ConnWrite + Drop> Writer<A, B, C, W> {
 
     fn ending(&self) -> Option<Ending>
         ensures memory { self.now.frames.standing ≡ stands.OutOfMemory → result ≡ Some ending.OutOfMemory }
+        ensures each { result ≢ Some ending.OutOfMemory → result ≢ Some ending.WriteFailed
+            → (self.now.orders.has_lost ≡ false) × (self.now.orders.set_aside ≡ None) }
     {
-        if self.lacks_memory {
+        if self.orders.has_lost {
             return Some(Ending::OutOfMemory);
         }
         match self.frames.standing() {
             Standing::OutOfMemory => Some(Ending::OutOfMemory),
             Standing::Broken => Some(Ending::WriteFailed),
+            // It doesn't come that an order is set aside still.
+            Standing::Going if self.orders.set_aside.is_some() => Some(Ending::WriteFailed),
             Standing::Going => match self.failed {
                 Some(code) => Some(Ending::ProtocolError(code)),
                 None => None,
@@ -413,16 +436,29 @@ impl<A: Ledger, B: Ledger, C: Ledger, W: ConnWrite + Drop> Writer<A, B, C, W> {
     }
 }
 
-/// What a writer writes to, as it was before. What comes back of it has the frames of a lawful run behind that.
+/// What a writer hands back: how the connection ended as far as it sees, what it wrote to, and its end of the ring of orders.
 #[derive(Drop)]
-pub(crate) struct Begun<W: ConnWrite>(Snapshot<W>);
+pub(crate) struct Written<W: ConnWrite + Drop> {
+    pub(crate) ending: Option<Ending>,
+    pub(crate) device: W,
+    pub(crate) orders: RingOut<Order>,
+}
 
-impl<W: ConnWrite> Promise<(Option<Ending>, W)> for Begun<W> {
-    ghost kept_by = { λ begun r. HasWritten W.contents W.failed (W.contents begun.0.value) r.0 r.1 };
+/// What a writer writes to and takes its orders from, as it was before. It promises that behind what was written stand the frames of a
+/// lawful run, which obeyed the orders that it took.
+#[derive(Drop)]
+pub(crate) struct Begun<W: ConnWrite> {
+    pub(crate) device: Snapshot<W>,
+    pub(crate) orders: Snapshot<RingOut<Order>>,
+}
+
+impl<W: ConnWrite + Drop> Promise<Written<W>> for Begun<W> {
+    ghost kept_by = { λ begun r. (out_name r.orders ≡ out_name begun.orders.value)
+        × HasWritten W.contents W.failed (W.contents begun.device.value) (orders_of (taken r.orders)) r.ending r.device };
 }
 
 /// The thread that writes, and what it comes to.
-pub(crate) type Writing<W> = PromisedHandle<(Option<Ending>, W), Begun<W>>;
+pub(crate) type Writing<W> = PromisedHandle<Written<W>, Begun<W>>;
 
 /// Starts the thread that writes. That it can't be made counts as want of memory.
 pub(crate) fn start<A, B, C, W, R>(
@@ -438,11 +474,16 @@ where
     C: Ledger + Send + Sync + 'static,
     W: ConnWrite + Send + Drop + 'static,
     R: Threads + Wait + Copy + Send + Sync + Drop + 'static,
-    ensures begun { IfOk result (λ writing. W.contents writing.promise.0.value ≡ W.contents device) }
+    requires none { taken orders ≡ [] }
+    ensures begun { IfOk result (λ writing. W.contents writing.promise.device.value ≡ W.contents device) }
+    ensures ring { IfOk result (λ writing. writing.promise.orders.value ≡ orders) }
 {
-    let was = Snapshot::of(&device);
-    let writer = Writer::new(alloc, orders, outlet, device, &was);
-    match thread::spawn_with(&rt, Begun(was), move || writer.write(&rt)) {
+    let begun = Begun {
+        device: Snapshot::of(&device),
+        orders: Snapshot::of(&orders),
+    };
+    let writer = Writer::new(alloc, orders, outlet, device, &begun.device);
+    match thread::spawn_with(&rt, begun, move || writer.write(&rt)) {
         Ok(writing) => Ok(writing),
         Err(_fault) => Err(AllocError),
     }

@@ -1,19 +1,33 @@
 use Rattle.session.specs.declared.event.InEvent.TheVariants as events
-use Rattle.std.proofs.Common.{[], ◌∷◌, ◌∙◌}
-use Rattle.connection.proofs.Heard.{all-then, err-any, some-is}
+use Rattle.std.proofs.Common.{[], ◌∷◌, ◌∙◌, ap, arith, refl, subst, sym}
+use Rattle.connection.specs.declared.slot.Job.{Job}
+use Rattle.connection.proofs.Heard.{all-none, all-then, err-any, err-is, fault-is, ok-is, open-as}
 use Rattle.connection.proofs.reader.Reader.engage.Goals as goal
 
-pub returns-in_err-engaged-clause-memory : goal.returns-in_err-engaged-clause-memory
-returns-in_err-engaged-clause-memory g c = err-any _ _ (all-then _ _ _ [] [] c.looks.invariant.0 c.in_err-engaged.ensures.memory)
+pub looks-init : goal.looks-init
+looks-init g c = (all-none _ _ (λ told kept. kept), refl, refl)
 
-pub returns-in-Some-2-clause-engaged : goal.returns-in-Some-2-clause-engaged
-returns-in-Some-2-clause-engaged g c = λ some head.
-    all-then _ _ _ [] (events.Open c.args.id head ∷ []) c.looks.invariant.0 (c.in_ok-engaged.ensures.engaged (some-is _ _ c.in-Some-2.is) head)
+pub engage_now-requires-clause-named : goal.engage_now-requires-clause-named
+engage_now-requires-clause-named g c κs within = subst (λ (j : Job). g.M.Answering.names j.head.path j.index) (sym c.looks.invariant.2) c.requires.named
+
+pub engage_now-requires-clause-above : goal.engage_now-requires-clause-above
+engage_now-requires-clause-above g c κs within = omega (arith, c.requires.above, c.looks.invariant.1, ap (λ (j : Job). j.id) c.looks.invariant.2)
+
+pub returns-in_err-opened-clause-memory : goal.returns-in_err-opened-clause-memory
+returns-in_err-opened-clause-memory g c = err-any _ _ (all-then _ _ _ [] [] c.looks.invariant.0 c.in_err-opened.ensures.memory)
+
+pub returns-in-Ok-clause-engaged : goal.returns-in-Ok-clause-engaged
+returns-in-Ok-clause-engaged g c =
+    all-then _ _ _ [] (events.Open c.args.job.id c.args.job.head ∷ []) c.looks.invariant.0
+    (open-as _ _ _ _ c.looks.invariant.2 (ok-is _ _ _ c.in-Ok.is c.in_ok-opened.ensures.engaged))
 
 pub returns-then-has_stopped-clause-none : goal.returns-then-has_stopped-clause-none
-returns-then-has_stopped-clause-none g c = λ none. all-then _ _ _ [] [] c.looks.invariant.0 (c.in_ok-engaged.ensures.none c.in_default.is).0
+returns-then-has_stopped-clause-none g c =
+    all-then _ _ _ [] [] c.looks.invariant.0 (err-is _ _ _ c.in-Err.is c.in_ok-opened.ensures.none)
 
 pub looks-preserved : goal.looks-preserved
-looks-preserved g c =
-    let none = c.in_ok-engaged.ensures.none c.in_default.is in
-    (all-then _ _ _ [] [] c.looks.invariant.0 none.0, none.1 ∙ c.looks.invariant.1)
+looks-preserved g c = (
+  all-then _ _ _ [] [] c.looks.invariant.0 (err-is _ _ _ c.in-Err.is c.in_ok-opened.ensures.none),
+  err-is _ _ _ c.in-Err.is c.in_ok-opened.ensures.last ∙ c.looks.invariant.1,
+  fault-is _ _ _ c.in-Err.is c.in_ok-opened.ensures.handed_back ∙ c.looks.invariant.2,
+)

@@ -4,4 +4,4 @@ use Rattle.connection.proofs.reader.Reader.engage.Given as goal
 
 -- calls may have been let go
 abbrev pub invariant-looks : goal.invariant-looks
-invariant-looks g l = HearsAll [] l.fn.self.slots l.self.slots × (l.self.slots.last ≡ l.fn.self.slots.last)
+invariant-looks g l = HearsAll g.M.Answering.names [] l.fn.self.slots l.self.slots × (l.self.slots.last ≡ l.fn.self.slots.last) × (l.job ≡ l.fn.job)

@@ -9,5 +9,5 @@ use Rattle.connection.proofs.reader.Reader.read.Given as goal
 -- all events of the bytes so far were heard
 abbrev pub invariant-pieces : goal.invariant-pieces
 invariant-pieces g l = (l.intake.came.parts ≡ g.A.Ledger.parts) × (0 < g.A.Ledger.parts) × (l.intake.calls.parts ≡ g.B.Ledger.parts) × (0 < g.B.Ledger.parts)
-    × (Kept [] l.fn.self.slots → (came : List ℕ) × (given : List InEvent) × (told : List Step) × Consumes (g.I.ConnRead.remaining l.fn.input) (g.I.ConnRead.remaining l.input) came
-    × Reached came given l.core × (events_of told ≡ given) × Kept told l.self.slots)
+    × (Kept g.M.Answering.names [] l.fn.self.slots → (came : List ℕ) × (given : List InEvent) × (told : List Step) × Consumes (g.I.ConnRead.remaining l.fn.input) (g.I.ConnRead.remaining l.input) came
+    × Reached came given l.core × (events_of told ≡ given) × Kept g.M.Answering.names told l.self.slots)

@@ -1,11 +1,23 @@
-use Rattle.std.proofs.Common.{ap, ◌∙◌, Ok}
-use Rattle.connection.proofs.SlotSteps.{err-both}
+use Rattle.std.proofs.Common.{refl}
+use Rattle.connection.proofs.Answered.{answers-stay}
+use Rattle.connection.proofs.Heard.{err-any}
+use Rattle.connection.proofs.SlotSteps.{keeps-set, kept-begins}
 use Rattle.connection.proofs.slots.Slots.engage.Goals as goal
 
-pub returns-in_err-engage_at-clause-memory : goal.returns-in_err-engage_at-clause-memory
-returns-in_err-engage_at-clause-memory g c =
-    let stayed = c.in_err-engage_at.ensures.stays (λ e. cc) in
-    err-both c.from_residual.result _ _ (λ told k. stayed.0 told (c.seats.invariant.0 told k)) (stayed.1 ∙ c.seats.invariant.1)
+pub returns-in_err-begin-clause-stays : goal.returns-in_err-begin-clause-stays
+returns-in_err-begin-clause-stays g c = err-any c.from_residual.result _ (λ told k.
+    keeps-set c.args.self.now _ c.args.place c.in-Some.seat.now c.begin.new.self c.in-Some.ensures.item.3.0 c.in-Some.ensures.value refl told refl
+    c.in_err-begin.ensures.id_stays c.in_err-begin.ensures.jobs_stay (c.in_err-begin.ensures.stays told) k)
 
-pub returns-then-branch-clause-heard : goal.returns-then-branch-clause-heard
-returns-then-branch-clause-heard g c = λ some head told k. c.in_ok-engage_at.ensures.heard (ap Ok c.if-branch.true) head told (c.seats.invariant.0 told k)
+pub returns-clause-heard : goal.returns-clause-heard
+returns-clause-heard g c = λ told k.
+    kept-begins c.args.self.now _ c.args.place c.in-Some.seat.now c.begin.new.self c.in-Some.ensures.item.3.0 c.in-Some.ensures.value refl told c.args.job c.requires.above refl
+    c.in_ok-begin.ensures.id c.in_ok-begin.ensures.jobs (c.in_ok-begin.ensures.heard told) k
+
+pub returns-in_err-begin-clause-answers : goal.returns-in_err-begin-clause-answers
+returns-in_err-begin-clause-answers g c =
+    answers-stay c.args.self.now.seats.items _ c.args.place c.in-Some.seat.now c.begin.new.self c.in-Some.ensures.value refl c.begin.ensures.answers
+
+pub returns-clause-answers : goal.returns-clause-answers
+returns-clause-answers g c =
+    answers-stay c.args.self.now.seats.items _ c.args.place c.in-Some.seat.now c.begin.new.self c.in-Some.ensures.value refl c.begin.ensures.answers

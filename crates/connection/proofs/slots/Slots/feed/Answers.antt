@@ -4,6 +4,7 @@ use Rattle.session.specs.declared.event.InEvent.TheVariants as events
 use Rattle.calltable.specs.Steps.{Received, Told}
 use Rattle.calltable.proofs.StepLemmas.{concerns-data}
 use Rattle.connection.specs.Seats.{IsSeat}
+use Rattle.connection.proofs.Answered.{answers-stay}
 use Rattle.connection.proofs.SlotSteps.{kept-none, kept-set, keeps-set, is-at, on-ok, on-err}
 use Rattle.connection.proofs.slots.Slots.feed.Goals as goal
 
@@ -18,13 +19,17 @@ returns-clause-heard g c =
     let of = is-at c.args.self.now.seats.items c.in-Some.place c.args.id seat (sym c.in-Some.ensures) c.in-Some-get_mut.ensures.value in
     on-ok c.feed.result _ _
     (λ hears counted told k. kept-set c.args.self.now _ c.in-Some.place seat c.feed.new.self c.in-Some-get_mut.ensures.item.3.0 c.in-Some-get_mut.ensures.value refl told
-    (Told (events.Data c.args.id c.args.piece counted) (Received Feed)) c.args.id refl c.feed.ensures.id of (concerns-data c.args.id counted c.args.piece (Received Feed))
-    (λ are. subst (λ (id : ℕ). IsSeat (Told (events.Data id c.args.piece counted) (Received Feed) ∷ told) c.feed.new.self) (eqb-true seat.id c.args.id of) (hears told counted are)) k)
+    (Told (events.Data c.args.id c.args.piece counted) (Received Feed)) c.args.id refl c.feed.ensures.id c.feed.ensures.jobs of (concerns-data c.args.id counted c.args.piece (Received Feed))
+    (λ are. subst (λ (id : ℕ). IsSeat g.M.Answering.names (Told (events.Data id c.args.piece counted) (Received Feed) ∷ told) c.feed.new.self) (eqb-true seat.id c.args.id of) (hears told counted are)) k)
     c.feed.ensures.heard
 
 pub returns-clause-stays : goal.returns-clause-stays
 returns-clause-stays g c =
     on-err c.feed.result _ _
     (λ stays told k. keeps-set c.args.self.now _ c.in-Some.place c.in-Some-get_mut.seat.now c.feed.new.self c.in-Some-get_mut.ensures.item.3.0 c.in-Some-get_mut.ensures.value refl told
-    refl c.feed.ensures.id (stays told) k)
+    refl c.feed.ensures.id c.feed.ensures.jobs (stays told) k)
     c.feed.ensures.stays
+
+pub returns-clause-answers : goal.returns-clause-answers
+returns-clause-answers g c =
+    answers-stay c.args.self.now.seats.items _ c.in-Some.place c.in-Some-get_mut.seat.now c.feed.new.self c.in-Some-get_mut.ensures.value refl c.feed.ensures.answers

@@ -4,7 +4,7 @@ use Rattle.connection.proofs.Turns.{goes_left, goes_none, goes_then}
 use Rattle.connection.proofs.worker.Worker.give_up.Goals as goal
 
 pub turns-init : goal.turns-init
-turns-init g c = record { run = goes_none _ _ _ _ _ _ _ _; in_name = refl; in_past = refl; name = refl; past = refl; index = refl }
+turns-init g c = record { run = goes_none _ _ _ _ _ _ _ _; in_name = refl; in_past = refl; name = refl; past = refl; index = refl; head = refl }
 
 pub turns-preserved : goal.turns-preserved
 turns-preserved g c = record {
@@ -14,6 +14,7 @@ turns-preserved g c = record {
   name = search rules;
   past = search rules;
   index = search rules;
+  head = search rules;
 }
 
 pub returns-in-Over-clause-run : goal.returns-in-Over-clause-run

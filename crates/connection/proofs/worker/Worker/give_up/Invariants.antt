@@ -20,4 +20,5 @@ invariant-turns g l =
       name : name_by (λ giver. g.O.Lane.in_name giver.tx) (λ s. g.O.Lane.shut_name s.shut) l.run.response ≡ name_by (λ giver. g.O.Lane.in_name giver.tx) (λ s. g.O.Lane.shut_name s.shut) l.fn.run.response;
       past : name_by (λ giver. g.O.Lane.past_in giver.tx) (λ s. g.O.Lane.past_shut s.shut) l.run.response ≡ name_by (λ giver. g.O.Lane.past_in giver.tx) (λ s. g.O.Lane.past_shut s.shut) l.fn.run.response;
       index : l.run.index ≡ l.fn.run.index;
+      head : l.run.call.head ≡ l.fn.run.call.head;
     }
