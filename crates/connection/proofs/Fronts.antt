@@ -1,5 +1,5 @@
 -- The first events of the bytes that came.
-use Rattle.std.proofs.Common.{◌≡◌, ◌∙◌, ℕ, false, true≢false, List, [], ◌++◌, Option, None, Some, ap, refl, subst, sym, take, append-nil}
+use Rattle.std.proofs.Common.{◌≡◌, ◌∙◌, ℕ, true, false, true≢false, List, [], ◌++◌, Option, None, Some, ap, refl, subst, sym, take, append-nil}
 use Rattle.std.proofs.lemmas.List.{append_assoc}
 use Rattle.std.specs.Io.KnownBytes.{Consumes, Keeps, ReadConsumes}
 use Rattle.std.specs.Prelude.{Result, Ok, Err}
@@ -10,10 +10,13 @@ use Rattle.session.specs.Events.{Events}
 use Rattle.session.proofs.EventLaws.{reached_events}
 use Rattle.session.proofs.OneEvents.{events_go_on, events_one}
 use Rattle.calltable.specs.Steps.{Step, events_of}
+use Rattle.connection.specs.declared.orders.Route.{Ghosts}
+use Rattle.connection.specs.declared.reader.Reader.{Reader}
 use Rattle.connection.specs.declared.slots.Slots.{Slots}
 use Rattle.connection.specs.declared.report.Ending.{Ending}
 use Rattle.connection.specs.Reports.{AreHeard, IsFront, is_input_end}
-use Rattle.connection.specs.Seats.{HearsSome, Kept}
+use Rattle.connection.specs.Reasons.{HasReason, KeptFor, LetGoFor, ReadsSome}
+use Rattle.connection.specs.Seats.{Kept}
 use Rattle.connection.proofs.Heard.{events-append}
 
 -- what a core answered to the bytes before
@@ -51,10 +54,10 @@ read-failed old new (Err fault) buf not read = consumes-keeps old old new [] (co
 
 -- ---- what was heard of the bytes that came
 
-module _ {M : Type 0} {names : List ℕ → ℕ → Type 0} where
+module _ {A B C M N R : Type 0} {route : Ghosts N} {names : List ℕ → ℕ → Type 0} where
   -- some of the events of the last bytes were heard
-  pub last-front : (old new : Slots M) (given before : List InEvent) (told : List Step) (bytes : List ℕ) (core : Core) → HearsSome names given old new → Reached bytes (before ++ given) core
-      → events_of told ≡ before → Kept names told old → (all : List Step) × Kept names all new × IsFront bytes (events_of all)
+  pub last-front : (old : Reader A B C M N R route) (new : Slots M) (given before : List InEvent) (told : List Step) (bytes : List ℕ) (core : Core) → ReadsSome names given old new → Reached bytes (before ++ given) core
+      → events_of told ≡ before → KeptFor names told old → (all : List Step) × Kept names all new × IsFront bytes (events_of all)
   last-front old new given before told bytes core some reached is kept =
       let more = some told kept in (
         more.0 ++ told,
@@ -67,26 +70,30 @@ module _ {M : Type 0} {names : List ℕ → ℕ → Type 0} where
       )
 
   -- none of them was
-  pub last-none : (slots : Slots M) (before : List InEvent) (told : List Step) (bytes more : List ℕ) (core : Core) → Reached bytes before core → events_of told ≡ before → Kept names told slots
-      → (all : List Step) × Kept names all slots × IsFront (bytes ++ more) (events_of all)
-  last-none slots before told bytes more core reached is kept =
-      (told, kept, subst (λ (es : List InEvent). IsFront (bytes ++ more) es) (sym is) (front-before bytes more before core reached))
+  pub last-none : (reader : Reader A B C M N R route) (before : List InEvent) (told : List Step) (bytes more : List ℕ) (core : Core) → Reached bytes before core → events_of told ≡ before
+      → KeptFor names told reader → (all : List Step) × Kept names all reader.slots × IsFront (bytes ++ more) (events_of all)
+  last-none reader before told bytes more core reached is kept =
+      (told, kept.slots, subst (λ (es : List InEvent). IsFront (bytes ++ more) es) (sym is) (front-before bytes more before core reached))
 
   -- nothing more is said of a connection that ended otherwise than by its input
-  pub front-alone : (end : Ending) (slots : Slots M) (bytes : List ℕ) → is_input_end end ≡ false → (all : List Step) × Kept names all slots × IsFront bytes (events_of all)
-      → (all : List Step) × Kept names all slots × AreHeard end bytes (events_of all)
-  front-alone end slots bytes other found = (found.0, found.1, record { front = found.2; whole = λ ended. absurd (true≢false (sym ended ∙ other)) })
+  pub front-alone : (end : Ending) (reader : Reader A B C M N R route) (bytes : List ℕ) → is_input_end end ≡ false → (all : List Step) × Kept names all reader.slots × IsFront bytes (events_of all)
+      → (all : List Step) × Kept names all reader.slots × AreHeard end bytes (events_of all) × (is_input_end end ≡ true → LetGoFor (HasReason reader) all)
+  front-alone end reader bytes other found =
+      let not : is_input_end end ≡ true → ⊥ = λ ended. true≢false (sym ended ∙ other) in
+      (found.0, found.1, record { front = found.2; whole = λ ended. absurd (not ended) }, λ ended. absurd (not ended))
 
   -- all were heard
-  pub all-heard : (end : Ending) (slots : Slots M) (before : List InEvent) (told : List Step) (bytes given : List ℕ) (core : Core) → given ≡ bytes → Reached bytes before core → events_of told ≡ before
-      → Kept names told slots → (all : List Step) × Kept names all slots × AreHeard end given (events_of all)
-  all-heard end slots before told bytes given core same reached is kept = (
+  pub all-heard : (end : Ending) (reader : Reader A B C M N R route) (before : List InEvent) (told : List Step) (bytes given : List ℕ) (core : Core) → given ≡ bytes → Reached bytes before core
+      → events_of told ≡ before → KeptFor names told reader
+      → (all : List Step) × Kept names all reader.slots × AreHeard end given (events_of all) × (is_input_end end ≡ true → LetGoFor (HasReason reader) all)
+  all-heard end reader before told bytes given core same reached is kept = (
     told,
-    kept,
+    kept.slots,
     subst (λ (bs : List ℕ). AreHeard end bs (events_of told)) (sym same) (record {
       front = front-some bytes (events_of told) before core reached ([], append-nil (events_of told) ∙ is);
       whole = λ ended. subst (λ (es : List InEvent). Events bytes es) (sym is) (reached_events bytes before core reached);
     }),
+    λ ended. kept.reasons,
   )
 
 -- none came

@@ -13,3 +13,5 @@ pub mod SlotRows
 pub mod Reports
 pub mod Ids
 pub mod Answered
+pub mod Reasons
+pub mod Unfed

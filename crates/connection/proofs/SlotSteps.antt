@@ -32,7 +32,7 @@ rises-not told step none = rw none tt
 last-not : (told : List Step) (step : Step) → admitted_by step ≡ None → last_of (step ∷ told) ≡ last_of told
 last-not told step none = rw none refl
 
-shut-is-told : {F S : Type 0} (of_open : F → List InPiece) (of_shut : S → List InPiece) (kind_of : S → Shut) (half : Half F S)
+pub shut-is-told : {F S : Type 0} (of_open : F → List InPiece) (of_shut : S → List InPiece) (kind_of : S → Shut) (half : Half F S)
     → is_open half ≡ false → (shown of_open of_shut kind_of half).there ≡ true → (shown of_open of_shut kind_of half).shut ≢ None
 shut-is-told of_open of_shut kind_of (Open feeder) closed there none = absurd cc
 shut-is-told of_open of_shut kind_of (Closed end) closed there none = absurd cc
@@ -208,7 +208,7 @@ none-passes p xs none = elim (cases_lt (position_or_len p xs) (length xs)) [
   | inr all ↦ all
 ]
 
-none-at : {X : Type 0} (p : X → Bool) (xs : List X) (n : ℕ) (d : X) → position p xs ≡ None → n < length xs → p (get_or xs n d) ≡ false
+pub none-at : {X : Type 0} (p : X → Bool) (xs : List X) (n : ℕ) (d : X) → position p xs ≡ None → n < length xs → p (get_or xs n d) ≡ false
 none-at p xs n d none within = fails_before_first p xs n d (omega (arith, within, none-passes p xs none))
 
 module _ {M : Type 0} {names : List ℕ → ℕ → Type 0} where

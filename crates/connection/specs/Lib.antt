@@ -10,3 +10,4 @@ pub mod Reports
 pub mod Seats
 pub mod SeatExamples
 pub mod Ids
+pub mod Reasons

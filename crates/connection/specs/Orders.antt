@@ -2,9 +2,10 @@
 -- Lists of orders have the earliest first, runs the latest.
 use Rattle.std.specs.Prelude.{◌≡◌, ◌⊎◌, ℕ, Bool, true, false, List, [], ◌∷◌, ◌++◌, map, Option, None, Some}
 use Rattle.lane.specs.Ring.{taken, out_name}
+use Rattle.h2frame.specs.declared.error_code.ErrorCode.{ErrorCode}
 use Rattle.h2frame.specs.declared.error_code.ErrorCode.TheVariants.{InternalError}
 use Rattle.outwriter.specs.declared.control.Control.{Control}
-use Rattle.outwriter.specs.declared.control.Control.TheVariants.{Goaway}
+use Rattle.outwriter.specs.declared.control.Control.TheVariants.{Goaway, Reset}
 use Rattle.outwriter.specs.declared.control.OutFault.TheVariants.{PeerWindow}
 use Rattle.outwriter.specs.RunState.{Blames, Concerns, HasRoom}
 use Rattle.outwriter.specs.Steps.{Order, Step, Taken, Granted, Written, Returned, order_of}
@@ -91,6 +92,11 @@ module _ {T : Type 0} where
   -- of the items that were put these were taken, and none is left where it says so
   abbrev pub AreOf : List T → List T → Bool → Type 0
   AreOf took put are_all = (left : List T) × (took ++ left ≡ put) × (are_all ≡ true → left ≡ [])
+
+-- a reset of this stream, which the peer is told, is among these orders
+abbrev pub IsReset : ℕ → List Order → Type 0
+IsReset id [] = ⊥
+IsReset id (order ∷ orders) = ((code : ErrorCode) × (order ≡ Reset id code true)) ⊎ IsReset id orders
 
 -- an inbox has given these orders, and may have set the next one aside
 abbrev pub HasGiven : List Order → Inbox → Type 0

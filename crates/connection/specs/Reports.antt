@@ -1,18 +1,23 @@
 -- The rows of a connection's report, each on what the reader heard of its stream.
-use Rattle.std.specs.Prelude.{◌≡◌, ℕ, Bool, true, false, List, Some, All, map}
+use Rattle.std.specs.Prelude.{◌≡◌, ◌⊎◌, ℕ, Bool, true, false, List, Some, All, map}
 use mathlib.Core.List.{IsPrefix}
 use Rattle.account.specs.declared.call.Account.{Account}
 use Rattle.account.specs.declared.call.Shut.{Shut}
+use Rattle.account.specs.declared.call.Shut.TheVariants as shut
 use Rattle.callhead.specs.declared.head.CallHead.{CallHead}
 use Rattle.handlers.specs.declared.step.Step.{Step as Answer}
+use Rattle.outwriter.specs.Steps.{Order}
 use Rattle.session.specs.declared.event.InEvent.{InEvent}
 use Rattle.session.specs.Events.{Events}
+use Rattle.session.specs.StreamData.{Finished, ending_told}
 use Rattle.calltable.specs.Steps.{Step, admitted, events_of, fed_by, head_of, shut_by, since, IsRising}
 use Rattle.connection.specs.declared.report.CallReport.{CallReport}
 use Rattle.connection.specs.declared.report.Ending.{Ending}
 use Rattle.connection.specs.declared.report.Ending.TheVariants as ending
 use Rattle.connection.specs.Accounts.{StandsOn}
 use Rattle.connection.specs.Calls.{is_admitted}
+use Rattle.connection.specs.Orders.{IsReset}
+use Rattle.connection.specs.Workers.{HasTrailers}
 
 -- these events are the first of those of the bytes that came
 abbrev pub IsFront : List ℕ → List InEvent → Type 0
@@ -31,6 +36,12 @@ is_input_end ending.OutOfMemory = false
 pub record AreHeard (end : Ending) (came : List ℕ) (given : List InEvent) : Type 0 where
   pub front : IsFront came given
   pub whole : is_input_end end ≡ true → Events came given
+
+-- Where the half of a call was reset, though END_STREAM was told of its stream, a reset of the stream that is to be written was ordered, or the
+-- call was answered with trailers.
+abbrev pub WasResetFor : List Step → List Order → List CallReport → ℕ → Type 0
+WasResetFor told orders rows id =
+    (code : ℕ) → ending_told id (events_of (since id told)) ≡ Finished → shut_by id (since id told) ≡ Some (shut.Reset code) → IsReset id orders ⊎ HasTrailers id rows
 
 module _ (answers : ℕ → List (List ℕ) → Bool → Answer → Type 0) (names : List ℕ → ℕ → Type 0) where
   -- A call of the row's stream was admitted with a head whose path names the row's method. The row stands on the call's lawful account: what it
@@ -52,8 +63,9 @@ module _ (answers : ℕ → List (List ℕ) → Bool → Answer → Type 0) (nam
 
   -- These bytes came, and the rows are those of the calls by the first of their events, by all of them where the input was heard to its end: one
   -- for each call that was admitted, in that order.
-  pub record AreAccounted (end : Ending) (came : List ℕ) (rows : List CallReport) : Type 0 where
+  pub record AreAccounted (end : Ending) (came : List ℕ) (orders : List Order) (rows : List CallReport) : Type 0 where
     pub told : List Step
     pub rising : IsRising told
     pub heard : AreHeard end came (events_of told)
     pub calls : AreRows told (admitted told) rows
+    pub resets : is_input_end end ≡ true → All (λ row. WasResetFor told orders rows row.id) rows

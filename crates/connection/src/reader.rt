@@ -1,20 +1,23 @@
 //! What becomes of each event of a connection.
 
-ghost use Rattle.std.specs.Prelude.{◌≡◌, ◌≢◌, ◌<◌, ℕ, List, [], ◌∷◌, ◌++◌, None, Some, Ok, IfOk, IfErr, OnOk, OnErr, IfSome};
+ghost use Rattle.std.specs.Prelude.{◌≡◌, ◌≢◌, ◌<◌, ◌⊎◌, ℕ, true, false, List, [], ◌∷◌, ◌++◌, None, Some, Ok, IfOk, IfErr, OnOk, OnErr, IfSome, position};
 ghost use Rattle.account.specs.declared.call.Shut.TheVariants as shut;
-ghost use Rattle.connbook.specs.declared.answers.Receipt.TheVariants.{Discard};
 ghost use Rattle.h2frame.specs.ErrorCode.{error_number};
 ghost use Rattle.session.specs.declared.event.InEvent.{InEvent as Event};
 ghost use Rattle.session.specs.declared.event.InEvent.TheVariants as events;
 ghost use Rattle.session.specs.CoreStates.{Reached};
 ghost use Rattle.calltable.specs.Kept.{Concerns};
-ghost use Rattle.calltable.specs.Steps.{Fate, IsRising, Plain, Received, Step, Told, admitted, events_of, shut_at};
+ghost use Rattle.calltable.specs.Steps.{IsRising, Step, admitted, events_of, shut_at};
 ghost use Rattle.std.specs.Io.KnownBytes.{Consumes};
 ghost use Rattle.handlers.specs.Listed.{listed};
 ghost use Rattle.connection.specs.Accounts.{IsWithin, answers_by};
 ghost use Rattle.connection.specs.Calls.{AreNames, IsFirstWith};
-ghost use Rattle.connection.specs.Reports.{AreHeard, AreRows, IsFront};
-ghost use Rattle.connection.specs.Seats.{Hears, HearsAll, HearsSome, Keeps, Kept};
+ghost use Rattle.connection.specs.Orders.{IsReset, orders_of};
+ghost use Rattle.connection.specs.Reasons.{HasReason, HoldsReasons, KeptFor, LetGoFor, ReadsAll, ReadsSome};
+ghost use Rattle.connection.specs.Reports.{AreHeard, AreRows, IsFront, is_input_end};
+ghost use Rattle.connection.specs.Seats.{Hears, HearsAll, Kept, feeds};
+ghost use Rattle.connection.specs.Workers.{HasTrailers};
+ghost use Rattle.lane.specs.Ring.{put_in};
 
 use crate::answering::Answering;
 use crate::intake::Intake;
@@ -106,7 +109,7 @@ where
         requires whole { (intake.old.came.parts ≡ A.parts) × (0 < A.parts) × (intake.old.calls.parts ≡ B.parts) × (0 < B.parts) }
         ensures whole { (intake.new.came.parts ≡ A.parts) × (0 < A.parts) × (intake.new.calls.parts ≡ B.parts) × (0 < B.parts) }
         ensures heard { Kept M.names [] self.old.slots → (came : List ℕ) × Consumes (I.remaining input.old) (I.remaining input.new) came
-            × ((told : List Step) × Kept M.names told self.new.slots × AreHeard result came (events_of told)) }
+            × ((told : List Step) × Kept M.names told self.new.slots × AreHeard result came (events_of told) × (is_input_end result ≡ true → LetGoFor (HasReason self.new) told)) }
     {
         let mut core = InCore::new(self.alloc);
         let mut piece = [0u8; PIECE];
@@ -134,8 +137,10 @@ where
 
     /// Ends all halves and workers, and lets the writer end: the rows of all calls, or none for want of memory; and what was ordered.
     pub(crate) fn end(self) -> (Option<Vec<CallReport>>, Orders<A, B, C, N>)
-        ensures rows { (told : List Step) → Kept M.names told self.slots → (all : List Step) × (events_of all ≡ events_of told)
-            × IsRising all × IfSome result.0 (λ rows. AreRows M.known M.names all (admitted all) rows.items) }
+        ensures rows { (told : List Step) → Kept M.names told self.slots → (cuts : List Step) × (events_of cuts ≡ []) × IsRising (cuts ++ told)
+            × IfSome result.0 (λ rows. AreRows M.known M.names (cuts ++ told) (admitted (cuts ++ told)) rows.items) }
+        ensures reasons { (id : ℕ) → HasReason self id
+            → IfSome result.0 (λ rows. IsReset id (orders_of (put_in result.1.outbox.ring)) ⊎ (result.1.has_dropped ≡ true) ⊎ HasTrailers id rows.items) }
     {
         let mut reader = self;
         reader.cut_all();
@@ -156,6 +161,7 @@ where
     /// Behind the last event: the calls that their clients neither ended nor reset are reset.
     fn cut_all(&mut self)
         ensures heard { HearsAll M.names [] self.old.slots self.new.slots }
+        ensures holds { HoldsReasons self.old self.new }
     {
         'places: for place in 0..self.slots.len() {
             self.cut_off(place);
@@ -165,6 +171,7 @@ where
     /// The same for the slot of this number.
     fn cut_off(&mut self, place: usize)
         ensures heard { HearsAll M.names [] self.old.slots self.new.slots }
+        ensures holds { HoldsReasons self.old self.new }
     {
         let rt = self.rt;
         let Some(id) = self.slots.fed(place) else {
@@ -208,20 +215,28 @@ where
         requires whole { (intake.old.came.parts ≡ A.parts) × (0 < A.parts) × (intake.old.calls.parts ≡ B.parts) × (0 < B.parts) }
         ensures whole { (intake.new.came.parts ≡ A.parts) × (0 < A.parts) × (intake.new.calls.parts ≡ B.parts) × (0 < B.parts) }
         ensures on { result ≡ Ok None → (bytes : List ℕ) (before : List Event) → Reached bytes before core.old
-            → (given : List Event) × Reached (bytes ++ piece.now) (before ++ given) core.new × HearsAll M.names given self.old.slots self.new.slots }
-        ensures last { result ≢ Ok None → (bytes : List ℕ) (before : List Event) (told : List Step) → Reached bytes before core.old → events_of told ≡ before → Kept M.names told self.old.slots
+            → (given : List Event) × Reached (bytes ++ piece.now) (before ++ given) core.new × ReadsAll M.names given self.old self.new }
+        ensures last { result ≢ Ok None → (bytes : List ℕ) (before : List Event) (told : List Step) → Reached bytes before core.old → events_of told ≡ before → KeptFor M.names told self.old
             → (all : List Step) × Kept M.names all self.new.slots × IsFront (bytes ++ piece.now) (events_of all) }
     {
         let events = core.feed(piece)?;
         if let Some(code) = self.heed(intake, events, methods)? {
             return Ok(Some(code));
         }
-        self.slots.ring_noted();
-        // The writer wakes while the calls are answered.
-        if piece.len() < LARGE_PIECE || self.orders.are_unrung {
-            self.orders.ring();
-        }
+        self.ring(piece.len());
         Ok(None)
+    }
+
+    /// Rings for so many bytes that came. The writer wakes while the calls are answered.
+    fn ring(&mut self, count: usize)
+        ensures slots { self.new.slots ≡ self.old.slots }
+        ensures holds { HoldsReasons self.old self.new }
+    {
+        self.slots.ring_noted();
+        if count >= LARGE_PIECE && !self.orders.are_unrung {
+            return;
+        }
+        self.orders.ring();
     }
 
     /// What events lead to, one after another; the error that ends the connection, if one does.
@@ -235,8 +250,8 @@ where
         requires named { AreNames (IsFirstWith (λ method. (⟦<dyn Method as Method>⟧ method.vtable).name method.value) (listed methods.now.value)) M.names }
         requires whole { (intake.old.came.parts ≡ A.parts) × (0 < A.parts) × (intake.old.calls.parts ≡ B.parts) × (0 < B.parts) }
         ensures whole { (intake.new.came.parts ≡ A.parts) × (0 < A.parts) × (intake.new.calls.parts ≡ B.parts) × (0 < B.parts) }
-        ensures all { result ≡ Ok None → HearsAll M.names events.items self.old.slots self.new.slots }
-        ensures some { HearsSome M.names events.items self.old.slots self.new.slots }
+        ensures all { result ≡ Ok None → ReadsAll M.names events.items self.old self.new }
+        ensures some { ReadsSome M.names events.items self.old self.new.slots }
     {
         'events: for event in events {
             if let Some(code) = self.follow(intake, event, methods)? {
@@ -257,8 +272,8 @@ where
         requires named { AreNames (IsFirstWith (λ method. (⟦<dyn Method as Method>⟧ method.vtable).name method.value) (listed methods.now.value)) M.names }
         requires whole { (intake.old.came.parts ≡ A.parts) × (0 < A.parts) × (intake.old.calls.parts ≡ B.parts) × (0 < B.parts) }
         ensures whole { (intake.new.came.parts ≡ A.parts) × (0 < A.parts) × (intake.new.calls.parts ≡ B.parts) × (0 < B.parts) }
-        ensures heard { OnOk result (HearsAll M.names (event ∷ []) self.old.slots self.new.slots) }
-        ensures memory { OnErr result (HearsSome M.names (event ∷ []) self.old.slots self.new.slots) }
+        ensures heard { result ≡ Ok None → ReadsAll M.names (event ∷ []) self.old self.new }
+        ensures some { ReadsSome M.names (event ∷ []) self.old self.new.slots }
     {
         let rt = self.rt;
         match event {
@@ -279,14 +294,16 @@ where
     /// A stream was begun. The peer is told at the last that it may begin.
     fn begin(&mut self, id: StreamId)
         ensures slots { self.new.slots ≡ self.old.slots }
+        ensures holds { HoldsReasons self.old self.new }
     {
         let rt = self.rt;
         self.orders.shared.set_last(id);
         self.begun = self.begun.saturating_add(1);
-        if self.begun == STREAMS {
-            let code = ErrorCode::NoError;
-            self.orders.put(&rt, Control::Goaway { last: id, code });
+        if self.begun != STREAMS {
+            return;
         }
+        let code = ErrorCode::NoError;
+        self.orders.put(&rt, Control::Goaway { last: id, code });
     }
 
     /// Begins a call, or refuses one that no method answers or that is one too many.
@@ -301,8 +318,8 @@ where
         requires named { AreNames (IsFirstWith (λ method. (⟦<dyn Method as Method>⟧ method.vtable).name method.value) (listed methods.now.value)) M.names }
         requires whole { (intake.old.came.parts ≡ A.parts) × (0 < A.parts) × (intake.old.calls.parts ≡ B.parts) × (0 < B.parts) }
         ensures whole { (intake.new.came.parts ≡ A.parts) × (0 < A.parts) × (intake.new.calls.parts ≡ B.parts) × (0 < B.parts) }
-        ensures heard { OnOk result (HearsAll M.names (events.Open id head ∷ []) self.old.slots self.new.slots) }
-        ensures memory { OnErr result (HearsSome M.names (events.Open id head ∷ []) self.old.slots self.new.slots) }
+        ensures heard { OnOk result (ReadsAll M.names (events.Open id head ∷ []) self.old self.new) }
+        ensures memory { OnErr result (ReadsSome M.names (events.Open id head ∷ []) self.old self.new.slots) }
     {
         let rt = self.rt;
         self.begin(id);
@@ -332,6 +349,7 @@ where
     /// Resets the stream of a call that isn't served. Want of memory ends the connection.
     fn turn_away(&mut self, id: StreamId, fault: AdmitFault) -> Result<(), AllocError>
         ensures slots { self.new.slots ≡ self.old.slots }
+        ensures holds { HoldsReasons self.old self.new }
     {
         match fault {
             AdmitFault::OutOfMemory => return Err(AllocError),
@@ -353,8 +371,8 @@ where
         requires known { IsWithin M.known (answers_by (λ method. answers (method.vtable, method.value)) (listed methods.now.value)) }
         requires named { M.names head.path index }
         requires above { self.old.slots.last < id }
-        ensures heard { OnOk result (HearsAll M.names (events.Open id head ∷ []) self.old.slots self.new.slots) }
-        ensures memory { OnErr result (HearsSome M.names (events.Open id head ∷ []) self.old.slots self.new.slots) }
+        ensures heard { OnOk result (ReadsAll M.names (events.Open id head ∷ []) self.old self.new) }
+        ensures memory { OnErr result (ReadsSome M.names (events.Open id head ∷ []) self.old self.new.slots) }
     {
         let rt = self.rt;
         let opened = match head.timeout {
@@ -384,9 +402,9 @@ where
         requires known { IsWithin M.known (answers_by (λ method. answers (method.vtable, method.value)) (listed methods.now.value)) }
         requires named { M.names job.head.path job.index }
         requires above { self.old.slots.last < job.id }
-        ensures engaged { IfOk result (λ engaged. OnOk engaged (HearsAll M.names (events.Open job.id job.head ∷ []) self.old.slots self.new.slots)) }
-        ensures none { IfOk result (λ engaged. OnErr engaged (HearsAll M.names [] self.old.slots self.new.slots)) }
-        ensures memory { OnErr result (HearsAll M.names [] self.old.slots self.new.slots) }
+        ensures engaged { IfOk result (λ engaged. OnOk engaged (ReadsAll M.names (events.Open job.id job.head ∷ []) self.old self.new)) }
+        ensures none { IfOk result (λ engaged. OnErr engaged (ReadsAll M.names [] self.old self.new)) }
+        ensures memory { OnErr result (ReadsAll M.names [] self.old self.new) }
     {
         let rt = self.rt;
         let mut job = job;
@@ -418,11 +436,11 @@ where
         requires known { IsWithin M.known (answers_by (λ method. answers (method.vtable, method.value)) (listed methods.now.value)) }
         requires named { M.names job.head.path job.index }
         requires above { self.old.slots.last < job.id }
-        ensures engaged { IfOk result (λ engaged. OnOk engaged (HearsAll M.names (events.Open job.id job.head ∷ []) self.old.slots self.new.slots)) }
+        ensures engaged { IfOk result (λ engaged. OnOk engaged (ReadsAll M.names (events.Open job.id job.head ∷ []) self.old self.new)) }
         ensures handed_back { IfOk result (λ engaged. IfErr engaged (λ back. back ≡ job)) }
-        ensures none { IfOk result (λ engaged. OnErr engaged (HearsAll M.names [] self.old.slots self.new.slots)) }
+        ensures none { IfOk result (λ engaged. OnErr engaged (ReadsAll M.names [] self.old self.new)) }
         ensures last { IfOk result (λ engaged. OnErr engaged (self.new.slots.last ≡ self.old.slots.last)) }
-        ensures memory { OnErr result (HearsAll M.names [] self.old.slots self.new.slots) }
+        ensures memory { OnErr result (ReadsAll M.names [] self.old self.new) }
     {
         let job = match self.engage_free(job) {
             Ok(place) => return Ok(Ok(Opened::Again(place))),
@@ -442,9 +460,9 @@ where
     fn engage_free(&mut self, job: Job) -> Result<usize, Job>
         requires named { M.names job.head.path job.index }
         requires above { self.old.slots.last < job.id }
-        ensures engaged { OnOk result (HearsAll M.names (events.Open job.id job.head ∷ []) self.old.slots self.new.slots) }
+        ensures engaged { OnOk result (ReadsAll M.names (events.Open job.id job.head ∷ []) self.old self.new) }
         ensures handed_back { IfErr result (λ back. back ≡ job) }
-        ensures none { OnErr result (HearsAll M.names [] self.old.slots self.new.slots) }
+        ensures none { OnErr result (ReadsAll M.names [] self.old self.new) }
         ensures last { OnErr result (self.new.slots.last ≡ self.old.slots.last) }
     {
         let mut job = job;
@@ -461,9 +479,9 @@ where
     fn engage_at(&mut self, place: usize, job: Job) -> Result<(), Job>
         requires named { M.names job.head.path job.index }
         requires above { self.old.slots.last < job.id }
-        ensures engaged { OnOk result (HearsAll M.names (events.Open job.id job.head ∷ []) self.old.slots self.new.slots) }
+        ensures engaged { OnOk result (ReadsAll M.names (events.Open job.id job.head ∷ []) self.old self.new) }
         ensures handed_back { IfErr result (λ back. back ≡ job) }
-        ensures none { OnErr result (HearsAll M.names [] self.old.slots self.new.slots) }
+        ensures none { OnErr result (ReadsAll M.names [] self.old self.new) }
         ensures last { OnErr result (self.new.slots.last ≡ self.old.slots.last) }
     {
         if !self.slots.is_free(place) {
@@ -475,7 +493,7 @@ where
 
     /// Shuts the halves of calls that were answered before their client ended them: before that their slots aren't free.
     fn shut_answered(&mut self)
-        ensures heard { HearsAll M.names [] self.old.slots self.new.slots }
+        ensures heard { ReadsAll M.names [] self.old self.new }
         ensures last { self.new.slots.last ≡ self.old.slots.last }
     {
         'places: for place in 0..self.slots.len() {
@@ -485,7 +503,7 @@ where
 
     /// The same for the slot of this number, where it wasn't known yet that its call was answered. A call that was left without trailers is reset.
     fn shut_if_answered(&mut self, place: usize)
-        ensures heard { HearsAll M.names [] self.old.slots self.new.slots }
+        ensures heard { ReadsAll M.names [] self.old self.new }
         ensures last { self.new.slots.last ≡ self.old.slots.last }
     {
         let Some(answered) = self.slots.answered(place) else {
@@ -499,6 +517,8 @@ where
     /// Resets the stream of a call that was left without trailers. Where its end was written, or it was reset before, nothing is written.
     fn reset_if_left(&mut self, answered: Answered)
         ensures slots { self.new.slots ≡ self.old.slots }
+        ensures holds { HoldsReasons self.old self.new }
+        ensures reason { answered.has_trailers ≡ false → HasReason self.new answered.id }
     {
         if answered.has_trailers {
             return;
@@ -515,6 +535,7 @@ where
     /// Answers what is no head of a call.
     fn refuse(&mut self, id: StreamId, fault: HeadFault) -> Result<(), AllocError>
         ensures slots { self.new.slots ≡ self.old.slots }
+        ensures holds { HoldsReasons self.old self.new }
     {
         let rt = self.rt;
         self.begin(id);
@@ -537,7 +558,8 @@ where
     ) -> Option<ErrorCode>
         requires whole { (intake.old.came.parts ≡ A.parts) × (0 < A.parts) × (intake.old.calls.parts ≡ B.parts) × (0 < B.parts) }
         ensures whole { (intake.new.came.parts ≡ A.parts) × (0 < A.parts) × (intake.new.calls.parts ≡ B.parts) × (0 < B.parts) }
-        ensures heard { (fate : Fate) × Hears M.names (Told (events.Data id bytes flow) fate) self.old.slots self.new.slots }
+        ensures heard { result ≡ None → ReadsAll M.names (events.Data id bytes flow ∷ []) self.old self.new }
+        ensures some { ReadsSome M.names (events.Data id bytes flow ∷ []) self.old self.new.slots }
     {
         let rt = self.rt;
         let padding = flow.saturating_sub(u32::try_from(bytes.len()).unwrap_or(u32::MAX));
@@ -566,7 +588,7 @@ where
 
     /// Feeds a piece to its call. One that isn't taken resets the call.
     fn feed(&mut self, id: StreamId, bytes: Bytes)
-        ensures heard { (counted : ℕ) → (fate : Fate) × Hears M.names (Told (events.Data id bytes counted) fate) self.old.slots self.new.slots }
+        ensures heard { (counted : ℕ) → ReadsAll M.names (events.Data id bytes counted ∷ []) self.old self.new }
     {
         match self.slots.feed(id, bytes) {
             Ok(()) => {}
@@ -576,7 +598,7 @@ where
 
     /// What comes for a call that is no longer live is fed to no one. So the call is never told that its half has ended, but its stream is reset.
     fn miss(&mut self, id: StreamId, bytes: &Bytes)
-        ensures heard { (counted : ℕ) → Hears M.names (Told (events.Data id bytes.now counted) (Received Discard)) self.old.slots self.new.slots }
+        ensures heard { (counted : ℕ) → ReadsAll M.names (events.Data id bytes.now counted ∷ []) self.old self.new }
     {
         if bytes.is_empty() {
             return;
@@ -588,16 +610,19 @@ where
     /// Resets the stream of a call whose half is open.
     fn reset_if_fed(&mut self, id: StreamId)
         ensures slots { self.new.slots ≡ self.old.slots }
+        ensures holds { HoldsReasons self.old self.new }
+        ensures reason { HasReason self.new id ⊎ (position (λ seat. feeds id seat) self.old.slots.seats.items ≡ None) }
     {
-        if self.slots.is_fed(id) {
-            let rt = self.rt;
-            self.orders.reset(&rt, id, ErrorCode::EnhanceYourCalm, true);
+        if !self.slots.is_fed(id) {
+            return;
         }
+        let rt = self.rt;
+        self.orders.reset(&rt, id, ErrorCode::EnhanceYourCalm, true);
     }
 
     /// The client has ended its half.
     fn end_half(&mut self, id: StreamId)
-        ensures heard { Hears M.names (Told (events.End id) Plain) self.old.slots self.new.slots }
+        ensures heard { ReadsAll M.names (events.End id ∷ []) self.old self.new }
     {
         let rt = self.rt;
         self.orders.shared.book.lock(&rt).end_remote(id);
@@ -607,6 +632,8 @@ where
     /// A stream is reset: its call is told so, and is live no more.
     fn cut(&mut self, id: StreamId, code: ErrorCode, written: bool)
         ensures heard { (step : Step) → Concerns id step → shut_at id step ≡ Some (shut.Reset (error_number code)) → Hears M.names step self.old.slots self.new.slots }
+        ensures holds { HoldsReasons self.old self.new }
+        ensures reason { written ≡ true → HasReason self.new id }
     {
         let rt = self.rt;
         self.orders.reset(&rt, id, code, written);
@@ -617,6 +644,7 @@ where
     /// Resets the half of a call, if it is open.
     fn let_go(&mut self, id: StreamId, code: ErrorCode)
         ensures heard { (step : Step) → Concerns id step → shut_at id step ≡ Some (shut.Reset (error_number code)) → Hears M.names step self.old.slots self.new.slots }
+        ensures holds { HoldsReasons self.old self.new }
         ensures last { self.new.slots.last ≡ self.old.slots.last }
     {
         self.slots.shut(id, Shut::Reset(code.code()));

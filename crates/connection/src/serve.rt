@@ -51,9 +51,11 @@ where
     // What was written are the frames of a lawful run, which obeyed these orders.
     ensures served { IfSome result.output (λ device. (orders : List Ordered) × HasWritten O.contents O.failed (O.contents output) orders (Some result.ending) device) }
     // A row for each call, on the lawful account of what came of its stream and was answered by the method that its path names.
-    ensures calls { IfSome result.calls (λ rows. (came : List ℕ) × Consumes (I.remaining input.old) (I.remaining input.new) came
+    // Each half that was reset though END_STREAM came was so for a reason, where the input was heard to its end.
+    ensures calls { IfSome result.calls (λ rows. (orders : List Ordered) × IfSome result.output (HasWritten O.contents O.failed (O.contents output) orders (Some result.ending))
+        × ((came : List ℕ) × Consumes (I.remaining input.old) (I.remaining input.new) came
         × AreAccounted (answers_by (λ method. answers (method.vtable, method.value)) (listed methods.value))
-        (IsFirstWith (λ method. (⟦<dyn Method as Method>⟧ method.vtable).name method.value) (listed methods.value)) result.ending came rows.items) }
+        (IsFirstWith (λ method. (⟦<dyn Method as Method>⟧ method.vtable).name method.value) (listed methods.value)) result.ending came orders rows.items)) }
 {
     let blanks = (Blank::new(1), Blank::new(1), Blank::new(1));
     let Ok(ring) = Ring::open(alloc, ORDERS) else {
@@ -104,7 +106,8 @@ where
     requires named { AreNames (IsFirstWith (λ method. (⟦<dyn Method as Method>⟧ method.vtable).name method.value) (listed methods.value)) M.names }
     requires ring { (N.ring ≡ Some (in_name ring.0)) × (in_name ring.0 ≡ out_name ring.1) × (taken ring.1 ≡ []) }
     ensures served { IfOk result (λ served. IfSome served.output (λ device. (orders : List Ordered) × HasWritten O.contents O.failed (O.contents output) orders (Some served.ending) device)) }
-    ensures calls { IfOk result (λ served. IfSome served.calls (λ rows. (came : List ℕ) × Consumes (I.remaining input.old) (I.remaining input.new) came × AreAccounted M.known M.names served.ending came rows.items)) }
+    ensures calls { IfOk result (λ served. IfSome served.calls (λ rows. (orders : List Ordered) × IfSome served.output (HasWritten O.contents O.failed (O.contents output) orders (Some served.ending))
+        × ((came : List ℕ) × Consumes (I.remaining input.old) (I.remaining input.new) came × AreAccounted M.known M.names served.ending came orders rows.items))) }
 {
     let (received, came) = blanks.0.open::<A>();
     let (admitted, calls) = blanks.1.open::<B>();

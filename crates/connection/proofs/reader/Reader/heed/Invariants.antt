@@ -1,11 +1,11 @@
 use Rattle.std.proofs.Common.{◌≡◌, ◌<◌, ◌++◌, length}
 use Rattle.std.specs.Vec.Iter.{into_iter_items, into_iter_len}
-use Rattle.connection.specs.Seats.{HearsAll}
+use Rattle.connection.specs.Reasons.{ReadsAll}
 use Rattle.connection.proofs.reader.Reader.heed.Given as goal
 
 -- the events so far were heard, and they and those to come are all
 abbrev pub invariant-events : goal.invariant-events
 invariant-events g l = (l.intake.came.parts ≡ g.A.Ledger.parts) × (0 < g.A.Ledger.parts) × (l.intake.calls.parts ≡ g.B.Ledger.parts) × (0 < g.B.Ledger.parts)
-    × HearsAll g.M.Answering.names l.yielded l.fn.self.slots l.self.slots
+    × ReadsAll g.M.Answering.names l.yielded l.fn.self l.self
     × (l.yielded ++ into_iter_items l.event-iterator ≡ l.fn.events.items)
     × (into_iter_len l.event-iterator ≡ length (into_iter_items l.event-iterator))

@@ -3,6 +3,7 @@ use Rattle.std.specs.Io.KnownBytes.{Consumes}
 use Rattle.session.specs.declared.event.InEvent.{InEvent}
 use Rattle.session.specs.CoreStates.{Reached}
 use Rattle.calltable.specs.Steps.{Step, events_of}
+use Rattle.connection.specs.Reasons.{KeptFor}
 use Rattle.connection.specs.Seats.{Kept}
 use Rattle.connection.proofs.reader.Reader.read.Given as goal
 
@@ -10,4 +11,4 @@ use Rattle.connection.proofs.reader.Reader.read.Given as goal
 abbrev pub invariant-pieces : goal.invariant-pieces
 invariant-pieces g l = (l.intake.came.parts ≡ g.A.Ledger.parts) × (0 < g.A.Ledger.parts) × (l.intake.calls.parts ≡ g.B.Ledger.parts) × (0 < g.B.Ledger.parts)
     × (Kept g.M.Answering.names [] l.fn.self.slots → (came : List ℕ) × (given : List InEvent) × (told : List Step) × Consumes (g.I.ConnRead.remaining l.fn.input) (g.I.ConnRead.remaining l.input) came
-    × Reached came given l.core × (events_of told ≡ given) × Kept g.M.Answering.names told l.self.slots)
+    × Reached came given l.core × (events_of told ≡ given) × KeptFor g.M.Answering.names told l.self)
