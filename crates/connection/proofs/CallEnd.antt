@@ -16,7 +16,7 @@ use Rattle.connection.specs.Streams.{HasEnd, HasStreamData}
 use Rattle.connection.proofs.CallData.{all-behind, call-data}
 
 -- the end that was told of a call since it was admitted is the one by the frames
-end-since : (came : List ℕ) (given : List InEvent) (entries : List Entry) (told : List Step) (id : ℕ) → Framed came given entries → events_of told ≡ given
+pub end-since : (came : List ℕ) (given : List InEvent) (entries : List Entry) (told : List Step) (id : ℕ) → Framed came given entries → events_of told ≡ given
     → list_any (nat_eq id) (admitted told) ≡ true → ending_told id (events_of (since id told)) ≡ ending_of id entries
 end-since came given entries told id framed all there =
     let at = since-opening id told there in

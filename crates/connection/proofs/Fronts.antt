@@ -14,7 +14,7 @@ use Rattle.connection.specs.declared.orders.Route.{Ghosts}
 use Rattle.connection.specs.declared.reader.Reader.{Reader}
 use Rattle.connection.specs.declared.slots.Slots.{Slots}
 use Rattle.connection.specs.declared.report.Ending.{Ending}
-use Rattle.connection.specs.Reports.{AreHeard, IsFront, is_input_end}
+use Rattle.connection.specs.Reports.{AreHeard, IsFront, is_heard_out}
 use Rattle.connection.specs.Reasons.{HasReason, KeptFor, LetGoFor, ReadsSome}
 use Rattle.connection.specs.Seats.{Kept}
 use Rattle.connection.proofs.Heard.{events-append}
@@ -54,9 +54,9 @@ read-failed old new (Err fault) buf not read = consumes-keeps old old new [] (co
 
 -- ---- what was heard of the bytes that came
 
-module _ {A B C M N R : Type 0} {route : Ghosts N} {names : List ℕ → ℕ → Type 0} where
+module _ {A B C M N R G : Type 0} {route : Ghosts N} {names : List ℕ → ℕ → Type 0} where
   -- some of the events of the last bytes were heard
-  pub last-front : (old : Reader A B C M N R route) (new : Slots M) (given before : List InEvent) (told : List Step) (bytes : List ℕ) (core : Core) → ReadsSome names given old new → Reached bytes (before ++ given) core
+  pub last-front : (old : Reader A B C M N R G route) (new : Slots M) (given before : List InEvent) (told : List Step) (bytes : List ℕ) (core : Core) → ReadsSome names given old new → Reached bytes (before ++ given) core
       → events_of told ≡ before → KeptFor names told old → (all : List Step) × Kept names all new × IsFront bytes (events_of all)
   last-front old new given before told bytes core some reached is kept =
       let more = some told kept in (
@@ -70,22 +70,22 @@ module _ {A B C M N R : Type 0} {route : Ghosts N} {names : List ℕ → ℕ →
       )
 
   -- none of them was
-  pub last-none : (reader : Reader A B C M N R route) (before : List InEvent) (told : List Step) (bytes more : List ℕ) (core : Core) → Reached bytes before core → events_of told ≡ before
+  pub last-none : (reader : Reader A B C M N R G route) (before : List InEvent) (told : List Step) (bytes more : List ℕ) (core : Core) → Reached bytes before core → events_of told ≡ before
       → KeptFor names told reader → (all : List Step) × Kept names all reader.slots × IsFront (bytes ++ more) (events_of all)
   last-none reader before told bytes more core reached is kept =
       (told, kept.slots, subst (λ (es : List InEvent). IsFront (bytes ++ more) es) (sym is) (front-before bytes more before core reached))
 
-  -- nothing more is said of a connection that ended otherwise than by its input
-  pub front-alone : (end : Ending) (reader : Reader A B C M N R route) (bytes : List ℕ) → is_input_end end ≡ false → (all : List Step) × Kept names all reader.slots × IsFront bytes (events_of all)
-      → (all : List Step) × Kept names all reader.slots × AreHeard end bytes (events_of all) × (is_input_end end ≡ true → LetGoFor (HasReason reader) all)
+  -- nothing more is said where not all that came was heard
+  pub front-alone : (end : Ending) (reader : Reader A B C M N R G route) (bytes : List ℕ) → is_heard_out end ≡ false → (all : List Step) × Kept names all reader.slots × IsFront bytes (events_of all)
+      → (all : List Step) × Kept names all reader.slots × AreHeard end bytes (events_of all) × (is_heard_out end ≡ true → LetGoFor (HasReason reader) all)
   front-alone end reader bytes other found =
-      let not : is_input_end end ≡ true → ⊥ = λ ended. true≢false (sym ended ∙ other) in
+      let not : is_heard_out end ≡ true → ⊥ = λ ended. true≢false (sym ended ∙ other) in
       (found.0, found.1, record { front = found.2; whole = λ ended. absurd (not ended) }, λ ended. absurd (not ended))
 
   -- all were heard
-  pub all-heard : (end : Ending) (reader : Reader A B C M N R route) (before : List InEvent) (told : List Step) (bytes given : List ℕ) (core : Core) → given ≡ bytes → Reached bytes before core
+  pub all-heard : (end : Ending) (reader : Reader A B C M N R G route) (before : List InEvent) (told : List Step) (bytes given : List ℕ) (core : Core) → given ≡ bytes → Reached bytes before core
       → events_of told ≡ before → KeptFor names told reader
-      → (all : List Step) × Kept names all reader.slots × AreHeard end given (events_of all) × (is_input_end end ≡ true → LetGoFor (HasReason reader) all)
+      → (all : List Step) × Kept names all reader.slots × AreHeard end given (events_of all) × (is_heard_out end ≡ true → LetGoFor (HasReason reader) all)
   all-heard end reader before told bytes given core same reached is kept = (
     told,
     kept.slots,

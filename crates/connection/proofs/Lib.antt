@@ -12,6 +12,6 @@ pub mod SeatRows
 pub mod SlotRows
 pub mod Reports
 pub mod Ids
-pub mod Answered
 pub mod Reasons
 pub mod Unfed
+pub mod AccountFrames

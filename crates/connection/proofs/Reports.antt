@@ -17,15 +17,14 @@ use Rattle.connection.specs.declared.report.Ending.TheVariants.{InputEnded, Peer
 use Rattle.connection.specs.Calls.{is_admitted}
 use Rattle.connection.specs.Orders.{IsReset}
 use Rattle.connection.specs.Reasons.{LetGoFor, LetsGo}
-use Rattle.connection.specs.Reports.{AreAccounted, AreHeard, AreRows, IsAccounted, IsFront, WasResetFor, is_input_end}
-use Rattle.connection.specs.Workers.{HasTrailers}
+use Rattle.connection.specs.Reports.{AreAccounted, AreHeard, AreRows, IsAccounted, IsFront, WasResetFor, is_heard_out}
 use Rattle.connection.proofs.Heard.{events-append}
 
 -- what is so unless an error ended the connection
-pub calm-so : (ending : Ending) (P : Type 0) → is_input_end ending ≡ true → (ending ≢ OutOfMemory → ending ≢ WriteFailed → ((code : ErrorCode) → ending ≢ ProtocolError code) → P) → P
+pub calm-so : (ending : Ending) (P : Type 0) → is_heard_out ending ≡ true → (ending ≢ OutOfMemory → ending ≢ WriteFailed → ((code : ErrorCode) → ending ≢ ProtocolError code) → P) → P
 calm-so InputEnded P calm so = so (λ is. cc) (λ is. cc) (λ code is. cc)
 calm-so PeerGoaway P calm so = so (λ is. cc) (λ is. cc) (λ code is. cc)
-calm-so ReadFailed P calm so = absurd cc
+calm-so ReadFailed P calm so = so (λ is. cc) (λ is. cc) (λ code is. cc)
 calm-so (ProtocolError code) P calm so = absurd cc
 calm-so WriteFailed P calm so = absurd cc
 calm-so OutOfMemory P calm so = absurd cc
@@ -58,25 +57,22 @@ module _ (P : ℕ → Type 0) where
       reason-of id cuts told later step before rest silent (subst (λ (s : Step). ending_told id (events_of (s ∷ later)) ≡ Finished) (sym same) ended) for known unshut lets
 
 -- why it was let go, where no orders were dropped
-undropped : (id : ℕ) (orders : List Order) (dropped : Bool) (rows : List CallReport) → dropped ≡ false → IsReset id orders ⊎ (dropped ≡ true) ⊎ HasTrailers id rows → IsReset id orders ⊎ HasTrailers id rows
-undropped id orders dropped rows none (inl reset) = inl reset
-undropped id orders dropped rows none (inr (inl is)) = absurd (true≢false (sym is ∙ none))
-undropped id orders dropped rows none (inr (inr has)) = inr has
+undropped : (id : ℕ) (orders : List Order) (dropped : Bool) → dropped ≡ false → IsReset id orders ⊎ (dropped ≡ true) → IsReset id orders
+undropped id orders dropped none (inl reset) = reset
+undropped id orders dropped none (inr is) = absurd (true≢false (sym is ∙ none))
 
 module _ (answers : ℕ → List (List ℕ) → Bool → Answer → Type 0) (names : List ℕ → ℕ → Type 0) {V : Type 0} (items : V → List CallReport) (P : List ℕ → Type 0) (Why : ℕ → Type 0) where
   -- behind what was read the calls were cut, of which no event tells
   pub are-accounted : (calls given : Option V) (came : List ℕ) (read ending : Ending) (told cuts : List Step) (orders : List Order) (dropped : Bool) → calls ≡ given
-      → (is_input_end ending ≡ true → ending ≡ read) → P came → AreHeard read came (events_of told) → events_of cuts ≡ [] → IsRising (cuts ++ told)
-      → (is_input_end read ≡ true → LetGoFor Why told) → (is_input_end ending ≡ true → dropped ≡ false)
-      → ((id : ℕ) → Why id → IfSome given (λ rows. IsReset id orders ⊎ (dropped ≡ true) ⊎ HasTrailers id (items rows)))
+      → (is_heard_out ending ≡ true → ending ≡ read) → P came → AreHeard read came (events_of told) → events_of cuts ≡ [] → IsRising (cuts ++ told)
+      → (is_heard_out read ≡ true → LetGoFor Why told) → (is_heard_out ending ≡ true → dropped ≡ false)
+      → ((id : ℕ) → Why id → IsReset id orders ⊎ (dropped ≡ true))
       → IfSome given (λ rows. AreRows answers names (cuts ++ told) (admitted (cuts ++ told)) (items rows))
       → IfSome calls (λ rows. (bytes : List ℕ) × P bytes × AreAccounted answers names ending bytes orders (items rows))
   are-accounted None given came read ending told cuts orders dropped same calm p heard silent rising for kept why rows = tt
   are-accounted (Some report) given came read ending told cuts orders dropped same calm p heard silent rising for kept why rows =
       let mine = subst (λ (found : Option V). IfSome found (λ v. AreRows answers names (cuts ++ told) (admitted (cuts ++ told)) (items v))) (sym same) rows in
-      let also : is_input_end ending ≡ true → is_input_end read ≡ true = λ ended. subst (λ (e : Ending). is_input_end e ≡ true) (calm ended) ended in
-      let reasons : (id : ℕ) → Why id → IsReset id orders ⊎ (dropped ≡ true) ⊎ HasTrailers id (items report) = λ id reason.
-      subst (λ (found : Option V). IfSome found (λ v. IsReset id orders ⊎ (dropped ≡ true) ⊎ HasTrailers id (items v))) (sym same) (why id reason) in
+      let also : is_heard_out ending ≡ true → is_heard_out read ≡ true = λ ended. subst (λ (e : Ending). is_heard_out e ≡ true) (calm ended) ended in
       let is : events_of (cuts ++ told) ≡ events_of told = events-append cuts told ∙ (ap (λ (es : List InEvent). events_of told ++ es) silent ∙ append-nil (events_of told)) in (
         came,
         p,
@@ -89,10 +85,10 @@ module _ (answers : ℕ → List (List ℕ) → Bool → Answer → Type 0) (nam
           };
           calls = mine;
           resets = λ calmly.
-              All-weaker (λ (row : CallReport). IsAccounted answers names (cuts ++ told) row) (λ (row : CallReport). WasResetFor (cuts ++ told) orders (items report) row.id)
+              All-weaker (λ (row : CallReport). IsAccounted answers names (cuts ++ told) row) (λ (row : CallReport). WasResetFor (cuts ++ told) orders row.id)
               (λ row accounted code ended closed.
               let was = let-go-before row.id code (cuts ++ told) accounted.known ended closed in
-              undropped row.id orders dropped (items report) (kept calmly) (reasons row.id
+              undropped row.id orders dropped (kept calmly) (why row.id
               (reason-of Why row.id cuts told was.later was.step was.before was.parts silent was.ended (for (also calmly)) was.known was.unshut was.lets)))
               (items report) mine.each;
         },

@@ -17,10 +17,9 @@ use Rattle.callbox.specs.InSides.{Took}
 use Rattle.handlers.specs.declared.step.Step.{Step}
 use Rattle.callrun.specs.Outcomes.{Unended}
 use Rattle.connection.specs.declared.report.CallReport.{CallReport}
-use Rattle.connection.specs.declared.slot.Answered.{Answered}
 use Rattle.connection.specs.declared.slot.Job.{Job}
 use Rattle.connection.specs.Accounts.{IsWithin, unanswered}
-use Rattle.connection.specs.Workers.{Answers, AreTrue, HasTrailers, HaveRows, TellsOf}
+use Rattle.connection.specs.Workers.{Answers, HaveRows}
 
 -- ---- two lists, place by place
 
@@ -243,33 +242,3 @@ module _ (answers : ℕ → List (List ℕ) → Bool → Step → Type 0) where
     none_came (Some rows) gots gives new_gives jobs new_jobs got is_jobs same_gives got_each has =
         subst (λ (xs : List Job). HaveRows answers (gots ++ got ∷ []) new_gives xs (items rows)) (sym is_jobs)
         (same_rows gots (gots ++ got ∷ []) gives new_gives jobs (items rows) (λ n within. segment-before gots got n (omega (arith, within, got_each))) same_gives has)
-
--- ---- what a worker told
-
--- more rows say what fewer say
-tells-on : (told : List Answered) (rows more : List CallReport) → AreTrue told rows → AreTrue told (rows ++ more)
-tells-on told rows more are = λ k d within answered. let is = are k d within answered in (is.0, get-left _ rows more is.0 is.1)
-
-tells-one : (id : ℕ) (before after : List Answered) (rows : List CallReport) (row : CallReport) → row.id ≡ id → TellsOf id (is_some row.status) before after
-    → AreTrue before rows → AreTrue after (rows ++ row ∷ [])
-tells-one id before after rows row is_id (inl same) are = subst (λ (xs : List Answered). AreTrue xs (rows ++ row ∷ [])) (sym same) (tells-on before rows (row ∷ []) are)
-tells-one id before after rows row is_id (inr more) are =
-    let P : Answered → Type 0 = λ answered. answered.has_trailers ≡ true → HasTrailers answered.id (rows ++ row ∷ []) in
-    let one : Answered = record { id = id; has_trailers = is_some row.status; was_live = more.0 } in
-    subst (λ (xs : List Answered). AreTrue xs (rows ++ row ∷ [])) (sym more.1)
-    (All-append P before (one ∷ []) (tells-on before rows (row ∷ []) are)
-    (All-cons P one [] (λ answered. (length rows, get-last (λ r. (r.id ≡ id) × (is_some r.status ≡ true)) rows row (is_id, answered))) (All-nil P)))
-
-module _ {V : Type 0} (items : V → List CallReport) where
-  pub tells_more : (calls after : Option V) (id : ℕ) (before told : List Answered) (row : CallReport)
-      → IfSome after (λ rows. IsSomeAnd calls (λ some. items rows ≡ items some ++ row ∷ [])) → row.id ≡ id → TellsOf id (is_some row.status) before told
-      → IfSome calls (λ rows. AreTrue before (items rows)) → IfSome after (λ rows. AreTrue told (items rows))
-  tells_more calls None id before told row more is_id tells are = tt
-  tells_more None (Some rows) id before told row more is_id tells are = absurd more
-  tells_more (Some some) (Some rows) id before told row more is_id tells are =
-      subst (λ (xs : List CallReport). AreTrue told xs) (sym more) (tells-one id before told (items some) row is_id tells are)
-
-  pub tells_nothing : (calls : Option V) (rows : V) (told : List Answered) → calls ≡ Some rows → told ≡ [] → IfSome calls (λ v. AreTrue told (items v))
-  tells_nothing calls rows told some none =
-      subst (λ (c : Option V). IfSome c (λ v. AreTrue told (items v))) (sym some)
-      (subst (λ (xs : List Answered). AreTrue xs (items rows)) (sym none) (All-nil (λ answered. answered.has_trailers ≡ true → HasTrailers answered.id (items rows))))

@@ -19,10 +19,9 @@ use Rattle.callrun.specs.Sides.{Shown, is_open, shown}
 use Rattle.callrun.proofs.Ahead.{with_none}
 use Rattle.callrun.proofs.Listing.{closed_run}
 use Rattle.connection.specs.declared.report.CallReport.{CallReport}
-use Rattle.connection.specs.declared.slot.Answered.{Answered}
 use Rattle.connection.specs.declared.slot.Job.{Job}
 use Rattle.connection.specs.Accounts.{IsGivenAs, answers_by, unanswered}
-use Rattle.connection.specs.Workers.{Answers, TellsOf}
+use Rattle.connection.specs.Workers.{Answers}
 
 -- what leads to the first leads to the second, with more messages
 abbrev pub Goes : (List (List ℕ) → Bool → Step → Type 0) → (MethodState → List (List ℕ) → Step → Type 0)
@@ -173,9 +172,3 @@ same_outcome said0 said1 call0 call1 shown0 shown1 items status e_said e_call e_
 pub left_as : (placed : Bool) (items given : List OutItem) → MatchBool placed (given ≡ items ++ Left ∷ []) (given ≡ items) → IsGivenAs items given
 left_as true items given is = inr is
 left_as false items given is = inl is
-
--- what is told of a call is put, or there was no room for it
-pub tells_of : (id : ℕ) (has_trailers was_live : Bool) (before after : List Answered)
-    → (after ≡ before) ⊎ (after ≡ before ++ record { id = id; has_trailers = has_trailers; was_live = was_live } ∷ []) → TellsOf id has_trailers before after
-tells_of id has_trailers was_live before after (inl same) = inl same
-tells_of id has_trailers was_live before after (inr more) = inr (was_live, more)

@@ -11,3 +11,4 @@ pub mod Seats
 pub mod SeatExamples
 pub mod Ids
 pub mod Reasons
+pub mod AccountFrames

@@ -1,5 +1,5 @@
 -- The rows of a connection's report, each on what the reader heard of its stream.
-use Rattle.std.specs.Prelude.{◌≡◌, ◌⊎◌, ℕ, Bool, true, false, List, Some, All, map}
+use Rattle.std.specs.Prelude.{◌≡◌, ℕ, Bool, true, false, List, Some, All, map}
 use mathlib.Core.List.{IsPrefix}
 use Rattle.account.specs.declared.call.Account.{Account}
 use Rattle.account.specs.declared.call.Shut.{Shut}
@@ -17,31 +17,29 @@ use Rattle.connection.specs.declared.report.Ending.TheVariants as ending
 use Rattle.connection.specs.Accounts.{StandsOn}
 use Rattle.connection.specs.Calls.{is_admitted}
 use Rattle.connection.specs.Orders.{IsReset}
-use Rattle.connection.specs.Workers.{HasTrailers}
 
 -- these events are the first of those of the bytes that came
 abbrev pub IsFront : List ℕ → List InEvent → Type 0
 IsFront came given = (all : List InEvent) → Events came all → IsPrefix given all
 
--- whether the input was heard to its end
-abbrev pub is_input_end : Ending → Bool
-is_input_end ending.InputEnded = true
-is_input_end ending.PeerGoaway = true
-is_input_end (ending.ProtocolError code) = false
-is_input_end ending.ReadFailed = false
-is_input_end ending.WriteFailed = false
-is_input_end ending.OutOfMemory = false
+-- whether all that came was heard: the input ended, or could not be read on
+abbrev pub is_heard_out : Ending → Bool
+is_heard_out ending.InputEnded = true
+is_heard_out ending.PeerGoaway = true
+is_heard_out (ending.ProtocolError code) = false
+is_heard_out ending.ReadFailed = true
+is_heard_out ending.WriteFailed = false
+is_heard_out ending.OutOfMemory = false
 
--- These events are the first of those of the bytes that came, and where the input was heard to its end all of them.
+-- These events are the first of those of the bytes that came, and all of them where all that came was heard.
 pub record AreHeard (end : Ending) (came : List ℕ) (given : List InEvent) : Type 0 where
   pub front : IsFront came given
-  pub whole : is_input_end end ≡ true → Events came given
+  pub whole : is_heard_out end ≡ true → Events came given
 
--- Where the half of a call was reset, though END_STREAM was told of its stream, a reset of the stream that is to be written was ordered, or the
--- call was answered with trailers.
-abbrev pub WasResetFor : List Step → List Order → List CallReport → ℕ → Type 0
-WasResetFor told orders rows id =
-    (code : ℕ) → ending_told id (events_of (since id told)) ≡ Finished → shut_by id (since id told) ≡ Some (shut.Reset code) → IsReset id orders ⊎ HasTrailers id rows
+-- Where the half of a call was reset, though END_STREAM was told of its stream, a reset of the stream that is to be written was ordered.
+abbrev pub WasResetFor : List Step → List Order → ℕ → Type 0
+WasResetFor told orders id =
+    (code : ℕ) → ending_told id (events_of (since id told)) ≡ Finished → shut_by id (since id told) ≡ Some (shut.Reset code) → IsReset id orders
 
 module _ (answers : ℕ → List (List ℕ) → Bool → Answer → Type 0) (names : List ℕ → ℕ → Type 0) where
   -- A call of the row's stream was admitted with a head whose path names the row's method. The row stands on the call's lawful account: what it
@@ -61,11 +59,11 @@ module _ (answers : ℕ → List (List ℕ) → Bool → Answer → Type 0) (nam
     pub each : All (λ row. IsAccounted told row) rows
     pub streams : map (λ row. row.id) rows ≡ ids
 
-  -- These bytes came, and the rows are those of the calls by the first of their events, by all of them where the input was heard to its end: one
-  -- for each call that was admitted, in that order.
+  -- These bytes came, and the rows are those of the calls by the first of their events, by all of them where all that came was heard: one for
+  -- each call that was admitted, in that order.
   pub record AreAccounted (end : Ending) (came : List ℕ) (orders : List Order) (rows : List CallReport) : Type 0 where
     pub told : List Step
     pub rising : IsRising told
     pub heard : AreHeard end came (events_of told)
     pub calls : AreRows told (admitted told) rows
-    pub resets : is_input_end end ≡ true → All (λ row. WasResetFor told orders rows row.id) rows
+    pub resets : is_heard_out end ≡ true → All (λ row. WasResetFor told orders row.id) rows

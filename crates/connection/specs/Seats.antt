@@ -1,5 +1,5 @@
 -- The slots of a connection, as they are by what its reader heard.
-use Rattle.std.specs.Prelude.{◌≡◌, ◌⊎◌, ◌<◌, ◌&&◌, ◌+◌, ℕ, Bool, nat_eq, List, [], ◌++◌, ◌∷◌, map, length, get_or, Option, All}
+use Rattle.std.specs.Prelude.{◌≡◌, ◌<◌, ◌&&◌, ◌+◌, ℕ, Bool, nat_eq, List, [], ◌++◌, ◌∷◌, map, length, get_or, Option, All}
 use mathlib.Core.List.{IsPrefix}
 use Rattle.lane.specs.Ring as ring
 use Rattle.lane.specs.RingLane.{past_in, past_shut, put_in, put_shut}
@@ -13,7 +13,6 @@ use Rattle.connection.specs.declared.slots.Slots.{Slots}
 use Rattle.connection.specs.Calls.{AreCalls}
 use Rattle.connection.specs.Halves.{half_by, is_open, shown}
 use Rattle.connection.specs.Ids.{times}
-use Rattle.connection.specs.Workers.{TellsTrailers}
 
 -- no two are at the same stream
 abbrev pub AreApart : List ℕ → Type 0
@@ -44,15 +43,6 @@ module _ {M : Type 0} where
   -- a slot is at a call of this stream, to which more may be fed
   abbrev pub feeds : ℕ → Seat M → Bool
   feeds id seat = nat_eq seat.id id && is_open seat.half
-
-  -- the worker of one of these slots told of this call that it was answered with trailers, and that was heard
-  abbrev pub WasAnswered : ℕ → List (Seat M) → Type 0
-  WasAnswered id [] = ⊥
-  WasAnswered id (seat ∷ seats) = TellsTrailers id (ring.taken seat.answers) ⊎ WasAnswered id seats
-
-  -- what was heard of answers stays
-  abbrev pub HoldsAnswers : Slots M → Slots M → Type 0
-  HoldsAnswers old new = (id : ℕ) → WasAnswered id old.seats.items → WasAnswered id new.seats.items
 
 module _ {M : Type 0} (names : List ℕ → ℕ → Type 0) where
   -- these steps led to a slot

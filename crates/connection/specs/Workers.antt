@@ -1,5 +1,5 @@
 -- What a worker did with the calls of its slot.
-use Rattle.std.specs.Prelude.{◌≡◌, ◌≤◌, ◌⊎◌, ℕ, Bool, true, List, [], ◌∷◌, ◌++◌, length, Option, None, IfSome, IsSome, IsSomeAnd, All, slice_get}
+use Rattle.std.specs.Prelude.{◌≡◌, ◌≤◌, ℕ, Bool, List, [], length, Option, None, IfSome, IsSomeAnd, slice_get}
 use Rattle.lane.specs.Cuts.{segment}
 use Rattle.account.specs.declared.call.OutItem.{OutItem}
 use Rattle.account.specs.declared.call.Told.{Told}
@@ -9,7 +9,6 @@ use Rattle.callbox.specs.InSides.{Took}
 use Rattle.callbox.specs.Slots.{TookOf}
 use Rattle.handlers.specs.declared.step.Step.{Step}
 use Rattle.connection.specs.declared.report.CallReport.{CallReport}
-use Rattle.connection.specs.declared.slot.Answered.{Answered}
 use Rattle.connection.specs.declared.slot.Job.{Job}
 use Rattle.connection.specs.Accounts.{IsAnswered}
 
@@ -33,21 +32,3 @@ module _ (answers : ℕ → List (List ℕ) → Bool → Step → Type 0) where
 -- nothing was got of a call yet, nothing taken, and nothing told
 abbrev pub IsFresh : List InPiece → Progress → Type 0
 IsFresh got progress = (got ≡ []) × Took [] progress [] × (progress.told ≡ None)
-
--- a row says that the call of this stream was answered with trailers
-abbrev pub HasTrailers : ℕ → List CallReport → Type 0
-HasTrailers id rows = (n : ℕ) × IsSomeAnd (slice_get rows n) (λ row. (row.id ≡ id) × IsSome row.status)
-
--- it was told of this call that it was answered with trailers
-abbrev pub TellsTrailers : ℕ → List Answered → Type 0
-TellsTrailers id [] = ⊥
-TellsTrailers id (answered ∷ told) = ((answered.id ≡ id) × (answered.has_trailers ≡ true)) ⊎ TellsTrailers id told
-
--- where it was told of a call that it was answered with trailers, a row says so too
-abbrev pub AreTrue : List Answered → List CallReport → Type 0
-AreTrue told rows = All (λ answered. answered.has_trailers ≡ true → HasTrailers answered.id rows) told
-
--- it was told of this call besides, if at all
-abbrev pub TellsOf : ℕ → Bool → List Answered → List Answered → Type 0
-TellsOf id has_trailers before after =
-    (after ≡ before) ⊎ ((was_live : Bool) × (after ≡ before ++ record { id = id; has_trailers = has_trailers; was_live = was_live } ∷ []))

@@ -2,12 +2,13 @@
 
 ghost use Rattle.std.specs.Prelude.{◌≡◌, [], ◌∷◌, ◌++◌, IfSome};
 ghost use Rattle.lane.specs.End.{of_end};
-ghost use Rattle.lane.specs.Ring.{in_name, out_name, put_in, taken};
+ghost use Rattle.lane.specs.Ring.{out_name, taken};
 ghost use Rattle.handlers.specs.Listed.{listed};
 ghost use Rattle.connection.specs.Accounts.{IsWithin, answers_by};
-ghost use Rattle.connection.specs.Workers.{AreTrue, HaveRows, IsFresh};
+ghost use Rattle.connection.specs.Workers.{HaveRows, IsFresh};
 
 use crate::answering::Answering;
+use crate::gate::Gate;
 use crate::slot::{Answered, InLane, Job, OutLane};
 use crate::worker::{Seen, Worker};
 use account::OutItem;
@@ -76,25 +77,24 @@ pub(crate) struct Ends {
 
 /// A worker with its ends.
 #[derive(Drop)]
-struct WithEnds<A: Ledger, B: Ledger, C: Ledger> {
-    worker: Worker<A, B, C>,
+struct WithEnds<A: Ledger, B: Ledger, C: Ledger, G: Drop> {
+    worker: Worker<A, B, C, G>,
     ends: Ends,
 }
 
-impl<A: Ledger, B: Ledger, C: Ledger, M: Answering, R: Wait + Clock> Work<
+impl<A: Ledger, B: Ledger, C: Ledger, G: Gate + Drop, M: Answering, R: Wait + Clock> Work<
     M,
     R,
     Seen<InLane, OutLane>,
-> for WithEnds<A, B, C> {
+> for WithEnds<A, B, C, G> {
     ghost can_work = { λ it. IsFresh (⟦<RingLane<InPiece> as Lane>⟧.got it.ends.taker.rx) it.ends.taker.progress × (⟦<RingLane<InPiece> as Lane>⟧.past_out it.ends.taker.rx ≡ [])
-        × (⟦<RingLane<OutItem> as Lane>⟧.past_in it.ends.giver.tx ≡ []) × (⟦<RingLane<OutItem> as Lane>⟧.put_in it.ends.giver.tx ≡ []) × (taken it.ends.jobs ≡ []) × (put_in it.ends.answers ≡ []) };
+        × (⟦<RingLane<OutItem> as Lane>⟧.past_in it.ends.giver.tx ≡ []) × (⟦<RingLane<OutItem> as Lane>⟧.put_in it.ends.giver.tx ≡ []) × (taken it.ends.jobs ≡ []) };
 
     ghost comes_to = { λ it seen. (⟦<RingLane<InPiece> as Lane>⟧.ring_of (⟦<RingLane<InPiece> as Lane>⟧.out_name seen.taker.rx) ≡ ⟦<RingLane<InPiece> as Lane>⟧.ring_of (⟦<RingLane<InPiece> as Lane>⟧.out_name it.ends.taker.rx))
         × (⟦<RingLane<OutItem> as Lane>⟧.ring_of (of_end (λ g. ⟦<RingLane<OutItem> as Lane>⟧.in_name g.tx) (λ s. ⟦<RingLane<OutItem> as Lane>⟧.shut_name s.shut) seen.end) ≡ ⟦<RingLane<OutItem> as Lane>⟧.ring_of (⟦<RingLane<OutItem> as Lane>⟧.in_name it.ends.giver.tx))
-        × (out_name seen.jobs ≡ out_name it.ends.jobs) × (in_name seen.answers ≡ in_name it.ends.answers)
+        × (out_name seen.jobs ≡ out_name it.ends.jobs)
         × IfSome seen.calls (λ rows. HaveRows M.known (⟦<RingLane<InPiece> as Lane>⟧.past_out seen.taker.rx ++ ⟦<RingLane<InPiece> as Lane>⟧.got seen.taker.rx ∷ [])
-        (of_end (λ g. ⟦<RingLane<OutItem> as Lane>⟧.past_in g.tx) (λ s. ⟦<RingLane<OutItem> as Lane>⟧.past_shut s.shut) seen.end ++ of_end (λ g. ⟦<RingLane<OutItem> as Lane>⟧.put_in g.tx) (λ s. ⟦<RingLane<OutItem> as Lane>⟧.put_shut s.shut) seen.end ∷ []) (taken seen.jobs) rows.items)
-        × IfSome seen.calls (λ rows. AreTrue (put_in seen.answers) rows.items) };
+        (of_end (λ g. ⟦<RingLane<OutItem> as Lane>⟧.past_in g.tx) (λ s. ⟦<RingLane<OutItem> as Lane>⟧.past_shut s.shut) seen.end ++ of_end (λ g. ⟦<RingLane<OutItem> as Lane>⟧.put_in g.tx) (λ s. ⟦<RingLane<OutItem> as Lane>⟧.put_shut s.shut) seen.end ∷ []) (taken seen.jobs) rows.items) };
 
     fn work(self, rt: &R, methods: &Methods) -> Seen<InLane, OutLane> {
         let WithEnds { worker, ends } = self;
@@ -109,13 +109,12 @@ impl<A: Ledger, B: Ledger, C: Ledger, M: Answering, R: Wait + Clock> Work<
 }
 
 /// What a worker was given. It promises that the ends that it hands back are of the same lanes and rings, that each job it took
-/// has its row, as these ends say, and as is known of what methods answer, and that what it told of its calls is true.
+/// has its row, as these ends say, and as is known of what methods answer.
 #[derive(Drop)]
 pub(crate) struct Hired<I: Lane<Item = InPiece>, O: Lane<Item = OutItem>, M: Answering> {
     pub(crate) taker: Snapshot<Taker<I>>,
     pub(crate) giver: Snapshot<Giver<O>>,
     pub(crate) jobs: Snapshot<RingOut<Job>>,
-    pub(crate) answers: Snapshot<RingIn<Answered>>,
     known: PhantomData<M>,
 }
 
@@ -123,16 +122,15 @@ impl<I: Lane<Item = InPiece>, O: Lane<Item = OutItem>, M: Answering> Promise<See
     for Hired<I, O, M> {
     ghost kept_by = { λ hired seen. (I.ring_of (I.out_name seen.taker.rx) ≡ I.ring_of (I.out_name hired.taker.value.rx))
         × (O.ring_of (of_end (λ g. O.in_name g.tx) (λ s. O.shut_name s.shut) seen.end) ≡ O.ring_of (O.in_name hired.giver.value.tx))
-        × (out_name seen.jobs ≡ out_name hired.jobs.value) × (in_name seen.answers ≡ in_name hired.answers.value)
+        × (out_name seen.jobs ≡ out_name hired.jobs.value)
         × IfSome seen.calls (λ rows. HaveRows M.known (I.past_out seen.taker.rx ++ I.got seen.taker.rx ∷ [])
-        (of_end (λ g. O.past_in g.tx) (λ s. O.past_shut s.shut) seen.end ++ of_end (λ g. O.put_in g.tx) (λ s. O.put_shut s.shut) seen.end ∷ []) (taken seen.jobs) rows.items)
-        × IfSome seen.calls (λ rows. AreTrue (put_in seen.answers) rows.items) };
+        (of_end (λ g. O.past_in g.tx) (λ s. O.past_shut s.shut) seen.end ++ of_end (λ g. O.put_in g.tx) (λ s. O.put_shut s.shut) seen.end ∷ []) (taken seen.jobs) rows.items) };
 }
 
 /// Starts a worker with these ends. None where no thread can be had.
-pub(crate) fn hire<A, B, C, M, R>(
+pub(crate) fn hire<A, B, C, G, M, R>(
     rt: R,
-    worker: Worker<A, B, C>,
+    worker: Worker<A, B, C, G>,
     methods: Arc<Methods>,
     ends: Ends,
 ) -> Option<PromisedHandle<Seen<InLane, OutLane>, Hired<InLane, OutLane, M>>>
@@ -140,20 +138,20 @@ where
     A: Ledger + Send + Sync + 'static,
     B: Ledger + Send + Sync + 'static,
     C: Ledger + Send + Sync + 'static,
+    G: Gate + Send + Sync + Drop + 'static,
     M: Answering + Send + Sync + 'static,
     R: Threads + Wait + Clock + Copy + Send + Sync + Drop + 'static,
     requires fresh { IsFresh (⟦<RingLane<InPiece> as Lane>⟧.got ends.taker.rx) ends.taker.progress × (⟦<RingLane<InPiece> as Lane>⟧.past_out ends.taker.rx ≡ []) }
     requires ungiven { (⟦<RingLane<OutItem> as Lane>⟧.past_in ends.giver.tx ≡ []) × (⟦<RingLane<OutItem> as Lane>⟧.put_in ends.giver.tx ≡ []) }
-    requires unused { (taken ends.jobs ≡ []) × (put_in ends.answers ≡ []) }
+    requires unused { taken ends.jobs ≡ [] }
     requires known { IsWithin M.known (answers_by (λ method. answers (method.vtable, method.value)) (listed methods.value)) }
     ensures lanes { IfSome result (λ handle. (handle.promise.taker.value ≡ ends.taker) × (handle.promise.giver.value ≡ ends.giver)) }
-    ensures rings { IfSome result (λ handle. (handle.promise.jobs.value ≡ ends.jobs) × (handle.promise.answers.value ≡ ends.answers)) }
+    ensures jobs { IfSome result (λ handle. handle.promise.jobs.value ≡ ends.jobs) }
 {
     let hired: Hired<InLane, OutLane, M> = Hired {
         taker: Snapshot::of(&ends.taker),
         giver: Snapshot::of(&ends.giver),
         jobs: Snapshot::of(&ends.jobs),
-        answers: Snapshot::of(&ends.answers),
         known: PhantomData,
     };
     start::<_, M, _, _, _>(rt, hired, WithEnds { worker, ends }, methods)

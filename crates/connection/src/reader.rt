@@ -14,12 +14,12 @@ ghost use Rattle.connection.specs.Accounts.{IsWithin, answers_by};
 ghost use Rattle.connection.specs.Calls.{AreNames, IsFirstWith};
 ghost use Rattle.connection.specs.Orders.{IsReset, orders_of};
 ghost use Rattle.connection.specs.Reasons.{HasReason, HoldsReasons, KeptFor, LetGoFor, ReadsAll, ReadsSome};
-ghost use Rattle.connection.specs.Reports.{AreHeard, AreRows, IsFront, is_input_end};
+ghost use Rattle.connection.specs.Reports.{AreHeard, AreRows, IsFront, is_heard_out};
 ghost use Rattle.connection.specs.Seats.{Hears, HearsAll, Kept, feeds};
-ghost use Rattle.connection.specs.Workers.{HasTrailers};
 ghost use Rattle.lane.specs.Ring.{put_in};
 
 use crate::answering::Answering;
+use crate::gate::Gate;
 use crate::intake::Intake;
 use crate::orders::{Fresh, Opened, Orders, Route};
 use crate::report::{CallReport, Ending};
@@ -56,11 +56,20 @@ const STREAMS: u32 = 4096;
 
 /// What the reading thread of a connection has.
 #[derive(Drop)]
-pub(crate) struct Reader<A: Ledger, B: Ledger, C: Ledger, M: Answering, N: Route, R: Drop> {
+pub(crate) struct Reader<
+    A: Ledger,
+    B: Ledger,
+    C: Ledger,
+    M: Answering,
+    N: Route,
+    R: Drop,
+    G: Drop,
+> {
     pub(crate) rt: R,
     pub(crate) alloc: Global,
     pub(crate) orders: Orders<A, B, C, N>,
     pub(crate) slots: Slots<M>,
+    gate: Arc<G>,
     /// How many streams were begun.
     begun: u32,
     /// Whether the peer opens no more streams.
@@ -69,7 +78,7 @@ pub(crate) struct Reader<A: Ledger, B: Ledger, C: Ledger, M: Answering, N: Route
     start: Instant,
 }
 
-impl<A, B, C, M, N, R> Reader<A, B, C, M, N, R>
+impl<A, B, C, M, N, R, G> Reader<A, B, C, M, N, R, G>
 where
     A: Ledger + Send + Sync + 'static,
     B: Ledger + Send + Sync + 'static,
@@ -77,13 +86,15 @@ where
     M: Answering + Send + Sync + 'static,
     N: Route,
     R: Threads + Wait + Clock + Copy + Send + Sync + Drop + 'static,
+    G: Gate + Send + Sync + Drop + 'static,
 {
     pub(crate) fn new(
         rt: R,
         alloc: Global,
         orders: Orders<A, B, C, N>,
+        gate: Arc<G>,
         start: Instant,
-    ) -> Reader<A, B, C, M, N, R>
+    ) -> Reader<A, B, C, M, N, R, G>
         ensures { Kept M.names [] result.slots }
     {
         Reader {
@@ -91,6 +102,7 @@ where
             alloc,
             orders,
             slots: Slots::new(alloc),
+            gate,
             begun: 0,
             peer_goaway: false,
             start,
@@ -109,7 +121,7 @@ where
         requires whole { (intake.old.came.parts ≡ A.parts) × (0 < A.parts) × (intake.old.calls.parts ≡ B.parts) × (0 < B.parts) }
         ensures whole { (intake.new.came.parts ≡ A.parts) × (0 < A.parts) × (intake.new.calls.parts ≡ B.parts) × (0 < B.parts) }
         ensures heard { Kept M.names [] self.old.slots → (came : List ℕ) × Consumes (I.remaining input.old) (I.remaining input.new) came
-            × ((told : List Step) × Kept M.names told self.new.slots × AreHeard result came (events_of told) × (is_input_end result ≡ true → LetGoFor (HasReason self.new) told)) }
+            × ((told : List Step) × Kept M.names told self.new.slots × AreHeard result came (events_of told) × (is_heard_out result ≡ true → LetGoFor (HasReason self.new) told)) }
     {
         let mut core = InCore::new(self.alloc);
         let mut piece = [0u8; PIECE];
@@ -140,7 +152,7 @@ where
         ensures rows { (told : List Step) → Kept M.names told self.slots → (cuts : List Step) × (events_of cuts ≡ []) × IsRising (cuts ++ told)
             × IfSome result.0 (λ rows. AreRows M.known M.names (cuts ++ told) (admitted (cuts ++ told)) rows.items) }
         ensures reasons { (id : ℕ) → HasReason self id
-            → IfSome result.0 (λ rows. IsReset id (orders_of (put_in result.1.outbox.ring)) ⊎ (result.1.has_dropped ≡ true) ⊎ HasTrailers id rows.items) }
+            → IsReset id (orders_of (put_in result.1.outbox.ring)) ⊎ (result.1.has_dropped ≡ true) }
     {
         let mut reader = self;
         reader.cut_all();
@@ -451,7 +463,9 @@ where
             return Ok(Err(job));
         }
         let shared = &self.orders.shared;
-        let made = self.slots.open(self.rt, shared, methods, self.start, job)?;
+        let made = self
+            .slots
+            .open(self.rt, shared, &self.gate, methods, self.start, job)?;
         let Made { slot, sender, .. } = made;
         Ok(Ok(Opened::New(Fresh::new(slot, sender))))
     }
@@ -491,17 +505,20 @@ where
         self.slots.engage(place, job)
     }
 
-    /// Shuts the halves of calls that were answered before their client ended them: before that their slots aren't free.
+    /// Shuts the halves of calls that were answered before their client ended them: before that their slots aren't free. What a call was
+    /// answered with is written by then, unless it was left without trailers.
     fn shut_answered(&mut self)
         ensures heard { ReadsAll M.names [] self.old self.new }
         ensures last { self.new.slots.last ≡ self.old.slots.last }
     {
         'places: for place in 0..self.slots.len() {
-            self.shut_if_answered(place);
+            if self.slots.is_through(place) {
+                self.shut_if_answered(place);
+            }
         }
     }
 
-    /// The same for the slot of this number, where it wasn't known yet that its call was answered. A call that was left without trailers is reset.
+    /// The same for the slot of this number, where it wasn't known yet that its call was answered.
     fn shut_if_answered(&mut self, place: usize)
         ensures heard { ReadsAll M.names [] self.old self.new }
         ensures last { self.new.slots.last ≡ self.old.slots.last }
@@ -510,18 +527,19 @@ where
             return;
         };
         let id = answered.id;
-        self.reset_if_left(answered);
+        self.reset_answered(answered);
         self.let_go(id, ErrorCode::Cancel);
     }
 
-    /// Resets the stream of a call that was left without trailers. Where its end was written, or it was reset before, nothing is written.
-    fn reset_if_left(&mut self, answered: Answered)
+    /// Resets the stream of a call whose half is open still, or that was left without trailers. Where its end was written, or it was reset before,
+    /// nothing is written.
+    fn reset_answered(&mut self, answered: Answered)
         ensures slots { self.new.slots ≡ self.old.slots }
         ensures holds { HoldsReasons self.old self.new }
-        ensures reason { answered.has_trailers ≡ false → HasReason self.new answered.id }
+        ensures reason { HasReason self.new answered.id ⊎ (position (λ seat. feeds answered.id seat) self.old.slots.seats.items ≡ None) }
     {
         if answered.has_trailers {
-            return;
+            return self.reset_if_fed(answered.id, ErrorCode::Cancel);
         }
         let code = if answered.was_live {
             ErrorCode::InternalError
@@ -603,12 +621,12 @@ where
         if bytes.is_empty() {
             return;
         }
-        self.reset_if_fed(id);
+        self.reset_if_fed(id, ErrorCode::EnhanceYourCalm);
         self.let_go(id, ErrorCode::Cancel);
     }
 
     /// Resets the stream of a call whose half is open.
-    fn reset_if_fed(&mut self, id: StreamId)
+    fn reset_if_fed(&mut self, id: StreamId, code: ErrorCode)
         ensures slots { self.new.slots ≡ self.old.slots }
         ensures holds { HoldsReasons self.old self.new }
         ensures reason { HasReason self.new id ⊎ (position (λ seat. feeds id seat) self.old.slots.seats.items ≡ None) }
@@ -617,7 +635,7 @@ where
             return;
         }
         let rt = self.rt;
-        self.orders.reset(&rt, id, ErrorCode::EnhanceYourCalm, true);
+        self.orders.reset(&rt, id, code, true);
     }
 
     /// The client has ended its half.

@@ -38,8 +38,6 @@ pub(crate) struct Seat<M: Answering> {
         (λ ring. LaneName_set ring (ring_of (out_name worker.promise.taker.value.rx))) },
     /// It takes the calls.
     ghost one_ring_of_jobs: { ring.in_name jobs ≡ ring.out_name worker.promise.jobs.value } by { RingName_set (ring.in_name jobs) (ring.out_name worker.promise.jobs.value) },
-    /// It tells of their answers.
-    ghost one_ring_of_answers: { ring.in_name worker.promise.answers.value ≡ ring.out_name answers } by { RingName_set (ring.in_name worker.promise.answers.value) (ring.out_name answers) },
 }
 
 impl<M: Answering> Seat<M> {
@@ -50,7 +48,6 @@ impl<M: Answering> Seat<M> {
     ghost use Rattle.connection.specs.Calls.{Rises};
     ghost use Rattle.connection.specs.Reports.{AreRows};
     ghost use Rattle.connection.specs.Seats.{IsSeat, ids_of, jobs_of};
-    ghost use Rattle.connection.specs.Workers.{HasTrailers, TellsTrailers};
 
     /// Where the slot is free its worker is handed this call; its bell is still to be rung. Else the call is handed back.
     pub(crate) fn begin(&mut self, job: Job) -> Result<(), Job>
@@ -62,7 +59,6 @@ impl<M: Answering> Seat<M> {
         ensures stays { OnErr result ((told : List Step) → IsSeat M.names told self.old → IsSeat M.names told self.new) }
         ensures id_stays { OnErr result (self.new.id ≡ self.old.id) }
         ensures jobs_stay { OnErr result (jobs_of self.new ≡ jobs_of self.old) }
-        ensures answers { ring.taken self.new.answers ≡ ring.taken self.old.answers }
     {
         if !self.slot.is_free() {
             return Err(job);
@@ -87,7 +83,6 @@ impl<M: Answering> Seat<M> {
         ensures stays { (told : List Step) → IsSeat M.names told self.old → IsSeat M.names told self.new }
         ensures id { self.new.id ≡ self.old.id }
         ensures jobs { jobs_of self.new ≡ jobs_of self.old }
-        ensures answers { MatchOption result (ring.taken self.new.answers ≡ ring.taken self.old.answers) (λ answered. ring.taken self.new.answers ≡ ring.taken self.old.answers ++ answered ∷ []) }
     {
         self.answers.take()
     }
@@ -98,7 +93,6 @@ impl<M: Answering> Seat<M> {
         ensures stays { OnErr result ((told : List Step) → IsSeat M.names told self.old → IsSeat M.names told self.new) }
         ensures id { self.new.id ≡ self.old.id }
         ensures jobs { jobs_of self.new ≡ jobs_of self.old }
-        ensures answers { ring.taken self.new.answers ≡ ring.taken self.old.answers }
     {
         self.half.feed(piece)?;
         self.slot.note();
@@ -110,7 +104,6 @@ impl<M: Answering> Seat<M> {
         ensures heard { (told : List Step) (step : Step) → Rises told step → shut_at self.old.id step ≡ Some kind → IsSeat M.names told self.old → IsSeat M.names (step ∷ told) self.new }
         ensures id { self.new.id ≡ self.old.id }
         ensures jobs { jobs_of self.new ≡ jobs_of self.old }
-        ensures answers { ring.taken self.new.answers ≡ ring.taken self.old.answers }
     {
         self.half.shut(kind);
         self.slot.note();
@@ -119,24 +112,21 @@ impl<M: Answering> Seat<M> {
     /// Waits for the worker, and brings the half and what the worker had together: the rows of the slot's calls, in order.
     pub(crate) fn end(self, rt: &impl Threads) -> Option<Vec<CallReport>>
         ensures rows { (told : List Step) → IsSeat M.names told self → IfSome result (λ rows. AreRows M.known M.names told (ids_of self) rows.items) }
-        ensures answered { (id : ℕ) → TellsTrailers id (ring.taken self.answers) → IfSome result (λ rows. HasTrailers id rows.items) }
     {
         let Seat {
             half,
             worker,
             mut jobs,
-            mut answers,
             ..
         } = self;
         let Seen {
             taker,
             end,
             jobs: mut rest,
-            answers: mut told,
             calls,
+            ..
         } = worker.join(rt);
         let count = Ring::meet(&mut jobs, &mut rest);
-        Ring::meet(&mut told, &mut answers);
         half.settle(taker, end);
         with_rest(calls?, rest, count)
     }

@@ -7,13 +7,14 @@ ghost use Rattle.handlers.specs.Listed.{listed};
 ghost use Rattle.h2frame.specs.declared.error_code.ErrorCode.{ErrorCode as Code};
 ghost use Rattle.connection.specs.Accounts.{IsWithin, answers_by};
 ghost use Rattle.connection.specs.Calls.{AreNames, IsFirstWith};
-ghost use Rattle.connection.specs.Reports.{AreAccounted, is_input_end};
+ghost use Rattle.connection.specs.Reports.{AreAccounted, is_heard_out};
 ghost use Rattle.lane.specs.Ring.{in_name, out_name, put_in, taken};
 ghost use Rattle.outwriter.specs.Steps.{Order as Ordered};
 ghost use Rattle.connection.specs.Orders.{orders_of};
 ghost use Rattle.connection.specs.Written.{HasWritten};
 
 use crate::answering::Answering;
+use crate::gate::Gate;
 use crate::intake::Intake;
 use crate::orders::{ORDERS, Order, Orders, Route};
 use crate::outlet::Outlet;
@@ -36,22 +37,24 @@ use std::time::{Clock, Instant};
 /// Serves one connection, and says what became of it. The caller's thread reads; one more writes, and up to 64 answer calls. It
 /// returns once the input has ended or the connection was ended with an error, and all that could be written was.
 ///
-/// Calls are answered by these methods. A peer that neither reads nor closes is waited for.
-pub fn serve_connection<I, O, R>(
+/// Calls are answered by these methods, and go on when this gate lets them. A peer that neither reads nor closes is waited for.
+pub fn serve_connection<I, O, G, R>(
     rt: R,
     alloc: Global,
     input: &mut I,
     output: O,
     methods: Arc<Methods>,
+    gate: Arc<G>,
 ) -> Served<O>
 where
     I: ConnRead,
     O: ConnWrite + Send + Drop + 'static,
+    G: Gate + Send + Sync + Drop + 'static,
     R: Threads + Wait + Clock + Copy + Send + Sync + Drop + 'static,
     // What was written are the frames of a lawful run, which obeyed these orders.
     ensures served { IfSome result.output (λ device. (orders : List Ordered) × HasWritten O.contents O.failed (O.contents output) orders (Some result.ending) device) }
     // A row for each call, on the lawful account of what came of its stream and was answered by the method that its path names.
-    // Each half that was reset though END_STREAM came was so for a reason, where the input was heard to its end.
+    // Where all that came was heard, a half was reset though END_STREAM came only where a reset of the stream was ordered.
     ensures calls { IfSome result.calls (λ rows. (orders : List Ordered) × IfSome result.output (HasWritten O.contents O.failed (O.contents output) orders (Some result.ending))
         × ((came : List ℕ) × Consumes (I.remaining input.old) (I.remaining input.new) came
         × AreAccounted (answers_by (λ method. answers (method.vtable, method.value)) (listed methods.value))
@@ -61,8 +64,8 @@ where
     let Ok(ring) = Ring::open(alloc, ORDERS) else {
         return unserved();
     };
-    match serve_over::<Brand, Brand, Brand, Brand, Brand, I, O, R>(
-        rt, alloc, blanks, ring, input, output, methods,
+    match serve_over::<Brand, Brand, Brand, Brand, Brand, I, O, G, R>(
+        rt, alloc, blanks, ring, input, output, methods, gate,
     ) {
         Ok(served) => served,
         Err(AllocError) => unserved(),
@@ -81,7 +84,7 @@ fn unserved<O: Drop>() -> Served<O>
 }
 
 /// The same, over ledgers of its own, and a ring for the orders. Out of memory before the connection began nothing was read or written.
-fn serve_over<A, B, C, M, N, I, O, R>(
+fn serve_over<A, B, C, M, N, I, O, G, R>(
     rt: R,
     alloc: Global,
     blanks: (Blank, Blank, Blank),
@@ -89,6 +92,7 @@ fn serve_over<A, B, C, M, N, I, O, R>(
     input: &mut I,
     output: O,
     methods: Arc<Methods>,
+    gate: Arc<G>,
 ) -> Result<Served<O>, AllocError>
 where
     A: Ledger + Send + Sync + 'static,
@@ -98,6 +102,7 @@ where
     N: Route,
     I: ConnRead,
     O: ConnWrite + Send + Drop + 'static,
+    G: Gate + Send + Sync + Drop + 'static,
     R: Threads + Wait + Clock + Copy + Send + Sync + Drop + 'static,
     requires received { (blanks.0.name ≡ A.name) × (blanks.0.parts ≡ A.parts) × (0 < A.parts) }
     requires admitted { (blanks.1.name ≡ B.name) × (blanks.1.parts ≡ B.parts) × (0 < B.parts) }
@@ -119,8 +124,9 @@ where
     let outlet = Outlet::new(Arc::try_clone(&shared)?, told);
     let orders: Orders<A, B, C, N> = Orders::new(putting, Arc::try_clone(&shared)?);
     let mut intake = Intake::new(shared, came, calls);
-    let mut reader: Reader<A, B, C, M, N, R> = Reader::new(rt, alloc, orders, start);
-    let writing = writer::start(rt, alloc, taking, outlet, output)?;
+    let theirs = Arc::try_clone(&gate)?;
+    let mut reader: Reader<A, B, C, M, N, R, G> = Reader::new(rt, alloc, orders, gate, start);
+    let writing = writer::start(rt, alloc, taking, outlet, theirs, output)?;
     let read = reader.read(&mut intake, input, &methods);
     let (calls, orders) = reader.end();
     Ok(meet(&rt, read, calls, orders, writing))
@@ -147,7 +153,7 @@ where
     // None was dropped, unless the ending tells why.
     ensures dropped { result.ending ≢ ending.OutOfMemory → result.ending ≢ ending.WriteFailed → ((code : Code) → result.ending ≢ ending.ProtocolError code) → orders.has_dropped ≡ false }
     ensures calls { result.calls ≡ calls }
-    ensures input { is_input_end result.ending ≡ true → result.ending ≡ read }
+    ensures input { is_heard_out result.ending ≡ true → result.ending ≡ read }
 {
     let Written {
         ending,
@@ -169,7 +175,7 @@ fn of_both(read: Ending, written: Option<Ending>) -> Ending
     ensures memory { written ≡ Some ending.OutOfMemory → result ≡ ending.OutOfMemory }
     ensures failed { written ≡ Some ending.WriteFailed → result ≢ ending.OutOfMemory → result ≡ ending.WriteFailed }
     ensures blamed { (code : Code) → written ≡ Some (ending.ProtocolError code) → read ≢ ending.OutOfMemory → result ≡ ending.ProtocolError code }
-    ensures input { is_input_end result ≡ true → result ≡ read }
+    ensures input { is_heard_out result ≡ true → result ≡ read }
 {
     match (read, written) {
         (Ending::OutOfMemory, _) => Ending::OutOfMemory,
@@ -185,7 +191,7 @@ fn of_both(read: Ending, written: Option<Ending>) -> Ending
 fn by_orders(seen: Ending, are_all: bool, has_dropped: bool) -> Ending
     ensures memory { seen ≡ ending.OutOfMemory → result ≡ ending.OutOfMemory }
     ensures failed { seen ≡ ending.WriteFailed → result ≡ ending.WriteFailed }
-    ensures input { is_input_end result ≡ true → result ≡ seen }
+    ensures input { is_heard_out result ≡ true → result ≡ seen }
     ensures all { result ≢ ending.OutOfMemory → result ≢ ending.WriteFailed → are_all ≡ true }
     ensures dropped { result ≢ ending.OutOfMemory → result ≢ ending.WriteFailed → ((code : Code) → result ≢ ending.ProtocolError code) → has_dropped ≡ false }
 {

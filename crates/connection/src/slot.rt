@@ -3,8 +3,8 @@
 //! Its flags say when it is free for the next call. Nothing that is proved rests on them: each end that is to go on to the
 //! next call looks by itself whether it can.
 
-ghost use Rattle.std.specs.Prelude.{◌≡◌, ◌⊎◌, [], ◌∷◌, ◌++◌, MatchOption};
-ghost use Rattle.lane.specs.Ring.{in_name, out_name, put_in, taken};
+ghost use Rattle.std.specs.Prelude.{◌≡◌, [], ◌∷◌, ◌++◌, MatchOption};
+ghost use Rattle.lane.specs.Ring.{out_name, taken};
 
 use account::OutItem;
 use callbox::InPiece;
@@ -54,6 +54,8 @@ pub(crate) struct Slot {
     noted: AtomicBool,
     /// Whether the worker has given the last item of its call.
     answered: AtomicBool,
+    /// Whether that was no trailers.
+    left: AtomicBool,
     /// Whether the worker has got all of its call, too.
     idle: AtomicBool,
     /// Whether the writer has the sender between two calls, and has got all of the last.
@@ -69,6 +71,7 @@ impl Slot {
             bell: Bell::new(),
             noted: AtomicBool::new(false),
             answered: AtomicBool::new(false),
+            left: AtomicBool::new(false),
             idle: AtomicBool::new(false),
             sent: AtomicBool::new(false),
             over: AtomicBool::new(false),
@@ -83,6 +86,7 @@ impl Slot {
     /// It is to be handed a call.
     pub(crate) fn engage(&self) {
         self.answered.store(false, Ordering::SeqCst);
+        self.left.store(false, Ordering::SeqCst);
         self.idle.store(false, Ordering::SeqCst);
         self.sent.store(false, Ordering::SeqCst);
     }
@@ -102,17 +106,20 @@ impl Slot {
 
     /// The worker has given the last item of its call, and tells the reader so. It is told of each call before the slot's next
     /// one begins, so there is room.
-    pub(crate) fn answer(&self, told: &mut RingIn<Answered>, answered: Answered)
-        ensures name { in_name told.new ≡ in_name told.old }
-        ensures put { (put_in told.new ≡ put_in told.old) ⊎ (put_in told.new ≡ put_in told.old ++ answered ∷ []) }
-    {
+    pub(crate) fn answer(&self, told: &mut RingIn<Answered>, answered: Answered) {
         let _ = told.put(answered);
+        self.left.store(!answered.has_trailers, Ordering::SeqCst);
         self.answered.store(true, Ordering::SeqCst);
     }
 
     /// Whether the worker has given the last item of its call.
     pub(crate) fn is_answered(&self) -> bool {
         self.answered.load(Ordering::SeqCst)
+    }
+
+    /// Whether nothing more is written of its call, but a reset: its trailers were, or it was left without.
+    pub(crate) fn is_through(&self) -> bool {
+        self.left.load(Ordering::SeqCst) || self.sent.load(Ordering::SeqCst)
     }
 
     /// The worker has got all of its call.

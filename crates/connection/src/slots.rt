@@ -9,10 +9,10 @@ ghost use Rattle.calltable.specs.Steps.{Admitted, Received, Step, Told, admitted
 ghost use Rattle.calltable.specs.Kept.{Concerns};
 ghost use Rattle.connection.specs.Accounts.{IsWithin, answers_by};
 ghost use Rattle.connection.specs.Reports.{AreRows};
-ghost use Rattle.connection.specs.Seats.{Hears, HoldsAnswers, IsSeat, Keeps, Kept, WasAnswered, feeds, jobs_of};
-ghost use Rattle.connection.specs.Workers.{HasTrailers};
+ghost use Rattle.connection.specs.Seats.{Hears, IsSeat, Keeps, Kept, feeds, jobs_of};
 
 use crate::answering::Answering;
+use crate::gate::Gate;
 use crate::half::Half;
 use crate::hired::{Ends, hire};
 use crate::report::CallReport;
@@ -94,7 +94,6 @@ impl<M: Answering> Slots<M> {
         ensures handed_back { IfErr result (λ back. back ≡ job) }
         ensures stays { OnErr result (Keeps M.names self.old self.new) }
         ensures last_stays { OnErr result (self.new.last ≡ self.old.last) }
-        ensures answers { HoldsAnswers self.old self.new }
     {
         let Some(seat) = self.seats.get_mut(place) else {
             return Err(job);
@@ -119,7 +118,6 @@ impl<M: Answering> Slots<M> {
         ensures heard { OnOk result ((counted : ℕ) → Hears M.names (Told (events.Data id piece counted) (Received Feed)) self.old self.new) }
         ensures stays { OnErr result (Keeps M.names self.old self.new) }
         ensures last { self.new.last ≡ self.old.last }
-        ensures answers { HoldsAnswers self.old self.new }
     {
         let Some(place) = self.find(id) else {
             return Ok(());
@@ -134,7 +132,6 @@ impl<M: Answering> Slots<M> {
     pub(crate) fn shut(&mut self, id: StreamId, kind: Shut)
         ensures heard { (step : Step) → Concerns id step → shut_at id step ≡ Some kind → Hears M.names step self.old self.new }
         ensures last { self.new.last ≡ self.old.last }
-        ensures answers { HoldsAnswers self.old self.new }
     {
         let Some(place) = self.find(id) else {
             return;
@@ -171,12 +168,18 @@ impl<M: Answering> Slots<M> {
         self.find(id).is_some()
     }
 
+    /// Whether nothing more is written of a slot's call, but a reset.
+    pub(crate) fn is_through(&self, place: usize) -> bool {
+        match self.seats.get(place) {
+            Some(seat) => seat.slot.is_through(),
+            None => false,
+        }
+    }
+
     /// What became of a slot's call, once its worker has given the last item. It is told once.
     pub(crate) fn answered(&mut self, place: usize) -> Option<Answered>
         ensures stays { Keeps M.names self.old self.new }
         ensures last { self.new.last ≡ self.old.last }
-        ensures answers { HoldsAnswers self.old self.new }
-        ensures told { IfSome result (λ answered. answered.has_trailers ≡ true → WasAnswered answered.id self.new.seats.items) }
     {
         let Some(seat) = self.seats.get_mut(place) else {
             return None;
@@ -195,7 +198,6 @@ impl<M: Answering> Slots<M> {
     /// none for want of memory.
     pub(crate) fn end(self, rt: &impl Threads) -> Option<Vec<CallReport>>
         ensures rows { (told : List Step) → Kept M.names told self → IfSome result (λ rows. AreRows M.known M.names told (admitted told) rows.items) }
-        ensures answered { (id : ℕ) → WasAnswered id self.seats.items → IfSome result (λ rows. HasTrailers id rows.items) }
     {
         let Slots { alloc, seats, .. } = self;
         for seat in &seats {
@@ -212,10 +214,11 @@ impl<M: Answering> Slots<M> {
 
 impl<M: Answering + Send + Sync + 'static> Slots<M> {
     /// A new slot with its first call. That no thread can be made counts as want of memory.
-    pub(crate) fn open<A, B, C, R>(
+    pub(crate) fn open<A, B, C, G, R>(
         &mut self,
         rt: R,
         shared: &Arc<Shared<A, B, C>>,
+        gate: &Arc<G>,
         methods: &Arc<Methods>,
         start: Instant,
         job: Job,
@@ -224,13 +227,13 @@ impl<M: Answering + Send + Sync + 'static> Slots<M> {
         A: Ledger + Send + Sync + 'static,
         B: Ledger + Send + Sync + 'static,
         C: Ledger + Send + Sync + 'static,
+        G: Gate + Send + Sync + Drop + 'static,
         R: Threads + Wait + Clock + Copy + Send + Sync + Drop + 'static,
         requires known { IsWithin M.known (answers_by (λ method. answers (method.vtable, method.value)) (listed methods.now.value)) }
         requires named { M.names job.head.path job.index }
         requires above { self.old.last < job.id }
         ensures heard { OnOk result (Hears M.names (Told (events.Open job.id job.head) Admitted) self.old self.new) }
         ensures stays { OnErr result (Keeps M.names self.old self.new) }
-        ensures answers { HoldsAnswers self.old self.new }
     {
         self.seats.reserve(1)?;
         let slot = Arc::new(self.alloc, Slot::new())?;
@@ -239,6 +242,7 @@ impl<M: Answering + Send + Sync + 'static> Slots<M> {
             alloc: self.alloc,
             slot: Arc::try_clone(&slot)?,
             shared: Arc::try_clone(shared)?,
+            gate: Arc::try_clone(gate)?,
             start,
         };
         let methods = Arc::try_clone(methods)?;
@@ -251,10 +255,10 @@ impl<M: Answering + Send + Sync + 'static> Slots<M> {
 }
 
 /// A slot with a worker of its own, which is handed its first call, and its sender.
-fn open_seat<A, B, C, M, R>(
+fn open_seat<A, B, C, G, M, R>(
     rt: R,
     alloc: Global,
-    worker: Worker<A, B, C>,
+    worker: Worker<A, B, C, G>,
     methods: Arc<Methods>,
     slot: Arc<Slot>,
     job: Job,
@@ -263,6 +267,7 @@ where
     A: Ledger + Send + Sync + 'static,
     B: Ledger + Send + Sync + 'static,
     C: Ledger + Send + Sync + 'static,
+    G: Gate + Send + Sync + Drop + 'static,
     M: Answering + Send + Sync + 'static,
     R: Threads + Wait + Clock + Copy + Send + Sync + Drop + 'static,
     requires known { IsWithin M.known (answers_by (λ method. answers (method.vtable, method.value)) (listed methods.value)) }

@@ -6,7 +6,7 @@
 ghost use Rattle.std.specs.Prelude.{◌≡◌, ◌<◌, ℕ, List, [], ◌∷◌, ◌++◌, true, false, is_some, length, IfSome, IfOk, IfErr, IsSomeAnd, slice_get};
 ghost use mathlib.Core.List.{IsPrefix};
 ghost use Rattle.lane.specs.End.{of_end};
-ghost use Rattle.lane.specs.Ring.{in_name, out_name, put_in, taken};
+ghost use Rattle.lane.specs.Ring.{out_name, taken};
 ghost use Rattle.account.specs.declared.call.OutItem.{OutItem as Item};
 ghost use Rattle.callbox.specs.declared.piece.InPiece.{InPiece as PieceOf};
 ghost use Rattle.callbox.specs.InSides.{Took};
@@ -16,9 +16,10 @@ ghost use Rattle.callrun.specs.Outcomes.{IsOutcome};
 ghost use Rattle.callrun.specs.Runs.{GivesOf, HasCome};
 ghost use Rattle.callrun.specs.Sides.{is_open, name_by, shown};
 ghost use Rattle.connection.specs.Accounts.{IsGivenAs, IsWithin, answers_by, unanswered};
-ghost use Rattle.connection.specs.Workers.{Answers, AreTrue, HaveRows, IsFresh, TellsOf};
+ghost use Rattle.connection.specs.Workers.{Answers, HaveRows, IsFresh};
 
 use crate::answering::Answering;
+use crate::gate::Gate;
 use crate::report::CallReport;
 use crate::shared::Shared;
 use crate::slot::{Answered, IDLE, Job, Slot};
@@ -42,6 +43,9 @@ const ROOM_STEP: u64 = 16;
 /// How many turns a call goes on before the writer is rung. A short call has come to its end by then, and rings once.
 const FEW_TURNS: u32 = 4;
 
+/// How many times the gate may hold a call back.
+const REFUSALS: u32 = 10_000;
+
 /// How a call waits, and when the writer is rung for it.
 #[derive(Drop)]
 struct Pace {
@@ -53,6 +57,8 @@ struct Pace {
     is_told: bool,
     /// How many bytes came of it, up to the greatest `u64`.
     bytes: u64,
+    /// How many times more the gate may hold it back.
+    refusals: u32,
 }
 
 impl Pace {
@@ -62,6 +68,7 @@ impl Pace {
             turns: 0,
             is_told: true,
             bytes: 0,
+            refusals: REFUSALS,
         }
     }
 
@@ -101,11 +108,12 @@ impl Pace {
 
 /// What a worker has, beside the methods.
 #[derive(Drop)]
-pub(crate) struct Worker<A: Ledger, B: Ledger, C: Ledger> {
+pub(crate) struct Worker<A: Ledger, B: Ledger, C: Ledger, G: Drop> {
     pub(crate) alloc: Global,
     /// Where it is handed its calls.
     pub(crate) slot: Arc<Slot>,
     pub(crate) shared: Arc<Shared<A, B, C>>,
+    pub(crate) gate: Arc<G>,
     /// When the connection began.
     pub(crate) start: Instant,
 }
@@ -131,7 +139,7 @@ struct Finished<I: Lane<Item = InPiece>, O: Lane<Item = OutItem>> {
     row: CallReport,
 }
 
-impl<A: Ledger, B: Ledger, C: Ledger> Worker<A, B, C> {
+impl<A: Ledger, B: Ledger, C: Ledger, G: Gate + Drop> Worker<A, B, C, G> {
     /// Answers one call after another, until no more come.
     pub(crate) fn work<I, O, M, R>(
         &self,
@@ -150,16 +158,14 @@ impl<A: Ledger, B: Ledger, C: Ledger> Worker<A, B, C> {
         requires known { IsWithin M.known (answers_by (λ method. answers (method.vtable, method.value)) (listed methods.now)) }
         requires fresh { IsFresh (I.got taker.rx) taker.progress × (I.past_out taker.rx ≡ []) }
         requires ungiven { (O.past_in giver.tx ≡ []) × (O.put_in giver.tx ≡ []) }
-        requires unused { (taken jobs ≡ []) × (put_in told ≡ []) }
+        requires unused { taken jobs ≡ [] }
         requires ring_in { (n : I.Name) → I.ring_of (I.next_name n) ≡ I.ring_of n }
         requires ring_out { (n : O.Name) → O.ring_of (O.next_name n) ≡ O.ring_of n }
         ensures in_ring { I.ring_of (I.out_name result.taker.rx) ≡ I.ring_of (I.out_name taker.rx) }
         ensures out_ring { O.ring_of (of_end (λ g. O.in_name g.tx) (λ s. O.shut_name s.shut) result.end) ≡ O.ring_of (O.in_name giver.tx) }
         ensures jobs { out_name result.jobs ≡ out_name jobs }
-        ensures answers { in_name result.answers ≡ in_name told }
         ensures rows { IfSome result.calls (λ rows. HaveRows M.known (I.past_out result.taker.rx ++ I.got result.taker.rx ∷ [])
             (of_end (λ g. O.past_in g.tx) (λ s. O.past_shut s.shut) result.end ++ of_end (λ g. O.put_in g.tx) (λ s. O.put_shut s.shut) result.end ∷ []) (taken result.jobs) rows.items) }
-        ensures tells { IfSome result.calls (λ rows. AreTrue (put_in result.answers) rows.items) }
     {
         let mut seen = Seen {
             taker,
@@ -195,15 +201,14 @@ impl<A: Ledger, B: Ledger, C: Ledger> Worker<A, B, C> {
         requires got_each { length (I.past_out seen.taker.rx) ≡ length (taken seen.jobs) }
         requires gave_each { length (of_end (λ g. O.past_in g.tx) (λ s. O.past_shut s.shut ++ O.put_shut s.shut ∷ []) seen.end) ≡ length (taken seen.jobs) }
         requires rows { IfSome seen.calls (λ rows. HaveRows M.known (I.past_out seen.taker.rx) (of_end (λ g. O.past_in g.tx) (λ s. O.past_shut s.shut ++ O.put_shut s.shut ∷ []) seen.end) (taken seen.jobs) rows.items) }
-        requires tells { IfSome seen.calls (λ rows. AreTrue (put_in seen.answers) rows.items) }
         requires ring_in { (n : I.Name) → I.ring_of (I.next_name n) ≡ I.ring_of n }
         requires ring_out { (n : O.Name) → O.ring_of (O.next_name n) ≡ O.ring_of n }
         ensures in_ring_on { IfOk result (λ r. I.ring_of (I.out_name r.taker.rx) ≡ I.ring_of (I.out_name seen.taker.rx)) }
         ensures in_ring { IfErr result (λ r. I.ring_of (I.out_name r.taker.rx) ≡ I.ring_of (I.out_name seen.taker.rx)) }
         ensures out_ring_on { IfOk result (λ r. O.ring_of (of_end (λ g. O.in_name g.tx) (λ s. O.shut_name s.shut) r.end) ≡ O.ring_of (of_end (λ g. O.in_name g.tx) (λ s. O.shut_name s.shut) seen.end)) }
         ensures out_ring { IfErr result (λ r. O.ring_of (of_end (λ g. O.in_name g.tx) (λ s. O.shut_name s.shut) r.end) ≡ O.ring_of (of_end (λ g. O.in_name g.tx) (λ s. O.shut_name s.shut) seen.end)) }
-        ensures rings_on { IfOk result (λ r. (out_name r.jobs ≡ out_name seen.jobs) × (in_name r.answers ≡ in_name seen.answers)) }
-        ensures rings { IfErr result (λ r. (out_name r.jobs ≡ out_name seen.jobs) × (in_name r.answers ≡ in_name seen.answers)) }
+        ensures jobs_on { IfOk result (λ r. out_name r.jobs ≡ out_name seen.jobs) }
+        ensures jobs { IfErr result (λ r. out_name r.jobs ≡ out_name seen.jobs) }
         ensures fresh { IfOk result (λ r. IsFresh (I.got r.taker.rx) r.taker.progress) }
         ensures ungiven { IfOk result (λ r. of_end (λ g. O.put_in g.tx) (λ s. []) r.end ≡ []) }
         ensures got_each { IfOk result (λ r. length (I.past_out r.taker.rx) ≡ length (taken r.jobs)) }
@@ -211,8 +216,6 @@ impl<A: Ledger, B: Ledger, C: Ledger> Worker<A, B, C> {
         ensures rows_on { IfOk result (λ r. IfSome r.calls (λ rows. HaveRows M.known (I.past_out r.taker.rx) (of_end (λ g. O.past_in g.tx) (λ s. O.past_shut s.shut ++ O.put_shut s.shut ∷ []) r.end) (taken r.jobs) rows.items)) }
         ensures rows { IfErr result (λ r. IfSome r.calls (λ rows. HaveRows M.known (I.past_out r.taker.rx ++ I.got r.taker.rx ∷ [])
             (of_end (λ g. O.past_in g.tx) (λ s. O.past_shut s.shut) r.end ++ of_end (λ g. O.put_in g.tx) (λ s. O.put_shut s.shut) r.end ∷ []) (taken r.jobs) rows.items)) }
-        ensures tells_on { IfOk result (λ r. IfSome r.calls (λ rows. AreTrue (put_in r.answers) rows.items)) }
-        ensures tells { IfErr result (λ r. IfSome r.calls (λ rows. AreTrue (put_in r.answers) rows.items)) }
     {
         let mut seen = seen;
         let Some(job) = self.slot.next(rt, &mut seen.jobs) else {
@@ -318,8 +321,6 @@ impl<A: Ledger, B: Ledger, C: Ledger> Worker<A, B, C> {
         ensures past { O.past_shut result.shut.shut ≡ O.past_in giver.tx }
         ensures answers { Answers (answers_by (λ method. answers (method.vtable, method.value)) (listed methods.now))
             (I.got result.taker.rx) (O.put_shut result.shut.shut) job result.row }
-        ensures tells_by { in_name told.new ≡ in_name told.old }
-        ensures tells { TellsOf job.id (is_some result.row.status) (put_in told.old) (put_in told.new) }
     {
         let Job {
             id,
@@ -350,8 +351,6 @@ impl<A: Ledger, B: Ledger, C: Ledger> Worker<A, B, C> {
         ensures name { O.shut_name result.shut.shut ≡ O.in_name giver.tx }
         ensures past { O.past_shut result.shut.shut ≡ O.past_in giver.tx }
         ensures row { result.row ≡ unanswered id index }
-        ensures tells_by { in_name told.new ≡ in_name told.old }
-        ensures tells { TellsOf id false (put_in told.old) (put_in told.new) }
     {
         self.settle(rt, id, 0, false, told);
         Finished {
@@ -384,7 +383,25 @@ impl<A: Ledger, B: Ledger, C: Ledger> Worker<A, B, C> {
         ensures over { is_open run.new.response ≡ false }
     {
         'turns: for _ in rt.forever() {
+            self.pass_gate(rt, id, pace);
             if !self.step(rt, methods, id, run, pace) {
+                return;
+            }
+        }
+    }
+
+    /// Waits until the gate lets the call go on, or the call is no longer live.
+    fn pass_gate(&self, rt: &impl Wait, id: StreamId, pace: &mut Pace) {
+        'refusals: for _ in 0..pace.refusals {
+            let mark = self.slot.bell.mark();
+            if self.gate.may_go(id) {
+                return;
+            }
+            pace.refusals = pace.refusals.saturating_sub(1);
+            self.slot
+                .bell
+                .wait_past(rt, mark, Duration::from_millis(STEP));
+            if !self.shared.book.lock(rt).is_live(id) {
                 return;
             }
         }
@@ -526,8 +543,6 @@ impl<A: Ledger, B: Ledger, C: Ledger> Worker<A, B, C> {
             × ((answer : Step) → GivesOf run.taker.progress.told answer run.call (shown (λ g. O.put_in g.tx) (λ s. O.put_shut s.shut) (λ s. O.was_placed s.shut) run.response)
             → IsOutcome run.call.head run.call.overdue run.taker.progress.told answer items result.row.status) }
         ensures row { (result.row.id ≡ id) × (result.row.method ≡ index) × (result.row.messages ≡ run.taker.progress.taken) × (result.row.told ≡ run.taker.progress.told) }
-        ensures tells_by { in_name told.new ≡ in_name told.old }
-        ensures tells { TellsOf id (is_some result.row.status) (put_in told.old) (put_in told.new) }
     {
         let mut run = run;
         let mut pace = pace;
@@ -561,10 +576,7 @@ impl<A: Ledger, B: Ledger, C: Ledger> Worker<A, B, C> {
         credit: u32,
         has_trailers: bool,
         told: &mut RingIn<Answered>,
-    )
-        ensures tells_by { in_name told.new ≡ in_name told.old }
-        ensures tells { TellsOf id has_trailers (put_in told.old) (put_in told.new) }
-    {
+    ) {
         let was_live = {
             let mut book = self.shared.book.lock(rt);
             if credit > 0 {

@@ -11,6 +11,7 @@ ghost use Rattle.connection.specs.declared.report.Ending.TheVariants as ending;
 ghost use Rattle.connection.specs.Orders.{orders_of};
 ghost use Rattle.connection.specs.Written.{HasWritten, IsFlushed, RunsOn, Stays, Takes, TakesBy, Loses, Led, LedOut, LeadsOn, LeadsOut};
 
+use crate::gate::Gate;
 use crate::inbox::Inbox;
 use crate::orders::Order;
 use crate::outlet::Outlet;
@@ -26,8 +27,8 @@ use lane::RingOut;
 use outwriter::Control;
 use std::alloc::{AllocError, Global};
 use std::snapshot::Snapshot;
-use std::sync::Wait;
 use std::sync::ledger::Ledger;
+use std::sync::{Arc, Wait};
 use std::thread;
 use std::thread::{Promise, PromisedHandle, Threads};
 use std::time::Duration;
@@ -37,9 +38,10 @@ const STEP: u64 = 1000;
 
 /// What the writing thread of a connection has.
 #[derive(Drop)]
-struct Writer<A: Ledger, B: Ledger, C: Ledger, W: ConnWrite> {
+struct Writer<A: Ledger, B: Ledger, C: Ledger, W: ConnWrite, G: Drop> {
     orders: Inbox,
     outlet: Outlet<A, B, C>,
+    gate: Arc<G>,
     frames: ConnWriter<OutLane, W>,
     /// The senders of slots between two calls.
     senders: Senders,
@@ -53,15 +55,16 @@ struct Writer<A: Ledger, B: Ledger, C: Ledger, W: ConnWrite> {
     failed: Option<ErrorCode>,
 }
 
-impl<A: Ledger, B: Ledger, C: Ledger, W: ConnWrite + Drop> Writer<A, B, C, W> {
+impl<A: Ledger, B: Ledger, C: Ledger, W: ConnWrite + Drop, G: Gate + Drop> Writer<A, B, C, W, G> {
     /// A writer that has taken no orders, and written nothing to a device that was so.
     fn new(
         alloc: Global,
         orders: RingOut<Order>,
         outlet: Outlet<A, B, C>,
+        gate: Arc<G>,
         device: W,
         was: &Snapshot<W>,
-    ) -> Writer<A, B, C, W>
+    ) -> Writer<A, B, C, W, G>
         requires was { was.now.value ≡ device }
         requires none { taken orders ≡ [] }
         ensures runs { Led got W.contents W.failed (W.contents was.now.value) result.orders result.frames }
@@ -71,6 +74,7 @@ impl<A: Ledger, B: Ledger, C: Ledger, W: ConnWrite + Drop> Writer<A, B, C, W> {
         Writer {
             orders: Inbox::new(orders),
             outlet,
+            gate,
             frames,
             senders: Senders::new(alloc),
             input_ended: false,
@@ -311,8 +315,15 @@ impl<A: Ledger, B: Ledger, C: Ledger, W: ConnWrite + Drop> Writer<A, B, C, W> {
             }
         }
         match self.frames.flush() {
-            Ok(()) => {}
+            Ok(()) => self.tell_gate(),
             Err(_fault) => self.stop(rt),
+        }
+    }
+
+    /// Tells the gate of the streams whose last frame was in the buffer.
+    fn tell_gate(&self) {
+        for id in self.frames.left() {
+            self.gate.trailers_written(*id);
         }
     }
 
@@ -461,11 +472,12 @@ impl<W: ConnWrite + Drop> Promise<Written<W>> for Begun<W> {
 pub(crate) type Writing<W> = PromisedHandle<Written<W>, Begun<W>>;
 
 /// Starts the thread that writes. That it can't be made counts as want of memory.
-pub(crate) fn start<A, B, C, W, R>(
+pub(crate) fn start<A, B, C, W, G, R>(
     rt: R,
     alloc: Global,
     orders: RingOut<Order>,
     outlet: Outlet<A, B, C>,
+    gate: Arc<G>,
     device: W,
 ) -> Result<Writing<W>, AllocError>
 where
@@ -473,6 +485,7 @@ where
     B: Ledger + Send + Sync + 'static,
     C: Ledger + Send + Sync + 'static,
     W: ConnWrite + Send + Drop + 'static,
+    G: Gate + Send + Sync + Drop + 'static,
     R: Threads + Wait + Copy + Send + Sync + Drop + 'static,
     requires none { taken orders ≡ [] }
     ensures begun { IfOk result (λ writing. W.contents writing.promise.device.value ≡ W.contents device) }
@@ -482,7 +495,7 @@ where
         device: Snapshot::of(&device),
         orders: Snapshot::of(&orders),
     };
-    let writer = Writer::new(alloc, orders, outlet, device, &begun.device);
+    let writer = Writer::new(alloc, orders, outlet, gate, device, &begun.device);
     match thread::spawn_with(&rt, begun, move || writer.write(&rt)) {
         Ok(writing) => Ok(writing),
         Err(_fault) => Err(AllocError),

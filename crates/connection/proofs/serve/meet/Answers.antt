@@ -6,7 +6,7 @@ use Rattle.outwriter.specs.Steps.{order_of}
 use Rattle.connection.specs.declared.orders.Opened.{Opened}
 use Rattle.connection.specs.Orders.{orders_of}
 use Rattle.connection.specs.declared.report.Ending.{Ending}
-use Rattle.connection.specs.Reports.{is_input_end}
+use Rattle.connection.specs.Reports.{is_heard_out}
 use Rattle.connection.specs.Written.{HasWritten}
 use Rattle.connection.proofs.WrittenSteps.{told-on}
 use Rattle.connection.proofs.serve.meet.Goals as goal
@@ -31,4 +31,4 @@ returns-clause-calls g c = refl
 pub returns-clause-input : goal.returns-clause-input
 returns-clause-input g c = λ ended.
     let same = c.by_orders-ending.ensures.input ended in
-    same ∙ c.of_both.ensures.input (subst (λ (e : Ending). is_input_end e ≡ true) same ended)
+    same ∙ c.of_both.ensures.input (subst (λ (e : Ending). is_heard_out e ≡ true) same ended)

@@ -6,7 +6,7 @@ use Rattle.connection.proofs.Reasons.{reason-reset, reasons-put}
 use Rattle.connection.proofs.reader.Reader.cut.Goals as goal
 
 pub returns-clause-holds : goal.returns-clause-holds
-returns-clause-holds g c = λ id reason. c.let_go.ensures.holds id (reasons-put _ _ _ c.reset.ensures.ordered (λ other was. was) id reason)
+returns-clause-holds g c = λ id reason. c.let_go.ensures.holds id (reasons-put _ _ _ c.reset.ensures.ordered id reason)
 
 pub returns-clause-reason : goal.returns-clause-reason
 returns-clause-reason g c = λ written.

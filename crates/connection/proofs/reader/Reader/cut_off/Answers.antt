@@ -11,5 +11,5 @@ returns-in_default g c = record { heard = all-none _ _ (λ told kept. kept); hol
 pub returns : goal.returns
 returns g c = record {
   heard = all-cut _ _ _ (c.let_go.ensures.heard (CutOff _) (concerns-cut _) (shuts-cut _ _ refl));
-  holds = λ id reason. c.let_go.ensures.holds id (reasons-put _ _ _ c.reset.ensures.ordered (λ other was. was) id reason);
+  holds = λ id reason. c.let_go.ensures.holds id (reasons-put _ _ _ c.reset.ensures.ordered id reason);
 }

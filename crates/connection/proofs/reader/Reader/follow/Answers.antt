@@ -67,7 +67,7 @@ returns-in-StreamError-clause-some g c = some-all _ _ _ (reads-as _ _ _ _ c.in-S
 
 pub returns-in-Control-clause-heard : goal.returns-in-Control-clause-heard
 returns-in-Control-clause-heard g c = λ ok. reads-as _ _ _ _ c.in-Control.is
-    (reads-idle _ _ _ Plain (reasons-put _ _ _ c.put.ensures.ordered (λ id was. was)) (idle-control _) refl (λ id. refl))
+    (reads-idle _ _ _ Plain (reasons-put _ _ _ c.put.ensures.ordered) (idle-control _) refl (λ id. refl))
 
 pub returns-in-Control-clause-some : goal.returns-in-Control-clause-some
 returns-in-Control-clause-some g c = some-as _ _ _ _ c.in-Control.is (some-idle _ _ Plain (idle-control _))

@@ -7,4 +7,4 @@ pub returns-clause-heard : goal.returns-clause-heard
 returns-clause-heard g c = λ step concerns shuts. c.shut.ensures.heard step concerns (shuts ∙ ap (λ (n : ℕ). Some (shut.Reset n)) (sym c.code.ensures))
 
 pub returns-clause-holds : goal.returns-clause-holds
-returns-clause-holds g c = reasons-hold _ _ refl refl c.shut.ensures.answers
+returns-clause-holds g c = reasons-hold _ _ refl refl

@@ -11,7 +11,7 @@ returns-in_err-unknown_method-clause-memory g c = err-any _ _ (some-none _ _ _ (
 
 pub returns-in_default-clause-heard : goal.returns-in_default-clause-heard
 returns-in_default-clause-heard g c =
-    reads-idle _ _ (events.Open c.args.id c.args.head) Unknown (λ id reason. reasons-put _ _ _ c.put.ensures.ordered (λ other was. was) id (c.begin.ensures.holds id reason))
+    reads-idle _ _ (events.Open c.args.id c.args.head) Unknown (λ id reason. reasons-put _ _ _ c.put.ensures.ordered id (c.begin.ensures.holds id reason))
     (idle-open c.args.id c.args.head Unknown refl) c.begin.ensures.slots (λ id. refl)
 
 pub returns-in-Ok-clause-heard : goal.returns-in-Ok-clause-heard

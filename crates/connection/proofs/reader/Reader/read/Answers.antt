@@ -1,16 +1,16 @@
-use Rattle.std.proofs.Common.{◌∙◌, List, [], ◌++◌, Ok, Err, ap, refl, take}
+use Rattle.std.proofs.Common.{◌∙◌, List, [], ◌++◌, Ok, Err, ap, append-nil, refl, take}
 use Rattle.session.specs.declared.event.InEvent.{InEvent}
 use Rattle.calltable.specs.Steps.{events_of}
 use Rattle.connection.specs.declared.report.Ending.TheVariants as ending
-use Rattle.connection.specs.Reports.{is_input_end}
-use Rattle.connection.proofs.Fronts.{all-heard, consumes-then, front-alone, last-none, none-more, read-failed}
+use Rattle.connection.specs.Reports.{is_heard_out}
+use Rattle.connection.proofs.Fronts.{all-heard, consumes-then, front-alone, none-more, read-failed}
 use Rattle.connection.proofs.Heard.{err-not-none, events-append, keeps-same, some-not-none}
 use Rattle.connection.proofs.reader.Reader.read.Goals as goal
 
 pub returns-in_default-clause-heard : goal.returns-in_default-clause-heard
 returns-in_default-clause-heard g c = λ none.
     let h = c.pieces.invariant.4 none in
-    (h.0 ++ [], consumes-then _ _ _ h.0 [] h.3 (read-failed _ _ _ _ c.in_default.not-Ok c.read.ensures.bytes), front-alone ending.ReadFailed _ _ refl (last-none _ h.1 h.2 h.0 [] _ h.4 h.5 h.6))
+    (h.0 ++ [], consumes-then _ _ _ h.0 [] h.3 (read-failed _ _ _ _ c.in_default.not-Ok c.read.ensures.bytes), all-heard ending.ReadFailed _ h.1 h.2 h.0 (h.0 ++ []) _ (append-nil h.0) h.4 h.5 h.6)
 
 pub returns-then-has_stopped-clause-heard : goal.returns-then-has_stopped-clause-heard
 returns-then-has_stopped-clause-heard g c = λ none.
@@ -50,7 +50,7 @@ returns-in-Ok-Some-clause-heard g c = λ none.
     let last = c.in-Ok-Some.ensures.last (some-not-none (Ok c.in-Ok-Some.field-0) c.in-Ok-Some.field-0 c.in-Ok-Some.code refl c.in-Ok-Some.field-0-is) h.0 h.1 h.2 h.4 h.5 h.6 in (
       h.0 ++ take c.in-Ok.count c.read.new.buf,
       consumes-then _ _ _ h.0 _ h.3 c.in-Ok.ensures.bytes.0,
-      front-alone c.fail.result _ _ (ap is_input_end c.fail.ensures.ending) (last.0, keeps-same _ _ c.fail.ensures.slots last.0 last.1, last.2),
+      front-alone c.fail.result _ _ (ap is_heard_out c.fail.ensures.ending) (last.0, keeps-same _ _ c.fail.ensures.slots last.0 last.1, last.2),
     )
 
 pub returns-in-Err-clause-heard : goal.returns-in-Err-clause-heard
@@ -59,5 +59,5 @@ returns-in-Err-clause-heard g c = λ none.
     let last = c.in-Err.ensures.last (err-not-none (Err c.in-Err.field-0) c.in-Err.field-0 refl) h.0 h.1 h.2 h.4 h.5 h.6 in (
       h.0 ++ take c.in-Ok.count c.read.new.buf,
       consumes-then _ _ _ h.0 _ h.3 c.in-Ok.ensures.bytes.0,
-      front-alone c.fail-in-Err.result _ _ (ap is_input_end c.fail-in-Err.ensures.ending) (last.0, keeps-same _ _ c.fail-in-Err.ensures.slots last.0 last.1, last.2),
+      front-alone c.fail-in-Err.result _ _ (ap is_heard_out c.fail-in-Err.ensures.ending) (last.0, keeps-same _ _ c.fail-in-Err.ensures.slots last.0 last.1, last.2),
     )

@@ -22,4 +22,4 @@ returns-in_default-clause-memory g c = err-any _ _ (some-all _ _ _
 
 pub returns-clause-heard : goal.returns-clause-heard
 returns-clause-heard g c =
-    reads-then _ _ _ (events.Open c.args.id c.args.head ∷ []) [] (ok-is _ _ _ c.in-Ok.is c.in_ok-opened.ensures.engaged) (reads-none _ _ (reasons-put _ _ _ c.put.ensures.ordered (λ id was. was)) (λ told kept. kept))
+    reads-then _ _ _ (events.Open c.args.id c.args.head ∷ []) [] (ok-is _ _ _ c.in-Ok.is c.in_ok-opened.ensures.engaged) (reads-none _ _ (reasons-put _ _ _ c.put.ensures.ordered) (λ told kept. kept))

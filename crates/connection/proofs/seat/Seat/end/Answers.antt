@@ -3,7 +3,6 @@ use Rattle.lane.specs.Ring as ring
 use Rattle.lane.specs.RingLane.{past_in, past_shut, put_in, put_shut}
 use Rattle.connection.specs.Seats.{jobs_of}
 use Rattle.connection.specs.Workers.{HaveRows}
-use Rattle.connection.proofs.Answered.{slot-answered}
 use Rattle.connection.proofs.SeatRows.{at-some, if-follows, met-parts, seat-rows}
 use Rattle.connection.proofs.seat.Seat.end.Goals as goal
 
@@ -15,11 +14,6 @@ returns g c = record {
       (jobs_of c.args.self) (ring.taken c.join-taker.result.jobs) (ring.ahead c.meet-count.new.rx) c.in_ok-calls.field-0.items all.items
       (met-parts (ring.taken c.join-taker.result.jobs) _ (ring.ahead c.meet-count.new.rx) _ (jobs_of c.args.self) c.meet-count.ensures.reader.1 c.meet-count.ensures.all c.meet-count.ensures.writer.1)
       c.settle.ensures.accounts (c.settle.ensures.shut (λ shut. refl))
-      (at-some (λ rows. HaveRows g.M.Answering.known _ _ (ring.taken c.join-taker.result.jobs) rows.items) c.join-taker.result.calls c.in_ok-calls.field-0 c.in_ok-calls.was c.join-taker.ensures.4)
+      (at-some (λ rows. HaveRows g.M.Answering.known _ _ (ring.taken c.join-taker.result.jobs) rows.items) c.join-taker.result.calls c.in_ok-calls.field-0 c.in_ok-calls.was c.join-taker.ensures.3)
       is are) c.with_rest.ensures;
-  answered = λ id tells.
-      if-follows c.with_rest.result _ _ (λ all is.
-      slot-answered (λ v. v.items) _ (ring.taken c.args.self.answers) (ring.ahead c.meet.new.rx) (ring.put_in c.join-taker.result.answers) c.join-taker.result.calls c.in_ok-calls.field-0 all
-      (met-parts (ring.taken c.args.self.answers) _ (ring.ahead c.meet.new.rx) _ (ring.put_in c.join-taker.result.answers) c.meet.ensures.reader.1 c.meet.ensures.all c.meet.ensures.writer.1)
-      c.in_ok-calls.was c.join-taker.ensures.5 is id tells) c.with_rest.ensures;
 }

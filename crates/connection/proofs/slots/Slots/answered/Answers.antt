@@ -1,5 +1,4 @@
 use Rattle.std.proofs.Common.{refl}
-use Rattle.connection.proofs.Answered.{answered-told, answers-told}
 use Rattle.connection.proofs.SlotSteps.{keeps-set}
 use Rattle.connection.proofs.slots.Slots.answered.Goals as goal
 
@@ -7,11 +6,3 @@ pub returns-clause-stays : goal.returns-clause-stays
 returns-clause-stays g c = λ told k.
     keeps-set c.args.self.now _ c.args.place c.in-Some.seat.now c.answered.new.self c.in-Some.ensures.item.3.0 c.in-Some.ensures.value refl told refl
     c.answered.ensures.id c.answered.ensures.jobs (c.answered.ensures.stays told) k
-
-pub returns-clause-answers : goal.returns-clause-answers
-returns-clause-answers g c =
-    answers-told c.args.self.now.seats.items _ c.args.place c.in-Some.seat.now c.answered.new.self c.in-Some.ensures.value refl c.answered.result c.answered.ensures.answers
-
-pub returns-clause-told : goal.returns-clause-told
-returns-clause-told g c =
-    answered-told c.args.self.now.seats.items _ c.args.place c.in-Some.seat.now c.answered.new.self c.in-Some.ensures.value refl c.answered.result c.in-Some.ensures.item.3.0 c.answered.ensures.answers

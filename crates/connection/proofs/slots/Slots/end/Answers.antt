@@ -1,36 +1,26 @@
-use Rattle.std.proofs.Common.{◌∙◌, Some, inl, refl, sym}
+use Rattle.std.proofs.Common.{◌∙◌, Some, refl, sym}
 use Rattle.std.proofs.lemmas.List.Elements.{All-pop}
 use Rattle.connection.specs.Seats.{IsSeat}
-use Rattle.connection.proofs.Answered.{HasOrWaits, joined-answers, none-waits, trailers-moved}
 use Rattle.connection.proofs.SlotRows.{AreSoFar, joined-rows, none-so-far, ordered-rows}
 use Rattle.connection.proofs.SeatRows.{at-some}
 use Rattle.connection.proofs.slots.Slots.end.Goals as goal
 
 pub seats-init : goal.seats-init
-seats-init g c = (λ told k. (k.each, none-so-far g.M.Answering.known g.M.Answering.names told _ _ _ refl c.new.ensures.items), λ id was. inl was)
+seats-init g c = λ told k. (k.each, none-so-far g.M.Answering.known g.M.Answering.names told _ _ _ refl c.new.ensures.items)
 
 pub seats-preserved : goal.seats-preserved
-seats-preserved g c = (
-  λ told k.
-      let before = c.seats.invariant.0 told k in
-      let popped = All-pop (IsSeat g.M.Answering.names told) _ _ (Some c.in-Some.seat) c.in-Some.ensures.items before.0 in (
-        popped.0,
-        joined-rows g.M.Answering.known g.M.Answering.names told (λ v. v.items) c.args.self.seats.items _ _ c.in-Some.seat _ _ _ c.in-Some.ensures.items c.joined-all.ensures before.1
-            (c.end-in-Some.ensures.rows told popped.1),
-      ),
-  λ id was. joined-answers (λ v. v.items) id _ _ c.in-Some.seat _ _ _ c.in-Some.ensures.items c.joined-all.ensures (c.seats.invariant.1 id was) (c.end-in-Some.ensures.answered id),
-)
+seats-preserved g c = λ told k.
+    let before = c.seats.invariant told k in
+    let popped = All-pop (IsSeat g.M.Answering.names told) _ _ (Some c.in-Some.seat) c.in-Some.ensures.items before.0 in (
+      popped.0,
+      joined-rows g.M.Answering.known g.M.Answering.names told (λ v. v.items) c.args.self.seats.items _ _ c.in-Some.seat _ _ _ c.in-Some.ensures.items c.joined-all.ensures before.1
+          (c.end-in-Some.ensures told popped.1),
+    )
 
 pub returns : goal.returns
-returns g c = record {
-  rows = λ told k.
-      let last = c.seats.invariant.0 told k in
-      ordered-rows g.M.Answering.known g.M.Answering.names told c.args.self.seats.items c.seats.rest.items c.in_ok-all.field-0.items c.in_order.result.items
-      (sym c.seats.rest.ok.0 ∙ c.in_default.ensures.cases.0)
-      c.in_order.ensures.same (c.in_order.ensures.ids told k.rising) k.all
-      (at-some (λ rows. AreSoFar g.M.Answering.known g.M.Answering.names told c.args.self.seats.items c.seats.rest.items rows.items) c.seats.all c.in_ok-all.field-0 c.in_ok-all.was last.1);
-  answered = λ id was.
-      trailers-moved id c.in_ok-all.field-0.items c.in_order.result.items c.in_order.ensures.same
-      (none-waits id c.seats.rest.items c.in_ok-all.field-0.items (sym c.seats.rest.ok.0 ∙ c.in_default.ensures.cases.0)
-      (at-some (λ rows. HasOrWaits id c.seats.rest.items rows.items) c.seats.all c.in_ok-all.field-0 c.in_ok-all.was (c.seats.invariant.1 id was)));
-}
+returns g c = λ told k.
+    let last = c.seats.invariant told k in
+    ordered-rows g.M.Answering.known g.M.Answering.names told c.args.self.seats.items c.seats.rest.items c.in_ok-all.field-0.items c.in_order.result.items
+    (sym c.seats.rest.ok.0 ∙ c.in_default.ensures.cases.0)
+    c.in_order.ensures.same (c.in_order.ensures.ids told k.rising) k.all
+    (at-some (λ rows. AreSoFar g.M.Answering.known g.M.Answering.names told c.args.self.seats.items c.seats.rest.items rows.items) c.seats.all c.in_ok-all.field-0 c.in_ok-all.was last.1)

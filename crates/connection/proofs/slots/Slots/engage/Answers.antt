@@ -1,5 +1,4 @@
 use Rattle.std.proofs.Common.{refl}
-use Rattle.connection.proofs.Answered.{answers-stay}
 use Rattle.connection.proofs.Heard.{err-any}
 use Rattle.connection.proofs.SlotSteps.{keeps-set, kept-begins}
 use Rattle.connection.proofs.slots.Slots.engage.Goals as goal
@@ -13,11 +12,3 @@ pub returns-clause-heard : goal.returns-clause-heard
 returns-clause-heard g c = λ told k.
     kept-begins c.args.self.now _ c.args.place c.in-Some.seat.now c.begin.new.self c.in-Some.ensures.item.3.0 c.in-Some.ensures.value refl told c.args.job c.requires.above refl
     c.in_ok-begin.ensures.id c.in_ok-begin.ensures.jobs (c.in_ok-begin.ensures.heard told) k
-
-pub returns-in_err-begin-clause-answers : goal.returns-in_err-begin-clause-answers
-returns-in_err-begin-clause-answers g c =
-    answers-stay c.args.self.now.seats.items _ c.args.place c.in-Some.seat.now c.begin.new.self c.in-Some.ensures.value refl c.begin.ensures.answers
-
-pub returns-clause-answers : goal.returns-clause-answers
-returns-clause-answers g c =
-    answers-stay c.args.self.now.seats.items _ c.args.place c.in-Some.seat.now c.begin.new.self c.in-Some.ensures.value refl c.begin.ensures.answers

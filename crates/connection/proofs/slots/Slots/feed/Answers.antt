@@ -4,7 +4,6 @@ use Rattle.session.specs.declared.event.InEvent.TheVariants as events
 use Rattle.calltable.specs.Steps.{Received, Told}
 use Rattle.calltable.proofs.StepLemmas.{concerns-data}
 use Rattle.connection.specs.Seats.{IsSeat}
-use Rattle.connection.proofs.Answered.{answers-stay}
 use Rattle.connection.proofs.SlotSteps.{kept-none, kept-set, keeps-set, is-at, on-ok, on-err}
 use Rattle.connection.proofs.slots.Slots.feed.Goals as goal
 
@@ -29,7 +28,3 @@ returns-clause-stays g c =
     (λ stays told k. keeps-set c.args.self.now _ c.in-Some.place c.in-Some-get_mut.seat.now c.feed.new.self c.in-Some-get_mut.ensures.item.3.0 c.in-Some-get_mut.ensures.value refl told
     refl c.feed.ensures.id c.feed.ensures.jobs (stays told) k)
     c.feed.ensures.stays
-
-pub returns-clause-answers : goal.returns-clause-answers
-returns-clause-answers g c =
-    answers-stay c.args.self.now.seats.items _ c.in-Some.place c.in-Some-get_mut.seat.now c.feed.new.self c.in-Some-get_mut.ensures.value refl c.feed.ensures.answers

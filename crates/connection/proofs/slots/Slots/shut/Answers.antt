@@ -1,6 +1,5 @@
 use Rattle.std.proofs.Common.{◌≡◌, ℕ, Some, eqb-true, refl, subst, sym}
 use Rattle.calltable.specs.Steps.{shut_at}
-use Rattle.connection.proofs.Answered.{answers-stay}
 use Rattle.connection.proofs.SlotSteps.{kept-none, kept-set, is-at, rises-not}
 use Rattle.connection.proofs.slots.Slots.shut.Goals as goal
 
@@ -15,7 +14,3 @@ returns-clause-heard g c = λ step concerns by_step told k.
     refl c.shut.ensures.id c.shut.ensures.jobs of concerns
     (λ are. c.shut.ensures.heard told step (rises-not told step concerns.admits)
     (subst (λ (id : ℕ). shut_at id step ≡ Some c.args.kind) (sym (eqb-true seat.id c.args.id of)) by_step) are) k
-
-pub returns-clause-answers : goal.returns-clause-answers
-returns-clause-answers g c =
-    answers-stay c.args.self.now.seats.items _ c.in-Some.place c.in-Some-get_mut.seat.now c.shut.new.self c.in-Some-get_mut.ensures.value refl c.shut.ensures.answers

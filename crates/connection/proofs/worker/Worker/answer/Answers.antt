@@ -20,6 +20,3 @@ pub returns-then-is_none-clause-answers : goal.returns-then-is_none-clause-answe
 returns-then-is_none-clause-answers g c =
     rw c.pass_over.ensures.taker (row_without _ (listed c.args.methods.now) c.args.job _ c.args.taker.progress _ _ (search rules)
     (subst (λ (got : List InPiece). Took got c.args.taker.progress []) (sym c.requires.fresh.0) c.requires.fresh.1) c.requires.fresh.2 c.pass_over.ensures.row)
-
-pub returns-then-is_none-clause-tells : goal.returns-then-is_none-clause-tells
-returns-then-is_none-clause-tells g c = rw c.pass_over.ensures.row c.pass_over.ensures.tells

@@ -1,7 +1,7 @@
-use Rattle.std.proofs.Common.{ap, inl, refl, ◌∙◌, ◌++◌, ◌∷◌, [], List}
+use Rattle.std.proofs.Common.{ap, ◌∙◌, ◌++◌, ◌∷◌, [], List}
 use Rattle.account.specs.declared.call.OutItem.{OutItem}
 use Rattle.callbox.specs.declared.piece.InPiece.{InPiece}
-use Rattle.connection.proofs.Rows.{given-none, none_came, not_begun, of_fewer, one_more, tells_more}
+use Rattle.connection.proofs.Rows.{given-none, none_came, not_begun, of_fewer, one_more}
 use Rattle.connection.proofs.worker.Worker.serve.Goals as goal
 
 pub returns-in_default-clause-rows : goal.returns-in_default-clause-rows
@@ -14,9 +14,6 @@ pub returns-in-Err-clause-rows : goal.returns-in-Err-clause-rows
 returns-in-Err-clause-rows g c =
     not_begun g.M.Answering.known (λ v. v.items) _ _ _ _ _ _ _ _ _ _ c.with_row.ensures c.in-Some.ensures.taken c.in-Err.ensures.past_stays c.requires.got_each c.unanswered.ensures c.requires.rows
 
-pub returns-in-Err-clause-tells : goal.returns-in-Err-clause-tells
-returns-in-Err-clause-tells g c = tells_more (λ v. v.items) _ _ _ _ _ _ c.with_row.ensures refl (inl refl) c.requires.tells
-
 pub returns-then-goes_on-clause-rows_on : goal.returns-then-goes_on-clause-rows_on
 returns-then-goes_on-clause-rows_on g c =
     let on = c.rest-goes_on.ensures.past c.if-goes_on.true in
@@ -26,9 +23,6 @@ returns-then-goes_on-clause-rows_on g c =
     c.requires.got_each c.requires.gave_each c.requires.rows on.1
     (of_fewer _ _ _ _ _ _ c.requires.known c.answer-finished.ensures.answers)
 
-pub returns-then-goes_on-clause-tells_on : goal.returns-then-goes_on-clause-tells_on
-returns-then-goes_on-clause-tells_on g c = tells_more (λ v. v.items) _ _ _ _ _ _ c.with_row-2.ensures c.answer-finished.ensures.answers.id c.answer-finished.ensures.tells c.requires.tells
-
 pub returns-else-goes_on-clause-rows : goal.returns-else-goes_on-clause-rows
 returns-else-goes_on-clause-rows g c =
     let here = c.rest-goes_on.ensures.stays c.if-goes_on.false in
@@ -37,6 +31,3 @@ returns-else-goes_on-clause-rows g c =
     (ap (λ (xs : List (List OutItem)). xs ++ g.O.Lane.put_shut c.answer-finished.result.shut.shut ∷ []) (c.answer-finished.ensures.past ∙ c.in-Ok.ensures.past))
     c.requires.got_each c.requires.gave_each c.requires.rows here.0
     (of_fewer _ _ _ _ _ _ c.requires.known c.answer-finished.ensures.answers)
-
-pub returns-else-goes_on-clause-tells : goal.returns-else-goes_on-clause-tells
-returns-else-goes_on-clause-tells g c = tells_more (λ v. v.items) _ _ _ _ _ _ c.with_row-2.ensures c.answer-finished.ensures.answers.id c.answer-finished.ensures.tells c.requires.tells

@@ -1,0 +1,26 @@
+//! Who says when a call goes on.
+
+use h2frame::StreamId;
+
+/// Says when a call goes on, and is told when one was answered. A server's calls go on at once (`OpenGate`); a test holds some
+/// back, and sees that others don't wait for them.
+pub trait Gate {
+    /// Whether the call of this stream goes on. A call's worker asks before each turn, in which at most one message is taken. After
+    /// a no it waits a millisecond at most, and asks again while the call is live; after 10,000 it goes on unasked.
+    fn may_go(&self, id: StreamId) -> bool;
+
+    /// The last frame of this stream was written, of a call or of the refusal of one. The thread that writes tells so.
+    fn trailers_written(&self, id: StreamId);
+}
+
+/// Each call goes on at once.
+#[derive(Drop)]
+pub struct OpenGate;
+
+impl Gate for OpenGate {
+    fn may_go(&self, _id: StreamId) -> bool {
+        true
+    }
+
+    fn trailers_written(&self, _id: StreamId) {}
+}
