@@ -21,6 +21,8 @@ ghost use Rattle.std.specs.Prelude.{◌<◌};
 mod body;
 mod call;
 mod client;
+#[cfg(test)]
+mod gates;
 mod memory;
 mod parts;
 mod port;
@@ -34,6 +36,7 @@ mod words;
 
 use body::{RunFault, run_body};
 use client::run_cases;
+use connection::OpenGate;
 use device::Marked;
 use handlers::{
     CacheableUnaryCall, EmptyCall, FullDuplexCall, HalfDuplexCall, Method, Methods,
@@ -185,9 +188,12 @@ where
         + Drop
         + 'static,
 {
+    let Ok(gate) = Arc::new(rt.alloc(), OpenGate) else {
+        return FAILED;
+    };
     let mut input = Marked::new(rt.reader());
     let mut output = Marked::new(io::writer(&rt));
-    match run_parts(rt, rt.alloc(), methods, &mut input, &mut output) {
+    match run_parts(rt, rt.alloc(), methods, gate, &mut input, &mut output) {
         Ok(()) => 0,
         Err(RunFault::NotHex) => complain(&rt, "input is not hexadecimal"),
         Err(RunFault::ReadFailed | RunFault::WriteFailed | RunFault::OutOfMemory) => FAILED,

@@ -6,7 +6,7 @@ use crate::body::RunFault;
 use crate::memory::{MemoryInput, MemoryOutput};
 use crate::streams::Streams;
 use crate::text::bytes_of;
-use connection::{Ending, Served, serve_connection};
+use connection::{Ending, Gate, Served, serve_connection};
 use device::{ConnRead, ConnWrite, Marked, read_all, write_all};
 use h2frame::FrameReader;
 use handlers::Methods;
@@ -16,15 +16,17 @@ use std::thread::Threads;
 use std::time::Clock;
 
 /// Reads a connection's bytes as hexadecimal text, to the end of the input, and serves them. Then it writes what the
-/// connection was answered with, stream by stream, and how it ended.
-pub fn run_parts<R, I, O>(
+/// connection was answered with, stream by stream, and how it ended. Its calls go on when the gate lets them.
+pub fn run_parts<R, G, I, O>(
     rt: R,
     alloc: Global,
     methods: Arc<Methods>,
+    gate: Arc<G>,
     input: &mut I,
     output: &mut O,
 ) -> Result<(), RunFault>
 where
+    G: Gate + Send + Sync + Drop + 'static,
     I: ConnRead,
     O: ConnWrite,
     R: Threads + Wait + Clock + Copy + Send + Sync + Drop + 'static,
@@ -39,7 +41,7 @@ where
         ending,
         output: written,
         ..
-    } = serve_connection(rt, alloc, &mut input, written, methods);
+    } = serve_connection(rt, alloc, &mut input, written, methods, gate);
     let Some(written) = written else {
         return Err(RunFault::OutOfMemory);
     };

@@ -4,7 +4,7 @@
 //! for no thread to start. A connection that stays keeps its thread, and one more is started for those that come.
 
 use crate::served::report_of;
-use connection::{Served, serve_connection};
+use connection::{OpenGate, Served, serve_connection};
 use device::Marked;
 use handlers::Methods;
 use lane::Bell;
@@ -134,8 +134,11 @@ where
     stream.set_nodelay(true)?;
     let output = Marked::new(stream.try_clone()?);
     let theirs = Arc::try_clone(methods)?;
+    let gate = Arc::new(alloc, OpenGate)?;
     let mut input = Marked::new(stream);
-    let Served { ending, calls, .. } = serve_connection(rt, alloc, &mut input, output, theirs);
+    let Served { ending, calls, .. } = serve_connection(
+        rt, alloc, &mut input, output, theirs, gate,
+    );
     if has_report {
         let report = report_of(alloc, peer, methods, ending, calls)?;
         print!(rt; "{report}")?;
