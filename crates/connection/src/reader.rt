@@ -505,24 +505,25 @@ where
         self.slots.engage(place, job)
     }
 
-    /// Shuts the halves of calls that were answered before their client ended them: before that their slots aren't free. What a call was
-    /// answered with is written by then, unless it was left without trailers.
+    /// Shuts the halves of calls that were answered before their client ended them: before that their slots aren't free.
     fn shut_answered(&mut self)
         ensures heard { ReadsAll M.names [] self.old self.new }
         ensures last { self.new.slots.last ≡ self.old.slots.last }
     {
         'places: for place in 0..self.slots.len() {
-            if self.slots.is_through(place) {
-                self.shut_if_answered(place);
-            }
+            self.shut_if_answered(place);
         }
     }
 
-    /// The same for the slot of this number, where it wasn't known yet that its call was answered.
+    /// The same for the slot of this number, where it wasn't known yet that its call was answered. What it was answered with is written by
+    /// then, unless it was left without trailers.
     fn shut_if_answered(&mut self, place: usize)
         ensures heard { ReadsAll M.names [] self.old self.new }
         ensures last { self.new.slots.last ≡ self.old.slots.last }
     {
+        if !self.slots.is_through(place) {
+            return;
+        }
         let Some(answered) = self.slots.answered(place) else {
             return;
         };

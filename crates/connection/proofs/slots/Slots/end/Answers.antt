@@ -14,13 +14,15 @@ seats-preserved g c = λ told k.
     let popped = All-pop (IsSeat g.M.Answering.names told) _ _ (Some c.in-Some.seat) c.in-Some.ensures.items before.0 in (
       popped.0,
       joined-rows g.M.Answering.known g.M.Answering.names told (λ v. v.items) c.args.self.seats.items _ _ c.in-Some.seat _ _ _ c.in-Some.ensures.items c.joined-all.ensures before.1
-          (c.end-in-Some.ensures told popped.1),
+          (c.end-in-Some.ensures.rows told popped.1),
     )
 
 pub returns : goal.returns
-returns g c = λ told k.
-    let last = c.seats.invariant told k in
-    ordered-rows g.M.Answering.known g.M.Answering.names told c.args.self.seats.items c.seats.rest.items c.in_ok-all.field-0.items c.in_order.result.items
-    (sym c.seats.rest.ok.0 ∙ c.in_default.ensures.cases.0)
-    c.in_order.ensures.same (c.in_order.ensures.ids told k.rising) k.all
-    (at-some (λ rows. AreSoFar g.M.Answering.known g.M.Answering.names told c.args.self.seats.items c.seats.rest.items rows.items) c.seats.all c.in_ok-all.field-0 c.in_ok-all.was last.1)
+returns g c = record {
+  rows = λ told k.
+      let last = c.seats.invariant told k in
+      ordered-rows g.M.Answering.known g.M.Answering.names told c.args.self.seats.items c.seats.rest.items c.in_ok-all.field-0.items c.in_order.result.items
+      (sym c.seats.rest.ok.0 ∙ c.in_default.ensures.cases.0)
+      c.in_order.ensures.same (c.in_order.ensures.ids told k.rising) k.all
+      (at-some (λ rows. AreSoFar g.M.Answering.known g.M.Answering.names told c.args.self.seats.items c.seats.rest.items rows.items) c.seats.all c.in_ok-all.field-0 c.in_ok-all.was last.1);
+}
