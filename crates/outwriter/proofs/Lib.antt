@@ -27,5 +27,7 @@ pub mod ServeStepsTake
 pub mod ServeStepsLook
 pub mod ServeStepsCore
 pub mod StuckSteps
+pub mod DataSteps
+pub mod LookSteps
 pub mod LawExamples
 pub mod ReturnSteps

@@ -94,42 +94,41 @@ module _ {L In Out Shut : Type 0} where
     λ stream e.
         let found = takes-nothing E (shows (open_at old.outbound.states) id) (calls got old.senders.items) (calls got mid.senders.items) (aheads ahead mid.senders.items) old.outbound.encoder mid.outbound.encoder
         (subst (λ (p : Polled). TakesAt {E = E} (shows (open_at old.outbound.states) id) (calls got old.senders.items) (calls got mid.senders.items) (aheads ahead mid.senders.items) old.outbound.encoder mid.outbound.encoder (Ok p)) is took.takes) in
-        let hand = hand-of None (shows (open_at old.outbound.states) id) (stream.place, stream.in_hand) (here-is None id (open_at old.outbound.states) (open_at mid.outbound.states) stream took.hands e) in
+        let hand = hand-of None (shows (open_at old.outbound.states) id) (stream.place, stream.in_hand) (found.2 ∙ sym (ap (λ (o : Outbound). shows (open_at o.states) id) took.outbound) ∙ ap shown e) in
         subst (λ (x : Option (List ℕ)). IsStuck (room mid.outbound.windows id) x (get_or (aheads ahead mid.senders.items) stream.place [])) (sym hand.0)
         (found.3 (stream.place, hand.1.0) hand.1.1),
-    others-stuck got ahead old mid mid id run h same (λ k ne. elsewhere-is None id k (open_at old.outbound.states) (open_at mid.outbound.states) took.hands ne) refl
+    others-stuck got ahead old mid mid id run h same (λ k ne. ap (λ (o : Outbound). shows (open_at o.states) k) took.outbound) refl
         (ap (λ (o : Outbound). o.windows) took.outbound),
   )
 
   pub stuck-data : (E : Type 0) (got ahead : Out → List OutItem) (old mid new : OutCore L In Out Shut) (id : ℕ) (bytes : List ℕ) (result : Result Polled E)
       → Took E got ahead old mid id result → SameAhead (shows (open_at old.outbound.states) id) (aheads ahead old.senders.items) (aheads ahead mid.senders.items)
-      → TellsData id bytes None mid new → new.senders ≡ mid.senders → GetsStuck got ahead id old new
+      → TellsData id bytes looked.Nothing mid new → new.senders ≡ mid.senders → GetsStuck got ahead id old new
   stuck-data E got ahead old mid new id bytes result took same tells senders run h = (
     λ stream e.
         let hand = hand-of (Some bytes) (shows (open_at mid.outbound.states) id) (stream.place, stream.in_hand) (here-is (Some bytes) id (open_at mid.outbound.states) (open_at new.outbound.states) stream tells.0 e) in
         subst (λ (x : Option (List ℕ)). IsStuck (room new.outbound.windows id) x (get_or (aheads ahead new.senders.items) stream.place [])) (sym hand.0)
         (ap (λ (o : Outbound). room o.windows id) tells.1 ∙ tells.2),
     others-stuck got ahead old mid new id run h same
-        (λ k ne. elsewhere-is (Some bytes) id k (open_at mid.outbound.states) (open_at new.outbound.states) tells.0 ne ∙ elsewhere-is None id k (open_at old.outbound.states) (open_at mid.outbound.states) took.hands ne) senders
+        (λ k ne. elsewhere-is (Some bytes) id k (open_at mid.outbound.states) (open_at new.outbound.states) tells.0 ne ∙ ap (λ (o : Outbound). shows (open_at o.states) k) took.outbound) senders
         (ap (λ (o : Outbound). o.windows) tells.1 ∙ ap (λ (o : Outbound). o.windows) took.outbound),
   )
 
   -- a message without bytes
-  pub leaves-empty : (E : Type 0) (got ahead : Out → List OutItem) (old mid : OutCore L In Out Shut) (id : ℕ) (result : Polled)
-      → Took E got ahead old mid id (Ok result) → SameAhead (shows (open_at old.outbound.states) id) (aheads ahead old.senders.items) (aheads ahead mid.senders.items)
-      → LeavesStuck got ahead id old mid
-  leaves-empty E got ahead old mid id result took same run h =
-      others-stuck got ahead old mid mid id run h same (λ k ne. elsewhere-is None id k (open_at old.outbound.states) (open_at mid.outbound.states) took.hands ne) refl
-      (ap (λ (o : Outbound). o.windows) took.outbound)
-
-  pub looks-data : (E : Type 0) {F : Type 0} (got ahead : Out → List OutItem) (old mid new : OutCore L In Out Shut) (id : ℕ) (bytes : List ℕ) (result : Result Polled E) (found : Result Looked F)
+  pub leaves-empty : (E : Type 0) (got ahead : Out → List OutItem) (old mid new : OutCore L In Out Shut) (id : ℕ) (bytes : List ℕ) (result : Result Polled E)
       → Took E got ahead old mid id result → SameAhead (shows (open_at old.outbound.states) id) (aheads ahead old.senders.items) (aheads ahead mid.senders.items)
-      → IfOk found (λ l. l ≢ looked.Empty) → IfOk found (λ l. TellsData id bytes (frame_in l) mid new) → new.senders ≡ mid.senders
-      → IfOk found (λ l. LooksAt got ahead id l old new)
-  looks-data E got ahead old mid new id bytes result (Ok (looked.Frame frame)) took same ne tells senders = tt
-  looks-data E got ahead old mid new id bytes result (Ok looked.Nothing) took same ne tells senders = stuck-data E got ahead old mid new id bytes result took same tells senders
-  looks-data E got ahead old mid new id bytes result (Ok looked.Empty) took same ne tells senders = absurd (ne refl)
-  looks-data E got ahead old mid new id bytes result (Err e) took same ne tells senders = tt
+      → TellsData id bytes looked.Empty mid new → new.senders ≡ mid.senders → LeavesStuck got ahead id old new
+  leaves-empty E got ahead old mid new id bytes result took same tells senders run h =
+      others-stuck got ahead old mid new id run h same
+      (λ k ne. elsewhere-is None id k (open_at mid.outbound.states) (open_at new.outbound.states) tells.1 ne ∙ ap (λ (o : Outbound). shows (open_at o.states) k) took.outbound) senders
+      (ap (λ (o : Outbound). o.windows) tells.2 ∙ ap (λ (o : Outbound). o.windows) took.outbound)
+
+  pub looks-data : (E : Type 0) (got ahead : Out → List OutItem) (old mid new : OutCore L In Out Shut) (id : ℕ) (bytes : List ℕ) (result : Result Polled E) (found : Looked)
+      → Took E got ahead old mid id result → SameAhead (shows (open_at old.outbound.states) id) (aheads ahead old.senders.items) (aheads ahead mid.senders.items)
+      → TellsData id bytes found mid new → new.senders ≡ mid.senders → LooksAt got ahead id found old new
+  looks-data E got ahead old mid new id bytes result (looked.Frame frame) took same tells senders = tt
+  looks-data E got ahead old mid new id bytes result looked.Nothing took same tells senders = stuck-data E got ahead old mid new id bytes result took same tells senders
+  looks-data E got ahead old mid new id bytes result looked.Empty took same tells senders = leaves-empty E got ahead old mid new id bytes result took same tells senders
 
   -- one look after another
   pub leaves-then : (got ahead : Out → List OutItem) (old mid new : OutCore L In Out Shut) (id : ℕ) → HoldsOn got None old mid

@@ -7,7 +7,7 @@ ghost use Rattle.std.specs.Prelude.{◌≡◌, ◌≢◌, ◌<◌, ◌^◌, leng
 
 use crate::control::OutFault;
 use crate::out_core::OutCore;
-use crate::stream::{Looked, Polled, poll};
+use crate::stream::{Hand, Looked, Polled, next_data, poll};
 use account::OutItem;
 use bytes::Bytes;
 use callbox::Sender;
@@ -35,10 +35,11 @@ impl<L: Lane<Item = OutItem>> OutCore<L> {
     ghost use Rattle.h2frame.specs.Spelling.{IsWritable};
     ghost use Rattle.outwriter.specs.Frames.{IsSound};
     ghost use Rattle.outwriter.specs.Cores.{Serving, ServesNext, QuietNext, NoFrameNext, EndedNext, ClosedNext, PartsAfter, calls, lanes};
-    ghost use Rattle.outwriter.specs.States.{is_reset, open_at, over_on};
+    ghost use Rattle.outwriter.specs.States.{open_at};
     ghost use Rattle.outwriter.specs.Polls.{coming};
-    ghost use Rattle.outwriter.specs.OpenStreams.{SameHands, Removes};
-    ghost use Rattle.outwriter.specs.StreamLooks.{TakesHand, SameElsewhere, aheads, HoldsOn, KeepsFronts, TellsData, GetsStuck, LooksAt, frame_in, AllStuck, GetsQuiet};
+    ghost use Rattle.outwriter.specs.Data.{TakesFrames};
+    ghost use Rattle.outwriter.specs.OpenStreams.{SameHands, Removes, has_hand};
+    ghost use Rattle.outwriter.specs.StreamLooks.{HoldsOn, KeepsFronts, TellsData, GetsStuck, LooksAt, frame_in, AllStuck, GetsQuiet};
     ghost use Rattle.outwriter.specs.Steps.{Step};
     ghost use Rattle.outwriter.specs.RunState.{Answers, AnswersAll, Reached, SameButOpen, SameOwn, IsSpent, Progress, Progresses, Stays, IsBetween, MirrorsOf};
 
@@ -309,17 +310,14 @@ impl<L: Lane<Item = OutItem>> OutCore<L> {
         ensures alive { self.new.is_dead ≡ self.old.is_dead }
         ensures looks { IfOk result (λ l. LooksAt L.got (coming L.got L.ahead) id l self.old self.new) }
     {
-        let Some((place, hand)) = self.outbound.states.take_hand(id) else {
-            return Ok(Looked::Nothing);
+        let place = match self.outbound.states.look(id, &mut self.outbound.windows)? {
+            Hand::Shut => return Ok(Looked::Nothing),
+            Hand::Message(looked) => return Ok(looked),
+            Hand::Empty(place) => place,
         };
-        match self.take(place, hand)? {
+        match poll_at(&mut self.senders, place, &mut self.outbound.encoder)? {
             Polled::Nothing => Ok(Looked::Nothing),
-            Polled::Message(bytes) => {
-                if bytes.is_empty() {
-                    return Ok(Looked::Empty);
-                }
-                self.data(id, bytes)
-            }
+            Polled::Message(bytes) => self.data(id, bytes),
             Polled::Block { bytes, ends } => {
                 self.end(id, ends);
                 Ok(Looked::Frame(self.outbound.headers_frame(id, ends, bytes)?))
@@ -327,48 +325,24 @@ impl<L: Lane<Item = OutItem>> OutCore<L> {
         }
     }
 
-    /// What is next on a stream: what was in hand, or what its sender has.
-    fn take(&mut self, place: usize, hand: Option<Bytes>) -> Result<Polled, AllocError>
-        ensures outbound { self.new.outbound ≡ record self.old.outbound { encoder = self.new.outbound.encoder } }
-        ensures closed { self.new.closed ≡ self.old.closed }
-        ensures takes { TakesHand hand place (calls L.got self.old.senders.items) (calls L.got self.new.senders.items) (aheads (coming L.got L.ahead) self.new.senders.items) self.old.outbound.encoder self.new.outbound.encoder result }
-        ensures ahead { SameElsewhere place (aheads (coming L.got L.ahead) self.old.senders.items) (aheads (coming L.got L.ahead) self.new.senders.items) }
-        ensures senders { lanes L.out_name self.new.senders.items ≡ lanes L.out_name self.old.senders.items }
-        ensures alive { self.new.is_dead ≡ self.old.is_dead }
-    {
-        match hand {
-            Some(bytes) => Ok(Polled::Message(bytes)),
-            None => poll_at(&mut self.senders, place, &mut self.outbound.encoder),
-        }
-    }
-
-    /// The next DATA of a message, as far as the windows let it through. What is left is kept in hand.
-    fn data(&mut self, id: StreamId, bytes: Bytes) -> Result<Looked, AllocError>
+    /// The first DATA of a message, as far as the windows let it through. What is left is kept in hand.
+    fn data(&mut self, id: StreamId, message: Bytes) -> Result<Looked, AllocError>
         requires between { IsBetween self.old.outbound }
-        requires stream { 0 < id }
-        requires number { id < 2 ^ 31 }
-        requires open { over_on self.old.outbound.states id ≡ None }
-        requires unreset { is_reset self.old.outbound.states id ≡ false }
-        requires some { 0 < length bytes }
+        requires writable { TakesFrames self.old.outbound.states id }
+        requires empty { has_hand (open_at self.old.outbound.states id) ≡ false }
         ensures sound { IfOk result (λ l. IfSome (frame_in l) IsSound) }
         ensures numbered { IfOk result (λ l. IfSome (frame_in l) (λ frame. frame.head.stream < 2 ^ 31)) }
         ensures frame { IfOk result (λ l. Progress (frame_in l) self.old.outbound self.new.outbound) }
         ensures own { IfOk result (λ l. IfNone (frame_in l) (SameOwn self.old.outbound self.new.outbound)) }
         ensures closed { self.new.closed ≡ self.old.closed }
-        ensures data { IfOk result (λ l. TellsData id bytes (frame_in l) self.old self.new) }
-        ensures looks { IfOk result (λ l. l ≢ looked.Empty) }
+        ensures data { IfOk result (λ l. TellsData id message l self.old self.new) }
         ensures senders { self.new.senders ≡ self.old.senders }
         ensures alive { self.new.is_dead ≡ self.old.is_dead }
     {
-        let len = self.outbound.room(id, bytes.len());
-        if len == 0 {
-            self.outbound.states.keep(id, bytes);
-            return Ok(Looked::Nothing);
-        }
-        let mut rest = bytes;
-        let piece = rest.split_to(len)?;
+        let mut rest = message;
+        let looked = next_data(&mut self.outbound.windows, id, &mut rest)?;
         self.outbound.states.keep(id, rest);
-        Ok(Looked::Frame(self.outbound.data_frame(id, piece)))
+        Ok(looked)
     }
 
     /// Closes a stream whose trailers are written.

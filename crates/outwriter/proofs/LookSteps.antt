@@ -1,0 +1,106 @@
+-- A look at a stream: at what is in hand, and where that is nothing at what its sender has.
+use Rattle.std.proofs.Common.{◌≡◌, ℕ, ◌==◌, Bool, true, false, true≢false, refl, sym, ap, subst, ◌∙◌, List, [], ◌∷◌, Option, Some, None, is_some}
+use Rattle.std.specs.Prelude.{Result, Ok, if◌then◌else◌}
+use Rattle.std.proofs.lemmas.Bool.{eqb-true}
+use Rattle.account.specs.declared.call.OutItem.{OutItem}
+use Rattle.callbox.specs.declared.sender.Sender.{Sender}
+use Rattle.flow.specs.Windows.{Windows}
+use Rattle.hpack_codec.specs.Codec.{Encoding}
+use Rattle.outwriter.specs.declared.out_core.OutCore.{OutCore}
+use Rattle.outwriter.specs.declared.outbound.Outbound.{Outbound}
+use Rattle.outwriter.specs.declared.stream.Hand.{Hand}
+use Rattle.outwriter.specs.declared.stream.Hand.TheVariants as hand
+use Rattle.outwriter.specs.declared.stream.Looked.{Looked}
+use Rattle.outwriter.specs.declared.stream.OpenStream.{OpenStream}
+use Rattle.outwriter.specs.declared.stream.Polled.{Polled}
+use Rattle.outwriter.specs.declared.stream.Polled.TheVariants as polled
+use Rattle.outwriter.specs.Cores.{calls}
+use Rattle.outwriter.specs.Data.{LooksAtHand}
+use Rattle.outwriter.specs.OpenStreams.{HandIs, HandKeeps, OpenStreams, has_hand, kept, shown, shows, with_hand}
+use Rattle.outwriter.specs.RunState.{IsBetween, Progress}
+use Rattle.outwriter.specs.States.{States, open_at}
+use Rattle.outwriter.specs.StreamLooks.{HoldsOn, LooksAt, SameAhead, SameElsewhere, TakesHand, TellsData, aheads, frame_in}
+use Rattle.outwriter.proofs.DataSteps.{data-progress, tells-data}
+use Rattle.outwriter.proofs.ServeStepsLook.{Took, hand-ahead, look-data, took, took-ahead, took-hand}
+use Rattle.outwriter.proofs.StuckSteps.{looks-data}
+
+-- what is kept of a message, where nothing was in hand
+pub hand-keeps : (id : ℕ) (rest : List ℕ) (old new : OpenStreams) → has_hand (old id) ≡ false → HandKeeps id rest old new → HandIs id (kept rest) old new
+hand-keeps id [] old new none same k = same k ∙ by (k == id) refl
+  where
+    nothing : (hand : Option (List ℕ)) → is_some hand ≡ false → hand ≡ None
+    nothing None e = refl
+    nothing (Some bytes) e = absurd (true≢false e)
+
+    without : (o : Option OpenStream) → has_hand o ≡ false → shown o ≡ with_hand None (shown o)
+    without None e = refl
+    without (Some stream) e = ap (λ (hand : Option (List ℕ)). Some (stream.place, hand)) (nothing stream.in_hand e)
+
+    by : (b : Bool) → (k == id) ≡ b → shows old k ≡ (if b then with_hand None (shows old k) else shows old k)
+    by true p = without (old k) (ap (λ n. has_hand (old n)) (eqb-true k id p) ∙ none)
+    by false p = refl
+hand-keeps id (byte ∷ bytes) old new none is k = is k
+
+-- ---- what is in hand
+
+pub hand-progress : (o : Outbound) (states : States) (windows : Windows) (id : ℕ) (found : Hand) (l : Looked)
+    → LooksAtHand id o.states states o.windows windows found → found ≡ hand.Message l → IsBetween o → Progress (frame_in l) o (record o { states = states; windows = windows })
+hand-progress o states windows id found l at is between =
+    let looks = subst (LooksAtHand id o.states states o.windows windows) is at in
+    data-progress o (record o { states = states; windows = windows }) id looks.3 looks.4 between looks.0
+    (ap (λ (x : States). record o { states = x; windows = windows }) looks.1) l looks.7
+
+module _ {L In Out Shut : Type 0} where
+  pub shut-holds : (got : Out → List OutItem) (old : OutCore L In Out Shut) (states : States) (windows : Windows) (id : ℕ) (found : Hand)
+      → LooksAtHand id old.outbound.states states old.outbound.windows windows found → found ≡ hand.Shut
+      → HoldsOn got None old (record old { outbound = record old.outbound { states = states; windows = windows } })
+  shut-holds got old states windows id found at is =
+      let looks = subst (LooksAtHand id old.outbound.states states old.outbound.windows windows) is at in
+      let same : record old { outbound = record old.outbound { states = states; windows = windows } } ≡ old =
+      ap (λ (x : States). record old { outbound = record old.outbound { states = x; windows = windows } }) looks.0
+      ∙ ap (λ (x : Windows). record old { outbound = record old.outbound { windows = x } }) looks.1 in
+      subst (HoldsOn got None old) (sym same) (λ run h. h)
+
+  module _ (E : Type 0) (got ahead : Out → List OutItem) (old : OutCore L In Out Shut) (states : States) (windows : Windows) (id : ℕ) (found : Hand) (l : Looked)
+      (at : LooksAtHand id old.outbound.states states old.outbound.windows windows found) (is : found ≡ hand.Message l) (between : IsBetween old.outbound) where
+    abbrev after : OutCore L In Out Shut
+    after = record old { outbound = record old.outbound { states = states; windows = windows } }
+
+    looks : LooksAtHand id old.outbound.states states old.outbound.windows windows (hand.Message l)
+    looks = subst (LooksAtHand id old.outbound.states states old.outbound.windows windows) is at
+
+    told : TellsData id looks.3 l old after
+    told = tells-data l old after id looks.3 looks.4 between looks.0 looks.6 (ap (λ (x : States). record old.outbound { states = x; windows = windows }) looks.1) looks.7
+
+    pub hand-holds : HoldsOn got (frame_in l) old after
+    hand-holds = look-data E got ahead old old after id looks.3 (took-hand E got ahead old id looks.2 looks.3 looks.5) refl l told
+
+    pub hand-looks : LooksAt got ahead id l old after
+    hand-looks = looks-data E got ahead old old after id looks.3 (Ok (polled.Message looks.3)) l (took-hand E got ahead old id looks.2 looks.3 looks.5)
+        (hand-ahead ahead old (shows (open_at old.outbound.states) id)) told refl
+
+  -- ---- what the sender has
+
+  module _ (E : Type 0) (got ahead : Out → List OutItem) (old : OutCore L In Out Shut) (states : States) (windows : Windows) (id place : ℕ) (found : Hand)
+      (at : LooksAtHand id old.outbound.states states old.outbound.windows windows found) (is : found ≡ hand.Empty place)
+      (encoder : Option Encoding) (senders : List (ℕ × Sender L In Out Shut)) where
+    sees : LooksAtHand id old.outbound.states states old.outbound.windows windows (hand.Empty place)
+    sees = subst (LooksAtHand id old.outbound.states states old.outbound.windows windows) is at
+
+    pub asked : (mid : OutCore L In Out Shut) (result : Result Polled E) → mid.outbound ≡ record old.outbound { states = states; windows = windows; encoder = encoder }
+        → mid.senders.items ≡ senders
+        → TakesHand None place (calls got old.senders.items) (calls got senders) (aheads ahead senders) old.outbound.encoder encoder result
+        → Took E got ahead old mid id result
+    asked mid result outbound are takes = took got ahead old mid id place None result
+        (outbound ∙ ap (λ (x : States). record old.outbound { states = x; windows = windows; encoder = encoder }) sees.0
+        ∙ ap (λ (x : Windows). record old.outbound { windows = x; encoder = encoder }) sees.1
+        ∙ ap (λ (x : Option Encoding). record old.outbound { encoder = x }) (sym (ap (λ (o : Outbound). o.encoder) outbound)))
+        sees.3
+        (subst (λ (x : Option Encoding). TakesHand None place (calls got old.senders.items) (calls got mid.senders.items) (aheads ahead mid.senders.items) old.outbound.encoder x result)
+        (sym (ap (λ (o : Outbound). o.encoder) outbound))
+        (subst (λ (l : List (ℕ × Sender L In Out Shut)). TakesHand None place (calls got old.senders.items) (calls got l) (aheads ahead l) old.outbound.encoder encoder result) (sym are) takes))
+
+    pub asked-ahead : (mid : OutCore L In Out Shut) → mid.senders.items ≡ senders → SameElsewhere place (aheads ahead old.senders.items) (aheads ahead senders)
+        → SameAhead (shows (open_at old.outbound.states) id) (aheads ahead old.senders.items) (aheads ahead mid.senders.items)
+    asked-ahead mid are same = took-ahead ahead old mid id place None sees.3
+        (subst (λ (l : List (ℕ × Sender L In Out Shut)). SameElsewhere place (aheads ahead old.senders.items) (aheads ahead l)) (sym are) same)
