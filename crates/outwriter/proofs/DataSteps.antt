@@ -61,7 +61,7 @@ module _ (o after : Outbound) (id : ℕ) (message rest : List ℕ) (between : Is
   pub data-progress : (found : Looked) → TakesData id o.windows after.windows message rest found → Progress (frame_in found) o after
   data-progress (looked.Frame frame) takes = λ run m.
       let next = data-written run o.begun o.gone o.windows after.windows o.due.items o.block o.states id takes.0 frame takes.2 between.begun between.going between.no_block
-          can.not_over can.not_reset takes.3 takes.4 (takes.5 can.stream) takes.6 m in
+      can.not_over can.not_reset takes.3 takes.4 (takes.5 can.stream) takes.6 m in
       (next.0, mirrors-but-open (Written frame ∷ run) (record o { windows = after.windows }) after is next.1)
   data-progress looked.Nothing takes = let same = same-windows o after is takes.1 in (λ run m. mirrors-but-open run o after same m, between-still o after same between)
   data-progress looked.Empty takes = let same = same-windows o after is takes.1 in (λ run m. mirrors-but-open run o after same m, between-still o after same between)

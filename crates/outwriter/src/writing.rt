@@ -9,8 +9,7 @@ ghost use Rattle.outwriter.specs.States.{SameOpen, SameOwed, SetsEnd, by_reset, 
 use crate::blocks::HeaderBlock;
 use crate::due::Due;
 use crate::frames::{
-    make_first_settings, make_goaway, make_ping_ack, make_reset, make_settings_ack,
-    make_update,
+    make_first_settings, make_goaway, make_ping_ack, make_reset, make_settings_ack, make_update,
 };
 use crate::outbound::{Outbound, is_stream};
 use crate::states::{Over, StreamStates};
