@@ -1,5 +1,5 @@
 -- DATA of a message: how much of it is taken, and what that changes.
-use Rattle.std.proofs.Common.{◌≡◌, ℕ, Bool, true, nat_lt, ◌<◌, ◌≤◌, refl, sym, ap, subst, ◌∙◌, List, [], ◌∷◌, ◌++◌, Option, Some, None, length, arith}
+use Rattle.std.proofs.Common.{◌≡◌, ℕ, Bool, true, nat_lt, ◌<◌, ◌≤◌, refl, sym, ap, subst, ◌∙◌, List, [], ◌∷◌, ◌++◌, Option, Some, length, arith}
 use Rattle.std.specs.Prelude.{drop, take, map, IfNone, IfSome, ◌^◌, if◌then◌else◌}
 use Rattle.std.proofs.lemmas.Bool.Decides.{nat_tests}
 use Rattle.std.proofs.lemmas.List.{length-take-le, take-append-drop}
@@ -15,9 +15,9 @@ use Rattle.outwriter.specs.Data.{TakesFrames, TakesData}
 use Rattle.outwriter.specs.Frames.{IsSound, data_frame}
 use Rattle.outwriter.specs.OpenStreams.{HandIs, kept}
 use Rattle.outwriter.specs.Parts.{Mark, Byte, on_stream}
-use Rattle.outwriter.specs.RunState.{IsBetween, MirrorsOf, Progress, SameButOpen, SameOwn, spent}
-use Rattle.outwriter.specs.States.{States, open_at, owed_on}
-use Rattle.outwriter.specs.Steps.{Step, Written}
+use Rattle.outwriter.specs.RunState.{IsBetween, Progress, SameButOpen, SameOwn, spent}
+use Rattle.outwriter.specs.States.{open_at, owed_on}
+use Rattle.outwriter.specs.Steps.{Written}
 use Rattle.outwriter.specs.StreamLooks.{TellsData, frame_in}
 use Rattle.outwriter.specs.ToldByNow.{Spells, SpellsOf, TellsMore}
 use Rattle.outwriter.proofs.EndSteps.{data-written}

@@ -1,9 +1,8 @@
 -- A look at a stream: at what is in hand, and where that is nothing at what its sender has.
 use Rattle.std.proofs.Common.{◌≡◌, ℕ, ◌==◌, Bool, true, false, true≢false, refl, sym, ap, subst, ◌∙◌, List, [], ◌∷◌, Option, Some, None, is_some}
-use Rattle.std.specs.Prelude.{Result, Ok, if◌then◌else◌}
+use Rattle.std.specs.Prelude.{Ok, if◌then◌else◌}
 use Rattle.std.proofs.lemmas.Bool.{eqb-true}
 use Rattle.account.specs.declared.call.OutItem.{OutItem}
-use Rattle.callbox.specs.declared.sender.Sender.{Sender}
 use Rattle.flow.specs.Windows.{Windows}
 use Rattle.hpack_codec.specs.Codec.{Encoding}
 use Rattle.outwriter.specs.declared.out_core.OutCore.{OutCore}
@@ -61,7 +60,7 @@ module _ {L In Out Shut : Type 0} where
       ∙ ap (λ (x : Windows). record old { outbound = record old.outbound { windows = x } }) looks.1 in
       subst (HoldsOn got None old) (sym same) (λ run h. h)
 
-  module _ (E : Type 0) (got ahead : Out → List OutItem) (old : OutCore L In Out Shut) (states : States) (windows : Windows) (id : ℕ) (found : Hand) (l : Looked)
+  module _ (got ahead : Out → List OutItem) (old : OutCore L In Out Shut) (states : States) (windows : Windows) (id : ℕ) (found : Hand) (l : Looked)
       (at : LooksAtHand id old.outbound.states states old.outbound.windows windows found) (is : found ≡ hand.Message l) (between : IsBetween old.outbound) where
     abbrev after : OutCore L In Out Shut
     after = record old { outbound = record old.outbound { states = states; windows = windows } }
@@ -73,34 +72,29 @@ module _ {L In Out Shut : Type 0} where
     told = tells-data l old after id looks.3 looks.4 between looks.0 looks.6 (ap (λ (x : States). record old.outbound { states = x; windows = windows }) looks.1) looks.7
 
     pub hand-holds : HoldsOn got (frame_in l) old after
-    hand-holds = look-data E got ahead old old after id looks.3 (took-hand E got ahead old id looks.2 looks.3 looks.5) refl l told
+    hand-holds = look-data got ahead old old after id looks.3 (took-hand got ahead old id looks.2 looks.3 looks.5) refl l told
 
     pub hand-looks : LooksAt got ahead id l old after
-    hand-looks = looks-data E got ahead old old after id looks.3 (Ok (polled.Message looks.3)) l (took-hand E got ahead old id looks.2 looks.3 looks.5)
+    hand-looks = looks-data got ahead old old after id looks.3 (polled.Message looks.3) l (took-hand got ahead old id looks.2 looks.3 looks.5)
         (hand-ahead ahead old (shows (open_at old.outbound.states) id)) told refl
 
   -- ---- what the sender has
 
-  module _ (E : Type 0) (got ahead : Out → List OutItem) (old : OutCore L In Out Shut) (states : States) (windows : Windows) (id place : ℕ) (found : Hand)
+  module _ (got ahead : Out → List OutItem) (old : OutCore L In Out Shut) (states : States) (windows : Windows) (id place : ℕ) (found : Hand)
       (at : LooksAtHand id old.outbound.states states old.outbound.windows windows found) (is : found ≡ hand.Empty place)
-      (encoder : Option Encoding) (senders : List (ℕ × Sender L In Out Shut)) where
+      (encoder : Option Encoding) (mid : OutCore L In Out Shut) (outbound : mid.outbound ≡ record old.outbound { states = states; windows = windows; encoder = encoder }) where
     sees : LooksAtHand id old.outbound.states states old.outbound.windows windows (hand.Empty place)
     sees = subst (LooksAtHand id old.outbound.states states old.outbound.windows windows) is at
 
-    pub asked : (mid : OutCore L In Out Shut) (result : Result Polled E) → mid.outbound ≡ record old.outbound { states = states; windows = windows; encoder = encoder }
-        → mid.senders.items ≡ senders
-        → TakesHand None place (calls got old.senders.items) (calls got senders) (aheads ahead senders) old.outbound.encoder encoder result
-        → Took E got ahead old mid id result
-    asked mid result outbound are takes = took got ahead old mid id place None result
+    pub asked : (result : Polled)
+        → TakesHand {E = Unit {0}} None place (calls got old.senders.items) (calls got mid.senders.items) (aheads ahead mid.senders.items) old.outbound.encoder mid.outbound.encoder (Ok result)
+        → Took got ahead old mid id result
+    asked result takes = took got ahead old mid id place None result
         (outbound ∙ ap (λ (x : States). record old.outbound { states = x; windows = windows; encoder = encoder }) sees.0
         ∙ ap (λ (x : Windows). record old.outbound { windows = x; encoder = encoder }) sees.1
         ∙ ap (λ (x : Option Encoding). record old.outbound { encoder = x }) (sym (ap (λ (o : Outbound). o.encoder) outbound)))
-        sees.3
-        (subst (λ (x : Option Encoding). TakesHand None place (calls got old.senders.items) (calls got mid.senders.items) (aheads ahead mid.senders.items) old.outbound.encoder x result)
-        (sym (ap (λ (o : Outbound). o.encoder) outbound))
-        (subst (λ (l : List (ℕ × Sender L In Out Shut)). TakesHand None place (calls got old.senders.items) (calls got l) (aheads ahead l) old.outbound.encoder encoder result) (sym are) takes))
+        sees.3 takes
 
-    pub asked-ahead : (mid : OutCore L In Out Shut) → mid.senders.items ≡ senders → SameElsewhere place (aheads ahead old.senders.items) (aheads ahead senders)
+    pub asked-ahead : SameElsewhere place (aheads ahead old.senders.items) (aheads ahead mid.senders.items)
         → SameAhead (shows (open_at old.outbound.states) id) (aheads ahead old.senders.items) (aheads ahead mid.senders.items)
-    asked-ahead mid are same = took-ahead ahead old mid id place None sees.3
-        (subst (λ (l : List (ℕ × Sender L In Out Shut)). SameElsewhere place (aheads ahead old.senders.items) (aheads ahead l)) (sym are) same)
+    asked-ahead same = took-ahead ahead old mid id place None sees.3 same

@@ -1,5 +1,5 @@
 -- A look at an open stream: what is taken of it is written, or kept in hand.
-use Rattle.std.proofs.Common.{◌≡◌, ℕ, ◌<◌, ◌==◌, ◌⊎◌, inl, inr, refl, sym, ap, subst, ◌∙◌, Bool, true, false, List, [], ◌∷◌, ◌++◌, Option, Some, None, length, append_assoc, true≢false, arith}
+use Rattle.std.proofs.Common.{◌≡◌, ℕ, ◌<◌, ◌==◌, ◌⊎◌, inl, inr, refl, sym, ap, subst, ◌∙◌, Bool, true, false, List, [], ◌∷◌, ◌++◌, Option, Some, None, length, append_assoc, true≢false}
 use Rattle.std.specs.Prelude.{IfNone, Result, Ok, Err, map, get_or, if◌then◌else◌}
 use Rattle.std.proofs.lemmas.Bool.{eqb-true, eq-eqb}
 use Rattle.std.proofs.lemmas.Grind.{flat_map-append}
@@ -19,7 +19,7 @@ use Rattle.outwriter.specs.declared.stream.Looked.{Looked}
 use Rattle.outwriter.specs.declared.stream.Looked.TheVariants as looked
 use Rattle.outwriter.specs.Calls.{is_served, TellFronts}
 use Rattle.outwriter.specs.Cores.{calls}
-use Rattle.outwriter.specs.States.{SameOpen, SameOwed, StandAs, States, is_heard, knows, over_on, open_at}
+use Rattle.outwriter.specs.States.{SameOpen, SameOwed, States, is_heard, knows, over_on, open_at}
 use Rattle.outwriter.specs.OpenStreams.{Closes, HandIs, OpenStreams, Removes, Shown, kept, shown, shows, with_hand}
 use Rattle.outwriter.specs.RunState.{Ends, Heads, IsBetween, MirrorsOf, Progress, SameButOpen, Stays}
 use Rattle.outwriter.specs.RunState.{Writes as WritesFrame}
@@ -35,7 +35,7 @@ use Rattle.outwriter.proofs.TellStepsOwn.{ends-as, standing-as}
 use Rattle.outwriter.proofs.Others.{later-none, later-written}
 use Rattle.outwriter.proofs.ServeStepsOpen.{Grows, grows-none, grows-one, goes-on, ends}
 use Rattle.outwriter.proofs.RunStateSteps.{mirrors-but-open}
-use Rattle.outwriter.proofs.ServeStepsOwn.{serves-but-open, serves-hands}
+use Rattle.outwriter.proofs.ServeStepsOwn.{serves-but-open}
 
 -- ---- what is told is a front still
 
@@ -67,36 +67,40 @@ fronts-grow run place news calls now g all k d lt = by (k == place) refl
 
 -- ---- what was taken
 
-module _ {E : Type 0} where
-  abbrev bytes_of : Result (Polled) E → List ℕ
-  bytes_of (Ok (polled.Message bytes)) = bytes
-  bytes_of _ = []
+-- the bytes of a message that was found
+abbrev bytes_of : Result Polled (Unit {0}) → List ℕ
+bytes_of (Ok (polled.Message bytes)) = bytes
+bytes_of _ = []
 
-pub takes-message : (E : Type 0) (view : Shown) (old new : List (ℕ × List OutItem)) (ahead : List (List OutItem)) (from to : Option Encoding) (bytes : List ℕ)
-    → TakesAt {E = E} view old new ahead from to (Ok (polled.Message bytes))
+-- this was found
+abbrev Found : Shown → List (ℕ × List OutItem) → List (ℕ × List OutItem) → List (List OutItem) → Option Encoding → Option Encoding → Polled → Type 0
+Found view old new ahead from to found = TakesAt {E = Unit {0}} view old new ahead from to (Ok found)
+
+pub takes-message : (view : Shown) (old new : List (ℕ × List OutItem)) (ahead : List (List OutItem)) (from to : Option Encoding) (bytes : List ℕ)
+    → Found view old new ahead from to (polled.Message bytes)
     → (place : ℕ) × (was : Option (List ℕ)) × (news : List OutItem) × (view ≡ Some (place, was)) × Grows place news old new
     × (bytes_marks was ++ spelled news ≡ map Byte bytes) × (to ≡ from)
-takes-message E None old new ahead from to bytes t = absurd (message-nothing (Ok (polled.Message bytes)) refl t.0)
+takes-message None old new ahead from to bytes t = absurd (message-nothing (Ok (polled.Message bytes)) refl t.0)
   where
-    message-nothing : (r : Result Polled E) → r ≡ Ok (polled.Message bytes) → r ≡ Ok polled.Nothing → ⊥
+    message-nothing : (r : Result Polled (Unit {0})) → r ≡ Ok (polled.Message bytes) → r ≡ Ok polled.Nothing → ⊥
     message-nothing r f e = cc
-takes-message E (Some (place, Some bs)) old new ahead from to bytes t =
-    (place, Some bs, [], refl, grows-none place old new t.1, append-nil (map Byte bs) ∙ ap (map Byte) (sym (ap (bytes_of {E = E}) t.0)), t.2)
-takes-message E (Some (place, None)) old new ahead from to bytes t =
+takes-message (Some (place, Some bs)) old new ahead from to bytes t =
+    (place, Some bs, [], refl, grows-none place old new t.1, append-nil (map Byte bs) ∙ ap (map Byte) (sym (ap (bytes_of) t.0)), t.2)
+takes-message (Some (place, None)) old new ahead from to bytes t =
     (place, None, item.Message bytes ∷ [], refl, grows-one place (item.Message bytes) old new t.0, append-nil (map Byte bytes), t.1)
 
-pub takes-block : (E : Type 0) (view : Shown) (old new : List (ℕ × List OutItem)) (ahead : List (List OutItem)) (from to : Option Encoding) (bytes : List ℕ) (ends_it : Bool)
-    → TakesAt {E = E} view old new ahead from to (Ok (polled.Block bytes ends_it))
+pub takes-block : (view : Shown) (old new : List (ℕ × List OutItem)) (ahead : List (List OutItem)) (from to : Option Encoding) (bytes : List ℕ) (ends_it : Bool)
+    → Found view old new ahead from to (polled.Block bytes ends_it)
     → (place : ℕ) × (fields : List Field) × (view ≡ Some (place, None)) × Grows place (block_item ends_it fields ∷ []) old new × Writes from fields bytes to
-takes-block E None old new ahead from to bytes ends_it t = absurd (block-nothing (Ok (polled.Block bytes ends_it)) refl t.0)
+takes-block None old new ahead from to bytes ends_it t = absurd (block-nothing (Ok (polled.Block bytes ends_it)) refl t.0)
   where
-    block-nothing : (r : Result Polled E) → r ≡ Ok (polled.Block bytes ends_it) → r ≡ Ok polled.Nothing → ⊥
+    block-nothing : (r : Result Polled (Unit {0})) → r ≡ Ok (polled.Block bytes ends_it) → r ≡ Ok polled.Nothing → ⊥
     block-nothing r f e = cc
-takes-block E (Some (place, Some bs)) old new ahead from to bytes ends_it t = absurd (block-message bs (Ok (polled.Block bytes ends_it)) refl t.0)
+takes-block (Some (place, Some bs)) old new ahead from to bytes ends_it t = absurd (block-message bs (Ok (polled.Block bytes ends_it)) refl t.0)
   where
-    block-message : (bs : List ℕ) (r : Result Polled E) → r ≡ Ok (polled.Block bytes ends_it) → r ≡ Ok (polled.Message bs) → ⊥
+    block-message : (bs : List ℕ) (r : Result Polled (Unit {0})) → r ≡ Ok (polled.Block bytes ends_it) → r ≡ Ok (polled.Message bs) → ⊥
     block-message bs r f e = cc
-takes-block E (Some (place, None)) old new ahead from to bytes ends_it t =
+takes-block (Some (place, None)) old new ahead from to bytes ends_it t =
     (place, t.0, refl, grows-one place (block_item ends_it t.0) old new t.1, t.2)
 
 -- nothing was got, or that the call was left
@@ -107,18 +111,18 @@ left-at : (place : ℕ) (old new : List (ℕ × List OutItem)) → GotNone old (
 left-at place old new (inl e) = inl e
 left-at place old new (inr e) = inr (place, refl, e)
 
-pub takes-nothing : (E : Type 0) (view : Shown) (old new : List (ℕ × List OutItem)) (ahead : List (List OutItem)) (from to : Option Encoding)
-    → TakesAt {E = E} view old new ahead from to (Ok polled.Nothing)
+pub takes-nothing : (view : Shown) (old new : List (ℕ × List OutItem)) (ahead : List (List OutItem)) (from to : Option Encoding)
+    → Found view old new ahead from to polled.Nothing
     → LeftAt view old new × (to ≡ from) × (with_hand None view ≡ view) × ((s : ℕ × Option (List ℕ)) → view ≡ Some s → get_or ahead s.0 [] ≡ [])
-takes-nothing E None old new ahead from to t = (inl t.1, t.2, refl, λ s e. absurd (none-is s e))
+takes-nothing None old new ahead from to t = (inl t.1, t.2, refl, λ s e. absurd (none-is s e))
   where
     none-is : (s : ℕ × Option (List ℕ)) → None ≡ Some s → ⊥
     none-is s e = cc
-takes-nothing E (Some (place, Some bs)) old new ahead from to t = absurd (nothing-message bs (Ok polled.Nothing) refl t.0)
+takes-nothing (Some (place, Some bs)) old new ahead from to t = absurd (nothing-message bs (Ok polled.Nothing) refl t.0)
   where
-    nothing-message : (bs : List ℕ) (r : Result Polled E) → r ≡ Ok polled.Nothing → r ≡ Ok (polled.Message bs) → ⊥
+    nothing-message : (bs : List ℕ) (r : Result Polled (Unit {0})) → r ≡ Ok polled.Nothing → r ≡ Ok (polled.Message bs) → ⊥
     nothing-message bs r f e = cc
-takes-nothing E (Some (place, None)) old new ahead from to t = (left-at place old new t.0, t.2, refl, λ s e. ap (λ n. get_or ahead n []) (sym (at s e)) ∙ t.1)
+takes-nothing (Some (place, None)) old new ahead from to t = (left-at place old new t.0, t.2, refl, λ s e. ap (λ n. get_or ahead n []) (sym (at s e)) ∙ t.1)
   where
     at : (s : ℕ × Option (List ℕ)) → Some (place, None) ≡ Some s → place ≡ s.0
     at s e = ap (λ (x : Shown). place_of s x) e
@@ -292,25 +296,25 @@ module _ {L In Out Shut : Type 0} where
       (standing-as old.outbound new.outbound (ap (λ (x : Outbound). x.states) same)) closed heeds
 
   -- what was found, in hand or at the sender, and the encoder after it
-  pub record Took (E : Type 0) (got ahead : Out → List OutItem) (old mid : OutCore L In Out Shut) (id : ℕ) (result : Result Polled E) : Type 0 where
-    pub takes : TakesAt (shows (open_at old.outbound.states) id) (calls got old.senders.items) (calls got mid.senders.items) (aheads ahead mid.senders.items)
-        old.outbound.encoder mid.outbound.encoder result
+  pub record Took (got ahead : Out → List OutItem) (old mid : OutCore L In Out Shut) (id : ℕ) (found : Polled) : Type 0 where
+    pub takes : Found (shows (open_at old.outbound.states) id) (calls got old.senders.items) (calls got mid.senders.items) (aheads ahead mid.senders.items)
+        old.outbound.encoder mid.outbound.encoder found
     pub outbound : mid.outbound ≡ record old.outbound { encoder = mid.outbound.encoder }
 
-  pub took : {E : Type 0} (got ahead : Out → List OutItem) (old mid : OutCore L In Out Shut) (id place : ℕ) (hand : Option (List ℕ)) (result : Result Polled E)
+  pub took : (got ahead : Out → List OutItem) (old mid : OutCore L In Out Shut) (id place : ℕ) (hand : Option (List ℕ)) (found : Polled)
       → mid.outbound ≡ record old.outbound { encoder = mid.outbound.encoder } → shows (open_at old.outbound.states) id ≡ Some (place, hand)
-      → TakesHand hand place (calls got old.senders.items) (calls got mid.senders.items) (aheads ahead mid.senders.items) old.outbound.encoder mid.outbound.encoder result
-      → Took E got ahead old mid id result
-  took got ahead old mid id place hand result outbound there takes = record {
-    takes = subst (λ (v : Shown). TakesAt v (calls got old.senders.items) (calls got mid.senders.items) (aheads ahead mid.senders.items) old.outbound.encoder mid.outbound.encoder result)
+      → TakesHand {E = Unit {0}} hand place (calls got old.senders.items) (calls got mid.senders.items) (aheads ahead mid.senders.items) old.outbound.encoder mid.outbound.encoder (Ok found)
+      → Took got ahead old mid id found
+  took got ahead old mid id place hand found outbound there takes = record {
+    takes = subst (λ (v : Shown). Found v (calls got old.senders.items) (calls got mid.senders.items) (aheads ahead mid.senders.items) old.outbound.encoder mid.outbound.encoder found)
         (sym there) takes;
     outbound = outbound;
   }
 
   -- what was in hand is a message that was begun, and no sender is asked
-  pub took-hand : (E : Type 0) (got ahead : Out → List OutItem) (old : OutCore L In Out Shut) (id place : ℕ) (message : List ℕ)
-      → shows (open_at old.outbound.states) id ≡ Some (place, Some message) → Took E got ahead old old id (Ok (polled.Message message))
-  took-hand E got ahead old id place message there = took {E = E} got ahead old old id place (Some message) (Ok (polled.Message message)) refl there (refl, refl, refl)
+  pub took-hand : (got ahead : Out → List OutItem) (old : OutCore L In Out Shut) (id place : ℕ) (message : List ℕ)
+      → shows (open_at old.outbound.states) id ≡ Some (place, Some message) → Took got ahead old old id (polled.Message message)
+  took-hand got ahead old id place message there = took got ahead old old id place (Some message) (polled.Message message) refl there (refl, refl, refl)
 
   pub hand-ahead : (ahead : Out → List OutItem) (old : OutCore L In Out Shut) (view : Shown) → SameAhead view (aheads ahead old.senders.items) (aheads ahead old.senders.items)
   hand-ahead ahead old None = refl
@@ -325,11 +329,11 @@ module _ {L In Out Shut : Type 0} where
   pub fronts-still : (got : Out → List OutItem) (old mid new : OutCore L In Out Shut) → KeepsFronts got old mid → new.senders ≡ mid.senders → KeepsFronts got old new
   fronts-still got old mid new keeps e run all = subst (λ senders. TellFronts run (calls got senders.items)) (sym e) (keeps run all)
 
-  pub look-nothing : (E : Type 0) (got ahead : Out → List OutItem) (old mid : OutCore L In Out Shut) (id : ℕ) (result : Polled)
-      → Took E got ahead old mid id (Ok result) → result ≡ polled.Nothing → HoldsOn got None old mid
-  look-nothing E got ahead old mid id result took is run (marks, s, heeds) =
-      let t = subst (λ (p : Polled). TakesAt {E = E} (shows (open_at old.outbound.states) id) (calls got old.senders.items) (calls got mid.senders.items) (aheads ahead mid.senders.items) old.outbound.encoder mid.outbound.encoder (Ok p)) is took.takes in
-      let found = takes-nothing E (shows (open_at old.outbound.states) id) (calls got old.senders.items) (calls got mid.senders.items) (aheads ahead mid.senders.items) old.outbound.encoder mid.outbound.encoder t in
+  pub look-nothing : (got ahead : Out → List OutItem) (old mid : OutCore L In Out Shut) (id : ℕ) (result : Polled)
+      → Took got ahead old mid id result → result ≡ polled.Nothing → HoldsOn got None old mid
+  look-nothing got ahead old mid id result took is run (marks, s, heeds) =
+      let t = subst (λ (p : Polled). Found (shows (open_at old.outbound.states) id) (calls got old.senders.items) (calls got mid.senders.items) (aheads ahead mid.senders.items) old.outbound.encoder mid.outbound.encoder p) is took.takes in
+      let found = takes-nothing (shows (open_at old.outbound.states) id) (calls got old.senders.items) (calls got mid.senders.items) (aheads ahead mid.senders.items) old.outbound.encoder mid.outbound.encoder t in
       let same = same-outbound old.outbound mid.outbound took.outbound found.1 in
       let all = told found.0 in (
         all.0,
@@ -346,11 +350,11 @@ module _ {L In Out Shut : Type 0} where
       )
 
   -- a message was found
-  module _ (E : Type 0) (got ahead : Out → List OutItem) (old mid new : OutCore L In Out Shut) (id : ℕ) (bytes : List ℕ)
-      (took_it : Took E got ahead old mid id (Ok (polled.Message bytes))) (senders : new.senders ≡ mid.senders) where
+  module _ (got ahead : Out → List OutItem) (old mid new : OutCore L In Out Shut) (id : ℕ) (bytes : List ℕ)
+      (took_it : Took got ahead old mid id (polled.Message bytes)) (senders : new.senders ≡ mid.senders) where
     found : (place : ℕ) × (was : Option (List ℕ)) × (news : List OutItem) × (shows (open_at old.outbound.states) id ≡ Some (place, was))
         × Grows place news (calls got old.senders.items) (calls got mid.senders.items) × (bytes_marks was ++ spelled news ≡ map Byte bytes) × (mid.outbound.encoder ≡ old.outbound.encoder)
-    found = takes-message E (shows (open_at old.outbound.states) id) (calls got old.senders.items) (calls got mid.senders.items) (aheads ahead mid.senders.items) old.outbound.encoder mid.outbound.encoder bytes took_it.takes
+    found = takes-message (shows (open_at old.outbound.states) id) (calls got old.senders.items) (calls got mid.senders.items) (aheads ahead mid.senders.items) old.outbound.encoder mid.outbound.encoder bytes took_it.takes
 
     same : mid.outbound ≡ old.outbound
     same = same-outbound old.outbound mid.outbound took_it.outbound found.6
@@ -383,15 +387,15 @@ module _ {L In Out Shut : Type 0} where
     look-data looked.Empty from =
         let tells = subst (λ (x : Outbound). TellsData id bytes looked.Empty (record mid { outbound = x }) new) same from in kept-holds None (ap (map Byte) tells.0) tells.1 tells.2
 
-  pub look-block : (E : Type 0) (got ahead : Out → List OutItem) (old mid fin : OutCore L In Out Shut) (after : Outbound) (id : ℕ) (bytes : List ℕ) (ends_it : Bool) (result : Polled) (frame : Frame)
-      → Took E got ahead old mid id (Ok result) → result ≡ polled.Block bytes ends_it
+  pub look-block : (got ahead : Out → List OutItem) (old mid fin : OutCore L In Out Shut) (after : Outbound) (id : ℕ) (bytes : List ℕ) (ends_it : Bool) (result : Polled) (frame : Frame)
+      → Took got ahead old mid id result → result ≡ polled.Block bytes ends_it
       → SameButOpen mid.outbound fin.outbound → Removes id ends_it (open_at mid.outbound.states) (open_at fin.outbound.states) → fin.senders ≡ mid.senders
       → TellsBlock id ends_it bytes frame fin.outbound after → Ends fin.outbound.states id ends_it after.states → SameOwed fin.outbound.states after.states
       → SameOpen fin.outbound.states after.states → after ≡ record fin.outbound { windows = after.windows; states = after.states; block = after.block }
       → HoldsOn got (Some frame) old (record fin { outbound = after })
-  look-block E got ahead old mid fin after id bytes ends_it result frame took is_block outbound removes senders tells over owed same_open is run (marks, s, heeds) =
-      let t = subst (λ (p : Polled). TakesAt {E = E} (shows (open_at old.outbound.states) id) (calls got old.senders.items) (calls got mid.senders.items) (aheads ahead mid.senders.items) old.outbound.encoder mid.outbound.encoder (Ok p)) is_block took.takes in
-      let found = takes-block E (shows (open_at old.outbound.states) id) (calls got old.senders.items) (calls got mid.senders.items) (aheads ahead mid.senders.items) old.outbound.encoder mid.outbound.encoder bytes ends_it t in
+  look-block got ahead old mid fin after id bytes ends_it result frame took is_block outbound removes senders tells over owed same_open is run (marks, s, heeds) =
+      let t = subst (λ (p : Polled). Found (shows (open_at old.outbound.states) id) (calls got old.senders.items) (calls got mid.senders.items) (aheads ahead mid.senders.items) old.outbound.encoder mid.outbound.encoder p) is_block took.takes in
+      let found = takes-block (shows (open_at old.outbound.states) id) (calls got old.senders.items) (calls got mid.senders.items) (aheads ahead mid.senders.items) old.outbound.encoder mid.outbound.encoder bytes ends_it t in
       let leaves : Removes id ends_it (open_at old.outbound.states) (open_at fin.outbound.states) = subst (λ (x : Outbound). Removes id ends_it (open_at x.states) (open_at fin.outbound.states)) took.outbound removes in
       let same : fin.outbound ≡ record old.outbound { encoder = mid.outbound.encoder; states = record old.outbound.states { opened = fin.outbound.states.opened } } =
       outbound ∙ ap (λ (x : Outbound). record x { states = record x.states { opened = fin.outbound.states.opened } }) took.outbound in

@@ -2,7 +2,7 @@
 use Rattle.std.proofs.Common.{◌≡◌, ◌≢◌, ℕ, zero, suc, ◌+◌, ◌<◌, ◌≤◌, ◌^◌, ◌⊎◌, inl, inr, Bool, true, false, cond, sym, ap, subst, ◌∙◌, refl, true≢false, List, [], ◌∷◌, length, get_or, Option, Some, None, arith, nat_eq, is_some, swap}
 use Rattle.std.specs.Map.{lookup, lookup_key, set_value}
 use Rattle.std.specs.Option.{option_map}
-use Rattle.std.specs.Prelude.{◌||◌, ◌&&◌, map, slice_get, if◌then◌else◌, ◌==◌, not, IfSome, IfNone, IfOk, OnSome, MatchOption, Result, Ok, Err, OnOk, OnErr}
+use Rattle.std.specs.Prelude.{◌||◌, ◌&&◌, map, slice_get, if◌then◌else◌, ◌==◌, not, IfSome, IfOk, MatchOption, Result, Ok, Err, OnOk, OnErr}
 use Rattle.std.proofs.lemmas.Map.Steps.{set_value_same}
 use Rattle.std.proofs.lemmas.Bool.{eqb-true, ne_eqb, eq-eqb}
 use Rattle.std.proofs.lemmas.Bool.Decides.{nat_tests}

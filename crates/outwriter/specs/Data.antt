@@ -1,5 +1,5 @@
 -- DATA of a message (RFC 9113, section 6.1), and of what is in hand of a stream.
-use Rattle.std.specs.Prelude.{◌≡◌, ◌⊎◌, ℕ, ◌<◌, ◌≤◌, ◌^◌, nat_eq, false, true, List, [], ◌++◌, length, Option, None, Some, MatchOption}
+use Rattle.std.specs.Prelude.{◌≡◌, ◌⊎◌, ℕ, ◌<◌, ◌≤◌, ◌^◌, nat_eq, false, true, List, [], ◌++◌, length, None, Some, MatchOption}
 use Rattle.std.specs.Map.{lookup, set_value}
 use Rattle.flow.specs.Windows.{Windows, room}
 use Rattle.flow.specs.WindowHistory.{Follows, room_after}
