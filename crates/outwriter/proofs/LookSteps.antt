@@ -12,16 +12,14 @@ use Rattle.outwriter.specs.declared.stream.Hand.TheVariants as hand
 use Rattle.outwriter.specs.declared.stream.Looked.{Looked}
 use Rattle.outwriter.specs.declared.stream.OpenStream.{OpenStream}
 use Rattle.outwriter.specs.declared.stream.Polled.{Polled}
-use Rattle.outwriter.specs.declared.stream.Polled.TheVariants as polled
 use Rattle.outwriter.specs.Cores.{calls}
 use Rattle.outwriter.specs.Data.{LooksAtHand}
 use Rattle.outwriter.specs.OpenStreams.{HandIs, HandKeeps, OpenStreams, has_hand, kept, shown, shows, with_hand}
 use Rattle.outwriter.specs.RunState.{IsBetween, Progress}
 use Rattle.outwriter.specs.States.{States, open_at}
-use Rattle.outwriter.specs.StreamLooks.{HoldsOn, LooksAt, SameAhead, SameElsewhere, TakesHand, TellsData, aheads, frame_in}
+use Rattle.outwriter.specs.StreamLooks.{HoldsOn, SameAhead, SameElsewhere, TakesHand, TellsData, aheads, frame_in}
 use Rattle.outwriter.proofs.DataSteps.{data-progress, tells-data}
-use Rattle.outwriter.proofs.ServeStepsLook.{Took, hand-ahead, look-data, took, took-ahead, took-hand}
-use Rattle.outwriter.proofs.StuckSteps.{looks-data}
+use Rattle.outwriter.proofs.ServeStepsLook.{Took, look-data, took, took-ahead, took-hand}
 
 -- what is kept of a message, where nothing was in hand
 pub hand-keeps : (id : ℕ) (rest : List ℕ) (old new : OpenStreams) → has_hand (old id) ≡ false → HandKeeps id rest old new → HandIs id (kept rest) old new
@@ -73,10 +71,6 @@ module _ {L In Out Shut : Type 0} where
 
     pub hand-holds : HoldsOn got (frame_in l) old after
     hand-holds = look-data got ahead old old after id looks.3 (took-hand got ahead old id looks.2 looks.3 looks.5) refl l told
-
-    pub hand-looks : LooksAt got ahead id l old after
-    hand-looks = looks-data got ahead old old after id looks.3 (polled.Message looks.3) l (took-hand got ahead old id looks.2 looks.3 looks.5)
-        (hand-ahead ahead old (shows (open_at old.outbound.states) id)) told refl
 
   -- ---- what the sender has
 
