@@ -57,47 +57,47 @@ ok-from (Err y) P Q h = h
 
 module _ {L In Out Shut : Type 0} (got : Out → List OutItem) (old : OutCore L In Out Shut) (alive : old.is_dead ≡ false) where
   -- room for what is due
-  pub keeps-room : (made : Outbound) → Takes [] none_is_new [] old.outbound made → KeepsServing got [] old (record old { outbound = made })
+  pub keeps-room : (made : Outbound) → Takes [] none_is_new [] old.sending.outbound made → KeepsServing got [] old.sending (record old.sending { outbound = made })
   keeps-room made takes run marks s =
-      serves-equal run made (open_at old.outbound.states) (open_at made.states) (calls got old.senders.items) (calls got old.senders.items) marks (takes.same_open (λ id. refl)) refl
-      (serves-kept run old.outbound made (open_at old.outbound.states) (calls got old.senders.items) marks takes s)
+      serves-equal run made (open_at old.sending.outbound.states) (open_at made.states) (calls got old.sending.senders.items) (calls got old.sending.senders.items) marks (takes.same_open (λ id. refl)) refl
+      (serves-kept run old.sending.outbound made (open_at old.sending.outbound.states) (calls got old.sending.senders.items) marks takes s)
 
-  heeds-room : (made : Outbound) → Takes [] none_is_new [] old.outbound made → KeepsHeeds got [] old (record old { outbound = made })
+  heeds-room : (made : Outbound) → Takes [] none_is_new [] old.sending.outbound made → KeepsHeeds got [] old.sending (record old.sending { outbound = made })
   heeds-room made takes run marks s heeds =
-      heeds-equal run made (open_at old.outbound.states) (open_at made.states) (takes.same_open (λ id. refl)) (heeds-takes run [] [] old.outbound made (open_at old.outbound.states) takes heeds)
+      heeds-equal run made (open_at old.sending.outbound.states) (open_at made.states) (takes.same_open (λ id. refl)) (heeds-takes run [] [] old.sending.outbound made (open_at old.sending.outbound.states) takes heeds)
 
-  pub serving-room : (made : Outbound) → Takes [] none_is_new [] old.outbound made → ServesStill got old (record old { outbound = made })
-  serving-room made takes = serving-on got old (record old { outbound = made }) [] alive (λ run e. e) (keeps-room made takes) (heeds-room made takes)
+  pub serving-room : (made : Outbound) → Takes [] none_is_new [] old.sending.outbound made → ServesStill got old (record old { sending = record old.sending { outbound = made } })
+  serving-room made takes = serving-on got old (record old { sending = record old.sending { outbound = made } }) [] alive (λ run e. e) (keeps-room made takes) (heeds-room made takes)
 
   -- a control that is none of a stream
   pub serving-plain : (new : OutCore L In Out Shut) (made : Outbound) (control given : Control (Sender L In Out Shut)) (more : List Due)
       → control ≡ given → ((id : ℕ) → opens_stream id (order_of given) ≡ false) → ((id : ℕ) → refuses_stream id (order_of given) ≡ false) → ((id : ℕ) (opened : Bool) → calls_off id opened (order_of given) ≡ false) → ((id : ℕ) → resets_stream id (order_of given) ≡ false) → All IsPlainDue more
-      → (closes (order_of given) || old.closed) ≡ new.closed → new.senders ≡ old.senders
-      → Takes [] none_is_new [] old.outbound made → Takes more none_is_new (limits_of (order_of given)) made new.outbound → ServesOn got (Taken (order_of control)) old new
+      → (closes (order_of given) || old.closed) ≡ new.closed → new.sending.senders ≡ old.sending.senders
+      → Takes [] none_is_new [] old.sending.outbound made → Takes more none_is_new (limits_of (order_of given)) made new.sending.outbound → ServesOn got (Taken (order_of control)) old new
   serving-plain new made control given more is opens refuses calm unreset plain closed senders room takes =
       subst (λ (c : Control (Sender L In Out Shut)). ServesOn got (Taken (order_of c)) old new) (sym is)
       (serving-on got old new (Taken (order_of given) ∷ []) alive (λ run e. ap (λ b. closes (order_of given) || b) e ∙ closed) (λ run marks s.
-      serves-equal (Taken (order_of given) ∷ run) new.outbound (open_at made.states) (open_at new.outbound.states)
-      (calls got old.senders.items) (calls got new.senders.items) marks
+      serves-equal (Taken (order_of given) ∷ run) new.sending.outbound (open_at made.states) (open_at new.sending.outbound.states)
+      (calls got old.sending.senders.items) (calls got new.sending.senders.items) marks
       (takes.same_open (λ id. refl)) (ap (λ list. calls got list.items) senders)
-      (serves-ordered run made new.outbound (open_at made.states) (calls got old.senders.items) marks (order_of given) more opens
+      (serves-ordered run made new.sending.outbound (open_at made.states) (calls got old.sending.senders.items) marks (order_of given) more opens
       (λ id. ap (λ b. if b then false else (if refuses_stream id (order_of given) then false else is_fresh id run)) (opens id)
       ∙ ap (λ b. if b then false else is_fresh id run) (refuses id))
       (λ id. ap (λ b. if b then is_fresh id run else is_served id run) (opens id))
-      (All-weaker IsPlainDue (MayBeDue (Taken (order_of given) ∷ run) new.outbound (open_at made.states))
-      (plain-may (Taken (order_of given) ∷ run) new.outbound (open_at made.states)) more plain)
+      (All-weaker IsPlainDue (MayBeDue (Taken (order_of given) ∷ run) new.sending.outbound (open_at made.states))
+      (plain-may (Taken (order_of given) ∷ run) new.sending.outbound (open_at made.states)) more plain)
       takes
       (keeps-room made room run marks s)))
       (λ run marks s heeds.
-      heeds-equal (Taken (order_of given) ∷ run) new.outbound (open_at made.states) (open_at new.outbound.states) (takes.same_open (λ id. refl))
-      (heeds-calm run (order_of given) more (limits_of (order_of given)) made new.outbound (open_at made.states) calm unreset takes (heeds-room made room run marks s heeds))))
+      heeds-equal (Taken (order_of given) ∷ run) new.sending.outbound (open_at made.states) (open_at new.sending.outbound.states) (takes.same_open (λ id. refl))
+      (heeds-calm run (order_of given) more (limits_of (order_of given)) made new.sending.outbound (open_at made.states) calm unreset takes (heeds-room made room run marks s heeds))))
 
   -- one that is, as it is answered
   pub serving-answered : (new : OutCore L In Out Shut) (made : Outbound) (result : Result (Unit {0}) (OutFault (Sender L In Out Shut)))
-      (control given : Control (Sender L In Out Shut)) → control ≡ given → closes (order_of given) ≡ false → new.closed ≡ old.closed → Takes [] none_is_new [] old.outbound made
-      → OnOk result (IsUnused got given → KeepsServing got (Taken (order_of given) ∷ []) (record old { outbound = made }) new)
-      → OnErr result (KeepsServing got [] (record old { outbound = made }) new)
-      → OnOk result (KeepsHeeds got (Taken (order_of given) ∷ []) (record old { outbound = made }) new) → OnErr result (KeepsHeeds got [] (record old { outbound = made }) new)
+      (control given : Control (Sender L In Out Shut)) → control ≡ given → closes (order_of given) ≡ false → new.closed ≡ old.closed → Takes [] none_is_new [] old.sending.outbound made
+      → OnOk result (IsUnused got given → KeepsServing got (Taken (order_of given) ∷ []) (record old.sending { outbound = made }) new.sending)
+      → OnErr result (KeepsServing got [] (record old.sending { outbound = made }) new.sending)
+      → OnOk result (KeepsHeeds got (Taken (order_of given) ∷ []) (record old.sending { outbound = made }) new.sending) → OnErr result (KeepsHeeds got [] (record old.sending { outbound = made }) new.sending)
       → IfErr result IsMemory → ServesControl got result control old new
   serving-answered new made (Ok done) control given is calm closed room served still ends ends_still memory = λ unused.
       subst (λ (c : Control (Sender L In Out Shut)). ServesOn got (Taken (order_of c)) old new) (sym is)

@@ -22,21 +22,21 @@ use Rattle.outwriter.proofs.Fronts.{fronts_of, returned_of, others_of}
 module _ {L In Out Shut : Type 0} (got : Out → List OutItem) (old new : OutCore L In Out Shut) where
   -- as long as the core lives, what was told follows from what is kept
   pub serving-on : (more : List Step) → old.is_dead ≡ false → ((run : List Step) → is_closed run ≡ old.closed → is_closed (more ++ run) ≡ new.closed)
-      → KeepsServing got more old new → KeepsHeeds got more old new → (run : List Step) → Serving got run old → Serving got (more ++ run) new
+      → KeepsServing got more old.sending new.sending → KeepsHeeds got more old.sending new.sending → (run : List Step) → Serving got run old → Serving got (more ++ run) new
   serving-on more alive closed keeps heeds run s =
       let m = s.serves alive in
       let after = keeps run m.0 m.1 in
       record {
-        fronts = fronts_of (more ++ run) new.outbound (open_at new.outbound.states) (calls got new.senders.items) m.0 after;
-        returned = returned_of (more ++ run) new.outbound (open_at new.outbound.states) (calls got new.senders.items) m.0 after;
-        others = others_of (more ++ run) new.outbound (open_at new.outbound.states) (calls got new.senders.items) m.0 after;
+        fronts = fronts_of (more ++ run) new.sending.outbound (open_at new.sending.outbound.states) (calls got new.sending.senders.items) m.0 after;
+        returned = returned_of (more ++ run) new.sending.outbound (open_at new.sending.outbound.states) (calls got new.sending.senders.items) m.0 after;
+        others = others_of (more ++ run) new.sending.outbound (open_at new.sending.outbound.states) (calls got new.sending.senders.items) m.0 after;
         closed = closed run s.closed;
         serves = λ still. (m.0, after, heeds run m.0 m.1 m.2);
       }
 
   -- credit tells nothing, of a dead core as well
-  pub serving-granted : (id n : ℕ) → new.is_dead ≡ old.is_dead → new.closed ≡ old.closed → calls got new.senders.items ≡ calls got old.senders.items
-      → KeepsServing got (Granted id n ∷ []) old new → KeepsHeeds got (Granted id n ∷ []) old new → ServesOn got (Granted id n) old new
+  pub serving-granted : (id n : ℕ) → new.is_dead ≡ old.is_dead → new.closed ≡ old.closed → calls got new.sending.senders.items ≡ calls got old.sending.senders.items
+      → KeepsServing got (Granted id n ∷ []) old.sending new.sending → KeepsHeeds got (Granted id n ∷ []) old.sending new.sending → ServesOn got (Granted id n) old new
   serving-granted id n same closed senders keeps heeds run s = record {
     fronts = subst (λ (l : List (ℕ × List OutItem)). TellFronts (Granted id n ∷ run) l) (sym senders) s.fronts;
     returned = s.returned;
@@ -47,16 +47,16 @@ module _ {L In Out Shut : Type 0} (got : Out → List OutItem) (old new : OutCor
 
 -- a core of which nothing is kept
 module _ {L In Out Shut : Type 0} (got : Out → List OutItem) (core : OutCore L In Out Shut) where
-  pub serving-nothing : core.closed ≡ false → core.senders.items ≡ []
-      → SpellsOf [] core.outbound [] → core.outbound.due.items ≡ [] → core.outbound.states ≡ nothing_known
+  pub serving-nothing : core.closed ≡ false → core.sending.senders.items ≡ []
+      → SpellsOf [] core.sending.outbound [] → core.sending.outbound.due.items ≡ [] → core.sending.outbound.states ≡ nothing_known
       → Serving got [] core
   serving-nothing closed senders spells due states =
-      let none : calls got core.senders.items ≡ [] = ap (calls got) senders in
-      let serves = serves-nothing core.outbound (open_at core.outbound.states) (calls got core.senders.items) spells due states (ap (λ (s : States). (open_at s)) states) none in
+      let none : calls got core.sending.senders.items ≡ [] = ap (calls got) senders in
+      let serves = serves-nothing core.sending.outbound (open_at core.sending.outbound.states) (calls got core.sending.senders.items) spells due states (ap (λ (s : States). (open_at s)) states) none in
       record {
-        fronts = fronts_of [] core.outbound (open_at core.outbound.states) (calls got core.senders.items) [] serves;
-        returned = returned_of [] core.outbound (open_at core.outbound.states) (calls got core.senders.items) [] serves;
-        others = others_of [] core.outbound (open_at core.outbound.states) (calls got core.senders.items) [] serves;
+        fronts = fronts_of [] core.sending.outbound (open_at core.sending.outbound.states) (calls got core.sending.senders.items) [] serves;
+        returned = returned_of [] core.sending.outbound (open_at core.sending.outbound.states) (calls got core.sending.senders.items) [] serves;
+        others = others_of [] core.sending.outbound (open_at core.sending.outbound.states) (calls got core.sending.senders.items) [] serves;
         closed = sym closed;
         serves = λ still. (
           [],

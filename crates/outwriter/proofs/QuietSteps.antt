@@ -8,6 +8,7 @@ use Rattle.account.specs.declared.call.OutItem.{OutItem}
 use Rattle.callbox.specs.declared.sender.Sender.{Sender}
 use Rattle.flow.specs.Windows.{room}
 use Rattle.outwriter.specs.declared.out_core.OutCore.{OutCore}
+use Rattle.outwriter.specs.declared.sending.Sending.{Sending}
 use Rattle.outwriter.specs.declared.stream.OpenStream.{OpenStream}
 use Rattle.h2frame.specs.declared.frame.Frame.{Frame}
 use Rattle.outwriter.specs.Cores.{calls, lanes, AreStuck, IsStuck, IsQuiet, HasNoFrame, Ended, WasReset, Stuck, HaveNoFrame}
@@ -50,15 +51,15 @@ module _ {L In Out Shut : Type 0} where
 
 module _ {L In Out Shut : Type 0} (got ahead : Out → List OutItem) where
   -- nothing can be written on the streams of the first senders
-  abbrev pub StuckBelow : ℕ → OutCore L In Out Shut → OutCore L In Out Shut → Type 0
+  abbrev pub StuckBelow : ℕ → Sending L In Out Shut → Sending L In Out Shut → Type 0
   StuckBelow n old new = (numbers new.senders.items ≡ numbers old.senders.items)
       × ((run : List Step) → Holds got run old → Holds got run new × ((k : ℕ) → k < n → StuckAt ahead (get_or (numbers old.senders.items) k 0) new))
 
-  pub stuck-below-none : (core : OutCore L In Out Shut) → StuckBelow 0 core core
+  pub stuck-below-none : (core : Sending L In Out Shut) → StuckBelow 0 core core
   stuck-below-none core = (refl, λ run h. (h, λ k within. absurd (omega (arith, within))))
 
   -- with one more
-  pub stuck-below-more : (n : ℕ) (old mid new : OutCore L In Out Shut) (id : ℕ) → StuckBelow n old mid → get_or (numbers mid.senders.items) n 0 ≡ id
+  pub stuck-below-more : (n : ℕ) (old mid new : Sending L In Out Shut) (id : ℕ) → StuckBelow n old mid → get_or (numbers mid.senders.items) n 0 ≡ id
       → HoldsOn got None mid new → numbers new.senders.items ≡ numbers mid.senders.items → GetsStuck got ahead id mid new → StuckBelow (n + 1) old new
   stuck-below-more n old mid new id below at keeps same gets =
       (same ∙ below.0, λ run h. (keeps run (below.1 run h).0, λ k within. by run h k within (nat_eq (get_or (numbers old.senders.items) k 0) id) refl))
@@ -77,7 +78,7 @@ module _ {L In Out Shut : Type 0} (got ahead : Out → List OutItem) where
           (gets run (below.1 run h).0).1 (get_or (numbers old.senders.items) k 0) apart ((below.1 run h).1 k less)
 
   -- with all of them: each open stream has its sender
-  pub all-stuck : (n : ℕ) (old new : OutCore L In Out Shut) → StuckBelow n old new → length old.senders.items ≤ n → (run : List Step) → Holds got run old
+  pub all-stuck : (n : ℕ) (old new : Sending L In Out Shut) → StuckBelow n old new → length old.senders.items ≤ n → (run : List Step) → Holds got run old
       → AreStuck new.outbound (open_at new.outbound.states) (aheads ahead new.senders.items)
   all-stuck n old new below all run h id stream found =
       let call_of : ℕ × Sender L In Out Shut → ℕ × List OutItem = λ call. (call.0, got call.1.rx) in
@@ -100,94 +101,92 @@ module _ {L In Out Shut : Type 0} (got ahead : Out → List OutItem) where
 
 module _ {L In Out Shut Name : Type 0} (got ahead : Out → List OutItem) (name : Out → Name) where
   -- what holds of the loop over all senders
-  abbrev pub Looked : ℕ → OutCore L In Out Shut → OutCore L In Out Shut → Type 0
-  Looked n old now = IsBetween now.outbound × SameOwn old.outbound now.outbound × Stays old.outbound now.outbound × (now.closed ≡ old.closed)
-      × HoldsOn got None old now × KeepsFronts got old now × (now.is_dead ≡ old.is_dead)
+  abbrev pub Looked : ℕ → Sending L In Out Shut → Sending L In Out Shut → Type 0
+  Looked n old now = IsBetween now.outbound × SameOwn old.outbound now.outbound × Stays old.outbound now.outbound
+      × HoldsOn got None old now × KeepsFronts got old now
       × (lanes name now.senders.items ≡ lanes name old.senders.items) × StuckBelow got ahead n old now
 
   -- after a stream that has no frame
-  pub looked-more : (n : ℕ) (old mid new : OutCore L In Out Shut) (id : ℕ) (o : Option Frame) → o ≡ None → Looked n old mid → get_or (numbers mid.senders.items) n 0 ≡ id
-      → Progress o mid.outbound new.outbound → IfNone o (SameOwn mid.outbound new.outbound) → new.closed ≡ mid.closed → HoldsOn got o mid new
-      → KeepsFronts got mid new → new.is_dead ≡ mid.is_dead → lanes name new.senders.items ≡ lanes name mid.senders.items
+  pub looked-more : (n : ℕ) (old mid new : Sending L In Out Shut) (id : ℕ) (o : Option Frame) → o ≡ None → Looked n old mid → get_or (numbers mid.senders.items) n 0 ≡ id
+      → Progress o mid.outbound new.outbound → IfNone o (SameOwn mid.outbound new.outbound) → HoldsOn got o mid new
+      → KeepsFronts got mid new → lanes name new.senders.items ≡ lanes name mid.senders.items
       → IfNone o (GetsStuck got ahead id mid new) → Looked (n + 1) old new
-  looked-more n old mid new id (Some frame) e l at progress own closed served fronts dead senders gets = absurd (some-is e)
+  looked-more n old mid new id (Some frame) e l at progress own served fronts senders gets = absurd (some-is e)
     where
       some-is : Some frame ≡ None → ⊥
       some-is f = cc
-  looked-more n old mid new id None e l at progress own closed served fronts dead senders gets = (
+  looked-more n old mid new id None e l at progress own served fronts senders gets = (
     progress.1,
     own-then old.outbound mid.outbound new.outbound l.1 own,
     λ run m. progress.0 run (l.2 run m),
-    closed ∙ l.3,
-    λ run h. served run (l.4 run h),
-    λ run f. fronts run (l.5 run f),
-    dead ∙ l.6,
-    senders ∙ l.7,
-    stuck-below-more got ahead n old mid new id l.8 at served (same-numbers name mid.senders.items new.senders.items senders) gets,
+    λ run h. served run (l.3 run h),
+    λ run f. fronts run (l.4 run f),
+    senders ∙ l.5,
+    stuck-below-more got ahead n old mid new id l.6 at served (same-numbers name mid.senders.items new.senders.items senders) gets,
   )
 
 -- what is stuck behind a step that writes nothing
 module _ {L In Out Shut : Type 0} (got ahead : Out → List OutItem) {E : Type 0} where
-  pub stuck-after : (old mid new : OutCore L In Out Shut) (r : Result (Option Frame) E) → HoldsOn got None old mid
+  pub stuck-after : (old mid new : Sending L In Out Shut) (r : Result (Option Frame) E) → HoldsOn got None old mid
       → IfOk r (λ o. IfNone o (AllStuck got ahead mid new)) → IfOk r (λ o. IfNone o (AllStuck got ahead old new))
   stuck-after old mid new (Ok None) keeps stuck = λ run h. stuck run (keeps run h)
   stuck-after old mid new (Ok (Some frame)) keeps stuck = tt
   stuck-after old mid new (Err e) keeps stuck = tt
 
-  pub quiet-after : (old mid new : OutCore L In Out Shut) (r : Result (Option Frame) E) → HoldsOn got None old mid
+  pub quiet-after : (old mid new : Sending L In Out Shut) (r : Result (Option Frame) E) → HoldsOn got None old mid
       → IfOk r (λ o. IfNone o (AllStuck got ahead mid new)) → IfOk r (λ o. IfNone o (GetsQuiet got ahead old new))
   quiet-after old mid new (Ok None) keeps stuck = λ run h. inr (stuck run (keeps run h))
   quiet-after old mid new (Ok (Some frame)) keeps stuck = tt
   quiet-after old mid new (Err e) keeps stuck = tt
 
 -- a frame that isn't there
-pub holds-none : {L In Out Shut : Type 0} (got : Out → List OutItem) (old new : OutCore L In Out Shut) (o : Option Frame) → o ≡ None → HoldsOn got o old new → HoldsOn got None old new
+pub holds-none : {L In Out Shut : Type 0} (got : Out → List OutItem) (old new : Sending L In Out Shut) (o : Option Frame) → o ≡ None → HoldsOn got o old new → HoldsOn got None old new
 holds-none got old new o e = subst (λ (x : Option Frame). HoldsOn got x old new) e
 
 -- ---- each call
 
 module _ {L In Out Shut : Type 0} (got ahead : Out → List OutItem) (run : List Step) (core : OutCore L In Out Shut) (marks : List (ℕ × Mark))
-    (s : Serves run core.outbound (open_at core.outbound.states) (calls got core.senders.items) marks) (over : HasOver run core.outbound.states)
-    (stuck : AreStuck core.outbound (open_at core.outbound.states) (aheads ahead core.senders.items)) where
+    (s : Serves run core.sending.outbound (open_at core.sending.outbound.states) (calls got core.sending.senders.items) marks) (over : HasOver run core.sending.outbound.states)
+    (stuck : AreStuck core.sending.outbound (open_at core.sending.outbound.states) (aheads ahead core.sending.senders.items)) where
   -- the call of an open stream stands at the stream's place
-  place-of : (k : ℕ) (d : ℕ × List OutItem) (stream : OpenStream) → k < length (calls got core.senders.items)
-      → (open_at core.outbound.states) (get_or (calls got core.senders.items) k d).0 ≡ Some stream
-      → is_served (get_or (calls got core.senders.items) k d).0 run ≡ true → stream.place ≡ k
+  place-of : (k : ℕ) (d : ℕ × List OutItem) (stream : OpenStream) → k < length (calls got core.sending.senders.items)
+      → (open_at core.sending.outbound.states) (get_or (calls got core.sending.senders.items) k d).0 ≡ Some stream
+      → is_served (get_or (calls got core.sending.senders.items) k d).0 run ≡ true → stream.place ≡ k
   place-of k d stream within found served = by (nat_eq stream.place k) refl
     where
       by : (b : Bool) → nat_eq stream.place k ≡ b → stream.place ≡ k
       by true e = eqb-true stream.place k e
       by false e =
-          let there = s.exact (get_or (calls got core.senders.items) k d).0 stream found in
-          let not : is_served (get_or (calls got core.senders.items) stream.place d).0 run ≡ false =
+          let there = s.exact (get_or (calls got core.sending.senders.items) k d).0 stream found in
+          let not : is_served (get_or (calls got core.sending.senders.items) stream.place d).0 run ≡ false =
           s.apart stream.place k d there.0 within (λ same. true≢false (sym (eq-eqb stream.place k same) ∙ e)) (there.1 d).0 in
           absurd (true≢false (sym (ap (λ n. is_served n run) (there.1 d).0 ∙ served) ∙ not))
 
-  no-frame-at : (k : ℕ) (d : ℕ × Sender L In Out Shut) → k < length core.senders.items → (id : ℕ) → (get_or core.senders.items k d).0 ≡ id
-      → is_served id run ≡ true → is_stream id ≡ true → (found : Option OpenStream) → (open_at core.outbound.states) id ≡ found
-      → HasNoFrame run core id (ahead (get_or core.senders.items k d).1.rx)
+  no-frame-at : (k : ℕ) (d : ℕ × Sender L In Out Shut) → k < length core.sending.senders.items → (id : ℕ) → (get_or core.sending.senders.items k d).0 ≡ id
+      → is_served id run ≡ true → is_stream id ≡ true → (found : Option OpenStream) → (open_at core.sending.outbound.states) id ≡ found
+      → HasNoFrame run core id (ahead (get_or core.sending.senders.items k d).1.rx)
   no-frame-at k d within id is served there None e = by (s.stays id served there e)
     where
-      by : (is_some (over_on core.outbound.states id) ≡ true) ⊎ (was_reset id run ≡ true) → HasNoFrame run core id (ahead (get_or core.senders.items k d).1.rx)
+      by : (is_some (over_on core.sending.outbound.states id) ≡ true) ⊎ (was_reset id run ≡ true) → HasNoFrame run core id (ahead (get_or core.sending.senders.items k d).1.rx)
       by (inl ended) = Ended (sym (over id).0 ∙ ended)
       by (inr reset) = WasReset reset
   no-frame-at k d within id is served there (Some stream) e =
       let call : ℕ × Sender L In Out Shut → ℕ × List OutItem = λ c. (c.0, got c.1.rx) in
-      let at : get_or (calls got core.senders.items) k (0, []) ≡ ((get_or core.senders.items k d).0, got (get_or core.senders.items k d).1.rx) =
-      get_or-map call core.senders.items k d (0, []) within in
-      let number : (get_or (calls got core.senders.items) k (0, [])).0 ≡ id = ap (λ (c : ℕ × List OutItem). c.0) at ∙ is in
+      let at : get_or (calls got core.sending.senders.items) k (0, []) ≡ ((get_or core.sending.senders.items k d).0, got (get_or core.sending.senders.items k d).1.rx) =
+      get_or-map call core.sending.senders.items k d (0, []) within in
+      let number : (get_or (calls got core.sending.senders.items) k (0, [])).0 ≡ id = ap (λ (c : ℕ × List OutItem). c.0) at ∙ is in
       let place : stream.place ≡ k =
-      place-of k (0, []) stream (omega (arith, within, length-map core.senders.items call))
-      (ap (λ n. (open_at core.outbound.states) n) number ∙ e) (ap (λ n. is_served n run) number ∙ served) in
-      let hand : get_or (aheads ahead core.senders.items) stream.place [] ≡ ahead (get_or core.senders.items k d).1.rx =
-      ap (λ n. get_or (aheads ahead core.senders.items) n []) place ∙ get_or-map (λ (c : ℕ × Sender L In Out Shut). ahead c.1.rx) core.senders.items k d [] within in
-      Stuck stream e (subst (IsStuck (room core.outbound.windows id) stream.in_hand) hand (stuck id stream e))
+      place-of k (0, []) stream (omega (arith, within, length-map core.sending.senders.items call))
+      (ap (λ n. (open_at core.sending.outbound.states) n) number ∙ e) (ap (λ n. is_served n run) number ∙ served) in
+      let hand : get_or (aheads ahead core.sending.senders.items) stream.place [] ≡ ahead (get_or core.sending.senders.items k d).1.rx =
+      ap (λ n. get_or (aheads ahead core.sending.senders.items) n []) place ∙ get_or-map (λ (c : ℕ × Sender L In Out Shut). ahead c.1.rx) core.sending.senders.items k d [] within in
+      Stuck stream e (subst (IsStuck (room core.sending.outbound.windows id) stream.in_hand) hand (stuck id stream e))
 
-  pub all-no-frame : All (λ call. is_served call.0 run ≡ true → is_stream call.0 ≡ true → HasNoFrame run core call.0 (ahead call.1.rx)) core.senders.items
+  pub all-no-frame : All (λ call. is_served call.0 run ≡ true → is_stream call.0 ≡ true → HasNoFrame run core call.0 (ahead call.1.rx)) core.sending.senders.items
   all-no-frame k d within served there =
-      no-frame-at k d within (get_or core.senders.items k d).0 refl served there ((open_at core.outbound.states) (get_or core.senders.items k d).0) refl
+      no-frame-at k d within (get_or core.sending.senders.items k d).0 refl served there ((open_at core.sending.outbound.states) (get_or core.sending.senders.items k d).0) refl
 
-pub no-frame-if : {L In Out Shut : Type 0} (got ahead : Out → List OutItem) (run : List Step) (core : OutCore L In Out Shut) → Holds got run core
-    → HasOver run core.outbound.states → IsQuiet ahead core → HaveNoFrame ahead run core
+pub no-frame-if : {L In Out Shut : Type 0} (got ahead : Out → List OutItem) (run : List Step) (core : OutCore L In Out Shut) → Holds got run core.sending
+    → HasOver run core.sending.outbound.states → IsQuiet ahead core.sending → HaveNoFrame ahead run core
 no-frame-if got ahead run core (marks, s, heeds) over (inl gone) = inl gone
 no-frame-if got ahead run core (marks, s, heeds) over (inr stuck) = inr (all-no-frame got ahead run core marks s over stuck)

@@ -309,27 +309,27 @@ module _ {L In Out Shut : Type 0} (got : Out → List OutItem) where
   call-at senders place entry d within is =
       get_or-map (λ (call : ℕ × Sender L In Out Shut). (call.0, got call.1.rx)) senders place entry d within ∙ ap (λ (call : ℕ × Sender L In Out Shut). (call.0, got call.1.rx)) (sym is)
 
-  pub serving-returned : (old new : OutCore L In Out Shut) (place moved id : ℕ) (items : List OutItem) → new ≡ record old { senders = new.senders; outbound = new.outbound } → SameButOpen old.outbound new.outbound
-      → TakesOut place (calls got old.senders.items) (calls got new.senders.items)
-      → (place < length (calls got new.senders.items) → (get_or (calls got new.senders.items) place (0, [])).0 ≡ moved)
-      → Follows place (length (calls got new.senders.items)) moved (open_at old.outbound.states) (open_at new.outbound.states)
-      → ((d : ℕ × List OutItem) → get_or (calls got old.senders.items) place d ≡ (id, items)) → (open_at old.outbound.states) id ≡ None
+  pub serving-returned : (old new : OutCore L In Out Shut) (place moved id : ℕ) (items : List OutItem) → new ≡ record old { sending = record old.sending { senders = new.sending.senders; outbound = new.sending.outbound } } → SameButOpen old.sending.outbound new.sending.outbound
+      → TakesOut place (calls got old.sending.senders.items) (calls got new.sending.senders.items)
+      → (place < length (calls got new.sending.senders.items) → (get_or (calls got new.sending.senders.items) place (0, [])).0 ≡ moved)
+      → Follows place (length (calls got new.sending.senders.items)) moved (open_at old.sending.outbound.states) (open_at new.sending.outbound.states)
+      → ((d : ℕ × List OutItem) → get_or (calls got old.sending.senders.items) place d ≡ (id, items)) → (open_at old.sending.outbound.states) id ≡ None
       → ServesOn got (Returned id items) old new
   serving-returned old new place moved id items rest same_out t moved_is f is none run s =
       subst (λ (x : OutCore L In Out Shut). Serving got (Returned id items ∷ run) x) (sym rest) (record {
-        fronts = λ k d lt. let c = source place (calls got old.senders.items) (calls got new.senders.items) t k d lt in
+        fronts = λ k d lt. let c = source place (calls got old.sending.senders.items) (calls got new.sending.senders.items) t k d lt in
             subst (λ (call : ℕ × List OutItem). is_served call.0 run ≡ true → Front call.0 call.1) (sym c.1)
-            (s.fronts (came-from place (length (calls got new.senders.items)) k) d c.0);
+            (s.fronts (came-from place (length (calls got new.sending.senders.items)) k) d c.0);
         returned = λ k given r. given-back k given r;
         others = s.others;
         closed = s.closed;
         serves = λ alive. let m = s.serves alive in (
           m.0,
-          serves-but-open (Returned id items ∷ run) old.outbound new.outbound (open_at new.outbound.states) (calls got new.senders.items) m.0 same_out
-              (serves-returned run old.outbound (open_at old.outbound.states) (open_at new.outbound.states) (calls got old.senders.items) (calls got new.senders.items) m.0
+          serves-but-open (Returned id items ∷ run) old.sending.outbound new.sending.outbound (open_at new.sending.outbound.states) (calls got new.sending.senders.items) m.0 same_out
+              (serves-returned run old.sending.outbound (open_at old.sending.outbound.states) (open_at new.sending.outbound.states) (calls got old.sending.senders.items) (calls got new.sending.senders.items) m.0
               place moved id items t moved_is f is none m.1),
-          heeds-but-open (Returned id items ∷ run) old.outbound new.outbound (open_at new.outbound.states) same_out
-              (heeds-kept run old.outbound old.outbound (open_at old.outbound.states) (open_at new.outbound.states) (λ k there e. e) (λ k. (refl, refl, λ e. e)) f.closed m.2),
+          heeds-but-open (Returned id items ∷ run) old.sending.outbound new.sending.outbound (open_at new.sending.outbound.states) same_out
+              (heeds-kept run old.sending.outbound old.sending.outbound (open_at old.sending.outbound.states) (open_at new.sending.outbound.states) (λ k there e. e) (λ k. (refl, refl, λ e. e)) f.closed m.2),
         );
       })
     where
@@ -343,43 +343,32 @@ module _ {L In Out Shut : Type 0} (got : Out → List OutItem) where
           subst (λ (call : ℕ × List OutItem). is_served call.0 run ≡ true → Front call.0 call.1) (is (0, [])) (s.fronts place (0, []) t.within) in
           subst (λ n. Front n given) (sym same) (subst (λ (l : List OutItem). Front id l) (sym e) (here (ap (λ n. is_served n run) (sym same) ∙ served)))
 
-  pub released : (old mid new : OutCore L In Out Shut) (place id : ℕ) (entry : ℕ × Sender L In Out Shut) → mid ≡ record old { senders = mid.senders }
-      → new ≡ record mid { outbound = new.outbound } → SameButOpen mid.outbound new.outbound → IsAt id place old.senders.items → entry ≡ get_or old.senders.items place entry
-      → mid.senders.items ≡ swap_remove old.senders.items place entry → (open_at old.outbound.states) id ≡ None
-      → MovedTo place mid.senders.items (open_at old.outbound.states) (open_at new.outbound.states)
+  pub released : (old new : OutCore L In Out Shut) (place id : ℕ) (entry : ℕ × Sender L In Out Shut)
+      → new ≡ record old { sending = record old.sending { senders = new.sending.senders; outbound = new.sending.outbound } } → SameButOpen old.sending.outbound new.sending.outbound
+      → IsAt id place old.sending.senders.items → entry ≡ get_or old.sending.senders.items place entry
+      → new.sending.senders.items ≡ swap_remove old.sending.senders.items place entry → (open_at old.sending.outbound.states) id ≡ None
+      → MovedTo place new.sending.senders.items (open_at old.sending.outbound.states) (open_at new.sending.outbound.states)
       → ServesOn got (Returned id (got entry.1.rx)) old new
-  released old mid new place id entry before after same_out at is removed none moved =
-      let removed_new : new.senders.items ≡ swap_remove old.senders.items place entry = ap (λ (x : OutCore L In Out Shut). x.senders.items) after ∙ removed in
-      let t = takes-out old.senders.items new.senders.items place entry at.0 removed_new in
+  released old new place id entry rest same_out at is removed none moved =
       let same : entry.0 ≡ id = ap (λ (e : ℕ × Sender L In Out Shut). e.0) is ∙ at.1 entry in
-      let call : (d : ℕ × List OutItem) → get_or (calls got old.senders.items) place d ≡ (id, got entry.1.rx) =
-      λ d. call-at old.senders.items place entry d at.0 is ∙ ap (λ n. (n, got entry.1.rx)) same in
-      by t call (subst (λ (l : List (ℕ × Sender L In Out Shut)). MovedTo place l (open_at old.outbound.states) (open_at new.outbound.states))
-      (sym (ap (λ (x : OutCore L In Out Shut). x.senders.items) after)) moved)
+      by (takes-out old.sending.senders.items new.sending.senders.items place entry at.0 removed)
+      (λ d. call-at old.sending.senders.items place entry d at.0 is ∙ ap (λ n. (n, got entry.1.rx)) same) moved
     where
-      rest : new ≡ record old { senders = new.senders; outbound = new.outbound }
-      rest =
-          let e : new ≡ record old { senders = mid.senders; outbound = new.outbound } = after ∙ ap (λ (x : OutCore L In Out Shut). record x { outbound = new.outbound }) before in
-          subst (λ senders. new ≡ record old { senders = senders; outbound = new.outbound }) (sym (ap (λ (x : OutCore L In Out Shut). x.senders) after)) e
+      short : length (calls got new.sending.senders.items) ≡ length new.sending.senders.items
+      short = length-map new.sending.senders.items (λ (call : ℕ × Sender L In Out Shut). (call.0, got call.1.rx))
 
-      but_open : SameButOpen old.outbound new.outbound
-      but_open = subst (λ (o : Outbound). SameButOpen o new.outbound) (ap (λ (x : OutCore L In Out Shut). x.outbound) before) same_out
-
-      short : length (calls got new.senders.items) ≡ length new.senders.items
-      short = length-map new.senders.items (λ (call : ℕ × Sender L In Out Shut). (call.0, got call.1.rx))
-
-      by : TakesOut place (calls got old.senders.items) (calls got new.senders.items) → ((d : ℕ × List OutItem) → get_or (calls got old.senders.items) place d ≡ (id, got entry.1.rx))
-          → MovedTo place new.senders.items (open_at old.outbound.states) (open_at new.outbound.states) → ServesOn got (Returned id (got entry.1.rx)) old new
+      by : TakesOut place (calls got old.sending.senders.items) (calls got new.sending.senders.items) → ((d : ℕ × List OutItem) → get_or (calls got old.sending.senders.items) place d ≡ (id, got entry.1.rx))
+          → MovedTo place new.sending.senders.items (open_at old.sending.outbound.states) (open_at new.sending.outbound.states) → ServesOn got (Returned id (got entry.1.rx)) old new
       by t call (inl (moved, at_place, is_there)) =
-          serving-returned old new place moved.0 id (got entry.1.rx) rest but_open t
-          (λ lt. ap (λ (c : ℕ × List OutItem). c.0) (call-at new.senders.items place moved (0, []) (omega (arith, lt, short)) at_place))
-          (subst (λ n. Follows place n moved.0 (open_at old.outbound.states) (open_at new.outbound.states)) (sym short)
-          (follows-moved place (length new.senders.items) moved.0 (open_at old.outbound.states) (open_at new.outbound.states) is_there))
+          serving-returned old new place moved.0 id (got entry.1.rx) rest same_out t
+          (λ lt. ap (λ (c : ℕ × List OutItem). c.0) (call-at new.sending.senders.items place moved (0, []) (omega (arith, lt, short)) at_place))
+          (subst (λ n. Follows place n moved.0 (open_at old.sending.outbound.states) (open_at new.sending.outbound.states)) (sym short)
+          (follows-moved place (length new.sending.senders.items) moved.0 (open_at old.sending.outbound.states) (open_at new.sending.outbound.states) is_there))
           call none
       by t call (inr (same, out)) =
-          let out_of : place < length (calls got new.senders.items) → ⊥ = λ lt. out (omega (arith, lt, short)) in
-          serving-returned old new place 0 id (got entry.1.rx) rest but_open t (λ lt. absurd (out_of lt))
-          (follows-same place (length (calls got new.senders.items)) 0 (open_at old.outbound.states) (open_at new.outbound.states) same out_of)
+          let out_of : place < length (calls got new.sending.senders.items) → ⊥ = λ lt. out (omega (arith, lt, short)) in
+          serving-returned old new place 0 id (got entry.1.rx) rest same_out t (λ lt. absurd (out_of lt))
+          (follows-same place (length (calls got new.sending.senders.items)) 0 (open_at old.sending.outbound.states) (open_at new.sending.outbound.states) same out_of)
           call none
 
   pub released-entry : (old new : List (ℕ × Sender L In Out Shut)) (place id : ℕ) (entry : ℕ × Sender L In Out Shut) → IsAt id place old → entry ≡ get_or old place entry
@@ -389,9 +378,9 @@ module _ {L In Out Shut : Type 0} (got : Out → List OutItem) where
       let pair : entry ≡ (id, entry.1) = ap (λ n. (n, entry.1)) same in
       (place, at.0, subst (λ (e : ℕ × Sender L In Out Shut). e ≡ get_or old place e) pair is, subst (λ (e : ℕ × Sender L In Out Shut). new ≡ swap_remove old place e) pair removed)
 
-  pub has-ended : (core : OutCore L In Out Shut) (id : ℕ) → (open_at core.outbound.states) id ≡ None → HasEnded got id core
+  pub has-ended : (core : OutCore L In Out Shut) (id : ℕ) → (open_at core.sending.outbound.states) id ≡ None → HasEnded got id core
   has-ended core id none run reached s alive there served = by ((s.serves alive).1.stays id served there none)
     where
-      by : (is_some (over_on core.outbound.states id) ≡ true) ⊎ (was_reset id run ≡ true) → (is_over id run ≡ true) ⊎ (was_reset id run ≡ true)
+      by : (is_some (over_on core.sending.outbound.states id) ≡ true) ⊎ (was_reset id run ≡ true) → (is_over id run ≡ true) ⊎ (was_reset id run ≡ true)
       by (inl over) = inl (sym (reached.0.stand.over id).0 ∙ over)
       by (inr reset) = inr reset

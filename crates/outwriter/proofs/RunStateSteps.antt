@@ -20,7 +20,7 @@ use Rattle.outwriter.specs.declared.states.StreamState.{StreamState}
 use Rattle.outwriter.specs.declared.stream.OpenStream.{OpenStream}
 use Rattle.outwriter.specs.declared.states.StreamState.TheVariants.{NoCall, Call}
 use Rattle.outwriter.specs.declared.states.StreamState.TheVariants.{Reset as StreamReset}
-use Rattle.outwriter.specs.States.{States, Grants, SameEnds, SameOver, SameOwed, amount_of, is_paid, is_reset, knows, more, owed_on, pays, state_on}
+use Rattle.outwriter.specs.States.{States, StandAs, Grants, SameEnds, SameOver, SameOwed, amount_of, is_paid, is_reset, knows, more, owed_on, pays, state_on}
 use Rattle.outwriter.specs.Histories.{Takes, is_stream}
 use Rattle.outwriter.specs.RunState.{Mirrors, HasWindows, HasCredit, HasOver, HasDue, HasBlock, HasOwed, HasResets, HasStates, AreAsked, MirrorsOf, Reached, GoesOn, SameButOpen, Stays, duties_of, resets_of}
 use Rattle.outwriter.specs.Runs.{IsAsked, Fragments, unfinished, granted_by, is_opened, may_owe, opens_stream, owed, due, due_by, told, resets_stream, was_reset}
@@ -248,6 +248,10 @@ mirrors-but-open run o after e m = subst (MirrorsOf run) (sym e) (record {
   credits = m.credits;
   stand = stand-but-open run o.states after.states.opened m.stand;
 })
+
+-- what is kept of the open streams changes
+pub but-open : (o : Outbound) (states : States) → StandAs o.states states → SameButOpen o (record o { states = states })
+but-open o states stands = ap (λ (x : States). record o { states = x }) stands
 
 -- a Refuse
 pub refuse-led : (id : ℕ) (fields : List Field) (run : List Step) (begun gone : Bool) (w : Windows) (waiting after : List Due) (block : Option HeaderBlock) (kept left : States)

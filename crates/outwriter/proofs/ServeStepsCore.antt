@@ -4,6 +4,7 @@ use Rattle.account.specs.declared.call.OutItem.{OutItem}
 use Rattle.h2frame.specs.declared.frame.Frame.{Frame}
 use Rattle.outwriter.specs.States.{open_at, owed_on}
 use Rattle.outwriter.specs.declared.out_core.OutCore.{OutCore}
+use Rattle.outwriter.specs.declared.sending.Sending.{Sending}
 use Rattle.outwriter.specs.declared.outbound.Outbound.{Outbound}
 use Rattle.outwriter.specs.Cores.{calls, ServesOn, ServesStill}
 use Rattle.outwriter.specs.Parts.{Mark, Reset, on_stream}
@@ -35,12 +36,12 @@ between-but-open o after e between = record {
 
 module _ {L In Out Shut : Type 0} where
   -- no frame came, and then this one did, if any
-  pub holds-then : (got : Out → List OutItem) (old mid new : OutCore L In Out Shut) (o : Option Frame) → HoldsOn got None old mid → HoldsOn got o mid new → HoldsOn got o old new
+  pub holds-then : (got : Out → List OutItem) (old mid new : Sending L In Out Shut) (o : Option Frame) → HoldsOn got None old mid → HoldsOn got o mid new → HoldsOn got o old new
   holds-then got old mid new None f g = λ run h. g run (f run h)
   holds-then got old mid new (Some frame) f g = λ run h. g run (f run h)
 
   -- the places and what is in hand are the same, and all else that is kept of the calls
-  pub holds-hands : (got : Out → List OutItem) (old new : OutCore L In Out Shut) → SameHands (open_at old.outbound.states) (open_at new.outbound.states)
+  pub holds-hands : (got : Out → List OutItem) (old new : Sending L In Out Shut) → SameHands (open_at old.outbound.states) (open_at new.outbound.states)
       → SameButOpen old.outbound new.outbound → new.senders ≡ old.senders → (run : List Step) → Holds got run old → Holds got run new
   holds-hands got old new hands outbound senders run (marks, s, heeds) = (
     marks,
@@ -52,16 +53,16 @@ module _ {L In Out Shut : Type 0} where
         (λ id none. none-shown ((open_at new.outbound.states) id) (hands id ∙ ap shown none)) heeds),
   )
 
-  pub holds-after : (got : Out → List OutItem) (old mid new : OutCore L In Out Shut) (o : Option Frame) → HoldsOn got o old mid
+  pub holds-after : (got : Out → List OutItem) (old mid new : Sending L In Out Shut) (o : Option Frame) → HoldsOn got o old mid
       → SameHands (open_at mid.outbound.states) (open_at new.outbound.states) → SameButOpen mid.outbound new.outbound → new.senders ≡ mid.senders → HoldsOn got o old new
   holds-after got old mid new None f hands outbound senders = λ run h. holds-hands got mid new hands outbound senders run (f run h)
   holds-after got old mid new (Some frame) f hands outbound senders = λ run h. holds-hands got mid new hands outbound senders (Written frame ∷ run) (f run h)
 
-  pub fronts-then : (got : Out → List OutItem) (old mid new : OutCore L In Out Shut) → KeepsFronts got old mid → KeepsFronts got mid new → KeepsFronts got old new
+  pub fronts-then : (got : Out → List OutItem) (old mid new : Sending L In Out Shut) → KeepsFronts got old mid → KeepsFronts got mid new → KeepsFronts got old new
   fronts-then got old mid new f g run all = g run (f run all)
 
   -- what is kept of the open streams is the same
-  open-same : (got : Out → List OutItem) (run : List Step) (core : OutCore L In Out Shut) (after : Outbound) → (open_at after.states) ≡ (open_at core.outbound.states) → (marks : List (ℕ × Mark))
+  open-same : (got : Out → List OutItem) (run : List Step) (core : Sending L In Out Shut) (after : Outbound) → (open_at after.states) ≡ (open_at core.outbound.states) → (marks : List (ℕ × Mark))
       → Serves run after (open_at core.outbound.states) (calls got core.senders.items) marks → Heeds run after (open_at core.outbound.states) → Holds got run (record core { outbound = after })
   open-same got run core after kept marks s heeds = (
     marks,
@@ -70,7 +71,7 @@ module _ {L In Out Shut : Type 0} where
   )
 
   -- a frame that is none of an open stream
-  own-serves : (got : Out → List OutItem) (core : OutCore L In Out Shut) (after : Outbound) (frame : Frame) → IsOwn frame core.outbound after
+  own-serves : (got : Out → List OutItem) (core : Sending L In Out Shut) (after : Outbound) (frame : Frame) → IsOwn frame core.outbound after
       → (run : List Step) → Holds got run core → Holds got (Written frame ∷ run) (record core { outbound = after })
   own-serves got core after frame (known, inl plain, kept) run (marks, s, heeds) =
       open-same got (Written frame ∷ run) core after kept (marks ++ [])
@@ -85,7 +86,7 @@ module _ {L In Out Shut : Type 0} where
       (serves-refusal run core.outbound after (open_at core.outbound.states) (calls got core.senders.items) marks frame (λ k. (known k).0) r s)
       (heeds-own run core.outbound after (open_at core.outbound.states) (own-ends frame core.outbound after (known, inr (inr r), kept)) known heeds)
 
-  pub own-holds : (got : Out → List OutItem) (core : OutCore L In Out Shut) (after : Outbound) (o : Option Frame) → OwnOrRests o core.outbound after
+  pub own-holds : (got : Out → List OutItem) (core : Sending L In Out Shut) (after : Outbound) (o : Option Frame) → OwnOrRests o core.outbound after
       → HoldsOn got o core (record core { outbound = after })
   own-holds got core after (Some frame) own = own-serves got core after frame own
   own-holds got core after None rests = λ run h.
@@ -95,22 +96,22 @@ module _ {L In Out Shut : Type 0} where
 
   -- ---- what callers see
 
-  pub serving-on : (got : Out → List OutItem) (frame : Frame) (old new : OutCore L In Out Shut) → old.is_dead ≡ false → new.closed ≡ old.closed → HoldsOn got (Some frame) old new
+  pub serving-on : (got : Out → List OutItem) (frame : Frame) (old new : OutCore L In Out Shut) → old.is_dead ≡ false → new.closed ≡ old.closed → HoldsOn got (Some frame) old.sending new.sending
       → ServesOn got (Written frame) old new
   serving-on got frame old new alive closed holds run s =
       let h = holds run (s.serves alive) in record {
-        fronts = fronts_of (Written frame ∷ run) new.outbound (open_at new.outbound.states) (calls got new.senders.items) h.0 h.1;
-        returned = returned_of (Written frame ∷ run) new.outbound (open_at new.outbound.states) (calls got new.senders.items) h.0 h.1;
-        others = others_of (Written frame ∷ run) new.outbound (open_at new.outbound.states) (calls got new.senders.items) h.0 h.1;
+        fronts = fronts_of (Written frame ∷ run) new.sending.outbound (open_at new.sending.outbound.states) (calls got new.sending.senders.items) h.0 h.1;
+        returned = returned_of (Written frame ∷ run) new.sending.outbound (open_at new.sending.outbound.states) (calls got new.sending.senders.items) h.0 h.1;
+        others = others_of (Written frame ∷ run) new.sending.outbound (open_at new.sending.outbound.states) (calls got new.sending.senders.items) h.0 h.1;
         closed = s.closed ∙ sym closed;
         serves = λ e. h;
       }
 
-  pub serving-still : (got : Out → List OutItem) (old new : OutCore L In Out Shut) → old.is_dead ≡ false → new.closed ≡ old.closed → HoldsOn got None old new → KeepsFronts got old new
+  pub serving-still : (got : Out → List OutItem) (old new : OutCore L In Out Shut) → old.is_dead ≡ false → new.closed ≡ old.closed → HoldsOn got None old.sending new.sending → KeepsFronts got old.sending new.sending
       → ServesStill got old new
   serving-still got old new alive closed holds fronts run s =
       record { fronts = fronts run s.fronts; returned = s.returned; others = s.others; closed = s.closed ∙ sym closed; serves = λ e. holds run (s.serves alive) }
 
-  pub serving-dead : (got : Out → List OutItem) (old new : OutCore L In Out Shut) → new.is_dead ≡ true → new.closed ≡ old.closed → KeepsFronts got old new → ServesStill got old new
+  pub serving-dead : (got : Out → List OutItem) (old new : OutCore L In Out Shut) → new.is_dead ≡ true → new.closed ≡ old.closed → KeepsFronts got old.sending new.sending → ServesStill got old new
   serving-dead got old new dead closed fronts run s =
       record { fronts = fronts run s.fronts; returned = s.returned; others = s.others; closed = s.closed ∙ sym closed; serves = λ e. absurd (true≢false (sym dead ∙ e)) }

@@ -10,7 +10,7 @@ use Rattle.flow.specs.Windows.{Windows}
 use Rattle.h2frame.specs.declared.frame.Frame.{Frame}
 use Rattle.lists.specs.declared.field.Field.{Field}
 use Rattle.hpack_codec.specs.Codec.{Encoding, Writes}
-use Rattle.outwriter.specs.declared.out_core.OutCore.{OutCore}
+use Rattle.outwriter.specs.declared.sending.Sending.{Sending}
 use Rattle.outwriter.specs.declared.outbound.Outbound.{Outbound}
 use Rattle.outwriter.specs.declared.stream.OpenStream.{OpenStream}
 use Rattle.outwriter.specs.declared.stream.Polled.{Polled}
@@ -314,13 +314,13 @@ heads-after frame old fin after stays heads run m = let n = stays run m in heads
 
 module _ {L In Out Shut : Type 0} where
   -- Resets and Refuses are heeded still
-  heeds-look : (run : List Step) (old new : OutCore L In Out Shut) → KeepsEnds old.outbound new.outbound → SameStanding old.outbound new.outbound
+  heeds-look : (run : List Step) (old new : Sending L In Out Shut) → KeepsEnds old.outbound new.outbound → SameStanding old.outbound new.outbound
       → ((k : ℕ) → (open_at old.outbound.states) k ≡ None → (open_at new.outbound.states) k ≡ None)
       → Heeds run old.outbound (open_at old.outbound.states) → Heeds run new.outbound (open_at new.outbound.states)
   heeds-look run old new keeps standing closed heeds =
       heeds-kept run old.outbound new.outbound (open_at old.outbound.states) (open_at new.outbound.states) keeps standing closed heeds
 
-  heeds-still : (run : List Step) (old new : OutCore L In Out Shut) → SameButOpen old.outbound new.outbound
+  heeds-still : (run : List Step) (old new : Sending L In Out Shut) → SameButOpen old.outbound new.outbound
       → ((k : ℕ) → (open_at old.outbound.states) k ≡ None → (open_at new.outbound.states) k ≡ None)
       → Heeds run old.outbound (open_at old.outbound.states) → Heeds run new.outbound (open_at new.outbound.states)
   heeds-still run old new same closed heeds =
@@ -328,14 +328,14 @@ module _ {L In Out Shut : Type 0} where
       (standing-as old.outbound new.outbound (ap (λ (x : Outbound). x.states) same)) closed heeds
 
   -- what was taken, and the encoder and the streams after it
-  pub record Took (E : Type 0) (got ahead : Out → List OutItem) (old mid : OutCore L In Out Shut) (id : ℕ) (result : Result Polled E) : Type 0 where
+  pub record Took (E : Type 0) (got ahead : Out → List OutItem) (old mid : Sending L In Out Shut) (id : ℕ) (result : Result Polled E) : Type 0 where
     pub takes : TakesAt (shows (open_at old.outbound.states) id) (calls got old.senders.items) (calls got mid.senders.items) (aheads ahead mid.senders.items)
         old.outbound.encoder mid.outbound.encoder result
     pub outbound : mid.outbound ≡ record old.outbound { encoder = mid.outbound.encoder; states = record old.outbound.states { opened = mid.outbound.states.opened } }
     pub hands : HandIs id None (open_at old.outbound.states) (open_at mid.outbound.states)
 
   -- what was in hand is taken, and then what the sender has
-  pub took : {E : Type 0} (got ahead : Out → List OutItem) (old mid : OutCore L In Out Shut) (states : States) (id place : ℕ) (hand : Option (List ℕ)) (result : Result Polled E)
+  pub took : {E : Type 0} (got ahead : Out → List OutItem) (old mid : Sending L In Out Shut) (states : States) (id place : ℕ) (hand : Option (List ℕ)) (result : Result Polled E)
       → mid.outbound ≡ record old.outbound { states = states; encoder = mid.outbound.encoder } → StandAs old.outbound.states states
       → HandIs id None (open_at old.outbound.states) (open_at states) → shows (open_at old.outbound.states) id ≡ Some (place, hand)
       → TakesHand hand place (calls got old.senders.items) (calls got mid.senders.items) (aheads ahead mid.senders.items) old.outbound.encoder mid.outbound.encoder result
@@ -351,16 +351,16 @@ module _ {L In Out Shut : Type 0} where
         hands = subst (λ (o : OpenStreams). HandIs id None (open_at old.outbound.states) o) (sym kept) hands;
       }
 
-  pub took-ahead : (ahead : Out → List OutItem) (old mid : OutCore L In Out Shut) (id place : ℕ) (hand : Option (List ℕ)) → shows (open_at old.outbound.states) id ≡ Some (place, hand)
+  pub took-ahead : (ahead : Out → List OutItem) (old mid : Sending L In Out Shut) (id place : ℕ) (hand : Option (List ℕ)) → shows (open_at old.outbound.states) id ≡ Some (place, hand)
       → SameElsewhere place (aheads ahead old.senders.items) (aheads ahead mid.senders.items)
       → SameAhead (shows (open_at old.outbound.states) id) (aheads ahead old.senders.items) (aheads ahead mid.senders.items)
   took-ahead ahead old mid id place hand there same =
       subst (λ (v : Shown). SameAhead v (aheads ahead old.senders.items) (aheads ahead mid.senders.items)) (sym there) same
 
-  pub fronts-still : (got : Out → List OutItem) (old mid new : OutCore L In Out Shut) → KeepsFronts got old mid → new.senders ≡ mid.senders → KeepsFronts got old new
+  pub fronts-still : (got : Out → List OutItem) (old mid new : Sending L In Out Shut) → KeepsFronts got old mid → new.senders ≡ mid.senders → KeepsFronts got old new
   fronts-still got old mid new keeps e run all = subst (λ senders. TellFronts run (calls got senders.items)) (sym e) (keeps run all)
 
-  pub look-nothing : (E : Type 0) (got ahead : Out → List OutItem) (old mid : OutCore L In Out Shut) (id : ℕ) (result : Polled)
+  pub look-nothing : (E : Type 0) (got ahead : Out → List OutItem) (old mid : Sending L In Out Shut) (id : ℕ) (result : Polled)
       → Took E got ahead old mid id (Ok result) → result ≡ polled.Nothing → HoldsOn got None old mid
   look-nothing E got ahead old mid id result took is run (marks, s, heeds) =
       let t = subst (λ (p : Polled). TakesAt {E = E} (shows (open_at old.outbound.states) id) (calls got old.senders.items) (calls got mid.senders.items) (aheads ahead mid.senders.items) old.outbound.encoder mid.outbound.encoder (Ok p)) is took.takes in
@@ -390,7 +390,7 @@ module _ {L In Out Shut : Type 0} where
         left-serves run old.outbound (open_at old.outbound.states) (open_at mid.outbound.states) (calls got old.senders.items) (calls got mid.senders.items) marks id place view left took.hands s,
       )
 
-  pub look-data : (E : Type 0) (got ahead : Out → List OutItem) (old mid new : OutCore L In Out Shut) (id : ℕ) (bytes : List ℕ) (result : Polled) (o : Option Frame)
+  pub look-data : (E : Type 0) (got ahead : Out → List OutItem) (old mid new : Sending L In Out Shut) (id : ℕ) (bytes : List ℕ) (result : Polled) (o : Option Frame)
       → Took E got ahead old mid id (Ok result) → result ≡ polled.Message bytes
       → TellsData id bytes o mid new → new.senders ≡ mid.senders
       → HoldsOn got o old new
@@ -427,7 +427,7 @@ module _ {L In Out Shut : Type 0} where
             (λ k none. hand-closed id (Some bytes) (open_at mid.outbound.states) (open_at new.outbound.states) tells.0 k (hand-closed id None (open_at old.outbound.states) (open_at mid.outbound.states) took.hands k none)) m.2,
       )
 
-  pub look-empty : (E : Type 0) (got ahead : Out → List OutItem) (old mid : OutCore L In Out Shut) (id : ℕ) (bytes : List ℕ) (result : Polled)
+  pub look-empty : (E : Type 0) (got ahead : Out → List OutItem) (old mid : Sending L In Out Shut) (id : ℕ) (bytes : List ℕ) (result : Polled)
       → Took E got ahead old mid id (Ok result) → result ≡ polled.Message bytes → bytes ≡ [] → HoldsOn got None old mid
   look-empty E got ahead old mid id bytes result took is none = λ run m.
       let t = subst (λ (p : Polled). TakesAt {E = E} (shows (open_at old.outbound.states) id) (calls got old.senders.items) (calls got mid.senders.items) (aheads ahead mid.senders.items) old.outbound.encoder mid.outbound.encoder (Ok p)) is took.takes in
@@ -440,7 +440,7 @@ module _ {L In Out Shut : Type 0} where
         heeds-still run old mid same (hand-closed id None (open_at old.outbound.states) (open_at mid.outbound.states) took.hands) m.2,
       )
 
-  pub look-block : (E : Type 0) (got ahead : Out → List OutItem) (old mid fin : OutCore L In Out Shut) (after : Outbound) (id : ℕ) (bytes : List ℕ) (ends_it : Bool) (result : Polled) (frame : Frame)
+  pub look-block : (E : Type 0) (got ahead : Out → List OutItem) (old mid fin : Sending L In Out Shut) (after : Outbound) (id : ℕ) (bytes : List ℕ) (ends_it : Bool) (result : Polled) (frame : Frame)
       → Took E got ahead old mid id (Ok result) → result ≡ polled.Block bytes ends_it
       → SameButOpen mid.outbound fin.outbound → Removes id ends_it (open_at mid.outbound.states) (open_at fin.outbound.states) → fin.senders ≡ mid.senders
       → TellsBlock id ends_it bytes frame fin.outbound after → Ends fin.outbound.states id ends_it after.states → SameOwed fin.outbound.states after.states

@@ -5,7 +5,7 @@ use Rattle.std.specs.Option.{option_map}
 use Rattle.std.proofs.lemmas.Bool.{eq-eqb, ne_eqb}
 use Rattle.account.specs.declared.call.OutItem.{OutItem}
 use Rattle.flow.specs.Windows.{Windows, room}
-use Rattle.outwriter.specs.declared.out_core.OutCore.{OutCore}
+use Rattle.outwriter.specs.declared.sending.Sending.{Sending}
 use Rattle.outwriter.specs.declared.outbound.Outbound.{Outbound}
 use Rattle.outwriter.specs.declared.stream.OpenStream.{OpenStream}
 use Rattle.outwriter.specs.declared.stream.Polled.{Polled}
@@ -44,7 +44,7 @@ elsewhere-is : (hand : Option (List ℕ)) (id k : ℕ) (middle left : OpenStream
 elsewhere-is hand id k middle left is ne = is k ∙ ap (λ b. if b then with_hand hand (shows middle k) else shows middle k) (ne_eqb k id ne)
 
 module _ {L In Out Shut : Type 0} where
-  others-stuck : (got ahead : Out → List OutItem) (old mid new : OutCore L In Out Shut) (id : ℕ) (run : List Step) → Holds got run old
+  others-stuck : (got ahead : Out → List OutItem) (old mid new : Sending L In Out Shut) (id : ℕ) (run : List Step) → Holds got run old
       → SameAhead (shows (open_at old.outbound.states) id) (aheads ahead old.senders.items) (aheads ahead mid.senders.items)
       → ((k : ℕ) → k ≢ id → shows (open_at new.outbound.states) k ≡ shows (open_at old.outbound.states) k) → new.senders ≡ mid.senders → new.outbound.windows ≡ old.outbound.windows
       → (k : ℕ) → k ≢ id → StuckAt ahead k old → StuckAt ahead k new
@@ -70,7 +70,7 @@ module _ {L In Out Shut : Type 0} where
       by (Some x) v same_but = same_but stream.place (apart x v)
 
   -- a stream on which nothing more may be written, or that isn't open
-  pub stuck-shut : (got ahead : Out → List OutItem) (core : OutCore L In Out Shut) (id : ℕ) → IsShut core.outbound.states id → GetsStuck got ahead id core core
+  pub stuck-shut : (got ahead : Out → List OutItem) (core : Sending L In Out Shut) (id : ℕ) → IsShut core.outbound.states id → GetsStuck got ahead id core core
   stuck-shut got ahead core id shut run (marks, s, heeds) = (λ stream e. absurd (by stream e shut), λ k ne stuck. stuck)
     where
       written : (state : StreamState) → option_map by_reset (end_of state) ≡ None → is_reset_state state ≡ false → can_write state ≡ true
@@ -87,7 +87,7 @@ module _ {L In Out Shut : Type 0} where
           true≢false (sym (written (state_on core.outbound.states id) (s.not_over id stream e) unreset) ∙ denied)
       by stream e (inr none) = none-some stream (sym none ∙ e)
 
-  pub stuck-nothing : (E : Type 0) (got ahead : Out → List OutItem) (old mid : OutCore L In Out Shut) (id : ℕ) (result : Polled)
+  pub stuck-nothing : (E : Type 0) (got ahead : Out → List OutItem) (old mid : Sending L In Out Shut) (id : ℕ) (result : Polled)
       → Took E got ahead old mid id (Ok result) → SameAhead (shows (open_at old.outbound.states) id) (aheads ahead old.senders.items) (aheads ahead mid.senders.items)
       → result ≡ polled.Nothing → GetsStuck got ahead id old mid
   stuck-nothing E got ahead old mid id result took same is run h = (
@@ -101,7 +101,7 @@ module _ {L In Out Shut : Type 0} where
         (ap (λ (o : Outbound). o.windows) took.outbound),
   )
 
-  pub stuck-data : (E : Type 0) (got ahead : Out → List OutItem) (old mid new : OutCore L In Out Shut) (id : ℕ) (bytes : List ℕ) (result : Result Polled E)
+  pub stuck-data : (E : Type 0) (got ahead : Out → List OutItem) (old mid new : Sending L In Out Shut) (id : ℕ) (bytes : List ℕ) (result : Result Polled E)
       → Took E got ahead old mid id result → SameAhead (shows (open_at old.outbound.states) id) (aheads ahead old.senders.items) (aheads ahead mid.senders.items)
       → TellsData id bytes None mid new → new.senders ≡ mid.senders → GetsStuck got ahead id old new
   stuck-data E got ahead old mid new id bytes result took same tells senders run h = (
@@ -115,14 +115,14 @@ module _ {L In Out Shut : Type 0} where
   )
 
   -- a message without bytes
-  pub leaves-empty : (E : Type 0) (got ahead : Out → List OutItem) (old mid : OutCore L In Out Shut) (id : ℕ) (result : Polled)
+  pub leaves-empty : (E : Type 0) (got ahead : Out → List OutItem) (old mid : Sending L In Out Shut) (id : ℕ) (result : Polled)
       → Took E got ahead old mid id (Ok result) → SameAhead (shows (open_at old.outbound.states) id) (aheads ahead old.senders.items) (aheads ahead mid.senders.items)
       → LeavesStuck got ahead id old mid
   leaves-empty E got ahead old mid id result took same run h =
       others-stuck got ahead old mid mid id run h same (λ k ne. elsewhere-is None id k (open_at old.outbound.states) (open_at mid.outbound.states) took.hands ne) refl
       (ap (λ (o : Outbound). o.windows) took.outbound)
 
-  pub looks-data : (E : Type 0) {F : Type 0} (got ahead : Out → List OutItem) (old mid new : OutCore L In Out Shut) (id : ℕ) (bytes : List ℕ) (result : Result Polled E) (found : Result Looked F)
+  pub looks-data : (E : Type 0) {F : Type 0} (got ahead : Out → List OutItem) (old mid new : Sending L In Out Shut) (id : ℕ) (bytes : List ℕ) (result : Result Polled E) (found : Result Looked F)
       → Took E got ahead old mid id result → SameAhead (shows (open_at old.outbound.states) id) (aheads ahead old.senders.items) (aheads ahead mid.senders.items)
       → IfOk found (λ l. l ≢ looked.Empty) → IfOk found (λ l. TellsData id bytes (frame_in l) mid new) → new.senders ≡ mid.senders
       → IfOk found (λ l. LooksAt got ahead id l old new)
@@ -132,11 +132,11 @@ module _ {L In Out Shut : Type 0} where
   looks-data E got ahead old mid new id bytes result (Err e) took same ne tells senders = tt
 
   -- one look after another
-  pub leaves-then : (got ahead : Out → List OutItem) (old mid new : OutCore L In Out Shut) (id : ℕ) → HoldsOn got None old mid
+  pub leaves-then : (got ahead : Out → List OutItem) (old mid new : Sending L In Out Shut) (id : ℕ) → HoldsOn got None old mid
       → LeavesStuck got ahead id old mid → LeavesStuck got ahead id mid new → LeavesStuck got ahead id old new
   leaves-then got ahead old mid new id holds first second = λ run h k ne stuck. second run (holds run h) k ne (first run h k ne stuck)
 
-  pub gets-then : (got ahead : Out → List OutItem) (old mid new : OutCore L In Out Shut) (id : ℕ) → HoldsOn got None old mid
+  pub gets-then : (got ahead : Out → List OutItem) (old mid new : Sending L In Out Shut) (id : ℕ) → HoldsOn got None old mid
       → LeavesStuck got ahead id old mid → GetsStuck got ahead id mid new → GetsStuck got ahead id old new
   gets-then got ahead old mid new id holds first second run h =
       let found = second run (holds run h) in (found.0, λ k ne stuck. found.1 k ne (first run h k ne stuck))

@@ -4,7 +4,7 @@ use Rattle.account.specs.declared.call.OutItem.{OutItem}
 use Rattle.h2frame.specs.declared.error_code.ErrorCode.{ErrorCode}
 use Rattle.outwriter.specs.declared.due.Due.{Due}
 use Rattle.outwriter.specs.declared.due.Due.TheVariants as due_kind
-use Rattle.outwriter.specs.declared.out_core.OutCore.{OutCore}
+use Rattle.outwriter.specs.declared.sending.Sending.{Sending}
 use Rattle.outwriter.specs.declared.outbound.Outbound.{Outbound}
 use Rattle.outwriter.specs.Cores.{calls}
 use Rattle.outwriter.specs.States.{is_heard, is_reset, knows, over_on, open_at}
@@ -15,15 +15,15 @@ use Rattle.outwriter.specs.CallState.{Serves, Heeds, Takes}
 use Rattle.outwriter.specs.Steps.{Step}
 
 module _ {L In Out Shut : Type 0} where
-  abbrev pub ServesOf : (Out → List OutItem) → List Step → OutCore L In Out Shut → List (ℕ × Mark) → Type 0
+  abbrev pub ServesOf : (Out → List OutItem) → List Step → Sending L In Out Shut → List (ℕ × Mark) → Type 0
   ServesOf got run core marks = Serves run core.outbound (open_at core.outbound.states) (calls got core.senders.items) marks
 
   -- whatever run led to the core before, with these steps it leads to the core after, and nothing more is told
-  abbrev pub KeepsServing : (Out → List OutItem) → List Step → OutCore L In Out Shut → OutCore L In Out Shut → Type 0
+  abbrev pub KeepsServing : (Out → List OutItem) → List Step → Sending L In Out Shut → Sending L In Out Shut → Type 0
   KeepsServing got more old new = (run : List Step) (marks : List (ℕ × Mark)) → ServesOf got run old marks → ServesOf got (more ++ run) new marks
 
   -- and the ends that controls ask for are heeded still
-  abbrev pub KeepsHeeds : (Out → List OutItem) → List Step → OutCore L In Out Shut → OutCore L In Out Shut → Type 0
+  abbrev pub KeepsHeeds : (Out → List OutItem) → List Step → Sending L In Out Shut → Sending L In Out Shut → Type 0
   KeepsHeeds got more old new = (run : List Step) (marks : List (ℕ × Mark)) → ServesOf got run old marks → Heeds run old.outbound (open_at old.outbound.states)
       → Heeds (more ++ run) new.outbound (open_at new.outbound.states)
 

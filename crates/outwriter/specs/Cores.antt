@@ -13,6 +13,7 @@ use Rattle.outwriter.specs.declared.control.OutFault.TheVariants.{OutOfMemory, P
 use Rattle.outwriter.specs.declared.next.Next.{Next}
 use Rattle.outwriter.specs.declared.next.Next.TheVariants as next
 use Rattle.outwriter.specs.declared.out_core.OutCore.{OutCore}
+use Rattle.outwriter.specs.declared.sending.Sending.{Sending}
 use Rattle.outwriter.specs.declared.outbound.Outbound.{Outbound}
 use Rattle.outwriter.specs.declared.stream.OpenStream.{OpenStream}
 use Rattle.outwriter.specs.Calls.{TellEnds, TellFronts, TellReturned, TellOthers, is_closed, is_served}
@@ -45,7 +46,7 @@ AreStuck o streams aheads = (id : ℕ) (stream : OpenStream) → streams id ≡ 
 module _ {L In Out Shut : Type 0} where
   -- what is kept of a stream, if it is open
   abbrev pub open_stream : OutCore L In Out Shut → ℕ → Option OpenStream
-  open_stream core id = (open_at core.outbound.states) id
+  open_stream core id = (open_at core.sending.outbound.states) id
 
   -- each call's stream, with the items that its sender gave, in the order of the Opens
   abbrev pub calls : (Out → List OutItem) → List (ℕ × Sender L In Out Shut) → List (ℕ × List OutItem)
@@ -65,12 +66,12 @@ module _ {L In Out Shut : Type 0} where
   -- What was told of each call is a front of what its sender gave, and of other streams what is to be told of them; and as long as the core lives, all that it keeps of the calls
   -- follows from the run.
   pub record Serving (got : Out → List OutItem) (run : List Step) (core : OutCore L In Out Shut) : Type 0 where
-    pub fronts : TellFronts run (calls got core.senders.items)
+    pub fronts : TellFronts run (calls got core.sending.senders.items)
     pub returned : TellReturned run
     pub others : TellOthers run
     pub closed : is_closed run ≡ core.closed
     pub serves : core.is_dead ≡ false
-        → (marks : List (ℕ × Mark)) × Serves run core.outbound (open_at core.outbound.states) (calls got core.senders.items) marks × Heeds run core.outbound (open_at core.outbound.states)
+        → (marks : List (ℕ × Mark)) × Serves run core.sending.outbound (open_at core.sending.outbound.states) (calls got core.sending.senders.items) marks × Heeds run core.sending.outbound (open_at core.sending.outbound.states)
 
   -- whatever run led to the core before, with this step it leads to the core after
   abbrev pub ServesOn : (Out → List OutItem) → Step → OutCore L In Out Shut → OutCore L In Out Shut → Type 0
@@ -100,27 +101,26 @@ module _ {L In Out Shut : Type 0} where
 
   -- Where no frame comes, the last was a GOAWAY with an error, or of each open stream nothing can be written: nothing is ahead of its
   -- sender, or what is in hand has no room.
-  abbrev pub IsQuiet : (Out → List OutItem) → OutCore L In Out Shut → Type 0
-  IsQuiet ahead core = (core.outbound.gone ≡ true)
-      ⊎ AreStuck core.outbound (open_at core.outbound.states) (map (λ call. ahead call.1.rx) core.senders.items)
+  abbrev pub IsQuiet : (Out → List OutItem) → Sending L In Out Shut → Type 0
+  IsQuiet ahead s = (s.outbound.gone ≡ true) ⊎ AreStuck s.outbound (open_at s.outbound.states) (map (λ call. ahead call.1.rx) s.senders.items)
 
   abbrev pub QuietNext : (Out → List OutItem) → Next → OutCore L In Out Shut → Type 0
   QuietNext ahead (next.Frame frame) core = Unit {0}
-  QuietNext ahead next.Idle core = IsQuiet ahead core
-  QuietNext ahead next.Over core = IsQuiet ahead core
+  QuietNext ahead next.Idle core = IsQuiet ahead core.sending
+  QuietNext ahead next.Over core = IsQuiet ahead core.sending
 
   -- Of a call whose stream was opened once and not refused before: its end was written, or it was reset; or nothing can be written on its stream,
   -- since nothing is ahead of its sender, or what is in hand has no room.
   pub data HasNoFrame (run : List Step) (core : OutCore L In Out Shut) (id : ℕ) (ahead : List OutItem) : Type 0 where
     Ended : is_over id run ≡ true → HasNoFrame run core id ahead
     WasReset : was_reset id run ≡ true → HasNoFrame run core id ahead
-    Stuck : (stream : OpenStream) → open_stream core id ≡ Some stream → IsStuck (room core.outbound.windows id) stream.in_hand ahead
+    Stuck : (stream : OpenStream) → open_stream core id ≡ Some stream → IsStuck (room core.sending.outbound.windows id) stream.in_hand ahead
         → HasNoFrame run core id ahead
 
   -- so it is of each, unless the last frame was a GOAWAY with an error
   abbrev pub HaveNoFrame : (Out → List OutItem) → List Step → OutCore L In Out Shut → Type 0
-  HaveNoFrame ahead run core = (core.outbound.gone ≡ true)
-      ⊎ All (λ call. is_served call.0 run ≡ true → is_stream call.0 ≡ true → HasNoFrame run core call.0 (ahead call.1.rx)) core.senders.items
+  HaveNoFrame ahead run core = (core.sending.outbound.gone ≡ true)
+      ⊎ All (λ call. is_served call.0 run ≡ true → is_stream call.0 ≡ true → HasNoFrame run core call.0 (ahead call.1.rx)) core.sending.senders.items
 
   abbrev pub NoFrameNext : (Out → List OutItem) → List Step → Next → OutCore L In Out Shut → Type 0
   NoFrameNext ahead run (next.Frame frame) core = Unit {0}
@@ -130,8 +130,8 @@ module _ {L In Out Shut : Type 0} where
   -- the end of each stream that was called off was written, unless the last frame was a GOAWAY with an error
   abbrev pub EndedNext : List Step → Next → OutCore L In Out Shut → Type 0
   EndedNext run (next.Frame frame) core = Unit {0}
-  EndedNext run next.Idle core = (core.outbound.gone ≡ true) ⊎ TellEnds run
-  EndedNext run next.Over core = (core.outbound.gone ≡ true) ⊎ TellEnds run
+  EndedNext run next.Idle core = (core.sending.outbound.gone ≡ true) ⊎ TellEnds run
+  EndedNext run next.Over core = (core.sending.outbound.gone ≡ true) ⊎ TellEnds run
 
   -- what a dead core may say yet, it may say after this run: any GOAWAY
   abbrev pub Parts : List Step → OutCore L In Out Shut → Type 0
@@ -140,4 +140,4 @@ module _ {L In Out Shut : Type 0} where
 
   -- so it is of a core that dies now
   abbrev pub PartsAfter : OutCore L In Out Shut → OutCore L In Out Shut → Type 0
-  PartsAfter old new = (run : List Step) → (old.is_dead ≡ false → Reached run old.outbound) → Parts run old → Parts run new
+  PartsAfter old new = (run : List Step) → (old.is_dead ≡ false → Reached run old.sending.outbound) → Parts run old → Parts run new

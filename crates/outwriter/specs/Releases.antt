@@ -21,7 +21,7 @@ IsWhole id (Some block) = block.id ≢ id
 module _ {L In Out Shut : Type 0} where
   -- a stream isn't open, and no header block of it is unfinished
   abbrev pub IsThrough : ℕ → OutCore L In Out Shut → Type 0
-  IsThrough id core = (open_stream core id ≡ None) × IsWhole id core.outbound.block
+  IsThrough id core = (open_stream core id ≡ None) × IsWhole id core.sending.outbound.block
 
   -- no sender of this stream is kept
   abbrev pub HasNone : ℕ → List (ℕ × Sender L In Out Shut) → Type 0
@@ -46,5 +46,5 @@ module _ {L In Out Shut : Type 0} where
 
   -- the end of a call's stream was written, or a Reset of it was taken
   abbrev pub HasEnded : (Out → List OutItem) → ℕ → OutCore L In Out Shut → Type 0
-  HasEnded got id core = (run : List Step) → Reached run core.outbound → Serving got run core → core.is_dead ≡ false → is_stream id ≡ true → is_served id run ≡ true
+  HasEnded got id core = (run : List Step) → Reached run core.sending.outbound → Serving got run core → core.is_dead ≡ false → is_stream id ≡ true → is_served id run ≡ true
       → (is_over id run ≡ true) ⊎ (was_reset id run ≡ true)

@@ -8,7 +8,7 @@ use Rattle.h2frame.specs.declared.frame.Frame.{Frame}
 use Rattle.lists.specs.declared.field.Field.{Field}
 use Rattle.hpack_codec.specs.Codec.{Encoding, Writes}
 use Rattle.outwriter.specs.States.{open_at}
-use Rattle.outwriter.specs.declared.out_core.OutCore.{OutCore}
+use Rattle.outwriter.specs.declared.sending.Sending.{Sending}
 use Rattle.outwriter.specs.declared.stream.OpenStream.{OpenStream}
 use Rattle.outwriter.specs.declared.stream.Polled.{Polled}
 use Rattle.outwriter.specs.declared.stream.Polled.TheVariants as polled
@@ -72,47 +72,47 @@ module _ {L In Out Shut : Type 0} where
   aheads ahead senders = map (λ call. ahead call.1.rx) senders
 
   -- all that is kept of the calls follows from the run
-  abbrev pub Holds : (Out → List OutItem) → List Step → OutCore L In Out Shut → Type 0
+  abbrev pub Holds : (Out → List OutItem) → List Step → Sending L In Out Shut → Type 0
   Holds got run core = (marks : List (ℕ × Mark)) × Serves run core.outbound (open_at core.outbound.states) (calls got core.senders.items) marks × Heeds run core.outbound (open_at core.outbound.states)
 
   -- a frame, if there is one, is the next step
-  abbrev pub HoldsOn : (Out → List OutItem) → Option Frame → OutCore L In Out Shut → OutCore L In Out Shut → Type 0
+  abbrev pub HoldsOn : (Out → List OutItem) → Option Frame → Sending L In Out Shut → Sending L In Out Shut → Type 0
   HoldsOn got (Some frame) old new = (run : List Step) → Holds got run old → Holds got (Written frame ∷ run) new
   HoldsOn got None old new = (run : List Step) → Holds got run old → Holds got run new
 
   -- what was told is a front still
-  abbrev pub KeepsFronts : (Out → List OutItem) → OutCore L In Out Shut → OutCore L In Out Shut → Type 0
+  abbrev pub KeepsFronts : (Out → List OutItem) → Sending L In Out Shut → Sending L In Out Shut → Type 0
   KeepsFronts got old new = (run : List Step) → TellFronts run (calls got old.senders.items) → TellFronts run (calls got new.senders.items)
 
   -- DATA of a front of some bytes, of which the rest is kept; or all of them are, as there is no room
-  abbrev pub TellsData : ℕ → List ℕ → Option Frame → OutCore L In Out Shut → OutCore L In Out Shut → Type 0
+  abbrev pub TellsData : ℕ → List ℕ → Option Frame → Sending L In Out Shut → Sending L In Out Shut → Type 0
   TellsData id bytes (Some frame) old new = (front : List ℕ) × (rest : List ℕ) × (bytes ≡ front ++ rest) × HandKeeps id rest (open_at old.outbound.states) (open_at new.outbound.states)
       × TellsMore frame (on_stream id (map Byte front)) old.outbound new.outbound × (new.outbound ≡ record old.outbound { windows = new.outbound.windows; states = record old.outbound.states { opened = new.outbound.states.opened } })
   TellsData id bytes None old new = HandIs id (Some bytes) (open_at old.outbound.states) (open_at new.outbound.states) × SameButOpen old.outbound new.outbound × (room old.outbound.windows id ≡ 0)
 
   -- nothing can be written on this stream, if it is open
-  abbrev pub StuckAt : (Out → List OutItem) → ℕ → OutCore L In Out Shut → Type 0
+  abbrev pub StuckAt : (Out → List OutItem) → ℕ → Sending L In Out Shut → Type 0
   StuckAt ahead id core = (stream : OpenStream) → (open_at core.outbound.states) id ≡ Some stream
       → IsStuck (room core.outbound.windows id) stream.in_hand (get_or (aheads ahead core.senders.items) stream.place [])
 
   -- nor on any on which nothing could be before
-  abbrev pub GetsStuck : (Out → List OutItem) → (Out → List OutItem) → ℕ → OutCore L In Out Shut → OutCore L In Out Shut → Type 0
+  abbrev pub GetsStuck : (Out → List OutItem) → (Out → List OutItem) → ℕ → Sending L In Out Shut → Sending L In Out Shut → Type 0
   GetsStuck got ahead id old new = (run : List Step) → Holds got run old → StuckAt ahead id new × ((k : ℕ) → k ≢ id → StuckAt ahead k old → StuckAt ahead k new)
 
   -- of the other streams all is the same
-  abbrev pub LeavesStuck : (Out → List OutItem) → (Out → List OutItem) → ℕ → OutCore L In Out Shut → OutCore L In Out Shut → Type 0
+  abbrev pub LeavesStuck : (Out → List OutItem) → (Out → List OutItem) → ℕ → Sending L In Out Shut → Sending L In Out Shut → Type 0
   LeavesStuck got ahead id old new = (run : List Step) → Holds got run old → (k : ℕ) → k ≢ id → StuckAt ahead k old → StuckAt ahead k new
 
   -- where a look at a stream found nothing, nothing can be written on it
-  abbrev pub LooksAt : (Out → List OutItem) → (Out → List OutItem) → ℕ → Looked → OutCore L In Out Shut → OutCore L In Out Shut → Type 0
+  abbrev pub LooksAt : (Out → List OutItem) → (Out → List OutItem) → ℕ → Looked → Sending L In Out Shut → Sending L In Out Shut → Type 0
   LooksAt got ahead id (looked.Frame frame) old new = Unit {0}
   LooksAt got ahead id looked.Nothing old new = GetsStuck got ahead id old new
   LooksAt got ahead id looked.Empty old new = LeavesStuck got ahead id old new
 
   -- nothing can be written on any open stream
-  abbrev pub AllStuck : (Out → List OutItem) → (Out → List OutItem) → OutCore L In Out Shut → OutCore L In Out Shut → Type 0
+  abbrev pub AllStuck : (Out → List OutItem) → (Out → List OutItem) → Sending L In Out Shut → Sending L In Out Shut → Type 0
   AllStuck got ahead old new = (run : List Step) → Holds got run old → AreStuck new.outbound (open_at new.outbound.states) (aheads ahead new.senders.items)
 
   -- or the last frame was a GOAWAY with an error
-  abbrev pub GetsQuiet : (Out → List OutItem) → (Out → List OutItem) → OutCore L In Out Shut → OutCore L In Out Shut → Type 0
+  abbrev pub GetsQuiet : (Out → List OutItem) → (Out → List OutItem) → Sending L In Out Shut → Sending L In Out Shut → Type 0
   GetsQuiet got ahead old new = (run : List Step) → Holds got run old → IsQuiet ahead new

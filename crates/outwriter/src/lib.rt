@@ -9,7 +9,8 @@
 //! for, whole header blocks, nothing behind a stream's end. `specs/Parts.antt` says what the frames of one stream tell, and what items spell.
 //!
 //! Read `control` for what goes in; `frames` and `blocks` for the frames that come out; `stream`, `due`,
-//! `resize` and `states` for what is kept; `out_core` for what a control does, `next` for the choice of a frame, and `release` for what a call that is through gives back.
+//! `resize` and `states` for what is kept, and `outbound` and `sending`, which bring it together; `out_core` for what a control does, `next` for the choice of a
+//! frame, and `release` for what a call that is through gives back.
 #![tactic(auto)]
 
 mod blocks;
@@ -21,6 +22,7 @@ pub mod out_core;
 mod outbound;
 mod release;
 mod resize;
+mod sending;
 mod states;
 mod stream;
 mod writing;

@@ -7,6 +7,8 @@ ghost use Rattle.std.specs.Prelude.{◌≡◌, ◌≢◌, ◌<◌, ◌^◌, leng
 
 use crate::control::OutFault;
 use crate::out_core::OutCore;
+use crate::sending::Sending;
+use crate::states::StreamStates;
 use crate::stream::{Looked, Polled, poll};
 use account::OutItem;
 use bytes::Bytes;
@@ -15,6 +17,7 @@ use h2frame::{Frame, StreamId};
 use hpack_codec::Encoder;
 use lane::Lane;
 use std::alloc::AllocError;
+use std::collections::VecDeque;
 
 /// What a writer does next.
 #[derive(Debug, Drop)]
@@ -30,22 +33,18 @@ pub enum Next {
 impl<L: Lane<Item = OutItem>> OutCore<L> {
     ghost use Rattle.outwriter.specs.declared.control.OutFault.TheVariants as out_fault;
     ghost use Rattle.outwriter.specs.declared.next.Next.TheVariants as next_kind;
-    ghost use Rattle.outwriter.specs.declared.stream.Looked.TheVariants as looked;
     ghost use Rattle.h2frame.specs.declared.frame.Frame.{Frame as FrameOf};
     ghost use Rattle.h2frame.specs.Spelling.{IsWritable};
     ghost use Rattle.outwriter.specs.Frames.{IsSound};
-    ghost use Rattle.outwriter.specs.Cores.{Serving, ServesNext, QuietNext, NoFrameNext, EndedNext, ClosedNext, PartsAfter, calls, lanes};
-    ghost use Rattle.outwriter.specs.States.{is_reset, open_at, over_on};
+    ghost use Rattle.outwriter.specs.Cores.{Serving, ServesNext, QuietNext, NoFrameNext, EndedNext, ClosedNext, PartsAfter, lanes};
     ghost use Rattle.outwriter.specs.Polls.{coming};
-    ghost use Rattle.outwriter.specs.OpenStreams.{SameHands, Removes};
-    ghost use Rattle.outwriter.specs.StreamLooks.{TakesHand, SameElsewhere, aheads, HoldsOn, KeepsFronts, TellsData, GetsStuck, LooksAt, frame_in, AllStuck, GetsQuiet};
     ghost use Rattle.outwriter.specs.Steps.{Step};
-    ghost use Rattle.outwriter.specs.RunState.{Answers, AnswersAll, Reached, SameButOpen, SameOwn, IsSpent, Progress, Progresses, Stays, IsBetween, MirrorsOf};
+    ghost use Rattle.outwriter.specs.RunState.{Answers, AnswersAll, Reached};
 
     /// The next frame. Once it was out of memory the core is dead, and answers that again.
     pub fn next_frame(&mut self) -> Result<Next, OutFault<Sender<L>>>
         // A frame that comes next extends a lawful run.
-        ensures next { IfOk result (λ next. Answers next self.old.outbound self.new.outbound) }
+        ensures next { IfOk result (λ next. Answers next self.old.sending.outbound self.new.sending.outbound) }
 
         // So it does for what was told of each call.
         ensures served { ServesNext L.got result self.old self.new }
@@ -63,27 +62,27 @@ impl<L: Lane<Item = OutItem>> OutCore<L> {
         ensures closed { IfOk result (λ next. (run : List Step) → Serving L.got run self.old → ClosedNext run next) }
 
         // Each sender stays at its place, an end of the same lane.
-        ensures senders { lanes L.out_name self.new.senders.items ≡ lanes L.out_name self.old.senders.items }
+        ensures senders { lanes L.out_name self.new.sending.senders.items ≡ lanes L.out_name self.old.sending.senders.items }
 
         // Where none comes, a GOAWAY with an error was written; or all was that the controls obliged to, with each header block whole, and
         // all the credit that is owed by the run.
-        ensures answered { IfOk result (λ next. AnswersAll next self.new.outbound) }
+        ensures answered { IfOk result (λ next. AnswersAll next self.new.sending.outbound) }
 
         // Of each open stream there is nothing that can be written, what was found ahead of its sender included. Of a call that
         // was left nothing is written.
         ensures quiet { IfOk result (λ next. (run : List Step) → Serving L.got run self.old → self.old.is_dead ≡ false → QuietNext (coming L.got L.ahead) next self.new) }
 
         // So each call has ended or was reset, or has nothing that can be written now.
-        ensures no_frame { IfOk result (λ next. (run : List Step) → Reached run self.old.outbound → Serving L.got run self.old → self.old.is_dead ≡ false → NoFrameNext (coming L.got L.ahead) run next self.new) }
+        ensures no_frame { IfOk result (λ next. (run : List Step) → Reached run self.old.sending.outbound → Serving L.got run self.old → self.old.is_dead ≡ false → NoFrameNext (coming L.got L.ahead) run next self.new) }
 
         // And the end of each stream that a Reset or a Refuse called off was written.
-        ensures ended { IfOk result (λ next. (run : List Step) → Reached run self.old.outbound → Serving L.got run self.old → self.old.is_dead ≡ false → EndedNext run next self.new) }
+        ensures ended { IfOk result (λ next. (run : List Step) → Reached run self.old.sending.outbound → Serving L.got run self.old → self.old.is_dead ≡ false → EndedNext run next self.new) }
     {
         if self.is_dead {
             return Err(OutFault::OutOfMemory(None));
         }
-        let may_part = self.outbound.is_between();
-        match self.choose() {
+        let may_part = self.sending.outbound.is_between();
+        match self.sending.choose() {
             Ok(Some(frame)) => Ok(Next::Frame(frame)),
             Ok(None) if self.closed => Ok(Next::Over),
             Ok(None) => Ok(Next::Idle),
@@ -94,18 +93,26 @@ impl<L: Lane<Item = OutItem>> OutCore<L> {
             }
         }
     }
+}
+
+impl<L: Lane<Item = OutItem>> Sending<L> {
+    ghost use Rattle.outwriter.specs.declared.stream.Looked.TheVariants as looked;
+    ghost use Rattle.outwriter.specs.Frames.{IsSound};
+    ghost use Rattle.outwriter.specs.Cores.{calls, lanes};
+    ghost use Rattle.outwriter.specs.States.{is_reset, over_on};
+    ghost use Rattle.outwriter.specs.Polls.{coming};
+    ghost use Rattle.outwriter.specs.StreamLooks.{HoldsOn, KeepsFronts, TellsData, GetsStuck, LooksAt, frame_in, AllStuck, GetsQuiet};
+    ghost use Rattle.outwriter.specs.RunState.{SameOwn, IsSpent, Progress, Progresses, IsBetween};
 
     /// SETTINGS first; the rest of a header block; what is due; credit; and then the streams.
-    fn choose(&mut self) -> Result<Option<Frame>, AllocError>
+    pub(crate) fn choose(&mut self) -> Result<Option<Frame>, AllocError>
         ensures sound { IfOk result (λ o. IfSome o IsSound) }
         ensures numbered { IfOk result (λ o. IfSome o (λ frame. frame.head.stream < 2 ^ 31)) }
         ensures frame { IfOk result (λ o. Progresses o self.old.outbound self.new.outbound) }
         ensures spent { IfOk result (λ o. IfNone o (IsSpent self.new.outbound)) }
-        ensures closed { self.new.closed ≡ self.old.closed }
         ensures served { IfOk result (λ o. HoldsOn L.got o self.old self.new) }
         ensures fronts { KeepsFronts L.got self.old self.new }
         ensures senders { lanes L.out_name self.new.senders.items ≡ lanes L.out_name self.old.senders.items }
-        ensures alive { self.new.is_dead ≡ self.old.is_dead }
         ensures quiet { IfOk result (λ o. IfNone o (GetsQuiet L.got (coming L.got L.ahead) self.old self.new)) }
     {
         if self.outbound.gone {
@@ -127,11 +134,9 @@ impl<L: Lane<Item = OutItem>> OutCore<L> {
         ensures numbered { IfOk result (λ o. IfSome o (λ frame. frame.head.stream < 2 ^ 31)) }
         ensures frame { IfOk result (λ o. Progress o self.old.outbound self.new.outbound) }
         ensures own { IfOk result (λ o. IfNone o (SameOwn self.old.outbound self.new.outbound)) }
-        ensures closed { self.new.closed ≡ self.old.closed }
         ensures served { IfOk result (λ o. HoldsOn L.got o self.old self.new) }
         ensures fronts { KeepsFronts L.got self.old self.new }
         ensures senders { lanes L.out_name self.new.senders.items ≡ lanes L.out_name self.old.senders.items }
-        ensures alive { self.new.is_dead ≡ self.old.is_dead }
         ensures quiet { IfOk result (λ o. IfNone o (AllStuck L.got (coming L.got L.ahead) self.old self.new)) }
     {
         if let Some(frame) = self.frame_out_of_turn()? {
@@ -151,11 +156,9 @@ impl<L: Lane<Item = OutItem>> OutCore<L> {
         ensures numbered { IfOk result (λ o. IfSome o (λ frame. frame.head.stream < 2 ^ 31)) }
         ensures frame { IfOk result (λ o. Progress o self.old.outbound self.new.outbound) }
         ensures own { IfOk result (λ o. IfNone o (SameOwn self.old.outbound self.new.outbound)) }
-        ensures closed { self.new.closed ≡ self.old.closed }
         ensures served { IfOk result (λ o. HoldsOn L.got o self.old self.new) }
         ensures fronts { KeepsFronts L.got self.old self.new }
         ensures senders { lanes L.out_name self.new.senders.items ≡ lanes L.out_name self.old.senders.items }
-        ensures alive { self.new.is_dead ≡ self.old.is_dead }
     {
         if self.ready.len() >= self.senders.len() {
             return Ok(None);
@@ -180,11 +183,9 @@ impl<L: Lane<Item = OutItem>> OutCore<L> {
         ensures numbered { IfOk result (λ o. IfSome o (λ frame. frame.head.stream < 2 ^ 31)) }
         ensures frame { IfOk result (λ o. Progress o self.old.outbound self.new.outbound) }
         ensures own { IfOk result (λ o. IfNone o (SameOwn self.old.outbound self.new.outbound)) }
-        ensures closed { self.new.closed ≡ self.old.closed }
         ensures served { IfOk result (λ o. HoldsOn L.got o self.old self.new) }
         ensures fronts { KeepsFronts L.got self.old self.new }
         ensures senders { lanes L.out_name self.new.senders.items ≡ lanes L.out_name self.old.senders.items }
-        ensures alive { self.new.is_dead ≡ self.old.is_dead }
     {
         for _ in 0..self.ready.len() {
             let Some(id) = self.ready.pop_front() else {
@@ -194,7 +195,7 @@ impl<L: Lane<Item = OutItem>> OutCore<L> {
                 self.ready.push_back(id)?;
                 return Ok(Some(frame));
             }
-            self.leave_turns(id);
+            self.outbound.states.turn(id, false);
         }
         Ok(None)
     }
@@ -206,11 +207,9 @@ impl<L: Lane<Item = OutItem>> OutCore<L> {
         ensures numbered { IfOk result (λ o. IfSome o (λ frame. frame.head.stream < 2 ^ 31)) }
         ensures frame { IfOk result (λ o. Progress o self.old.outbound self.new.outbound) }
         ensures own { IfOk result (λ o. IfNone o (SameOwn self.old.outbound self.new.outbound)) }
-        ensures closed { self.new.closed ≡ self.old.closed }
         ensures served { IfOk result (λ o. HoldsOn L.got o self.old self.new) }
         ensures fronts { KeepsFronts L.got self.old self.new }
         ensures senders { lanes L.out_name self.new.senders.items ≡ lanes L.out_name self.old.senders.items }
-        ensures alive { self.new.is_dead ≡ self.old.is_dead }
         ensures quiet { IfOk result (λ o. IfNone o (AllStuck L.got (coming L.got L.ahead) self.old self.new)) }
     {
         for index in 0..self.senders.len() {
@@ -232,42 +231,16 @@ impl<L: Lane<Item = OutItem>> OutCore<L> {
         ensures numbered { IfOk result (λ o. IfSome o (λ frame. frame.head.stream < 2 ^ 31)) }
         ensures frame { IfOk result (λ o. Progress o self.old.outbound self.new.outbound) }
         ensures own { IfOk result (λ o. IfNone o (SameOwn self.old.outbound self.new.outbound)) }
-        ensures closed { self.new.closed ≡ self.old.closed }
         ensures served { IfOk result (λ o. HoldsOn L.got o self.old self.new) }
         ensures fronts { KeepsFronts L.got self.old self.new }
         ensures senders { lanes L.out_name self.new.senders.items ≡ lanes L.out_name self.old.senders.items }
-        ensures alive { self.new.is_dead ≡ self.old.is_dead }
         ensures quiet { IfOk result (λ o. IfNone o (GetsStuck L.got (coming L.got L.ahead) id self.old self.new)) }
     {
         let Some(frame) = self.look(id)? else {
             return Ok(None);
         };
-        self.take_turns(id)?;
+        take_turns(&mut self.outbound.states, &mut self.ready, id)?;
         Ok(Some(frame))
-    }
-
-    /// Puts a stream behind all others that take turns, if it is still open.
-    fn take_turns(&mut self, id: StreamId) -> Result<(), AllocError>
-        ensures outbound { SameButOpen self.old.outbound self.new.outbound }
-        ensures closed { self.new.closed ≡ self.old.closed }
-        ensures hands { SameHands (open_at self.old.outbound.states) (open_at self.new.outbound.states) }
-        ensures senders { self.new.senders ≡ self.old.senders }
-        ensures alive { self.new.is_dead ≡ self.old.is_dead }
-    {
-        if self.outbound.states.turn(id, true) {
-            self.ready.push_back(id)?;
-        }
-        Ok(())
-    }
-
-    fn leave_turns(&mut self, id: StreamId)
-        ensures outbound { SameButOpen self.old.outbound self.new.outbound }
-        ensures closed { self.new.closed ≡ self.old.closed }
-        ensures hands { SameHands (open_at self.old.outbound.states) (open_at self.new.outbound.states) }
-        ensures senders { self.new.senders ≡ self.old.senders }
-        ensures alive { self.new.is_dead ≡ self.old.is_dead }
-    {
-        self.outbound.states.turn(id, false);
     }
 
     /// A frame of this stream, if it is open and has one that may be written now. For a message without bytes nothing is
@@ -278,11 +251,9 @@ impl<L: Lane<Item = OutItem>> OutCore<L> {
         ensures numbered { IfOk result (λ o. IfSome o (λ frame. frame.head.stream < 2 ^ 31)) }
         ensures frame { IfOk result (λ o. Progress o self.old.outbound self.new.outbound) }
         ensures own { IfOk result (λ o. IfNone o (SameOwn self.old.outbound self.new.outbound)) }
-        ensures closed { self.new.closed ≡ self.old.closed }
         ensures served { IfOk result (λ o. HoldsOn L.got o self.old self.new) }
         ensures fronts { KeepsFronts L.got self.old self.new }
         ensures senders { lanes L.out_name self.new.senders.items ≡ lanes L.out_name self.old.senders.items }
-        ensures alive { self.new.is_dead ≡ self.old.is_dead }
         ensures quiet { IfOk result (λ o. IfNone o (GetsStuck L.got (coming L.got L.ahead) id self.old self.new)) }
     {
         for _ in 0..u32::MAX {
@@ -302,17 +273,15 @@ impl<L: Lane<Item = OutItem>> OutCore<L> {
         ensures numbered { IfOk result (λ l. IfSome (frame_in l) (λ frame. frame.head.stream < 2 ^ 31)) }
         ensures frame { IfOk result (λ l. Progress (frame_in l) self.old.outbound self.new.outbound) }
         ensures own { IfOk result (λ l. IfNone (frame_in l) (SameOwn self.old.outbound self.new.outbound)) }
-        ensures closed { self.new.closed ≡ self.old.closed }
         ensures served { IfOk result (λ l. HoldsOn L.got (frame_in l) self.old self.new) }
         ensures fronts { KeepsFronts L.got self.old self.new }
         ensures senders { lanes L.out_name self.new.senders.items ≡ lanes L.out_name self.old.senders.items }
-        ensures alive { self.new.is_dead ≡ self.old.is_dead }
         ensures looks { IfOk result (λ l. LooksAt L.got (coming L.got L.ahead) id l self.old self.new) }
     {
         let Some((place, hand)) = self.outbound.states.take_hand(id) else {
             return Ok(Looked::Nothing);
         };
-        match self.take(place, hand)? {
+        match take(&mut self.senders, &mut self.outbound.encoder, place, hand)? {
             Polled::Nothing => Ok(Looked::Nothing),
             Polled::Message(bytes) => {
                 if bytes.is_empty() {
@@ -321,24 +290,9 @@ impl<L: Lane<Item = OutItem>> OutCore<L> {
                 self.data(id, bytes)
             }
             Polled::Block { bytes, ends } => {
-                self.end(id, ends);
+                end(&mut self.outbound.states, id, ends);
                 Ok(Looked::Frame(self.outbound.headers_frame(id, ends, bytes)?))
             }
-        }
-    }
-
-    /// What is next on a stream: what was in hand, or what its sender has.
-    fn take(&mut self, place: usize, hand: Option<Bytes>) -> Result<Polled, AllocError>
-        ensures outbound { self.new.outbound ≡ record self.old.outbound { encoder = self.new.outbound.encoder } }
-        ensures closed { self.new.closed ≡ self.old.closed }
-        ensures takes { TakesHand hand place (calls L.got self.old.senders.items) (calls L.got self.new.senders.items) (aheads (coming L.got L.ahead) self.new.senders.items) self.old.outbound.encoder self.new.outbound.encoder result }
-        ensures ahead { SameElsewhere place (aheads (coming L.got L.ahead) self.old.senders.items) (aheads (coming L.got L.ahead) self.new.senders.items) }
-        ensures senders { lanes L.out_name self.new.senders.items ≡ lanes L.out_name self.old.senders.items }
-        ensures alive { self.new.is_dead ≡ self.old.is_dead }
-    {
-        match hand {
-            Some(bytes) => Ok(Polled::Message(bytes)),
-            None => poll_at(&mut self.senders, place, &mut self.outbound.encoder),
         }
     }
 
@@ -354,11 +308,9 @@ impl<L: Lane<Item = OutItem>> OutCore<L> {
         ensures numbered { IfOk result (λ l. IfSome (frame_in l) (λ frame. frame.head.stream < 2 ^ 31)) }
         ensures frame { IfOk result (λ l. Progress (frame_in l) self.old.outbound self.new.outbound) }
         ensures own { IfOk result (λ l. IfNone (frame_in l) (SameOwn self.old.outbound self.new.outbound)) }
-        ensures closed { self.new.closed ≡ self.old.closed }
         ensures data { IfOk result (λ l. TellsData id bytes (frame_in l) self.old self.new) }
         ensures looks { IfOk result (λ l. l ≢ looked.Empty) }
         ensures senders { self.new.senders ≡ self.old.senders }
-        ensures alive { self.new.is_dead ≡ self.old.is_dead }
     {
         let len = self.outbound.room(id, bytes.len());
         if len == 0 {
@@ -370,33 +322,64 @@ impl<L: Lane<Item = OutItem>> OutCore<L> {
         self.outbound.states.keep(id, rest);
         Ok(Looked::Frame(self.outbound.data_frame(id, piece)))
     }
-
-    /// Closes a stream whose trailers are written.
-    fn end(&mut self, id: StreamId, ends: bool)
-        ensures outbound { SameButOpen self.old.outbound self.new.outbound }
-        ensures closed { self.new.closed ≡ self.old.closed }
-        ensures ended { Removes id ends (open_at self.old.outbound.states) (open_at self.new.outbound.states) }
-        ensures senders { self.new.senders ≡ self.old.senders }
-        ensures alive { self.new.is_dead ≡ self.old.is_dead }
-    {
-        if ends {
-            self.outbound.states.close(id);
-        }
-    }
 }
 
 ghost use Rattle.outwriter.specs.Cores.{calls as calls_of, lanes as lanes_of};
+ghost use Rattle.outwriter.specs.OpenStreams.{SameHands, Removes};
 ghost use Rattle.outwriter.specs.Polls.{coming as coming_of};
-ghost use Rattle.outwriter.specs.StreamLooks.{aheads as aheads_of, TakesHand as TakesHandAt, SameElsewhere as SameButAt};
+ghost use Rattle.outwriter.specs.States.{StandAs, open_at};
+ghost use Rattle.outwriter.specs.StreamLooks.{aheads, TakesHand, SameElsewhere};
+
+/// Puts a stream behind all others that take turns, if it is still open.
+fn take_turns(
+    states: &mut StreamStates,
+    ready: &mut VecDeque<StreamId>,
+    id: StreamId,
+) -> Result<(), AllocError>
+    ensures stands { StandAs states.old states.new }
+    ensures hands { SameHands (open_at states.old) (open_at states.new) }
+{
+    if states.turn(id, true) {
+        ready.push_back(id)?;
+    }
+    Ok(())
+}
+
+/// Closes a stream whose trailers are written.
+fn end(states: &mut StreamStates, id: StreamId, ends: bool)
+    ensures stands { StandAs states.old states.new }
+    ensures ended { Removes id ends (open_at states.old) (open_at states.new) }
+{
+    if ends {
+        states.close(id);
+    }
+}
+
+/// What is next on a stream: what was in hand, or what its sender has.
+fn take<L: Lane<Item = OutItem>>(
+    senders: &mut Vec<(StreamId, Sender<L>)>,
+    encoder: &mut Encoder,
+    place: usize,
+    hand: Option<Bytes>,
+) -> Result<Polled, AllocError>
+    ensures takes { TakesHand hand place (calls_of L.got senders.old.items) (calls_of L.got senders.new.items) (aheads (coming_of L.got L.ahead) senders.new.items) encoder.old encoder.new result }
+    ensures ahead { SameElsewhere place (aheads (coming_of L.got L.ahead) senders.old.items) (aheads (coming_of L.got L.ahead) senders.new.items) }
+    ensures senders { lanes_of L.out_name senders.new.items ≡ lanes_of L.out_name senders.old.items }
+{
+    match hand {
+        Some(bytes) => Ok(Polled::Message(bytes)),
+        None => poll_at(senders, encoder, place),
+    }
+}
 
 /// The next item of the sender at a place, if there is one.
 fn poll_at<L: Lane<Item = OutItem>>(
     senders: &mut Vec<(StreamId, Sender<L>)>,
-    place: usize,
     encoder: &mut Encoder,
+    place: usize,
 ) -> Result<Polled, AllocError>
-    ensures takes { TakesHandAt None place (calls_of L.got senders.old.items) (calls_of L.got senders.new.items) (aheads_of (coming_of L.got L.ahead) senders.new.items) encoder.old encoder.new result }
-    ensures ahead { SameButAt place (aheads_of (coming_of L.got L.ahead) senders.old.items) (aheads_of (coming_of L.got L.ahead) senders.new.items) }
+    ensures takes { TakesHand None place (calls_of L.got senders.old.items) (calls_of L.got senders.new.items) (aheads (coming_of L.got L.ahead) senders.new.items) encoder.old encoder.new result }
+    ensures ahead { SameElsewhere place (aheads (coming_of L.got L.ahead) senders.old.items) (aheads (coming_of L.got L.ahead) senders.new.items) }
     ensures senders { lanes_of L.out_name senders.new.items ≡ lanes_of L.out_name senders.old.items }
 {
     match senders.get_mut(place) {

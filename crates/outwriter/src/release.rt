@@ -4,9 +4,10 @@
 //! a reset. What is still ahead of its sender nobody asks for any more, so whoever gets the sender polls that away.
 
 ghost use Rattle.std.specs.Prelude.{◌≡◌, true, false, IfSome, IfNone, OnSome};
-ghost use Rattle.outwriter.specs.Releases.{IsWhole};
 
 use crate::out_core::OutCore;
+use crate::sending::Sending;
+use crate::states::StreamStates;
 use account::OutItem;
 use callbox::Sender;
 use h2frame::StreamId;
@@ -14,53 +15,46 @@ use lane::Lane;
 
 impl<L: Lane<Item = OutItem>> OutCore<L> {
     ghost use Rattle.outwriter.specs.Cores.{ServesOn};
-    ghost use Rattle.outwriter.specs.Releases.{IsThrough, HasNone, IsAt, MovedTo, Releases, HasEnded};
+    ghost use Rattle.outwriter.specs.Releases.{IsThrough, HasNone, Releases, HasEnded};
     ghost use Rattle.outwriter.specs.RunState.{GoesOn, SameButOpen};
-    ghost use Rattle.outwriter.specs.States.{open_at};
     ghost use Rattle.outwriter.specs.Steps.{Returned};
 
     /// Gives back the sender of a call that is through: its stream isn't open any more, and no header block of it is
     /// unfinished. It takes no memory. A stream that was opened twice has two.
     pub fn release(&mut self, id: StreamId) -> Option<Sender<L>>
         // That it is given back, with what it has given, is the next step of the run.
-        ensures taken { IfSome result (λ sender. GoesOn (Returned id (L.got sender.rx)) self.old.outbound self.new.outbound) }
+        ensures taken { IfSome result (λ sender. GoesOn (Returned id (L.got sender.rx)) self.old.sending.outbound self.new.sending.outbound) }
         ensures served { IfSome result (λ sender. ServesOn L.got (Returned id (L.got sender.rx)) self.old self.new) }
 
         // It is one of this stream's that were kept, and the last takes its place.
-        ensures releases { IfSome result (λ sender. Releases id sender self.old.senders.items self.new.senders.items) }
+        ensures releases { IfSome result (λ sender. Releases id sender self.old.sending.senders.items self.new.sending.senders.items) }
 
         // It is given back exactly where the call is through, and so has ended or was reset.
         ensures through { OnSome result (IsThrough id self.old) }
-        ensures none { IfNone result (IsThrough id self.old → HasNone id self.old.senders.items) }
+        ensures none { IfNone result (IsThrough id self.old → HasNone id self.old.sending.senders.items) }
         ensures ended { OnSome result (HasEnded L.got id self.old) }
         ensures unchanged { IfNone result (self.new ≡ self.old) }
-        ensures rest { self.new ≡ record self.old { senders = self.new.senders; outbound = self.new.outbound } }
+        ensures rest { self.new ≡ record self.old { sending = record self.old.sending { senders = self.new.sending.senders; outbound = self.new.sending.outbound } } }
 
         // It changes no more than where the sender stands that takes its place.
-        ensures same { SameButOpen self.old.outbound self.new.outbound }
+        ensures same { SameButOpen self.old.sending.outbound self.new.sending.outbound }
     {
-        if self.outbound.states.is_open(id) || self.is_in_block(id) {
+        if self.sending.outbound.states.is_open(id) || self.sending.is_in_block(id) {
             return None;
         }
-        let place = self.place_of(id)?;
-        let (_id, sender) = self.senders.swap_remove(place);
-        self.move_last(place);
+        let place = self.sending.place_of(id)?;
+        let (_id, sender) = self.sending.senders.swap_remove(place);
+        move_last(
+            &mut self.sending.outbound.states,
+            self.sending.senders.as_slice(),
+            place,
+        );
         Some(sender)
     }
+}
 
-    /// The sender that was last stands at a place now, unless that was the last.
-    fn move_last(&mut self, place: usize)
-        ensures moved { MovedTo place self.old.senders.items (open_at self.old.outbound.states) (open_at self.new.outbound.states) }
-        ensures rest { self.new ≡ record self.old { outbound = self.new.outbound } }
-        ensures same { SameButOpen self.old.outbound self.new.outbound }
-    {
-        let senders = self.senders.as_slice();
-        let last = senders.len();
-        match senders.get(place) {
-            Some(call) => self.outbound.states.move_place(call.0, last, place),
-            None => {}
-        }
-    }
+impl<L: Lane<Item = OutItem>> Sending<L> {
+    ghost use Rattle.outwriter.specs.Releases.{HasNone, IsAt, IsWhole};
 
     /// Whether a header block of this stream is unfinished.
     fn is_in_block(&self, id: StreamId) -> bool
@@ -86,5 +80,24 @@ impl<L: Lane<Item = OutItem>> OutCore<L> {
             }
         }
         None
+    }
+}
+
+ghost use Rattle.outwriter.specs.Releases.{MovedTo};
+ghost use Rattle.outwriter.specs.States.{StandAs, open_at};
+
+/// The sender that was last stands at a place now, unless that was the last.
+fn move_last<L: Lane<Item = OutItem>>(
+    states: &mut StreamStates,
+    senders: &[(StreamId, Sender<L>)],
+    place: usize,
+)
+    ensures moved { MovedTo place senders.now (open_at states.old) (open_at states.new) }
+    ensures stands { StandAs states.old states.new }
+{
+    let last = senders.len();
+    match senders.get(place) {
+        Some(call) => states.move_place(call.0, last, place),
+        None => {}
     }
 }

@@ -1,4 +1,4 @@
-use Rattle.std.proofs.Common.{Option, subst}
+use Rattle.std.proofs.Common.{Option, refl, subst}
 use Rattle.h2frame.specs.declared.frame.Frame.{Frame}
 use Rattle.std.specs.Prelude.{IfNone, IfSome, ◌<◌, ◌^◌}
 use Rattle.outwriter.specs.States.{open_at}
@@ -15,8 +15,8 @@ use Rattle.outwriter.proofs.out_core.OutCore.next_frame.Goals as goal
 
 pub returns-in-Ok-Some-clause-served : goal.returns-in-Ok-Some-clause-served
 returns-in-Ok-Some-clause-served g c =
-    serving-on g.L.Lane.got c.in-Ok-Some.frame c.args.self.now c.choose.new.self c.if-self.false c.choose.ensures.closed
-    (subst (λ (o : Option Frame). HoldsOn g.L.Lane.got o c.args.self.now c.choose.new.self) c.in-Ok-Some.field-0-is c.in-Ok-Some.ensures.served)
+    serving-on g.L.Lane.got c.in-Ok-Some.frame c.args.self.now (record c.args.self.now { sending = c.choose.new.self }) c.if-self.false refl
+    (subst (λ (o : Option Frame). HoldsOn g.L.Lane.got o c.args.self.now.sending c.choose.new.self) c.in-Ok-Some.field-0-is c.in-Ok-Some.ensures.served)
 
 pub returns-in-Ok-Some-clause-writable : goal.returns-in-Ok-Some-clause-writable
 returns-in-Ok-Some-clause-writable g c = λ frame is.
@@ -26,11 +26,11 @@ returns-in-Ok-Some-clause-writable g c = λ frame is.
 
 pub returns-in-Ok-None-clause-quiet : goal.returns-in-Ok-None-clause-quiet
 returns-in-Ok-None-clause-quiet g c = λ run s alive.
-    subst (λ (o : Option Frame). IfNone o (GetsQuiet g.L.Lane.got (coming g.L.Lane.got g.L.Lane.ahead) c.args.self.now c.choose.new.self)) c.in-Ok-None.field-0-is c.in-Ok-None.ensures.quiet run (s.serves alive)
+    subst (λ (o : Option Frame). IfNone o (GetsQuiet g.L.Lane.got (coming g.L.Lane.got g.L.Lane.ahead) c.args.self.now.sending c.choose.new.self)) c.in-Ok-None.field-0-is c.in-Ok-None.ensures.quiet run (s.serves alive)
 
 pub returns-in-Ok-None-2-clause-quiet : goal.returns-in-Ok-None-2-clause-quiet
 returns-in-Ok-None-2-clause-quiet g c = λ run s alive.
-    subst (λ (o : Option Frame). IfNone o (GetsQuiet g.L.Lane.got (coming g.L.Lane.got g.L.Lane.ahead) c.args.self.now c.choose.new.self)) c.in-Ok-None.field-0-is c.in-Ok-None.ensures.quiet run (s.serves alive)
+    subst (λ (o : Option Frame). IfNone o (GetsQuiet g.L.Lane.got (coming g.L.Lane.got g.L.Lane.ahead) c.args.self.now.sending c.choose.new.self)) c.in-Ok-None.field-0-is c.in-Ok-None.ensures.quiet run (s.serves alive)
 
 pub returns-in-Ok-None-clause-answered : goal.returns-in-Ok-None-clause-answered
 returns-in-Ok-None-clause-answered g c = λ run reached.
@@ -44,31 +44,31 @@ returns-in-Ok-None-2-clause-answered g c = λ run reached.
 
 pub returns-in-Ok-None-clause-no_frame : goal.returns-in-Ok-None-clause-no_frame
 returns-in-Ok-None-clause-no_frame g c = λ run reached s alive.
-    no-frame-if g.L.Lane.got (coming g.L.Lane.got g.L.Lane.ahead) run c.choose.new.self
-    (subst (λ (o : Option Frame). HoldsOn g.L.Lane.got o c.args.self.now c.choose.new.self) c.in-Ok-None.field-0-is c.in-Ok-None.ensures.served run (s.serves alive))
-    ((subst (λ (o : Option Frame). Progresses o c.args.self.now.outbound c.choose.new.self.outbound) c.in-Ok-None.field-0-is c.in-Ok-None.ensures.frame) run reached.0).stand.over
-    (subst (λ (o : Option Frame). IfNone o (GetsQuiet g.L.Lane.got (coming g.L.Lane.got g.L.Lane.ahead) c.args.self.now c.choose.new.self)) c.in-Ok-None.field-0-is c.in-Ok-None.ensures.quiet run (s.serves alive))
+    no-frame-if g.L.Lane.got (coming g.L.Lane.got g.L.Lane.ahead) run (record c.args.self.now { sending = c.choose.new.self })
+    (subst (λ (o : Option Frame). HoldsOn g.L.Lane.got o c.args.self.now.sending c.choose.new.self) c.in-Ok-None.field-0-is c.in-Ok-None.ensures.served run (s.serves alive))
+    ((subst (λ (o : Option Frame). Progresses o c.args.self.now.sending.outbound c.choose.new.self.outbound) c.in-Ok-None.field-0-is c.in-Ok-None.ensures.frame) run reached.0).stand.over
+    (subst (λ (o : Option Frame). IfNone o (GetsQuiet g.L.Lane.got (coming g.L.Lane.got g.L.Lane.ahead) c.args.self.now.sending c.choose.new.self)) c.in-Ok-None.field-0-is c.in-Ok-None.ensures.quiet run (s.serves alive))
 
 pub returns-in-Ok-None-2-clause-no_frame : goal.returns-in-Ok-None-2-clause-no_frame
 returns-in-Ok-None-2-clause-no_frame g c = λ run reached s alive.
-    no-frame-if g.L.Lane.got (coming g.L.Lane.got g.L.Lane.ahead) run c.choose.new.self
-    (subst (λ (o : Option Frame). HoldsOn g.L.Lane.got o c.args.self.now c.choose.new.self) c.in-Ok-None.field-0-is c.in-Ok-None.ensures.served run (s.serves alive))
-    ((subst (λ (o : Option Frame). Progresses o c.args.self.now.outbound c.choose.new.self.outbound) c.in-Ok-None.field-0-is c.in-Ok-None.ensures.frame) run reached.0).stand.over
-    (subst (λ (o : Option Frame). IfNone o (GetsQuiet g.L.Lane.got (coming g.L.Lane.got g.L.Lane.ahead) c.args.self.now c.choose.new.self)) c.in-Ok-None.field-0-is c.in-Ok-None.ensures.quiet run (s.serves alive))
+    no-frame-if g.L.Lane.got (coming g.L.Lane.got g.L.Lane.ahead) run (record c.args.self.now { sending = c.choose.new.self })
+    (subst (λ (o : Option Frame). HoldsOn g.L.Lane.got o c.args.self.now.sending c.choose.new.self) c.in-Ok-None.field-0-is c.in-Ok-None.ensures.served run (s.serves alive))
+    ((subst (λ (o : Option Frame). Progresses o c.args.self.now.sending.outbound c.choose.new.self.outbound) c.in-Ok-None.field-0-is c.in-Ok-None.ensures.frame) run reached.0).stand.over
+    (subst (λ (o : Option Frame). IfNone o (GetsQuiet g.L.Lane.got (coming g.L.Lane.got g.L.Lane.ahead) c.args.self.now.sending c.choose.new.self)) c.in-Ok-None.field-0-is c.in-Ok-None.ensures.quiet run (s.serves alive))
 
 pub returns-in-Ok-None-clause-ended : goal.returns-in-Ok-None-clause-ended
 returns-in-Ok-None-clause-ended g c = λ run reached s alive.
     ended-if run c.choose.new.self.outbound (open_at c.choose.new.self.outbound.states)
     (subst (λ (o : Option Frame). IfNone o (IsSpent c.choose.new.self.outbound)) c.in-Ok-None.field-0-is c.in-Ok-None.ensures.spent)
-    ((subst (λ (o : Option Frame). Progresses o c.args.self.now.outbound c.choose.new.self.outbound) c.in-Ok-None.field-0-is c.in-Ok-None.ensures.frame) run reached.0).stand.over
-    (subst (λ (o : Option Frame). HoldsOn g.L.Lane.got o c.args.self.now c.choose.new.self) c.in-Ok-None.field-0-is c.in-Ok-None.ensures.served run (s.serves alive)).2
+    ((subst (λ (o : Option Frame). Progresses o c.args.self.now.sending.outbound c.choose.new.self.outbound) c.in-Ok-None.field-0-is c.in-Ok-None.ensures.frame) run reached.0).stand.over
+    (subst (λ (o : Option Frame). HoldsOn g.L.Lane.got o c.args.self.now.sending c.choose.new.self) c.in-Ok-None.field-0-is c.in-Ok-None.ensures.served run (s.serves alive)).2
 
 pub returns-in-Ok-None-2-clause-ended : goal.returns-in-Ok-None-2-clause-ended
 returns-in-Ok-None-2-clause-ended g c = λ run reached s alive.
     ended-if run c.choose.new.self.outbound (open_at c.choose.new.self.outbound.states)
     (subst (λ (o : Option Frame). IfNone o (IsSpent c.choose.new.self.outbound)) c.in-Ok-None.field-0-is c.in-Ok-None.ensures.spent)
-    ((subst (λ (o : Option Frame). Progresses o c.args.self.now.outbound c.choose.new.self.outbound) c.in-Ok-None.field-0-is c.in-Ok-None.ensures.frame) run reached.0).stand.over
-    (subst (λ (o : Option Frame). HoldsOn g.L.Lane.got o c.args.self.now c.choose.new.self) c.in-Ok-None.field-0-is c.in-Ok-None.ensures.served run (s.serves alive)).2
+    ((subst (λ (o : Option Frame). Progresses o c.args.self.now.sending.outbound c.choose.new.self.outbound) c.in-Ok-None.field-0-is c.in-Ok-None.ensures.frame) run reached.0).stand.over
+    (subst (λ (o : Option Frame). HoldsOn g.L.Lane.got o c.args.self.now.sending c.choose.new.self) c.in-Ok-None.field-0-is c.in-Ok-None.ensures.served run (s.serves alive)).2
 
 pub returns-in-Err-clause-parts : goal.returns-in-Err-clause-parts
 returns-in-Err-clause-parts g c = λ run reached parts dead may last code.

@@ -1,5 +1,0 @@
-use Rattle.outwriter.specs.Releases.{HasNoneBelow}
-use Rattle.outwriter.proofs.out_core.OutCore.place_of.Given as goal
-
-abbrev pub invariant-loop-place : goal.invariant-loop-place
-invariant-loop-place g l = HasNoneBelow l.place l.fn.id l.fn.self.senders.items
