@@ -2,8 +2,6 @@ pub mod BlockLemmas
 pub mod CallSteps
 pub mod CallStepsOpen
 pub mod CallStepsOrders
-pub mod CallStepsControl
-pub mod CallStepsCores
 pub mod StateLemmas
 pub mod EndSteps
 pub mod FrameSteps
@@ -27,5 +25,6 @@ pub mod ServeStepsTake
 pub mod ServeStepsLook
 pub mod ServeStepsCore
 pub mod StuckSteps
+pub mod Leads
 pub mod LawExamples
 pub mod ReturnSteps

@@ -12,18 +12,19 @@ use Rattle.outwriter.specs.declared.outbound.Outbound.{Outbound}
 use Rattle.outwriter.specs.declared.stream.OpenStream.{OpenStream}
 use Rattle.outwriter.specs.Calls.{is_fresh, is_served, IsReturned}
 use Rattle.outwriter.specs.Histories.{is_over}
-use Rattle.outwriter.specs.Cores.{Serving, ServesOn, calls}
+use Rattle.outwriter.specs.Cores.{Leads, LeadsOn, calls}
 use Rattle.outwriter.specs.Parts.{Mark, marks_on, spelled, IsPart, IsFrontOf}
 use Rattle.outwriter.specs.CallState.{IsEnded, IsExact, Serves, bytes_marks}
 use Rattle.outwriter.specs.OpenStreams.{OpenStreams, PlaceIs, Shown, shown, shows, with_place}
 use Rattle.outwriter.specs.Releases.{IsAt, MovedTo, Releases, HasEnded}
 use Rattle.outwriter.specs.Runs.{granted_by, was_reset}
-use Rattle.outwriter.specs.RunState.{MirrorsOf, GoesOn, SameButOpen}
+use Rattle.outwriter.specs.RunState.{HasOver, MirrorsOf, SameButOpen}
 use Rattle.outwriter.specs.States.{over_on, open_at}
 use Rattle.outwriter.specs.Steps.{Step, Returned}
 use Rattle.outwriter.specs.ToldByNow.{SpellsOf}
 use Rattle.outwriter.proofs.CallSteps.{all-due}
 use Rattle.outwriter.proofs.EndsKept.{heeds-but-open, heeds-kept}
+use Rattle.outwriter.proofs.Leads.{may-part-returned}
 use Rattle.outwriter.proofs.RunStateSteps.{mirrors-but-open, same-block}
 use Rattle.outwriter.proofs.ServeSteps.{none-some, some-none, none-shown, from_some}
 use Rattle.outwriter.proofs.ServeStepsOwn.{serves-but-open}
@@ -43,9 +44,6 @@ mirrors-returned run o id items m = record {
   credits = λ k. omega (arith, m.credits k, sum_by-cons (granted_by k) (Returned id items) run);
   stand = record { over = m.stand.over; silent = m.stand.silent; resets = m.stand.resets; owes = m.stand.owes; no_stream_0 = m.stand.no_stream_0 };
 }
-
-pub goes-returned : (o new : Outbound) (id : ℕ) (items : List OutItem) → SameButOpen o new → GoesOn (Returned id items) o new
-goes-returned o new id items same run reached = (mirrors-but-open (Returned id items ∷ run) o new same (mirrors-returned run o id items reached.0), reached.1)
 
 -- nothing more is told
 spells-returned : (run : List Step) (o : Outbound) (marks : List (ℕ × Mark)) (id : ℕ) (items : List OutItem) → SpellsOf run o marks → SpellsOf (Returned id items ∷ run) o marks
@@ -309,38 +307,43 @@ module _ {L In Out Shut : Type 0} (got : Out → List OutItem) where
   call-at senders place entry d within is =
       get_or-map (λ (call : ℕ × Sender L In Out Shut). (call.0, got call.1.rx)) senders place entry d within ∙ ap (λ (call : ℕ × Sender L In Out Shut). (call.0, got call.1.rx)) (sym is)
 
-  pub serving-returned : (old new : OutCore L In Out Shut) (place moved id : ℕ) (items : List OutItem) → new ≡ record old { sending = record old.sending { senders = new.sending.senders; outbound = new.sending.outbound } } → SameButOpen old.sending.outbound new.sending.outbound
+  pub leads-returned : (old new : OutCore L In Out Shut) (place moved id : ℕ) (items : List OutItem) → new ≡ record old { sending = record old.sending { senders = new.sending.senders; outbound = new.sending.outbound } } → SameButOpen old.sending.outbound new.sending.outbound
       → TakesOut place (calls got old.sending.senders.items) (calls got new.sending.senders.items)
       → (place < length (calls got new.sending.senders.items) → (get_or (calls got new.sending.senders.items) place (0, [])).0 ≡ moved)
       → Follows place (length (calls got new.sending.senders.items)) moved (open_at old.sending.outbound.states) (open_at new.sending.outbound.states)
       → ((d : ℕ × List OutItem) → get_or (calls got old.sending.senders.items) place d ≡ (id, items)) → (open_at old.sending.outbound.states) id ≡ None
-      → ServesOn got (Returned id items) old new
-  serving-returned old new place moved id items rest same_out t moved_is f is none run s =
-      subst (λ (x : OutCore L In Out Shut). Serving got (Returned id items ∷ run) x) (sym rest) (record {
-        fronts = λ k d lt. let c = source place (calls got old.sending.senders.items) (calls got new.sending.senders.items) t k d lt in
-            subst (λ (call : ℕ × List OutItem). is_served call.0 run ≡ true → Front call.0 call.1) (sym c.1)
-            (s.fronts (came-from place (length (calls got new.sending.senders.items)) k) d c.0);
+      → LeadsOn got (Returned id items) old new
+  leads-returned old new place moved id items rest same_out t moved_is f is none run l =
+      let o = old.sending.outbound in
+      let left = new.sending.outbound in
+      let all = calls got old.sending.senders.items in
+      let now = calls got new.sending.senders.items in
+      subst (λ (x : OutCore L In Out Shut). Leads got (Returned id items ∷ run) x) (sym rest) (record {
+        lawful = l.lawful;
+        fronts = λ k d lt. let c = source place all now t k d lt in
+            subst (λ (call : ℕ × List OutItem). is_served call.0 run ≡ true → Front call.0 call.1) (sym c.1) (l.fronts (came-from place (length now) k) d c.0);
         returned = λ k given r. given-back k given r;
-        others = s.others;
-        closed = s.closed;
-        serves = λ alive. let m = s.serves alive in (
-          m.0,
-          serves-but-open (Returned id items ∷ run) old.sending.outbound new.sending.outbound (open_at new.sending.outbound.states) (calls got new.sending.senders.items) m.0 same_out
-              (serves-returned run old.sending.outbound (open_at old.sending.outbound.states) (open_at new.sending.outbound.states) (calls got old.sending.senders.items) (calls got new.sending.senders.items) m.0
-              place moved id items t moved_is f is none m.1),
-          heeds-but-open (Returned id items ∷ run) old.sending.outbound new.sending.outbound (open_at new.sending.outbound.states) same_out
-              (heeds-kept run old.sending.outbound old.sending.outbound (open_at old.sending.outbound.states) (open_at new.sending.outbound.states) (λ k there e. e) (λ k. (refl, refl, λ e. e)) f.closed m.2),
-        );
+        others = l.others;
+        closed = l.closed;
+        parts = λ dead may last code. may-part-returned run id items last code (l.parts dead may last code);
+        keeps = λ alive. let k = l.keeps alive in record {
+          mirrors = mirrors-but-open (Returned id items ∷ run) o left same_out (mirrors-returned run o id items k.mirrors);
+          marks = k.marks;
+          serves = serves-but-open (Returned id items ∷ run) o left (open_at left.states) now k.marks same_out
+              (serves-returned run o (open_at o.states) (open_at left.states) all now k.marks place moved id items t moved_is f is none k.serves);
+          heeds = heeds-but-open (Returned id items ∷ run) o left (open_at left.states) same_out
+              (heeds-kept run o o (open_at o.states) (open_at left.states) (λ k there e. e) (λ k. (refl, refl, λ e. e)) f.closed k.heeds);
+        };
       })
     where
       Front : ℕ → List OutItem → Type 0
       Front k given = (part : List Mark) × IsPart k run part × IsFrontOf part (spelled given)
 
       given-back : (k : ℕ) (given : List OutItem) → IsReturned k given (Returned id items ∷ run) → is_served k run ≡ true → Front k given
-      given-back k given (inr before) served = s.returned k given before served
+      given-back k given (inr before) served = l.returned k given before served
       given-back k given (inl (same, e)) served =
           let here : is_served id run ≡ true → Front id items =
-          subst (λ (call : ℕ × List OutItem). is_served call.0 run ≡ true → Front call.0 call.1) (is (0, [])) (s.fronts place (0, []) t.within) in
+          subst (λ (call : ℕ × List OutItem). is_served call.0 run ≡ true → Front call.0 call.1) (is (0, [])) (l.fronts place (0, []) t.within) in
           subst (λ n. Front n given) (sym same) (subst (λ (l : List OutItem). Front id l) (sym e) (here (ap (λ n. is_served n run) (sym same) ∙ served)))
 
   pub released : (old new : OutCore L In Out Shut) (place id : ℕ) (entry : ℕ × Sender L In Out Shut)
@@ -348,7 +351,7 @@ module _ {L In Out Shut : Type 0} (got : Out → List OutItem) where
       → IsAt id place old.sending.senders.items → entry ≡ get_or old.sending.senders.items place entry
       → new.sending.senders.items ≡ swap_remove old.sending.senders.items place entry → (open_at old.sending.outbound.states) id ≡ None
       → MovedTo place new.sending.senders.items (open_at old.sending.outbound.states) (open_at new.sending.outbound.states)
-      → ServesOn got (Returned id (got entry.1.rx)) old new
+      → LeadsOn got (Returned id (got entry.1.rx)) old new
   released old new place id entry rest same_out at is removed none moved =
       let same : entry.0 ≡ id = ap (λ (e : ℕ × Sender L In Out Shut). e.0) is ∙ at.1 entry in
       by (takes-out old.sending.senders.items new.sending.senders.items place entry at.0 removed)
@@ -358,16 +361,16 @@ module _ {L In Out Shut : Type 0} (got : Out → List OutItem) where
       short = length-map new.sending.senders.items (λ (call : ℕ × Sender L In Out Shut). (call.0, got call.1.rx))
 
       by : TakesOut place (calls got old.sending.senders.items) (calls got new.sending.senders.items) → ((d : ℕ × List OutItem) → get_or (calls got old.sending.senders.items) place d ≡ (id, got entry.1.rx))
-          → MovedTo place new.sending.senders.items (open_at old.sending.outbound.states) (open_at new.sending.outbound.states) → ServesOn got (Returned id (got entry.1.rx)) old new
+          → MovedTo place new.sending.senders.items (open_at old.sending.outbound.states) (open_at new.sending.outbound.states) → LeadsOn got (Returned id (got entry.1.rx)) old new
       by t call (inl (moved, at_place, is_there)) =
-          serving-returned old new place moved.0 id (got entry.1.rx) rest same_out t
+          leads-returned old new place moved.0 id (got entry.1.rx) rest same_out t
           (λ lt. ap (λ (c : ℕ × List OutItem). c.0) (call-at new.sending.senders.items place moved (0, []) (omega (arith, lt, short)) at_place))
           (subst (λ n. Follows place n moved.0 (open_at old.sending.outbound.states) (open_at new.sending.outbound.states)) (sym short)
           (follows-moved place (length new.sending.senders.items) moved.0 (open_at old.sending.outbound.states) (open_at new.sending.outbound.states) is_there))
           call none
       by t call (inr (same, out)) =
           let out_of : place < length (calls got new.sending.senders.items) → ⊥ = λ lt. out (omega (arith, lt, short)) in
-          serving-returned old new place 0 id (got entry.1.rx) rest same_out t (λ lt. absurd (out_of lt))
+          leads-returned old new place 0 id (got entry.1.rx) rest same_out t (λ lt. absurd (out_of lt))
           (follows-same place (length (calls got new.sending.senders.items)) 0 (open_at old.sending.outbound.states) (open_at new.sending.outbound.states) same out_of)
           call none
 
@@ -379,8 +382,8 @@ module _ {L In Out Shut : Type 0} (got : Out → List OutItem) where
       (place, at.0, subst (λ (e : ℕ × Sender L In Out Shut). e ≡ get_or old place e) pair is, subst (λ (e : ℕ × Sender L In Out Shut). new ≡ swap_remove old place e) pair removed)
 
   pub has-ended : (core : OutCore L In Out Shut) (id : ℕ) → (open_at core.sending.outbound.states) id ≡ None → HasEnded got id core
-  has-ended core id none run reached s alive there served = by ((s.serves alive).1.stays id served there none)
+  has-ended core id none run l alive there served = let k = l.keeps alive in by k.mirrors.stand.over (k.serves.stays id served there none)
     where
-      by : (is_some (over_on core.sending.outbound.states id) ≡ true) ⊎ (was_reset id run ≡ true) → (is_over id run ≡ true) ⊎ (was_reset id run ≡ true)
-      by (inl over) = inl (sym (reached.0.stand.over id).0 ∙ over)
-      by (inr reset) = inr reset
+      by : HasOver run core.sending.outbound.states → (is_some (over_on core.sending.outbound.states id) ≡ true) ⊎ (was_reset id run ≡ true) → (is_over id run ≡ true) ⊎ (was_reset id run ≡ true)
+      by over (inl ended) = inl (sym (over id).0 ∙ ended)
+      by over (inr reset) = inr reset

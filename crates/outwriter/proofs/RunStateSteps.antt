@@ -12,7 +12,6 @@ use Rattle.h2frame.specs.declared.error_code.ErrorCode.{ErrorCode}
 use Rattle.h2frame.specs.declared.frame.Frame.{Frame}
 use Rattle.lists.specs.declared.field.Field.{Field}
 use Rattle.outwriter.specs.declared.blocks.HeaderBlock.{HeaderBlock}
-use Rattle.outwriter.specs.declared.control.Control.{Control}
 use Rattle.outwriter.specs.declared.control.Control.TheVariants.{Open, Refuse, Reset}
 use Rattle.outwriter.specs.declared.due.Due.{Due}
 use Rattle.outwriter.specs.declared.outbound.Outbound.{Outbound}
@@ -22,9 +21,9 @@ use Rattle.outwriter.specs.declared.states.StreamState.TheVariants.{NoCall, Call
 use Rattle.outwriter.specs.declared.states.StreamState.TheVariants.{Reset as StreamReset}
 use Rattle.outwriter.specs.States.{States, StandAs, Grants, SameEnds, SameOver, SameOwed, amount_of, is_paid, is_reset, knows, more, owed_on, pays, state_on}
 use Rattle.outwriter.specs.Histories.{Takes, is_stream}
-use Rattle.outwriter.specs.RunState.{Mirrors, HasWindows, HasCredit, HasOver, HasDue, HasBlock, HasOwed, HasResets, HasStates, AreAsked, MirrorsOf, Reached, GoesOn, SameButOpen, Stays, duties_of, resets_of}
+use Rattle.outwriter.specs.RunState.{Mirrors, HasWindows, HasCredit, HasOver, HasDue, HasBlock, HasOwed, HasResets, HasStates, AreAsked, MirrorsOf, MirrorsOn, SameButOpen, duties_of, resets_of}
 use Rattle.outwriter.specs.Runs.{IsAsked, Fragments, unfinished, granted_by, is_opened, may_owe, opens_stream, owed, due, due_by, told, resets_stream, was_reset}
-use Rattle.outwriter.specs.Steps.{Step, Order, Taken, Granted, order_of}
+use Rattle.outwriter.specs.Steps.{Step, Order, Taken, Granted}
 use Rattle.outwriter.proofs.Others.{or-true}
 use Rattle.outwriter.proofs.WindowRuns.{nothing-taken}
 
@@ -361,16 +360,11 @@ grant-led id n run begun gone w waiting block kept left grants ends m = record {
     at-most false paid here there left same e = omega (arith, e)
 
 -- a control that obliges to nothing, opens and resets nothing, and concerns no window
-pub quiet-led : {S : Type 0} (control given : Control S) (old mid : Outbound) → control ≡ given → due_by (order_of given) ≡ []
-    → ((id : ℕ) → resets_stream id (order_of given) ≡ false) → ((id : ℕ) → opens_stream id (order_of given) ≡ false)
-    → ((run : List Step) (history : List WindowStep) → Takes run history (order_of given) history) → Stays old mid → GoesOn (Taken (order_of control)) old mid
-quiet-led {S} control given old mid is none unreset unopened same stays run reached =
-    let m = stays run reached.0 in
-    subst (λ (found : Control S). Reached (Taken (order_of found) ∷ run) mid) (sym is) (
-      taken (order_of given) run _ _ _ _ _ _ _ _ m (nothing-taken run (order_of given) mid.windows (same run) m.windows_follow) (same-due (order_of given) run mid.due.items none m.answers)
-          (quiet-stand (order_of given) run mid.states unreset unopened m.stand),
-      reached.1,
-    )
+pub quiet-led : (order : Order) (o : Outbound) → due_by order ≡ [] → ((id : ℕ) → resets_stream id order ≡ false) → ((id : ℕ) → opens_stream id order ≡ false)
+    → ((run : List Step) (history : List WindowStep) → Takes run history order history) → MirrorsOn (Taken order) o o
+quiet-led order o none unreset unopened same run m =
+    taken order run _ _ _ _ _ _ _ _ m (nothing-taken run order o.windows (same run) m.windows_follow) (same-due order run o.due.items none m.answers)
+    (quiet-stand order run o.states unreset unopened m.stand)
 
 -- what was due and obliges to nothing isn't due any more
 pub skipped : (run : List Step) (begun gone : Bool) (w : Windows) (one : Due) (waiting : List Due) (block : Option HeaderBlock)

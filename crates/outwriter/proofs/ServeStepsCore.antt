@@ -1,12 +1,11 @@
 -- The same of a core: one step after another.
-use Rattle.std.proofs.Common.{◌≡◌, ℕ, refl, sym, ap, subst, ◌∙◌, true, false, List, [], ◌∷◌, ◌++◌, inl, inr, Option, Some, None, true≢false}
+use Rattle.std.proofs.Common.{◌≡◌, ℕ, refl, sym, ap, subst, ◌∙◌, true, List, [], ◌∷◌, ◌++◌, inl, inr, Option, Some, None}
 use Rattle.account.specs.declared.call.OutItem.{OutItem}
 use Rattle.h2frame.specs.declared.frame.Frame.{Frame}
 use Rattle.outwriter.specs.States.{open_at, owed_on}
-use Rattle.outwriter.specs.declared.out_core.OutCore.{OutCore}
 use Rattle.outwriter.specs.declared.sending.Sending.{Sending}
 use Rattle.outwriter.specs.declared.outbound.Outbound.{Outbound}
-use Rattle.outwriter.specs.Cores.{calls, ServesOn, ServesStill}
+use Rattle.outwriter.specs.Cores.{calls}
 use Rattle.outwriter.specs.Parts.{Mark, Reset, on_stream}
 use Rattle.outwriter.specs.OpenStreams.{OpenStreams, SameHands, shown}
 use Rattle.outwriter.specs.RunState.{IsBetween, SameButOpen, SameOwn}
@@ -15,7 +14,6 @@ use Rattle.outwriter.specs.CallState.{Serves, Heeds, IsOwn, OwnOrRests}
 use Rattle.outwriter.specs.Steps.{Step, Written}
 use Rattle.outwriter.specs.ToldByNow.{block_marks}
 use Rattle.outwriter.proofs.EndsKept.{heeds-but-open, heeds-kept, heeds-own, own-ends, rests-ends}
-use Rattle.outwriter.proofs.Fronts.{fronts_of, returned_of, others_of}
 use Rattle.outwriter.proofs.ServeSteps.{none-shown}
 use Rattle.outwriter.proofs.ServeStepsOwn.{serves-hands, serves-rests, serves-plain, serves-reset, serves-refusal, serves-but-open}
 
@@ -93,25 +91,3 @@ module _ {L In Out Shut : Type 0} where
       open-same got run core after rests.same_open h.0
       (serves-rests run core.outbound after (open_at core.outbound.states) (calls got core.senders.items) h.0 rests h.1)
       (heeds-own run core.outbound after (open_at core.outbound.states) (rests-ends core.outbound after rests) rests.standing h.2)
-
-  -- ---- what callers see
-
-  pub serving-on : (got : Out → List OutItem) (frame : Frame) (old new : OutCore L In Out Shut) → old.is_dead ≡ false → new.closed ≡ old.closed → HoldsOn got (Some frame) old.sending new.sending
-      → ServesOn got (Written frame) old new
-  serving-on got frame old new alive closed holds run s =
-      let h = holds run (s.serves alive) in record {
-        fronts = fronts_of (Written frame ∷ run) new.sending.outbound (open_at new.sending.outbound.states) (calls got new.sending.senders.items) h.0 h.1;
-        returned = returned_of (Written frame ∷ run) new.sending.outbound (open_at new.sending.outbound.states) (calls got new.sending.senders.items) h.0 h.1;
-        others = others_of (Written frame ∷ run) new.sending.outbound (open_at new.sending.outbound.states) (calls got new.sending.senders.items) h.0 h.1;
-        closed = s.closed ∙ sym closed;
-        serves = λ e. h;
-      }
-
-  pub serving-still : (got : Out → List OutItem) (old new : OutCore L In Out Shut) → old.is_dead ≡ false → new.closed ≡ old.closed → HoldsOn got None old.sending new.sending → KeepsFronts got old.sending new.sending
-      → ServesStill got old new
-  serving-still got old new alive closed holds fronts run s =
-      record { fronts = fronts run s.fronts; returned = s.returned; others = s.others; closed = s.closed ∙ sym closed; serves = λ e. holds run (s.serves alive) }
-
-  pub serving-dead : (got : Out → List OutItem) (old new : OutCore L In Out Shut) → new.is_dead ≡ true → new.closed ≡ old.closed → KeepsFronts got old.sending new.sending → ServesStill got old new
-  serving-dead got old new dead closed fronts run s =
-      record { fronts = fronts run s.fronts; returned = s.returned; others = s.others; closed = s.closed ∙ sym closed; serves = λ e. absurd (true≢false (sym dead ∙ e)) }

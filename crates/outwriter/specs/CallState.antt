@@ -12,10 +12,10 @@ use Rattle.outwriter.specs.declared.outbound.Outbound.{Outbound}
 use Rattle.outwriter.specs.declared.stream.OpenStream.{OpenStream}
 use Rattle.outwriter.specs.Calls.{is_fresh, is_served, is_called_off, is_dropped, IsRefused, IsOther, IsReturned}
 use Rattle.outwriter.specs.Runs.{was_reset, is_opened}
-use Rattle.outwriter.specs.States.{States, SameEnds, SameOpen, SameOver, SetsEnd, is_heard, is_reset, knows, over_on}
+use Rattle.outwriter.specs.States.{States, SameEnds, SameOpen, SameOver, SetsEnd, is_heard, is_reset, knows, open_at, over_on}
 use Rattle.outwriter.specs.Histories.{is_stream}
 use Rattle.outwriter.specs.OpenStreams.{OpenStreams}
-use Rattle.outwriter.specs.RunState.{HasResets}
+use Rattle.outwriter.specs.RunState.{HasResets, MirrorsOf}
 use Rattle.outwriter.specs.Parts.{Mark, Byte, marks_on, spelled, IsFrontOf}
 use Rattle.outwriter.specs.Steps.{Step}
 use Rattle.outwriter.specs.TableLimits.{limited_by}
@@ -119,6 +119,13 @@ pub record Serves (run : List Step) (o : Outbound) (streams : OpenStreams) (call
   -- a stream is a call's where an Open of it was taken
   pub brought : (id : ℕ) → knows o.states id ≡ (is_stream id && is_opened id run)
   pub uncalled : (id : ℕ) → knows o.states id ≡ false → IsUncalled id run (over_on o.states id) (marks_on id marks)
+
+-- What is kept follows from the run: of the connection, of its calls, which gave these items, and of the ends that controls asked for.
+pub record Kept (run : List Step) (o : Outbound) (calls : List (ℕ × List OutItem)) : Type 0 where
+  pub mirrors : MirrorsOf run o
+  pub marks : List (ℕ × Mark)
+  pub serves : Serves run o (open_at o.states) calls marks
+  pub heeds : Heeds run o (open_at o.states)
 
 -- ---- what an Outbound's calls change of it
 

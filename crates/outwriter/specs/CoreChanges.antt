@@ -1,33 +1,29 @@
 -- What the calls of a writer's core change of what it keeps, where nothing is told.
-use Rattle.std.specs.Prelude.{◌≡◌, ◌==◌, ◌&&◌, ℕ, Bool, not, is_some, List, [], ◌∷◌, ◌++◌, Some, if◌then◌else◌}
+use Rattle.std.specs.Prelude.{◌≡◌, ◌==◌, ◌&&◌, ℕ, Bool, not, is_some, List, [], ◌∷◌, ◌++◌, length, Some, if◌then◌else◌}
 use Rattle.account.specs.declared.call.OutItem.{OutItem}
 use Rattle.h2frame.specs.declared.error_code.ErrorCode.{ErrorCode}
+use Rattle.outwriter.specs.declared.control.Control.TheVariants.{Open}
 use Rattle.outwriter.specs.declared.due.Due.{Due}
 use Rattle.outwriter.specs.declared.due.Due.TheVariants as due_kind
-use Rattle.outwriter.specs.declared.sending.Sending.{Sending}
 use Rattle.outwriter.specs.declared.outbound.Outbound.{Outbound}
-use Rattle.outwriter.specs.Cores.{calls}
-use Rattle.outwriter.specs.States.{is_heard, is_reset, knows, over_on, open_at}
+use Rattle.outwriter.specs.States.{is_heard, is_reset, knows, over_on}
 use Rattle.outwriter.specs.Histories.{is_stream}
 use Rattle.outwriter.specs.OpenStreams.{OpenStreams, stream_at}
-use Rattle.outwriter.specs.Parts.{Mark}
-use Rattle.outwriter.specs.CallState.{Serves, Heeds, Takes}
-use Rattle.outwriter.specs.Steps.{Step}
+use Rattle.outwriter.specs.CallState.{Kept, Takes}
+use Rattle.outwriter.specs.Steps.{Step, Taken}
 
-module _ {L In Out Shut : Type 0} where
-  abbrev pub ServesOf : (Out → List OutItem) → List Step → Sending L In Out Shut → List (ℕ × Mark) → Type 0
-  ServesOf got run core marks = Serves run core.outbound (open_at core.outbound.states) (calls got core.senders.items) marks
+-- with this step what is kept follows from the run still, whatever the calls gave; or with none
+abbrev pub KeptOn : Step → Outbound → Outbound → Type 0
+KeptOn step old new = (run : List Step) (calls : List (ℕ × List OutItem)) → Kept run old calls → Kept (step ∷ run) new calls
 
-  -- whatever run led to the core before, with these steps it leads to the core after, and nothing more is told
-  abbrev pub KeepsServing : (Out → List OutItem) → List Step → Sending L In Out Shut → Sending L In Out Shut → Type 0
-  KeepsServing got more old new = (run : List Step) (marks : List (ℕ × Mark)) → ServesOf got run old marks → ServesOf got (more ++ run) new marks
-
-  -- and the ends that controls ask for are heeded still
-  abbrev pub KeepsHeeds : (Out → List OutItem) → List Step → Sending L In Out Shut → Sending L In Out Shut → Type 0
-  KeepsHeeds got more old new = (run : List Step) (marks : List (ℕ × Mark)) → ServesOf got run old marks → Heeds run old.outbound (open_at old.outbound.states)
-      → Heeds (more ++ run) new.outbound (open_at new.outbound.states)
+abbrev pub KeptStill : Outbound → Outbound → Type 0
+KeptStill old new = (run : List Step) (calls : List (ℕ × List OutItem)) → Kept run old calls → Kept run new calls
 
 -- ---- an Open
+
+-- there is one call more, whose sender stands behind the others and gave nothing yet
+abbrev pub KeptWith : ℕ → ℕ → Outbound → Outbound → Type 0
+KeptWith id place old new = (run : List Step) (calls : List (ℕ × List OutItem)) → length calls ≡ place → Kept run old calls → Kept (Taken (Open id tt) ∷ run) new (calls ++ (id, []) ∷ [])
 
 -- the stream is a call's from now on
 abbrev pub is_new_call : Outbound → ℕ → Bool

@@ -1,6 +1,4 @@
--- What callers see of a writer's core: over any list of its calls, what was told of each call begins what its sender gave.
--- `Reached` (the law of runs) and `Serving` (what was told of each call) are two invariants over the same run. Neither
--- needs the other, so a caller may use one alone.
+-- What callers see of a writer's core: which runs lead to it, and where no frame comes from it.
 use Rattle.std.specs.Prelude.{◌≡◌, ◌⊎◌, ℕ, true, false, All, List, [], ◌∷◌, ◌++◌, map, get_or, Option, None, Some, Result, Ok, Err}
 use Rattle.account.specs.declared.call.OutItem.{OutItem}
 use Rattle.callbox.specs.declared.sender.Sender.{Sender}
@@ -13,25 +11,18 @@ use Rattle.outwriter.specs.declared.control.OutFault.TheVariants.{OutOfMemory, P
 use Rattle.outwriter.specs.declared.next.Next.{Next}
 use Rattle.outwriter.specs.declared.next.Next.TheVariants as next
 use Rattle.outwriter.specs.declared.out_core.OutCore.{OutCore}
-use Rattle.outwriter.specs.declared.sending.Sending.{Sending}
 use Rattle.outwriter.specs.declared.outbound.Outbound.{Outbound}
+use Rattle.outwriter.specs.declared.sending.Sending.{Sending}
 use Rattle.outwriter.specs.declared.stream.OpenStream.{OpenStream}
 use Rattle.outwriter.specs.Calls.{TellEnds, TellFronts, TellReturned, TellOthers, is_closed, is_served}
 use Rattle.h2frame.specs.declared.error_code.ErrorCode.{ErrorCode}
 use Rattle.outwriter.specs.Frames.{goaway_frame}
 use Rattle.outwriter.specs.Histories.{is_stream, is_over}
 use Rattle.outwriter.specs.OpenStreams.{OpenStreams}
-use Rattle.outwriter.specs.RunState.{Reached}
-use Rattle.outwriter.specs.Runs.{MayWrite, was_reset}
-use Rattle.outwriter.specs.Parts.{Mark}
-use Rattle.outwriter.specs.CallState.{Serves, Heeds}
+use Rattle.outwriter.specs.RunState.{IsAnswered}
+use Rattle.outwriter.specs.Runs.{IsLawful, MayWrite, was_reset}
+use Rattle.outwriter.specs.CallState.{Kept}
 use Rattle.outwriter.specs.Steps.{Step, Taken, Written, order_of}
-
--- nothing more comes where a Close was taken, and nothing now where none was: that the peer's side has ended is no Close
-abbrev pub ClosedNext : List Step → Next → Type 0
-ClosedNext run (next.Frame frame) = Unit {0}
-ClosedNext run next.Idle = is_closed run ≡ false
-ClosedNext run next.Over = is_closed run ≡ true
 
 -- nothing is ahead of a sender, or what is in hand has no room
 abbrev pub IsStuck : ℕ → Option (List ℕ) → List OutItem → Type 0
@@ -63,22 +54,34 @@ module _ {L In Out Shut : Type 0} where
   Brings (Ok done) _ old new = new ≡ old
   Brings (Err fault) control old new = new ≡ old
 
-  -- What was told of each call is a front of what its sender gave, and of other streams what is to be told of them; and as long as the core lives, all that it keeps of the calls
-  -- follows from the run.
-  pub record Serving (got : Out → List OutItem) (run : List Step) (core : OutCore L In Out Shut) : Type 0 where
+  -- ---- the runs that lead to a core
+
+  -- all that is kept follows from the run
+  abbrev pub Keeps : (Out → List OutItem) → List Step → Sending L In Out Shut → Type 0
+  Keeps got run s = Kept run s.outbound (calls got s.senders.items)
+
+  -- what a dead core may say yet, it may say after this run: any GOAWAY
+  abbrev pub Parts : List Step → OutCore L In Out Shut → Type 0
+  Parts run core = core.is_dead ≡ true → core.may_part ≡ true
+      → (last : ℕ) (code : ErrorCode) → MayWrite (Taken (Goaway last code) ∷ run) (goaway_frame last code)
+
+  -- This run leads to the core. Each of its frames was lawful; what was told of each call is a front of what its sender gave, also where that
+  -- was given back, and of other streams what is to be told of them; and as long as the core lives, all that it keeps follows from the run.
+  pub record Leads (got : Out → List OutItem) (run : List Step) (core : OutCore L In Out Shut) : Type 0 where
+    pub lawful : IsLawful run
     pub fronts : TellFronts run (calls got core.sending.senders.items)
     pub returned : TellReturned run
     pub others : TellOthers run
     pub closed : is_closed run ≡ core.closed
-    pub serves : core.is_dead ≡ false
-        → (marks : List (ℕ × Mark)) × Serves run core.sending.outbound (open_at core.sending.outbound.states) (calls got core.sending.senders.items) marks × Heeds run core.sending.outbound (open_at core.sending.outbound.states)
+    pub parts : Parts run core
+    pub keeps : core.is_dead ≡ false → Keeps got run core.sending
 
-  -- whatever run led to the core before, with this step it leads to the core after
-  abbrev pub ServesOn : (Out → List OutItem) → Step → OutCore L In Out Shut → OutCore L In Out Shut → Type 0
-  ServesOn got step old new = (run : List Step) → Serving got run old → Serving got (step ∷ run) new
+  -- whatever run led to the core before, with this step it leads to the core after; or as it is
+  abbrev pub LeadsOn : (Out → List OutItem) → Step → OutCore L In Out Shut → OutCore L In Out Shut → Type 0
+  LeadsOn got step old new = (run : List Step) → Leads got run old → Leads got (step ∷ run) new
 
-  abbrev pub ServesStill : (Out → List OutItem) → OutCore L In Out Shut → OutCore L In Out Shut → Type 0
-  ServesStill got old new = (run : List Step) → Serving got run old → Serving got run new
+  abbrev pub LeadsStill : (Out → List OutItem) → OutCore L In Out Shut → OutCore L In Out Shut → Type 0
+  LeadsStill got old new = (run : List Step) → Leads got run old → Leads got run new
 
   -- of the sender of an Open nothing was got before
   abbrev pub IsUnused : (Out → List OutItem) → Control (Sender L In Out Shut) → Type 0
@@ -86,28 +89,25 @@ module _ {L In Out Shut : Type 0} where
   IsUnused got _ = Unit {0}
 
   -- a control that is taken is the next step; where it is handed back, there is none
-  abbrev pub ServesControl : (Out → List OutItem) → Result (Unit {0}) (OutFault (Sender L In Out Shut)) → Control (Sender L In Out Shut)
+  abbrev pub LeadsControl : (Out → List OutItem) → Result (Unit {0}) (OutFault (Sender L In Out Shut)) → Control (Sender L In Out Shut)
       → OutCore L In Out Shut → OutCore L In Out Shut → Type 0
-  ServesControl got (Ok done) control old new = IsUnused got control → ServesOn got (Taken (order_of control)) old new
-  ServesControl got (Err (PeerWindow id)) control old new = ServesOn got (Taken (order_of control)) old new
-  ServesControl got (Err (OutOfMemory back)) control old new = ServesStill got old new
+  LeadsControl got (Ok done) control old new = IsUnused got control → LeadsOn got (Taken (order_of control)) old new
+  LeadsControl got (Err (PeerWindow id)) control old new = LeadsOn got (Taken (order_of control)) old new
+  LeadsControl got (Err (OutOfMemory back)) control old new = (back ≡ Some control) × LeadsStill got old new
 
   -- a frame is the next step
-  abbrev pub ServesNext : (Out → List OutItem) → Result Next (OutFault (Sender L In Out Shut)) → OutCore L In Out Shut → OutCore L In Out Shut → Type 0
-  ServesNext got (Ok (next.Frame frame)) old new = ServesOn got (Written frame) old new
-  ServesNext got (Ok next.Idle) old new = ServesStill got old new
-  ServesNext got (Ok next.Over) old new = ServesStill got old new
-  ServesNext got (Err fault) old new = ServesStill got old new
+  abbrev pub LeadsNext : (Out → List OutItem) → Result Next (OutFault (Sender L In Out Shut)) → OutCore L In Out Shut → OutCore L In Out Shut → Type 0
+  LeadsNext got (Ok (next.Frame frame)) old new = LeadsOn got (Written frame) old new
+  LeadsNext got (Ok next.Idle) old new = LeadsStill got old new
+  LeadsNext got (Ok next.Over) old new = LeadsStill got old new
+  LeadsNext got (Err fault) old new = LeadsStill got old new
 
-  -- Where no frame comes, the last was a GOAWAY with an error, or of each open stream nothing can be written: nothing is ahead of its
-  -- sender, or what is in hand has no room.
+  -- ---- where no frame comes
+
+  -- The last was a GOAWAY with an error, or of each open stream nothing can be written: nothing is ahead of its sender, or what is in hand has no
+  -- room.
   abbrev pub IsQuiet : (Out → List OutItem) → Sending L In Out Shut → Type 0
   IsQuiet ahead s = (s.outbound.gone ≡ true) ⊎ AreStuck s.outbound (open_at s.outbound.states) (map (λ call. ahead call.1.rx) s.senders.items)
-
-  abbrev pub QuietNext : (Out → List OutItem) → Next → OutCore L In Out Shut → Type 0
-  QuietNext ahead (next.Frame frame) core = Unit {0}
-  QuietNext ahead next.Idle core = IsQuiet ahead core.sending
-  QuietNext ahead next.Over core = IsQuiet ahead core.sending
 
   -- Of a call whose stream was opened once and not refused before: its end was written, or it was reset; or nothing can be written on its stream,
   -- since nothing is ahead of its sender, or what is in hand has no room.
@@ -122,22 +122,17 @@ module _ {L In Out Shut : Type 0} where
   HaveNoFrame ahead run core = (core.sending.outbound.gone ≡ true)
       ⊎ All (λ call. is_served call.0 run ≡ true → is_stream call.0 ≡ true → HasNoFrame run core call.0 (ahead call.1.rx)) core.sending.senders.items
 
-  abbrev pub NoFrameNext : (Out → List OutItem) → List Step → Next → OutCore L In Out Shut → Type 0
-  NoFrameNext ahead run (next.Frame frame) core = Unit {0}
-  NoFrameNext ahead run next.Idle core = HaveNoFrame ahead run core
-  NoFrameNext ahead run next.Over core = HaveNoFrame ahead run core
+  -- All that controls obliged to was written, with each header block whole, and no credit is owed. Of each open stream nothing can be written, so
+  -- each call has ended, was reset, or has nothing that can be written now. The end of each stream that was called off was written. But nothing
+  -- comes behind a GOAWAY with an error.
+  pub record IsAtRest (ahead : Out → List OutItem) (run : List Step) (core : OutCore L In Out Shut) : Type 0 where
+    pub answered : IsAnswered run
+    pub quiet : IsQuiet ahead core.sending
+    pub no_frame : HaveNoFrame ahead run core
+    pub ended : (core.sending.outbound.gone ≡ true) ⊎ TellEnds run
 
-  -- the end of each stream that was called off was written, unless the last frame was a GOAWAY with an error
-  abbrev pub EndedNext : List Step → Next → OutCore L In Out Shut → Type 0
-  EndedNext run (next.Frame frame) core = Unit {0}
-  EndedNext run next.Idle core = (core.sending.outbound.gone ≡ true) ⊎ TellEnds run
-  EndedNext run next.Over core = (core.sending.outbound.gone ≡ true) ⊎ TellEnds run
-
-  -- what a dead core may say yet, it may say after this run: any GOAWAY
-  abbrev pub Parts : List Step → OutCore L In Out Shut → Type 0
-  Parts run core = core.is_dead ≡ true → core.may_part ≡ true
-      → (last : ℕ) (code : ErrorCode) → MayWrite (Taken (Goaway last code) ∷ run) (goaway_frame last code)
-
-  -- so it is of a core that dies now
-  abbrev pub PartsAfter : OutCore L In Out Shut → OutCore L In Out Shut → Type 0
-  PartsAfter old new = (run : List Step) → (old.is_dead ≡ false → Reached run old.sending.outbound) → Parts run old → Parts run new
+  -- nothing more comes where a Close was taken, and nothing now where none was: that the peer's side has ended is no Close
+  abbrev pub RestsNext : (Out → List OutItem) → List Step → Next → OutCore L In Out Shut → Type 0
+  RestsNext ahead run (next.Frame frame) core = Unit {0}
+  RestsNext ahead run next.Idle core = IsAtRest ahead run core × (is_closed run ≡ false)
+  RestsNext ahead run next.Over core = IsAtRest ahead run core × (is_closed run ≡ true)

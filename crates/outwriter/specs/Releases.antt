@@ -7,9 +7,8 @@ use Rattle.outwriter.specs.declared.blocks.HeaderBlock.{HeaderBlock}
 use Rattle.outwriter.specs.declared.out_core.OutCore.{OutCore}
 use Rattle.outwriter.specs.Calls.{is_served}
 use Rattle.outwriter.specs.Runs.{was_reset}
-use Rattle.outwriter.specs.Cores.{Serving, open_stream}
+use Rattle.outwriter.specs.Cores.{Leads, open_stream}
 use Rattle.outwriter.specs.Histories.{is_stream, is_over}
-use Rattle.outwriter.specs.RunState.{Reached}
 use Rattle.outwriter.specs.Steps.{Step}
 use Rattle.outwriter.specs.OpenStreams.{OpenStreams, PlaceIs}
 
@@ -46,5 +45,5 @@ module _ {L In Out Shut : Type 0} where
 
   -- the end of a call's stream was written, or a Reset of it was taken
   abbrev pub HasEnded : (Out → List OutItem) → ℕ → OutCore L In Out Shut → Type 0
-  HasEnded got id core = (run : List Step) → Reached run core.sending.outbound → Serving got run core → core.is_dead ≡ false → is_stream id ≡ true → is_served id run ≡ true
+  HasEnded got id core = (run : List Step) → Leads got run core → core.is_dead ≡ false → is_stream id ≡ true → is_served id run ≡ true
       → (is_over id run ≡ true) ⊎ (was_reset id run ≡ true)

@@ -1,5 +1,5 @@
 -- What a writer keeps follows from its run.
-use Rattle.std.specs.Prelude.{◌≡◌, ◌≢◌, ◌⊎◌, ◌&&◌, All, ℕ, ◌+◌, ◌≤◌, ◌==◌, Bool, true, false, List, [], ◌∷◌, ◌++◌, flat_map, Option, None, Some, IfSome, MatchOption, Result, Ok, Err, is_some, nat_lt, if◌then◌else◌}
+use Rattle.std.specs.Prelude.{◌≡◌, ◌≢◌, ◌⊎◌, ◌&&◌, All, ℕ, ◌+◌, ◌≤◌, ◌==◌, Bool, true, false, List, [], ◌∷◌, ◌++◌, flat_map, Option, None, Some, IfSome, MatchOption, is_some, nat_lt, if◌then◌else◌}
 use Rattle.std.specs.List.{list_any}
 use Rattle.flow.specs.WindowHistory.{Follows, Closing, Spending, CanCredit, CanResize}
 use Rattle.flow.specs.WindowHistory.{Step as WindowStep}
@@ -12,16 +12,14 @@ use Rattle.outwriter.specs.declared.control.Control.TheVariants as control
 use Rattle.outwriter.specs.declared.stream.OpenStream.{OpenStream}
 use Rattle.outwriter.specs.declared.control.OutFault.{OutFault}
 use Rattle.outwriter.specs.declared.control.OutFault.TheVariants.{OutOfMemory, PeerWindow}
-use Rattle.outwriter.specs.declared.next.Next.{Next}
-use Rattle.outwriter.specs.declared.next.Next.TheVariants as next
 use Rattle.outwriter.specs.declared.due.Due.{Due}
 use Rattle.outwriter.specs.declared.due.Due.TheVariants as due_kind
 use Rattle.outwriter.specs.declared.outbound.Outbound.{Outbound}
 use Rattle.outwriter.specs.States.{States, SetsEnd, StandAs, over_on, owed_on, pays, knows, is_reset}
 use Rattle.outwriter.specs.Frames.{is_last, resets, settings_ack, ping_ack, goaway_frame}
 use Rattle.outwriter.specs.Histories.{HasHistory, HasWindow, Overflows, window_sizes, is_over, is_stream}
-use Rattle.outwriter.specs.Runs.{IsLawful, has_begun, IsAsked, due, told, unfinished, granted, updated, owed, may_owe, is_opened, was_reset, MayWrite}
-use Rattle.outwriter.specs.Steps.{Step, Taken, Written, frames_of, order_of}
+use Rattle.outwriter.specs.Runs.{has_begun, IsAsked, due, told, unfinished, granted, updated, owed, may_owe, is_opened, was_reset, MayWrite}
+use Rattle.outwriter.specs.Steps.{Step, Written, frames_of}
 
 -- the windows follow from the history of the run's
 abbrev pub HasWindows : List Step → Windows → Type 0
@@ -121,8 +119,8 @@ abbrev pub MirrorsOf : List Step → Outbound → Type 0
 MirrorsOf run o = Mirrors run o.begun o.gone o.windows o.due.items o.block o.states
 
 -- whatever run led to the state before, with this step it leads to the state after
-abbrev pub Leads : Step → Outbound → Outbound → Type 0
-Leads step old new = (run : List Step) → MirrorsOf run old → MirrorsOf (step ∷ run) new
+abbrev pub MirrorsOn : Step → Outbound → Outbound → Type 0
+MirrorsOn step old new = (run : List Step) → MirrorsOf run old → MirrorsOf (step ∷ run) new
 
 -- and the frame might be written
 abbrev pub Writes : Frame → Outbound → Outbound → Type 0
@@ -168,31 +166,7 @@ abbrev pub Progresses : Option Frame → Outbound → Outbound → Type 0
 Progresses (Some frame) old new = Writes frame old new
 Progresses None old new = Stays old new
 
--- ---- what callers see
-
--- a run leads to this state, and each of its frames was lawful
-abbrev pub Reached : List Step → Outbound → Type 0
-Reached run o = MirrorsOf run o × IsLawful run
-
--- whatever run led to the state before, with this step it leads to the state after
-abbrev pub GoesOn : Step → Outbound → Outbound → Type 0
-GoesOn step old new = (run : List Step) → Reached run old → Reached (step ∷ run) new
-
-abbrev pub Remains : Outbound → Outbound → Type 0
-Remains old new = (run : List Step) → Reached run old → Reached run new
-
-module _ {S : Type 0} where
-  -- a control that is taken is the next step; where it is handed back, there is none
-  abbrev pub Takes : Result (Unit {0}) (OutFault S) → Control S → Outbound → Outbound → Type 0
-  Takes (Ok done) taken old new = GoesOn (Taken (order_of taken)) old new
-  Takes (Err (PeerWindow id)) taken old new = GoesOn (Taken (order_of taken)) old new
-  Takes (Err (OutOfMemory back)) taken old new = (back ≡ Some taken) × Remains old new
-
--- a frame is the next step
-abbrev pub Answers : Next → Outbound → Outbound → Type 0
-Answers (next.Frame frame) old new = GoesOn (Written frame) old new
-Answers next.Idle old new = Remains old new
-Answers next.Over old new = Remains old new
+-- ---- where no frame comes
 
 -- no header block is unfinished, nothing is due and no credit is owed; or nothing is written any more
 abbrev pub IsSpent : Outbound → Type 0
@@ -201,12 +175,6 @@ IsSpent o = (o.gone ≡ true) ⊎ ((o.block ≡ None) × (o.due.items ≡ []) ×
 -- all that controls obliged to was written, each header block is whole and no credit is owed; or nothing is written any more
 abbrev pub IsAnswered : List Step → Type 0
 IsAnswered run = (list_any is_last (frames_of run) ≡ true) ⊎ ((told run ≡ due run) × (unfinished run ≡ None) × ((id : ℕ) → owed id run ≡ 0))
-
--- so it is of each run that leads here, where no frame comes
-abbrev pub AnswersAll : Next → Outbound → Type 0
-AnswersAll (next.Frame frame) o = Unit {0}
-AnswersAll next.Idle o = (run : List Step) → Reached run o → IsAnswered run
-AnswersAll next.Over o = (run : List Step) → Reached run o → IsAnswered run
 
 -- what is due and what is owed is the same
 abbrev pub SameOwn : Outbound → Outbound → Type 0
@@ -246,8 +214,3 @@ module _ {S : Type 0} where
       (history : List WindowStep) × HasHistory run history × (HasWindow history stream → CanCredit history stream n)
   HasRoom (control.Settings settings) run = (history : List WindowStep) × HasHistory run history × All (CanResize history) (window_sizes settings)
   HasRoom _ run = Unit {0}
-
-  -- out of memory, and no fault of the peer
-  abbrev pub IsMemory : OutFault S → Type 0
-  IsMemory (OutOfMemory back) = Unit {0}
-  IsMemory (PeerWindow id) = ⊥

@@ -36,18 +36,14 @@ impl<L: Lane<Item = OutItem>> OutCore<L> {
     ghost use Rattle.h2frame.specs.declared.frame.Frame.{Frame as FrameOf};
     ghost use Rattle.h2frame.specs.Spelling.{IsWritable};
     ghost use Rattle.outwriter.specs.Frames.{IsSound};
-    ghost use Rattle.outwriter.specs.Cores.{Serving, ServesNext, QuietNext, NoFrameNext, EndedNext, ClosedNext, PartsAfter, lanes};
+    ghost use Rattle.outwriter.specs.Cores.{Leads, LeadsNext, RestsNext, lanes};
     ghost use Rattle.outwriter.specs.Polls.{coming};
     ghost use Rattle.outwriter.specs.Steps.{Step};
-    ghost use Rattle.outwriter.specs.RunState.{Answers, AnswersAll, Reached};
 
     /// The next frame. Once it was out of memory the core is dead, and answers that again.
     pub fn next_frame(&mut self) -> Result<Next, OutFault<Sender<L>>>
-        // A frame that comes next extends a lawful run.
-        ensures next { IfOk result (λ next. Answers next self.old.sending.outbound self.new.sending.outbound) }
-
-        // So it does for what was told of each call.
-        ensures served { ServesNext L.got result self.old self.new }
+        // A frame that comes is the next step of the run.
+        ensures leads { LeadsNext L.got result self.old self.new }
 
         // What a frame's writer asks of it.
         ensures sound { IfOk result (λ next. (frame : FrameOf) → next ≡ next_kind.Frame frame → IsSound frame) }
@@ -55,28 +51,14 @@ impl<L: Lane<Item = OutItem>> OutCore<L> {
         ensures writable { IfOk result (λ next. (frame : FrameOf) → next ≡ next_kind.Frame frame → IsWritable frame) }
         ensures dead { self.old.is_dead ≡ true → result ≡ Err (out_fault.OutOfMemory None) }
         ensures dies { IfErr result (λ fault. (fault ≡ out_fault.OutOfMemory None) × (self.new.is_dead ≡ true)) }
-        ensures parts { IfErr result (λ fault. PartsAfter self.old self.new) }
         ensures over { IfOk result (λ next. next ≡ next_kind.Over → self.new.closed ≡ true) }
-
-        // It is over exactly where a Close was taken: that no more comes from the peer is none.
-        ensures closed { IfOk result (λ next. (run : List Step) → Serving L.got run self.old → ClosedNext run next) }
 
         // Each sender stays at its place, an end of the same lane.
         ensures senders { lanes L.out_name self.new.sending.senders.items ≡ lanes L.out_name self.old.sending.senders.items }
 
-        // Where none comes, a GOAWAY with an error was written; or all was that the controls obliged to, with each header block whole, and
-        // all the credit that is owed by the run.
-        ensures answered { IfOk result (λ next. AnswersAll next self.new.sending.outbound) }
-
-        // Of each open stream there is nothing that can be written, what was found ahead of its sender included. Of a call that
-        // was left nothing is written.
-        ensures quiet { IfOk result (λ next. (run : List Step) → Serving L.got run self.old → self.old.is_dead ≡ false → QuietNext (coming L.got L.ahead) next self.new) }
-
-        // So each call has ended or was reset, or has nothing that can be written now.
-        ensures no_frame { IfOk result (λ next. (run : List Step) → Reached run self.old.sending.outbound → Serving L.got run self.old → self.old.is_dead ≡ false → NoFrameNext (coming L.got L.ahead) run next self.new) }
-
-        // And the end of each stream that a Reset or a Refuse called off was written.
-        ensures ended { IfOk result (λ next. (run : List Step) → Reached run self.old.sending.outbound → Serving L.got run self.old → self.old.is_dead ≡ false → EndedNext run next self.new) }
+        // Where none comes, all was written that could be, what was found ahead of the senders included. It is over exactly where a Close was
+        // taken: that no more comes from the peer is none.
+        ensures rests { IfOk result (λ next. (run : List Step) → Leads L.got run self.old → RestsNext (coming L.got L.ahead) run next self.new) }
     {
         if self.is_dead {
             return Err(OutFault::OutOfMemory(None));

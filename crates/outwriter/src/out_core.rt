@@ -8,9 +8,9 @@
 //! was told of each call stays a prefix, so its senders can be brought back.
 
 ghost use Rattle.std.specs.Prelude.{◌≡◌, List, [], ◌∷◌, Some, None, Err, false, true, OnOk, IfErr, IfSome};
-ghost use Rattle.outwriter.specs.Cores.{calls, open_stream, Serving, ServesOn, ServesControl, Brings, Parts};
+ghost use Rattle.outwriter.specs.Cores.{Brings, Leads, LeadsControl, LeadsOn, calls, open_stream};
 ghost use Rattle.outwriter.specs.declared.control.OutFault.TheVariants as out_fault;
-ghost use Rattle.outwriter.specs.RunState.{Reached, GoesOn, Takes, Blames, Concerns, HasRoom, is_held};
+ghost use Rattle.outwriter.specs.RunState.{Blames, Concerns, HasRoom, is_held};
 ghost use Rattle.flow.specs.Windows.{room};
 ghost use Rattle.outwriter.specs.Calls.{TellFronts, TellReturned, TellOthers};
 ghost use Rattle.h2frame.specs.Spelling.{IsWritable};
@@ -44,8 +44,7 @@ pub struct OutCore<L: Lane<Item = OutItem>> {
 impl<L: Lane<Item = OutItem>> OutCore<L> {
     /// The core of a connection on which nothing was written. It takes no memory yet.
     pub fn new(alloc: Global) -> OutCore<L>
-        ensures reached { Reached [] result.sending.outbound }
-        ensures serving { Serving L.got [] result }
+        ensures leads { Leads L.got [] result }
         ensures alive { result.is_dead ≡ false }
         ensures open { result.closed ≡ false }
         ensures senders { result.sending.senders.items ≡ [] }
@@ -62,18 +61,15 @@ impl<L: Lane<Item = OutItem>> OutCore<L> {
     /// 2^31 - 1 bytes is a fault of the peer, of which no window changes, and the control counts as taken. A dead core
     /// hands each back.
     pub fn control(&mut self, control: Control<Sender<L>>) -> Result<(), OutFault<Sender<L>>>
-        // The control is the next step of the run, unless it is handed back.
-        ensures taken { Takes result control self.old.sending.outbound self.new.sending.outbound }
-
-        // So it is for what was told of each call, where an Open brings a sender of which nothing was got.
-        ensures served { ServesControl L.got result control self.old self.new }
+        // The control is the next step of the run, unless it is handed back. An Open brings a sender of which nothing was got.
+        ensures leads { LeadsControl L.got result control self.old self.new }
 
         // The sender of an Open that is taken stands behind the others, and nothing else changes them.
         ensures brings { Brings result control self.old.sending.senders.items self.new.sending.senders.items }
 
         // A fault of the peer is answered exactly where it stands.
-        ensures fault { IfErr result (λ fault. (run : List Step) → Reached run self.old.sending.outbound → Blames fault control run) }
-        ensures room { OnOk result ((run : List Step) → Reached run self.old.sending.outbound → HasRoom control run) }
+        ensures fault { IfErr result (λ fault. (run : List Step) → Leads L.got run self.old → Blames fault control run) }
+        ensures room { OnOk result ((run : List Step) → Leads L.got run self.old → HasRoom control run) }
 
         // It is that of the stream to which the peer gave credit, or of the connection where its SETTINGS are.
         ensures whose { IfErr result (λ fault. Concerns fault control) }
@@ -109,8 +105,8 @@ impl<L: Lane<Item = OutItem>> OutCore<L> {
                 }
             }
             Control::Open(id, sender) => self.sending.begin(id, sender),
-            Control::Refuse(id, fields) => self.sending.refuse(id, fields),
-            Control::Reset { id, code, written } => self.sending.reset(id, code, written),
+            Control::Refuse(id, fields) => self.sending.outbound.refuse(id, fields),
+            Control::Reset { id, code, written } => self.sending.outbound.reset(id, code, written),
             Control::Goaway { last, code } => {
                 self.sending.outbound.take_goaway(last, code);
                 Ok(())
@@ -129,7 +125,7 @@ impl<L: Lane<Item = OutItem>> OutCore<L> {
         ensures goaway { IfSome result (λ frame. frame ≡ goaway_frame last code) }
 
         // As one that a control asked for, it may be written behind the run.
-        ensures lawful { IfSome result (λ frame. (run : List Step) → Parts run self.old → MayWrite (Taken (order.Goaway last code) ∷ run) frame) }
+        ensures lawful { IfSome result (λ frame. (run : List Step) → Leads L.got run self.old → MayWrite (Taken (order.Goaway last code) ∷ run) frame) }
         ensures writable { IfSome result IsWritable }
         ensures dead { self.old.is_dead ≡ false → result ≡ None }
         ensures rest { self.new ≡ record self.old { may_part = self.new.may_part } }
@@ -150,8 +146,7 @@ impl<L: Lane<Item = OutItem>> OutCore<L> {
     /// most 2^31 - 1 are owed at once. Nothing changes for a stream of no call, and for one that was reset.
     pub fn grant(&mut self, id: StreamId, n: u32)
         // That it is granted is the next step of the run, by which what is owed is counted.
-        ensures granted { GoesOn (Granted id n) self.old.sending.outbound self.new.sending.outbound }
-        ensures served { ServesOn L.got (Granted id n) self.old self.new }
+        ensures leads { LeadsOn L.got (Granted id n) self.old self.new }
         ensures rest { self.new ≡ record self.old { sending = record self.old.sending { outbound = self.new.sending.outbound } } }
     {
         self.sending.outbound.grant(id, n);
@@ -169,13 +164,13 @@ impl<L: Lane<Item = OutItem>> OutCore<L> {
         ensures senders { result ≡ self.sending.senders }
 
         // What was told of each call begins what the items that were got of its sender spell.
-        ensures fronts { (run : List Step) → Serving L.got run self → TellFronts run (calls L.got result.items) }
+        ensures fronts { (run : List Step) → Leads L.got run self → TellFronts run (calls L.got result.items) }
 
         // So does what was told of each call whose sender was given back.
-        ensures returned { (run : List Step) → Serving L.got run self → TellReturned run }
+        ensures returned { (run : List Step) → Leads L.got run self → TellReturned run }
 
         // Of a stream that was never opened nothing was told, a reset, or what a Refuse asked for.
-        ensures others { (run : List Step) → Serving L.got run self → TellOthers run }
+        ensures others { (run : List Step) → Leads L.got run self → TellOthers run }
     {
         let OutCore { sending, .. } = self;
         let Sending { senders, .. } = sending;

@@ -17,6 +17,7 @@ ghost use Rattle.outwriter.specs.ToldByNow.{SpellsOf};
 ghost use Rattle.flow.specs.declared.send_windows.WindowFault.TheVariants as window_fault;
 
 use crate::blocks::HeaderBlock;
+use crate::control::{Control, OutFault};
 use crate::due::Due;
 use crate::resize::resize;
 use crate::states::StreamStates;
@@ -47,9 +48,10 @@ impl Outbound {
     ghost use Rattle.std.specs.VecDeque.{deque_len, deque_capacity};
     ghost use Rattle.outwriter.specs.Steps.{Step, Taken, Granted};
     ghost use Rattle.outwriter.specs.Histories.{opens, HasWindow, Overflows, window_sizes};
-    ghost use Rattle.outwriter.specs.RunState.{IsBetween, MirrorsOf, Leads, Stays};
+    ghost use Rattle.outwriter.specs.RunState.{IsBetween, MirrorsOf, MirrorsOn, Stays};
     ghost use Rattle.outwriter.specs.CallState.{Takes, none_is_new};
-    ghost use Rattle.outwriter.specs.CoreChanges.{becomes_open, due_reset};
+    ghost use Rattle.outwriter.specs.CoreChanges.{KeptOn, becomes_open, due_reset, is_new_call as is_new_call_of};
+    ghost use Rattle.outwriter.specs.declared.control.OutFault.TheVariants as out_fault;
     ghost use Rattle.outwriter.specs.declared.control.Control.TheVariants as order;
     ghost use Rattle.outwriter.specs.declared.due.Due.TheVariants as due_kind;
 
@@ -95,7 +97,7 @@ impl Outbound {
     /// windows would be over 2^31 - 1, none changes.
     pub(crate) fn take_settings(&mut self, settings: &PeerSettings) -> Result<(), WindowFault>
         requires room { deque_len self.old.due < deque_capacity self.old.due }
-        ensures taken { Leads (Taken (order.Settings settings.now)) self.old self.new }
+        ensures taken { MirrorsOn (Taken (order.Settings settings.now)) self.old self.new }
         ensures takes { Takes (due_kind.SettingsAck ∷ []) none_is_new (table_sizes settings.now) self.old self.new }
         ensures fits { OnOk result ((history : List WindowStep) → Follows history self.old.windows → All (CanResize history) (window_sizes settings.now)) }
         ensures over { OnErr result ((history : List WindowStep) → Follows history self.old.windows → ¬ All (CanResize history) (window_sizes settings.now)) }
@@ -109,7 +111,7 @@ impl Outbound {
     /// Owes the answer to a PING.
     pub(crate) fn take_ping(&mut self, bytes: [u8; 8])
         requires room { deque_len self.old.due < deque_capacity self.old.due }
-        ensures taken { Leads (Taken (order.Ping bytes)) self.old self.new }
+        ensures taken { MirrorsOn (Taken (order.Ping bytes)) self.old self.new }
         ensures takes { Takes (due_kind.PingAck bytes ∷ []) none_is_new [] self.old self.new }
         ensures encoder { self.new.encoder ≡ self.old.encoder }
     {
@@ -118,7 +120,7 @@ impl Outbound {
 
     /// Takes the peer's credit, and answers whether the window has room for it. A stream that isn't open is none to credit.
     pub(crate) fn take_window(&mut self, id: StreamId, increment: u32) -> bool
-        ensures taken { Leads (Taken (order.Window id increment)) self.old self.new }
+        ensures taken { MirrorsOn (Taken (order.Window id increment)) self.old self.new }
         ensures takes { Takes [] none_is_new [] self.old self.new }
         ensures fits { result ≡ true → (history : List WindowStep) → Follows history self.old.windows → HasWindow history id → CanCredit history id increment }
         ensures over { result ≡ false → (history : List WindowStep) → Follows history self.old.windows → Overflows history id increment }
@@ -130,21 +132,15 @@ impl Outbound {
 
     /// Opens the window of a call's stream, unless it is open or over, and its state, if the stream is new. It becomes
     /// open where nothing was heard of it; its sender stands at a place. Out of memory, it changes nothing.
-    pub(crate) fn take_open(
-        &mut self,
-        id: StreamId,
-        is_new: bool,
-        place: usize,
-    ) -> Result<(), AllocError>
-        requires { is_new ≡ (is_number id && not (knows self.old.states id)) }
-        ensures taken { OnOk result (Leads (Taken (order.Open id tt)) self.old self.new) }
+    pub(crate) fn take_open(&mut self, id: StreamId, place: usize) -> Result<(), AllocError>
+        ensures taken { OnOk result (MirrorsOn (Taken (order.Open id tt)) self.old self.new) }
         ensures stays { OnErr result (Stays self.old self.new) }
-        ensures takes { OnOk result (Takes [] (λ other. is_new && (other == id)) [] self.old self.new) }
+        ensures takes { OnOk result (Takes [] (λ other. is_new_call_of self.old id && (other == id)) [] self.old self.new) }
+        ensures becomes { OnOk result ((k : ℕ) → open_at self.new.states k ≡ (if becomes_open self.old id && (k == id) then Some (stream_at place) else open_at self.old.states k)) }
         ensures takes_none { OnErr result (Takes [] none_is_new [] self.old self.new) }
-        ensures becomes { OnOk result ((k : ℕ) → (open_at self.new.states) k ≡ (if becomes_open self.old id && (k == id) then Some (stream_at place) else (open_at self.old.states) k)) }
-        ensures states { OnErr result (self.new.states ≡ self.old.states) }
         ensures encoder { self.new.encoder ≡ self.old.encoder }
     {
+        let is_new = self.is_new_call(id);
         if !self.opens(id) {
             return open_state(&mut self.states, id, is_new, place);
         }
@@ -160,6 +156,13 @@ impl Outbound {
         }
     }
 
+    /// Whether a stream is a call's from now on, and wasn't yet.
+    fn is_new_call(&self, id: StreamId) -> bool
+        ensures { result ≡ is_new_call_of self.now id }
+    {
+        is_stream(id) && !self.states.state(id).is_call()
+    }
+
     /// Whether an Open opens a stream's window.
     fn opens(&self, id: StreamId) -> bool
         ensures value { (run : List Step) (history : List WindowStep) → HasOver run self.now.states → Follows history self.now.windows → result ≡ opens run history id }
@@ -169,16 +172,33 @@ impl Outbound {
         is_stream(id) && self.states.state(id).over().is_none() && !self.windows.has(id)
     }
 
-    /// Owes the one header block of a stream. Out of memory, it hands its fields back and changes nothing.
-    pub(crate) fn take_refuse(
+    /// Refuses a stream of which nothing was or will be written. Out of memory, it hands the control back and changes nothing.
+    pub(crate) fn refuse<S>(
         &mut self,
         id: StreamId,
         fields: Sequence<Field>,
-    ) -> Result<(), Sequence<Field>>
+    ) -> Result<(), OutFault<S>>
+        requires room { deque_len self.old.due < deque_capacity self.old.due }
+        ensures kept { OnOk result (KeptOn (Taken (order.Refuse id fields)) self.old self.new) }
+        ensures back { IfErr result (λ fault. fault ≡ out_fault.OutOfMemory (Some (order.Refuse id fields))) }
+        ensures unchanged { OnErr result (self.new ≡ self.old) }
+        ensures encoder { self.new.encoder ≡ self.old.encoder }
+    {
+        if !is_stream(id) || self.states.is_heard(id) {
+            return Ok(());
+        }
+        match self.take_refuse(id, fields) {
+            Ok(()) => Ok(()),
+            Err(fields) => Err(OutFault::OutOfMemory(Some(Control::Refuse(id, fields)))),
+        }
+    }
+
+    /// Owes the one header block of a stream. Out of memory, it hands its fields back and changes nothing.
+    fn take_refuse(&mut self, id: StreamId, fields: Sequence<Field>) -> Result<(), Sequence<Field>>
         requires stream { 0 < id }
         requires number { id < 2 ^ 31 }
         requires room { deque_len self.old.due < deque_capacity self.old.due }
-        ensures taken { OnOk result (Leads (Taken (order.Refuse id fields)) self.old self.new) }
+        ensures taken { OnOk result (MirrorsOn (Taken (order.Refuse id fields)) self.old self.new) }
         ensures takes { OnOk result (Takes (due_kind.Refuse id fields ∷ []) none_is_new [] self.old self.new) }
         ensures back { IfErr result (λ back. back ≡ fields) }
         ensures unchanged { OnErr result (self.new ≡ self.old) }
@@ -193,16 +213,34 @@ impl Outbound {
         }
     }
 
-    /// Resets a stream: its window is closed, no credit is owed on it, and nothing is written on it any more but RST_STREAM, where the Reset
-    /// is to be written and the stream had neither ended nor been reset. Out of memory, it changes nothing.
-    pub(crate) fn take_reset(
+    /// Resets a stream, which isn't open any more. Nothing is written of one that has ended or was reset. Out of memory, it hands the control
+    /// back and changes nothing.
+    pub(crate) fn reset<S>(
         &mut self,
         id: StreamId,
         code: ErrorCode,
         written: bool,
-    ) -> Result<(), AllocError>
+    ) -> Result<(), OutFault<S>>
         requires room { deque_len self.old.due < deque_capacity self.old.due }
-        ensures taken { OnOk result (Leads (Taken (order.Reset id code written)) self.old self.new) }
+        ensures kept { OnOk result (KeptOn (Taken (order.Reset id code written)) self.old self.new) }
+        ensures back { IfErr result (λ fault. fault ≡ out_fault.OutOfMemory (Some (order.Reset id code written))) }
+        ensures unchanged { OnErr result (self.new ≡ self.old) }
+        ensures encoder { self.new.encoder ≡ self.old.encoder }
+    {
+        match self.take_reset(id, code, written) {
+            Ok(()) => {
+                self.states.close(id);
+                Ok(())
+            }
+            Err(_e) => Err(OutFault::OutOfMemory(Some(Control::Reset { id, code, written }))),
+        }
+    }
+
+    /// Resets a stream: its window is closed, no credit is owed on it, and nothing is written on it any more but RST_STREAM, where the Reset
+    /// is to be written and the stream had neither ended nor been reset. Out of memory, it changes nothing.
+    fn take_reset(&mut self, id: StreamId, code: ErrorCode, written: bool) -> Result<(), AllocError>
+        requires room { deque_len self.old.due < deque_capacity self.old.due }
+        ensures taken { OnOk result (MirrorsOn (Taken (order.Reset id code written)) self.old self.new) }
         ensures takes { OnOk result (Takes (due_reset self.old id code written) none_is_new [] (record self.old { states = self.new.states }) self.new) }
         ensures marks { OnOk result ((k : ℕ) → (knows self.new.states k ≡ knows self.old.states k) × (is_reset self.new.states k ≡ ((is_number id && (k == id)) || is_reset self.old.states k))) }
         ensures heard { OnOk result ((k : ℕ) → is_heard self.new.states k ≡ ((is_number id && (k == id)) || is_heard self.old.states k)) }
@@ -222,7 +260,7 @@ impl Outbound {
 
     /// Owes n bytes more of credit.
     pub(crate) fn grant(&mut self, id: StreamId, n: u32)
-        ensures granted { Leads (Granted id n) self.old self.new }
+        ensures taken { MirrorsOn (Granted id n) self.old self.new }
         ensures takes { Takes [] none_is_new [] self.old self.new }
     {
         self.states.grant(id, n);
@@ -231,7 +269,7 @@ impl Outbound {
     /// Owes GOAWAY.
     pub(crate) fn take_goaway(&mut self, last: StreamId, code: ErrorCode)
         requires room { deque_len self.old.due < deque_capacity self.old.due }
-        ensures taken { Leads (Taken (order.Goaway last code)) self.old self.new }
+        ensures taken { MirrorsOn (Taken (order.Goaway last code)) self.old self.new }
         ensures takes { Takes (due_kind.Goaway last code ∷ []) none_is_new [] self.old self.new }
         ensures encoder { self.new.encoder ≡ self.old.encoder }
     {

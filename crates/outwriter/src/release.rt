@@ -14,17 +14,16 @@ use h2frame::StreamId;
 use lane::Lane;
 
 impl<L: Lane<Item = OutItem>> OutCore<L> {
-    ghost use Rattle.outwriter.specs.Cores.{ServesOn};
+    ghost use Rattle.outwriter.specs.Cores.{LeadsOn};
     ghost use Rattle.outwriter.specs.Releases.{IsThrough, HasNone, Releases, HasEnded};
-    ghost use Rattle.outwriter.specs.RunState.{GoesOn, SameButOpen};
+    ghost use Rattle.outwriter.specs.RunState.{SameButOpen};
     ghost use Rattle.outwriter.specs.Steps.{Returned};
 
     /// Gives back the sender of a call that is through: its stream isn't open any more, and no header block of it is
     /// unfinished. It takes no memory. A stream that was opened twice has two.
     pub fn release(&mut self, id: StreamId) -> Option<Sender<L>>
         // That it is given back, with what it has given, is the next step of the run.
-        ensures taken { IfSome result (λ sender. GoesOn (Returned id (L.got sender.rx)) self.old.sending.outbound self.new.sending.outbound) }
-        ensures served { IfSome result (λ sender. ServesOn L.got (Returned id (L.got sender.rx)) self.old self.new) }
+        ensures leads { IfSome result (λ sender. LeadsOn L.got (Returned id (L.got sender.rx)) self.old self.new) }
 
         // It is one of this stream's that were kept, and the last takes its place.
         ensures releases { IfSome result (λ sender. Releases id sender self.old.sending.senders.items self.new.sending.senders.items) }

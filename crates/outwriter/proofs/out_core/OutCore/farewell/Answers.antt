@@ -12,8 +12,8 @@ pub returns-in-Ok-clause-writable : goal.returns-in-Ok-clause-writable
 returns-in-Ok-clause-writable g c = subst IsWritable (sym c.in-Ok.ensures) (goaway-writable c.args.last c.args.code)
 
 pub returns-in-Ok-clause-lawful : goal.returns-in-Ok-clause-lawful
-returns-in-Ok-clause-lawful g c = λ run parts. elim c.if-self.branch [
+returns-in-Ok-clause-lawful g c = λ run l. elim c.if-self.branch [
   | then-self w ↦ subst (λ (frame : Frame). MayWrite (Taken (Goaway c.args.last c.args.code) ∷ run) frame) (sym c.in-Ok.ensures)
-      (parts w.if-self.true (sym w.may_part-is ∙ c.if-not-may_part.false) c.args.last c.args.code)
+      (l.parts w.if-self.true (sym w.may_part-is ∙ c.if-not-may_part.false) c.args.last c.args.code)
   | else-self w ↦ absurd (true≢false (sym c.if-not-may_part.false ∙ w.may_part-is ∙ w.if-self.false))
 ]

@@ -1,8 +1,8 @@
 use Rattle.std.proofs.Common.{false, refl}
-use Rattle.outwriter.proofs.CallStepsCores.{serving-nothing}
+use Rattle.outwriter.proofs.Leads.{leads-nothing}
 use Rattle.outwriter.proofs.out_core.OutCore.new.Goals as goal
 
-pub returns-clause-serving : goal.returns-clause-serving
-returns-clause-serving g c =
-    serving-nothing g.L.Lane.got (record { is_dead = false; may_part = false; closed = false; sending = c.new.result })
-    refl c.new.ensures.senders c.new.ensures.spells c.new.ensures.due c.new.ensures.states
+pub returns-clause-leads : goal.returns-clause-leads
+returns-clause-leads g c =
+    leads-nothing g.L.Lane.got (record { is_dead = false; may_part = false; closed = false; sending = c.new.result })
+    refl refl c.new.ensures.mirrors c.new.ensures.senders c.new.ensures.spells c.new.ensures.due c.new.ensures.states

@@ -1,17 +1,12 @@
 use Rattle.std.proofs.Common.{rules, refl, subst}
 use Rattle.outwriter.specs.Releases.{MovedTo}
 use Rattle.outwriter.specs.States.{open_at}
-use Rattle.outwriter.proofs.ReturnSteps.{goes-returned, has-ended, released, released-entry}
+use Rattle.outwriter.proofs.ReturnSteps.{has-ended, released, released-entry}
 use Rattle.outwriter.proofs.RunStateSteps.{but-open}
 use Rattle.outwriter.proofs.out_core.OutCore.release.Goals as goal
 
-pub returns-clause-taken : goal.returns-clause-taken
-returns-clause-taken g c =
-    let old = c.args.self.now.sending.outbound in
-    goes-returned old (record old { states = c.move_last.new.states }) c.args.id (g.L.Lane.got c.swap_remove-id.result.1.rx) (but-open old c.move_last.new.states c.move_last.ensures.stands)
-
-pub returns-clause-served : goal.returns-clause-served
-returns-clause-served g c =
+pub returns-clause-leads : goal.returns-clause-leads
+returns-clause-leads g c =
     let old = c.args.self.now.sending in
     released g.L.Lane.got c.args.self.now
     (record c.args.self.now { sending = record old { senders = c.swap_remove-id.new.self; outbound = record old.outbound { states = c.move_last.new.states } } }) c.in_ok-place.place c.args.id

@@ -25,7 +25,7 @@ all (Err e) g a b c d f = tt
 
 pub returns-then-not-opens-clause-taken : goal.returns-then-not-opens-clause-taken
 returns-then-not-opens-clause-taken c = all c.open_state.result
-    (λ owed pays known resets ends run m. open-led c.args.id run _ _ _ _ _ _ c.args.is_new c.args.self.now.states c.open_state.new.states c.requires owed pays known resets ends
+    (λ owed pays known resets ends run m. open-led c.args.id run _ _ _ _ _ _ c.is_new_call-is_new.result c.args.self.now.states c.open_state.new.states c.is_new_call-is_new.ensures owed pays known resets ends
     (open-taken run c.args.id c.args.self.now.windows c.args.self.now.windows c.opens.result (λ h f. c.opens.ensures.value run h m.stand.over f)
     (λ h f. subst (λ b. Follows (if b then Opening c.args.id ∷ h else h) c.args.self.now.windows) (sym c.if-not-opens.true) f)
     m.windows_follow) m)
@@ -33,7 +33,7 @@ returns-then-not-opens-clause-taken c = all c.open_state.result
 
 pub returns-in-Ok-open_state-clause-taken : goal.returns-in-Ok-open_state-clause-taken
 returns-in-Ok-open_state-clause-taken c = λ run m.
-    open-led c.args.id run _ _ _ _ _ _ c.args.is_new c.args.self.now.states c.open_state-2.new.states c.requires c.in-Ok-open_state.ensures.owed c.in-Ok-open_state.ensures.pays
+    open-led c.args.id run _ _ _ _ _ _ c.is_new_call-is_new.result c.args.self.now.states c.open_state-2.new.states c.is_new_call-is_new.ensures c.in-Ok-open_state.ensures.owed c.in-Ok-open_state.ensures.pays
     c.in-Ok-open_state.ensures.known c.in-Ok-open_state.ensures.resets c.in-Ok-open_state.ensures.over
     (open-taken run c.args.id c.args.self.now.windows c.open.new.self c.opens.result (λ h f. c.opens.ensures.value run h m.stand.over f)
     (λ h f. subst (λ b. Follows (if b then Opening c.args.id ∷ h else h) c.open.new.self) (sym c.if-not-opens.false) (c.in-Ok.ensures.follows h f))
@@ -41,10 +41,10 @@ returns-in-Ok-open_state-clause-taken c = λ run m.
 
 pub returns-then-not-opens-clause-becomes : goal.returns-then-not-opens-clause-becomes
 returns-then-not-opens-clause-becomes c = on-both c.open_state.result _ _ _
-    (opened-when c.args.id (Some (stream_at c.args.place)) c.args.self.now.states c.open_state.new.states (is_stream c.args.id) c.args.is_new c.requires)
+    (opened-when c.args.id (Some (stream_at c.args.place)) c.args.self.now.states c.open_state.new.states (is_stream c.args.id) c.is_new_call-is_new.result c.is_new_call-is_new.ensures)
     c.open_state.ensures.same c.open_state.ensures.becomes
 
 pub returns-in-Ok-open_state-clause-becomes : goal.returns-in-Ok-open_state-clause-becomes
 returns-in-Ok-open_state-clause-becomes c =
-    opened-when c.args.id (Some (stream_at c.args.place)) c.args.self.now.states c.open_state-2.new.states (is_stream c.args.id) c.args.is_new c.requires
+    opened-when c.args.id (Some (stream_at c.args.place)) c.args.self.now.states c.open_state-2.new.states (is_stream c.args.id) c.is_new_call-is_new.result c.is_new_call-is_new.ensures
     c.in-Ok-open_state.ensures.same c.in-Ok-open_state.ensures.becomes
