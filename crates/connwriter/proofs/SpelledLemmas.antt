@@ -17,7 +17,7 @@ use Rattle.std.specs.Prelude.{if◌then◌else◌}
 use Rattle.outwriter.specs.Frames.{ends_stream}
 use Rattle.connwriter.specs.declared.standing.Standing.{Standing}
 use Rattle.connwriter.specs.declared.standing.Standing.TheVariants.{Going, OutOfMemory, Broken}
-use Rattle.connwriter.specs.Spelled.{spelled_all, ended_by, Parted, IsFront, IsAll, IsWhole, Holds}
+use Rattle.connwriter.specs.Spelled.{spelled_all, ended_by, Parted, IsFront, IsWhole, Holds}
 
 -- the earlier frames are spelled first
 pub spelled-append : (later earlier : List Frame) → spelled_all (later ++ earlier) ≡ spelled_all earlier ++ spelled_all later

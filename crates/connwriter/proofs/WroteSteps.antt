@@ -1,12 +1,9 @@
 -- What the steps of a writer do to what it wrote.
-use Rattle.std.proofs.Common.{◌≡◌, ◌≢◌, ◌∙◌, ℕ, Bool, true, false, true≢false, List, [], ◌∷◌, ◌++◌, Option, None, Some, ap, append_assoc, sym, refl, map, subst}
+use Rattle.std.proofs.Common.{◌≡◌, ◌≢◌, ◌∙◌, ℕ, Bool, true, false, List, [], ◌∷◌, ◌++◌, Option, None, Some, ap, append_assoc, sym, refl, map, subst}
 use Rattle.std.proofs.lemmas.List.{append-nil, map-append}
 use Rattle.account.specs.declared.call.OutItem.{OutItem}
 use Rattle.std.specs.Io.KnownBytes.{Appends}
-use Rattle.std.specs.Prelude.{◌==◌, ◌⊎◌, Ok, Err, IfSome, if◌then◌else◌}
-use Rattle.outwriter.specs.Calls.{TellEnds}
-use Rattle.outwriter.specs.RunState.{IsAnswered}
-use Rattle.outwriter.specs.Cores.{HaveNoFrame}
+use Rattle.std.specs.Prelude.{◌==◌, Err, IfSome, if◌then◌else◌}
 use Rattle.callbox.specs.declared.sender.Sender.{Sender}
 use Rattle.device.specs.Bytes.{AppendsPrefix}
 use Rattle.h2frame.specs.declared.error_code.ErrorCode.TheVariants.{FlowControlError}
@@ -17,27 +14,21 @@ use Rattle.outwriter.specs.declared.control.OutFault.{OutFault}
 use Rattle.outwriter.specs.declared.control.OutFault.TheVariants as out_fault
 use Rattle.outwriter.specs.declared.control.OutFault.TheVariants.{PeerWindow}
 use Rattle.outwriter.specs.declared.out_core.OutCore.{OutCore}
-use Rattle.outwriter.specs.Cores.{IsUnused, Serving, ServesControl, ServesOn, ServesStill}
-use Rattle.outwriter.specs.RunState.{Concerns, Reached, GoesOn, Remains, Takes}
-use Rattle.outwriter.specs.Steps.{Step, Order, Taken, Granted, Written, Returned, frames_of, order_of}
-use Rattle.outwriter.specs.declared.next.Next.{Next}
+use Rattle.outwriter.specs.Cores.{IsUnused, Leads, LeadsControl, LeadsOn, LeadsStill}
+use Rattle.outwriter.specs.RunState.{Concerns}
+use Rattle.outwriter.specs.Steps.{Step, Order, Taken, Written, Returned, frames_of, order_of}
 use Rattle.connwriter.specs.declared.filled.Filled.{Filled}
 use Rattle.connwriter.specs.declared.standing.Standing.{Standing}
 use Rattle.connwriter.specs.declared.standing.Standing.TheVariants.{Going, OutOfMemory, Broken}
 use Rattle.connwriter.specs.declared.writer.ConnWriter.{ConnWriter}
 use Rattle.connwriter.specs.Orders.{own_control, own_order}
 use Rattle.connwriter.specs.Spelled.{Holds, IsFront, IsAll, IsWhole}
-use Rattle.connwriter.specs.Wrote.{Wrote, WritesOn, Fills, IsAtRest, Puts, Loses, PutsOr, RestsIf}
+use Rattle.connwriter.specs.Wrote.{Wrote, WritesOn, Fills, Puts, Loses, PutsOr, RestsIf}
 use Rattle.connwriter.proofs.SpelledLemmas.{parted-more, holds-all, holds-cut, holds-flushed, holds-front, holds-whole}
 
 appends-nothing : (bytes : Option (List ℕ)) → Appends bytes bytes []
 appends-nothing None = tt
 appends-nothing (Some xs) = sym (append-nil xs)
-
--- a dead core answers no frame
-pub alive-of : {F : Type 0} (dead : Bool) (next : Next) (fault : F) → (dead ≡ true → Ok next ≡ Err fault) → dead ≡ false
-alive-of true next fault h = let e = h refl in cc
-alive-of false next fault h = refl
 
 not-broken : Going ≢ Broken
 not-broken e = cc
@@ -48,139 +39,9 @@ not-going e = cc
 not-broken-2 : OutOfMemory ≢ Broken
 not-broken-2 e = cc
 
-module _ {L In Out Shut W : Type 0} (got : Out → List OutItem) (contents : W → Option (List ℕ)) (failed : W → Bool) where
-  -- the parts of which `Wrote` speaks are the same
-  pub same-wrote : (old new : ConnWriter L W In Out Shut) → new.core ≡ old.core → new.standing ≡ old.standing → new.device ≡ old.device
-      → new.buffer.items ≡ old.buffer.items → new.ended.items ≡ old.ended.items → WritesOn got contents failed [] old new
-  same-wrote old new core standing device buffer ended before run w = record {
-    lawful = w.lawful;
-    reached = subst (λ (found : OutCore L In Out Shut). found.is_dead ≡ false → Reached run found.outbound) (sym core) w.reached;
-    serving = subst (λ (found : OutCore L In Out Shut). Serving got run found) (sym core) w.serving;
-    bytes = rw (standing, device, buffer, ended) w.bytes;
-    marked = rw (standing, device) w.marked;
-  }
+-- ---- what a core answers
 
-  -- an order is taken
-  pub taken-on : (order : Order) (old : ConnWriter L W In Out Shut) (core : OutCore L In Out Shut) → GoesOn (Taken order) old.core.outbound core.outbound
-      → ServesOn got (Taken order) old.core core → core.is_dead ≡ old.core.is_dead → WritesOn got contents failed (Taken order ∷ []) old (record old { core = core })
-  taken-on order old core goes serves dead before run w = record {
-    lawful = w.lawful;
-    reached = λ alive. goes run (w.reached (sym dead ∙ alive));
-    serving = serves run w.serving;
-    bytes = w.bytes;
-    marked = w.marked;
-  }
-
-  -- credit is granted
-  pub granted-on : (id n : ℕ) (old : ConnWriter L W In Out Shut) (core : OutCore L In Out Shut) → GoesOn (Granted id n) old.core.outbound core.outbound
-      → ServesOn got (Granted id n) old.core core → core.is_dead ≡ old.core.is_dead → WritesOn got contents failed (Granted id n ∷ []) old (record old { core = core })
-  granted-on id n old core goes serves dead before run w = record {
-    lawful = w.lawful;
-    reached = λ alive. goes run (w.reached (sym dead ∙ alive));
-    serving = serves run w.serving;
-    bytes = w.bytes;
-    marked = w.marked;
-  }
-
-  -- a sender is given back
-  pub returned-on : (id : ℕ) (old : ConnWriter L W In Out Shut) (core : OutCore L In Out Shut) (result : Option (Sender L In Out Shut))
-      → IfSome result (λ sender. GoesOn (Returned id (got sender.rx)) old.core.outbound core.outbound)
-      → IfSome result (λ sender. ServesOn got (Returned id (got sender.rx)) old.core core) → core.is_dead ≡ old.core.is_dead
-      → IfSome result (λ sender. WritesOn got contents failed (Returned id (got sender.rx) ∷ []) old (record old { core = core }))
-  returned-on id old core None goes serves dead = tt
-  returned-on id old core (Some sender) goes serves dead = λ before run w. record {
-    lawful = w.lawful;
-    reached = λ alive. goes run (w.reached (sym dead ∙ alive));
-    serving = serves run w.serving;
-    bytes = w.bytes;
-    marked = w.marked;
-  }
-
-  -- the core follows from the same runs
-  pub still-on : (old : ConnWriter L W In Out Shut) (core : OutCore L In Out Shut) → (core.is_dead ≡ false → (old.core.is_dead ≡ false) × Remains old.core.outbound core.outbound)
-      → ServesStill got old.core core → WritesOn got contents failed [] old (record old { core = core })
-  still-on old core remains serves before run w = record {
-    lawful = w.lawful;
-    reached = λ alive. let r = remains alive in r.1 run (w.reached r.0);
-    serving = serves run w.serving;
-    bytes = w.bytes;
-    marked = w.marked;
-  }
-
-  -- the writer makes no more frames
-  pub stopped-on : (old : ConnWriter L W In Out Shut) → old.standing ≡ Going → WritesOn got contents failed [] old (record old { standing = OutOfMemory })
-  stopped-on old going before run w = record {
-    lawful = w.lawful;
-    reached = w.reached;
-    serving = w.serving;
-    bytes = ([], frames_of run, refl, subst (λ (standing : Standing). Holds standing (frames_of run) before (contents old.device) old.buffer.items old.ended.items) going w.bytes);
-    marked = λ broken. absurd (not-broken-2 broken);
-  }
-
-  -- ---- a frame comes
-
-  puts-on : (frame : Frame) (old mid new : ConnWriter L W In Out Shut) → old.standing ≡ Going → old.core.is_dead ≡ false
-      → GoesOn (Written frame) old.core.outbound mid.core.outbound → ServesOn got (Written frame) old.core mid.core
-      → mid.standing ≡ old.standing → mid.device ≡ old.device → mid.buffer.items ≡ old.buffer.items → mid.ended.items ≡ old.ended.items
-      → Puts frame mid new → WritesOn got contents failed (Written frame ∷ []) old new
-  puts-on frame old mid new going alive goes serves standing device buffer ended p before run w =
-      let reached = goes run (w.reached alive) in
-      let parted = subst (λ (s : Standing). Holds s (frames_of run) before (contents old.device) old.buffer.items old.ended.items) going w.bytes in
-      let stands : new.standing ≡ Going = p.standing ∙ (standing ∙ going) in
-      record {
-        lawful = reached.1;
-        reached = λ alive_still. subst (λ (found : OutCore L In Out Shut). Reached (Written frame ∷ run) found.outbound) (sym p.core) reached;
-        serving = subst (λ (found : OutCore L In Out Shut). Serving got (Written frame ∷ run) found) (sym p.core) (serves run w.serving);
-        bytes = rw (stands, p.device, device, p.buffer, buffer, p.ended, ended)
-            (parted-more frame (frames_of run) before (contents old.device) old.buffer.items old.ended.items parted);
-        marked = λ broken. absurd (not-broken (sym stands ∙ broken));
-      }
-
-  loses-on : (frame : Frame) (old mid new : ConnWriter L W In Out Shut) → old.standing ≡ Going → old.core.is_dead ≡ false
-      → GoesOn (Written frame) old.core.outbound mid.core.outbound → ServesOn got (Written frame) old.core mid.core
-      → mid.device ≡ old.device → mid.buffer.items ≡ old.buffer.items → mid.ended.items ≡ old.ended.items
-      → Loses mid new → WritesOn got contents failed (Written frame ∷ []) old new
-  loses-on frame old mid new going alive goes serves device buffer ended p before run w =
-      let reached = goes run (w.reached alive) in
-      let parted = subst (λ (s : Standing). Holds s (frames_of run) before (contents old.device) old.buffer.items old.ended.items) going w.bytes in
-      record {
-        lawful = reached.1;
-        reached = λ alive_still. subst (λ (found : OutCore L In Out Shut). Reached (Written frame ∷ run) found.outbound) (sym p.core) reached;
-        serving = subst (λ (found : OutCore L In Out Shut). Serving got (Written frame ∷ run) found) (sym p.core) (serves run w.serving);
-        bytes = rw (p.standing, p.device, device, p.buffer, buffer, p.ended, ended) (frame ∷ [], frames_of run, refl, parted);
-        marked = λ broken. absurd (not-broken-2 (sym p.standing ∙ broken));
-      }
-
-  pub put-fills : (ahead : Out → List OutItem) (frame : Frame) (filled : Option Filled) (old mid new : ConnWriter L W In Out Shut) → old.standing ≡ Going → old.core.is_dead ≡ false
-      → GoesOn (Written frame) old.core.outbound mid.core.outbound → ServesOn got (Written frame) old.core mid.core
-      → mid.standing ≡ old.standing → mid.device ≡ old.device → mid.buffer.items ≡ old.buffer.items → mid.ended.items ≡ old.ended.items
-      → PutsOr frame filled mid new → Fills got ahead contents failed filled old new
-  put-fills ahead frame None old mid new going alive goes serves standing device buffer ended p before run w =
-      (frame ∷ [], puts-on frame old mid new going alive goes serves standing device buffer ended p before run w, tt)
-  put-fills ahead frame (Some filled) old mid new going alive goes serves standing device buffer ended p before run w = (
-    frame ∷ [],
-    loses-on frame old mid new going alive goes serves device buffer ended p.1 before run w,
-    subst (λ (f : Filled). RestsIf {L = L} {In = In} {Out = Out} {Shut = Shut} {W = W} ahead (Some f) (Written frame ∷ run) new) (sym p.0) (λ going_still. absurd (not-going (sym p.1.standing ∙ going_still))),
-  )
-
-  -- frames, and then frames
-  pub fills-then : (ahead : Out → List OutItem) (filled : Option Filled) (old mid new : ConnWriter L W In Out Shut) → Fills got ahead contents failed None old mid
-      → Fills got ahead contents failed filled mid new → Fills got ahead contents failed filled old new
-  fills-then ahead filled old mid new first second before run w =
-      let p = first before run w in
-      let q = second before (map Written p.0 ++ run) p.1 in
-      let same : map Written q.0 ++ (map Written p.0 ++ run) ≡ map Written (q.0 ++ p.0) ++ run =
-      sym (append_assoc (map Written q.0) (map Written p.0) run) ∙ ap (λ (steps : List Step). steps ++ run) (sym (map-append Written q.0 p.0)) in (
-        q.0 ++ p.0,
-        subst (λ (steps : List Step). Wrote got contents failed before steps new) same q.1,
-        subst (λ (steps : List Step). RestsIf ahead filled steps new) same q.2,
-      )
-
-  pub fills-none : (ahead : Out → List OutItem) (writer : ConnWriter L W In Out Shut) → Fills got ahead contents failed None writer writer
-  fills-none ahead writer before run w = ([], w, tt)
-
-  -- ---- orders
-
+module _ {L In Out Shut : Type 0} (got : Out → List OutItem) where
   own-unused-by : (is_zero : Bool) (last id : ℕ) (control : Control (Sender L In Out Shut))
       → control ≡ (if is_zero then Goaway last FlowControlError else Reset id FlowControlError true) → IsUnused got control
   own-unused-by true last id control is = subst (λ (c : Control (Sender L In Out Shut)). IsUnused got c) (sym is) tt
@@ -202,21 +63,120 @@ module _ {L In Out Shut W : Type 0} (got : Out → List OutItem) (contents : W �
       → Concerns (PeerWindow stream) control → ⊥
   own-blameless last id stream control is = own-blameless-by (id == 0) last id stream control is
 
-  pub own-on : (last id : ℕ) (control : Control (Sender L In Out Shut)) (old : ConnWriter L W In Out Shut) (core : OutCore L In Out Shut) → control ≡ own_control last id
-      → GoesOn (Taken (order_of control)) old.core.outbound core.outbound → (IsUnused got control → ServesOn got (Taken (order_of control)) old.core core)
-      → core.is_dead ≡ old.core.is_dead → WritesOn got contents failed (Taken (own_order last id) ∷ []) old (record old { core = core })
-  own-on last id control old core is goes serves dead =
-      subst (λ (order : Order). WritesOn got contents failed (Taken order ∷ []) old (record old { core = core })) (own-order-by (id == 0) last id control is)
-      (taken-on (order_of control) old core goes (serves (own-unused-by (id == 0) last id control is)) dead)
+  -- what the core answers to an order of the writer's own
+  pub own-leads : (last id : ℕ) (control : Control (Sender L In Out Shut)) (old core : OutCore L In Out Shut) → control ≡ own_control last id
+      → (IsUnused got control → LeadsOn got (Taken (order_of control)) old core) → LeadsOn got (Taken (own_order last id)) old core
+  own-leads last id control old core is leads =
+      subst (λ (order : Order). LeadsOn got (Taken order) old core) (own-order-by (id == 0) last id control is) (leads (own-unused-by (id == 0) last id control is))
+
+  -- out of memory
+  pub handed-leads : (fault : OutFault (Sender L In Out Shut)) (back : Option (Control (Sender L In Out Shut))) (control : Control (Sender L In Out Shut)) (old core : OutCore L In Out Shut)
+      → fault ≡ out_fault.OutOfMemory back → LeadsControl got (Err fault) control old core → LeadsStill got old core
+  handed-leads fault back control old core is leads = (subst (λ (f : OutFault (Sender L In Out Shut)). LeadsControl got (Err f) control old core) is leads).1
+
+  -- the peer's window overflows
+  pub overflow-leads : (fault : OutFault (Sender L In Out Shut)) (id : ℕ) (control : Control (Sender L In Out Shut)) (old core : OutCore L In Out Shut)
+      → fault ≡ PeerWindow id → LeadsControl got (Err fault) control old core → LeadsOn got (Taken (order_of control)) old core
+  overflow-leads fault id control old core is leads = subst (λ (f : OutFault (Sender L In Out Shut)). LeadsControl got (Err f) control old core) is leads
+
+-- ---- what was written
+
+module _ {L In Out Shut W : Type 0} (got : Out → List OutItem) (contents : W → Option (List ℕ)) (failed : W → Bool) where
+  -- the parts of which `Wrote` speaks are the same
+  pub same-wrote : (old new : ConnWriter L W In Out Shut) → new.core ≡ old.core → new.standing ≡ old.standing → new.device ≡ old.device
+      → new.buffer.items ≡ old.buffer.items → new.ended.items ≡ old.ended.items → WritesOn got contents failed [] old new
+  same-wrote old new core standing device buffer ended before run w = record {
+    leads = subst (λ (found : OutCore L In Out Shut). Leads got run found) (sym core) w.leads;
+    bytes = rw (standing, device, buffer, ended) w.bytes;
+    marked = rw (standing, device) w.marked;
+  }
+
+  -- the core goes on by steps that write nothing
+  pub core-on : (steps : List Step) (old : ConnWriter L W In Out Shut) (core : OutCore L In Out Shut) → ((run : List Step) → frames_of (steps ++ run) ≡ frames_of run)
+      → ((run : List Step) → Leads got run old.core → Leads got (steps ++ run) core) → WritesOn got contents failed steps old (record old { core = core })
+  core-on steps old core same leads before run w = record {
+    leads = leads run w.leads;
+    bytes = subst (λ (frames : List Frame). Holds old.standing frames before (contents old.device) old.buffer.items old.ended.items) (sym (same run)) w.bytes;
+    marked = w.marked;
+  }
+
+  -- a sender is given back
+  pub returned-on : (id : ℕ) (old : ConnWriter L W In Out Shut) (core : OutCore L In Out Shut) (result : Option (Sender L In Out Shut))
+      → IfSome result (λ sender. LeadsOn got (Returned id (got sender.rx)) old.core core)
+      → IfSome result (λ sender. WritesOn got contents failed (Returned id (got sender.rx) ∷ []) old (record old { core = core }))
+  returned-on id old core None leads = tt
+  returned-on id old core (Some sender) leads = core-on (Returned id (got sender.rx) ∷ []) old core (λ run. refl) leads
+
+  -- the writer makes no more frames
+  pub stopped-on : (old : ConnWriter L W In Out Shut) → old.standing ≡ Going → WritesOn got contents failed [] old (record old { standing = OutOfMemory })
+  stopped-on old going before run w = record {
+    leads = w.leads;
+    bytes = ([], frames_of run, refl, subst (λ (standing : Standing). Holds standing (frames_of run) before (contents old.device) old.buffer.items old.ended.items) going w.bytes);
+    marked = λ broken. absurd (not-broken-2 broken);
+  }
+
+  -- ---- a frame comes
+
+  puts-on : (frame : Frame) (old mid new : ConnWriter L W In Out Shut) → old.standing ≡ Going
+      → LeadsOn got (Written frame) old.core mid.core
+      → mid.standing ≡ old.standing → mid.device ≡ old.device → mid.buffer.items ≡ old.buffer.items → mid.ended.items ≡ old.ended.items
+      → Puts frame mid new → WritesOn got contents failed (Written frame ∷ []) old new
+  puts-on frame old mid new going leads standing device buffer ended p before run w =
+      let parted = subst (λ (s : Standing). Holds s (frames_of run) before (contents old.device) old.buffer.items old.ended.items) going w.bytes in
+      let stands : new.standing ≡ Going = p.standing ∙ (standing ∙ going) in
+      record {
+        leads = subst (λ (found : OutCore L In Out Shut). Leads got (Written frame ∷ run) found) (sym p.core) (leads run w.leads);
+        bytes = rw (stands, p.device, device, p.buffer, buffer, p.ended, ended)
+            (parted-more frame (frames_of run) before (contents old.device) old.buffer.items old.ended.items parted);
+        marked = λ broken. absurd (not-broken (sym stands ∙ broken));
+      }
+
+  loses-on : (frame : Frame) (old mid new : ConnWriter L W In Out Shut) → old.standing ≡ Going
+      → LeadsOn got (Written frame) old.core mid.core
+      → mid.device ≡ old.device → mid.buffer.items ≡ old.buffer.items → mid.ended.items ≡ old.ended.items
+      → Loses mid new → WritesOn got contents failed (Written frame ∷ []) old new
+  loses-on frame old mid new going leads device buffer ended p before run w =
+      let parted = subst (λ (s : Standing). Holds s (frames_of run) before (contents old.device) old.buffer.items old.ended.items) going w.bytes in
+      record {
+        leads = subst (λ (found : OutCore L In Out Shut). Leads got (Written frame ∷ run) found) (sym p.core) (leads run w.leads);
+        bytes = rw (p.standing, p.device, device, p.buffer, buffer, p.ended, ended) (frame ∷ [], frames_of run, refl, parted);
+        marked = λ broken. absurd (not-broken-2 (sym p.standing ∙ broken));
+      }
+
+  pub put-fills : (ahead : Out → List OutItem) (frame : Frame) (filled : Option Filled) (old mid new : ConnWriter L W In Out Shut) → old.standing ≡ Going
+      → LeadsOn got (Written frame) old.core mid.core
+      → mid.standing ≡ old.standing → mid.device ≡ old.device → mid.buffer.items ≡ old.buffer.items → mid.ended.items ≡ old.ended.items
+      → PutsOr frame filled mid new → Fills got ahead contents failed filled old new
+  put-fills ahead frame None old mid new going leads standing device buffer ended p before run w =
+      (frame ∷ [], puts-on frame old mid new going leads standing device buffer ended p before run w, tt)
+  put-fills ahead frame (Some filled) old mid new going leads standing device buffer ended p before run w = (
+    frame ∷ [],
+    loses-on frame old mid new going leads device buffer ended p.1 before run w,
+    subst (λ (f : Filled). RestsIf {L = L} {In = In} {Out = Out} {Shut = Shut} {W = W} ahead (Some f) (Written frame ∷ run) new) (sym p.0) (λ going_still. absurd (not-going (sym p.1.standing ∙ going_still))),
+  )
+
+  -- frames, and then frames
+  pub fills-then : (ahead : Out → List OutItem) (filled : Option Filled) (old mid new : ConnWriter L W In Out Shut) → Fills got ahead contents failed None old mid
+      → Fills got ahead contents failed filled mid new → Fills got ahead contents failed filled old new
+  fills-then ahead filled old mid new first second before run w =
+      let p = first before run w in
+      let q = second before (map Written p.0 ++ run) p.1 in
+      let same : map Written q.0 ++ (map Written p.0 ++ run) ≡ map Written (q.0 ++ p.0) ++ run =
+      sym (append_assoc (map Written q.0) (map Written p.0) run) ∙ ap (λ (steps : List Step). steps ++ run) (sym (map-append Written q.0 p.0)) in (
+        q.0 ++ p.0,
+        subst (λ (steps : List Step). Wrote got contents failed before steps new) same q.1,
+        subst (λ (steps : List Step). RestsIf ahead filled steps new) same q.2,
+      )
+
+  pub fills-none : (ahead : Out → List OutItem) (writer : ConnWriter L W In Out Shut) → Fills got ahead contents failed None writer writer
+  fills-none ahead writer before run w = ([], w, tt)
 
   -- ---- a new writer
 
-  pub new-wrote : (new : ConnWriter L W In Out Shut) → new.standing ≡ Going → new.buffer.items ≡ [] → new.ended.items ≡ [] → Reached [] new.core.outbound
-      → Serving got [] new.core → Wrote got contents failed (contents new.device) [] new
-  new-wrote new going buffer ended reached serving = record {
-    lawful = tt;
-    reached = λ alive. reached;
-    serving = serving;
+  pub new-wrote : (new : ConnWriter L W In Out Shut) → new.standing ≡ Going → new.buffer.items ≡ [] → new.ended.items ≡ []
+      → Leads got [] new.core → Wrote got contents failed (contents new.device) [] new
+  new-wrote new going buffer ended leads = record {
+    leads = leads;
     bytes = rw (going, buffer, ended) (record { waiting = []; written = []; all = refl; device = appends-nothing (contents new.device); buffered = refl; ends = refl });
     marked = λ broken. absurd (not-broken (sym going ∙ broken));
   }
@@ -226,9 +186,7 @@ module _ {L In Out Shut W : Type 0} (got : Out → List OutItem) (contents : W �
   pub flushed-on : (old : ConnWriter L W In Out Shut) (new : ConnWriter L W In Out Shut) → old.standing ≢ Broken → new.core ≡ old.core → new.standing ≡ old.standing
       → new.buffer.items ≡ [] → new.ended.items ≡ [] → Appends (contents old.device) (contents new.device) old.buffer.items → WritesOn got contents failed [] old new
   flushed-on old new whole core standing buffer ended appends before run w = record {
-    lawful = w.lawful;
-    reached = subst (λ (found : OutCore L In Out Shut). found.is_dead ≡ false → Reached run found.outbound) (sym core) w.reached;
-    serving = subst (λ (found : OutCore L In Out Shut). Serving got run found) (sym core) w.serving;
+    leads = subst (λ (found : OutCore L In Out Shut). Leads got run found) (sym core) w.leads;
     bytes = rw (standing, buffer, ended)
         (holds-flushed old.standing (frames_of run) before (contents old.device) (contents new.device) old.buffer.items old.ended.items whole w.bytes appends);
     marked = λ broken. absurd (whole (sym standing ∙ broken));
@@ -237,9 +195,7 @@ module _ {L In Out Shut W : Type 0} (got : Out → List OutItem) (contents : W �
   pub broken-on : (old : ConnWriter L W In Out Shut) (new : ConnWriter L W In Out Shut) → old.standing ≢ Broken → new.core ≡ old.core → new.standing ≡ Broken
       → failed new.device ≡ true → AppendsPrefix (contents old.device) (contents new.device) old.buffer.items → WritesOn got contents failed [] old new
   broken-on old new whole core standing mark cut before run w = record {
-    lawful = w.lawful;
-    reached = subst (λ (found : OutCore L In Out Shut). found.is_dead ≡ false → Reached run found.outbound) (sym core) w.reached;
-    serving = subst (λ (found : OutCore L In Out Shut). Serving got run found) (sym core) w.serving;
+    leads = subst (λ (found : OutCore L In Out Shut). Leads got run found) (sym core) w.leads;
     bytes = rw standing (holds-cut old.standing (frames_of run) before (contents old.device) (contents new.device) old.buffer.items old.ended.items whole w.bytes cut);
     marked = λ broken. mark;
   }
@@ -262,35 +218,10 @@ module _ {L In Out Shut W : Type 0} (got : Out → List OutItem) (contents : W �
 
   -- ---- no frame comes
 
-  pub idle-on : (ahead : Out → List OutItem) (old mid : ConnWriter L W In Out Shut) → old.core.is_dead ≡ false → Remains old.core.outbound mid.core.outbound
-      → ServesStill got old.core mid.core → mid.standing ≡ old.standing → mid.device ≡ old.device → mid.buffer.items ≡ old.buffer.items → mid.ended.items ≡ old.ended.items
-      → ((run : List Step) → Reached run mid.core.outbound → IsAnswered run)
-      → ((run : List Step) → Reached run old.core.outbound → Serving got run old.core → HaveNoFrame ahead run mid.core)
-      → ((run : List Step) → Reached run old.core.outbound → Serving got run old.core → (mid.core.outbound.gone ≡ true) ⊎ TellEnds run)
-      → (before : Option (List ℕ)) (run : List Step) → Wrote got contents failed before run old → Wrote got contents failed before run mid × IsAtRest ahead run mid
-  idle-on ahead old mid alive remains serves standing device buffer ended answered no_frame ends before run w =
-      let reached = remains run (w.reached alive) in (
-        record {
-          lawful = w.lawful;
-          reached = λ alive_still. reached;
-          serving = serves run w.serving;
-          bytes = rw (standing, device, buffer, ended) w.bytes;
-          marked = rw (standing, device) w.marked;
-        },
-        record {
-          answered = answered run reached;
-          no_frame = no_frame run (w.reached alive) w.serving;
-          ended = ends run (w.reached alive) w.serving;
-        },
-      )
-
-  -- the core is dead
-  pub dead-on : (old mid : ConnWriter L W In Out Shut) → mid.core.is_dead ≡ true → ServesStill got old.core mid.core
-      → mid.standing ≡ old.standing → mid.device ≡ old.device → mid.buffer.items ≡ old.buffer.items → mid.ended.items ≡ old.ended.items → WritesOn got contents failed [] old mid
-  dead-on old mid dead serves standing device buffer ended before run w = record {
-    lawful = w.lawful;
-    reached = λ alive. absurd (true≢false (sym dead ∙ alive));
-    serving = serves run w.serving;
+  pub still-on : (old mid : ConnWriter L W In Out Shut) → LeadsStill got old.core mid.core → mid.standing ≡ old.standing → mid.device ≡ old.device
+      → mid.buffer.items ≡ old.buffer.items → mid.ended.items ≡ old.ended.items → WritesOn got contents failed [] old mid
+  still-on old mid leads standing device buffer ended before run w = record {
+    leads = leads run w.leads;
     bytes = rw (standing, device, buffer, ended) w.bytes;
     marked = rw (standing, device) w.marked;
   }
@@ -305,23 +236,3 @@ module _ {L In Out Shut W : Type 0} (got : Out → List OutItem) (contents : W �
     buffer = ap (λ (w : ConnWriter L W In Out Shut). w.buffer.items) rest ∙ buffer;
     ended = ap (λ (w : ConnWriter L W In Out Shut). w.ended.items) rest ∙ ended;
   }
-
-  -- ---- a control is refused
-
-  -- out of memory
-  pub handed-on : (fault : OutFault (Sender L In Out Shut)) (back : Option (Control (Sender L In Out Shut))) (control : Control (Sender L In Out Shut))
-      (old : ConnWriter L W In Out Shut) (core : OutCore L In Out Shut) → fault ≡ out_fault.OutOfMemory back → Takes (Err fault) control old.core.outbound core.outbound
-      → ServesControl got (Err fault) control old.core core → core.is_dead ≡ old.core.is_dead → WritesOn got contents failed [] old (record old { core = core })
-  handed-on fault back control old core is takes serves dead =
-      let taken = subst (λ (f : OutFault (Sender L In Out Shut)). Takes (Err f) control old.core.outbound core.outbound) is takes in
-      let served = subst (λ (f : OutFault (Sender L In Out Shut)). ServesControl got (Err f) control old.core core) is serves in
-      still-on old core (λ alive. (sym dead ∙ alive, taken.1)) served
-
-  -- the peer's window overflows
-  pub overflow-on : (fault : OutFault (Sender L In Out Shut)) (id : ℕ) (control : Control (Sender L In Out Shut))
-      (old : ConnWriter L W In Out Shut) (core : OutCore L In Out Shut) → fault ≡ PeerWindow id → Takes (Err fault) control old.core.outbound core.outbound
-      → ServesControl got (Err fault) control old.core core → core.is_dead ≡ old.core.is_dead → WritesOn got contents failed (Taken (order_of control) ∷ []) old (record old { core = core })
-  overflow-on fault id control old core is takes serves dead =
-      let taken = subst (λ (f : OutFault (Sender L In Out Shut)). Takes (Err f) control old.core.outbound core.outbound) is takes in
-      let served = subst (λ (f : OutFault (Sender L In Out Shut)). ServesControl got (Err f) control old.core core) is serves in
-      taken-on (order_of control) old core taken served dead

@@ -1,12 +1,9 @@
 -- What a connection's writer did: a run of its core, and the bytes of the run's frames.
-use Rattle.std.specs.Prelude.{◌≡◌, ◌≢◌, ◌⊎◌, ℕ, Bool, true, false, List, [], ◌∷◌, ◌++◌, map, Option, None, Some}
+use Rattle.std.specs.Prelude.{◌≡◌, ◌≢◌, ℕ, Bool, true, List, [], ◌∷◌, ◌++◌, map, Option, None, Some}
 use Rattle.account.specs.declared.call.OutItem.{OutItem}
 use Rattle.h2frame.specs.declared.frame.Frame.{Frame}
 use Rattle.h2frame.specs.Spelling.{spelled}
-use Rattle.outwriter.specs.Calls.{TellEnds}
-use Rattle.outwriter.specs.Cores.{Serving, HaveNoFrame}
-use Rattle.outwriter.specs.Runs.{IsLawful}
-use Rattle.outwriter.specs.RunState.{Reached, IsAnswered}
+use Rattle.outwriter.specs.Cores.{IsAtRest, Leads}
 use Rattle.outwriter.specs.Steps.{Step, Written, frames_of}
 use Rattle.connwriter.specs.declared.filled.Filled.{Filled}
 use Rattle.connwriter.specs.declared.filled.Filled.TheVariants.{Full, Idle, Over, Stopped}
@@ -18,10 +15,7 @@ module _ {L In Out Shut W : Type 0} where
   -- This run led to the writer, whose device had something before it.
   pub record Wrote (got : Out → List OutItem) (contents : W → Option (List ℕ)) (failed : W → Bool) (before : Option (List ℕ)) (run : List Step)
       (writer : ConnWriter L W In Out Shut) : Type 0 where
-    pub lawful : IsLawful run
-    -- its core follows from the run as long as it lives
-    pub reached : writer.core.is_dead ≡ false → Reached run writer.core.outbound
-    pub serving : Serving got run writer.core
+    pub leads : Leads got run writer.core
     pub bytes : Holds writer.standing (frames_of run) before (contents writer.device) writer.buffer.items writer.ended.items
     pub marked : writer.standing ≡ Broken → failed writer.device ≡ true
 
@@ -30,18 +24,11 @@ module _ {L In Out Shut W : Type 0} where
   WritesOn got contents failed steps old new =
       (before : Option (List ℕ)) (run : List Step) → Wrote got contents failed before run old → Wrote got contents failed before (steps ++ run) new
 
-  -- All that the orders of the run obliged to is among its frames, and no credit is owed; each call has ended, was reset, or has nothing that
-  -- can be written now; each stream that was called off has ended. But nothing comes behind a GOAWAY with an error.
-  pub record IsAtRest (ahead : Out → List OutItem) (run : List Step) (writer : ConnWriter L W In Out Shut) : Type 0 where
-    pub answered : IsAnswered run
-    pub no_frame : HaveNoFrame ahead run writer.core
-    pub ended : (writer.core.outbound.gone ≡ true) ⊎ TellEnds run
-
   -- why the buffer isn't filled further
   abbrev pub Rests : (Out → List OutItem) → Filled → List Step → ConnWriter L W In Out Shut → Type 0
   Rests ahead Full run writer = Unit {0}
-  Rests ahead Idle run writer = IsAtRest ahead run writer
-  Rests ahead Over run writer = IsAtRest ahead run writer × (writer.core.closed ≡ true)
+  Rests ahead Idle run writer = IsAtRest ahead run writer.core
+  Rests ahead Over run writer = IsAtRest ahead run writer.core × (writer.core.closed ≡ true)
   Rests ahead Stopped run writer = writer.standing ≢ Going
 
   abbrev pub RestsIf : (Out → List OutItem) → Option Filled → List Step → ConnWriter L W In Out Shut → Type 0

@@ -60,7 +60,7 @@ impl<L: Lane<Item = OutItem>, W: ConnWrite> ConnWriter<L, W> {
         ensures going { result.standing ≡ stands.Going }
         ensures empty { result.buffer.items ≡ [] }
         ensures ended { result.ended.items ≡ [] }
-        ensures senders { result.core.senders.items ≡ [] }
+        ensures senders { result.core.sending.senders.items ≡ [] }
     {
         ConnWriter {
             core: OutCore::new(alloc),
@@ -102,7 +102,7 @@ impl<L: Lane<Item = OutItem>, W: ConnWrite> ConnWriter<L, W> {
 
     /// Whether an item of the stream is in hand that a window keeps back.
     pub fn held(&self, id: StreamId) -> bool
-        ensures { result ≡ is_held (open_stream self.now.core id) (room self.now.core.outbound.windows id) }
+        ensures { result ≡ is_held (open_stream self.now.core id) (room self.now.core.sending.outbound.windows id) }
     {
         self.core.held(id)
     }
@@ -142,9 +142,9 @@ impl<L: Lane<Item = OutItem>, W: ConnWrite> ConnWriter<L, W> {
     pub fn release(&mut self, id: StreamId) -> Option<Sender<L>>
         // That it is given back, with what it has given, is the next step of the run.
         ensures wrote { IfSome result (λ sender. WritesOn L.got W.contents W.failed (Returned id (L.got sender.rx) ∷ []) self.old self.new) }
-        ensures releases { IfSome result (λ sender. Releases id sender self.old.core.senders.items self.new.core.senders.items) }
+        ensures releases { IfSome result (λ sender. Releases id sender self.old.core.sending.senders.items self.new.core.sending.senders.items) }
         ensures through { OnSome result (IsThrough id self.old.core) }
-        ensures none { IfNone result (IsThrough id self.old.core → HasNone id self.old.core.senders.items) }
+        ensures none { IfNone result (IsThrough id self.old.core → HasNone id self.old.core.sending.senders.items) }
         ensures unchanged { IfNone result (self.new ≡ self.old) }
         ensures rest { self.new ≡ record self.old { core = self.new.core } }
     {
@@ -216,7 +216,7 @@ impl<L: Lane<Item = OutItem>, W: ConnWrite> ConnWriter<L, W> {
 
     /// The senders that are kept, and the device.
     pub fn into_parts(self) -> (Vec<(StreamId, Sender<L>)>, W)
-        ensures senders { result.0 ≡ self.core.senders }
+        ensures senders { result.0 ≡ self.core.sending.senders }
         ensures device { result.1 ≡ self.device }
 
         // What was told of each call begins what the items that were got of its sender spell, also where the sender was given back; of a stream that was never opened nothing was

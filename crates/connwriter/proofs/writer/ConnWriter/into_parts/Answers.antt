@@ -5,7 +5,7 @@ pub returns-clause-prefix : goal.returns-clause-prefix
 returns-clause-prefix g c = λ before run w. wrote-front g.L.Lane.got g.W.ConnWrite.contents g.W.ConnWrite.failed before run c.args.self w
 
 pub returns-clause-fronts : goal.returns-clause-fronts
-returns-clause-fronts g c = λ before run w. c.into_senders.ensures.fronts run w.serving
+returns-clause-fronts g c = λ before run w. c.into_senders.ensures.fronts run w.leads
 
 pub returns-clause-whole : goal.returns-clause-whole
 returns-clause-whole g c = λ sound empty before run w. wrote-whole g.L.Lane.got g.W.ConnWrite.contents g.W.ConnWrite.failed before run c.args.self sound empty w

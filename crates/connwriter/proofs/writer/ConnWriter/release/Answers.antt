@@ -1,9 +1,6 @@
-use Rattle.std.proofs.Common.{ap}
-use Rattle.outwriter.specs.declared.out_core.OutCore.{OutCore}
 use Rattle.connwriter.proofs.WroteSteps.{returned-on}
 use Rattle.connwriter.proofs.writer.ConnWriter.release.Goals as goal
 
 pub returns-clause-wrote : goal.returns-clause-wrote
 returns-clause-wrote g c =
-    returned-on g.L.Lane.got g.W.ConnWrite.contents g.W.ConnWrite.failed c.args.id c.args.self.now c.release.new.self c.release.result c.release.ensures.taken c.release.ensures.served
-    (ap (λ (core : OutCore g.row.L.Denot g.row.L-In.Denot g.row.L-Out.Denot g.row.L-Shut.Denot). core.is_dead) c.release.ensures.rest)
+    returned-on g.L.Lane.got g.W.ConnWrite.contents g.W.ConnWrite.failed c.args.id c.args.self.now c.release.new.self c.release.result c.release.ensures.leads
