@@ -44,7 +44,7 @@ module _ {L In Out Shut W : Type 0} (got : Out → List OutItem) (contents : W �
   over-filled ahead old new fills lost orders before runs =
       let found = fills before runs.0 runs.1 in
       let rest = found.2 in
-      (map Written found.0 ++ runs.0, found.1, obeys-frames lost orders found.0 runs.0 runs.2, λ going. record { closed = found.1.serving.closed ∙ rest.1; answered = rest.0.answered })
+      (map Written found.0 ++ runs.0, found.1, obeys-frames lost orders found.0 runs.0 runs.2, λ going. record { closed = found.1.leads.closed ∙ rest.1; answered = rest.0.answered })
 
   stopped-filled : (ahead : Out → List OutItem) (old new : ConnWriter L W In Out Shut) → Fills got ahead contents failed (Some Stopped) old new → RunsOut got contents failed old new
   stopped-filled ahead old new fills lost orders before runs =
@@ -173,7 +173,7 @@ module _ {L In Out Shut W : Type 0} (got : Out → List OutItem) (contents : W �
       let sound : failed device ≡ false → writer.standing ≢ stands.Broken = λ unmarked stood. true≢false (sym (ap failed same ∙ ends.1.marked stood) ∙ unmarked) in
       record {
         run = ends.0;
-        lawful = ends.1.lawful;
+        lawful = ends.1.leads.lawful;
         some =
             subst (λ (orders : List Order). Obeys true orders ends.0) led.1
             (obeys-more led.0 (order_in inbox.set_aside) ends.0 (obeys-lost inbox.has_lost led.0 ends.0 ends.2));
