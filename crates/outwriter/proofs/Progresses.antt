@@ -35,10 +35,14 @@ spent-answered run o (inr (no_block, none, owed)) m = inr (
 )
 
 -- a frame's writer takes it
-pub writable-from : (made frame : Frame) → next.Frame made ≡ next.Frame frame → IsSound made → made.head.stream < 2 ^ 31 → IsWritable frame
-writable-from made frame is sound numbered =
-    let same : made ≡ frame = cc in
-    subst IsWritable same (record { kind = sound.0; stream = numbered; whole = sound.1; not_padded = sound.2; no_priority = sound.3 })
+pub writable-from : (o : Option Frame) (made frame : Frame) → o ≡ Some made → next.Frame made ≡ next.Frame frame → IfSome o IsSound → IsWritable frame
+writable-from None made frame found is sound = absurd (none-is found)
+  where
+    none-is : None ≡ Some made → ⊥
+    none-is e = cc
+writable-from (Some one) made frame found is sound =
+    let same : one ≡ frame = cc in
+    subst IsWritable same (record { kind = sound.0; stream = sound.1; whole = sound.2; not_padded = sound.3; no_priority = sound.4 })
 
 pub goaway-writable : (last : ℕ) (code : ErrorCode) → IsWritable (goaway_frame last code)
 goaway-writable last code = record { kind = refl; stream = omega arith; whole = refl; not_padded = refl; no_priority = refl }

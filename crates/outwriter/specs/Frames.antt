@@ -1,5 +1,5 @@
 -- The frames of a server's connection (RFC 9113, section 6), and what is read off a frame.
-use Rattle.std.specs.Prelude.{◌≡◌, drop, take, ◌+◌, ℕ, ◌==◌, ◌&&◌, not, Bool, true, false, List, [], ◌++◌, length, if◌then◌else◌}
+use Rattle.std.specs.Prelude.{◌≡◌, ◌<◌, ◌^◌, drop, take, ◌+◌, ℕ, ◌==◌, ◌&&◌, not, Bool, true, false, List, [], ◌++◌, length, if◌then◌else◌}
 use Rattle.std.specs.Int.{bytes_high_first, from_be_bytes, w32}
 use Rattle.h2frame.specs.declared.error_code.ErrorCode.{ErrorCode}
 use Rattle.h2frame.specs.declared.frame.Frame.{Frame}
@@ -110,7 +110,8 @@ update_kind _ content = 0
 abbrev pub update_on : ℕ → Frame → ℕ
 update_on id frame = if id == frame.head.stream then update_kind frame.head.kind frame.content else 0
 
--- the frame can be spelled: its type is that of its code, all of its payload is content, and nothing is padded or has a priority
+-- the frame can be spelled: its type is that of its code, the number of its stream has 31 bits, all of its payload is content, and nothing is
+-- padded or has a priority
 abbrev pub IsSound : Frame → Type 0
-IsSound frame = (kind_of (code_of frame.head.kind) ≡ frame.head.kind) × (frame.head.length ≡ length frame.content)
+IsSound frame = (kind_of (code_of frame.head.kind) ≡ frame.head.kind) × (frame.head.stream < 2 ^ 31) × (frame.head.length ≡ length frame.content)
     × (is_padded frame.head ≡ false) × (has_priority frame.head ≡ false)

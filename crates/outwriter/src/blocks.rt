@@ -42,7 +42,6 @@ impl HeaderBlock {
         ensures frame { IfOk result (λ r. r.0 ≡ frame_of self) }
         ensures sound { IfOk result (λ r. IsSound r.0) }
         ensures rest { IfOk result (λ r. r.1 ≡ rest_of self) }
-        ensures numbered { IfOk result (λ r. r.0.head.stream < 2 ^ 31) }
     {
         let HeaderBlock {
             id,

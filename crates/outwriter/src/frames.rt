@@ -93,8 +93,7 @@ pub(crate) fn make_data(id: StreamId, bytes: Bytes) -> Frame
 /// The first fragment of a header block; whether the block ends its stream, and whether the fragment is the last.
 pub(crate) fn make_headers(id: StreamId, ends: bool, whole: bool, fragment: Bytes) -> Frame
     requires { length fragment ≤ 16384 }
-    ensures is { result ≡ headers_frame id ends whole fragment }
-    ensures sound { IsSound result }
+    ensures { result ≡ headers_frame id ends whole fragment }
 {
     Frame::new(FrameKind::Headers, block_flags(ends, whole), id, fragment)
 }
@@ -102,8 +101,7 @@ pub(crate) fn make_headers(id: StreamId, ends: bool, whole: bool, fragment: Byte
 /// A further fragment.
 pub(crate) fn make_continuation(id: StreamId, whole: bool, fragment: Bytes) -> Frame
     requires { length fragment ≤ 16384 }
-    ensures is { result ≡ continuation_frame id whole fragment }
-    ensures sound { IsSound result }
+    ensures { result ≡ continuation_frame id whole fragment }
 {
     Frame::new(
         FrameKind::Continuation,

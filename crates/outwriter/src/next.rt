@@ -46,8 +46,6 @@ impl<L: Lane<Item = OutItem>> OutCore<L> {
         ensures leads { LeadsNext L.got result self.old self.new }
 
         // What a frame's writer asks of it.
-        ensures sound { IfOk result (λ next. (frame : FrameOf) → next ≡ next_kind.Frame frame → IsSound frame) }
-        ensures numbered { IfOk result (λ next. (frame : FrameOf) → next ≡ next_kind.Frame frame → frame.head.stream < 2 ^ 31) }
         ensures writable { IfOk result (λ next. (frame : FrameOf) → next ≡ next_kind.Frame frame → IsWritable frame) }
         ensures dead { self.old.is_dead ≡ true → result ≡ Err (out_fault.OutOfMemory None) }
         ensures dies { IfErr result (λ fault. (fault ≡ out_fault.OutOfMemory None) × (self.new.is_dead ≡ true)) }
@@ -89,7 +87,6 @@ impl<L: Lane<Item = OutItem>> Sending<L> {
     /// SETTINGS first; the rest of a header block; what is due; credit; and then the streams.
     pub(crate) fn choose(&mut self) -> Result<Option<Frame>, AllocError>
         ensures sound { IfOk result (λ o. IfSome o IsSound) }
-        ensures numbered { IfOk result (λ o. IfSome o (λ frame. frame.head.stream < 2 ^ 31)) }
         ensures frame { IfOk result (λ o. Progresses o self.old.outbound self.new.outbound) }
         ensures spent { IfOk result (λ o. IfNone o (IsSpent self.new.outbound)) }
         ensures served { IfOk result (λ o. HoldsOn L.got o self.old self.new) }
@@ -113,7 +110,6 @@ impl<L: Lane<Item = OutItem>> Sending<L> {
     fn stream_frame(&mut self) -> Result<Option<Frame>, AllocError>
         requires { IsBetween self.old.outbound }
         ensures sound { IfOk result (λ o. IfSome o IsSound) }
-        ensures numbered { IfOk result (λ o. IfSome o (λ frame. frame.head.stream < 2 ^ 31)) }
         ensures frame { IfOk result (λ o. Progress o self.old.outbound self.new.outbound) }
         ensures own { IfOk result (λ o. IfNone o (SameOwn self.old.outbound self.new.outbound)) }
         ensures served { IfOk result (λ o. HoldsOn L.got o self.old self.new) }
@@ -135,7 +131,6 @@ impl<L: Lane<Item = OutItem>> Sending<L> {
     fn frame_out_of_turn(&mut self) -> Result<Option<Frame>, AllocError>
         requires { IsBetween self.old.outbound }
         ensures sound { IfOk result (λ o. IfSome o IsSound) }
-        ensures numbered { IfOk result (λ o. IfSome o (λ frame. frame.head.stream < 2 ^ 31)) }
         ensures frame { IfOk result (λ o. Progress o self.old.outbound self.new.outbound) }
         ensures own { IfOk result (λ o. IfNone o (SameOwn self.old.outbound self.new.outbound)) }
         ensures served { IfOk result (λ o. HoldsOn L.got o self.old self.new) }
@@ -162,7 +157,6 @@ impl<L: Lane<Item = OutItem>> Sending<L> {
     fn frame_in_turn(&mut self) -> Result<Option<Frame>, AllocError>
         requires { IsBetween self.old.outbound }
         ensures sound { IfOk result (λ o. IfSome o IsSound) }
-        ensures numbered { IfOk result (λ o. IfSome o (λ frame. frame.head.stream < 2 ^ 31)) }
         ensures frame { IfOk result (λ o. Progress o self.old.outbound self.new.outbound) }
         ensures own { IfOk result (λ o. IfNone o (SameOwn self.old.outbound self.new.outbound)) }
         ensures served { IfOk result (λ o. HoldsOn L.got o self.old self.new) }
@@ -186,7 +180,6 @@ impl<L: Lane<Item = OutItem>> Sending<L> {
     fn frame_of_any(&mut self) -> Result<Option<Frame>, AllocError>
         requires { IsBetween self.old.outbound }
         ensures sound { IfOk result (λ o. IfSome o IsSound) }
-        ensures numbered { IfOk result (λ o. IfSome o (λ frame. frame.head.stream < 2 ^ 31)) }
         ensures frame { IfOk result (λ o. Progress o self.old.outbound self.new.outbound) }
         ensures own { IfOk result (λ o. IfNone o (SameOwn self.old.outbound self.new.outbound)) }
         ensures served { IfOk result (λ o. HoldsOn L.got o self.old self.new) }
@@ -210,7 +203,6 @@ impl<L: Lane<Item = OutItem>> Sending<L> {
     fn frame_of(&mut self, id: StreamId) -> Result<Option<Frame>, AllocError>
         requires { IsBetween self.old.outbound }
         ensures sound { IfOk result (λ o. IfSome o IsSound) }
-        ensures numbered { IfOk result (λ o. IfSome o (λ frame. frame.head.stream < 2 ^ 31)) }
         ensures frame { IfOk result (λ o. Progress o self.old.outbound self.new.outbound) }
         ensures own { IfOk result (λ o. IfNone o (SameOwn self.old.outbound self.new.outbound)) }
         ensures served { IfOk result (λ o. HoldsOn L.got o self.old self.new) }
@@ -230,7 +222,6 @@ impl<L: Lane<Item = OutItem>> Sending<L> {
     fn look(&mut self, id: StreamId) -> Result<Option<Frame>, AllocError>
         requires { IsBetween self.old.outbound }
         ensures sound { IfOk result (λ o. IfSome o IsSound) }
-        ensures numbered { IfOk result (λ o. IfSome o (λ frame. frame.head.stream < 2 ^ 31)) }
         ensures frame { IfOk result (λ o. Progress o self.old.outbound self.new.outbound) }
         ensures own { IfOk result (λ o. IfNone o (SameOwn self.old.outbound self.new.outbound)) }
         ensures served { IfOk result (λ o. HoldsOn L.got o self.old self.new) }
@@ -252,7 +243,6 @@ impl<L: Lane<Item = OutItem>> Sending<L> {
     fn look_once(&mut self, id: StreamId) -> Result<Looked, AllocError>
         requires { IsBetween self.old.outbound }
         ensures sound { IfOk result (λ l. IfSome (frame_in l) IsSound) }
-        ensures numbered { IfOk result (λ l. IfSome (frame_in l) (λ frame. frame.head.stream < 2 ^ 31)) }
         ensures frame { IfOk result (λ l. Progress (frame_in l) self.old.outbound self.new.outbound) }
         ensures own { IfOk result (λ l. IfNone (frame_in l) (SameOwn self.old.outbound self.new.outbound)) }
         ensures served { IfOk result (λ l. HoldsOn L.got (frame_in l) self.old self.new) }
@@ -287,7 +277,6 @@ impl<L: Lane<Item = OutItem>> Sending<L> {
         requires unreset { is_reset self.old.outbound.states id ≡ false }
         requires some { 0 < length bytes }
         ensures sound { IfOk result (λ l. IfSome (frame_in l) IsSound) }
-        ensures numbered { IfOk result (λ l. IfSome (frame_in l) (λ frame. frame.head.stream < 2 ^ 31)) }
         ensures frame { IfOk result (λ l. Progress (frame_in l) self.old.outbound self.new.outbound) }
         ensures own { IfOk result (λ l. IfNone (frame_in l) (SameOwn self.old.outbound self.new.outbound)) }
         ensures data { IfOk result (λ l. TellsData id bytes (frame_in l) self.old self.new) }

@@ -39,7 +39,6 @@ impl Outbound {
         requires begun { self.old.begun ≡ false }
         requires going { self.old.gone ≡ false }
         ensures sound { IsSound result }
-        ensures numbered { result.head.stream < 2 ^ 31 }
         ensures written { Writes result self.old self.new }
         ensures own { IsOwn result self.old self.new }
     {
@@ -52,7 +51,6 @@ impl Outbound {
         requires begun { self.old.begun ≡ true }
         requires going { self.old.gone ≡ false }
         ensures sound { IfOk result (λ o. IfSome o IsSound) }
-        ensures numbered { IfOk result (λ o. IfSome o (λ frame. frame.head.stream < 2 ^ 31)) }
         ensures frame { IfOk result (λ o. Progress o self.old self.new) }
         ensures none { IfOk result (λ o. IfNone o ((self.old.block ≡ None) × (self.new.due.items ≡ []) × ((id : ℕ) → owed_on self.new.states id ≡ 0))) }
         ensures own { IfOk result (λ o. OwnOrRests o self.old self.new) }
@@ -71,7 +69,6 @@ impl Outbound {
         requires begun { self.old.begun ≡ true }
         requires going { self.old.gone ≡ false }
         ensures sound { IfOk result (λ o. IfSome o IsSound) }
-        ensures numbered { IfOk result (λ o. IfSome o (λ frame. frame.head.stream < 2 ^ 31)) }
         ensures frame { IfOk result (λ o. WritesIf o self.old self.new) }
         ensures none { IfOk result (λ o. IfNone o (self.old.block ≡ None)) }
         ensures own { IfOk result (λ o. OwnOrRests o self.old self.new) }
@@ -88,7 +85,6 @@ impl Outbound {
     pub(crate) fn due_frame(&mut self) -> Result<Option<Frame>, AllocError>
         requires { IsBetween self.old }
         ensures sound { IfOk result (λ o. IfSome o IsSound) }
-        ensures numbered { IfOk result (λ o. IfSome o (λ frame. frame.head.stream < 2 ^ 31)) }
         ensures frame { IfOk result (λ o. IfSome o (λ frame. Writes frame self.old self.new)) }
         ensures none { IfOk result (λ o. IfNone o (self.new.due.items ≡ [])) }
         ensures own { IfOk result (λ o. OwnOrRests o self.old self.new) }
@@ -107,7 +103,6 @@ impl Outbound {
     fn frame_of_due(&mut self, due: Due) -> Result<Option<Frame>, AllocError>
         requires { IsBetween self.old }
         ensures sound { IfOk result (λ o. IfSome o IsSound) }
-        ensures numbered { IfOk result (λ o. IfSome o (λ frame. frame.head.stream < 2 ^ 31)) }
         ensures written { IfOk result (λ o. WritesOrSkips due o self.old self.new) }
         ensures own { IfOk result (λ o. OwnOfDue due o self.old self.new) }
         ensures dropped { IfOk result (λ o. IfNone o (AreOver self.old (due ∷ []))) }
@@ -134,7 +129,6 @@ impl Outbound {
     fn settings_ack(&mut self) -> Frame
         requires { IsBetween self.old }
         ensures sound { IsSound result }
-        ensures numbered { result.head.stream < 2 ^ 31 }
         ensures written { WritesDue due_kind.SettingsAck result self.old self.new }
         ensures own { OwnByDue due_kind.SettingsAck result self.old self.new }
     {
@@ -144,7 +138,6 @@ impl Outbound {
     fn ping_ack(&mut self, bytes: [u8; 8]) -> Result<Frame, AllocError>
         requires { IsBetween self.old }
         ensures sound { IfOk result IsSound }
-        ensures numbered { IfOk result (λ frame. frame.head.stream < 2 ^ 31) }
         ensures written { IfOk result (λ frame. WritesDue (due_kind.PingAck bytes) frame self.old self.new) }
         ensures own { IfOk result (λ frame. OwnByDue (due_kind.PingAck bytes) frame self.old self.new) }
     {
@@ -154,7 +147,6 @@ impl Outbound {
     fn goaway_frame(&mut self, last: StreamId, code: ErrorCode) -> Result<Frame, AllocError>
         requires { IsBetween self.old }
         ensures sound { IfOk result IsSound }
-        ensures numbered { IfOk result (λ frame. frame.head.stream < 2 ^ 31) }
         ensures written { IfOk result (λ frame. WritesDue (due_kind.Goaway last code) frame self.old self.new) }
         ensures own { IfOk result (λ frame. OwnByDue (due_kind.Goaway last code) frame self.old self.new) }
     {
@@ -193,7 +185,6 @@ impl Outbound {
         requires is { is_number id ≡ true }
         requires open { over_on self.old.states id ≡ None }
         ensures sound { IfOk result IsSound }
-        ensures numbered { IfOk result (λ frame. frame.head.stream < 2 ^ 31) }
         ensures written { IfOk result (λ frame. WritesDue (due_kind.Reset id code) frame self.old self.new) }
         ensures own { IfOk result (λ frame. OwnByDue (due_kind.Reset id code) frame self.old self.new) }
     {
@@ -210,7 +201,6 @@ impl Outbound {
         requires open { over_on self.old.states id ≡ None }
         requires unreset { is_reset self.old.states id ≡ false }
         ensures sound { IfOk result IsSound }
-        ensures numbered { IfOk result (λ frame. frame.head.stream < 2 ^ 31) }
         ensures written { IfOk result (λ frame. WritesDue (due_kind.Refuse id fields) frame self.old self.new) }
         ensures own { IfOk result (λ frame. OwnByDue (due_kind.Refuse id fields) frame self.old self.new) }
     {
@@ -222,7 +212,6 @@ impl Outbound {
     pub(crate) fn credit_frame(&mut self) -> Result<Option<Frame>, AllocError>
         requires between { IsBetween self.old }
         ensures sound { IfOk result (λ o. IfSome o IsSound) }
-        ensures numbered { IfOk result (λ o. IfSome o (λ frame. frame.head.stream < 2 ^ 31)) }
         ensures frame { IfOk result (λ o. IfSome o (λ frame. Writes frame self.old self.new)) }
         ensures none { IfOk result (λ o. IfNone o ((id : ℕ) → owed_on self.new.states id ≡ 0)) }
         ensures still { IfOk result (λ o. IfNone o (Stays self.old self.new × IsBetween self.new)) }
@@ -248,7 +237,6 @@ impl Outbound {
         requires open { over_on self.old.states id ≡ None }
         requires unreset { is_reset self.old.states id ≡ false }
         ensures sound { IfOk result IsSound }
-        ensures numbered { IfOk result (λ frame. frame.head.stream < 2 ^ 31) }
         ensures written { IfOk result (λ frame. Heads frame self.old self.new) }
         ensures tells { IfOk result (λ frame. TellsBlock id ends bytes frame self.old self.new) }
         ensures ends { OnOk result (Ends self.old.states id ends self.new.states) }
@@ -290,7 +278,6 @@ impl Outbound {
         requires room { length piece ≤ room self.old.windows id }
         requires fits { (history : List WindowStep) → Follows history self.old.windows → length piece ≤ room_after history id }
         ensures sound { IsSound result }
-        ensures numbered { result.head.stream < 2 ^ 31 }
         ensures written { Writes result self.old self.new }
         ensures tells { TellsMore result (on_stream id (map Byte piece)) self.old self.new }
         ensures rest { self.new ≡ record self.old { windows = self.new.windows } }

@@ -1,7 +1,5 @@
 use Rattle.std.proofs.Common.{◌∙◌, Option, subst, refl}
 use Rattle.h2frame.specs.declared.frame.Frame.{Frame}
-use Rattle.std.specs.Prelude.{IfSome, ◌<◌, ◌^◌}
-use Rattle.outwriter.specs.Frames.{IsSound}
 use Rattle.outwriter.specs.Polls.{coming}
 use Rattle.outwriter.specs.RunState.{Progresses}
 use Rattle.outwriter.specs.StreamLooks.{HoldsOn}
@@ -17,10 +15,7 @@ returns-in-Ok-Some-clause-leads g c =
     (subst (λ (o : Option Frame). HoldsOn g.L.Lane.got o c.args.self.now.sending c.choose.new.self) c.in-Ok-Some.field-0-is c.in-Ok-Some.ensures.served)
 
 pub returns-in-Ok-Some-clause-writable : goal.returns-in-Ok-Some-clause-writable
-returns-in-Ok-Some-clause-writable g c = λ frame is.
-    writable-from c.in-Ok-Some.frame frame is
-    (subst (λ (o : Option Frame). IfSome o IsSound) c.in-Ok-Some.field-0-is c.in-Ok-Some.ensures.sound)
-    (subst (λ (o : Option Frame). IfSome o (λ one. one.head.stream < 2 ^ 31)) c.in-Ok-Some.field-0-is c.in-Ok-Some.ensures.numbered)
+returns-in-Ok-Some-clause-writable g c = λ frame is. writable-from c.in-Ok-Some.field-0 c.in-Ok-Some.frame frame c.in-Ok-Some.field-0-is is c.in-Ok-Some.ensures.sound
 
 pub returns-in-Ok-None-clause-leads : goal.returns-in-Ok-None-clause-leads
 returns-in-Ok-None-clause-leads g c =
