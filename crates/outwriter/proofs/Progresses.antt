@@ -1,6 +1,6 @@
 -- One part of a choice after another.
 use Rattle.std.proofs.Common.{ℕ, arith, refl, inl, inr, sym, ap, subst, ◌∙◌, List, ◌++◌, Option, Some, None, append-nil}
-use Rattle.std.specs.Prelude.{IfNone, IfSome, flat_map, ◌≡◌, ◌<◌, ◌^◌}
+use Rattle.std.specs.Prelude.{IfNone, IfSome, flat_map, ◌≡◌}
 use Rattle.h2frame.specs.declared.frame.Frame.{Frame}
 use Rattle.h2frame.specs.Spelling.{IsWritable}
 use Rattle.outwriter.specs.declared.next.Next.TheVariants as next

@@ -18,10 +18,10 @@ use Rattle.outwriter.specs.Histories.{is_stream}
 use Rattle.outwriter.specs.Parts.{Mark}
 use Rattle.outwriter.specs.States.{over_on, open_at}
 use Rattle.outwriter.specs.CallState.{Serves}
-use Rattle.outwriter.specs.RunState.{HasOver, IsBetween, Progress, SameOwn, Stays}
-use Rattle.outwriter.specs.StreamLooks.{AllStuck, GetsQuiet, GetsStuck, Holds, HoldsOn, KeepsFronts, StuckAt, aheads}
+use Rattle.outwriter.specs.RunState.{HasOver}
+use Rattle.outwriter.specs.StreamLooks.{AllStuck, GetsQuiet, GetsStuck, Gives, Holds, HoldsOn, Picks, StuckAt, aheads}
 use Rattle.outwriter.specs.Steps.{Step}
-use Rattle.outwriter.proofs.ServeStepsCore.{own-then}
+use Rattle.outwriter.proofs.ServeStepsCore.{gives-then, picks-then}
 
 pub lt-from : (a b : ℕ) → true ≡ nat_lt a b → a < b
 lt-from a b e = grind (arith, nat_tests)
@@ -102,27 +102,15 @@ module _ {L In Out Shut : Type 0} (got ahead : Out → List OutItem) where
 module _ {L In Out Shut Name : Type 0} (got ahead : Out → List OutItem) (name : Out → Name) where
   -- what holds of the loop over all senders
   abbrev pub Looked : ℕ → Sending L In Out Shut → Sending L In Out Shut → Type 0
-  Looked n old now = IsBetween now.outbound × SameOwn old.outbound now.outbound × Stays old.outbound now.outbound
-      × HoldsOn got None old now × KeepsFronts got old now
-      × (lanes name now.senders.items ≡ lanes name old.senders.items) × StuckBelow got ahead n old now
+  Looked n old now = Picks got None old now × Gives got name old now × StuckBelow got ahead n old now
 
   -- after a stream that has no frame
-  pub looked-more : (n : ℕ) (old mid new : Sending L In Out Shut) (id : ℕ) (o : Option Frame) → o ≡ None → Looked n old mid → get_or (numbers mid.senders.items) n 0 ≡ id
-      → Progress o mid.outbound new.outbound → IfNone o (SameOwn mid.outbound new.outbound) → HoldsOn got o mid new
-      → KeepsFronts got mid new → lanes name new.senders.items ≡ lanes name mid.senders.items
-      → IfNone o (GetsStuck got ahead id mid new) → Looked (n + 1) old new
-  looked-more n old mid new id (Some frame) e l at progress own served fronts senders gets = absurd (some-is e)
-    where
-      some-is : Some frame ≡ None → ⊥
-      some-is f = cc
-  looked-more n old mid new id None e l at progress own served fronts senders gets = (
-    progress.1,
-    own-then old.outbound mid.outbound new.outbound l.1 own,
-    λ run m. progress.0 run (l.2 run m),
-    λ run h. served run (l.3 run h),
-    λ run f. fronts run (l.4 run f),
-    senders ∙ l.5,
-    stuck-below-more got ahead n old mid new id l.6 at served (same-numbers name mid.senders.items new.senders.items senders) gets,
+  pub looked-more : (n : ℕ) (old mid new : Sending L In Out Shut) (id : ℕ) → Looked n old mid → get_or (numbers mid.senders.items) n 0 ≡ id
+      → Picks got None mid new → Gives got name mid new → GetsStuck got ahead id mid new → Looked (n + 1) old new
+  looked-more n old mid new id l at picks gives gets = (
+    picks-then got old mid new None l.0 picks,
+    gives-then got name old mid new l.1 gives,
+    stuck-below-more got ahead n old mid new id l.2 at picks.3 (same-numbers name mid.senders.items new.senders.items gives.1) gets,
   )
 
 -- what is stuck behind a step that writes nothing
@@ -138,10 +126,6 @@ module _ {L In Out Shut : Type 0} (got ahead : Out → List OutItem) {E : Type 0
   quiet-after old mid new (Ok None) keeps stuck = λ run h. inr (stuck run (keeps run h))
   quiet-after old mid new (Ok (Some frame)) keeps stuck = tt
   quiet-after old mid new (Err e) keeps stuck = tt
-
--- a frame that isn't there
-pub holds-none : {L In Out Shut : Type 0} (got : Out → List OutItem) (old new : Sending L In Out Shut) (o : Option Frame) → o ≡ None → HoldsOn got o old new → HoldsOn got None old new
-holds-none got old new o e = subst (λ (x : Option Frame). HoldsOn got x old new) e
 
 -- ---- each call
 

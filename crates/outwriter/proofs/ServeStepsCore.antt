@@ -9,11 +9,12 @@ use Rattle.outwriter.specs.Cores.{calls}
 use Rattle.outwriter.specs.Parts.{Mark, Reset, on_stream}
 use Rattle.outwriter.specs.OpenStreams.{OpenStreams, SameHands, shown}
 use Rattle.outwriter.specs.RunState.{IsBetween, SameButOpen, SameOwn}
-use Rattle.outwriter.specs.StreamLooks.{Holds, HoldsOn, KeepsFronts}
+use Rattle.outwriter.specs.StreamLooks.{Gives, Holds, HoldsOn, KeepsFronts, Picks}
 use Rattle.outwriter.specs.CallState.{Serves, Heeds, IsOwn, OwnOrRests}
 use Rattle.outwriter.specs.Steps.{Step, Written}
 use Rattle.outwriter.specs.ToldByNow.{block_marks}
 use Rattle.outwriter.proofs.EndsKept.{heeds-but-open, heeds-kept, heeds-own, own-ends, rests-ends}
+use Rattle.outwriter.proofs.RunStateSteps.{mirrors-but-open}
 use Rattle.outwriter.proofs.ServeSteps.{none-shown}
 use Rattle.outwriter.proofs.ServeStepsOwn.{serves-hands, serves-rests, serves-plain, serves-reset, serves-refusal, serves-but-open}
 
@@ -58,6 +59,38 @@ module _ {L In Out Shut : Type 0} where
 
   pub fronts-then : (got : Out → List OutItem) (old mid new : Sending L In Out Shut) → KeepsFronts got old mid → KeepsFronts got mid new → KeepsFronts got old new
   fronts-then got old mid new f g run all = g run (f run all)
+
+  pub gives-then : {Name : Type 0} (got : Out → List OutItem) (name : Out → Name) (old mid new : Sending L In Out Shut) → Gives got name old mid → Gives got name mid new → Gives got name old new
+  gives-then got name old mid new a b = (fronts-then got old mid new a.0 b.0, b.1 ∙ a.1)
+
+  -- no frame came, and then this one did, if any
+  pub picks-then : (got : Out → List OutItem) (old mid new : Sending L In Out Shut) (o : Option Frame) → Picks got None old mid → Picks got o mid new → Picks got o old new
+  picks-then got old mid new None a b = (
+    tt,
+    (λ run m. b.1.0 run (a.1.0 run m), b.1.1),
+    own-then old.outbound mid.outbound new.outbound a.2 b.2,
+    holds-then got old mid new None a.3 b.3,
+  )
+  picks-then got old mid new (Some frame) a b = (b.0, λ run m. b.1 run (a.1.0 run m), tt, holds-then got old mid new (Some frame) a.3 b.3)
+
+  pub picks-none : (got : Out → List OutItem) (s : Sending L In Out Shut) → IsBetween s.outbound → Picks got None s s
+  picks-none got s between = (tt, (λ run m. m, between), (refl, λ id. refl, refl), λ run h. h)
+
+  -- and the places and what is in hand are the same
+  pub picks-after : (got : Out → List OutItem) (old mid new : Sending L In Out Shut) (o : Option Frame) → Picks got o old mid
+      → SameHands (open_at mid.outbound.states) (open_at new.outbound.states) → SameButOpen mid.outbound new.outbound → new.senders ≡ mid.senders → Picks got o old new
+  picks-after got old mid new None p hands same senders = (
+    tt,
+    (λ run m. mirrors-but-open run mid.outbound new.outbound same (p.1.0 run m), between-but-open mid.outbound new.outbound same p.1.1),
+    own-then old.outbound mid.outbound new.outbound p.2 (own-but-open mid.outbound new.outbound same),
+    holds-after got old mid new None p.3 hands same senders,
+  )
+  picks-after got old mid new (Some frame) p hands same senders = (
+    p.0,
+    λ run m. ((p.1 run m).0, mirrors-but-open (Written frame ∷ run) mid.outbound new.outbound same (p.1 run m).1),
+    tt,
+    holds-after got old mid new (Some frame) p.3 hands same senders,
+  )
 
   -- what is kept of the open streams is the same
   open-same : (got : Out → List OutItem) (run : List Step) (core : Sending L In Out Shut) (after : Outbound) → (open_at after.states) ≡ (open_at core.outbound.states) → (marks : List (ℕ × Mark))

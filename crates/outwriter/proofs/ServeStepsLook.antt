@@ -1,6 +1,6 @@
 -- A look at an open stream: what is taken of it is written, or kept in hand.
 use Rattle.std.proofs.Common.{◌≡◌, ℕ, ◌<◌, ◌==◌, ◌⊎◌, inl, inr, refl, sym, ap, subst, ◌∙◌, Bool, true, false, List, [], ◌∷◌, ◌++◌, Option, Some, None, length, append_assoc, true≢false, arith}
-use Rattle.std.specs.Prelude.{IfNone, Result, Ok, Err, map, get_or, if◌then◌else◌}
+use Rattle.std.specs.Prelude.{IfNone, IfOk, IfSome, Result, Ok, Err, map, get_or, if◌then◌else◌}
 use Rattle.std.proofs.lemmas.Bool.{eqb-true, eq-eqb}
 use Rattle.std.proofs.lemmas.Grind.{flat_map-append}
 use Rattle.std.proofs.lemmas.List.{map-append}
@@ -13,20 +13,23 @@ use Rattle.hpack_codec.specs.Codec.{Encoding, Writes}
 use Rattle.outwriter.specs.declared.sending.Sending.{Sending}
 use Rattle.outwriter.specs.declared.outbound.Outbound.{Outbound}
 use Rattle.outwriter.specs.declared.stream.OpenStream.{OpenStream}
+use Rattle.outwriter.specs.declared.stream.Looked.{Looked}
 use Rattle.outwriter.specs.declared.stream.Polled.{Polled}
 use Rattle.outwriter.specs.declared.stream.Polled.TheVariants as polled
 use Rattle.outwriter.specs.Calls.{is_served, TellFronts}
+use Rattle.outwriter.specs.Frames.{IsSound}
 use Rattle.outwriter.specs.Cores.{calls}
 use Rattle.outwriter.specs.States.{SameOpen, SameOwed, StandAs, States, is_heard, knows, over_on, open_at}
 use Rattle.outwriter.specs.OpenStreams.{Closes, HandIs, HandKeeps, OpenStreams, Removes, Shown, shown, shows, with_hand}
-use Rattle.outwriter.specs.RunState.{Ends, Heads, IsBetween, MirrorsOf, Progress, SameButOpen, Stays}
+use Rattle.outwriter.specs.RunState.{Ends, Heads, IsBetween, MirrorsOf, Progress, SameButOpen, SameOwn, Stays}
 use Rattle.outwriter.specs.RunState.{Writes as WritesFrame}
 use Rattle.outwriter.specs.Parts.{Mark, Byte, Fields, End, on_stream, spelled, marks_of_item, IsFrontOf, IsPart}
-use Rattle.outwriter.specs.StreamLooks.{one_more, SameAhead, SameElsewhere, TakesAt, TakesHand, TellsData, aheads, HoldsOn, KeepsFronts}
+use Rattle.outwriter.specs.StreamLooks.{one_more, SameAhead, SameElsewhere, TakesAt, TakesHand, TellsData, aheads, HoldsOn, Picks, frame_in}
 use Rattle.outwriter.specs.Polls.{block_item, GotNone}
 use Rattle.outwriter.specs.CallState.{Heeds, bytes_marks, Serves}
 use Rattle.outwriter.specs.Steps.{Step, Written}
 use Rattle.outwriter.specs.ToldByNow.{SpellsOf, SameStanding, TellsMore, TellsBlock, block_marks}
+use Rattle.outwriter.proofs.ServeStepsCore.{own-then}
 use Rattle.outwriter.proofs.ServeSteps.{append-nil, none-shown}
 use Rattle.outwriter.proofs.EndsKept.{KeepsEnds, heeds-kept, same-ends, block-ends, ends-heard}
 use Rattle.outwriter.proofs.TellStepsOwn.{ends-as, standing-as}
@@ -300,9 +303,13 @@ progress-none old mid e between = (
     mirrors-encoder : (run : List Step) (o : Outbound) (encoder : Option Encoding) → MirrorsOf run o → MirrorsOf run (record o { encoder = encoder })
     mirrors-encoder run o encoder m = m
 
-pub progress-after : (o : Option Frame) (old mid new : Outbound) → Stays old mid → Progress o mid new → Progress o old new
+progress-after : (o : Option Frame) (old mid new : Outbound) → Stays old mid → Progress o mid new → Progress o old new
 progress-after (Some frame) old mid new stays progress = λ run m. progress run (stays run m)
 progress-after None old mid new stays progress = (λ run m. progress.0 run (stays run m), progress.1)
+
+own-after : (o : Option Frame) (old mid new : Outbound) → SameOwn old mid → IfNone o (SameOwn mid new) → IfNone o (SameOwn old new)
+own-after (Some frame) old mid new a b = tt
+own-after None old mid new a b = own-then old mid new a b
 
 pub stays-end : (old mid fin : Outbound) → Stays old mid → SameButOpen mid fin → Stays old fin
 stays-end old mid fin stays same run m = mirrors-but-open run mid fin same (stays run m)
@@ -357,8 +364,17 @@ module _ {L In Out Shut : Type 0} where
   took-ahead ahead old mid id place hand there same =
       subst (λ (v : Shown). SameAhead v (aheads ahead old.senders.items) (aheads ahead mid.senders.items)) (sym there) same
 
-  pub fronts-still : (got : Out → List OutItem) (old mid new : Sending L In Out Shut) → KeepsFronts got old mid → new.senders ≡ mid.senders → KeepsFronts got old new
-  fronts-still got old mid new keeps e run all = subst (λ senders. TellFronts run (calls got senders.items)) (sym e) (keeps run all)
+  -- what a look at a message found
+  pub look-picks : {E : Type 0} (got : Out → List OutItem) (old mid new : Sending L In Out Shut) (r : Result Looked E) → Stays old.outbound mid.outbound → SameOwn old.outbound mid.outbound
+      → IfOk r (λ l. IfSome (frame_in l) IsSound) → IfOk r (λ l. Progress (frame_in l) mid.outbound new.outbound) → IfOk r (λ l. IfNone (frame_in l) (SameOwn mid.outbound new.outbound))
+      → IfOk r (λ l. HoldsOn got (frame_in l) old new) → IfOk r (λ l. Picks got (frame_in l) old new)
+  look-picks got old mid new (Ok l) stays same sound progress own holds = (
+    sound,
+    progress-after (frame_in l) old.outbound mid.outbound new.outbound stays progress,
+    own-after (frame_in l) old.outbound mid.outbound new.outbound same own,
+    holds,
+  )
+  look-picks got old mid new (Err e) stays same sound progress own holds = tt
 
   pub look-nothing : (E : Type 0) (got ahead : Out → List OutItem) (old mid : Sending L In Out Shut) (id : ℕ) (result : Polled)
       → Took E got ahead old mid id (Ok result) → result ≡ polled.Nothing → HoldsOn got None old mid

@@ -1,5 +1,5 @@
 -- What a look at an open stream changes.
-use Rattle.std.specs.Prelude.{◌≡◌, ◌≢◌, ℕ, List, [], ◌∷◌, ◌++◌, map, set, get_or, Option, None, Some, Result, Ok, Err}
+use Rattle.std.specs.Prelude.{◌≡◌, ◌≢◌, ℕ, List, [], ◌∷◌, ◌++◌, map, set, get_or, Option, None, Some, IfNone, IfSome, Result, Ok, Err}
 use Rattle.account.specs.declared.call.OutItem.{OutItem}
 use Rattle.account.specs.declared.call.OutItem.TheVariants as item
 use Rattle.callbox.specs.declared.sender.Sender.{Sender}
@@ -15,12 +15,13 @@ use Rattle.outwriter.specs.declared.stream.Polled.TheVariants as polled
 use Rattle.outwriter.specs.declared.stream.Looked.{Looked}
 use Rattle.outwriter.specs.declared.stream.Looked.TheVariants as looked
 use Rattle.outwriter.specs.Calls.{TellFronts}
-use Rattle.outwriter.specs.Cores.{calls, IsStuck, AreStuck, IsQuiet}
+use Rattle.outwriter.specs.Frames.{IsSound}
+use Rattle.outwriter.specs.Cores.{calls, lanes, IsStuck, AreStuck, IsQuiet}
 use Rattle.outwriter.specs.Parts.{Mark, Byte, on_stream}
 use Rattle.outwriter.specs.Polls.{block_item, GotNone}
 use Rattle.outwriter.specs.CallState.{Serves, Heeds}
 use Rattle.outwriter.specs.OpenStreams.{HandIs, HandKeeps, Shown}
-use Rattle.outwriter.specs.RunState.{SameButOpen}
+use Rattle.outwriter.specs.RunState.{Progress, SameButOpen, SameOwn}
 use Rattle.outwriter.specs.Steps.{Step, Written}
 use Rattle.outwriter.specs.ToldByNow.{TellsMore}
 
@@ -83,6 +84,15 @@ module _ {L In Out Shut : Type 0} where
   -- what was told is a front still
   abbrev pub KeepsFronts : (Out → List OutItem) → Sending L In Out Shut → Sending L In Out Shut → Type 0
   KeepsFronts got old new = (run : List Step) → TellFronts run (calls got old.senders.items) → TellFronts run (calls got new.senders.items)
+
+  -- what the senders gave has what was told as a front still, and each sender is an end of the same lane
+  abbrev pub Gives : {Name : Type 0} → (Out → List OutItem) → (Out → Name) → Sending L In Out Shut → Sending L In Out Shut → Type 0
+  Gives got name old new = KeepsFronts got old new × (lanes name new.senders.items ≡ lanes name old.senders.items)
+
+  -- A frame can be spelled, might be written, and is the next step. Where there is none, what is due and what is owed is the same, and what is kept follows
+  -- from the run still.
+  abbrev pub Picks : (Out → List OutItem) → Option Frame → Sending L In Out Shut → Sending L In Out Shut → Type 0
+  Picks got o old new = IfSome o IsSound × Progress o old.outbound new.outbound × IfNone o (SameOwn old.outbound new.outbound) × HoldsOn got o old new
 
   -- DATA of a front of some bytes, of which the rest is kept; or all of them are, as there is no room
   abbrev pub TellsData : ℕ → List ℕ → Option Frame → Sending L In Out Shut → Sending L In Out Shut → Type 0

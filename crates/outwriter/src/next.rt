@@ -81,7 +81,7 @@ impl<L: Lane<Item = OutItem>> Sending<L> {
     ghost use Rattle.outwriter.specs.Cores.{calls, lanes};
     ghost use Rattle.outwriter.specs.States.{is_reset, over_on};
     ghost use Rattle.outwriter.specs.Polls.{coming};
-    ghost use Rattle.outwriter.specs.StreamLooks.{HoldsOn, KeepsFronts, TellsData, GetsStuck, LooksAt, frame_in, AllStuck, GetsQuiet};
+    ghost use Rattle.outwriter.specs.StreamLooks.{AllStuck, GetsQuiet, GetsStuck, Gives, HoldsOn, LooksAt, Picks, TellsData, frame_in};
     ghost use Rattle.outwriter.specs.RunState.{SameOwn, IsSpent, Progress, Progresses, IsBetween};
 
     /// SETTINGS first; the rest of a header block; what is due; credit; and then the streams.
@@ -90,8 +90,7 @@ impl<L: Lane<Item = OutItem>> Sending<L> {
         ensures frame { IfOk result (λ o. Progresses o self.old.outbound self.new.outbound) }
         ensures spent { IfOk result (λ o. IfNone o (IsSpent self.new.outbound)) }
         ensures served { IfOk result (λ o. HoldsOn L.got o self.old self.new) }
-        ensures fronts { KeepsFronts L.got self.old self.new }
-        ensures senders { lanes L.out_name self.new.senders.items ≡ lanes L.out_name self.old.senders.items }
+        ensures gives { Gives L.got L.out_name self.old self.new }
         ensures quiet { IfOk result (λ o. IfNone o (GetsQuiet L.got (coming L.got L.ahead) self.old self.new)) }
     {
         if self.outbound.gone {
@@ -109,12 +108,8 @@ impl<L: Lane<Item = OutItem>> Sending<L> {
     /// A frame of an open stream: of one out of turn, so that none is overlooked, or else of the first that has one.
     fn stream_frame(&mut self) -> Result<Option<Frame>, AllocError>
         requires { IsBetween self.old.outbound }
-        ensures sound { IfOk result (λ o. IfSome o IsSound) }
-        ensures frame { IfOk result (λ o. Progress o self.old.outbound self.new.outbound) }
-        ensures own { IfOk result (λ o. IfNone o (SameOwn self.old.outbound self.new.outbound)) }
-        ensures served { IfOk result (λ o. HoldsOn L.got o self.old self.new) }
-        ensures fronts { KeepsFronts L.got self.old self.new }
-        ensures senders { lanes L.out_name self.new.senders.items ≡ lanes L.out_name self.old.senders.items }
+        ensures picks { IfOk result (λ o. Picks L.got o self.old self.new) }
+        ensures gives { Gives L.got L.out_name self.old self.new }
         ensures quiet { IfOk result (λ o. IfNone o (AllStuck L.got (coming L.got L.ahead) self.old self.new)) }
     {
         if let Some(frame) = self.frame_out_of_turn()? {
@@ -130,12 +125,8 @@ impl<L: Lane<Item = OutItem>> Sending<L> {
     /// is out of turn.
     fn frame_out_of_turn(&mut self) -> Result<Option<Frame>, AllocError>
         requires { IsBetween self.old.outbound }
-        ensures sound { IfOk result (λ o. IfSome o IsSound) }
-        ensures frame { IfOk result (λ o. Progress o self.old.outbound self.new.outbound) }
-        ensures own { IfOk result (λ o. IfNone o (SameOwn self.old.outbound self.new.outbound)) }
-        ensures served { IfOk result (λ o. HoldsOn L.got o self.old self.new) }
-        ensures fronts { KeepsFronts L.got self.old self.new }
-        ensures senders { lanes L.out_name self.new.senders.items ≡ lanes L.out_name self.old.senders.items }
+        ensures picks { IfOk result (λ o. Picks L.got o self.old self.new) }
+        ensures gives { Gives L.got L.out_name self.old self.new }
     {
         if self.ready.len() >= self.senders.len() {
             return Ok(None);
@@ -156,12 +147,8 @@ impl<L: Lane<Item = OutItem>> Sending<L> {
     /// A frame of the first stream in the queue that has one, which goes behind the others. Those that have none leave the queue.
     fn frame_in_turn(&mut self) -> Result<Option<Frame>, AllocError>
         requires { IsBetween self.old.outbound }
-        ensures sound { IfOk result (λ o. IfSome o IsSound) }
-        ensures frame { IfOk result (λ o. Progress o self.old.outbound self.new.outbound) }
-        ensures own { IfOk result (λ o. IfNone o (SameOwn self.old.outbound self.new.outbound)) }
-        ensures served { IfOk result (λ o. HoldsOn L.got o self.old self.new) }
-        ensures fronts { KeepsFronts L.got self.old self.new }
-        ensures senders { lanes L.out_name self.new.senders.items ≡ lanes L.out_name self.old.senders.items }
+        ensures picks { IfOk result (λ o. Picks L.got o self.old self.new) }
+        ensures gives { Gives L.got L.out_name self.old self.new }
     {
         for _ in 0..self.ready.len() {
             let Some(id) = self.ready.pop_front() else {
@@ -179,12 +166,8 @@ impl<L: Lane<Item = OutItem>> Sending<L> {
     /// A frame of the first open stream that has one, in the order of the senders. Each open stream has its own.
     fn frame_of_any(&mut self) -> Result<Option<Frame>, AllocError>
         requires { IsBetween self.old.outbound }
-        ensures sound { IfOk result (λ o. IfSome o IsSound) }
-        ensures frame { IfOk result (λ o. Progress o self.old.outbound self.new.outbound) }
-        ensures own { IfOk result (λ o. IfNone o (SameOwn self.old.outbound self.new.outbound)) }
-        ensures served { IfOk result (λ o. HoldsOn L.got o self.old self.new) }
-        ensures fronts { KeepsFronts L.got self.old self.new }
-        ensures senders { lanes L.out_name self.new.senders.items ≡ lanes L.out_name self.old.senders.items }
+        ensures picks { IfOk result (λ o. Picks L.got o self.old self.new) }
+        ensures gives { Gives L.got L.out_name self.old self.new }
         ensures quiet { IfOk result (λ o. IfNone o (AllStuck L.got (coming L.got L.ahead) self.old self.new)) }
     {
         for index in 0..self.senders.len() {
@@ -202,12 +185,8 @@ impl<L: Lane<Item = OutItem>> Sending<L> {
     /// A frame of this stream, which takes turns from then on.
     fn frame_of(&mut self, id: StreamId) -> Result<Option<Frame>, AllocError>
         requires { IsBetween self.old.outbound }
-        ensures sound { IfOk result (λ o. IfSome o IsSound) }
-        ensures frame { IfOk result (λ o. Progress o self.old.outbound self.new.outbound) }
-        ensures own { IfOk result (λ o. IfNone o (SameOwn self.old.outbound self.new.outbound)) }
-        ensures served { IfOk result (λ o. HoldsOn L.got o self.old self.new) }
-        ensures fronts { KeepsFronts L.got self.old self.new }
-        ensures senders { lanes L.out_name self.new.senders.items ≡ lanes L.out_name self.old.senders.items }
+        ensures picks { IfOk result (λ o. Picks L.got o self.old self.new) }
+        ensures gives { Gives L.got L.out_name self.old self.new }
         ensures quiet { IfOk result (λ o. IfNone o (GetsStuck L.got (coming L.got L.ahead) id self.old self.new)) }
     {
         let Some(frame) = self.look(id)? else {
@@ -221,12 +200,8 @@ impl<L: Lane<Item = OutItem>> Sending<L> {
     /// written; more than 4,294,967,295 of them, one behind another, count as one that there is no memory for.
     fn look(&mut self, id: StreamId) -> Result<Option<Frame>, AllocError>
         requires { IsBetween self.old.outbound }
-        ensures sound { IfOk result (λ o. IfSome o IsSound) }
-        ensures frame { IfOk result (λ o. Progress o self.old.outbound self.new.outbound) }
-        ensures own { IfOk result (λ o. IfNone o (SameOwn self.old.outbound self.new.outbound)) }
-        ensures served { IfOk result (λ o. HoldsOn L.got o self.old self.new) }
-        ensures fronts { KeepsFronts L.got self.old self.new }
-        ensures senders { lanes L.out_name self.new.senders.items ≡ lanes L.out_name self.old.senders.items }
+        ensures picks { IfOk result (λ o. Picks L.got o self.old self.new) }
+        ensures gives { Gives L.got L.out_name self.old self.new }
         ensures quiet { IfOk result (λ o. IfNone o (GetsStuck L.got (coming L.got L.ahead) id self.old self.new)) }
     {
         for _ in 0..u32::MAX {
@@ -242,12 +217,8 @@ impl<L: Lane<Item = OutItem>> Sending<L> {
     /// The same for what is next on it.
     fn look_once(&mut self, id: StreamId) -> Result<Looked, AllocError>
         requires { IsBetween self.old.outbound }
-        ensures sound { IfOk result (λ l. IfSome (frame_in l) IsSound) }
-        ensures frame { IfOk result (λ l. Progress (frame_in l) self.old.outbound self.new.outbound) }
-        ensures own { IfOk result (λ l. IfNone (frame_in l) (SameOwn self.old.outbound self.new.outbound)) }
-        ensures served { IfOk result (λ l. HoldsOn L.got (frame_in l) self.old self.new) }
-        ensures fronts { KeepsFronts L.got self.old self.new }
-        ensures senders { lanes L.out_name self.new.senders.items ≡ lanes L.out_name self.old.senders.items }
+        ensures picks { IfOk result (λ l. Picks L.got (frame_in l) self.old self.new) }
+        ensures gives { Gives L.got L.out_name self.old self.new }
         ensures looks { IfOk result (λ l. LooksAt L.got (coming L.got L.ahead) id l self.old self.new) }
     {
         let Some((place, hand)) = self.outbound.states.take_hand(id) else {

@@ -18,11 +18,11 @@ returns-in-Some-clause-served g c =
 
 pub returns-clause-served : goal.returns-clause-served
 returns-clause-served g c =
-    IfOk-weaker c.stream_frame.result _ _ (λ o holds.
+    IfOk-weaker c.stream_frame.result _ _ (λ o picks.
     holds-then g.L.Lane.got c.args.self.now (record c.args.self.now { outbound = c.own_frame.new.self }) c.stream_frame.new.self o
     (own-holds g.L.Lane.got c.args.self.now c.own_frame.new.self None
     (subst (λ (x : Option Frame). OwnOrRests x c.args.self.now.outbound c.own_frame.new.self) c.in_default.is c.in_ok-frame.ensures.own))
-    holds) c.stream_frame.ensures.served
+    picks.3) c.stream_frame.ensures.picks
 
 pub returns-clause-quiet : goal.returns-clause-quiet
 returns-clause-quiet g c =

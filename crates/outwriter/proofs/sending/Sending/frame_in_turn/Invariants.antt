@@ -1,9 +1,6 @@
-use Rattle.std.proofs.Common.{◌≡◌, None}
-use Rattle.outwriter.specs.Cores.{lanes}
-use Rattle.outwriter.specs.RunState.{IsBetween, SameOwn, Stays}
-use Rattle.outwriter.specs.StreamLooks.{HoldsOn, KeepsFronts}
+use Rattle.std.proofs.Common.{None}
+use Rattle.outwriter.specs.StreamLooks.{Gives, Picks}
 use Rattle.outwriter.proofs.sending.Sending.frame_in_turn.Given as goal
 
 abbrev pub invariant-loop : goal.invariant-loop
-invariant-loop g l = IsBetween l.self.outbound × SameOwn l.fn.self.outbound l.self.outbound × Stays l.fn.self.outbound l.self.outbound
-    × HoldsOn g.L.Lane.got None l.fn.self l.self × KeepsFronts g.L.Lane.got l.fn.self l.self × (lanes g.L.Lane.out_name l.self.senders.items ≡ lanes g.L.Lane.out_name l.fn.self.senders.items)
+invariant-loop g l = Picks g.L.Lane.got None l.fn.self l.self × Gives g.L.Lane.got g.L.Lane.out_name l.fn.self l.self

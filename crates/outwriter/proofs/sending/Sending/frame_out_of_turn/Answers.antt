@@ -1,18 +1,17 @@
-use Rattle.std.proofs.Common.{subst, sym}
-use Rattle.outwriter.specs.StreamLooks.{Holds}
-use Rattle.outwriter.specs.Calls.{TellFronts}
-use Rattle.outwriter.specs.Cores.{calls}
+use Rattle.std.proofs.Common.{None, refl, subst, sym}
+use Rattle.outwriter.specs.StreamLooks.{Gives, Picks}
+use Rattle.outwriter.proofs.ServeStepsCore.{picks-none}
 use Rattle.outwriter.proofs.sending.Sending.frame_out_of_turn.Goals.{in_default-via-in-Some+else-waits, in_default-via-in_default}
 use Rattle.outwriter.proofs.sending.Sending.frame_out_of_turn.Goals as goal
 
-pub returns-in_default-clause-fronts : goal.returns-in_default-clause-fronts
-returns-in_default-clause-fronts g c = λ run all. elim c.in_default.branch [
-  | in_default-via-in-Some+else-waits w ↦ subst (λ core. TellFronts run (calls g.L.Lane.got core.senders.items)) (sym w.self-is) all
-  | in_default-via-in_default w ↦ subst (λ core. TellFronts run (calls g.L.Lane.got core.senders.items)) (sym w.self-is) all
+pub returns-in_default-clause-gives : goal.returns-in_default-clause-gives
+returns-in_default-clause-gives g c = elim c.in_default.branch [
+  | in_default-via-in-Some+else-waits w ↦ subst (λ left. Gives g.L.Lane.got g.L.Lane.out_name c.args.self.now left) (sym w.self-is) (λ run all. all, refl)
+  | in_default-via-in_default w ↦ subst (λ left. Gives g.L.Lane.got g.L.Lane.out_name c.args.self.now left) (sym w.self-is) (λ run all. all, refl)
 ]
 
-pub returns-in_default-clause-served : goal.returns-in_default-clause-served
-returns-in_default-clause-served g c = λ run held. elim c.in_default.branch [
-  | in_default-via-in-Some+else-waits w ↦ subst (λ core. Holds g.L.Lane.got run core) (sym w.self-is) held
-  | in_default-via-in_default w ↦ subst (λ core. Holds g.L.Lane.got run core) (sym w.self-is) held
+pub returns-in_default-clause-picks : goal.returns-in_default-clause-picks
+returns-in_default-clause-picks g c = elim c.in_default.branch [
+  | in_default-via-in-Some+else-waits w ↦ subst (λ left. Picks g.L.Lane.got None c.args.self.now left) (sym w.self-is) (picks-none g.L.Lane.got c.args.self.now c.requires)
+  | in_default-via-in_default w ↦ subst (λ left. Picks g.L.Lane.got None c.args.self.now left) (sym w.self-is) (picks-none g.L.Lane.got c.args.self.now c.requires)
 ]
