@@ -4,7 +4,7 @@
 //! said twice: each call by an equation on the numbers that are kept, and by what follows from the whole list of
 //! openings, credits, spendings, sizes and closings (`Follows`); `room` is tied to that list alone.
 
-ghost use Rattle.std.specs.Prelude.{◌≡◌, ◌+◌, ◌-◌, ◌+ℤ◌, ◌-ℤ◌, ◌<◌, ◌≤◌, pos, List, [], ◌∷◌, None, IfErr, OnErr, OnOk, is_some, MatchOption, nat_eq, int_le};
+ghost use Rattle.std.specs.Prelude.{◌≡◌, ◌+◌, ◌-◌, ◌+ℤ◌, ◌-ℤ◌, ◌<◌, ◌≤◌, ◌^◌, ◌≤ℤ◌, min, pos, negsuc, List, [], ◌∷◌, None, IfErr, OnErr, OnOk, is_some, MatchOption, nat_eq, int_le};
 ghost use Rattle.std.specs.List.{list_all};
 ghost use Rattle.std.specs.Map.{values_of};
 ghost use Rattle.indexmap.specs.IndexMap.{IsUnique};
@@ -178,9 +178,26 @@ impl SendWindows {
         if len > least(self.connection, self.initial, *balance) {
             return Err(WindowFault::NoRoom);
         }
-        *balance -= i64::from(len);
-        self.connection -= len;
+        take_out(&mut self.connection, balance, len);
         Ok(())
+    }
+
+    /// The same for as many bytes as may be sent now, and at most so many. It answers how many these are: 0 where `room` is 0.
+    pub fn spend_up_to(&mut self, id: StreamId, most: u32) -> u32
+        ensures value { result ≡ min (room self.old id) most }
+        ensures room { 0 < id → (history : List Step) → Follows history self.old → result ≡ min (room_after history id) most }
+        ensures spent { MatchOption (balance self.old id) (self.new ≡ self.old) (λ b. self.new
+            ≡ record (with_balance self.old id (b -ℤ pos result)) { connection = self.old.connection - result }) }
+        ensures unchanged { result ≡ 0 → self.new ≡ self.old }
+        ensures follows { (history : List Step) → Follows history self.old → Follows (Spending id result ∷ history) self.new }
+        ensures law { IsLawful self.new }
+    {
+        let Some(balance) = self.balances.get_mut(&id) else {
+            return 0;
+        };
+        let fits = least(self.connection, self.initial, *balance).min(most);
+        take_out(&mut self.connection, balance, fits);
+        fits
     }
 
     /// How many bytes may be sent on a stream now: the lesser of both windows, and 0 where either isn't positive or
@@ -233,4 +250,15 @@ fn least(connection: u32, initial: u32, balance: i64) -> u32
         return 0;
     }
     connection.min(window as u32)
+}
+
+/// Takes bytes that are sent out of both windows.
+fn take_out(connection: &mut u32, balance: &mut i64, len: u32)
+    requires within { len ≤ connection.old }
+    requires least { negsuc (2 ^ 31) ≤ℤ balance.old }
+    ensures connection { connection.new ≡ connection.old - len }
+    ensures balance { balance.new ≡ balance.old -ℤ pos len }
+{
+    *connection -= len;
+    *balance -= i64::from(len);
 }

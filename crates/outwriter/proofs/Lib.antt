@@ -26,5 +26,7 @@ pub mod ServeStepsLook
 pub mod ServeStepsCore
 pub mod StuckSteps
 pub mod Leads
+pub mod DataSteps
+pub mod LookSteps
 pub mod LawExamples
 pub mod ReturnSteps

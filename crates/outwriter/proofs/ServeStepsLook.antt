@@ -1,5 +1,5 @@
 -- A look at an open stream: what is taken of it is written, or kept in hand.
-use Rattle.std.proofs.Common.{◌≡◌, ℕ, ◌<◌, ◌==◌, ◌⊎◌, inl, inr, refl, sym, ap, subst, ◌∙◌, Bool, true, false, List, [], ◌∷◌, ◌++◌, Option, Some, None, length, append_assoc, true≢false, arith}
+use Rattle.std.proofs.Common.{◌≡◌, ℕ, ◌<◌, ◌==◌, ◌⊎◌, inl, inr, refl, sym, ap, subst, ◌∙◌, Bool, true, false, List, [], ◌∷◌, ◌++◌, Option, Some, None, length, append_assoc, true≢false}
 use Rattle.std.specs.Prelude.{IfNone, IfOk, IfSome, Result, Ok, Err, map, get_or, if◌then◌else◌}
 use Rattle.std.proofs.lemmas.Bool.{eqb-true, eq-eqb}
 use Rattle.std.proofs.lemmas.Grind.{flat_map-append}
@@ -13,30 +13,31 @@ use Rattle.hpack_codec.specs.Codec.{Encoding, Writes}
 use Rattle.outwriter.specs.declared.sending.Sending.{Sending}
 use Rattle.outwriter.specs.declared.outbound.Outbound.{Outbound}
 use Rattle.outwriter.specs.declared.stream.OpenStream.{OpenStream}
-use Rattle.outwriter.specs.declared.stream.Looked.{Looked}
 use Rattle.outwriter.specs.declared.stream.Polled.{Polled}
 use Rattle.outwriter.specs.declared.stream.Polled.TheVariants as polled
+use Rattle.outwriter.specs.declared.stream.Looked.{Looked}
+use Rattle.outwriter.specs.declared.stream.Looked.TheVariants as looked
 use Rattle.outwriter.specs.Calls.{is_served, TellFronts}
 use Rattle.outwriter.specs.Frames.{IsSound}
 use Rattle.outwriter.specs.Cores.{calls}
-use Rattle.outwriter.specs.States.{SameOpen, SameOwed, StandAs, States, is_heard, knows, over_on, open_at}
-use Rattle.outwriter.specs.OpenStreams.{Closes, HandIs, HandKeeps, OpenStreams, Removes, Shown, shown, shows, with_hand}
+use Rattle.outwriter.specs.States.{SameOpen, SameOwed, States, is_heard, knows, over_on, open_at}
+use Rattle.outwriter.specs.OpenStreams.{Closes, HandIs, OpenStreams, Removes, Shown, kept, shown, shows, with_hand}
 use Rattle.outwriter.specs.RunState.{Ends, Heads, IsBetween, MirrorsOf, Progress, SameButOpen, SameOwn, Stays}
 use Rattle.outwriter.specs.RunState.{Writes as WritesFrame}
 use Rattle.outwriter.specs.Parts.{Mark, Byte, Fields, End, on_stream, spelled, marks_of_item, IsFrontOf, IsPart}
-use Rattle.outwriter.specs.StreamLooks.{one_more, SameAhead, SameElsewhere, TakesAt, TakesHand, TellsData, aheads, HoldsOn, Picks, frame_in}
+use Rattle.outwriter.specs.StreamLooks.{one_more, SameAhead, SameElsewhere, TakesAt, TakesHand, TellsData, aheads, frame_in, HoldsOn, Picks}
 use Rattle.outwriter.specs.Polls.{block_item, GotNone}
 use Rattle.outwriter.specs.CallState.{Heeds, bytes_marks, Serves}
 use Rattle.outwriter.specs.Steps.{Step, Written}
 use Rattle.outwriter.specs.ToldByNow.{SpellsOf, SameStanding, TellsMore, TellsBlock, block_marks}
-use Rattle.outwriter.proofs.ServeStepsCore.{own-then}
 use Rattle.outwriter.proofs.ServeSteps.{append-nil, none-shown}
 use Rattle.outwriter.proofs.EndsKept.{KeepsEnds, heeds-kept, same-ends, block-ends, ends-heard}
 use Rattle.outwriter.proofs.TellStepsOwn.{ends-as, standing-as}
 use Rattle.outwriter.proofs.Others.{later-none, later-written}
 use Rattle.outwriter.proofs.ServeStepsOpen.{Grows, grows-none, grows-one, goes-on, ends}
 use Rattle.outwriter.proofs.RunStateSteps.{mirrors-but-open}
-use Rattle.outwriter.proofs.ServeStepsOwn.{serves-but-open, serves-hands}
+use Rattle.outwriter.proofs.ServeStepsOwn.{serves-but-open}
+use Rattle.outwriter.proofs.ServeStepsCore.{own-then}
 
 -- ---- what is told is a front still
 
@@ -68,36 +69,40 @@ fronts-grow run place news calls now g all k d lt = by (k == place) refl
 
 -- ---- what was taken
 
-module _ {E : Type 0} where
-  abbrev bytes_of : Result (Polled) E → List ℕ
-  bytes_of (Ok (polled.Message bytes)) = bytes
-  bytes_of _ = []
+-- the bytes of a message that was found
+abbrev bytes_of : Result Polled (Unit {0}) → List ℕ
+bytes_of (Ok (polled.Message bytes)) = bytes
+bytes_of _ = []
 
-pub takes-message : (E : Type 0) (view : Shown) (old new : List (ℕ × List OutItem)) (ahead : List (List OutItem)) (from to : Option Encoding) (bytes : List ℕ)
-    → TakesAt {E = E} view old new ahead from to (Ok (polled.Message bytes))
+-- this was found
+abbrev Found : Shown → List (ℕ × List OutItem) → List (ℕ × List OutItem) → List (List OutItem) → Option Encoding → Option Encoding → Polled → Type 0
+Found view old new ahead from to found = TakesAt {E = Unit {0}} view old new ahead from to (Ok found)
+
+pub takes-message : (view : Shown) (old new : List (ℕ × List OutItem)) (ahead : List (List OutItem)) (from to : Option Encoding) (bytes : List ℕ)
+    → Found view old new ahead from to (polled.Message bytes)
     → (place : ℕ) × (was : Option (List ℕ)) × (news : List OutItem) × (view ≡ Some (place, was)) × Grows place news old new
     × (bytes_marks was ++ spelled news ≡ map Byte bytes) × (to ≡ from)
-takes-message E None old new ahead from to bytes t = absurd (message-nothing (Ok (polled.Message bytes)) refl t.0)
+takes-message None old new ahead from to bytes t = absurd (message-nothing (Ok (polled.Message bytes)) refl t.0)
   where
-    message-nothing : (r : Result Polled E) → r ≡ Ok (polled.Message bytes) → r ≡ Ok polled.Nothing → ⊥
+    message-nothing : (r : Result Polled (Unit {0})) → r ≡ Ok (polled.Message bytes) → r ≡ Ok polled.Nothing → ⊥
     message-nothing r f e = cc
-takes-message E (Some (place, Some bs)) old new ahead from to bytes t =
-    (place, Some bs, [], refl, grows-none place old new t.1, append-nil (map Byte bs) ∙ ap (map Byte) (sym (ap (bytes_of {E = E}) t.0)), t.2)
-takes-message E (Some (place, None)) old new ahead from to bytes t =
+takes-message (Some (place, Some bs)) old new ahead from to bytes t =
+    (place, Some bs, [], refl, grows-none place old new t.1, append-nil (map Byte bs) ∙ ap (map Byte) (sym (ap (bytes_of) t.0)), t.2)
+takes-message (Some (place, None)) old new ahead from to bytes t =
     (place, None, item.Message bytes ∷ [], refl, grows-one place (item.Message bytes) old new t.0, append-nil (map Byte bytes), t.1)
 
-pub takes-block : (E : Type 0) (view : Shown) (old new : List (ℕ × List OutItem)) (ahead : List (List OutItem)) (from to : Option Encoding) (bytes : List ℕ) (ends_it : Bool)
-    → TakesAt {E = E} view old new ahead from to (Ok (polled.Block bytes ends_it))
+pub takes-block : (view : Shown) (old new : List (ℕ × List OutItem)) (ahead : List (List OutItem)) (from to : Option Encoding) (bytes : List ℕ) (ends_it : Bool)
+    → Found view old new ahead from to (polled.Block bytes ends_it)
     → (place : ℕ) × (fields : List Field) × (view ≡ Some (place, None)) × Grows place (block_item ends_it fields ∷ []) old new × Writes from fields bytes to
-takes-block E None old new ahead from to bytes ends_it t = absurd (block-nothing (Ok (polled.Block bytes ends_it)) refl t.0)
+takes-block None old new ahead from to bytes ends_it t = absurd (block-nothing (Ok (polled.Block bytes ends_it)) refl t.0)
   where
-    block-nothing : (r : Result Polled E) → r ≡ Ok (polled.Block bytes ends_it) → r ≡ Ok polled.Nothing → ⊥
+    block-nothing : (r : Result Polled (Unit {0})) → r ≡ Ok (polled.Block bytes ends_it) → r ≡ Ok polled.Nothing → ⊥
     block-nothing r f e = cc
-takes-block E (Some (place, Some bs)) old new ahead from to bytes ends_it t = absurd (block-message bs (Ok (polled.Block bytes ends_it)) refl t.0)
+takes-block (Some (place, Some bs)) old new ahead from to bytes ends_it t = absurd (block-message bs (Ok (polled.Block bytes ends_it)) refl t.0)
   where
-    block-message : (bs : List ℕ) (r : Result Polled E) → r ≡ Ok (polled.Block bytes ends_it) → r ≡ Ok (polled.Message bs) → ⊥
+    block-message : (bs : List ℕ) (r : Result Polled (Unit {0})) → r ≡ Ok (polled.Block bytes ends_it) → r ≡ Ok (polled.Message bs) → ⊥
     block-message bs r f e = cc
-takes-block E (Some (place, None)) old new ahead from to bytes ends_it t =
+takes-block (Some (place, None)) old new ahead from to bytes ends_it t =
     (place, t.0, refl, grows-one place (block_item ends_it t.0) old new t.1, t.2)
 
 -- nothing was got, or that the call was left
@@ -108,18 +113,18 @@ left-at : (place : ℕ) (old new : List (ℕ × List OutItem)) → GotNone old (
 left-at place old new (inl e) = inl e
 left-at place old new (inr e) = inr (place, refl, e)
 
-pub takes-nothing : (E : Type 0) (view : Shown) (old new : List (ℕ × List OutItem)) (ahead : List (List OutItem)) (from to : Option Encoding)
-    → TakesAt {E = E} view old new ahead from to (Ok polled.Nothing)
+pub takes-nothing : (view : Shown) (old new : List (ℕ × List OutItem)) (ahead : List (List OutItem)) (from to : Option Encoding)
+    → Found view old new ahead from to polled.Nothing
     → LeftAt view old new × (to ≡ from) × (with_hand None view ≡ view) × ((s : ℕ × Option (List ℕ)) → view ≡ Some s → get_or ahead s.0 [] ≡ [])
-takes-nothing E None old new ahead from to t = (inl t.1, t.2, refl, λ s e. absurd (none-is s e))
+takes-nothing None old new ahead from to t = (inl t.1, t.2, refl, λ s e. absurd (none-is s e))
   where
     none-is : (s : ℕ × Option (List ℕ)) → None ≡ Some s → ⊥
     none-is s e = cc
-takes-nothing E (Some (place, Some bs)) old new ahead from to t = absurd (nothing-message bs (Ok polled.Nothing) refl t.0)
+takes-nothing (Some (place, Some bs)) old new ahead from to t = absurd (nothing-message bs (Ok polled.Nothing) refl t.0)
   where
-    nothing-message : (bs : List ℕ) (r : Result Polled E) → r ≡ Ok polled.Nothing → r ≡ Ok (polled.Message bs) → ⊥
+    nothing-message : (bs : List ℕ) (r : Result Polled (Unit {0})) → r ≡ Ok polled.Nothing → r ≡ Ok (polled.Message bs) → ⊥
     nothing-message bs r f e = cc
-takes-nothing E (Some (place, None)) old new ahead from to t = (left-at place old new t.0, t.2, refl, λ s e. ap (λ n. get_or ahead n []) (sym (at s e)) ∙ t.1)
+takes-nothing (Some (place, None)) old new ahead from to t = (left-at place old new t.0, t.2, refl, λ s e. ap (λ n. get_or ahead n []) (sym (at s e)) ∙ t.1)
   where
     at : (s : ℕ × Option (List ℕ)) → Some (place, None) ≡ Some s → place ≡ s.0
     at s e = ap (λ (x : Shown). place_of s x) e
@@ -154,84 +159,53 @@ hand-then id place was hand streams left view is k = is k ∙ by (k == id) refl
     by true p = ap (with_hand hand) (subst (λ n. shows streams n ≡ Some (place, was)) (sym (eqb-true k id p)) view)
     by false p = refl
 
-if-twice : {A : Type 0} (b : Bool) (x y z : A) → (if b then x else (if b then y else z)) ≡ (if b then x else z)
-if-twice true x y z = refl
-if-twice false x y z = refl
+-- where nothing is in hand anyway
+pub hand-rests : (id place : ℕ) (streams : OpenStreams) → shows streams id ≡ Some (place, None) → HandIs id None streams streams
+hand-rests id place streams view k = by (k == id) refl
+  where
+    by : (b : Bool) → (k == id) ≡ b → shows streams k ≡ (if b then with_hand None (shows streams k) else shows streams k)
+    by true p = let there : shows streams k ≡ Some (place, None) = subst (λ n. shows streams n ≡ Some (place, None)) (sym (eqb-true k id p)) view in there ∙ sym (ap (with_hand None) there)
+    by false p = refl
 
-pub hand-twice : (id place : ℕ) (was hand : Option (List ℕ)) (streams middle left : OpenStreams) → shows streams id ≡ Some (place, was)
-    → HandIs id None streams middle → HandIs id hand middle left
-    → (k : ℕ) → shows left k ≡ (if k == id then Some (place, hand) else shows streams k)
-hand-twice id place was hand streams middle left view none is k =
-    let there : shows middle id ≡ Some (place, None) = hand-then id place was None streams middle view none id
-    ∙ ap (λ b. if b then Some (place, None) else shows streams id) (eq-eqb id id refl) in
-    hand-then id place None hand middle left there is k
-    ∙ ap (λ (v : Shown). if k == id then Some (place, hand) else v) (hand-then id place was None streams middle view none k)
-    ∙ if-twice (k == id) (Some (place, hand)) (Some (place, None)) (shows streams k)
-
-hand-kept : (id place : ℕ) (was : Option (List ℕ)) (rest : List ℕ) (streams middle left : OpenStreams) → shows streams id ≡ Some (place, was)
-    → HandIs id None streams middle → HandKeeps id rest middle left
-    → (hand : Option (List ℕ)) × ((k : ℕ) → shows left k ≡ (if k == id then Some (place, hand) else shows streams k)) × (bytes_marks hand ≡ map Byte rest)
-hand-kept id place was [] streams middle left view none keeps = (None, λ k. keeps k ∙ hand-then id place was None streams middle view none k, refl)
-hand-kept id place was (b ∷ bs) streams middle left view none keeps =
-    (Some (b ∷ bs), hand-twice id place was (Some (b ∷ bs)) streams middle left view none keeps, refl)
+kept-marks : (rest : List ℕ) → bytes_marks (kept rest) ≡ map Byte rest
+kept-marks [] = refl
+kept-marks (byte ∷ bytes) = refl
 
 -- ---- the frames
 
-same-outbound : (old mid : Outbound) → mid ≡ record old { encoder = mid.encoder; states = record old.states { opened = mid.states.opened } } → mid.encoder ≡ old.encoder → SameButOpen old mid
-same-outbound old mid e f = e ∙ ap (λ (x : Option Encoding). record old { encoder = x; states = record old.states { opened = mid.states.opened } }) f
+same-outbound : (old mid : Outbound) → mid ≡ record old { encoder = mid.encoder } → mid.encoder ≡ old.encoder → mid ≡ old
+same-outbound old mid e f = e ∙ ap (λ (x : Option Encoding). record old { encoder = x }) f
 
--- one look behind another
-but-then : (old mid new : Outbound) → SameButOpen old mid → SameButOpen mid new → SameButOpen old new
-but-then old mid new a b = b ∙ ap (λ (x : Outbound). record x { states = record x.states { opened = new.states.opened } }) a
-
-data-serves : (run : List Step) (o after : Outbound) (windows : Windows) (streams middle left : OpenStreams) (calls now : List (ℕ × List OutItem))
+data-serves : (run : List Step) (o after : Outbound) (windows : Windows) (streams left : OpenStreams) (calls now : List (ℕ × List OutItem))
     (marks : List (ℕ × Mark)) (id place : ℕ) (was : Option (List ℕ)) (news : List OutItem) (bytes front rest : List ℕ) (frame : Frame)
     → shows streams id ≡ Some (place, was) → Grows place news calls now → (bytes_marks was ++ spelled news) ≡ map Byte bytes
-    → HandIs id None streams middle → bytes ≡ front ++ rest → HandKeeps id rest middle left
+    → bytes ≡ front ++ rest → HandIs id (kept rest) streams left
     → TellsMore frame (on_stream id (map Byte front)) o after → after ≡ record o { windows = windows; states = record o.states { opened = after.states.opened } }
     → Serves run o streams calls marks → Serves (Written frame ∷ run) after left now (marks ++ on_stream id (map Byte front))
-data-serves run o after windows streams middle left calls now marks id place was news bytes front rest frame view g bal none cut keeps tells is s =
-    let kept = hand-kept id place was rest streams middle left view none keeps in
-    goes-on run (Written frame ∷ run) o after streams left calls now marks id place was kept.0 (map Byte front) news (λ k. refl) (λ k. refl) (later-written run frame)
+data-serves run o after windows streams left calls now marks id place was news bytes front rest frame view g bal cut hands tells is s =
+    goes-on run (Written frame ∷ run) o after streams left calls now marks id place was (kept rest) (map Byte front) news (λ k. refl) (λ k. refl) (later-written run frame)
     (tells run marks s.spells)
     (ap (λ (x : Outbound). x.due.items) (sym is)) (λ k. ap (λ (x : Outbound). knows x.states k) is) (ends-as o after (ap (λ (x : Outbound). x.states) is))
-    view kept.1 g
-    (bal ∙ ap (map Byte) cut ∙ map-append Byte front rest ∙ ap (λ (l : List Mark). map Byte front ++ l) (sym kept.2)) s
+    view (hand-then id place was (kept rest) streams left view hands) g
+    (bal ∙ ap (map Byte) cut ∙ map-append Byte front rest ∙ ap (λ (l : List Mark). map Byte front ++ l) (sym (kept-marks rest))) s
 
-kept-serves : (run : List Step) (o : Outbound) (streams middle left : OpenStreams) (calls now : List (ℕ × List OutItem))
-    (marks : List (ℕ × Mark)) (id place : ℕ) (was : Option (List ℕ)) (news : List OutItem) (bytes : List ℕ)
-    → shows streams id ≡ Some (place, was) → Grows place news calls now → (bytes_marks was ++ spelled news) ≡ map Byte bytes
-    → HandIs id None streams middle → HandIs id (Some bytes) middle left
-    → Serves run o streams calls marks → Serves run o left now (marks ++ on_stream id [])
-kept-serves run o streams middle left calls now marks id place was news bytes view g bal none keeps s =
-    goes-on run run o o streams left calls now marks id place was (Some bytes) [] news (λ k. refl) (λ k. refl) (later-none run)
+-- all of it is in hand, and nothing is told
+kept-serves : (run : List Step) (o : Outbound) (streams left : OpenStreams) (calls now : List (ℕ × List OutItem))
+    (marks : List (ℕ × Mark)) (id place : ℕ) (was hand : Option (List ℕ)) (news : List OutItem)
+    → shows streams id ≡ Some (place, was) → Grows place news calls now → (bytes_marks was ++ spelled news) ≡ bytes_marks hand
+    → HandIs id hand streams left → Serves run o streams calls marks → Serves run o left now (marks ++ on_stream id [])
+kept-serves run o streams left calls now marks id place was hand news view g bal hands s =
+    goes-on run run o o streams left calls now marks id place was hand [] news (λ k. refl) (λ k. refl) (later-none run)
     (subst (λ (l : List (ℕ × Mark)). SpellsOf run o l) (sym (append-nil marks)) s.spells)
-    refl (λ k. refl) (λ k. (refl, refl)) view (hand-twice id place was (Some bytes) streams middle left view none keeps) g bal s
-
--- a message without bytes tells nothing
-empty-serves : (run : List Step) (o : Outbound) (streams left : OpenStreams) (calls now : List (ℕ × List OutItem))
-    (marks : List (ℕ × Mark)) (id place : ℕ) (was : Option (List ℕ)) (news : List OutItem) (bytes : List ℕ)
-    → shows streams id ≡ Some (place, was) → Grows place news calls now → (bytes_marks was ++ spelled news) ≡ map Byte bytes → bytes ≡ []
-    → HandIs id None streams left → Serves run o streams calls marks → Serves run o left now (marks ++ on_stream id [])
-empty-serves run o streams left calls now marks id place was news bytes view g bal none hands s =
-    goes-on run run o o streams left calls now marks id place was None [] news (λ k. refl) (λ k. refl) (later-none run)
-    (subst (λ (l : List (ℕ × Mark)). SpellsOf run o l) (sym (append-nil marks)) s.spells)
-    refl (λ k. refl) (λ k. (refl, refl)) view (hand-then id place was None streams left view hands) g (bal ∙ ap (map Byte) none) s
-
-pub no-bytes : (bytes : List ℕ) (is_empty : Bool) → is_empty ≡ (length bytes == 0) → is_empty ≡ true → bytes ≡ []
-no-bytes [] is_empty is e = refl
-no-bytes (byte ∷ bytes) is_empty is e = let wrong : length (byte ∷ bytes) ≡ 0 = eqb-true (length (byte ∷ bytes)) 0 (sym is ∙ e) in
-    let no : ⊥ = omega (arith, wrong) in absurd no
+    refl (λ k. refl) (λ k. (refl, refl)) view (hand-then id place was hand streams left view hands) g bal s
 
 -- a call that was left tells nothing more
-left-serves : (run : List Step) (o : Outbound) (streams left : OpenStreams) (calls now : List (ℕ × List OutItem))
+left-serves : (run : List Step) (o : Outbound) (streams : OpenStreams) (calls now : List (ℕ × List OutItem))
     (marks : List (ℕ × Mark)) (id place : ℕ)
-    → shows streams id ≡ Some (place, None) → now ≡ one_more place item.Left calls → HandIs id None streams left
-    → Serves run o streams calls marks → Serves run o left now (marks ++ on_stream id [])
-left-serves run o streams left calls now marks id place view is none s =
-    goes-on run run o o streams left calls now marks id place None None [] (item.Left ∷ []) (λ k. refl) (λ k. refl) (later-none run)
-    (subst (λ (l : List (ℕ × Mark)). SpellsOf run o l) (sym (append-nil marks)) s.spells)
-    refl (λ k. refl) (λ k. (refl, refl)) view (hand-then id place None None streams left view none) (grows-one place item.Left calls now is) refl s
+    → shows streams id ≡ Some (place, None) → now ≡ one_more place item.Left calls
+    → Serves run o streams calls marks → Serves run o streams now (marks ++ on_stream id [])
+left-serves run o streams calls now marks id place view is s =
+    kept-serves run o streams streams calls now marks id place None None (item.Left ∷ []) view (grows-one place item.Left calls now is) refl (hand-rests id place streams view) s
 
 -- what is shown of a stream that isn't open any more
 shows-removed : (id : ℕ) (middle left : OpenStreams) → Closes id middle left → (k : ℕ) → shows left k ≡ (if k == id then None else shows middle k)
@@ -241,22 +215,21 @@ shows-removed id middle left is k = ap shown (is k) ∙ by (k == id)
     by true = refl
     by false = refl
 
-head-serves : (run : List Step) (o after : Outbound) (streams middle left : OpenStreams) (calls now : List (ℕ × List OutItem))
+head-serves : (run : List Step) (o after : Outbound) (streams left : OpenStreams) (calls now : List (ℕ × List OutItem))
     (marks : List (ℕ × Mark)) (id place : ℕ) (fields : List Field) (ends_it : Bool) (frame : Frame)
     → shows streams id ≡ Some (place, None) → Grows place (block_item ends_it fields ∷ []) calls now
-    → HandIs id None streams middle → Removes id ends_it middle left
+    → Removes id ends_it streams left
     → SpellsOf (Written frame ∷ run) after (marks ++ block_marks id fields ends_it)
     → o.due.items ≡ after.due.items → ((k : ℕ) → knows after.states k ≡ knows o.states k) → Ends o.states id ends_it after.states
     → Serves run o streams calls marks → Serves (Written frame ∷ run) after left now (marks ++ block_marks id fields ends_it)
-head-serves run o after streams middle left calls now marks id place fields true frame view g none removes spells due known over s =
+head-serves run o after streams left calls now marks id place fields true frame view g removes spells due known over s =
     ends run (Written frame ∷ run) o after streams left calls now marks id place None (Fields fields ∷ End ∷ []) (block_item true fields ∷ []) (λ k. refl) (λ k. refl) (later-written run frame)
     spells due known over view
-    (λ k. shows-removed id middle left removes k ∙ ap (λ (v : Shown). if k == id then None else v) (hand-then id place None None streams middle view none k)
-    ∙ if-twice (k == id) None (Some (place, None)) (shows streams k)) g refl s
-head-serves run o after streams middle left calls now marks id place fields false frame view g none removes spells due known over s =
+    (shows-removed id streams left removes) g refl s
+head-serves run o after streams left calls now marks id place fields false frame view g removes spells due known over s =
     goes-on run (Written frame ∷ run) o after streams left calls now marks id place None None (Fields fields ∷ []) (block_item false fields ∷ []) (λ k. refl) (λ k. refl) (later-written run frame)
     spells due known (λ k. (ap (λ s. over_on s k) over, ap (λ s. is_heard s k) over)) view
-    (λ k. removes k ∙ hand-then id place None None streams middle view none k) g refl s
+    (λ k. removes k ∙ hand-then id place None None streams streams view (hand-rests id place streams view) k) g refl s
 
 -- ---- no stream opens
 
@@ -267,11 +240,6 @@ hand-closed id hand streams left is k none = none-shown (left k) (is k ∙ by (k
     by : (b : Bool) → (if b then with_hand hand (shows streams k) else shows streams k) ≡ None
     by true = ap (λ (o : Option OpenStream). with_hand hand (shown o)) none
     by false = ap shown none
-
-keeps-closed : (id : ℕ) (bytes : List ℕ) (streams left : OpenStreams) → HandKeeps id bytes streams left
-    → (k : ℕ) → streams k ≡ None → left k ≡ None
-keeps-closed id [] streams left same k none = none-shown (left k) (same k ∙ ap shown none)
-keeps-closed id (byte ∷ bytes) streams left is k none = hand-closed id (Some (byte ∷ bytes)) streams left is k none
 
 removes-closed : (id : ℕ) (ends_it : Bool) (streams left : OpenStreams) → Removes id ends_it streams left
     → (k : ℕ) → streams k ≡ None → left k ≡ None
@@ -292,11 +260,10 @@ ends-from old new opened id false over = over
 pub unchanged-none : {X : Type 0} (r : Option X) (old new : States) → r ≡ None → IfNone r (new ≡ old) → new ≡ old
 unchanged-none {X} r old new none same = subst (λ (o : Option X). IfNone o (new ≡ old)) none same
 
--- where what was in hand was taken, and what its sender had
-pub progress-none : (old mid : Outbound) → mid ≡ record old { encoder = mid.encoder; states = record old.states { opened = mid.states.opened } } → IsBetween old → Stays old mid × IsBetween mid
+-- where the encoder wrote at most
+pub progress-none : (old mid : Outbound) → mid ≡ record old { encoder = mid.encoder } → IsBetween old → Stays old mid × IsBetween mid
 progress-none old mid e between = (
-  λ run m. subst (MirrorsOf run) (sym e) (mirrors-encoder run (record old { states = record old.states { opened = mid.states.opened } }) mid.encoder
-      (mirrors-but-open run old (record old { states = record old.states { opened = mid.states.opened } }) refl m)),
+  λ run m. subst (MirrorsOf run) (sym e) (mirrors-encoder run old mid.encoder m),
   subst IsBetween (sym e) (record { begun = between.begun; going = between.going; no_block = between.no_block }),
 )
   where
@@ -334,29 +301,30 @@ module _ {L In Out Shut : Type 0} where
       heeds-look run old new (same-ends old.outbound new.outbound (ap (λ (x : Outbound). x.due) same) (ap (λ (x : Outbound). x.states) same))
       (standing-as old.outbound new.outbound (ap (λ (x : Outbound). x.states) same)) closed heeds
 
-  -- what was taken, and the encoder and the streams after it
-  pub record Took (E : Type 0) (got ahead : Out → List OutItem) (old mid : Sending L In Out Shut) (id : ℕ) (result : Result Polled E) : Type 0 where
-    pub takes : TakesAt (shows (open_at old.outbound.states) id) (calls got old.senders.items) (calls got mid.senders.items) (aheads ahead mid.senders.items)
-        old.outbound.encoder mid.outbound.encoder result
-    pub outbound : mid.outbound ≡ record old.outbound { encoder = mid.outbound.encoder; states = record old.outbound.states { opened = mid.outbound.states.opened } }
-    pub hands : HandIs id None (open_at old.outbound.states) (open_at mid.outbound.states)
+  -- what was found, in hand or at the sender, and the encoder after it
+  pub record Took (got ahead : Out → List OutItem) (old mid : Sending L In Out Shut) (id : ℕ) (found : Polled) : Type 0 where
+    pub takes : Found (shows (open_at old.outbound.states) id) (calls got old.senders.items) (calls got mid.senders.items) (aheads ahead mid.senders.items)
+        old.outbound.encoder mid.outbound.encoder found
+    pub outbound : mid.outbound ≡ record old.outbound { encoder = mid.outbound.encoder }
 
-  -- what was in hand is taken, and then what the sender has
-  pub took : {E : Type 0} (got ahead : Out → List OutItem) (old mid : Sending L In Out Shut) (states : States) (id place : ℕ) (hand : Option (List ℕ)) (result : Result Polled E)
-      → mid.outbound ≡ record old.outbound { states = states; encoder = mid.outbound.encoder } → StandAs old.outbound.states states
-      → HandIs id None (open_at old.outbound.states) (open_at states) → shows (open_at old.outbound.states) id ≡ Some (place, hand)
-      → TakesHand hand place (calls got old.senders.items) (calls got mid.senders.items) (aheads ahead mid.senders.items) old.outbound.encoder mid.outbound.encoder result
-      → Took E got ahead old mid id result
-  took got ahead old mid states id place hand result outbound stands hands there takes =
-      let opened : mid.outbound.states.opened ≡ states.opened = ap (λ (x : Outbound). x.states.opened) outbound in
-      let kept : open_at mid.outbound.states ≡ open_at states = ap (λ (x : Outbound). open_at x.states) outbound in
-      record {
-        takes = subst (λ (v : Shown). TakesAt v (calls got old.senders.items) (calls got mid.senders.items) (aheads ahead mid.senders.items) old.outbound.encoder mid.outbound.encoder result)
-            (sym there) takes;
-        outbound = outbound ∙ ap (λ (x : States). record old.outbound { states = x; encoder = mid.outbound.encoder })
-            (stands ∙ ap (λ (o : List (ℕ × Option OpenStream)). record old.outbound.states { opened = o }) (sym opened));
-        hands = subst (λ (o : OpenStreams). HandIs id None (open_at old.outbound.states) o) (sym kept) hands;
-      }
+  pub took : (got ahead : Out → List OutItem) (old mid : Sending L In Out Shut) (id place : ℕ) (hand : Option (List ℕ)) (found : Polled)
+      → mid.outbound ≡ record old.outbound { encoder = mid.outbound.encoder } → shows (open_at old.outbound.states) id ≡ Some (place, hand)
+      → TakesHand {E = Unit {0}} hand place (calls got old.senders.items) (calls got mid.senders.items) (aheads ahead mid.senders.items) old.outbound.encoder mid.outbound.encoder (Ok found)
+      → Took got ahead old mid id found
+  took got ahead old mid id place hand found outbound there takes = record {
+    takes = subst (λ (v : Shown). Found v (calls got old.senders.items) (calls got mid.senders.items) (aheads ahead mid.senders.items) old.outbound.encoder mid.outbound.encoder found)
+        (sym there) takes;
+    outbound = outbound;
+  }
+
+  -- what was in hand is a message that was begun, and no sender is asked
+  pub took-hand : (got ahead : Out → List OutItem) (old : Sending L In Out Shut) (id place : ℕ) (message : List ℕ)
+      → shows (open_at old.outbound.states) id ≡ Some (place, Some message) → Took got ahead old old id (polled.Message message)
+  took-hand got ahead old id place message there = took got ahead old old id place (Some message) (polled.Message message) refl there (refl, refl, refl)
+
+  pub hand-ahead : (ahead : Out → List OutItem) (old : Sending L In Out Shut) (view : Shown) → SameAhead view (aheads ahead old.senders.items) (aheads ahead old.senders.items)
+  hand-ahead ahead old None = refl
+  hand-ahead ahead old (Some s) = λ k ne. refl
 
   pub took-ahead : (ahead : Out → List OutItem) (old mid : Sending L In Out Shut) (id place : ℕ) (hand : Option (List ℕ)) → shows (open_at old.outbound.states) id ≡ Some (place, hand)
       → SameElsewhere place (aheads ahead old.senders.items) (aheads ahead mid.senders.items)
@@ -376,95 +344,74 @@ module _ {L In Out Shut : Type 0} where
   )
   look-picks got old mid new (Err e) stays same sound progress own holds = tt
 
-  pub look-nothing : (E : Type 0) (got ahead : Out → List OutItem) (old mid : Sending L In Out Shut) (id : ℕ) (result : Polled)
-      → Took E got ahead old mid id (Ok result) → result ≡ polled.Nothing → HoldsOn got None old mid
-  look-nothing E got ahead old mid id result took is run (marks, s, heeds) =
-      let t = subst (λ (p : Polled). TakesAt {E = E} (shows (open_at old.outbound.states) id) (calls got old.senders.items) (calls got mid.senders.items) (aheads ahead mid.senders.items) old.outbound.encoder mid.outbound.encoder (Ok p)) is took.takes in
-      let found = takes-nothing E (shows (open_at old.outbound.states) id) (calls got old.senders.items) (calls got mid.senders.items) (aheads ahead mid.senders.items) old.outbound.encoder mid.outbound.encoder t in
+  pub look-nothing : (got ahead : Out → List OutItem) (old mid : Sending L In Out Shut) (id : ℕ) (result : Polled)
+      → Took got ahead old mid id result → result ≡ polled.Nothing → HoldsOn got None old mid
+  look-nothing got ahead old mid id result took is run (marks, s, heeds) =
+      let t = subst (λ (p : Polled). Found (shows (open_at old.outbound.states) id) (calls got old.senders.items) (calls got mid.senders.items) (aheads ahead mid.senders.items) old.outbound.encoder mid.outbound.encoder p) is took.takes in
+      let found = takes-nothing (shows (open_at old.outbound.states) id) (calls got old.senders.items) (calls got mid.senders.items) (aheads ahead mid.senders.items) old.outbound.encoder mid.outbound.encoder t in
       let same = same-outbound old.outbound mid.outbound took.outbound found.1 in
-      let all = told found.0 found.2 in (
+      let all = told found.0 in (
         all.0,
-        serves-but-open run old.outbound mid.outbound (open_at mid.outbound.states) (calls got mid.senders.items) all.0 same all.1,
-        heeds-still run old mid same (hand-closed id None (open_at old.outbound.states) (open_at mid.outbound.states) took.hands) heeds,
+        subst (λ (x : Outbound). Serves run x (open_at x.states) (calls got mid.senders.items) all.0) (sym same) all.1,
+        subst (λ (x : Outbound). Heeds run x (open_at x.states)) (sym same) heeds,
       )
     where
-      by : (k : ℕ) → with_hand None (shows (open_at old.outbound.states) id) ≡ shows (open_at old.outbound.states) id → (b : Bool) → (k == id) ≡ b
-          → (if b then with_hand None (shows (open_at old.outbound.states) k) else shows (open_at old.outbound.states) k) ≡ shows (open_at old.outbound.states) k
-      by k same true p = subst (λ n. with_hand None (shows (open_at old.outbound.states) n) ≡ shows (open_at old.outbound.states) n) (sym (eqb-true k id p)) same
-      by k same false p = refl
-
-      told : LeftAt (shows (open_at old.outbound.states) id) (calls got old.senders.items) (calls got mid.senders.items) → with_hand None (shows (open_at old.outbound.states) id) ≡ shows (open_at old.outbound.states) id
-          → (after : List (ℕ × Mark)) × Serves run old.outbound (open_at mid.outbound.states) (calls got mid.senders.items) after
-      told (inl none) hand = (
-        marks,
-        subst (λ (l : List (ℕ × List OutItem)). Serves run old.outbound (open_at mid.outbound.states) l marks) (sym none)
-            (serves-hands run old.outbound (open_at old.outbound.states) (open_at mid.outbound.states) (calls got old.senders.items) marks
-            (λ k. took.hands k ∙ by k hand (k == id) refl) s),
-      )
-      told (inr (place, view, left)) hand = (
+      told : LeftAt (shows (open_at old.outbound.states) id) (calls got old.senders.items) (calls got mid.senders.items)
+          → (after : List (ℕ × Mark)) × Serves run old.outbound (open_at old.outbound.states) (calls got mid.senders.items) after
+      told (inl none) = (marks, subst (λ (l : List (ℕ × List OutItem)). Serves run old.outbound (open_at old.outbound.states) l marks) (sym none) s)
+      told (inr (place, view, left)) = (
         marks ++ on_stream id [],
-        left-serves run old.outbound (open_at old.outbound.states) (open_at mid.outbound.states) (calls got old.senders.items) (calls got mid.senders.items) marks id place view left took.hands s,
+        left-serves run old.outbound (open_at old.outbound.states) (calls got old.senders.items) (calls got mid.senders.items) marks id place view left s,
       )
 
-  pub look-data : (E : Type 0) (got ahead : Out → List OutItem) (old mid new : Sending L In Out Shut) (id : ℕ) (bytes : List ℕ) (result : Polled) (o : Option Frame)
-      → Took E got ahead old mid id (Ok result) → result ≡ polled.Message bytes
-      → TellsData id bytes o mid new → new.senders ≡ mid.senders
-      → HoldsOn got o old new
-  look-data E got ahead old mid new id bytes result (Some frame) took is tells senders = λ run m.
-      let t = subst (λ (p : Polled). TakesAt {E = E} (shows (open_at old.outbound.states) id) (calls got old.senders.items) (calls got mid.senders.items) (aheads ahead mid.senders.items) old.outbound.encoder mid.outbound.encoder (Ok p)) is took.takes in
-      let found = takes-message E (shows (open_at old.outbound.states) id) (calls got old.senders.items) (calls got mid.senders.items) (aheads ahead mid.senders.items) old.outbound.encoder mid.outbound.encoder bytes t in
-      let same = same-outbound old.outbound mid.outbound took.outbound found.6 in (
-        m.0 ++ on_stream id (map Byte tells.0),
-        subst (λ senders. Serves (Written frame ∷ run) new.outbound (open_at new.outbound.states) (calls got senders.items) (m.0 ++ on_stream id (map Byte tells.0))) (sym senders)
-            (data-serves run old.outbound new.outbound new.outbound.windows (open_at old.outbound.states) (open_at mid.outbound.states) (open_at new.outbound.states)
-            (calls got old.senders.items) (calls got mid.senders.items) m.0 id found.0 found.1 found.2 bytes tells.0 tells.1 frame found.3 found.4 found.5 took.hands tells.2 tells.3
-            (subst (λ (x : Outbound). TellsMore frame (on_stream id (map Byte tells.0)) x new.outbound) same tells.4)
-            (told same tells.5) m.1),
-        let is = told same tells.5 in
-            heeds-look run old new (same-ends old.outbound new.outbound (ap (λ (x : Outbound). x.due) is) (ap (λ (x : Outbound). x.states) is))
-            (standing-as old.outbound new.outbound (ap (λ (x : Outbound). x.states) is))
-            (λ k none. keeps-closed id tells.1 (open_at mid.outbound.states) (open_at new.outbound.states) tells.3 k (hand-closed id None (open_at old.outbound.states) (open_at mid.outbound.states) took.hands k none)) m.2,
-      )
-    where
-      told : SameButOpen old.outbound mid.outbound
-          → new.outbound ≡ record mid.outbound { windows = new.outbound.windows; states = record mid.outbound.states { opened = new.outbound.states.opened } }
-          → new.outbound ≡ record old.outbound { windows = new.outbound.windows; states = record old.outbound.states { opened = new.outbound.states.opened } }
-      told same is = subst (λ (x : Outbound). new.outbound ≡ record x { windows = new.outbound.windows; states = record x.states { opened = new.outbound.states.opened } }) same is
-  look-data E got ahead old mid new id bytes result None took is tells senders = λ run m.
-      let t = subst (λ (p : Polled). TakesAt {E = E} (shows (open_at old.outbound.states) id) (calls got old.senders.items) (calls got mid.senders.items) (aheads ahead mid.senders.items) old.outbound.encoder mid.outbound.encoder (Ok p)) is took.takes in
-      let found = takes-message E (shows (open_at old.outbound.states) id) (calls got old.senders.items) (calls got mid.senders.items) (aheads ahead mid.senders.items) old.outbound.encoder mid.outbound.encoder bytes t in
-      let same = same-outbound old.outbound mid.outbound took.outbound found.6 in (
-        m.0 ++ on_stream id [],
-        serves-but-open run old.outbound new.outbound (open_at new.outbound.states) (calls got new.senders.items) (m.0 ++ on_stream id []) (but-then old.outbound mid.outbound new.outbound same tells.1)
-            (subst (λ senders. Serves run old.outbound (open_at new.outbound.states) (calls got senders.items) (m.0 ++ on_stream id [])) (sym senders)
-            (kept-serves run old.outbound (open_at old.outbound.states) (open_at mid.outbound.states) (open_at new.outbound.states)
-            (calls got old.senders.items) (calls got mid.senders.items) m.0 id found.0 found.1 found.2 bytes found.3 found.4 found.5 took.hands tells.0 m.1)),
-        heeds-still run old new (but-then old.outbound mid.outbound new.outbound same tells.1)
-            (λ k none. hand-closed id (Some bytes) (open_at mid.outbound.states) (open_at new.outbound.states) tells.0 k (hand-closed id None (open_at old.outbound.states) (open_at mid.outbound.states) took.hands k none)) m.2,
-      )
+  -- a message was found
+  module _ (got ahead : Out → List OutItem) (old mid new : Sending L In Out Shut) (id : ℕ) (bytes : List ℕ)
+      (took_it : Took got ahead old mid id (polled.Message bytes)) (senders : new.senders ≡ mid.senders) where
+    found : (place : ℕ) × (was : Option (List ℕ)) × (news : List OutItem) × (shows (open_at old.outbound.states) id ≡ Some (place, was))
+        × Grows place news (calls got old.senders.items) (calls got mid.senders.items) × (bytes_marks was ++ spelled news ≡ map Byte bytes) × (mid.outbound.encoder ≡ old.outbound.encoder)
+    found = takes-message (shows (open_at old.outbound.states) id) (calls got old.senders.items) (calls got mid.senders.items) (aheads ahead mid.senders.items) old.outbound.encoder mid.outbound.encoder bytes took_it.takes
 
-  pub look-empty : (E : Type 0) (got ahead : Out → List OutItem) (old mid : Sending L In Out Shut) (id : ℕ) (bytes : List ℕ) (result : Polled)
-      → Took E got ahead old mid id (Ok result) → result ≡ polled.Message bytes → bytes ≡ [] → HoldsOn got None old mid
-  look-empty E got ahead old mid id bytes result took is none = λ run m.
-      let t = subst (λ (p : Polled). TakesAt {E = E} (shows (open_at old.outbound.states) id) (calls got old.senders.items) (calls got mid.senders.items) (aheads ahead mid.senders.items) old.outbound.encoder mid.outbound.encoder (Ok p)) is took.takes in
-      let found = takes-message E (shows (open_at old.outbound.states) id) (calls got old.senders.items) (calls got mid.senders.items) (aheads ahead mid.senders.items) old.outbound.encoder mid.outbound.encoder bytes t in
-      let same = same-outbound old.outbound mid.outbound took.outbound found.6 in (
-        m.0 ++ on_stream id [],
-        serves-but-open run old.outbound mid.outbound (open_at mid.outbound.states) (calls got mid.senders.items) (m.0 ++ on_stream id []) same
-            (empty-serves run old.outbound (open_at old.outbound.states) (open_at mid.outbound.states)
-            (calls got old.senders.items) (calls got mid.senders.items) m.0 id found.0 found.1 found.2 bytes found.3 found.4 found.5 none took.hands m.1),
-        heeds-still run old mid same (hand-closed id None (open_at old.outbound.states) (open_at mid.outbound.states) took.hands) m.2,
-      )
+    same : mid.outbound ≡ old.outbound
+    same = same-outbound old.outbound mid.outbound took_it.outbound found.6
 
-  pub look-block : (E : Type 0) (got ahead : Out → List OutItem) (old mid fin : Sending L In Out Shut) (after : Outbound) (id : ℕ) (bytes : List ℕ) (ends_it : Bool) (result : Polled) (frame : Frame)
-      → Took E got ahead old mid id (Ok result) → result ≡ polled.Block bytes ends_it
+    -- nothing is told of it
+    kept-holds : (hand : Option (List ℕ)) → map Byte bytes ≡ bytes_marks hand → HandIs id hand (open_at old.outbound.states) (open_at new.outbound.states)
+        → SameButOpen old.outbound new.outbound → HoldsOn got None old new
+    kept-holds hand marks_are hands but run (marks, s, heeds) = (
+      marks ++ on_stream id [],
+      serves-but-open run old.outbound new.outbound (open_at new.outbound.states) (calls got new.senders.items) (marks ++ on_stream id []) but
+          (subst (λ senders. Serves run old.outbound (open_at new.outbound.states) (calls got senders.items) (marks ++ on_stream id [])) (sym senders)
+          (kept-serves run old.outbound (open_at old.outbound.states) (open_at new.outbound.states) (calls got old.senders.items) (calls got mid.senders.items) marks id
+          found.0 found.1 hand found.2 found.3 found.4 (found.5 ∙ marks_are) hands s)),
+      heeds-still run old new but (hand-closed id hand (open_at old.outbound.states) (open_at new.outbound.states) hands) heeds,
+    )
+
+    pub look-data : (l : Looked) → TellsData id bytes l mid new → HoldsOn got (frame_in l) old new
+    look-data (looked.Frame frame) from = λ run h.
+        let tells = subst (λ (x : Outbound). TellsData id bytes (looked.Frame frame) (record mid { outbound = x }) new) same from in (
+          h.0 ++ on_stream id (map Byte tells.0),
+          subst (λ senders. Serves (Written frame ∷ run) new.outbound (open_at new.outbound.states) (calls got senders.items) (h.0 ++ on_stream id (map Byte tells.0))) (sym senders)
+              (data-serves run old.outbound new.outbound new.outbound.windows (open_at old.outbound.states) (open_at new.outbound.states)
+              (calls got old.senders.items) (calls got mid.senders.items) h.0 id found.0 found.1 found.2 bytes tells.0 tells.1 frame found.3 found.4 found.5 tells.2 tells.3 tells.4 tells.5 h.1),
+          heeds-look run old new (same-ends old.outbound new.outbound (ap (λ (x : Outbound). x.due) tells.5) (ap (λ (x : Outbound). x.states) tells.5))
+              (standing-as old.outbound new.outbound (ap (λ (x : Outbound). x.states) tells.5))
+              (hand-closed id (kept tells.1) (open_at old.outbound.states) (open_at new.outbound.states) tells.3) h.2,
+        )
+    look-data looked.Nothing from =
+        let tells = subst (λ (x : Outbound). TellsData id bytes looked.Nothing (record mid { outbound = x }) new) same from in kept-holds (Some bytes) refl tells.0 tells.1
+    look-data looked.Empty from =
+        let tells = subst (λ (x : Outbound). TellsData id bytes looked.Empty (record mid { outbound = x }) new) same from in kept-holds None (ap (map Byte) tells.0) tells.1 tells.2
+
+  pub look-block : (got ahead : Out → List OutItem) (old mid fin : Sending L In Out Shut) (after : Outbound) (id : ℕ) (bytes : List ℕ) (ends_it : Bool) (result : Polled) (frame : Frame)
+      → Took got ahead old mid id result → result ≡ polled.Block bytes ends_it
       → SameButOpen mid.outbound fin.outbound → Removes id ends_it (open_at mid.outbound.states) (open_at fin.outbound.states) → fin.senders ≡ mid.senders
       → TellsBlock id ends_it bytes frame fin.outbound after → Ends fin.outbound.states id ends_it after.states → SameOwed fin.outbound.states after.states
       → SameOpen fin.outbound.states after.states → after ≡ record fin.outbound { windows = after.windows; states = after.states; block = after.block }
       → HoldsOn got (Some frame) old (record fin { outbound = after })
-  look-block E got ahead old mid fin after id bytes ends_it result frame took is_block outbound removes senders tells over owed kept is run (marks, s, heeds) =
-      let t = subst (λ (p : Polled). TakesAt {E = E} (shows (open_at old.outbound.states) id) (calls got old.senders.items) (calls got mid.senders.items) (aheads ahead mid.senders.items) old.outbound.encoder mid.outbound.encoder (Ok p)) is_block took.takes in
-      let found = takes-block E (shows (open_at old.outbound.states) id) (calls got old.senders.items) (calls got mid.senders.items) (aheads ahead mid.senders.items) old.outbound.encoder mid.outbound.encoder bytes ends_it t in
+  look-block got ahead old mid fin after id bytes ends_it result frame took is_block outbound removes senders tells over owed same_open is run (marks, s, heeds) =
+      let t = subst (λ (p : Polled). Found (shows (open_at old.outbound.states) id) (calls got old.senders.items) (calls got mid.senders.items) (aheads ahead mid.senders.items) old.outbound.encoder mid.outbound.encoder p) is_block took.takes in
+      let found = takes-block (shows (open_at old.outbound.states) id) (calls got old.senders.items) (calls got mid.senders.items) (aheads ahead mid.senders.items) old.outbound.encoder mid.outbound.encoder bytes ends_it t in
+      let leaves : Removes id ends_it (open_at old.outbound.states) (open_at fin.outbound.states) = subst (λ (x : Outbound). Removes id ends_it (open_at x.states) (open_at fin.outbound.states)) took.outbound removes in
       let same : fin.outbound ≡ record old.outbound { encoder = mid.outbound.encoder; states = record old.outbound.states { opened = fin.outbound.states.opened } } =
       outbound ∙ ap (λ (x : Outbound). record x { states = record x.states { opened = fin.outbound.states.opened } }) took.outbound in
       let told : TellsBlock id ends_it bytes frame (record old.outbound { encoder = mid.outbound.encoder }) after =
@@ -475,16 +422,15 @@ module _ {L In Out Shut : Type 0} where
       let rest : after ≡ record old.outbound { encoder = mid.outbound.encoder; windows = after.windows; states = after.states; block = after.block } =
       subst (λ (x : Outbound). after ≡ record x { windows = after.windows; states = after.states; block = after.block }) same is in
       let served : Serves (Written frame ∷ run) after (open_at fin.outbound.states) (calls got mid.senders.items) (marks ++ block_marks id found.1 ends_it) =
-      head-serves run old.outbound after (open_at old.outbound.states) (open_at mid.outbound.states) (open_at fin.outbound.states) (calls got old.senders.items) (calls got mid.senders.items)
-      marks id found.0 found.1 ends_it frame found.2 found.3 took.hands removes
+      head-serves run old.outbound after (open_at old.outbound.states) (open_at fin.outbound.states) (calls got old.senders.items) (calls got mid.senders.items)
+      marks id found.0 found.1 ends_it frame found.2 found.3 leaves
       (told run marks found.1 old.outbound.encoder s.spells.1 found.4)
       (ap (λ (x : Outbound). x.due.items) (sym rest)) (λ k. (owed_same.0 k).0) ended s in (
         marks ++ block_marks id found.1 ends_it,
-        subst (λ (streams : OpenStreams). Serves (Written frame ∷ run) after streams (calls got fin.senders.items) (marks ++ block_marks id found.1 ends_it)) (sym kept)
+        subst (λ (streams : OpenStreams). Serves (Written frame ∷ run) after streams (calls got fin.senders.items) (marks ++ block_marks id found.1 ends_it)) (sym same_open)
             (subst (λ senders. Serves (Written frame ∷ run) after (open_at fin.outbound.states) (calls got senders.items) (marks ++ block_marks id found.1 ends_it)) (sym senders) served),
         heeds-look run old (record fin { outbound = after })
             (block-ends old.outbound after id ends_it (ap (λ (x : Outbound). x.due) rest) owed_same ended)
             (λ k. ((owed_same.0 k).0, (owed_same.0 k).2, ends-heard old.outbound.states after.states id ends_it ended k))
-            (λ k none. ap (λ (o : OpenStreams). o k) kept
-            ∙ removes-closed id ends_it (open_at mid.outbound.states) (open_at fin.outbound.states) removes k (hand-closed id None (open_at old.outbound.states) (open_at mid.outbound.states) took.hands k none)) heeds,
+            (λ k none. ap (λ (o : OpenStreams). o k) same_open ∙ removes-closed id ends_it (open_at old.outbound.states) (open_at fin.outbound.states) leaves k none) heeds,
       )

@@ -2,7 +2,7 @@
 use Rattle.std.proofs.Common.{◌≡◌, ◌≢◌, ℕ, zero, suc, ◌+◌, ◌<◌, ◌≤◌, ◌^◌, ◌⊎◌, inl, inr, Bool, true, false, cond, sym, ap, subst, ◌∙◌, refl, true≢false, List, [], ◌∷◌, length, get_or, Option, Some, None, arith, nat_eq, is_some, swap}
 use Rattle.std.specs.Map.{lookup, lookup_key, set_value}
 use Rattle.std.specs.Option.{option_map}
-use Rattle.std.specs.Prelude.{◌||◌, ◌&&◌, map, slice_get, if◌then◌else◌, ◌==◌, not, IfSome, IfNone, OnSome, MatchOption, Result, Ok, Err, OnOk, OnErr}
+use Rattle.std.specs.Prelude.{◌||◌, ◌&&◌, map, slice_get, if◌then◌else◌, ◌==◌, not, IfSome, IfOk, MatchOption, Result, Ok, Err, OnOk, OnErr}
 use Rattle.std.proofs.lemmas.Map.Steps.{set_value_same}
 use Rattle.std.proofs.lemmas.Bool.{eqb-true, ne_eqb, eq-eqb}
 use Rattle.std.proofs.lemmas.Bool.Decides.{nat_tests}
@@ -14,7 +14,11 @@ use Rattle.outwriter.specs.declared.states.StreamState.{StreamState}
 use Rattle.outwriter.specs.declared.states.StreamState.TheVariants.{NoCall, Call, Reset}
 use Rattle.outwriter.specs.declared.states.Stream.{Stream}
 use Rattle.outwriter.specs.declared.stream.OpenStream.{OpenStream}
-use Rattle.outwriter.specs.OpenStreams.{Closes, HandIs, HandKeeps, OpenStreams, SameHands, Shown, shown, shows, with_hand}
+use Rattle.flow.specs.Windows.{Windows}
+use Rattle.outwriter.specs.declared.stream.Hand.{Hand}
+use Rattle.outwriter.specs.declared.stream.Hand.TheVariants.{Shut, Empty, Message}
+use Rattle.outwriter.specs.Data.{TakesFrames, LooksAtEntry, LooksAtHand, LooksAtStream}
+use Rattle.outwriter.specs.OpenStreams.{Closes, HandIs, HandKeeps, OpenStreams, SameHands, Shown, kept, shown, shows, with_hand}
 use Rattle.outwriter.specs.States.{States, Adds, BecomesOpen, Edits, Grants, Hears, Opens, Resets, SameEnds, SameOpen, SameOver, SameOwed, SameStreams, SetsEnd, StandAs, IsShut, can_write, AllFit, IsSettled, IsSettledFrom, IsSettledBut, IsWithin, AreNumbered, Fits, Puts, PutsEntry, PutsState, TakesAt, TakesLast, TakesAll, amount_of, more, open_at, opened_in, opened_of, state_of, states_of, with_state, by_reset, end_of, is_of_call, is_paid, is_heard, is_reset, is_reset_state, knows, over_on, owed_on, pays, state_in, state_on}
 
 abbrev Entry : Type 0
@@ -749,29 +753,6 @@ module _ (connection : ℕ) (old mid new : List Entry) (id n place : ℕ) (posit
 
 -- ---- what is in hand of an open stream
 
-pub hand-none : {X : Type 0} (r : Option X) (es : List Entry) (id : ℕ) (was now : Stream) (new : List Entry) → lookup (nat_eq id) es ≡ Some was → new ≡ set_value (nat_eq id) es now
-    → IfNone r ((can_write was.state ≡ false) ⊎ (was.opened ≡ None)) → IfNone r (now ≡ was)
-    → IfNone r (MatchOption (lookup (nat_eq id) es) (new ≡ es) (λ s. ((can_write s.state ≡ false) ⊎ (s.opened ≡ None)) × (new ≡ es)))
-hand-none (Some x) es id was now new found is shut same = tt
-hand-none None es id was now new found is shut same =
-    subst (λ (o : Option Stream). MatchOption o (new ≡ es) (λ s. ((can_write s.state ≡ false) ⊎ (s.opened ≡ None)) × (new ≡ es))) (sym found)
-    (shut, is ∙ ap (set_value (nat_eq id) es) same ∙ set_value_same (nat_eq id) es was found)
-
-pub shut-view : {X : Type 0} (connection : ℕ) (es : List Entry) (id : ℕ) (new : List Entry) (r : Option X)
-    → IfNone r (MatchOption (lookup (nat_eq id) es) (new ≡ es) (λ s. ((can_write s.state ≡ false) ⊎ (s.opened ≡ None)) × (new ≡ es)))
-    → IfNone r (IsShut (states_of connection es) id)
-shut-view connection es id new (Some x) h = tt
-shut-view connection es id new None h = by (lookup (nat_eq id) es) refl h
-  where
-    cases : (was : Stream) → lookup (nat_eq id) es ≡ Some was → (can_write was.state ≡ false) ⊎ (was.opened ≡ None) → IsShut (states_of connection es) id
-    cases was found (inl cannot) = inl (ap can_write (state-found connection es id ∙ ap (λ o. state_in (state_of o)) found) ∙ cannot)
-    cases was found (inr none) = inr (found-open connection es id ∙ ap opened_of found ∙ none)
-
-    by : (o : Option Stream) → lookup (nat_eq id) es ≡ o → MatchOption o (new ≡ es) (λ s. ((can_write s.state ≡ false) ⊎ (s.opened ≡ None)) × (new ≡ es))
-        → IsShut (states_of connection es) id
-    by None found m = inr (found-open connection es id ∙ ap opened_of found)
-    by (Some was) found m = cases was found m.0
-
 can-over : (state : StreamState) → can_write state ≡ true → option_map by_reset (end_of state) ≡ None
 can-over (NoCall None) e = refl
 can-over (NoCall (Some by)) e = absurd (true≢false (sym e))
@@ -786,39 +767,71 @@ can-unreset (Call owed over) e = refl
 can-unreset (Reset is_call None) e = absurd (true≢false (sym e))
 can-unreset (Reset is_call (Some by)) e = absurd (true≢false (sym e))
 
-module _ (connection : ℕ) (es : List Entry) (id : ℕ) where
-  abbrev pub HasHand : ℕ × Option (List ℕ) → Type 0
-  HasHand hand = MatchOption (lookup (nat_eq id) es) ⊥ (λ was. (shown was.opened ≡ Some hand) × (can_write was.state ≡ true))
+-- a look at a stream, where it is among the entries
+pub entry-looks : {E : Type 0} (r : Result Hand E) (es : List Entry) (id : ℕ) (was now : Stream) (new : List Entry) (from to : Windows)
+    → lookup (nat_eq id) es ≡ Some was → new ≡ set_value (nat_eq id) es now → IfOk r (LooksAtStream id was now from to) → IfOk r (LooksAtEntry id es new from to)
+entry-looks (Err e) es id was now new from to there is looks = tt
+entry-looks (Ok hand) es id was now new from to there is looks =
+    subst (λ (o : Option Stream). MatchOption o ((hand ≡ Shut) × (new ≡ es) × (to ≡ from)) (λ s. (next : Stream) × (new ≡ set_value (nat_eq id) es next) × LooksAtStream id s next from to hand))
+    (sym there) (now, is, looks)
 
-  hand-found : (hand : ℕ × Option (List ℕ)) → MatchOption (lookup (nat_eq id) es) ⊥ (λ was. (shown was.opened ≡ Some hand) × (can_write was.state ≡ true))
-      → (was : Stream) × (lookup (nat_eq id) es ≡ Some was) × (shown was.opened ≡ Some hand) × (can_write was.state ≡ true)
-  hand-found hand m = by (lookup (nat_eq id) es) refl m
-    where
-      by : (o : Option Stream) → lookup (nat_eq id) es ≡ o → MatchOption o ⊥ (λ was. (shown was.opened ≡ Some hand) × (can_write was.state ≡ true))
-          → (was : Stream) × (lookup (nat_eq id) es ≡ Some was) × (shown was.opened ≡ Some hand) × (can_write was.state ≡ true)
-      by None found h = absurd h
-      by (Some was) found h = (was, found, h.0, h.1)
+module _ (connection : ℕ) (es : List Entry) (owing id : ℕ) (within : IsWithin connection es owing) (was : Stream) (found : lookup (nat_eq id) es ≡ Some was) where
+  state-there : state_on (states_of connection es) id ≡ was.state
+  state-there = state-found connection es id ∙ ap (λ o. state_in (state_of o)) found
 
-  hand-state : (was : Stream) → lookup (nat_eq id) es ≡ Some was → state_on (states_of connection es) id ≡ was.state
-  hand-state was found = state-found connection es id ∙ ap (λ o. state_in (state_of o)) found
+  open-there : open_at (states_of connection es) id ≡ was.opened
+  open-there = found-open connection es id ∙ ap opened_of found
 
-  pub hand-shows : (r : Option (ℕ × Option (List ℕ))) → IfSome r HasHand → IfSome r (λ hand. shows (open_at (states_of connection es)) id ≡ Some hand)
-  hand-shows None h = tt
-  hand-shows (Some hand) h = let f = hand-found hand h in ap shown (found-open connection es id ∙ ap opened_of f.1) ∙ f.2
+  writable-there : can_write was.state ≡ true → TakesFrames (states_of connection es) id
+  writable-there can = record {
+    stream = not_0 es id was within.apart found;
+    number = within.numbered id (ap is_some found);
+    not_over = ap (λ s. option_map by_reset (end_of s)) state-there ∙ can-over was.state can;
+    not_reset = ap is_reset_state state-there ∙ can-unreset was.state can;
+  }
 
-  pub hand-over : (r : Option (ℕ × Option (List ℕ))) → IfSome r HasHand → OnSome r (over_on (states_of connection es) id ≡ None)
-  hand-over None h = tt
-  hand-over (Some hand) h = let f = hand-found hand h in ap (λ s. option_map by_reset (end_of s)) (hand-state f.0 f.1) ∙ can-over f.0.state f.3
+  shut-there : (can_write was.state ≡ false) ⊎ (was.opened ≡ None) → IsShut (states_of connection es) id
+  shut-there (inl cannot) = inl (ap can_write state-there ∙ cannot)
+  shut-there (inr none) = inr (open-there ∙ none)
 
-  pub hand-unreset : (r : Option (ℕ × Option (List ℕ))) → IfSome r HasHand → OnSome r (is_reset (states_of connection es) id ≡ false)
-  hand-unreset None h = tt
-  hand-unreset (Some hand) h = let f = hand-found hand h in ap is_reset_state (hand-state f.0 f.1) ∙ can-unreset f.0.state f.3
+  unwritten : (new : List Entry) (now : Stream) → new ≡ set_value (nat_eq id) es now → now ≡ was → states_of connection new ≡ states_of connection es
+  unwritten new now is same = ap (states_of connection) (is ∙ ap (set_value (nat_eq id) es) same ∙ set_value_same (nat_eq id) es was found)
 
-  pub hand-taken : {X : Type 0} (r : Option X) (new : List Entry) → Edits es id new
-      → OnSome r (shown (opened_of (lookup (nat_eq id) new)) ≡ with_hand None (shown (opened_of (lookup (nat_eq id) es))))
-      → OnSome r (HandIs id None (open_at (states_of connection es)) (open_at (states_of connection new)))
-  hand-taken None new edits h = tt
-  hand-taken (Some x) new edits h = edit-shows connection es id new (with_hand None) edits h
+  written-hand : (new : List Entry) (now : Stream) (place : ℕ) (message : List ℕ) (hand : Option (List ℕ)) → new ≡ set_value (nat_eq id) es now
+      → shown was.opened ≡ Some (place, Some message) → shown now.opened ≡ Some (place, hand)
+      → shown (opened_of (lookup (nat_eq id) new)) ≡ with_hand hand (shown (opened_of (lookup (nat_eq id) es)))
+  written-hand new now place message hand is before after =
+      ap (λ (l : List Entry). shown (opened_of (lookup (nat_eq id) l))) is
+      ∙ ap (λ o. shown (opened_of o)) (put-there es id now was found id)
+      ∙ ap (λ b. shown (opened_of (if b then Some now else lookup (nat_eq id) es))) (eq-eqb id id refl)
+      ∙ after ∙ sym (ap (λ o. with_hand hand (shown (opened_of o))) found ∙ ap (with_hand hand) before)
+
+  looks-there : (new : List Entry) (now : Stream) (from to : Windows) (hand : Hand) → Edits es id new → new ≡ set_value (nat_eq id) es now
+      → LooksAtStream id was now from to hand → LooksAtHand id (states_of connection es) (states_of connection new) from to hand
+  looks-there new now from to Shut edits is looks = (unwritten new now is looks.0, looks.1, shut-there looks.2)
+  looks-there new now from to (Empty place) edits is looks = (unwritten new now is looks.0, looks.1, writable-there looks.2, ap shown open-there ∙ looks.3)
+  looks-there new now from to (Message found_in) edits is looks = (
+    writable-there looks.0,
+    edit-stands connection es id new edits,
+    looks.1,
+    looks.2,
+    looks.3,
+    ap shown open-there ∙ looks.4,
+    edit-shows connection es id new (with_hand (kept looks.3)) edits (written-hand new now looks.1 looks.2 (kept looks.3) is looks.4 looks.5),
+    looks.6,
+  )
+
+-- and among all of them
+pub looks-view : (connection : ℕ) (es : List Entry) (owing id : ℕ) (new : List Entry) (from to : Windows) (hand : Hand) → IsWithin connection es owing → Edits es id new
+    → LooksAtEntry id es new from to hand → LooksAtHand id (states_of connection es) (states_of connection new) from to hand
+looks-view connection es owing id new from to hand within edits looks = by (lookup (nat_eq id) es) refl looks
+  where
+    by : (o : Option Stream) → lookup (nat_eq id) es ≡ o
+        → MatchOption o ((hand ≡ Shut) × (new ≡ es) × (to ≡ from)) (λ was. (now : Stream) × (new ≡ set_value (nat_eq id) es now) × LooksAtStream id was now from to hand)
+        → LooksAtHand id (states_of connection es) (states_of connection new) from to hand
+    by None none h = subst (LooksAtHand id (states_of connection es) (states_of connection new) from to) (sym h.0)
+        (ap (states_of connection) h.1, h.2, inr (found-open connection es id ∙ ap opened_of none))
+    by (Some was) found h = looks-there connection es owing id within was found new h.0 from to hand edits h.1 h.2
 
 -- what is shown of each stream is the same
 pub edit-same : (connection : ℕ) (es : List Entry) (id : ℕ) (new : List Entry) → Edits es id new

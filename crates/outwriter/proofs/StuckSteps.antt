@@ -1,6 +1,6 @@
 -- Where a look at a stream finds nothing to write, nothing can be written on it, and of the other streams all is the same.
 use Rattle.std.proofs.Common.{true, ◌≡◌, inl, inr, ℕ, refl, sym, ap, subst, ◌∙◌, false, List, [], Option, Some, None, true≢false}
-use Rattle.std.specs.Prelude.{IfOk, Result, Ok, Err, get_or, ◌≢◌, is_some, if◌then◌else◌}
+use Rattle.std.specs.Prelude.{get_or, ◌≢◌, is_some, if◌then◌else◌}
 use Rattle.std.specs.Option.{option_map}
 use Rattle.std.proofs.lemmas.Bool.{eq-eqb, ne_eqb}
 use Rattle.account.specs.declared.call.OutItem.{OutItem}
@@ -18,7 +18,7 @@ use Rattle.outwriter.specs.declared.states.StreamState.TheVariants.{NoCall, Call
 use Rattle.outwriter.specs.Histories.{is_stream}
 use Rattle.outwriter.specs.States.{IsShut, by_reset, can_write, end_of, is_reset, is_reset_state, state_on, open_at}
 use Rattle.outwriter.specs.OpenStreams.{HandIs, OpenStreams, Shown, shown, shows, with_hand}
-use Rattle.outwriter.specs.StreamLooks.{TakesAt, SameAhead, TellsData, aheads, Holds, HoldsOn, StuckAt, GetsStuck, LeavesStuck, LooksAt, frame_in}
+use Rattle.outwriter.specs.StreamLooks.{SameAhead, TellsData, aheads, Holds, HoldsOn, StuckAt, GetsStuck, LeavesStuck, LooksAt}
 use Rattle.outwriter.specs.Steps.{Step}
 use Rattle.outwriter.proofs.Others.{known-stream}
 use Rattle.outwriter.proofs.ServeSteps.{shown-some, from_some, none-some}
@@ -87,49 +87,48 @@ module _ {L In Out Shut : Type 0} where
           true≢false (sym (written (state_on core.outbound.states id) (s.not_over id stream e) unreset) ∙ denied)
       by stream e (inr none) = none-some stream (sym none ∙ e)
 
-  pub stuck-nothing : (E : Type 0) (got ahead : Out → List OutItem) (old mid : Sending L In Out Shut) (id : ℕ) (result : Polled)
-      → Took E got ahead old mid id (Ok result) → SameAhead (shows (open_at old.outbound.states) id) (aheads ahead old.senders.items) (aheads ahead mid.senders.items)
+  pub stuck-nothing : (got ahead : Out → List OutItem) (old mid : Sending L In Out Shut) (id : ℕ) (result : Polled)
+      → Took got ahead old mid id result → SameAhead (shows (open_at old.outbound.states) id) (aheads ahead old.senders.items) (aheads ahead mid.senders.items)
       → result ≡ polled.Nothing → GetsStuck got ahead id old mid
-  stuck-nothing E got ahead old mid id result took same is run h = (
+  stuck-nothing got ahead old mid id result took same is run h = (
     λ stream e.
-        let found = takes-nothing E (shows (open_at old.outbound.states) id) (calls got old.senders.items) (calls got mid.senders.items) (aheads ahead mid.senders.items) old.outbound.encoder mid.outbound.encoder
-        (subst (λ (p : Polled). TakesAt {E = E} (shows (open_at old.outbound.states) id) (calls got old.senders.items) (calls got mid.senders.items) (aheads ahead mid.senders.items) old.outbound.encoder mid.outbound.encoder (Ok p)) is took.takes) in
-        let hand = hand-of None (shows (open_at old.outbound.states) id) (stream.place, stream.in_hand) (here-is None id (open_at old.outbound.states) (open_at mid.outbound.states) stream took.hands e) in
+        let found = takes-nothing (shows (open_at old.outbound.states) id) (calls got old.senders.items) (calls got mid.senders.items) (aheads ahead mid.senders.items) old.outbound.encoder mid.outbound.encoder
+        (subst (λ (p : Polled). Took got ahead old mid id p) is took).takes in
+        let hand = hand-of None (shows (open_at old.outbound.states) id) (stream.place, stream.in_hand) (found.2 ∙ sym (ap (λ (o : Outbound). shows (open_at o.states) id) took.outbound) ∙ ap shown e) in
         subst (λ (x : Option (List ℕ)). IsStuck (room mid.outbound.windows id) x (get_or (aheads ahead mid.senders.items) stream.place [])) (sym hand.0)
         (found.3 (stream.place, hand.1.0) hand.1.1),
-    others-stuck got ahead old mid mid id run h same (λ k ne. elsewhere-is None id k (open_at old.outbound.states) (open_at mid.outbound.states) took.hands ne) refl
+    others-stuck got ahead old mid mid id run h same (λ k ne. ap (λ (o : Outbound). shows (open_at o.states) k) took.outbound) refl
         (ap (λ (o : Outbound). o.windows) took.outbound),
   )
 
-  pub stuck-data : (E : Type 0) (got ahead : Out → List OutItem) (old mid new : Sending L In Out Shut) (id : ℕ) (bytes : List ℕ) (result : Result Polled E)
-      → Took E got ahead old mid id result → SameAhead (shows (open_at old.outbound.states) id) (aheads ahead old.senders.items) (aheads ahead mid.senders.items)
-      → TellsData id bytes None mid new → new.senders ≡ mid.senders → GetsStuck got ahead id old new
-  stuck-data E got ahead old mid new id bytes result took same tells senders run h = (
+  pub stuck-data : (got ahead : Out → List OutItem) (old mid new : Sending L In Out Shut) (id : ℕ) (bytes : List ℕ) (result : Polled)
+      → Took got ahead old mid id result → SameAhead (shows (open_at old.outbound.states) id) (aheads ahead old.senders.items) (aheads ahead mid.senders.items)
+      → TellsData id bytes looked.Nothing mid new → new.senders ≡ mid.senders → GetsStuck got ahead id old new
+  stuck-data got ahead old mid new id bytes result took same tells senders run h = (
     λ stream e.
         let hand = hand-of (Some bytes) (shows (open_at mid.outbound.states) id) (stream.place, stream.in_hand) (here-is (Some bytes) id (open_at mid.outbound.states) (open_at new.outbound.states) stream tells.0 e) in
         subst (λ (x : Option (List ℕ)). IsStuck (room new.outbound.windows id) x (get_or (aheads ahead new.senders.items) stream.place [])) (sym hand.0)
         (ap (λ (o : Outbound). room o.windows id) tells.1 ∙ tells.2),
     others-stuck got ahead old mid new id run h same
-        (λ k ne. elsewhere-is (Some bytes) id k (open_at mid.outbound.states) (open_at new.outbound.states) tells.0 ne ∙ elsewhere-is None id k (open_at old.outbound.states) (open_at mid.outbound.states) took.hands ne) senders
+        (λ k ne. elsewhere-is (Some bytes) id k (open_at mid.outbound.states) (open_at new.outbound.states) tells.0 ne ∙ ap (λ (o : Outbound). shows (open_at o.states) k) took.outbound) senders
         (ap (λ (o : Outbound). o.windows) tells.1 ∙ ap (λ (o : Outbound). o.windows) took.outbound),
   )
 
   -- a message without bytes
-  pub leaves-empty : (E : Type 0) (got ahead : Out → List OutItem) (old mid : Sending L In Out Shut) (id : ℕ) (result : Polled)
-      → Took E got ahead old mid id (Ok result) → SameAhead (shows (open_at old.outbound.states) id) (aheads ahead old.senders.items) (aheads ahead mid.senders.items)
-      → LeavesStuck got ahead id old mid
-  leaves-empty E got ahead old mid id result took same run h =
-      others-stuck got ahead old mid mid id run h same (λ k ne. elsewhere-is None id k (open_at old.outbound.states) (open_at mid.outbound.states) took.hands ne) refl
-      (ap (λ (o : Outbound). o.windows) took.outbound)
+  pub leaves-empty : (got ahead : Out → List OutItem) (old mid new : Sending L In Out Shut) (id : ℕ) (bytes : List ℕ) (result : Polled)
+      → Took got ahead old mid id result → SameAhead (shows (open_at old.outbound.states) id) (aheads ahead old.senders.items) (aheads ahead mid.senders.items)
+      → TellsData id bytes looked.Empty mid new → new.senders ≡ mid.senders → LeavesStuck got ahead id old new
+  leaves-empty got ahead old mid new id bytes result took same tells senders run h =
+      others-stuck got ahead old mid new id run h same
+      (λ k ne. elsewhere-is None id k (open_at mid.outbound.states) (open_at new.outbound.states) tells.1 ne ∙ ap (λ (o : Outbound). shows (open_at o.states) k) took.outbound) senders
+      (ap (λ (o : Outbound). o.windows) tells.2 ∙ ap (λ (o : Outbound). o.windows) took.outbound)
 
-  pub looks-data : (E : Type 0) {F : Type 0} (got ahead : Out → List OutItem) (old mid new : Sending L In Out Shut) (id : ℕ) (bytes : List ℕ) (result : Result Polled E) (found : Result Looked F)
-      → Took E got ahead old mid id result → SameAhead (shows (open_at old.outbound.states) id) (aheads ahead old.senders.items) (aheads ahead mid.senders.items)
-      → IfOk found (λ l. l ≢ looked.Empty) → IfOk found (λ l. TellsData id bytes (frame_in l) mid new) → new.senders ≡ mid.senders
-      → IfOk found (λ l. LooksAt got ahead id l old new)
-  looks-data E got ahead old mid new id bytes result (Ok (looked.Frame frame)) took same ne tells senders = tt
-  looks-data E got ahead old mid new id bytes result (Ok looked.Nothing) took same ne tells senders = stuck-data E got ahead old mid new id bytes result took same tells senders
-  looks-data E got ahead old mid new id bytes result (Ok looked.Empty) took same ne tells senders = absurd (ne refl)
-  looks-data E got ahead old mid new id bytes result (Err e) took same ne tells senders = tt
+  pub looks-data : (got ahead : Out → List OutItem) (old mid new : Sending L In Out Shut) (id : ℕ) (bytes : List ℕ) (result : Polled) (found : Looked)
+      → Took got ahead old mid id result → SameAhead (shows (open_at old.outbound.states) id) (aheads ahead old.senders.items) (aheads ahead mid.senders.items)
+      → TellsData id bytes found mid new → new.senders ≡ mid.senders → LooksAt got ahead id found old new
+  looks-data got ahead old mid new id bytes result (looked.Frame frame) took same tells senders = tt
+  looks-data got ahead old mid new id bytes result looked.Nothing took same tells senders = stuck-data got ahead old mid new id bytes result took same tells senders
+  looks-data got ahead old mid new id bytes result looked.Empty took same tells senders = leaves-empty got ahead old mid new id bytes result took same tells senders
 
   -- one look after another
   pub leaves-then : (got ahead : Out → List OutItem) (old mid new : Sending L In Out Shut) (id : ℕ) → HoldsOn got None old mid

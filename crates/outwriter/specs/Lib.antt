@@ -16,6 +16,7 @@ pub mod RunState
 pub mod CallState
 pub mod Cores
 pub mod StreamLooks
+pub mod Data
 pub mod CoreChanges
 pub mod Examples
 pub mod Releases

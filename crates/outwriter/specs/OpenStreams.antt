@@ -33,6 +33,11 @@ SameHands old new = (k : ℕ) → shows new k ≡ shows old k
 abbrev pub HandIs : ℕ → Option (List ℕ) → OpenStreams → OpenStreams → Type 0
 HandIs id hand old new = (k : ℕ) → shows new k ≡ (if k == id then with_hand hand (shows old k) else shows old k)
 
+-- what is in hand of a message, where any is left of it
+abbrev pub kept : List ℕ → Option (List ℕ)
+kept [] = None
+kept (byte ∷ bytes) = Some (byte ∷ bytes)
+
 -- bytes are kept in hand, where there are any
 abbrev pub HandKeeps : ℕ → List ℕ → OpenStreams → OpenStreams → Type 0
 HandKeeps id [] old new = SameHands old new

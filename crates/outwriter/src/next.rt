@@ -9,7 +9,7 @@ use crate::control::OutFault;
 use crate::out_core::OutCore;
 use crate::sending::Sending;
 use crate::states::StreamStates;
-use crate::stream::{Looked, Polled, poll};
+use crate::stream::{Hand, Looked, Polled, next_data, poll};
 use account::OutItem;
 use bytes::Bytes;
 use callbox::Sender;
@@ -76,10 +76,11 @@ impl<L: Lane<Item = OutItem>> OutCore<L> {
 }
 
 impl<L: Lane<Item = OutItem>> Sending<L> {
-    ghost use Rattle.outwriter.specs.declared.stream.Looked.TheVariants as looked;
     ghost use Rattle.outwriter.specs.Frames.{IsSound};
     ghost use Rattle.outwriter.specs.Cores.{calls, lanes};
-    ghost use Rattle.outwriter.specs.States.{is_reset, over_on};
+    ghost use Rattle.outwriter.specs.Data.{TakesFrames};
+    ghost use Rattle.outwriter.specs.OpenStreams.{has_hand};
+    ghost use Rattle.outwriter.specs.States.{open_at};
     ghost use Rattle.outwriter.specs.Polls.{coming};
     ghost use Rattle.outwriter.specs.StreamLooks.{AllStuck, GetsQuiet, GetsStuck, Gives, HoldsOn, LooksAt, Picks, TellsData, frame_in};
     ghost use Rattle.outwriter.specs.RunState.{SameOwn, IsSpent, Progress, Progresses, IsBetween};
@@ -221,17 +222,14 @@ impl<L: Lane<Item = OutItem>> Sending<L> {
         ensures gives { Gives L.got L.out_name self.old self.new }
         ensures looks { IfOk result (λ l. LooksAt L.got (coming L.got L.ahead) id l self.old self.new) }
     {
-        let Some((place, hand)) = self.outbound.states.take_hand(id) else {
-            return Ok(Looked::Nothing);
+        let place = match self.outbound.states.look(id, &mut self.outbound.windows)? {
+            Hand::Shut => return Ok(Looked::Nothing),
+            Hand::Message(looked) => return Ok(looked),
+            Hand::Empty(place) => place,
         };
-        match take(&mut self.senders, &mut self.outbound.encoder, place, hand)? {
+        match poll_at(&mut self.senders, &mut self.outbound.encoder, place)? {
             Polled::Nothing => Ok(Looked::Nothing),
-            Polled::Message(bytes) => {
-                if bytes.is_empty() {
-                    return Ok(Looked::Empty);
-                }
-                self.data(id, bytes)
-            }
+            Polled::Message(bytes) => self.data(id, bytes),
             Polled::Block { bytes, ends } => {
                 end(&mut self.outbound.states, id, ends);
                 Ok(Looked::Frame(self.outbound.headers_frame(id, ends, bytes)?))
@@ -239,37 +237,28 @@ impl<L: Lane<Item = OutItem>> Sending<L> {
         }
     }
 
-    /// The next DATA of a message, as far as the windows let it through. What is left is kept in hand.
-    fn data(&mut self, id: StreamId, bytes: Bytes) -> Result<Looked, AllocError>
+    /// The first DATA of a message, as far as the windows let it through. What is left is kept in hand.
+    fn data(&mut self, id: StreamId, message: Bytes) -> Result<Looked, AllocError>
         requires between { IsBetween self.old.outbound }
-        requires stream { 0 < id }
-        requires number { id < 2 ^ 31 }
-        requires open { over_on self.old.outbound.states id ≡ None }
-        requires unreset { is_reset self.old.outbound.states id ≡ false }
-        requires some { 0 < length bytes }
+        requires writable { TakesFrames self.old.outbound.states id }
+        requires empty { has_hand (open_at self.old.outbound.states id) ≡ false }
         ensures sound { IfOk result (λ l. IfSome (frame_in l) IsSound) }
         ensures frame { IfOk result (λ l. Progress (frame_in l) self.old.outbound self.new.outbound) }
         ensures own { IfOk result (λ l. IfNone (frame_in l) (SameOwn self.old.outbound self.new.outbound)) }
-        ensures data { IfOk result (λ l. TellsData id bytes (frame_in l) self.old self.new) }
-        ensures looks { IfOk result (λ l. l ≢ looked.Empty) }
+        ensures data { IfOk result (λ l. TellsData id message l self.old self.new) }
         ensures senders { self.new.senders ≡ self.old.senders }
     {
-        let len = self.outbound.room(id, bytes.len());
-        if len == 0 {
-            self.outbound.states.keep(id, bytes);
-            return Ok(Looked::Nothing);
-        }
-        let mut rest = bytes;
-        let piece = rest.split_to(len)?;
+        let mut rest = message;
+        let looked = next_data(&mut self.outbound.windows, id, &mut rest)?;
         self.outbound.states.keep(id, rest);
-        Ok(Looked::Frame(self.outbound.data_frame(id, piece)))
+        Ok(looked)
     }
 }
 
 ghost use Rattle.outwriter.specs.Cores.{calls as calls_of, lanes as lanes_of};
 ghost use Rattle.outwriter.specs.OpenStreams.{SameHands, Removes};
 ghost use Rattle.outwriter.specs.Polls.{coming as coming_of};
-ghost use Rattle.outwriter.specs.States.{StandAs, open_at};
+ghost use Rattle.outwriter.specs.States.{StandAs, open_at as open_of};
 ghost use Rattle.outwriter.specs.StreamLooks.{aheads, TakesHand, SameElsewhere};
 
 /// Puts a stream behind all others that take turns, if it is still open.
@@ -279,7 +268,7 @@ fn take_turns(
     id: StreamId,
 ) -> Result<(), AllocError>
     ensures stands { StandAs states.old states.new }
-    ensures hands { SameHands (open_at states.old) (open_at states.new) }
+    ensures hands { SameHands (open_of states.old) (open_of states.new) }
 {
     if states.turn(id, true) {
         ready.push_back(id)?;
@@ -290,27 +279,10 @@ fn take_turns(
 /// Closes a stream whose trailers are written.
 fn end(states: &mut StreamStates, id: StreamId, ends: bool)
     ensures stands { StandAs states.old states.new }
-    ensures ended { Removes id ends (open_at states.old) (open_at states.new) }
+    ensures ended { Removes id ends (open_of states.old) (open_of states.new) }
 {
     if ends {
         states.close(id);
-    }
-}
-
-/// What is next on a stream: what was in hand, or what its sender has.
-fn take<L: Lane<Item = OutItem>>(
-    senders: &mut Vec<(StreamId, Sender<L>)>,
-    encoder: &mut Encoder,
-    place: usize,
-    hand: Option<Bytes>,
-) -> Result<Polled, AllocError>
-    ensures takes { TakesHand hand place (calls_of L.got senders.old.items) (calls_of L.got senders.new.items) (aheads (coming_of L.got L.ahead) senders.new.items) encoder.old encoder.new result }
-    ensures ahead { SameElsewhere place (aheads (coming_of L.got L.ahead) senders.old.items) (aheads (coming_of L.got L.ahead) senders.new.items) }
-    ensures senders { lanes_of L.out_name senders.new.items ≡ lanes_of L.out_name senders.old.items }
-{
-    match hand {
-        Some(bytes) => Ok(Polled::Message(bytes)),
-        None => poll_at(senders, encoder, place),
     }
 }
 

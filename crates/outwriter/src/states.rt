@@ -1,14 +1,15 @@
 //! How each stream stands of which something was heard or written (RFC 9113, section 5.1), and the credit that is owed to
 //! the peer (section 6.9).
 
-ghost use Rattle.std.specs.Prelude.{◌≡◌, ◌<◌, ◌≤◌, ◌^◌, ◌⊎◌, ℕ, List, Option, None, Some, false, true, not, is_some, IfSome, IfNone, OnSome, OnOk, OnErr, MatchOption, length, nat_eq};
+ghost use Rattle.std.specs.Prelude.{◌≡◌, ◌<◌, ◌≤◌, ◌^◌, ◌⊎◌, ℕ, List, Option, None, Some, false, true, not, is_some, IfSome, IfNone, IfOk, OnOk, OnErr, length, nat_eq};
 ghost use Rattle.std.specs.Map.{lookup};
 ghost use Rattle.outwriter.specs.States.{nothing_known, open_at, knows, is_reset, state_on, over_on, amount_of, by_reset, more, is_heard, can_write, IsShut, Hears, Opens, BecomesOpen, Grants, Resets, SameEnds, SameOver, SameOwed, SameOpen, StandAs, SetsEnd, Puts, PutsState, Edits, TakesAll, Adds, AllFit, IsSettledBut, IsSettledFrom, TakesAt, TakesLast, opened_of};
-ghost use Rattle.outwriter.specs.OpenStreams.{Closes, HandIs, HandKeeps, PlaceIs, SameHands, has_hand, shown, shows, stream_at, with_hand, with_place};
+ghost use Rattle.outwriter.specs.Data.{LooksAtEntry, LooksAtHand, LooksAtStream};
+ghost use Rattle.outwriter.specs.OpenStreams.{Closes, HandKeeps, PlaceIs, SameHands, has_hand, shown, stream_at, with_hand, with_place};
 
-use crate::stream::OpenStream;
+use crate::stream::{Hand, OpenStream};
 use bytes::Bytes;
-use flow::MAX_WINDOW;
+use flow::{MAX_WINDOW, SendWindows};
 use h2frame::StreamId;
 use indexmap::IndexMap;
 use std::alloc::{AllocError, Global};
@@ -132,21 +133,17 @@ pub(crate) struct Stream {
 }
 
 impl Stream {
-    /// Takes what is in hand of an open stream, with the place of its sender, if something may be written on it.
-    fn take_hand(&mut self) -> Option<(usize, Option<Bytes>)>
+    /// Looks at what is in hand, if something may be written on it.
+    fn look(&mut self, id: StreamId, windows: &mut SendWindows) -> Result<Hand, AllocError>
         ensures state { self.new.state ≡ self.old.state }
-        ensures none { IfNone result ((can_write self.old.state ≡ false) ⊎ (self.old.opened ≡ None)) }
-        ensures unchanged { IfNone result (self.new ≡ self.old) }
-        ensures some { IfSome result (λ hand. shown self.old.opened ≡ Some hand) }
-        ensures writable { OnSome result (can_write self.old.state ≡ true) }
-        ensures hand { OnSome result (shown self.new.opened ≡ with_hand None (shown self.old.opened)) }
+        ensures looks { IfOk result (LooksAtStream id self.old self.new windows.old windows.new) }
     {
         if !self.state.can_write() {
-            return None;
+            return Ok(Hand::Shut);
         }
         match &mut self.opened {
-            Some(stream) => Some((stream.place, stream.in_hand.take())),
-            None => None,
+            Some(stream) => stream.look(id, windows),
+            None => Ok(Hand::Shut),
         }
     }
 
@@ -351,19 +348,16 @@ impl StreamStates {
         put_state(&mut self.streams, id, state, opened)
     }
 
-    /// Takes what is in hand of an open stream, with the place of its sender, if something may be written on it.
-    pub(crate) fn take_hand(&mut self, id: StreamId) -> Option<(usize, Option<Bytes>)>
-        ensures stands { StandAs self.old self.new }
-        ensures none { IfNone result (IsShut self.old id) }
-        ensures unchanged { IfNone result (self.new ≡ self.old) }
-        ensures some { IfSome result (λ hand. shows (open_at self.old) id ≡ Some hand) }
-        ensures hand { OnSome result (HandIs id None (open_at self.old) (open_at self.new)) }
-        ensures stream { OnSome result (0 < id) }
-        ensures number { OnSome result (id < 2 ^ 31) }
-        ensures open { OnSome result (over_on self.old id ≡ None) }
-        ensures unreset { OnSome result (is_reset self.old id ≡ false) }
+    /// Looks at what is in hand of a stream, if that is open and something may be written on it: DATA of it are taken out
+    /// of it, and out of the windows.
+    pub(crate) fn look(
+        &mut self,
+        id: StreamId,
+        windows: &mut SendWindows,
+    ) -> Result<Hand, AllocError>
+        ensures { IfOk result (LooksAtHand id self.old self.new windows.old windows.new) }
     {
-        take_hand_of(&mut self.streams, id)
+        look_at(&mut self.streams, id, windows)
     }
 
     /// Keeps what is left of a message in hand of an open stream, if anything is.
@@ -453,21 +447,18 @@ fn put_state(
     }
 }
 
-/// Takes what is in hand of an open stream, with the place of its sender, if something may be written on it.
-fn take_hand_of(
+/// Looks at what is in hand of a stream.
+fn look_at(
     streams: &mut IndexMap<StreamId, Stream>,
     id: StreamId,
-) -> Option<(usize, Option<Bytes>)>
+    windows: &mut SendWindows,
+) -> Result<Hand, AllocError>
     ensures edits { Edits streams.old.entries id streams.new.entries }
-    ensures none { IfNone result (MatchOption (lookup (nat_eq id) streams.old.entries) (streams.new.entries ≡ streams.old.entries)
-        (λ was. ((can_write was.state ≡ false) ⊎ (was.opened ≡ None)) × (streams.new.entries ≡ streams.old.entries))) }
-    ensures some { IfSome result (λ hand. MatchOption (lookup (nat_eq id) streams.old.entries) ⊥
-        (λ was. (shown was.opened ≡ Some hand) × (can_write was.state ≡ true))) }
-    ensures hand { OnSome result (shown (opened_of (lookup (nat_eq id) streams.new.entries)) ≡ with_hand None (shown (opened_of (lookup (nat_eq id) streams.old.entries)))) }
+    ensures looks { IfOk result (LooksAtEntry id streams.old.entries streams.new.entries windows.old windows.new) }
 {
     match streams.get_mut(&id) {
-        Some(stream) => stream.take_hand(),
-        None => None,
+        Some(stream) => stream.look(id, windows),
+        None => Ok(Hand::Shut),
     }
 }
 

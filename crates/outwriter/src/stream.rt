@@ -3,12 +3,16 @@
 ghost use Rattle.std.specs.Prelude.{◌≡◌, [], ◌∷◌, ◌++◌, IfOk, OnErr};
 ghost use Rattle.hpack_codec.specs.Codec.{Writes};
 ghost use Rattle.outwriter.specs.Polls.{Polls, coming};
+ghost use Rattle.outwriter.specs.Data.{LooksAtOpen, TakesData};
+ghost use Rattle.outwriter.specs.OpenStreams.{kept as kept_of};
 ghost use Rattle.account.specs.declared.call.OutItem.{OutItem};
 
+use crate::frames::make_data;
 use account::OutItem;
 use bytes::Bytes;
 use callbox::Sender;
-use h2frame::Frame;
+use flow::SendWindows;
+use h2frame::{Frame, MAX_PAYLOAD, StreamId};
 use hpack_codec::Encoder;
 use lane::Lane;
 use lists::Field;
@@ -25,11 +29,47 @@ pub(crate) struct OpenStream {
     pub(crate) in_turn: bool,
 }
 
+impl OpenStream {
+    /// Looks at what is in hand, if anything is: DATA of it are taken out of it, and out of the windows.
+    pub(crate) fn look(
+        &mut self,
+        id: StreamId,
+        windows: &mut SendWindows,
+    ) -> Result<Hand, AllocError>
+        ensures { IfOk result (LooksAtOpen id self.old self.new windows.old windows.new) }
+    {
+        let Some(mut rest) = self.in_hand.take() else {
+            return Ok(Hand::Empty(self.place));
+        };
+        let looked = next_data(windows, id, &mut rest)?;
+        self.in_hand = kept(rest);
+        Ok(Hand::Message(looked))
+    }
+}
+
+/// What is in hand of a message of which this is left.
+fn kept(rest: Bytes) -> Option<Bytes>
+    ensures { result ≡ kept_of rest }
+{
+    if rest.is_empty() { None } else { Some(rest) }
+}
+
+/// What a look at what is in hand of a stream finds.
+#[derive(Drop)]
+pub(crate) enum Hand {
+    /// The stream isn't open, or nothing may be written on it.
+    Shut,
+    /// Nothing is in hand. The stream's sender stands at this place.
+    Empty(usize),
+    /// What may be written of the message in hand.
+    Message(Looked),
+}
+
 /// What is next on a stream.
 #[derive(Drop)]
 pub(crate) enum Polled {
     Nothing,
-    /// The bytes of a message, or what is left of them.
+    /// The bytes of a message.
     Message(Bytes),
     /// A header block, and whether it ends the stream.
     Block { bytes: Bytes, ends: bool },
@@ -42,6 +82,26 @@ pub(crate) enum Looked {
     Nothing,
     /// A message without bytes, for which nothing is written.
     Empty,
+}
+
+/// The next DATA of a message, as far as the windows let it through. It is taken out of the message, and out of them.
+pub(crate) fn next_data(
+    windows: &mut SendWindows,
+    id: StreamId,
+    message: &mut Bytes,
+) -> Result<Looked, AllocError>
+    ensures { IfOk result (TakesData id windows.old windows.new message.old message.new) }
+{
+    if message.is_empty() {
+        return Ok(Looked::Empty);
+    }
+    let most = message.len().min(MAX_PAYLOAD as usize) as u32;
+    let len = windows.spend_up_to(id, most);
+    if len == 0 {
+        return Ok(Looked::Nothing);
+    }
+    let piece = message.split_to(len as usize)?;
+    Ok(Looked::Frame(make_data(id, piece)))
 }
 
 /// The next item of a sender. The bytes of a message are shared, and fields are encoded. Where the call was left there is

@@ -1,24 +1,22 @@
 //! The frames of a connection, each with what it changes.
 
 ghost use Rattle.std.specs.Prelude.{◌≡◌, ℕ, List, [], ◌∷◌, ◌++◌, ◌≤◌, ◌<◌, ◌^◌, ◌==◌, ◌&&◌, not, is_some, nat_eq, true, false, Some, None, IfOk, IfSome, IfNone, OnOk, MatchOption, map, length, if◌then◌else◌};
-ghost use Rattle.flow.specs.Windows.{room};
-ghost use Rattle.flow.specs.WindowHistory.{Follows, Closing, room_after};
+ghost use Rattle.flow.specs.WindowHistory.{Follows, Closing};
 ghost use Rattle.flow.specs.WindowHistory.{Step as WindowStep};
-ghost use Rattle.outwriter.specs.RunState.{Ends, closing, spent};
+ghost use Rattle.outwriter.specs.RunState.{Ends, closing};
 ghost use Rattle.outwriter.specs.States.{SameOpen, SameOwed, SetsEnd, by_reset, over_on};
 
 use crate::blocks::HeaderBlock;
 use crate::due::Due;
 use crate::frames::{
-    make_data, make_first_settings, make_goaway, make_ping_ack, make_reset, make_settings_ack,
-    make_update,
+    make_first_settings, make_goaway, make_ping_ack, make_reset, make_settings_ack, make_update,
 };
 use crate::outbound::{Outbound, is_stream};
 use crate::states::{Over, StreamStates};
 use crate::stream::encoded;
 use bytes::Bytes;
 use flow::SendWindows;
-use h2frame::{ErrorCode, Frame, MAX_PAYLOAD, StreamId};
+use h2frame::{ErrorCode, Frame, StreamId};
 use lists::{Field, Sequence};
 use std::alloc::AllocError;
 
@@ -29,9 +27,8 @@ impl Outbound {
     ghost use Rattle.outwriter.specs.Frames.{IsSound};
     ghost use Rattle.outwriter.specs.Steps.{Step};
     ghost use Rattle.outwriter.specs.Histories.{is_stream as is_number};
-    ghost use Rattle.outwriter.specs.Parts.{Byte, on_stream};
     ghost use Rattle.outwriter.specs.CallState.{AreOver, IsOwn, OwnOrRests};
-    ghost use Rattle.outwriter.specs.ToldByNow.{TellsBlock, TellsMore, OwnByDue, OwnOfDue};
+    ghost use Rattle.outwriter.specs.ToldByNow.{TellsBlock, OwnByDue, OwnOfDue};
     ghost use Rattle.outwriter.specs.RunState.{Progress, Stays, IsBetween, Writes, WritesIf, WritesDue, WritesOrSkips, Heads, MirrorsOf};
 
     /// SETTINGS, which are first.
@@ -254,46 +251,6 @@ impl Outbound {
         let (frame, rest) = block.cut()?;
         self.block = rest;
         Ok(frame)
-    }
-
-    /// How much of a message of this length may be written on a stream now, as one frame.
-    pub(crate) fn room(&self, id: StreamId, len: usize) -> usize
-        ensures len { result ≤ len }
-        ensures payload { result ≤ 16384 }
-        ensures room { result ≤ room self.now.windows id }
-        ensures follows { 0 < id → (history : List WindowStep) → Follows history self.now.windows → result ≤ room_after history id }
-        ensures some { 0 < len → 0 < room self.now.windows id → 0 < result }
-    {
-        len.min(self.windows.room(id).min(MAX_PAYLOAD) as usize)
-    }
-
-    /// DATA for which there is room. It is taken out of the windows.
-    pub(crate) fn data_frame(&mut self, id: StreamId, piece: Bytes) -> Frame
-        requires between { IsBetween self.old }
-        requires number { id < 2 ^ 31 }
-        requires open { over_on self.old.states id ≡ None }
-        requires unreset { is_reset self.old.states id ≡ false }
-        requires some { 0 < length piece }
-        requires payload { length piece ≤ 16384 }
-        requires room { length piece ≤ room self.old.windows id }
-        requires fits { (history : List WindowStep) → Follows history self.old.windows → length piece ≤ room_after history id }
-        ensures sound { IsSound result }
-        ensures written { Writes result self.old self.new }
-        ensures tells { TellsMore result (on_stream id (map Byte piece)) self.old self.new }
-        ensures rest { self.new ≡ record self.old { windows = self.new.windows } }
-    {
-        spend(&mut self.windows, id, piece.len() as u32);
-        make_data(id, piece)
-    }
-}
-
-/// Spends what there is room for.
-fn spend(windows: &mut SendWindows, id: StreamId, len: u32)
-    requires room { len ≤ room windows.old id }
-    ensures { (history : List WindowStep) → Follows history windows.old → Follows (spent id len ++ history) windows.new }
-{
-    if len > 0 {
-        let _ = windows.spend(id, len);
     }
 }
 

@@ -51,6 +51,10 @@ impl Subject for Windows {
     fn answer(&mut self, _alloc: Global, given: Given<'_>, answer: &mut String) -> Result<()> {
         match given.words {
             ["room", id] => write!(answer, "{}", self.windows.room(number(id)?))?,
+            ["spend_up_to", id, most] => {
+                let spent = self.windows.spend_up_to(number(id)?, number(most)?);
+                write!(answer, "{spent}")?;
+            }
             words => push_done(answer, self.change(words)?)?,
         }
         Ok(())

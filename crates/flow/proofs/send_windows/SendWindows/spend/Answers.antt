@@ -1,39 +1,32 @@
-use Rattle.std.proofs.Common.{ℤ, to_z, of_z, ◌∙◌, sym, refl, ◌≡◌, ◌≤◌, Some, arith, rules, nat_eq}
+use Rattle.std.proofs.Common.{◌∙◌, sym, refl, ◌≡◌, ◌≤◌, Some, arith, nat_eq}
 use Rattle.std.proofs.lemmas.Int.{ints}
-use Rattle.std.specs.Prelude.{◌-ℤ◌}
 use Rattle.std.specs.Map.{lookup}
 use Rattle.std.proofs.lemmas.Map.Steps.{set_value_same}
 use Rattle.flow.proofs.Entries.{apart-set}
 use Rattle.flow.proofs.Balances.{spend_keeps}
 use Rattle.flow.proofs.WindowSteps.{Follows-spending, lesser-within}
 use Rattle.flow.specs.Windows.{Windows}
-use mir.Val.{SFits}
-use mir.Syntax.{w64}
 use Rattle.flow.proofs.send_windows.SendWindows.spend.Goals as goal
 
 pub invariant_of-self-2 : goal.invariant_of-self-2
 invariant_of-self-2 c =
     let at : lookup (nat_eq c.args.id) c.self.inside.balances.entries ≡ Some c.in-Some.balance.now = sym c.in-Some.ensures.value in
-    let after : ℤ = to_z w64 (of_z w64 (to_z w64 (of_z w64 c.in-Some.balance.now) -ℤ to_z w64 (of_z w64 c.from.result))) in
-    let fits : SFits w64 c.in-Some.balance.now = search rules in
     record {
       connection_fits = omega (arith, c.self.invariant.connection_fits);
       initial_fits = c.self.invariant.initial_fits;
-      each = spend_keeps c.self.inside.balances.entries _ c.args.id c.self.inside.connection c.self.inside.initial c.args.len c.least.result c.in-Some.balance.now _ after (c.get_mut.follows.holds after).0 c.least.ensures c.if-len-least.false c.self.invariant.initial_fits c.self.invariant.each at
+      each = spend_keeps c.self.inside.balances.entries _ c.args.id c.self.inside.connection c.self.inside.initial c.args.len c.least.result c.in-Some.balance.now _ c.take_out.new.balance (c.get_mut.follows.holds c.take_out.new.balance).0 c.least.ensures c.if-len-least.false c.self.invariant.initial_fits c.self.invariant.each at
           (omega (arith, ints))
-          (grind (arith, ints));
-      apart = apart-set c.args.id c.in-Some.balance.now after c.self.inside.balances.entries _ at (c.get_mut.follows.holds after).0 c.self.invariant.apart;
+          c.take_out.ensures.balance;
+      apart = apart-set c.args.id c.in-Some.balance.now c.take_out.new.balance c.self.inside.balances.entries _ at (c.get_mut.follows.holds c.take_out.new.balance).0 c.self.invariant.apart;
     }
 
 pub returns-clause-follows : goal.returns-clause-follows
 returns-clause-follows c =
     let at : lookup (nat_eq c.args.id) c.self.inside.balances.entries ≡ Some c.in-Some.balance.now = sym c.in-Some.ensures.value in
-    let after : ℤ = to_z w64 (of_z w64 (to_z w64 (of_z w64 c.in-Some.balance.now) -ℤ to_z w64 (of_z w64 c.from.result))) in
-    let fits : SFits w64 c.in-Some.balance.now = search rules in
     let within : c.args.len ≤ c.self.inside.connection = lesser-within c.self.inside.connection c.args.len c.least.result _ c.least.ensures c.if-len-least.false in
     let old : Windows = record { connection = c.self.inside.connection; initial = c.self.inside.initial; balances = c.self.inside.balances.entries } in
-    rw (← c.self.view_is) (λ history follows. Follows-spending history old follows c.args.id c.args.len c.in-Some.balance.now after (c.get_mut.follows.lender after).entries within at
-    (c.get_mut.follows.holds after).0 (grind (arith, ints)))
+    rw (c.take_out.ensures.connection, ← c.self.view_is) (λ history follows. Follows-spending history old follows c.args.id c.args.len c.in-Some.balance.now c.take_out.new.balance (c.get_mut.follows.lender c.take_out.new.balance).entries within at
+    (c.get_mut.follows.holds c.take_out.new.balance).0 c.take_out.ensures.balance)
 
 pub returns-clause-law : goal.returns-clause-law
 returns-clause-law c = invariant_of-self-2 c
