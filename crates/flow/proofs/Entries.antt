@@ -1,7 +1,9 @@
 -- Look-ups in a list of entries by number, after a further entry and after another value.
 use Rattle.std.proofs.Common.{◌≡◌, ℕ, Bool, true, false, refl, sym, ap, subst, ◌∙◌, List, [], ◌∷◌, ◌++◌, Some, None, nat_eq, cond, is_some, Option, ◌<◌, zero, suc, true≢false, arith}
+use Rattle.std.specs.Prelude.{if◌then◌else◌}
 use Rattle.std.specs.Map.{lookup, set_value}
 use Rattle.std.proofs.lemmas.Bool.{eqb-true, eq-eqb, ne_eqb}
+use Rattle.std.proofs.lemmas.Map.Steps.{set_value_same}
 
 pub same_number : (k : ℕ) → nat_eq k k ≡ true
 same_number k = eq-eqb k k refl
@@ -37,6 +39,19 @@ lookup-set {X} k v w (e ∷ es) found = by (lookup-set k v w es) (nat_eq k e.0) 
         → lookup (nat_eq k) (cond b ((e.0, w) ∷ es) (e ∷ set_value (nat_eq k) es w)) ≡ Some w
     by rest true p f = ap (λ b. cond b (Some w) (lookup (nat_eq k) es)) p
     by rest false p f = ap (λ b. cond b (Some e.1) (lookup (nat_eq k) (set_value (nat_eq k) es w))) p ∙ rest f
+
+-- and of each number above 0
+pub lookup-each_set : {X : Type 0} (id : ℕ) (v w : X) (es new : List (ℕ × X)) → lookup (nat_eq id) es ≡ Some v → new ≡ set_value (nat_eq id) es w
+    → (other : ℕ) → 0 < other → lookup (nat_eq other) new ≡ (if nat_eq other id then Some w else lookup (nat_eq other) es)
+lookup-each_set {X} id v w es new found is other there = ap (λ (l : List (ℕ × X)). lookup (nat_eq other) l) is ∙ by (nat_eq other id) refl
+  where
+    by : (b : Bool) → nat_eq other id ≡ b → lookup (nat_eq other) (set_value (nat_eq id) es w) ≡ (if b then Some w else lookup (nat_eq other) es)
+    by true p = subst (λ k. lookup (nat_eq k) (set_value (nat_eq id) es w) ≡ Some w) (sym (eqb-true other id p)) (lookup-set id v w es found)
+    by false p = lookup-set_other other id w es p
+
+-- the value that was there
+pub set-same : {X : Type 0} (id : ℕ) (v w : X) (es new : List (ℕ × X)) → lookup (nat_eq id) es ≡ Some v → new ≡ set_value (nat_eq id) es w → w ≡ v → new ≡ es
+set-same {X} id v w es new found is same = is ∙ ap (set_value (nat_eq id) es) same ∙ set_value_same (nat_eq id) es v found
 
 -- ---- no entry of 0
 

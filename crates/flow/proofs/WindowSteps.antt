@@ -1,18 +1,16 @@
--- Windows that follow from a history, and one more step.
-use Rattle.std.proofs.Common.{◌≡◌, ℕ, ◌+◌, ◌-◌, ◌<◌, ◌≤◌, ℤ, pos, negsuc, ◌+ℤ◌, Bool, true, false, refl, sym, ap, subst, ◌∙◌, List, ◌∷◌, Option, Some, None, arith, nat_eq, is_some, zero, suc}
-use Rattle.std.specs.Prelude.{◌-ℤ◌, if◌then◌else◌, sum_by, IfSome}
-use Rattle.std.specs.List.{IsDistinct}
-use Rattle.std.specs.Option.{option_map}
-use Rattle.std.specs.Map.{lookup, set_value, keys_of}
+-- Windows of which only look-ups are known, and one more step of their history. The balances of `w2` are told by
+-- `balance w2 other`, for each other > 0, where one stream changes by `if nat_eq other id then .. else balance w other`:
+-- so they may lie in a table of any form.
+use Rattle.std.proofs.Common.{◌≡◌, ℕ, ◌+◌, ◌-◌, ◌<◌, ◌≤◌, ℤ, pos, negsuc, ◌+ℤ◌, Bool, true, false, refl, sym, ap, subst, ◌∙◌, List, [], ◌∷◌, Option, Some, None, arith, nat_eq, inl, inr}
+use Rattle.std.specs.Prelude.{◌-ℤ◌, ◌<ℤ◌, if◌then◌else◌, min, sum_by, IfSome, MatchOption}
+use Rattle.std.specs.Option.{option_map, option_map_or}
 use Rattle.std.proofs.lemmas.Bool.{eqb-true, ne_eqb}
 use Rattle.std.proofs.lemmas.Int.{ints}
 use Rattle.std.proofs.lemmas.List.Sums.{sum_by-cons}
-use Rattle.std.proofs.lemmas.Cmp.{nat_eq_equiv}
-use Rattle.std.proofs.lemmas.Map.Views.{IfSome-lookup_from_All, All-values_from_lookup}
-use Rattle.flow.proofs.Entries.{same_number, lookup-set, lookup-set_other}
-use Rattle.flow.specs.declared.TheConstants.{INITIAL_WINDOW}
-use Rattle.flow.specs.Windows.{Windows, balance, lesser, Fits, FitsAt}
-use Rattle.flow.specs.WindowHistory.{Step, Credit, Spending, credit_to, spending_on, spending, since_opening, balance_of, Follows, CanResize}
+use Rattle.flow.proofs.Entries.{same_number}
+use Rattle.flow.specs.declared.TheConstants.{INITIAL_WINDOW, MAX_WINDOW}
+use Rattle.flow.specs.Windows.{Windows, balance, window, room, lesser, lesser_if_open, Fits}
+use Rattle.flow.specs.WindowHistory.{Step, Opening, Credit, Spending, Resizing, Closing, credit_to, spending_on, spending, connection_window, initial_size, since_opening, balance_of, bytes_of, stream_window, room_after, Follows, CanCredit, CanResize}
 
 -- ---- sums of one more step
 
@@ -37,97 +35,179 @@ balances-other : (id : ℕ) (step : Step) (since : Option (List Step)) → credi
 balances-other id step None c s = refl
 balances-other id step (Some steps) c s = ap Some (balance-other id step steps c s)
 
-credited : (balance : ℤ) (c n s : ℕ) → balance ≡ pos c -ℤ pos s → balance +ℤ pos n ≡ pos (n + c) -ℤ pos s
-credited balance c n s e = omega (arith, ints, e)
+credited : (id n : ℕ) (b next : ℤ) (since : Option (List Step)) → next ≡ b +ℤ pos n → Some b ≡ option_map (balance_of id) since
+    → Some next ≡ option_map (balance_of id) (option_map (λ steps. Credit id n ∷ steps) since)
+credited id n b next None raised e = cc
+credited id n b next (Some steps) raised e =
+    let is : b ≡ balance_of id steps = cc in
+    let more = sum-more (credit_to id) (Credit id n) steps n (ap (λ t. if t then n else 0) (same_number id)) in
+    let none = sum-other (spending_on id) (Credit id n) steps refl in
+    ap Some (omega (arith, ints, raised, is, more, none))
 
-spent : (balance : ℤ) (c n s : ℕ) → balance ≡ pos c -ℤ pos s → balance -ℤ pos n ≡ pos c -ℤ pos (n + s)
-spent balance c n s e = omega (arith, ints, e)
+spent : (id n : ℕ) (b next : ℤ) (since : Option (List Step)) → next ≡ b -ℤ pos n → Some b ≡ option_map (balance_of id) since
+    → Some next ≡ option_map (balance_of id) (option_map (λ steps. Spending id n ∷ steps) since)
+spent id n b next None lowered e = cc
+spent id n b next (Some steps) lowered e =
+    let is : b ≡ balance_of id steps = cc in
+    let more = sum-more (spending_on id) (Spending id n) steps n (ap (λ t. if t then n else 0) (same_number id)) in
+    let none = sum-other (credit_to id) (Spending id n) steps refl in
+    ap Some (omega (arith, ints, lowered, is, more, none))
 
-connection-spent : (window c n s : ℕ) → n ≤ window → pos window ≡ (pos INITIAL_WINDOW +ℤ pos c) -ℤ pos s → pos (window - n) ≡ (pos INITIAL_WINDOW +ℤ pos c) -ℤ pos (n + s)
-connection-spent window c n s within e = omega (arith, ints, e, within)
+connection-other : (step : Step) (h : List Step) → credit_to 0 step ≡ 0 → spending step ≡ 0 → connection_window (step ∷ h) ≡ connection_window h
+connection-other step h c s =
+    ap (λ n. (pos INITIAL_WINDOW +ℤ pos n) -ℤ pos (sum_by spending (step ∷ h))) (sum-other (credit_to 0) step h c)
+    ∙ ap (λ n. (pos INITIAL_WINDOW +ℤ pos (sum_by (credit_to 0) h)) -ℤ pos n) (sum-other spending step h s)
 
-pub lesser-within : (connection len least : ℕ) (z : ℤ) → least ≡ lesser connection z → len ≤ least → len ≤ connection
-lesser-within connection len least (pos n) is h = omega (arith, is, h)
-lesser-within connection len least (negsuc n) is h = omega (arith, is, h)
+moved : (id kept size : ℕ) (b : Option ℤ) (since : Option (List Step)) → b ≡ option_map (balance_of id) since → kept ≡ size
+    → option_map (λ z. pos kept +ℤ z) b ≡ option_map (λ steps. pos size +ℤ balance_of id steps) since
+moved id kept size b None e f = ap (λ o. option_map (λ z. pos kept +ℤ z) o) e
+moved id kept size b (Some steps) e f = ap (λ o. option_map (λ z. pos kept +ℤ z) o) e ∙ ap (λ n. Some (pos n +ℤ balance_of id steps)) f
 
--- ---- each step
+lesser-bytes : (connection : ℕ) (shown : ℤ) (size : Option ℤ) → pos connection ≡ shown
+    → lesser_if_open connection size ≡ option_map_or (λ s. min (bytes_of shown) (bytes_of s)) size 0
+lesser-bytes connection shown None e = refl
+lesser-bytes connection shown (Some (pos n)) e = ap (λ z. min (bytes_of z) n) e
+lesser-bytes connection shown (Some (negsuc n)) e = omega arith
 
 module _ (h : List Step) (w : Windows) (follows : Follows h w) where
-  -- another balance of one stream
-  balances-set : (step : Step) (id : ℕ) (b next : ℤ) → balance w id ≡ Some b
-      → ((other : ℕ) → nat_eq other id ≡ false → credit_to other step ≡ 0)
-      → ((other : ℕ) → nat_eq other id ≡ false → spending_on other step ≡ 0)
-      → ((steps : List Step) → b ≡ balance_of id steps → next ≡ balance_of id (step ∷ steps))
-      → (other : ℕ) → 0 < other → lookup (nat_eq other) (set_value (nat_eq id) w.balances next) ≡ option_map (balance_of other) (option_map (λ steps. step ∷ steps) (since_opening other h))
-  balances-set step id b next some credits spends here other positive = by (nat_eq other id) refl
+  -- ---- what follows of a stream's window
+
+  pub window-follows : (id : ℕ) → 0 < id → window w id ≡ stream_window id h
+  window-follows id there = moved id w.initial (initial_size h) (balance w id) (since_opening id h) (follows.balances id there) follows.initial
+
+  pub room-follows : (id : ℕ) → 0 < id → room_after h id ≡ room w id
+  room-follows id there =
+      sym (ap (λ o. lesser_if_open w.connection o) (window-follows id there) ∙ lesser-bytes w.connection (connection_window h) (stream_window id h) follows.connection)
+
+  pub room-open : (id : ℕ) (b : ℤ) → 0 < id → balance w id ≡ Some b → room_after h id ≡ lesser w.connection (pos w.initial +ℤ b)
+  room-open id b there some = room-follows id there ∙ ap (λ o. lesser_if_open w.connection (option_map (λ z. pos w.initial +ℤ z) o)) some
+
+  -- ---- whether a credit can be
+
+  pub CanCredit-connection : (n : ℕ) → w.connection + n ≤ MAX_WINDOW → CanCredit h 0 n
+  CanCredit-connection n fits = inl (refl, omega (arith, ints, follows.connection, fits))
+
+  pub cannot-credit-connection : (n : ℕ) → MAX_WINDOW < w.connection + n → ¬ CanCredit h 0 n
+  cannot-credit-connection n over (inl (e, fits)) = omega (arith, ints, follows.connection, over, fits)
+  cannot-credit-connection n over (inr (there, fits)) = omega (arith, there)
+
+  fits-of : (id n : ℕ) → 0 < id → CanCredit h id n → MatchOption (window w id) ⊥ (λ size. Fits (size +ℤ pos n))
+  fits-of id n there (inl (e, fits)) = absurd (omega (arith, there, e))
+  fits-of id n there (inr (again, fits)) = subst (λ o. MatchOption o ⊥ (λ size. Fits (size +ℤ pos n))) (sym (window-follows id there)) fits
+
+  pub CanCredit-stream : (id n : ℕ) (b : ℤ) → 0 < id → balance w id ≡ Some b → Fits ((pos w.initial +ℤ b) +ℤ pos n) → CanCredit h id n
+  CanCredit-stream id n b there some fits =
+      inr (
+        there,
+        subst (λ o. MatchOption o ⊥ (λ size. Fits (size +ℤ pos n)))
+            (sym (ap (λ o. option_map (λ z. pos w.initial +ℤ z) o) some) ∙ window-follows id there) fits,
+      )
+
+  pub cannot-credit-stream : (id n : ℕ) (b : ℤ) → 0 < id → balance w id ≡ Some b → pos MAX_WINDOW <ℤ ((pos w.initial +ℤ b) +ℤ pos n) → ¬ CanCredit h id n
+  cannot-credit-stream id n b there some over can =
+      let fits : Fits ((pos w.initial +ℤ b) +ℤ pos n) =
+      subst (λ o. MatchOption (option_map (λ z. pos w.initial +ℤ z) o) ⊥ (λ size. Fits (size +ℤ pos n))) some (fits-of id n there can) in omega (arith, ints, over, fits)
+
+  pub cannot-credit-closed : (id n : ℕ) → 0 < id → balance w id ≡ None → ¬ CanCredit h id n
+  cannot-credit-closed id n there none can =
+      subst (λ o. MatchOption (option_map (λ z. pos w.initial +ℤ z) o) ⊥ (λ size. Fits (size +ℤ pos n))) none (fits-of id n there can)
+
+  -- ---- whether a size can be
+
+  pub CanResize-fits : (n : ℕ) → n ≤ MAX_WINDOW → ((id : ℕ) → 0 < id → IfSome (balance w id) (λ b. Fits (pos n +ℤ b))) → CanResize h n
+  CanResize-fits n low fits = (low, λ id there. by id (since_opening id h) (subst (λ (o : Option ℤ). IfSome o (λ b. Fits (pos n +ℤ b))) (follows.balances id there) (fits id there)))
     where
-      found : (since : Option (List Step)) → Some b ≡ option_map (balance_of id) since → Some next ≡ option_map (balance_of id) (option_map (λ steps. step ∷ steps) since)
-      found None e = cc
-      found (Some steps) e = ap Some (here steps cc)
+      by : (id : ℕ) (since : Option (List Step)) → IfSome (option_map (balance_of id) since) (λ b. Fits (pos n +ℤ b)) → IfSome since (λ steps. Fits (pos n +ℤ balance_of id steps))
+      by id None fit = tt
+      by id (Some steps) fit = fit
 
-      at : 0 < id → lookup (nat_eq id) (set_value (nat_eq id) w.balances next) ≡ option_map (balance_of id) (option_map (λ steps. step ∷ steps) (since_opening id h))
-      at there = lookup-set id b next w.balances some ∙ found (since_opening id h) (sym some ∙ follows.balances id there)
+  pub fits-CanResize : (n : ℕ) → CanResize h n → (id : ℕ) → 0 < id → IfSome (balance w id) (λ b. Fits (pos n +ℤ b))
+  fits-CanResize n can id there = subst (λ (o : Option ℤ). IfSome o (λ b. Fits (pos n +ℤ b))) (sym (follows.balances id there)) (by (since_opening id h) (can.1 id there))
+    where
+      by : (since : Option (List Step)) → IfSome since (λ steps. Fits (pos n +ℤ balance_of id steps)) → IfSome (option_map (balance_of id) since) (λ b. Fits (pos n +ℤ b))
+      by None fit = tt
+      by (Some steps) fit = fit
 
-      by : (t : Bool) → nat_eq other id ≡ t → lookup (nat_eq other) (set_value (nat_eq id) w.balances next) ≡ option_map (balance_of other) (option_map (λ steps. step ∷ steps) (since_opening other h))
-      by true p =
-          subst (λ n. 0 < n → lookup (nat_eq n) (set_value (nat_eq id) w.balances next) ≡ option_map (balance_of n) (option_map (λ steps. step ∷ steps) (since_opening n h)))
-          (sym (eqb-true other id p)) at positive
-      by false p = lookup-set_other other id next w.balances p ∙ follows.balances other positive
-          ∙ sym (balances-other other step (since_opening other h) (credits other p) (spends other p))
+  -- ---- each step
 
-  pub Follows-credit : (id n : ℕ) (b next : ℤ) (after : List (ℕ × ℤ)) → 0 < id → balance w id ≡ Some b → after ≡ set_value (nat_eq id) w.balances next
-      → next ≡ b +ℤ pos n → Follows (Credit id n ∷ h) (record { connection = w.connection; initial = w.initial; balances = after })
-  Follows-credit id n b next after positive some written raised = record {
-    connection = follows.connection ∙ ap (λ m. (pos INITIAL_WINDOW +ℤ pos m) -ℤ pos (sum_by spending h))
-        (sym (sum-other (credit_to 0) (Credit id n) h (if-other (nat_eq 0 id) n (ne_eqb 0 id (λ e. omega (arith, e, positive))))));
-    initial = follows.initial;
-    balances = λ other there. ap (λ es. lookup (nat_eq other) es) written
-        ∙ balances-set (Credit id n) id b next some (λ k p. if-other (nat_eq k id) n p) (λ k p. refl)
-        (λ steps e. raised ∙ credited b (sum_by (credit_to id) steps) n (sum_by (spending_on id) steps) e
-        ∙ ap (λ m. pos m -ℤ pos (sum_by (spending_on id) steps)) (sym (sum-more (credit_to id) (Credit id n) steps n (ap (λ t. if t then n else 0) (same_number id)))))
-        other there;
-  }
+  -- another balance of one stream, or none
+  balances-set : (step : Step) (id : ℕ) (set : Option ℤ) (w2 : Windows)
+      → ((other : ℕ) → 0 < other → balance w2 other ≡ (if nat_eq other id then set else balance w other))
+      → ((other : ℕ) → nat_eq other id ≡ true → 0 < other → set ≡ option_map (balance_of other) (since_opening other (step ∷ h)))
+      → ((other : ℕ) → nat_eq other id ≡ false → option_map (balance_of other) (since_opening other (step ∷ h)) ≡ option_map (balance_of other) (since_opening other h))
+      → (other : ℕ) → 0 < other → balance w2 other ≡ option_map (balance_of other) (since_opening other (step ∷ h))
+  balances-set step id set w2 sets here others other there = sets other there ∙ by (nat_eq other id) refl
+    where
+      by : (t : Bool) → nat_eq other id ≡ t → (if t then set else balance w other) ≡ option_map (balance_of other) (since_opening other (step ∷ h))
+      by true p = here other p there
+      by false p = follows.balances other there ∙ sym (others other p)
 
-  pub Follows-spending : (id n : ℕ) (b next : ℤ) (after : List (ℕ × ℤ)) → n ≤ w.connection → balance w id ≡ Some b → after ≡ set_value (nat_eq id) w.balances next
-      → next ≡ b -ℤ pos n → Follows (Spending id n ∷ h) (record { connection = w.connection - n; initial = w.initial; balances = after })
-  Follows-spending id n b next after within some written lowered = record {
-    connection = connection-spent w.connection (sum_by (credit_to 0) h) n (sum_by spending h) within follows.connection
-        ∙ ap (λ m. (pos INITIAL_WINDOW +ℤ pos (sum_by (credit_to 0) h)) -ℤ pos m) (sym (sum-more spending (Spending id n) h n refl));
-    initial = follows.initial;
-    balances = λ other there. ap (λ es. lookup (nat_eq other) es) written
-        ∙ balances-set (Spending id n) id b next some (λ k p. refl) (λ k p. if-other (nat_eq k id) n p)
-        (λ steps e. lowered ∙ spent b (sum_by (credit_to id) steps) n (sum_by (spending_on id) steps) e
-        ∙ ap (λ m. pos (sum_by (credit_to id) steps) -ℤ pos m) (sym (sum-more (spending_on id) (Spending id n) steps n (ap (λ t. if t then n else 0) (same_number id)))))
-        other there;
-  }
+  module _ (w2 : Windows) where
+    pub Follows-same : ((other : ℕ) → 0 < other → balance w2 other ≡ balance w other) → w2.connection ≡ w.connection → w2.initial ≡ w.initial → Follows h w2
+    Follows-same same connection initial = record {
+      connection = ap pos connection ∙ follows.connection;
+      initial = initial ∙ follows.initial;
+      balances = λ other there. same other there ∙ follows.balances other there;
+    }
 
--- ---- another initial size
+    pub Follows-opening : (id : ℕ) → ((other : ℕ) → 0 < other → balance w2 other ≡ (if nat_eq other id then Some (pos 0) else balance w other))
+        → w2.connection ≡ w.connection → w2.initial ≡ w.initial → Follows (Opening id ∷ h) w2
+    Follows-opening id sets connection initial = record {
+      connection = ap pos connection ∙ follows.connection ∙ sym (connection-other (Opening id) h refl refl);
+      initial = initial ∙ follows.initial;
+      balances = balances-set (Opening id) id (Some (pos 0)) w2 sets
+          (λ other p there. sym (ap (λ t. option_map (balance_of other) (if t then Some [] else since_opening other h)) p))
+          (λ other p. ap (λ t. option_map (balance_of other) (if t then Some [] else since_opening other h)) p);
+    }
 
-fits-found : (n id : ℕ) (since : Option (List Step)) (o : Option ℤ) → o ≡ option_map (balance_of id) since
-    → IfSome o (λ b. Fits (pos n +ℤ b)) → IfSome since (λ steps. Fits (pos n +ℤ balance_of id steps))
-fits-found n id None o e h = tt
-fits-found n id (Some steps) o e h = subst (λ (p : Option ℤ). IfSome p (λ b. Fits (pos n +ℤ b))) e h
+    pub Follows-credit : (id n : ℕ) (b next : ℤ) → 0 < id → balance w id ≡ Some b → next ≡ b +ℤ pos n
+        → ((other : ℕ) → 0 < other → balance w2 other ≡ (if nat_eq other id then Some next else balance w other))
+        → w2.connection ≡ w.connection → w2.initial ≡ w.initial → Follows (Credit id n ∷ h) w2
+    Follows-credit id n b next positive some raised sets connection initial = record {
+      connection = ap pos connection ∙ follows.connection
+          ∙ sym (connection-other (Credit id n) h (if-other (nat_eq 0 id) n (ne_eqb 0 id (λ e. omega (arith, e, positive)))) refl);
+      initial = initial ∙ follows.initial;
+      balances = balances-set (Credit id n) id (Some next) w2 sets
+          (λ other p there. subst (λ k. Some next ≡ option_map (balance_of k) (option_map (λ steps. Credit id n ∷ steps) (since_opening k h))) (sym (eqb-true other id p))
+          (credited id n b next (since_opening id h) raised (sym some ∙ follows.balances id positive)))
+          (λ other p. balances-other other (Credit id n) (since_opening other h) (if-other (nat_eq other id) n p) refl);
+    }
 
-fits-kept : (n id : ℕ) (since : Option (List Step)) (o : Option ℤ) → o ≡ option_map (balance_of id) since
-    → IfSome since (λ steps. Fits (pos n +ℤ balance_of id steps)) → IfSome o (λ b. Fits (pos n +ℤ b))
-fits-kept n id None o e h = subst (λ (p : Option ℤ). IfSome p (λ b. Fits (pos n +ℤ b))) (sym e) tt
-fits-kept n id (Some steps) o e h = subst (λ (p : Option ℤ). IfSome p (λ b. Fits (pos n +ℤ b))) (sym e) h
+    pub Follows-credit-connection : (n : ℕ) → ((other : ℕ) → 0 < other → balance w2 other ≡ balance w other)
+        → w2.connection ≡ w.connection + n → w2.initial ≡ w.initial → Follows (Credit 0 n ∷ h) w2
+    Follows-credit-connection n same connection initial = record {
+      connection = omega (arith, ints, follows.connection, connection, sum-more (credit_to 0) (Credit 0 n) h n refl, sum-other spending (Credit 0 n) h refl);
+      initial = initial ∙ follows.initial;
+      balances = λ other there. same other there ∙ follows.balances other there
+          ∙ sym (balances-other other (Credit 0 n) (since_opening other h) (if-other (nat_eq other 0) n (ne_eqb other 0 (λ e. omega (arith, e, there)))) refl);
+    }
 
-none_there : (P : ℤ → Type 0) (o : Option ℤ) → is_some o ≡ false → IfSome o P
-none_there P None e = tt
-none_there P (Some b) e = cc
+    pub Follows-spending : (id n : ℕ) (b next : ℤ) → n ≤ w.connection → balance w id ≡ Some b → next ≡ b -ℤ pos n
+        → ((other : ℕ) → 0 < other → balance w2 other ≡ (if nat_eq other id then Some next else balance w other))
+        → w2.connection ≡ w.connection - n → w2.initial ≡ w.initial → Follows (Spending id n ∷ h) w2
+    Follows-spending id n b next within some lowered sets connection initial = record {
+      connection = omega (arith, ints, follows.connection, connection, within, sum-other (credit_to 0) (Spending id n) h refl, sum-more spending (Spending id n) h n refl);
+      initial = initial ∙ follows.initial;
+      balances = balances-set (Spending id n) id (Some next) w2 sets
+          (λ other p there. subst (λ k. Some next ≡ option_map (balance_of k) (option_map (λ steps. Spending id n ∷ steps) (since_opening k h))) (sym (eqb-true other id p))
+          (spent id n b next (since_opening id h) lowered (sym some ∙ follows.balances id (subst (λ k. 0 < k) (eqb-true other id p) there))))
+          (λ other p. balances-other other (Spending id n) (since_opening other h) refl (if-other (nat_eq other id) n p));
+    }
 
-pub CanResize-fits : (h : List Step) (w : Windows) (n : ℕ) → Follows h w → FitsAt w n → CanResize h n
-CanResize-fits h w n follows fits = (
-  fits.0,
-  λ id positive. fits-found n id (since_opening id h) (balance w id) (follows.balances id positive)
-      (IfSome-lookup_from_All (λ b. Fits (pos n +ℤ b)) (nat_eq id) w.balances fits.1),
-)
+    pub Follows-resizing : (n : ℕ) → ((other : ℕ) → 0 < other → balance w2 other ≡ balance w other)
+        → w2.connection ≡ w.connection → w2.initial ≡ n → Follows (Resizing n ∷ h) w2
+    Follows-resizing n same connection initial = record {
+      connection = ap pos connection ∙ follows.connection ∙ sym (connection-other (Resizing n) h refl refl);
+      initial = initial;
+      balances = λ other there. same other there ∙ follows.balances other there;
+    }
 
-pub fits-CanResize : (h : List Step) (w : Windows) (n : ℕ) → Follows h w → IsDistinct nat_eq (keys_of w.balances) → is_some (balance w 0) ≡ false → CanResize h n → FitsAt w n
-fits-CanResize h w n follows unique apart can = (can.0, All-values_from_lookup nat_eq_equiv (λ b. Fits (pos n +ℤ b)) w.balances unique at)
-  where
-    at : (id : ℕ) → IfSome (lookup (nat_eq id) w.balances) (λ b. Fits (pos n +ℤ b))
-    at zero = none_there (λ b. Fits (pos n +ℤ b)) (balance w 0) apart
-    at (suc id) = let positive : 0 < suc id = omega arith in
-        fits-kept n (suc id) (since_opening (suc id) h) (balance w (suc id)) (follows.balances (suc id) positive) (can.1 (suc id) positive)
+    pub Follows-closing : (id : ℕ) → ((other : ℕ) → 0 < other → balance w2 other ≡ (if nat_eq other id then None else balance w other))
+        → w2.connection ≡ w.connection → w2.initial ≡ w.initial → Follows (Closing id ∷ h) w2
+    Follows-closing id sets connection initial = record {
+      connection = ap pos connection ∙ follows.connection ∙ sym (connection-other (Closing id) h refl refl);
+      initial = initial ∙ follows.initial;
+      balances = balances-set (Closing id) id None w2 sets
+          (λ other p there. sym (ap (λ t. option_map (balance_of other) (if t then None else since_opening other h)) p))
+          (λ other p. ap (λ t. option_map (balance_of other) (if t then None else since_opening other h)) p);
+    }

@@ -13,8 +13,12 @@ code_of NoRoom = 2
 code_of Unknown = 3
 code_of OutOfMemory = 4
 
--- the connection's window, the initial size of a stream's window, and for each open stream its balance: what was
--- credited less what was spent since it was opened
+-- what all streams share: the connection's window, and the initial size of a stream's
+pub record Shared : Type 0 where
+  pub connection : ℕ
+  pub initial : ℕ
+
+-- and for each open stream its balance: what was credited less what was spent since it was opened
 pub record Windows : Type 0 where
   pub connection : ℕ
   pub initial : ℕ
@@ -42,6 +46,9 @@ abbrev pub room : Windows → ℕ → ℕ
 room w id = lesser_if_open w.connection (window w id)
 
 -- a new connection
+abbrev pub new_shared : Shared
+new_shared = record { connection = INITIAL_WINDOW; initial = INITIAL_WINDOW }
+
 abbrev pub new_windows : Windows
 new_windows = record { connection = INITIAL_WINDOW; initial = INITIAL_WINDOW; balances = [] }
 
@@ -60,6 +67,11 @@ closed w id = record w { balances = remove_entry (nat_eq id) w.balances }
 -- a window that is lawful (section 6.9.1)
 abbrev pub Fits : ℤ → Type 0
 Fits size = size ≤ℤ pos MAX_WINDOW
+
+-- what all streams share is lawful
+pub record AreLawful (shared : Shared) : Type 0 where
+  pub connection_fits : shared.connection ≤ MAX_WINDOW
+  pub initial_fits : shared.initial ≤ MAX_WINDOW
 
 -- the initial size n is lawful, and so is every stream's window with it
 abbrev pub FitsAt : Windows → ℕ → Type 0

@@ -1,7 +1,8 @@
 //! Flow control of an HTTP/2 connection, and the states of its streams (RFC 9113, sections 5.1, 5.2 and 6.9).
 //!
 //! `SendWindows` has the windows of what is sent: the connection's, and one for each open stream, which credit raises,
-//! sending lowers, and a new initial size moves.
+//! sending lowers, and a new initial size moves. It is made of a `ConnectionWindow`, which all streams share, and of a map
+//! with a `Balance` for each stream; a caller that has a map of its own keeps the balances in that.
 //!
 //! `Halves` has the receiving half of each stream: it judges the client's frames by what came before them.
 //!
@@ -13,10 +14,12 @@
 #![tactic(auto)]
 
 pub mod book;
+pub mod connection_window;
 pub mod halves;
 pub mod send_windows;
 
 pub use book::{Book, BookFault, Marks};
+pub use connection_window::{Balance, ConnectionWindow};
 pub use halves::{Half, HalfVerdict, Halves};
 pub use send_windows::{SendWindows, WindowFault};
 

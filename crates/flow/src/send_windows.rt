@@ -1,18 +1,18 @@
 //! The windows of what is sent (RFC 9113, section 6.9).
 //!
-//! A window is kept as a balance, so that a new initial size writes one number and not every stream's. The windows are
-//! said twice: each call by an equation on the numbers that are kept, and by what follows from the whole list of
-//! openings, credits, spendings, sizes and closings (`Follows`); `room` is tied to that list alone.
+//! What all streams share is a `ConnectionWindow`, and the balance of each lies in a map. The windows are said twice: each
+//! call by an equation on the numbers that are kept, and by what follows from the whole list of openings, credits,
+//! spendings, sizes and closings (`Follows`); `room` is tied to that list alone.
 
-ghost use Rattle.std.specs.Prelude.{◌≡◌, ◌+◌, ◌-◌, ◌+ℤ◌, ◌-ℤ◌, ◌<◌, ◌≤◌, ◌^◌, ◌≤ℤ◌, min, pos, negsuc, List, [], ◌∷◌, None, IfErr, OnErr, OnOk, is_some, MatchOption, nat_eq, int_le};
+ghost use Rattle.std.specs.Prelude.{◌≡◌, ◌+◌, ◌-◌, ◌+ℤ◌, ◌-ℤ◌, ◌<◌, min, pos, List, [], ◌∷◌, None, IfErr, OnErr, OnOk, is_some, MatchOption, nat_eq, int_le};
 ghost use Rattle.std.specs.List.{list_all};
 ghost use Rattle.std.specs.Map.{values_of};
 ghost use Rattle.indexmap.specs.IndexMap.{IsUnique};
 ghost use Rattle.flow.specs.declared.send_windows.WindowFault.TheVariants.{Overflow, OutOfMemory};
-ghost use Rattle.flow.specs.Windows.{code_of, room, opened, with_balance, closed, balance, Meets, CreditFault, SpendFault, FitsAt, IsBalance, IsLawful, lesser};
+ghost use Rattle.flow.specs.Windows.{code_of, room, opened, with_balance, closed, balance, Meets, CreditFault, SpendFault, FitsAt, IsLawful};
 ghost use Rattle.flow.specs.WindowHistory.{Step, Opening, Credit, Spending, Resizing, Closing, Follows, CanCredit, CanResize, room_after};
 
-use crate::{INITIAL_WINDOW, MAX_WINDOW};
+use crate::{Balance, ConnectionWindow, MAX_WINDOW};
 use h2frame::StreamId;
 use indexmap::IndexMap;
 use std::alloc::{AllocFailed, Global};
@@ -64,9 +64,8 @@ impl<T: Drop> From<AllocFailed<T>> for WindowFault {
 /// spent on it since it was opened. So a smaller initial size can take it below zero (RFC 9113, section 6.9.2).
 #[derive(Drop)]
 pub struct SendWindows {
-    connection: u32,
-    initial: u32,
-    balances: IndexMap<StreamId, i64>,
+    shared: ConnectionWindow,
+    balances: IndexMap<StreamId, Balance>,
 }
 
 impl Model for SendWindows {
@@ -74,9 +73,9 @@ impl Model for SendWindows {
 
     ghost Value = { Windows };
 
-    ghost view = { λ s. record { connection = s.connection; initial = s.initial; balances = s.balances.entries } };
+    ghost view = { λ s. record { connection = s.shared.connection; initial = s.shared.initial; balances = s.balances.entries } };
 
-    ghost invariant = { λ s. IsWithin s.connection s.initial s.balances.entries };
+    ghost invariant = { λ s. IsWithin s.shared.connection s.shared.initial s.balances.entries };
 }
 
 impl SendWindows {
@@ -89,8 +88,7 @@ impl SendWindows {
         ensures law { IsLawful result }
     {
         SendWindows {
-            connection: INITIAL_WINDOW,
-            initial: INITIAL_WINDOW,
+            shared: ConnectionWindow::new(),
             balances: IndexMap::new(alloc),
         }
     }
@@ -105,7 +103,7 @@ impl SendWindows {
         ensures memory { IfErr result (λ fault. fault ≡ OutOfMemory) }
         ensures law { IsLawful self.new }
     {
-        self.balances.insert(id, 0)?;
+        self.balances.insert(id, Balance::new())?;
         Ok(())
     }
 
@@ -121,20 +119,13 @@ impl SendWindows {
         ensures law { IsLawful self.new }
     {
         if id == 0 {
-            if increment > MAX_WINDOW - self.connection {
-                return Err(WindowFault::Overflow);
-            }
-            self.connection += increment;
+            self.shared.credit(increment)?;
             return Ok(());
         }
         let Some(balance) = self.balances.get_mut(&id) else {
             return Err(WindowFault::Unknown);
         };
-        let raised = *balance + i64::from(increment);
-        if raised > i64::from(MAX_WINDOW - self.initial) {
-            return Err(WindowFault::Overflow);
-        }
-        *balance = raised;
+        self.shared.credit_stream(balance, increment)?;
         Ok(())
     }
 
@@ -155,11 +146,10 @@ impl SendWindows {
         if size > MAX_WINDOW {
             return Err(WindowFault::Overflow);
         }
-        let most = i64::from(MAX_WINDOW - size);
-        if !all_at_most(balances, most) {
+        if !all_fit(balances, size) {
             return Err(WindowFault::Overflow);
         }
-        self.initial = size;
+        self.shared.resize(size);
         Ok(())
     }
 
@@ -175,10 +165,10 @@ impl SendWindows {
         let Some(balance) = self.balances.get_mut(&id) else {
             return Err(WindowFault::Unknown);
         };
-        if len > least(self.connection, self.initial, *balance) {
+        if len > self.shared.room(*balance) {
             return Err(WindowFault::NoRoom);
         }
-        take_out(&mut self.connection, balance, len);
+        self.shared.take_out(balance, len);
         Ok(())
     }
 
@@ -195,9 +185,7 @@ impl SendWindows {
         let Some(balance) = self.balances.get_mut(&id) else {
             return 0;
         };
-        let fits = least(self.connection, self.initial, *balance).min(most);
-        take_out(&mut self.connection, balance, fits);
-        fits
+        self.shared.spend_up_to(balance, most)
     }
 
     /// How many bytes may be sent on a stream now: the lesser of both windows, and 0 where either isn't positive or
@@ -207,7 +195,7 @@ impl SendWindows {
         ensures follows { 0 < id → (history : List Step) → Follows history self.now → result ≡ room_after history id }
     {
         match self.balances.get(&id).copied() {
-            Some(balance) => least(self.connection, self.initial, balance),
+            Some(balance) => self.shared.room(balance),
             None => 0,
         }
     }
@@ -229,36 +217,12 @@ impl SendWindows {
     }
 }
 
-/// Whether no balance is over the most.
-fn all_at_most(balances: &IndexMap<StreamId, i64>, most: i64) -> bool
-    ensures value { result ≡ list_all (λ balance. int_le balance most) (values_of balances.now.entries) }
+/// Whether each stream's window with this initial size is at most 2^31 - 1 bytes.
+fn all_fit(balances: &IndexMap<StreamId, Balance>, size: u32) -> bool
+    ensures value { result ≡ list_all (λ balance. int_le (pos size +ℤ balance) (pos MAX_WINDOW)) (values_of balances.now.entries) }
     ensures unique { IsUnique nat_eq balances.now }
 {
     // That no key stands twice is said by `len`.
     let _count = balances.len();
-    balances.values().all(|balance| *balance <= most)
-}
-
-/// What both windows let through.
-fn least(connection: u32, initial: u32, balance: i64) -> u32
-    requires within { IsBalance initial balance }
-    requires size { initial ≤ MAX_WINDOW }
-    ensures { result ≡ lesser connection (pos initial +ℤ balance) }
-{
-    let window = i64::from(initial) + balance;
-    if window <= 0 {
-        return 0;
-    }
-    connection.min(window as u32)
-}
-
-/// Takes bytes that are sent out of both windows.
-fn take_out(connection: &mut u32, balance: &mut i64, len: u32)
-    requires within { len ≤ connection.old }
-    requires least { negsuc (2 ^ 31) ≤ℤ balance.old }
-    ensures connection { connection.new ≡ connection.old - len }
-    ensures balance { balance.new ≡ balance.old -ℤ pos len }
-{
-    *connection -= len;
-    *balance -= i64::from(len);
+    balances.values().all(|balance| balance.fits(size))
 }

@@ -1,42 +1,22 @@
-use Rattle.std.proofs.Common.{sym, refl, ap, ◌∙◌, ◌≡◌, ◌≤◌, Some, arith, nat_eq}
+use Rattle.std.proofs.Common.{◌≡◌, ◌-◌, ◌∙◌, ap, sym, refl, arith}
 use Rattle.std.proofs.lemmas.Int.{ints}
-use Rattle.std.specs.Map.{lookup, set_value}
-use Rattle.std.proofs.lemmas.Map.Steps.{set_value_same}
-use Rattle.flow.proofs.Entries.{apart-set}
+use Rattle.flow.proofs.Entries.{set-same}
 use Rattle.flow.proofs.Balances.{spend_keeps}
-use Rattle.flow.proofs.WindowSteps.{Follows-spending, lesser-within}
-use Rattle.flow.specs.Windows.{Windows}
+use Rattle.flow.specs.Windows.{Shared}
 use Rattle.flow.proofs.send_windows.SendWindows.spend_up_to.Goals as goal
 
 pub invariant_of-self-2 : goal.invariant_of-self-2
 invariant_of-self-2 c =
-    let at : lookup (nat_eq c.args.id) c.self.inside.balances.entries ≡ Some c.in-Some.balance.now = sym c.in-Some.ensures.value in
-    let within : c.min-fits.result ≤ c.least.result = omega arith in
-    record {
-      connection_fits = omega (arith, c.self.invariant.connection_fits);
-      initial_fits = c.self.invariant.initial_fits;
-      each = spend_keeps c.self.inside.balances.entries _ c.args.id c.self.inside.connection c.self.inside.initial c.min-fits.result c.least.result c.in-Some.balance.now _ c.take_out.new.balance
-          (c.get_mut.follows.holds c.take_out.new.balance).0 c.least.ensures within c.self.invariant.initial_fits c.self.invariant.each at
-          (omega (arith, ints))
-          c.take_out.ensures.balance;
-      apart = apart-set c.args.id c.in-Some.balance.now c.take_out.new.balance c.self.inside.balances.entries _ at (c.get_mut.follows.holds c.take_out.new.balance).0 c.self.invariant.apart;
-    }
+    spend_keeps c.self.inside.balances.entries _ c.args.id c.spend_up_to.result c.self.inside.shared c.spend_up_to.new.self c.in-Some.balance.now c.spend_up_to.new.balance c.self.invariant
+    (sym c.in-Some.ensures.value) (c.get_mut.follows.holds c.spend_up_to.new.balance).0 c.spend_up_to.ensures.connection c.spend_up_to.ensures.balance (omega (arith, c.spend_up_to.ensures.value))
 
 pub returns-clause-unchanged : goal.returns-clause-unchanged
 returns-clause-unchanged c = λ none.
-    let connection : c.take_out.new.connection ≡ c.self.inside.connection = c.take_out.ensures.connection ∙ omega (arith, none) in
-    let balance : c.take_out.new.balance ≡ c.in-Some.balance.now = c.take_out.ensures.balance ∙ omega (arith, ints, none) in
-    let same = (c.get_mut.follows.holds c.take_out.new.balance).0 ∙ ap (set_value (nat_eq c.args.id) c.self.inside.balances.entries) balance
-    ∙ set_value_same (nat_eq c.args.id) c.self.inside.balances.entries c.in-Some.balance.now (sym c.in-Some.ensures.value) in rw (connection, same, ← c.self.view_is) refl
-
-pub returns-clause-follows : goal.returns-clause-follows
-returns-clause-follows c =
-    let at : lookup (nat_eq c.args.id) c.self.inside.balances.entries ≡ Some c.in-Some.balance.now = sym c.in-Some.ensures.value in
-    let within : c.min-fits.result ≤ c.least.result = omega arith in
-    let old : Windows = record { connection = c.self.inside.connection; initial = c.self.inside.initial; balances = c.self.inside.balances.entries } in
-    rw (c.take_out.ensures.connection, ← c.self.view_is) (λ history follows. Follows-spending history old follows c.args.id c.min-fits.result c.in-Some.balance.now c.take_out.new.balance (c.get_mut.follows.lender c.take_out.new.balance).entries
-    (lesser-within c.self.inside.connection c.min-fits.result c.least.result _ c.least.ensures within) at
-    (c.get_mut.follows.holds c.take_out.new.balance).0 c.take_out.ensures.balance)
+    let left : c.self.inside.shared.connection - c.spend_up_to.result ≡ c.self.inside.shared.connection = omega (arith, none) in
+    let shared : c.spend_up_to.new.self ≡ c.self.inside.shared = c.spend_up_to.ensures.connection ∙ ap (λ n. let s : Shared = record { connection = n; initial = c.self.inside.shared.initial } in s) left in
+    let balance : c.spend_up_to.new.balance ≡ c.in-Some.balance.now = c.spend_up_to.ensures.balance ∙ omega (arith, ints, none) in
+    let same = set-same c.args.id c.in-Some.balance.now c.spend_up_to.new.balance c.self.inside.balances.entries _ (sym c.in-Some.ensures.value) (c.get_mut.follows.holds c.spend_up_to.new.balance).0 balance in
+    rw (shared, same, ← c.self.view_is) refl
 
 pub returns-clause-law : goal.returns-clause-law
 returns-clause-law c = invariant_of-self-2 c
