@@ -102,7 +102,7 @@ impl<L: Lane<Item = OutItem>, W: ConnWrite> ConnWriter<L, W> {
 
     /// Whether an item of the stream is in hand that a window keeps back.
     pub fn held(&self, id: StreamId) -> bool
-        ensures { result ≡ is_held (open_stream self.now.core id) (room self.now.core.sending.outbound.windows id) }
+        ensures { result ≡ is_held (open_stream self.now.core id) (room self.now.core.sending.outbound.states.windows id) }
     {
         self.core.held(id)
     }

@@ -1,6 +1,7 @@
 -- What a writer keeps of its calls, after a Refuse, a Reset, and what brings no stream and ends none.
-use Rattle.std.proofs.Common.{◌≡◌, ℕ, ◌==◌, ◌⊎◌, inl, inr, refl, sym, ap, subst, ◌∙◌, Bool, true, false, List, [], ◌∷◌, Option, Some, None, append-nil, true≢false}
+use Rattle.std.proofs.Common.{◌≡◌, ℕ, ◌==◌, ◌⊎◌, inl, inr, refl, sym, ap, subst, ◌∙◌, Bool, true, false, List, [], ◌∷◌, ◌++◌, Option, Some, None, append-nil, true≢false}
 use Rattle.std.specs.Prelude.{All, ◌&&◌, ◌||◌, not, is_some, if◌then◌else◌}
+use Rattle.std.specs.List.{list_any}
 use Rattle.std.proofs.lemmas.Bool.{eqb-true, eq-eqb}
 use Rattle.hpack_codec.proofs.HuffmanTable.{and_true}
 use Rattle.std.proofs.lemmas.List.Elements.{All-cons, All-nil}
@@ -16,12 +17,12 @@ use Rattle.outwriter.specs.declared.stream.OpenStream.{OpenStream}
 use Rattle.outwriter.specs.Calls.{is_fresh, is_served, is_called_off, is_dropped}
 use Rattle.outwriter.specs.Runs.{was_reset, is_opened, opens_stream}
 use Rattle.outwriter.specs.CoreChanges.{due_reset, may_write}
-use Rattle.outwriter.specs.States.{SameOver, is_heard, is_reset, knows, over_on}
+use Rattle.outwriter.specs.States.{States, SameButWindows, SameOver, is_heard, is_reset, knows, open_at, over_on}
 use Rattle.outwriter.specs.Histories.{is_stream}
 use Rattle.outwriter.specs.Parts.{Mark}
-use Rattle.outwriter.specs.CallState.{Serves, Takes, MayBeDue, has_reason, none_is_new}
+use Rattle.outwriter.specs.CallState.{Serves, Takes, MayBeDue, has_reason, none_is_new, refuses}
 use Rattle.outwriter.specs.Steps.{Step, Order, Taken}
-use Rattle.outwriter.specs.TableLimits.{limits_of}
+use Rattle.outwriter.specs.TableLimits.{limited_by, limits_of}
 use Rattle.outwriter.proofs.CallSteps.{HeardBy, serves-closed, serves-owing, serves-same, serves-step}
 use Rattle.outwriter.proofs.Others.{later-taken, opened-known, or-true, served-known}
 use Rattle.outwriter.proofs.StateLemmas.{unheard-knows}
@@ -39,6 +40,22 @@ takes-nothing o = record {
   begun = refl;
   block = refl;
   encoder = refl;
+}
+
+-- nothing but windows changes of the streams, and no refusal is due
+pub takes-rest : (more : List Due) (limits : List ℕ) (old new : Outbound) → SameButWindows old.states new.states → new.due.items ≡ old.due.items ++ more
+    → ((id : ℕ) → list_any (refuses id) more ≡ false) → new.begun ≡ old.begun → new.block ≡ old.block → new.encoder ≡ limited_by old.encoder limits
+    → Takes more none_is_new limits old new
+takes-rest more limits old new same due none begun block encoder = record {
+  due = due;
+  knows = λ id. ap (λ (s : States). knows s id) same;
+  heard = λ id. ap (λ (s : States). is_heard s id) same ∙ sym (ap (λ b. b || is_heard old.states id) (none id));
+  resets = λ id. ap (λ (s : States). is_reset s id) same;
+  over = λ k. ap (λ (s : States). over_on s k) same;
+  same_open = λ none. ap (λ (s : States). open_at s) same;
+  begun = begun;
+  block = block;
+  encoder = encoder;
 }
 
 module _ (run : List Step) (o new : Outbound) (streams : OpenStreams) (calls : List (ℕ × List OutItem)) (marks : List (ℕ × Mark)) where

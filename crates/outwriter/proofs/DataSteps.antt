@@ -1,72 +1,65 @@
 -- DATA of a message: how much of it is taken, and what that changes.
-use Rattle.std.proofs.Common.{◌≡◌, ℕ, Bool, true, nat_lt, ◌<◌, ◌≤◌, refl, sym, ap, subst, ◌∙◌, List, [], ◌∷◌, ◌++◌, Option, Some, length, arith}
-use Rattle.std.specs.Prelude.{drop, take, map, IfNone, IfSome, ◌^◌, if◌then◌else◌}
-use Rattle.std.proofs.lemmas.Bool.Decides.{nat_tests}
+use Rattle.std.proofs.Common.{◌≡◌, ℕ, ℤ, ◌<◌, ◌≤◌, refl, sym, ap, subst, ◌∙◌, List, [], ◌∷◌, ◌++◌, Option, Some, length, arith}
+use Rattle.std.specs.Prelude.{drop, take, map, IfNone, IfSome}
 use Rattle.std.proofs.lemmas.List.{length-take-le, take-append-drop}
-use Rattle.flow.specs.Windows.{Windows}
-use Rattle.flow.specs.WindowHistory.{Follows, Spending, room_after}
-use Rattle.flow.specs.WindowHistory.{Step as WindowStep}
+use Rattle.flow.specs.Windows.{Shared, Windows}
 use Rattle.h2frame.specs.declared.frame.Frame.{Frame}
 use Rattle.outwriter.specs.declared.sending.Sending.{Sending}
 use Rattle.outwriter.specs.declared.outbound.Outbound.{Outbound}
 use Rattle.outwriter.specs.declared.stream.Looked.{Looked}
 use Rattle.outwriter.specs.declared.stream.Looked.TheVariants as looked
-use Rattle.outwriter.specs.Data.{TakesFrames, TakesData}
+use Rattle.outwriter.specs.Data.{CutsData, Spends, TakesFrames, TakesData}
 use Rattle.outwriter.specs.Frames.{IsSound, data_frame}
 use Rattle.outwriter.specs.OpenStreams.{HandIs, kept}
 use Rattle.outwriter.specs.Parts.{Mark, Byte, on_stream}
-use Rattle.outwriter.specs.RunState.{IsBetween, Progress, SameButOpen, SameOwn, spent}
+use Rattle.outwriter.specs.RunState.{IsBetween, Progress, SameButOpen, SameOwn}
 use Rattle.outwriter.specs.States.{open_at, owed_on}
 use Rattle.outwriter.specs.Steps.{Written}
 use Rattle.outwriter.specs.StreamLooks.{TellsData, frame_in}
 use Rattle.outwriter.specs.ToldByNow.{Spells, SpellsOf, TellsMore}
 use Rattle.outwriter.proofs.EndSteps.{data-written}
-use Rattle.outwriter.proofs.RunStateSteps.{mirrors-but-open}
+use Rattle.outwriter.proofs.RunStateSteps.{mirrors-but-open, mirrors-moved}
 use Rattle.outwriter.proofs.ServeSteps.{append-nil}
 use Rattle.outwriter.proofs.TellSteps.{plain-tells}
 
 -- ---- what is taken
 
-spent-some : (id len : ℕ) (windows : Windows) (history : List WindowStep) → 0 < len → Follows (Spending id len ∷ history) windows → Follows (spent id len ++ history) windows
-spent-some id len windows history some follows =
-    let is : nat_lt 0 len ≡ true = grind (arith, nat_tests) in
-    subst (λ (b : Bool). Follows ((if b then Spending id len ∷ [] else []) ++ history) windows) (sym is) follows
-
-pub data-taken : (id len : ℕ) (old new : Windows) (message front rest : List ℕ) (frame : Frame)
+pub data-cut : (id len : ℕ) (from to : Shared) (was now : Option ℤ) (message front rest : List ℕ) (frame : Frame)
     → front ≡ take len message → rest ≡ drop len message → len ≤ length message → 0 < len → len ≤ 16384 → frame ≡ data_frame id front
-    → (0 < id → (history : List WindowStep) → Follows history old → len ≤ room_after history id)
-    → ((history : List WindowStep) → Follows history old → Follows (Spending id len ∷ history) new)
-    → TakesData id old new message rest (looked.Frame frame)
-data-taken id len old new message front rest frame is rest_is within some short made fits spends =
+    → Spends from to was now len → CutsData id from to was now message rest (looked.Frame frame)
+data-cut id len from to was now message front rest frame is rest_is within some short made spends =
     let size : length front ≡ len = ap length is ∙ length-take-le len message within in (
       front,
       sym (take-append-drop len message) ∙ ap (λ (l : List ℕ). l ++ drop len message) (sym is) ∙ ap (λ (l : List ℕ). front ++ l) (sym rest_is),
       made,
       omega (arith, size, some),
       omega (arith, size, short),
-      λ positive history follows. subst (λ n. n ≤ room_after history id) (sym size) (fits positive history follows),
-      λ history follows. subst (λ n. Follows (spent id n ++ history) new) (sym size) (spent-some id len new history some (spends history follows)),
+      subst (Spends from to was now) (sym size) spends,
     )
 
 -- ---- what it changes of a writer
 
-same-windows : (o after : Outbound) → after ≡ record o { windows = after.windows; states = record o.states { opened = after.states.opened } } → after.windows ≡ o.windows → SameButOpen o after
-same-windows o after is same = is ∙ ap (λ (w : Windows). record o { windows = w; states = record o.states { opened = after.states.opened } }) same
+same-windows : (o after : Outbound) → after ≡ record o { states = record o.states { opened = after.states.opened; windows = after.states.windows } } → after.states.windows ≡ o.states.windows
+    → SameButOpen o after
+same-windows o after is same = is ∙ ap (λ (w : Windows). record o { states = record o.states { opened = after.states.opened; windows = w } }) same
 
 between-still : (o after : Outbound) → SameButOpen o after → IsBetween o → IsBetween after
 between-still o after same between = subst IsBetween (sym same) (record { begun = between.begun; going = between.going; no_block = between.no_block })
 
 module _ (o after : Outbound) (id : ℕ) (message rest : List ℕ) (between : IsBetween o) (can : TakesFrames o.states id)
-    (is : after ≡ record o { windows = after.windows; states = record o.states { opened = after.states.opened } }) where
-  pub data-progress : (found : Looked) → TakesData id o.windows after.windows message rest found → Progress (frame_in found) o after
+    (is : after ≡ record o { states = record o.states { opened = after.states.opened; windows = after.states.windows } }) where
+  pub data-progress : (found : Looked) → TakesData id o.states.windows after.states.windows message rest found → Progress (frame_in found) o after
   data-progress (looked.Frame frame) takes = λ run m.
-      let next = data-written run o.begun o.gone o.windows after.windows o.due.items o.block o.states id takes.0 frame takes.2 between.begun between.going between.no_block
-      can.not_over can.not_reset takes.3 takes.4 (takes.5 can.stream) takes.6 m in
-      (next.0, mirrors-but-open (Written frame ∷ run) (record o { windows = after.windows }) after is next.1)
+      let next = data-written run o.begun o.gone o.states.windows after.states.windows o.due.items o.block o.states id takes.0 frame takes.2 between.begun between.going between.no_block
+      can.not_over can.not_reset takes.3 takes.4 (takes.5 can.stream) takes.6 m in (
+        next.0,
+        mirrors-but-open (Written frame ∷ run) (record o { states = record o.states { windows = after.states.windows } }) after is
+            (mirrors-moved (Written frame ∷ run) o.begun o.gone after.states.windows after.states.windows o.due.items o.block o.states next.1),
+      )
   data-progress looked.Nothing takes = let same = same-windows o after is takes.1 in (λ run m. mirrors-but-open run o after same m, between-still o after same between)
   data-progress looked.Empty takes = let same = same-windows o after is takes.1 in (λ run m. mirrors-but-open run o after same m, between-still o after same between)
 
-  pub data-sound : (found : Looked) → TakesData id o.windows after.windows message rest found → IfSome (frame_in found) IsSound
+  pub data-sound : (found : Looked) → TakesData id o.states.windows after.states.windows message rest found → IfSome (frame_in found) IsSound
   data-sound (looked.Frame frame) takes = subst IsSound (sym takes.2) (refl, can.number, refl, refl, refl)
   data-sound looked.Nothing takes = tt
   data-sound looked.Empty takes = tt
@@ -74,7 +67,7 @@ module _ (o after : Outbound) (id : ℕ) (message rest : List ℕ) (between : Is
   own-still : SameButOpen o after → SameOwn o after
   own-still same = (ap (λ (x : Outbound). x.due) same, λ k. ap (λ (x : Outbound). owed_on x.states k) same, ap (λ (x : Outbound). x.block) same)
 
-  pub data-own : (found : Looked) → TakesData id o.windows after.windows message rest found → IfNone (frame_in found) (SameOwn o after)
+  pub data-own : (found : Looked) → TakesData id o.states.windows after.states.windows message rest found → IfNone (frame_in found) (SameOwn o after)
   data-own (looked.Frame frame) takes = tt
   data-own looked.Nothing takes = own-still (same-windows o after is takes.1)
   data-own looked.Empty takes = own-still (same-windows o after is takes.1)
@@ -94,8 +87,8 @@ kept-some (byte ∷ bytes) some = refl
 module _ {L In Out Shut : Type 0} where
   pub tells-data : (found : Looked) (old new : Sending L In Out Shut) (id : ℕ) (message rest : List ℕ) → IsBetween old.outbound → TakesFrames old.outbound.states id
       → HandIs id (kept rest) (open_at old.outbound.states) (open_at new.outbound.states)
-      → new.outbound ≡ record old.outbound { windows = new.outbound.windows; states = record old.outbound.states { opened = new.outbound.states.opened } }
-      → TakesData id old.outbound.windows new.outbound.windows message rest found → TellsData id message found old new
+      → new.outbound ≡ record old.outbound { states = record old.outbound.states { opened = new.outbound.states.opened; windows = new.outbound.states.windows } }
+      → TakesData id old.outbound.states.windows new.outbound.states.windows message rest found → TellsData id message found old new
   tells-data (looked.Frame frame) old new id message rest between can hands is takes =
       (takes.0, rest, takes.1, hands, tells-front old.outbound new.outbound id message rest between can is takes.0 frame takes.2, is)
   tells-data looked.Nothing old new id message rest between can hands is takes = (

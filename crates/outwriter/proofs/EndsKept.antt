@@ -13,7 +13,7 @@ use Rattle.outwriter.specs.declared.due.Due.TheVariants as due_kind
 use Rattle.outwriter.specs.declared.stream.OpenStream.{OpenStream}
 use Rattle.outwriter.specs.declared.outbound.Outbound.{Outbound}
 use Rattle.outwriter.specs.Calls.{calls_off, is_called_off, is_dropped, TellEnds}
-use Rattle.outwriter.specs.States.{States, SameOver, SameOwed, SetsEnd, StandAs, is_heard, is_reset, over_on}
+use Rattle.outwriter.specs.States.{States, SameOver, SameOwed, SetsEnd, StandButWindows, is_heard, is_reset, over_on}
 use Rattle.outwriter.specs.Histories.{is_stream, is_over}
 use Rattle.outwriter.specs.RunState.{Ends, HasOver, IsSpent, SameButOpen}
 use Rattle.outwriter.specs.Runs.{resets_stream, was_reset, is_opened}
@@ -131,7 +131,7 @@ still-due : (old new : Outbound) (id : ℕ) → new.due ≡ old.due → is_reset
 still-due old new id due same waits =
     ap (λ due. list_any (is_due_of new.states id) due.items) due ∙ dues-same old.states new.states id same old.due.items ∙ waits
 
-pub same-ends : (old new : Outbound) → new.due ≡ old.due → StandAs old.states new.states → KeepsEnds old new
+pub same-ends : (old new : Outbound) → new.due ≡ old.due → StandButWindows old.states new.states → KeepsEnds old new
 same-ends old new due states id there (inl ended) = inl (ap (λ s. is_some (over_on s id)) states ∙ ended)
 same-ends old new due states id there (inr waits) = inr (still-due old new id due (ap (λ s. is_reset s id) states) waits)
 

@@ -1,3 +1,4 @@
+pub mod BalanceLemmas
 pub mod BlockLemmas
 pub mod CallSteps
 pub mod CallStepsOpen

@@ -164,7 +164,7 @@ module _ {L In Out Shut : Type 0} (got ahead : Out → List OutItem) (run : List
       (ap (λ n. (open_at core.sending.outbound.states) n) number ∙ e) (ap (λ n. is_served n run) number ∙ served) in
       let hand : get_or (aheads ahead core.sending.senders.items) stream.place [] ≡ ahead (get_or core.sending.senders.items k d).1.rx =
       ap (λ n. get_or (aheads ahead core.sending.senders.items) n []) place ∙ get_or-map (λ (c : ℕ × Sender L In Out Shut). ahead c.1.rx) core.sending.senders.items k d [] within in
-      Stuck stream e (subst (IsStuck (room core.sending.outbound.windows id) stream.in_hand) hand (stuck id stream e))
+      Stuck stream e (subst (IsStuck (room core.sending.outbound.states.windows id) stream.in_hand) hand (stuck id stream e))
 
   pub all-no-frame : All (λ call. is_served call.0 run ≡ true → is_stream call.0 ≡ true → HasNoFrame run core call.0 (ahead call.1.rx)) core.sending.senders.items
   all-no-frame k d within served there =

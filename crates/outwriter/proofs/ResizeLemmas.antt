@@ -1,19 +1,18 @@
 -- Initial windows one behind another.
-use Rattle.std.proofs.Common.{◌≡◌, ℕ, ◌≤◌, ◌<◌, ◌+◌, ◌⊎◌, inl, inr, refl, sym, ap, subst, ◌∙◌, List, [], ◌∷◌, ◌++◌, map, take, length, get_or, Option, Some, None, arith, pos, ◌+ℤ◌}
+use Rattle.std.proofs.Common.{◌≡◌, ℕ, ◌≤◌, ◌<◌, ◌+◌, ◌⊎◌, inl, inr, refl, sym, ap, subst, ◌∙◌, List, [], ◌∷◌, ◌++◌, map, take, length, get_or, Option, Some, None, arith, ℤ, pos, ◌+ℤ◌}
 use Rattle.std.specs.Prelude.{max, reverse, All, Contains, IfSome}
-use Rattle.std.specs.Map.{values_of}
 use Rattle.std.proofs.lemmas.Grind.{flat_map-append}
 use Rattle.std.proofs.lemmas.Int.{ints}
 use Rattle.std.proofs.lemmas.List.{append-nil, reverse-append, take_more}
 use Rattle.std.proofs.lemmas.List.Elements.{All-nil, All-push, All-weaker, All-contains, Contains-push, Contains-append_left}
 use Rattle.std.proofs.lemmas.List.Sums.{sum_by-cons}
 use Rattle.indexmap.proofs.ReorderLemmas.{map-reverse}
-use Rattle.flow.specs.Windows.{Windows, Fits, FitsAt}
+use Rattle.flow.specs.Windows.{Windows, Fits, balance}
 use Rattle.flow.specs.WindowHistory.{Step, Resizing, credit_to, spending, since_opening, balance_of, Follows, CanResize}
 use Rattle.h2frame.specs.declared.settings.PeerSetting.{PeerSetting}
 use Rattle.h2frame.specs.declared.settings.PeerSetting.TheVariants.{TableSize, WindowSize}
 use Rattle.outwriter.specs.Histories.{window_size, window_sizes}
-use Rattle.outwriter.specs.Resizes.{IsSeen}
+use Rattle.outwriter.specs.Resizes.{FitsOn, IsSeen}
 
 -- ---- the sizes that were read
 
@@ -65,11 +64,12 @@ fits-smaller g n (Some steps) id below h = omega (arith, ints, below, h)
 pub CanResize-smaller : (history : List Step) (g n : ℕ) → n ≤ g → CanResize history g → CanResize history n
 CanResize-smaller history g n below can = (omega (arith, below, can.0), λ id positive. fits-smaller g n (since_opening id history) id below (can.1 id positive))
 
-pub FitsAt-smaller : (w : Windows) (g n : ℕ) → n ≤ g → FitsAt w g → FitsAt w n
-FitsAt-smaller w g n below fits = (
-  omega (arith, below, fits.0),
-  All-weaker (λ b. Fits (pos g +ℤ b)) (λ b. Fits (pos n +ℤ b)) (λ b h. omega (arith, ints, below, h)) (values_of w.balances) fits.1,
-)
+pub FitsOn-smaller : (w : Windows) (g n : ℕ) → n ≤ g → FitsOn w g → FitsOn w n
+FitsOn-smaller w g n below fits = (omega (arith, below, fits.0), λ id there. by (balance w id) (fits.1 id there))
+  where
+    by : (o : Option ℤ) → IfSome o (λ b. Fits (pos g +ℤ b)) → IfSome o (λ b. Fits (pos n +ℤ b))
+    by None h = tt
+    by (Some b) h = omega (arith, ints, below, h)
 
 -- ---- histories
 

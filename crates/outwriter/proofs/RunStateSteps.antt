@@ -6,6 +6,7 @@ use Rattle.std.proofs.lemmas.Grind.{flat_map-append}
 use Rattle.std.proofs.lemmas.List.Elements.{All-append, All-tail, All-weaker}
 use Rattle.std.proofs.lemmas.List.Sums.{sum_by-cons}
 use Rattle.flow.specs.declared.TheConstants.{MAX_WINDOW}
+use Rattle.flow.specs.WindowHistory.{Follows}
 use Rattle.flow.specs.WindowHistory.{Step as WindowStep}
 use Rattle.flow.specs.Windows.{Windows}
 use Rattle.h2frame.specs.declared.error_code.ErrorCode.{ErrorCode}
@@ -19,7 +20,7 @@ use Rattle.outwriter.specs.declared.states.StreamState.{StreamState}
 use Rattle.outwriter.specs.declared.stream.OpenStream.{OpenStream}
 use Rattle.outwriter.specs.declared.states.StreamState.TheVariants.{NoCall, Call}
 use Rattle.outwriter.specs.declared.states.StreamState.TheVariants.{Reset as StreamReset}
-use Rattle.outwriter.specs.States.{States, StandAs, Grants, SameEnds, SameOver, SameOwed, amount_of, is_paid, is_reset, knows, more, owed_on, pays, state_on}
+use Rattle.outwriter.specs.States.{States, StandAs, Grants, SameButWindows, SameEnds, SameOver, SameOwed, amount_of, is_paid, is_reset, knows, more, owed_on, pays, state_on}
 use Rattle.outwriter.specs.Histories.{Takes, is_stream}
 use Rattle.outwriter.specs.RunState.{Mirrors, HasWindows, HasCredit, HasOver, HasDue, HasBlock, HasOwed, HasResets, HasStates, AreAsked, MirrorsOf, MirrorsOn, SameButOpen, duties_of, resets_of}
 use Rattle.outwriter.specs.Runs.{IsAsked, Fragments, unfinished, granted_by, is_opened, may_owe, opens_stream, owed, due, due_by, told, resets_stream, was_reset}
@@ -248,6 +249,41 @@ mirrors-but-open run o after e m = subst (MirrorsOf run) (sym e) (record {
   stand = stand-but-open run o.states after.states.opened m.stand;
 })
 
+-- how the streams stand is the same with other windows
+pub stand-moved : (run : List Step) (states : States) (windows : Windows) → HasStates run states → HasStates run (record states { windows = windows })
+stand-moved run states windows h = record { over = h.over; silent = h.silent; resets = h.resets; owes = h.owes; no_stream_0 = h.no_stream_0 }
+
+pub mirrors-moved : (run : List Step) (begun gone : Bool) (w windows : Windows) (waiting : List Due) (block : Option HeaderBlock) (states : States)
+    → Mirrors run begun gone w waiting block states → Mirrors run begun gone w waiting block (record states { windows = windows })
+mirrors-moved run begun gone w windows waiting block states m = record {
+  begins = m.begins;
+  goes = m.goes;
+  windows_follow = m.windows_follow;
+  answers = m.answers;
+  goes_on = m.goes_on;
+  not_reset = m.not_reset;
+  credits = m.credits;
+  stand = stand-moved run states windows m.stand;
+}
+
+pub mirrors-rest : (run : List Step) (begun gone : Bool) (w : Windows) (waiting : List Due) (block : Option HeaderBlock) (old new : States) → SameButWindows old new
+    → Mirrors run begun gone w waiting block old → Mirrors run begun gone w waiting block new
+mirrors-rest run begun gone w waiting block old new same m = subst (Mirrors run begun gone w waiting block) (sym same) (mirrors-moved run begun gone w new.windows waiting block old m)
+
+-- a history of the windows is one of others
+pub windows-still : (run : List Step) (begun gone : Bool) (w windows : Windows) (waiting : List Due) (block : Option HeaderBlock) (states : States)
+    → ((history : List WindowStep) → Follows history w → Follows history windows) → Mirrors run begun gone w waiting block states → Mirrors run begun gone windows waiting block states
+windows-still run begun gone w windows waiting block states moves m = record {
+  begins = m.begins;
+  goes = m.goes;
+  windows_follow = (m.windows_follow.0, m.windows_follow.1, moves m.windows_follow.0 m.windows_follow.2);
+  answers = m.answers;
+  goes_on = m.goes_on;
+  not_reset = m.not_reset;
+  credits = m.credits;
+  stand = m.stand;
+}
+
 -- what is kept of the open streams changes
 pub but-open : (o : Outbound) (states : States) → StandAs o.states states → SameButOpen o (record o { states = states })
 but-open o states stands = ap (λ (x : States). record o { states = x }) stands
@@ -363,7 +399,7 @@ grant-led id n run begun gone w waiting block kept left grants ends m = record {
 pub quiet-led : (order : Order) (o : Outbound) → due_by order ≡ [] → ((id : ℕ) → resets_stream id order ≡ false) → ((id : ℕ) → opens_stream id order ≡ false)
     → ((run : List Step) (history : List WindowStep) → Takes run history order history) → MirrorsOn (Taken order) o o
 quiet-led order o none unreset unopened same run m =
-    taken order run _ _ _ _ _ _ _ _ m (nothing-taken run order o.windows (same run) m.windows_follow) (same-due order run o.due.items none m.answers)
+    taken order run _ _ _ _ _ _ _ _ m (nothing-taken run order o.states.windows (same run) m.windows_follow) (same-due order run o.due.items none m.answers)
     (quiet-stand order run o.states unreset unopened m.stand)
 
 -- what was due and obliges to nothing isn't due any more

@@ -6,7 +6,6 @@ use Rattle.std.proofs.lemmas.Grind.{flat_map-append}
 use Rattle.std.proofs.lemmas.List.{map-append}
 use Rattle.account.specs.declared.call.OutItem.{OutItem}
 use Rattle.account.specs.declared.call.OutItem.TheVariants as item
-use Rattle.flow.specs.Windows.{Windows}
 use Rattle.h2frame.specs.declared.frame.Frame.{Frame}
 use Rattle.lists.specs.declared.field.Field.{Field}
 use Rattle.hpack_codec.specs.Codec.{Encoding, Writes}
@@ -32,7 +31,7 @@ use Rattle.outwriter.specs.Steps.{Step, Written}
 use Rattle.outwriter.specs.ToldByNow.{SpellsOf, SameStanding, TellsMore, TellsBlock, block_marks}
 use Rattle.outwriter.proofs.ServeSteps.{append-nil, none-shown}
 use Rattle.outwriter.proofs.EndsKept.{KeepsEnds, heeds-kept, same-ends, block-ends, ends-heard}
-use Rattle.outwriter.proofs.TellStepsOwn.{ends-as, standing-as}
+use Rattle.outwriter.proofs.TellStepsOwn.{ends-as, standing-as, stands-but}
 use Rattle.outwriter.proofs.Others.{later-none, later-written}
 use Rattle.outwriter.proofs.ServeStepsOpen.{Grows, grows-none, grows-one, goes-on, ends}
 use Rattle.outwriter.proofs.RunStateSteps.{mirrors-but-open}
@@ -176,13 +175,13 @@ kept-marks (byte ∷ bytes) = refl
 same-outbound : (old mid : Outbound) → mid ≡ record old { encoder = mid.encoder } → mid.encoder ≡ old.encoder → mid ≡ old
 same-outbound old mid e f = e ∙ ap (λ (x : Option Encoding). record old { encoder = x }) f
 
-data-serves : (run : List Step) (o after : Outbound) (windows : Windows) (streams left : OpenStreams) (calls now : List (ℕ × List OutItem))
+data-serves : (run : List Step) (o after : Outbound) (streams left : OpenStreams) (calls now : List (ℕ × List OutItem))
     (marks : List (ℕ × Mark)) (id place : ℕ) (was : Option (List ℕ)) (news : List OutItem) (bytes front rest : List ℕ) (frame : Frame)
     → shows streams id ≡ Some (place, was) → Grows place news calls now → (bytes_marks was ++ spelled news) ≡ map Byte bytes
     → bytes ≡ front ++ rest → HandIs id (kept rest) streams left
-    → TellsMore frame (on_stream id (map Byte front)) o after → after ≡ record o { windows = windows; states = record o.states { opened = after.states.opened } }
+    → TellsMore frame (on_stream id (map Byte front)) o after → after ≡ record o { states = record o.states { opened = after.states.opened; windows = after.states.windows } }
     → Serves run o streams calls marks → Serves (Written frame ∷ run) after left now (marks ++ on_stream id (map Byte front))
-data-serves run o after windows streams left calls now marks id place was news bytes front rest frame view g bal cut hands tells is s =
+data-serves run o after streams left calls now marks id place was news bytes front rest frame view g bal cut hands tells is s =
     goes-on run (Written frame ∷ run) o after streams left calls now marks id place was (kept rest) (map Byte front) news (λ k. refl) (λ k. refl) (later-written run frame)
     (tells run marks s.spells)
     (ap (λ (x : Outbound). x.due.items) (sym is)) (λ k. ap (λ (x : Outbound). knows x.states k) is) (ends-as o after (ap (λ (x : Outbound). x.states) is))
@@ -298,8 +297,8 @@ module _ {L In Out Shut : Type 0} where
       → ((k : ℕ) → (open_at old.outbound.states) k ≡ None → (open_at new.outbound.states) k ≡ None)
       → Heeds run old.outbound (open_at old.outbound.states) → Heeds run new.outbound (open_at new.outbound.states)
   heeds-still run old new same closed heeds =
-      heeds-look run old new (same-ends old.outbound new.outbound (ap (λ (x : Outbound). x.due) same) (ap (λ (x : Outbound). x.states) same))
-      (standing-as old.outbound new.outbound (ap (λ (x : Outbound). x.states) same)) closed heeds
+      let stands = stands-but old.outbound.states new.outbound.states (ap (λ (x : Outbound). x.states) same) in
+      heeds-look run old new (same-ends old.outbound new.outbound (ap (λ (x : Outbound). x.due) same) stands) (standing-as old.outbound new.outbound stands) closed heeds
 
   -- what was found, in hand or at the sender, and the encoder after it
   pub record Took (got ahead : Out → List OutItem) (old mid : Sending L In Out Shut) (id : ℕ) (found : Polled) : Type 0 where
@@ -391,7 +390,7 @@ module _ {L In Out Shut : Type 0} where
         let tells = subst (λ (x : Outbound). TellsData id bytes (looked.Frame frame) (record mid { outbound = x }) new) same from in (
           h.0 ++ on_stream id (map Byte tells.0),
           subst (λ senders. Serves (Written frame ∷ run) new.outbound (open_at new.outbound.states) (calls got senders.items) (h.0 ++ on_stream id (map Byte tells.0))) (sym senders)
-              (data-serves run old.outbound new.outbound new.outbound.windows (open_at old.outbound.states) (open_at new.outbound.states)
+              (data-serves run old.outbound new.outbound (open_at old.outbound.states) (open_at new.outbound.states)
               (calls got old.senders.items) (calls got mid.senders.items) h.0 id found.0 found.1 found.2 bytes tells.0 tells.1 frame found.3 found.4 found.5 tells.2 tells.3 tells.4 tells.5 h.1),
           heeds-look run old new (same-ends old.outbound new.outbound (ap (λ (x : Outbound). x.due) tells.5) (ap (λ (x : Outbound). x.states) tells.5))
               (standing-as old.outbound new.outbound (ap (λ (x : Outbound). x.states) tells.5))
@@ -406,7 +405,7 @@ module _ {L In Out Shut : Type 0} where
       → Took got ahead old mid id result → result ≡ polled.Block bytes ends_it
       → SameButOpen mid.outbound fin.outbound → Removes id ends_it (open_at mid.outbound.states) (open_at fin.outbound.states) → fin.senders ≡ mid.senders
       → TellsBlock id ends_it bytes frame fin.outbound after → Ends fin.outbound.states id ends_it after.states → SameOwed fin.outbound.states after.states
-      → SameOpen fin.outbound.states after.states → after ≡ record fin.outbound { windows = after.windows; states = after.states; block = after.block }
+      → SameOpen fin.outbound.states after.states → after ≡ record fin.outbound { states = after.states; block = after.block }
       → HoldsOn got (Some frame) old (record fin { outbound = after })
   look-block got ahead old mid fin after id bytes ends_it result frame took is_block outbound removes senders tells over owed same_open is run (marks, s, heeds) =
       let t = subst (λ (p : Polled). Found (shows (open_at old.outbound.states) id) (calls got old.senders.items) (calls got mid.senders.items) (aheads ahead mid.senders.items) old.outbound.encoder mid.outbound.encoder p) is_block took.takes in
@@ -419,8 +418,8 @@ module _ {L In Out Shut : Type 0} where
       let owed_same : SameOwed old.outbound.states after.states = subst (λ (x : Outbound). SameOwed x.states after.states) same owed in
       let ended : Ends old.outbound.states id ends_it after.states =
       ends-from old.outbound.states after.states fin.outbound.states.opened id ends_it (subst (λ (x : Outbound). Ends x.states id ends_it after.states) same over) in
-      let rest : after ≡ record old.outbound { encoder = mid.outbound.encoder; windows = after.windows; states = after.states; block = after.block } =
-      subst (λ (x : Outbound). after ≡ record x { windows = after.windows; states = after.states; block = after.block }) same is in
+      let rest : after ≡ record old.outbound { encoder = mid.outbound.encoder; states = after.states; block = after.block } =
+      subst (λ (x : Outbound). after ≡ record x { states = after.states; block = after.block }) same is in
       let served : Serves (Written frame ∷ run) after (open_at fin.outbound.states) (calls got mid.senders.items) (marks ++ block_marks id found.1 ends_it) =
       head-serves run old.outbound after (open_at old.outbound.states) (open_at fin.outbound.states) (calls got old.senders.items) (calls got mid.senders.items)
       marks id found.0 found.1 ends_it frame found.2 found.3 leaves

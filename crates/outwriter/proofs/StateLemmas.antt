@@ -1,5 +1,5 @@
 -- What writes, swaps and further entries leave of how the streams stand.
-use Rattle.std.proofs.Common.{◌≡◌, ◌≢◌, ℕ, zero, suc, ◌+◌, ◌<◌, ◌≤◌, ◌^◌, ◌⊎◌, inl, inr, Bool, true, false, cond, sym, ap, subst, ◌∙◌, refl, true≢false, List, [], ◌∷◌, length, get_or, Option, Some, None, arith, nat_eq, is_some, swap}
+use Rattle.std.proofs.Common.{◌≡◌, ◌≢◌, ℕ, ℤ, pos, zero, suc, ◌+◌, ◌<◌, ◌≤◌, ◌^◌, ◌⊎◌, inl, inr, Bool, true, false, cond, sym, ap, subst, ◌∙◌, refl, true≢false, List, [], ◌∷◌, ◌++◌, length, get_or, Option, Some, None, arith, nat_eq, is_some, swap}
 use Rattle.std.specs.Map.{lookup, lookup_key, set_value}
 use Rattle.std.specs.Option.{option_map}
 use Rattle.std.specs.Prelude.{◌||◌, ◌&&◌, map, slice_get, if◌then◌else◌, ◌==◌, not, IfSome, IfOk, MatchOption, Result, Ok, Err, OnOk, OnErr}
@@ -9,17 +9,25 @@ use Rattle.std.proofs.lemmas.Bool.Decides.{nat_tests}
 use Rattle.std.proofs.lemmas.Map.Entries.{All-lookup}
 use Rattle.indexmap.specs.IndexMap.{insert_entry, set_value_at}
 use Rattle.indexmap.proofs.ReorderLemmas.{get_or-swap, exchange}
+use Rattle.outwriter.specs.declared.states.Change.{Change}
+use Rattle.outwriter.specs.declared.states.Change.TheVariants as change_by
 use Rattle.outwriter.specs.declared.states.Over.{Over}
 use Rattle.outwriter.specs.declared.states.StreamState.{StreamState}
 use Rattle.outwriter.specs.declared.states.StreamState.TheVariants.{NoCall, Call, Reset}
 use Rattle.outwriter.specs.declared.states.Stream.{Stream}
 use Rattle.outwriter.specs.declared.stream.OpenStream.{OpenStream}
-use Rattle.flow.specs.Windows.{Windows}
+use Rattle.flow.specs.WindowHistory.{Closing, Follows, Opening}
+use Rattle.flow.specs.WindowHistory.{Step as WindowStep}
+use Rattle.flow.specs.Windows.{Shared, Windows}
+use Rattle.flow.specs.declared.send_windows.WindowFault.{WindowFault}
+use Rattle.flow.specs.declared.send_windows.WindowFault.TheVariants.{Unknown}
 use Rattle.outwriter.specs.declared.stream.Hand.{Hand}
 use Rattle.outwriter.specs.declared.stream.Hand.TheVariants.{Shut, Empty, Message}
-use Rattle.outwriter.specs.Data.{TakesFrames, LooksAtEntry, LooksAtHand, LooksAtStream}
-use Rattle.outwriter.specs.OpenStreams.{Closes, HandIs, HandKeeps, OpenStreams, SameHands, Shown, kept, shown, shows, with_hand}
-use Rattle.outwriter.specs.States.{States, Adds, BecomesOpen, Edits, Grants, Hears, Opens, Resets, SameEnds, SameOpen, SameOver, SameOwed, SameStreams, SetsEnd, StandAs, IsShut, can_write, AllFit, IsSettled, IsSettledFrom, IsSettledBut, IsWithin, AreNumbered, Fits, Puts, PutsEntry, PutsState, TakesAt, TakesLast, TakesAll, amount_of, more, open_at, opened_in, opened_of, state_of, states_of, with_state, by_reset, end_of, is_of_call, is_paid, is_heard, is_reset, is_reset_state, knows, over_on, owed_on, pays, state_in, state_on}
+use Rattle.outwriter.specs.declared.stream.Looked.{Looked}
+use Rattle.outwriter.specs.Data.{BeginsAtEntry, BeginsMessage, BeginsOnStream, IsUnsent, LooksAtEntry, LooksAtHand, LooksAtStream, TakesData, TakesFrames}
+use Rattle.outwriter.specs.OpenStreams.{Closes, HandIs, SameHands, Shown, kept, shown, shows, with_hand}
+use Rattle.outwriter.specs.States.{States, Adds, BecomesOpen, Changes, CreditsEntry, CreditsStream, Edits, Grants, Hears, IsAfter, IsChanged, Moves, Opens, PutsAfter, Resets, Rewrites, SameButWindows, SameEnds, SetsBalance, StandButWindows, SameOpen, SameOver, SameOwed, SameStreams, SetsEnd, StandAs, IsShut, can_write, AllFit, IsSettled, IsSettledFrom, IsSettledBut, IsWithin, AreNumbered, Fits, Puts, PutsEntry, TakesAt, TakesLast, TakesAll, amount_of, more, open_at, opened_in, opened_of, state_of, states_of, steps_of, stream_in, balance_after, balance_in, balances_of, opens_window, windows_of, by_reset, end_of, is_of_call, is_paid, is_heard, is_reset, is_reset_state, knows, over_on, owed_on, pays, state_in, state_on}
+use Rattle.outwriter.proofs.BalanceLemmas.{Credited, credit-none, credit-some, data-view, found-balance, found-stays, none-closes, put-closes, put-opens, put-stays, same-balances, unsent-takes}
 
 abbrev Entry : Type 0
 Entry = ℕ × Stream
@@ -178,7 +186,7 @@ written_here (e ∷ es) (suc i) w d within = written_here es i w d (omega (arith
 
 pub taken-length : (old : List Entry) (place : ℕ) (taken : Option (ℕ × ℕ)) (new : List Entry) → TakesAt old place taken new → length new ≡ length old
 taken-length old place None new t = ap length t.0
-taken-length old place (Some taken) new t = ap length t.5 ∙ length-written_at old place (record { state = Call 0 t.0; opened = t.1 })
+taken-length old place (Some taken) new t = ap length t.5 ∙ length-written_at old place (record t.1 { state = Call 0 t.0 })
 
 at_place : (new : List Entry) (place k : ℕ) (d : Entry) → ((e : Entry) → IsSettled (get_or new place e).1) → k ≡ place → IsSettled (get_or new k d).1
 at_place new place k d here e = subst (λ n. IsSettled (get_or new n d).1) (sym e) (here d)
@@ -191,12 +199,12 @@ taken-settled old place n None new t within next settled = λ k d from below. by
     by k d from below true e = subst (λ (l : List Entry). IsSettled (get_or l k d).1) (sym t.0) (at_place old place k d t.1 (eqb-true k place e))
     by k d from below false e = subst (λ (l : List Entry). IsSettled (get_or l k d).1) (sym t.0) (settled k d (grind (arith, nat_tests)) below)
 taken-settled old place n (Some taken) new t within next settled =
-    subst (IsSettledFrom place) (sym t.5) (λ k d from below. by k d from (subst (λ m. k < m) (length-written_at old place (record { state = Call 0 t.0; opened = t.1 })) below) (nat_eq k place) refl)
+    subst (IsSettledFrom place) (sym t.5) (λ k d from below. by k d from (subst (λ m. k < m) (length-written_at old place (record t.1 { state = Call 0 t.0 })) below) (nat_eq k place) refl)
   where
-    by : (k : ℕ) (d : Entry) → place ≤ k → k < length old → (b : Bool) → nat_eq k place ≡ b → IsSettled (get_or (set_value_at old place (record { state = Call 0 t.0; opened = t.1 })) k d).1
-    by k d from below true e = at_place (set_value_at old place (record { state = Call 0 t.0; opened = t.1 })) place k d (λ x. subst IsSettled (sym (written_here old place (record { state = Call 0 t.0; opened = t.1 }) x within)) refl) (eqb-true k place e)
+    by : (k : ℕ) (d : Entry) → place ≤ k → k < length old → (b : Bool) → nat_eq k place ≡ b → IsSettled (get_or (set_value_at old place (record t.1 { state = Call 0 t.0 })) k d).1
+    by k d from below true e = at_place (set_value_at old place (record t.1 { state = Call 0 t.0 })) place k d (λ x. subst IsSettled (sym (written_here old place (record t.1 { state = Call 0 t.0 }) x within)) refl) (eqb-true k place e)
     by k d from below false e =
-        subst (λ (x : Entry). IsSettled x.1) (sym (elsewhere old place (record { state = Call 0 t.0; opened = t.1 }) k d (λ same. true≢false (sym (eq-eqb k place same) ∙ e)))) (settled k d (grind (arith, nat_tests)) below)
+        subst (λ (x : Entry). IsSettled x.1) (sym (elsewhere old place (record t.1 { state = Call 0 t.0 }) k d (λ same. true≢false (sym (eq-eqb k place same) ∙ e)))) (settled k d (grind (arith, nat_tests)) below)
 
 pub within-taken : (connection : ℕ) (old : List Entry) (owing place : ℕ) (taken : Option (ℕ × ℕ)) (new : List Entry) → IsWithin connection old owing
     → TakesLast old place taken new → place ≤ length new → IsSettledFrom place new → IsWithin connection new place
@@ -211,10 +219,10 @@ within-taken connection old owing place None new w t fits settled = record {
 within-taken connection old owing place (Some taken) new w t fits settled = record {
   connection_fits = w.connection_fits;
   place = fits;
-  fit = subst AllFit (sym t.5) (fit-set_at old place (record { state = Call 0 t.0; opened = t.1 }) w.fit (omega arith));
+  fit = subst AllFit (sym t.5) (fit-set_at old place (record t.1 { state = Call 0 t.0 }) w.fit (omega arith));
   settled = settled;
-  apart = apart-puts old taken.0 (record { state = Call 0 t.0; opened = t.1 }) new (not_0 old taken.0 (record { state = Call taken.1 t.0; opened = t.1 }) w.apart t.3) t.4 w.apart;
-  numbered = numbered-puts old taken.0 (record { state = Call 0 t.0; opened = t.1 }) new t.4 (ap is_some t.3) w.numbered;
+  apart = apart-puts old taken.0 (record t.1 { state = Call 0 t.0 }) new (not_0 old taken.0 (record t.1 { state = Call taken.1 t.0 }) w.apart t.3) t.4 w.apart;
+  numbered = numbered-puts old taken.0 (record t.1 { state = Call 0 t.0 }) new t.4 (ap is_some t.3) w.numbered;
 }
 
 all_settled : (es : List Entry) → IsSettledFrom 0 es → (id : ℕ) → amount_of (state_in (state_of (lookup (nat_eq id) es))) ≡ 0
@@ -239,21 +247,21 @@ lookup-mapped {X} {Y} f (e ∷ es) id = by (nat_eq id e.0) (lookup-mapped f es i
     by true rest = refl
     by false rest = rest
 
-pub found-state : (connection : ℕ) (es : List Entry) (id : ℕ) → lookup (nat_eq id) (states_of connection es).streams ≡ state_of (lookup (nat_eq id) es)
-found-state connection es id = lookup-mapped (λ (stream : Stream). stream.state) es id
+pub found-state : (connection : ℕ) (sent : Shared) (es : List Entry) (id : ℕ) → lookup (nat_eq id) (states_of connection sent es).streams ≡ state_of (lookup (nat_eq id) es)
+found-state connection sent es id = lookup-mapped (λ (stream : Stream). stream.state) es id
 
-pub found-open : (connection : ℕ) (es : List Entry) (id : ℕ) → open_at (states_of connection es) id ≡ opened_of (lookup (nat_eq id) es)
-found-open connection es id = ap opened_in (lookup-mapped (λ (stream : Stream). stream.opened) es id) ∙ by (lookup (nat_eq id) es)
+pub found-open : (connection : ℕ) (sent : Shared) (es : List Entry) (id : ℕ) → open_at (states_of connection sent es) id ≡ opened_of (lookup (nat_eq id) es)
+found-open connection sent es id = ap opened_in (lookup-mapped (λ (stream : Stream). stream.opened) es id) ∙ by (lookup (nat_eq id) es)
   where
     by : (o : Option Stream) → opened_in (option_map (λ stream. stream.opened) o) ≡ opened_of o
     by None = refl
     by (Some stream) = refl
 
-pub state-found : (connection : ℕ) (es : List Entry) (id : ℕ) → state_on (states_of connection es) id ≡ state_in (state_of (lookup (nat_eq id) es))
-state-found connection es id = ap state_in (found-state connection es id)
+pub state-found : (connection : ℕ) (sent : Shared) (es : List Entry) (id : ℕ) → state_on (states_of connection sent es) id ≡ state_in (state_of (lookup (nat_eq id) es))
+state-found connection sent es id = ap state_in (found-state connection sent es id)
 
-pub heard-found : (connection : ℕ) (es : List Entry) (id : ℕ) → is_heard (states_of connection es) id ≡ is_some (lookup (nat_eq id) es)
-heard-found connection es id = ap is_some (found-state connection es id) ∙ by (lookup (nat_eq id) es)
+pub heard-found : (connection : ℕ) (sent : Shared) (es : List Entry) (id : ℕ) → is_heard (states_of connection sent es) id ≡ is_some (lookup (nat_eq id) es)
+heard-found connection sent es id = ap is_some (found-state connection sent es id) ∙ by (lookup (nat_eq id) es)
   where
     by : (o : Option Stream) → is_some (state_of o) ≡ is_some o
     by None = refl
@@ -263,31 +271,31 @@ heard-found connection es id = ap is_some (found-state connection es id) ∙ by 
 pub everywhere : {X Y : Type 0} (f g : X → Y) → ((x : X) → f x ≡ g x) → f ≡ g
 everywhere f g same = λ i x. same x i
 
-pub puts-view : (connection : ℕ) (es : List Entry) (id : ℕ) (w : Stream) (new : List Entry) → PutsEntry es id w new → Puts (states_of connection es) id w.state (states_of connection new)
-puts-view connection es id w new puts k = found-state connection new k ∙ ap state_of (puts k) ∙ by (nat_eq id k)
+pub puts-view : (connection : ℕ) (sent : Shared) (es : List Entry) (id : ℕ) (w : Stream) (new : List Entry) → PutsEntry es id w new → Puts (states_of connection sent es) id w.state (states_of connection sent new)
+puts-view connection sent es id w new puts k = found-state connection sent new k ∙ ap state_of (puts k) ∙ by (nat_eq id k)
   where
-    by : (b : Bool) → state_of (if b then Some w else lookup (nat_eq k) es) ≡ (if b then Some w.state else lookup (nat_eq k) (states_of connection es).streams)
+    by : (b : Bool) → state_of (if b then Some w else lookup (nat_eq k) es) ≡ (if b then Some w.state else lookup (nat_eq k) (states_of connection sent es).streams)
     by true = refl
-    by false = sym (found-state connection es k)
+    by false = sym (found-state connection sent es k)
 
 -- where the same is kept of the open stream
-open-view : (connection : ℕ) (es : List Entry) (id : ℕ) (w : Stream) (new : List Entry) → PutsEntry es id w new → opened_of (lookup (nat_eq id) es) ≡ w.opened
-    → SameOpen (states_of connection es) (states_of connection new)
-open-view connection es id w new puts same =
-    everywhere (open_at (states_of connection new)) (open_at (states_of connection es))
-    (λ k. found-open connection new k ∙ ap opened_of (puts k) ∙ by k (nat_eq id k) refl ∙ sym (found-open connection es k))
+open-view : (connection : ℕ) (sent : Shared) (es : List Entry) (id : ℕ) (w : Stream) (new : List Entry) → PutsEntry es id w new → opened_of (lookup (nat_eq id) es) ≡ w.opened
+    → SameOpen (states_of connection sent es) (states_of connection sent new)
+open-view connection sent es id w new puts same =
+    everywhere (open_at (states_of connection sent new)) (open_at (states_of connection sent es))
+    (λ k. found-open connection sent new k ∙ ap opened_of (puts k) ∙ by k (nat_eq id k) refl ∙ sym (found-open connection sent es k))
   where
     by : (k : ℕ) (b : Bool) → nat_eq id k ≡ b → opened_of (if b then Some w else lookup (nat_eq k) es) ≡ opened_of (lookup (nat_eq k) es)
     by k true e = sym same ∙ ap (λ n. opened_of (lookup (nat_eq n) es)) (eqb-true id k e)
     by k false e = refl
 
 -- the connection is owed nothing
-nothing : (es : List Entry) → IsSettledFrom 0 es → (id : ℕ) → owed_on (states_of 0 es) id ≡ 0
-nothing es settled id = by (id == 0)
+nothing : (sent : Shared) (es : List Entry) → IsSettledFrom 0 es → (id : ℕ) → owed_on (states_of 0 sent es) id ≡ 0
+nothing sent es settled id = by (id == 0)
   where
-    by : (b : Bool) → (if b then 0 else amount_of (state_on (states_of 0 es) id)) ≡ 0
+    by : (b : Bool) → (if b then 0 else amount_of (state_on (states_of 0 sent es) id)) ≡ 0
     by true = refl
-    by false = ap amount_of (state-found 0 es id) ∙ all_settled es settled id
+    by false = ap amount_of (state-found 0 sent es id) ∙ all_settled es settled id
 
 -- ---- another state of one stream
 
@@ -342,23 +350,17 @@ module _ (old new : States) (id : ℕ) (state : StreamState) (positive : 0 < id)
   owed-same same k = ap (λ n. if k == 0 then n else amount_of (state_on new k)) connection ∙ ap (λ n. if k == 0 then old.connection else n) (part-same amount_of same k)
 
   -- a call begins
-  pub opens-put : is_of_call (state_on old id) ≡ false → amount_of state ≡ 0 → is_of_call state ≡ true → is_paid state ≡ not (is_reset_state (state_on old id))
-      → is_reset_state state ≡ is_reset_state (state_on old id) → Opens old id new
-  opens-put none amount call paid reset k = (
-    owed-same (amount ∙ sym (nothing-uncalled (state_on old id) none)) k,
+  pub opens-put : IsAfter change_by.Open (state_on old id) state → Opens old id new
+  opens-put (end, amount, call, paid, reset) k = (
+    owed-same amount k,
     part-put is_of_call k ∙ ap (λ b. if k == id then b else knows old k) call,
     pays-put k ∙ ap (λ b. if k == id then b else pays old k) paid,
     part-same is_reset_state reset k,
   )
-    where
-      nothing-uncalled : (before : StreamState) → is_of_call before ≡ false → amount_of before ≡ 0
-      nothing-uncalled (NoCall over) e = refl
-      nothing-uncalled (Call owed over) e = absurd (true≢false e)
-      nothing-uncalled (Reset is_call over) e = refl
 
   -- a stream is reset
-  pub resets-put : amount_of state ≡ 0 → is_of_call state ≡ is_of_call (state_on old id) → is_paid state ≡ false → is_reset_state state ≡ true → Resets old id new
-  resets-put amount call paid reset k = (
+  pub resets-put : IsAfter change_by.Reset (state_on old id) state → Resets old id new
+  resets-put (end, amount, call, paid, reset) k = (
     part-same is_of_call call k,
     owed-put k ∙ ap (λ n. if k == id then n else owed_on old k) amount,
     pays-put k ∙ ap (λ b. if k == id then b else pays old k) paid,
@@ -413,29 +415,36 @@ pub on-ok : {X E : Type 0} (r : Result X E) (P Q : Type 0) → (P → Q) → OnO
 on-ok (Ok x) P Q f h = f h
 on-ok (Err e) P Q f h = tt
 
--- ---- a state that is put, of a stream
+-- ---- a stream that changes
 
-pub put-becomes : (connection : ℕ) (es : List Entry) (id : ℕ) (state : StreamState) (opened : Option OpenStream) (new : List Entry)
-    → PutsEntry es id (with_state state opened (lookup (nat_eq id) es)) new → BecomesOpen (states_of connection es) id opened (states_of connection new)
-put-becomes connection es id state opened new puts k =
-    found-open connection new k ∙ ap opened_of (puts k)
-    ∙ by (lookup (nat_eq id) es) refl (nat_eq id k) (k == id) refl refl
-    ∙ ap (λ b. if not b && (k == id) then opened else open_at (states_of connection es) k) (ap is_some (sym (found-state connection es id)))
+-- no more is owed on it
+after-less : (change : Change) (old new : StreamState) → IsAfter change old new → amount_of new ≤ amount_of old
+after-less change_by.Open old new after = omega (arith, after.1)
+after-less change_by.Hear old new after = omega (arith, after.1)
+after-less change_by.Reset old new after = omega (arith, after.1)
+after-less (change_by.End over) old new after = omega (arith, after.1)
+
+pub put-becomes : (connection : ℕ) (sent : Shared) (es : List Entry) (id : ℕ) (now : Stream) (opened : Option OpenStream) (new : List Entry)
+    → now.opened ≡ (stream_in opened (lookup (nat_eq id) es)).opened → PutsEntry es id now new → BecomesOpen (states_of connection sent es) id opened (states_of connection sent new)
+put-becomes connection sent es id now opened new is puts k =
+    found-open connection sent new k ∙ ap opened_of (puts k)
+    ∙ by (lookup (nat_eq id) es) refl is (nat_eq id k) (k == id) refl refl
+    ∙ ap (λ b. if not b && (k == id) then opened else open_at (states_of connection sent es) k) (ap is_some (sym (found-state connection sent es id)))
   where
     By : Option Stream → Bool → Bool → Type 0
-    By o b c = opened_of (if b then Some (with_state state opened o) else lookup (nat_eq k) es)
-        ≡ (if not (is_some (state_of o)) && c then opened else open_at (states_of connection es) k)
+    By o b c = opened_of (if b then Some now else lookup (nat_eq k) es)
+        ≡ (if not (is_some (state_of o)) && c then opened else open_at (states_of connection sent es) k)
 
-    here : nat_eq id k ≡ true → (o : Option Stream) → lookup (nat_eq id) es ≡ o → opened_of o ≡ open_at (states_of connection es) k
-    here e o found = ap opened_of (sym found) ∙ ap (λ n. opened_of (lookup (nat_eq n) es)) (eqb-true id k e) ∙ sym (found-open connection es k)
+    here : nat_eq id k ≡ true → (o : Option Stream) → lookup (nat_eq id) es ≡ o → opened_of o ≡ open_at (states_of connection sent es) k
+    here e o found = ap opened_of (sym found) ∙ ap (λ n. opened_of (lookup (nat_eq n) es)) (eqb-true id k e) ∙ sym (found-open connection sent es k)
 
-    by : (o : Option Stream) → lookup (nat_eq id) es ≡ o → (b c : Bool) → nat_eq id k ≡ b → (k == id) ≡ c → By o b c
-    by None found true true p q = refl
-    by (Some stream) found true true p q = here p (Some stream) found
-    by None found false false p q = sym (found-open connection es k)
-    by (Some stream) found false false p q = sym (found-open connection es k)
-    by o found true false p q = absurd (true≢false (sym (eq-eqb k id (sym (eqb-true id k p))) ∙ q))
-    by o found false true p q = absurd (true≢false (sym (eq-eqb id k (sym (eqb-true k id q))) ∙ p))
+    by : (o : Option Stream) → lookup (nat_eq id) es ≡ o → now.opened ≡ (stream_in opened o).opened → (b c : Bool) → nat_eq id k ≡ b → (k == id) ≡ c → By o b c
+    by None found e true true p q = e
+    by (Some stream) found e true true p q = e ∙ here p (Some stream) found
+    by None found e false false p q = sym (found-open connection sent es k)
+    by (Some stream) found e false false p q = sym (found-open connection sent es k)
+    by o found e true false p q = absurd (true≢false (sym (eq-eqb k id (sym (eqb-true id k p))) ∙ q))
+    by o found e false true p q = absurd (true≢false (sym (eq-eqb id k (sym (eqb-true k id q))) ∙ p))
 
 -- no stream becomes open by it
 pub becomes-none : (old new : States) (id : ℕ) → BecomesOpen old id None new → (is_heard old id ≡ false → open_at old id ≡ None) → SameOpen old new
@@ -446,41 +455,80 @@ becomes-none old new id becomes shut = everywhere (open_at new) (open_at old) (�
     by k false true p q = sym (ap (λ n. open_at old n) (eqb-true k id q) ∙ shut p)
     by k false false p q = refl
 
-pub unheard-shut : (connection : ℕ) (es : List Entry) (id : ℕ) → is_heard (states_of connection es) id ≡ false → open_at (states_of connection es) id ≡ None
-unheard-shut connection es id e = found-open connection es id ∙ by (lookup (nat_eq id) es) (ap is_some (sym (found-state connection es id)) ∙ e)
+pub unheard-shut : (connection : ℕ) (sent : Shared) (es : List Entry) (id : ℕ) → is_heard (states_of connection sent es) id ≡ false → open_at (states_of connection sent es) id ≡ None
+unheard-shut connection sent es id e = found-open connection sent es id ∙ by (lookup (nat_eq id) es) (ap is_some (sym (found-state connection sent es id)) ∙ e)
   where
     by : (o : Option Stream) → is_some (state_of o) ≡ false → opened_of o ≡ None
     by None f = refl
     by (Some stream) f = absurd (true≢false f)
 
-pub put-same : (connection : ℕ) (es : List Entry) (id : ℕ) (state : StreamState) (opened : Option OpenStream) (new : List Entry)
-    → PutsEntry es id (with_state state opened (lookup (nat_eq id) es)) new → opened ≡ None → SameOpen (states_of connection es) (states_of connection new)
-put-same connection es id state opened new puts none =
-    becomes-none (states_of connection es) (states_of connection new) id
-    (subst (λ (o : Option OpenStream). BecomesOpen (states_of connection es) id o (states_of connection new)) none (put-becomes connection es id state opened new puts))
-    (unheard-shut connection es id)
+module _ (connection : ℕ) (sent : Shared) (es : List Entry) (id : ℕ) (change : Change) (opened : Option OpenStream) (new : List Entry) (changes : Changes es id change opened new) where
+  abbrev former : Stream
+  former = stream_in opened (lookup (nat_eq id) es)
 
--- what is put of a stream
-pub put-puts : (connection : ℕ) (es : List Entry) (id : ℕ) (state : StreamState) (opened : Option OpenStream) (new : List Entry) → PutsState es id state opened new
-    → Puts (states_of connection es) id state (states_of connection new)
-put-puts connection es id state opened new puts =
-    subst (λ (x : StreamState). Puts (states_of connection es) id x (states_of connection new)) (by (lookup (nat_eq id) es))
-    (puts-view connection es id (with_state state opened (lookup (nat_eq id) es)) new puts.0)
-  where
-    by : (o : Option Stream) → (with_state state opened o).state ≡ state
-    by None = refl
-    by (Some stream) = refl
+  state-was : former.state ≡ state_on (states_of connection sent es) id
+  state-was = by (lookup (nat_eq id) es) ∙ sym (state-found connection sent es id)
+    where
+      by : (o : Option Stream) → (stream_in opened o).state ≡ state_in (state_of o)
+      by None = refl
+      by (Some stream) = refl
 
-pub put-within : {X E : Type 0} (connection : ℕ) (es : List Entry) (owing id : ℕ) (state : StreamState) (opened : Option OpenStream) (r : Result X E) (new : List Entry)
-    → IsWithin connection es owing → 0 < id → id < 2 ^ 31 → amount_of state ≤ amount_of (state_on (states_of connection es) id)
-    → OnOk r (PutsState es id state opened new) → OnErr r (new ≡ es) → IsWithin connection new owing
-put-within connection es owing id state opened (Ok x) new w positive small less puts same =
-    within-put connection es owing id (with_state state opened (lookup (nat_eq id) es)) new w positive small (by (lookup (nat_eq id) es) (ap amount_of (state-found connection es id))) puts.0 puts.1
-  where
-    by : (o : Option Stream) → amount_of (state_on (states_of connection es) id) ≡ amount_of (state_in (state_of o)) → amount_of (with_state state opened o).state ≤ amount_of (state_in (state_of o))
-    by None e = omega (arith, less, e)
-    by (Some stream) e = omega (arith, less, e)
-put-within connection es owing id state opened (Err e) new w positive small less puts same = subst (λ (l : List Entry). IsWithin connection l owing) (sym same) w
+  balance-was : former.balance ≡ balance_in (lookup (nat_eq id) es)
+  balance-was = by (lookup (nat_eq id) es)
+    where
+      by : (o : Option Stream) → (stream_in opened o).balance ≡ balance_in o
+      by None = refl
+      by (Some stream) = refl
+
+  after-was : IsAfter change (state_on (states_of connection sent es) id) changes.0.state
+  after-was = subst (λ (x : StreamState). IsAfter change x changes.0.state) state-was changes.1.1
+
+  pub change-puts : PutsAfter change (states_of connection sent es) id (states_of connection sent new)
+  change-puts = (changes.0.state, after-was, puts-view connection sent es id changes.0 new changes.2)
+
+  pub change-becomes : BecomesOpen (states_of connection sent es) id opened (states_of connection sent new)
+  change-becomes = put-becomes connection sent es id changes.0 opened new changes.1.0 changes.2
+
+  pub change-same : opened ≡ None → SameOpen (states_of connection sent es) (states_of connection sent new)
+  change-same none =
+      becomes-none (states_of connection sent es) (states_of connection sent new) id
+      (subst (λ (o : Option OpenStream). BecomesOpen (states_of connection sent es) id o (states_of connection sent new)) none change-becomes)
+      (unheard-shut connection sent es id)
+
+  pub change-within : (owing : ℕ) → IsWithin connection es owing → 0 < id → id < 2 ^ 31 → IsWithin connection new owing
+  change-within owing w positive small =
+      within-put connection es owing id changes.0 new w positive small
+      (subst (λ n. amount_of changes.0.state ≤ n) (ap amount_of (state-found connection sent es id)) (after-less change (state_on (states_of connection sent es) id) changes.0.state after-was))
+      changes.2 changes.3
+
+  pub change-moves : Moves (states_of connection sent es) (steps_of change (states_of connection sent es) id) (states_of connection sent new)
+  change-moves = by change changes.1.2
+    where
+      mapped : (o : Option Over) → is_some o ≡ is_some (option_map by_reset o)
+      mapped None = refl
+      mapped (Some over) = refl
+
+      opens : (not (is_some (end_of former.state)) && not (is_some former.balance)) ≡ opens_window (states_of connection sent es) id
+      opens = ap (λ (x : StreamState). not (is_some (end_of x)) && not (is_some former.balance)) state-was
+          ∙ ap (λ b. not b && not (is_some former.balance)) (mapped (end_of (state_on (states_of connection sent es) id)))
+          ∙ ap (λ b. not (is_some (over_on (states_of connection sent es) id)) && not (is_some b)) (balance-was ∙ sym (found-balance sent es id))
+
+      open-by : (b : Bool) → changes.0.balance ≡ (if b then Some (pos 0) else former.balance) → (h : List WindowStep) → Follows h (windows_of sent es)
+          → Follows ((if b then Opening id ∷ [] else []) ++ h) (windows_of sent new)
+      open-by true is = put-opens sent es id changes.0 new changes.2 is
+      open-by false is = put-stays sent es id changes.0 new changes.2 (is ∙ balance-was)
+
+      by : (c : Change) → changes.0.balance ≡ balance_after c former.state former.balance → (h : List WindowStep) → Follows h (windows_of sent es)
+          → Follows (steps_of c (states_of connection sent es) id ++ h) (windows_of sent new)
+      by change_by.Open is = open-by (opens_window (states_of connection sent es) id) (is ∙ ap (λ b. if b then Some (pos 0) else former.balance) opens)
+      by change_by.Hear is = put-stays sent es id changes.0 new changes.2 (is ∙ balance-was)
+      by change_by.Reset is = put-closes sent es id changes.0 new changes.2 is
+      by (change_by.End over) is = put-closes sent es id changes.0 new changes.2 is
+
+pub changed-within : {X E : Type 0} (connection : ℕ) (sent : Shared) (es : List Entry) (owing id : ℕ) (change : Change) (opened : Option OpenStream) (r : Result X E) (new : List Entry)
+    → IsWithin connection es owing → 0 < id → id < 2 ^ 31 → OnOk r (Changes es id change opened new) → OnErr r (new ≡ es) → IsWithin connection new owing
+changed-within connection sent es owing id change opened (Ok x) new w positive small changes same = change-within connection sent es id change opened new changes owing w positive small
+changed-within connection sent es owing id change opened (Err e) new w positive small changes same = subst (λ (l : List Entry). IsWithin connection l owing) (sym same) w
 
 -- ---- what is kept of an open stream changes
 
@@ -509,112 +557,221 @@ put-there (e ∷ es) id w was found k = by (λ h. put-there es id w was h k) (na
     by rest false true false p q r at = ap (λ x. cond x (Some e.1) (lookup (nat_eq k) (set_value (nat_eq id) es w))) q
     by rest false false c p q r at = ap (λ x. cond x (Some e.1) (lookup (nat_eq k) (set_value (nat_eq id) es w))) q ∙ rest at ∙ ap (λ x. if x then Some w else lookup (nat_eq k) es) r
 
--- the state of a stream that is there is put
-pub put-state : (es : List Entry) (id : ℕ) (state : StreamState) (opened : Option OpenStream) (was : Stream) (new : List Entry) → lookup (nat_eq id) es ≡ Some was
-    → new ≡ set_value (nat_eq id) es (record was { state = state }) → PutsState es id state opened new
-put-state es id state opened was new found is =
-    let w : Stream = record was { state = state } in
-    let here : with_state state opened (lookup (nat_eq id) es) ≡ w = ap (with_state state opened) found in
-    subst (λ (x : Stream). PutsEntry es id x new × (new ≡ insert_entry nat_eq es id x)) (sym here) (
-      subst (PutsEntry es id w) (sym is) (put-there es id w was found),
-      is ∙ put-found es id w was found,
-    )
+-- a stream that is there changes
+pub changed-there : (es : List Entry) (id : ℕ) (change : Change) (opened : Option OpenStream) (was now : Stream) (new : List Entry) → lookup (nat_eq id) es ≡ Some was
+    → new ≡ set_value (nat_eq id) es now → IsChanged change was now → Changes es id change opened new
+changed-there es id change opened was now new found is changed = (
+  now,
+  subst (λ (o : Option Stream). IsChanged change (stream_in opened o) now) (sym found) changed,
+  subst (PutsEntry es id now) (sym is) (put-there es id now was found),
+  is ∙ put-found es id now was found,
+)
 
--- one that isn't there is
-pub put-new : (es : List Entry) (id : ℕ) (state : StreamState) (opened : Option OpenStream) (new : List Entry) → lookup (nat_eq id) es ≡ None
-    → PutsEntry es id (record { state = state; opened = opened }) new → new ≡ insert_entry nat_eq es id (record { state = state; opened = opened }) → PutsState es id state opened new
-put-new es id state opened new found puts is =
-    let here : with_state state opened (lookup (nat_eq id) es) ≡ record { state = state; opened = opened } = ap (with_state state opened) found in
-    subst (λ (x : Stream). PutsEntry es id x new × (new ≡ insert_entry nat_eq es id x)) (sym here) (puts, is)
+abbrev with_part : {Y : Type 0} → (Stream → Y) → Entry → ℕ × Y
+with_part f e = (e.0, f e.1)
 
-abbrev state_entry : Entry → ℕ × StreamState
-state_entry e = (e.0, e.1.state)
-
--- the states stay
-same-states : (es : List Entry) (id : ℕ) (w : Stream) (was : Stream) → lookup (nat_eq id) es ≡ Some was → w.state ≡ was.state
-    → map state_entry (set_value (nat_eq id) es w) ≡ map state_entry es
-same-states [] id w was found same = refl
-same-states (e ∷ es) id w was found same = by (λ h. same-states es id w was h same) (nat_eq id e.0) found
+-- what is the same of a stream that is written is the same of all
+same-mapped : {Y : Type 0} (f : Stream → Y) (es : List Entry) (id : ℕ) (w was : Stream) → lookup (nat_eq id) es ≡ Some was → f w ≡ f was
+    → map (with_part f) (set_value (nat_eq id) es w) ≡ map (with_part f) es
+same-mapped f [] id w was found same = refl
+same-mapped {Y} f (e ∷ es) id w was found same = by (λ h. same-mapped f es id w was h same) (nat_eq id e.0) found
   where
     some-is : (a b : Stream) → Some a ≡ Some b → a ≡ b
     some-is a b q = cc
 
-    by : (lookup (nat_eq id) es ≡ Some was → map state_entry (set_value (nat_eq id) es w) ≡ map state_entry es)
+    by : (lookup (nat_eq id) es ≡ Some was → map (with_part f) (set_value (nat_eq id) es w) ≡ map (with_part f) es)
         → (b : Bool) → cond b (Some e.1) (lookup (nat_eq id) es) ≡ Some was
-        → map state_entry (cond b ((e.0, w) ∷ es) (e ∷ set_value (nat_eq id) es w)) ≡ (e.0, e.1.state) ∷ map state_entry es
-    by rest true at = ap (λ (x : StreamState). (e.0, x) ∷ map state_entry es) (same ∙ ap (λ (x : Stream). x.state) (sym (some-is e.1 was at)))
-    by rest false at = ap (λ (l : List (ℕ × StreamState)). (e.0, e.1.state) ∷ l) (rest at)
+        → map (with_part f) (cond b ((e.0, w) ∷ es) (e ∷ set_value (nat_eq id) es w)) ≡ (e.0, f e.1) ∷ map (with_part f) es
+    by rest true at = ap (λ (y : Y). (e.0, y) ∷ map (with_part f) es) (same ∙ ap f (sym (some-is e.1 was at)))
+    by rest false at = ap (λ (l : List (ℕ × Y)). (e.0, f e.1) ∷ l) (rest at)
 
-pub edit-stands : (connection : ℕ) (es : List Entry) (id : ℕ) (new : List Entry) → Edits es id new → StandAs (states_of connection es) (states_of connection new)
-edit-stands connection es id new (inl e) = subst (λ (l : List Entry). StandAs (states_of connection es) (states_of connection l)) (sym e) refl
-edit-stands connection es id new (inr (was, opened, found, is)) =
-    subst (λ (l : List Entry). StandAs (states_of connection es) (states_of connection l)) (sym is)
-    (ap (λ (l : List (ℕ × StreamState)). record { connection = connection; streams = l; opened = (states_of connection (set_value (nat_eq id) es (record was { opened = opened }))).opened })
-    (same-states es id (record was { opened = opened }) was found refl))
+same-states : (es : List Entry) (id : ℕ) (w was : Stream) → lookup (nat_eq id) es ≡ Some was → w.state ≡ was.state
+    → map (with_part (λ (x : Stream). x.state)) (set_value (nat_eq id) es w) ≡ map (with_part (λ (x : Stream). x.state)) es
+same-states es id w was found same = same-mapped (λ (x : Stream). x.state) es id w was found same
+
+-- but for what is open and the windows, all is the same
+pub rewrite-stands : (connection : ℕ) (from to : Shared) (es : List Entry) (id : ℕ) (new : List Entry) → Rewrites es id new → StandButWindows (states_of connection from es) (states_of connection to new)
+rewrite-stands connection from to es id new (inl e) = subst (λ (l : List Entry). StandButWindows (states_of connection from es) (states_of connection to l)) (sym e) refl
+rewrite-stands connection from to es id new (inr (was, now, found, same, is)) =
+    subst (λ (l : List Entry). StandButWindows (states_of connection from es) (states_of connection to l)) (sym is)
+    (ap (λ (l : List (ℕ × StreamState)). let after : States = states_of connection to (set_value (nat_eq id) es now) in record after { streams = l }) (same-states es id now was found same))
+
+rewritten : (es : List Entry) (id : ℕ) (new : List Entry) → Edits es id new → Rewrites es id new
+rewritten es id new (inl e) = inl e
+rewritten es id new (inr (was, opened, found, is)) = inr (was, record was { opened = opened }, found, refl, is)
+
+pub edit-stands : (connection : ℕ) (sent : Shared) (es : List Entry) (id : ℕ) (new : List Entry) → Edits es id new → StandAs (states_of connection sent es) (states_of connection sent new)
+edit-stands connection sent es id new edits =
+    rewrite-stands connection sent sent es id new (rewritten es id new edits)
+    ∙ ap (λ (l : List (ℕ × ℤ)). let old : States = states_of connection sent es in let w : Windows = record { connection = sent.connection; initial = sent.initial; balances = l } in
+    record old { opened = (states_of connection sent new).opened; windows = w }) (same edits)
+  where
+    same : Edits es id new → balances_of new ≡ balances_of es
+    same (inl e) = ap balances_of e
+    same (inr (was, opened, found, is)) = ap balances_of is ∙ same-balances es id (record was { opened = opened }) was found refl
+
+-- but for the windows, all is the same where no more than the balance of a stream is written
+pub balance-stands : (connection : ℕ) (from to : Shared) (es : List Entry) (id : ℕ) (was : Stream) (kept : Option ℤ) (new : List Entry) → lookup (nat_eq id) es ≡ Some was
+    → new ≡ set_value (nat_eq id) es (record was { balance = kept }) → SameButWindows (states_of connection from es) (states_of connection to new)
+balance-stands connection from to es id was kept new found is =
+    rewrite-stands connection from to es id new (inr (was, record was { balance = kept }, found, refl, is))
+    ∙ ap (λ (l : List (ℕ × Option OpenStream)). let old : States = states_of connection from es in record old { opened = l; windows = windows_of to new })
+    (ap (map (with_part (λ (x : Stream). x.opened))) is ∙ same-mapped (λ (x : Stream). x.opened) es id (record was { balance = kept }) was found refl)
+
+pub rewrite-within : (connection : ℕ) (es : List Entry) (owing id : ℕ) (new : List Entry) → Rewrites es id new → IsWithin connection es owing → IsWithin connection new owing
+rewrite-within connection es owing id new (inl e) w = subst (λ (l : List Entry). IsWithin connection l owing) (sym e) w
+rewrite-within connection es owing id new (inr (was, now, found, same, is)) w =
+    within-put connection es owing id now new w (not_0 es id was w.apart found) (w.numbered id (ap is_some found))
+    (subst (λ (o : Option Stream). amount_of now.state ≤ amount_of (state_in (state_of o))) (sym found) (omega (arith, ap amount_of same)))
+    (subst (PutsEntry es id now) (sym is) (put-there es id now was found)) (is ∙ put-found es id now was found)
+
+pub balance-within : (connection : ℕ) (es : List Entry) (owing id : ℕ) (was : Stream) (kept : Option ℤ) (new : List Entry) → lookup (nat_eq id) es ≡ Some was
+    → new ≡ set_value (nat_eq id) es (record was { balance = kept }) → IsWithin connection es owing → IsWithin connection new owing
+balance-within connection es owing id was kept new found is w = rewrite-within connection es owing id new (inr (was, record was { balance = kept }, found, refl, is)) w
 
 pub edit-within : (connection : ℕ) (es : List Entry) (owing id : ℕ) (new : List Entry) → Edits es id new → IsWithin connection es owing → IsWithin connection new owing
-edit-within connection es owing id new (inl e) w = subst (λ (l : List Entry). IsWithin connection l owing) (sym e) w
-edit-within connection es owing id new (inr (was, opened, found, is)) w =
-    let stream : Stream = record was { opened = opened } in
-    within-put connection es owing id stream new w (not_0 es id was w.apart found) (w.numbered id (ap is_some found))
-    (subst (λ (o : Option Stream). amount_of was.state ≤ amount_of (state_in (state_of o))) (sym found) (omega arith))
-    (subst (PutsEntry es id stream) (sym is) (put-there es id stream was found)) (is ∙ put-found es id stream was found)
+edit-within connection es owing id new edits w = rewrite-within connection es owing id new (rewritten es id new edits) w
 
 -- of the other streams nothing does
-pub edit-elsewhere : (connection : ℕ) (es : List Entry) (id : ℕ) (new : List Entry) → Edits es id new → (k : ℕ) → (k == id) ≡ false
-    → open_at (states_of connection new) k ≡ open_at (states_of connection es) k
-edit-elsewhere connection es id new (inl e) k apart = ap (λ (l : List Entry). open_at (states_of connection l) k) e
-edit-elsewhere connection es id new (inr (was, opened, found, is)) k apart =
-    found-open connection new k ∙ ap (λ (l : List Entry). opened_of (lookup (nat_eq k) l)) is
-    ∙ ap opened_of (put-there es id (record was { opened = opened }) was found k)
-    ∙ by (nat_eq id k) refl ∙ sym (found-open connection es k)
+edit-elsewhere : (connection : ℕ) (sent : Shared) (es : List Entry) (id : ℕ) (new : List Entry) → Rewrites es id new → (k : ℕ) → (k == id) ≡ false
+    → open_at (states_of connection sent new) k ≡ open_at (states_of connection sent es) k
+edit-elsewhere connection sent es id new (inl e) k apart = ap (λ (l : List Entry). open_at (states_of connection sent l) k) e
+edit-elsewhere connection sent es id new (inr (was, now, found, same, is)) k apart =
+    found-open connection sent new k ∙ ap (λ (l : List Entry). opened_of (lookup (nat_eq k) l)) is
+    ∙ ap opened_of (put-there es id now was found k)
+    ∙ by (nat_eq id k) refl ∙ sym (found-open connection sent es k)
   where
-    by : (b : Bool) → nat_eq id k ≡ b → opened_of (if b then Some (record was { opened = opened }) else lookup (nat_eq k) es) ≡ opened_of (lookup (nat_eq k) es)
+    by : (b : Bool) → nat_eq id k ≡ b → opened_of (if b then Some now else lookup (nat_eq k) es) ≡ opened_of (lookup (nat_eq k) es)
     by true e = absurd (true≢false (sym (eq-eqb k id (sym (eqb-true id k e))) ∙ apart))
     by false e = refl
 
 -- what is shown of it is as said, and of the others as before
-pub edit-shows : (connection : ℕ) (es : List Entry) (id : ℕ) (new : List Entry) (f : Shown → Shown) → Edits es id new
+pub rewrite-shows : (connection : ℕ) (sent : Shared) (es : List Entry) (id : ℕ) (new : List Entry) (f : Shown → Shown) → Rewrites es id new
     → shown (opened_of (lookup (nat_eq id) new)) ≡ f (shown (opened_of (lookup (nat_eq id) es)))
-    → (k : ℕ) → shows (open_at (states_of connection new)) k ≡ (if k == id then f (shows (open_at (states_of connection es)) k) else shows (open_at (states_of connection es)) k)
-edit-shows connection es id new f edits here k = by (k == id) refl
+    → (k : ℕ) → shows (open_at (states_of connection sent new)) k ≡ (if k == id then f (shows (open_at (states_of connection sent es)) k) else shows (open_at (states_of connection sent es)) k)
+rewrite-shows connection sent es id new f edits here k = by (k == id) refl
   where
     by : (b : Bool) → (k == id) ≡ b
-        → shows (open_at (states_of connection new)) k ≡ (if b then f (shows (open_at (states_of connection es)) k) else shows (open_at (states_of connection es)) k)
-    by false p = ap shown (edit-elsewhere connection es id new edits k p)
+        → shows (open_at (states_of connection sent new)) k ≡ (if b then f (shows (open_at (states_of connection sent es)) k) else shows (open_at (states_of connection sent es)) k)
+    by false p = ap shown (edit-elsewhere connection sent es id new edits k p)
     by true p =
         let same : k ≡ id = eqb-true k id p in
-        ap shown (found-open connection new k) ∙ ap (λ n. shown (opened_of (lookup (nat_eq n) new))) same ∙ here
-        ∙ ap (λ n. f (shown (opened_of (lookup (nat_eq n) es)))) (sym same) ∙ ap (λ o. f (shown o)) (sym (found-open connection es k))
+        ap shown (found-open connection sent new k) ∙ ap (λ n. shown (opened_of (lookup (nat_eq n) new))) same ∙ here
+        ∙ ap (λ n. f (shown (opened_of (lookup (nat_eq n) es)))) (sym same) ∙ ap (λ o. f (shown o)) (sym (found-open connection sent es k))
 
-pub edit-closes : (connection : ℕ) (es : List Entry) (id : ℕ) (new : List Entry) → Edits es id new → opened_of (lookup (nat_eq id) new) ≡ None
-    → Closes id (open_at (states_of connection es)) (open_at (states_of connection new))
-edit-closes connection es id new edits none k = by (k == id) refl
+pub edit-shows : (connection : ℕ) (sent : Shared) (es : List Entry) (id : ℕ) (new : List Entry) (f : Shown → Shown) → Edits es id new
+    → shown (opened_of (lookup (nat_eq id) new)) ≡ f (shown (opened_of (lookup (nat_eq id) es)))
+    → (k : ℕ) → shows (open_at (states_of connection sent new)) k ≡ (if k == id then f (shows (open_at (states_of connection sent es)) k) else shows (open_at (states_of connection sent es)) k)
+edit-shows connection sent es id new f edits here = rewrite-shows connection sent es id new f (rewritten es id new edits) here
+
+pub edit-closes : (connection : ℕ) (sent : Shared) (es : List Entry) (id : ℕ) (new : List Entry) → Edits es id new → opened_of (lookup (nat_eq id) new) ≡ None
+    → Closes id (open_at (states_of connection sent es)) (open_at (states_of connection sent new))
+edit-closes connection sent es id new edits none k = by (k == id) refl
   where
-    by : (b : Bool) → (k == id) ≡ b → open_at (states_of connection new) k ≡ (if b then None else open_at (states_of connection es) k)
-    by false p = edit-elsewhere connection es id new edits k p
-    by true p = found-open connection new k ∙ ap (λ n. opened_of (lookup (nat_eq n) new)) (eqb-true k id p) ∙ none
+    by : (b : Bool) → (k == id) ≡ b → open_at (states_of connection sent new) k ≡ (if b then None else open_at (states_of connection sent es) k)
+    by false p = edit-elsewhere connection sent es id new (rewritten es id new edits) k p
+    by true p = found-open connection sent new k ∙ ap (λ n. opened_of (lookup (nat_eq n) new)) (eqb-true k id p) ∙ none
+
+-- ---- the balance of a window is written
+
+module _ (connection : ℕ) (sent : Shared) (es : List Entry) (owing id : ℕ) (new : List Entry) (sets : SetsBalance es id None new) where
+  abbrev Unset : Option Stream → Type 0
+  Unset o = MatchOption o (new ≡ es) (λ was. new ≡ set_value (nat_eq id) es (record was { balance = None }))
+
+  pub closed-stands : SameButWindows (states_of connection sent es) (states_of connection sent new)
+  closed-stands = by (lookup (nat_eq id) es) refl sets
+    where
+      by : (o : Option Stream) → lookup (nat_eq id) es ≡ o → Unset o → SameButWindows (states_of connection sent es) (states_of connection sent new)
+      by None none is =
+          let same : SameButWindows (states_of connection sent es) (states_of connection sent es) = refl in
+          subst (λ (l : List Entry). SameButWindows (states_of connection sent es) (states_of connection sent l)) (sym is) same
+      by (Some was) found is = balance-stands connection sent sent es id was None new found is
+
+  pub closed-within : IsWithin connection es owing → IsWithin connection new owing
+  closed-within w = by (lookup (nat_eq id) es) refl sets
+    where
+      by : (o : Option Stream) → lookup (nat_eq id) es ≡ o → Unset o → IsWithin connection new owing
+      by None none is = subst (λ (l : List Entry). IsWithin connection l owing) (sym is) w
+      by (Some was) found is = balance-within connection es owing id was None new found is w
+
+  pub closed-moves : Moves (states_of connection sent es) (Closing id ∷ []) (states_of connection sent new)
+  closed-moves = by (lookup (nat_eq id) es) refl sets
+    where
+      by : (o : Option Stream) → lookup (nat_eq id) es ≡ o → Unset o → (h : List WindowStep) → Follows h (windows_of sent es) → Follows (Closing id ∷ h) (windows_of sent new)
+      by None none is = subst (λ (l : List Entry). (h : List WindowStep) → Follows h (windows_of sent es) → Follows (Closing id ∷ h) (windows_of sent l)) (sym is) (none-closes sent es id none)
+      by (Some was) found is =
+          put-closes sent es id (record was { balance = None }) new
+          (subst (PutsEntry es id (record was { balance = None })) (sym is) (put-there es id (record was { balance = None }) was found)) refl
+
+module _ (connection : ℕ) (sent : Shared) (es : List Entry) (owing id n : ℕ) (answer : Result (Unit {0}) WindowFault) (new : List Entry) (credits : CreditsEntry sent es id new n answer) where
+  abbrev Uncredited : Option Stream → Type 0
+  Uncredited o = MatchOption o ((new ≡ es) × (answer ≡ Err Unknown))
+      (λ was. (kept : Option ℤ) × (new ≡ set_value (nat_eq id) es (record was { balance = kept })) × CreditsStream sent was.balance kept n answer)
+
+  pub credited-stands : SameButWindows (states_of connection sent es) (states_of connection sent new)
+  credited-stands = by (lookup (nat_eq id) es) refl credits
+    where
+      by : (o : Option Stream) → lookup (nat_eq id) es ≡ o → Uncredited o → SameButWindows (states_of connection sent es) (states_of connection sent new)
+      by None none (is, unknown) =
+          let same : SameButWindows (states_of connection sent es) (states_of connection sent es) = refl in
+          subst (λ (l : List Entry). SameButWindows (states_of connection sent es) (states_of connection sent l)) (sym is) same
+      by (Some was) found (kept, is, credit) = balance-stands connection sent sent es id was kept new found is
+
+  pub credited-within : IsWithin connection es owing → IsWithin connection new owing
+  credited-within w = by (lookup (nat_eq id) es) refl credits
+    where
+      by : (o : Option Stream) → lookup (nat_eq id) es ≡ o → Uncredited o → IsWithin connection new owing
+      by None none (is, unknown) = subst (λ (l : List Entry). IsWithin connection l owing) (sym is) w
+      by (Some was) found (kept, is, credit) = balance-within connection es owing id was kept new found is w
+
+  pub credited : 0 < id → Credited (windows_of sent es) (windows_of sent new) id n answer
+  credited positive = by (lookup (nat_eq id) es) refl credits
+    where
+      by : (o : Option Stream) → lookup (nat_eq id) es ≡ o → Uncredited o → Credited (windows_of sent es) (windows_of sent new) id n answer
+      by None none (is, unknown) = credit-none sent es new id n answer positive none unknown
+      by (Some was) found (kept, is, credit) =
+          credit-some sent es new id n was (record was { balance = kept }) answer positive found
+          (subst (PutsEntry es id (record was { balance = kept })) (sym is) (put-there es id (record was { balance = kept }) was found)) credit
+
+  pub credited-unchanged : OnErr answer (states_of connection sent new ≡ states_of connection sent es)
+  credited-unchanged = by (lookup (nat_eq id) es) refl credits
+    where
+      none-kept : (b kept : Option ℤ) (r : Result (Unit {0}) WindowFault) → CreditsStream sent b kept n r → OnErr r (kept ≡ b)
+      none-kept None kept r (none, unknown) = subst (λ (x : Result (Unit {0}) WindowFault). OnErr x (kept ≡ None)) (sym unknown) none
+      none-kept (Some b) kept (Ok done) credit = tt
+      none-kept (Some b) kept (Err fault) credit = credit.0
+
+      weaker : (r : Result (Unit {0}) WindowFault) (P Q : Type 0) → (P → Q) → OnErr r P → OnErr r Q
+      weaker (Ok x) P Q f h = tt
+      weaker (Err e) P Q f h = f h
+
+      by : (o : Option Stream) → lookup (nat_eq id) es ≡ o → Uncredited o → OnErr answer (states_of connection sent new ≡ states_of connection sent es)
+      by None none (is, unknown) = subst (λ (x : Result (Unit {0}) WindowFault). OnErr x (states_of connection sent new ≡ states_of connection sent es)) (sym unknown) (ap (states_of connection sent) is)
+      by (Some was) found (kept, is, credit) =
+          weaker answer (kept ≡ was.balance) (states_of connection sent new ≡ states_of connection sent es)
+          (λ same. ap (states_of connection sent) (is ∙ ap (λ (b : Option ℤ). set_value (nat_eq id) es (record was { balance = b })) same ∙ set_value_same (nat_eq id) es was found))
+          (none-kept was.balance kept answer credit)
 
 -- ---- all that is owed is taken
 
-pub takes_all : (old : List Entry) (owing place : ℕ) (taken : Option (ℕ × ℕ)) (new : List Entry) (connection : ℕ) → connection ≡ 0 → IsWithin connection old owing
+pub takes_all : (old : List Entry) (owing place : ℕ) (taken : Option (ℕ × ℕ)) (new : List Entry) (connection : ℕ) (sent : Shared) → connection ≡ 0 → IsWithin connection old owing
     → TakesLast old place taken new → IsSettledFrom place new
-    → TakesAll (states_of connection old) taken (states_of connection new)
-takes_all old owing place None new connection none w t settled =
-    subst (λ n. TakesAll (states_of n old) None (states_of n new)) (sym none) (
-      nothing old (subst (λ (l : List Entry). IsSettledFrom 0 l) t.0 (subst (λ n. IsSettledFrom n new) t.1 settled)),
-      nothing new (subst (λ n. IsSettledFrom n new) t.1 settled),
-      subst (λ (l : List Entry). SameStreams (states_of 0 old) (states_of 0 l)) (sym t.0) (λ k. (refl, refl, refl)),
+    → TakesAll (states_of connection sent old) taken (states_of connection sent new)
+takes_all old owing place None new connection sent none w t settled =
+    subst (λ n. TakesAll (states_of n sent old) None (states_of n sent new)) (sym none) (
+      nothing sent old (subst (λ (l : List Entry). IsSettledFrom 0 l) t.0 (subst (λ n. IsSettledFrom n new) t.1 settled)),
+      nothing sent new (subst (λ n. IsSettledFrom n new) t.1 settled),
+      subst (λ (l : List Entry). SameStreams (states_of 0 sent old) (states_of 0 sent l)) (sym t.0) (λ k. (refl, refl, refl)),
     )
-takes_all old owing place (Some taken) new connection none w t settled =
+takes_all old owing place (Some taken) new connection sent none w t settled =
     let state : StreamState = Call 0 t.0 in
-    let before : States = states_of connection old in
-    let after : States = states_of connection new in
-    let was : Stream = record { state = Call taken.1 t.0; opened = t.1 } in
-    let puts : Puts (states_of connection old) taken.0 (Call 0 t.0) (states_of connection new) = puts-view connection old taken.0 (record { state = Call 0 t.0; opened = t.1 }) new t.4 in
+    let before : States = states_of connection sent old in
+    let after : States = states_of connection sent new in
+    let was : Stream = record t.1 { state = Call taken.1 t.0 } in
+    let puts : Puts (states_of connection sent old) taken.0 (Call 0 t.0) (states_of connection sent new) = puts-view connection sent old taken.0 (record t.1 { state = Call 0 t.0 }) new t.4 in
     let positive : 0 < taken.0 = not_0 old taken.0 was w.apart t.3 in
     let away : (taken.0 == 0) ≡ false = ne_eqb taken.0 0 (λ z. omega (arith, z, positive)) in
-    let is : state_on before taken.0 ≡ Call taken.1 t.0 = state-found connection old taken.0 ∙ ap (λ o. state_in (state_of o)) t.3 in (
+    let is : state_on before taken.0 ≡ Call taken.1 t.0 = state-found connection sent old taken.0 ∙ ap (λ o. state_in (state_of o)) t.3 in (
       t.2,
       fits_there old taken.0 was w.fit t.3,
       ap (λ b. if b then true else is_paid (state_on before taken.0)) away ∙ ap is_paid is,
@@ -644,19 +801,19 @@ hears-again old new id heard hears k = hears k ∙ by (k == id) refl
     by false p = refl
 
 -- no end is written
-pub taken-ends : (old : List Entry) (owing place : ℕ) (taken : Option (ℕ × ℕ)) (new : List Entry) (connection : ℕ) → IsWithin connection old owing → TakesLast old place taken new
-    → SameEnds (states_of connection old) (states_of connection new)
-taken-ends old owing place None new connection w t = subst (λ (l : List Entry). SameEnds (states_of connection old) (states_of connection l)) (sym t.0) (λ k. (refl, refl))
-taken-ends old owing place (Some taken) new connection w t =
-    let before : States = states_of connection old in
-    let after : States = states_of connection new in
-    let was : Stream = record { state = Call taken.1 t.0; opened = t.1 } in
-    let puts : Puts (states_of connection old) taken.0 (Call 0 t.0) (states_of connection new) = puts-view connection old taken.0 (record { state = Call 0 t.0; opened = t.1 }) new t.4 in
+pub taken-ends : (old : List Entry) (owing place : ℕ) (taken : Option (ℕ × ℕ)) (new : List Entry) (connection : ℕ) (sent : Shared) → IsWithin connection old owing → TakesLast old place taken new
+    → SameEnds (states_of connection sent old) (states_of connection sent new)
+taken-ends old owing place None new connection sent w t = subst (λ (l : List Entry). SameEnds (states_of connection sent old) (states_of connection sent l)) (sym t.0) (λ k. (refl, refl))
+taken-ends old owing place (Some taken) new connection sent w t =
+    let before : States = states_of connection sent old in
+    let after : States = states_of connection sent new in
+    let was : Stream = record t.1 { state = Call taken.1 t.0 } in
+    let puts : Puts (states_of connection sent old) taken.0 (Call 0 t.0) (states_of connection sent new) = puts-view connection sent old taken.0 (record t.1 { state = Call 0 t.0 }) new t.4 in
     let positive : 0 < taken.0 = not_0 old taken.0 was w.apart t.3 in
     let hears = hears-put before after taken.0 (Call 0 t.0) positive refl puts in
     λ k. (
-      part-same before after taken.0 (Call 0 t.0) positive refl puts (λ state. option_map by_reset (end_of state)) (sym (ap (λ s. option_map by_reset (end_of s)) (state-found connection old taken.0 ∙ ap (λ o. state_in (state_of o)) t.3))) k,
-      hears-again before after taken.0 (ap is_some (found-state connection old taken.0 ∙ ap state_of t.3)) hears k,
+      part-same before after taken.0 (Call 0 t.0) positive refl puts (λ state. option_map by_reset (end_of state)) (sym (ap (λ s. option_map by_reset (end_of s)) (state-found connection sent old taken.0 ∙ ap (λ o. state_in (state_of o)) t.3))) k,
+      hears-again before after taken.0 (ap is_some (found-state connection sent old taken.0 ∙ ap state_of t.3)) hears k,
     )
 
 -- what is taken is a stream's, or the connection's
@@ -666,32 +823,27 @@ taken-numbered old place None new numbered t = tt
 taken-numbered old place (Some taken) new numbered t = numbered taken.0 (ap is_some t.3)
 
 -- nor does a stream become open
-pub taken-open : (old : List Entry) (place : ℕ) (taken : Option (ℕ × ℕ)) (new : List Entry) (connection : ℕ) → TakesLast old place taken new
-    → SameOpen (states_of connection old) (states_of connection new)
-taken-open old place None new connection t = ap (λ (l : List Entry). open_at (states_of connection l)) t.0
-taken-open old place (Some taken) new connection t =
-    open-view connection old taken.0 (record { state = Call 0 t.0; opened = t.1 }) new t.4 (ap opened_of t.3)
+pub taken-open : (old : List Entry) (place : ℕ) (taken : Option (ℕ × ℕ)) (new : List Entry) (connection : ℕ) (sent : Shared) → TakesLast old place taken new
+    → SameOpen (states_of connection sent old) (states_of connection sent new)
+taken-open old place None new connection sent t = ap (λ (l : List Entry). open_at (states_of connection sent l)) t.0
+taken-open old place (Some taken) new connection sent t =
+    open-view connection sent old taken.0 (record t.1 { state = Call 0 t.0 }) new t.4 (ap opened_of t.3)
+
+-- nor does a window change
+pub taken-moves : (old : List Entry) (place : ℕ) (taken : Option (ℕ × ℕ)) (new : List Entry) (connection : ℕ) (sent : Shared) → TakesLast old place taken new
+    → Moves (states_of connection sent old) [] (states_of connection sent new)
+taken-moves old place None new connection sent t = found-stays sent old new (λ k. ap (λ (l : List Entry). lookup (nat_eq k) l) t.0)
+taken-moves old place (Some taken) new connection sent t = put-stays sent old taken.0 (record t.1 { state = Call 0 t.0 }) new t.4 (sym (ap balance_in t.3))
 
 -- ---- more is owed
 
--- the entries that are found are the same
-pub same-found : (connection : ℕ) (old new : List Entry) → ((k : ℕ) → lookup (nat_eq k) new ≡ lookup (nat_eq k) old)
-    → ((k : ℕ) → state_on (states_of connection new) k ≡ state_on (states_of connection old) k)
-    × ((k : ℕ) → is_heard (states_of connection new) k ≡ is_heard (states_of connection old) k) × SameOpen (states_of connection old) (states_of connection new)
-same-found connection old new same = (
-  λ k. state-found connection new k ∙ ap (λ o. state_in (state_of o)) (same k) ∙ sym (state-found connection old k),
-  λ k. ap is_some (found-state connection new k ∙ ap state_of (same k) ∙ sym (found-state connection old k)),
-  everywhere (open_at (states_of connection new)) (open_at (states_of connection old))
-      (λ k. found-open connection new k ∙ ap opened_of (same k) ∙ sym (found-open connection old k)),
-)
-
 -- on a stream on which none may be
-pub none-grants : (connection : ℕ) (old new : List Entry) (id n : ℕ) → 0 < id → Adds old id n None new → Grants (states_of connection old) id n (states_of connection new)
-none-grants connection old new id n positive adds =
-    subst (λ (l : List Entry). Grants (states_of connection old) id n (states_of connection l)) (sym adds.0) (λ k. (refl, refl, refl), λ k. by k (k == id) refl)
+pub none-grants : (connection : ℕ) (sent : Shared) (old new : List Entry) (id n : ℕ) → 0 < id → Adds old id n None new → Grants (states_of connection sent old) id n (states_of connection sent new)
+none-grants connection sent old new id n positive adds =
+    subst (λ (l : List Entry). Grants (states_of connection sent old) id n (states_of connection sent l)) (sym adds.0) (λ k. (refl, refl, refl), λ k. by k (k == id) refl)
   where
-    unpaid : is_paid (state_on (states_of connection old) id) ≡ false
-    unpaid = ap is_paid (state-found connection old id) ∙ adds.1
+    unpaid : is_paid (state_on (states_of connection sent old) id) ≡ false
+    unpaid = ap is_paid (state-found connection sent old id) ∙ adds.1
 
     away : (id == 0) ≡ false
     away = ne_eqb id 0 (λ z. omega (arith, z, positive))
@@ -702,54 +854,57 @@ none-grants connection old new id n positive adds =
     nothing-paid (Reset is_call over) e = refl
 
     by : (k : ℕ) (b : Bool) → (k == id) ≡ b
-        → owed_on (states_of connection old) k ≡ (if b then (if pays (states_of connection old) id then more (owed_on (states_of connection old) id) n else 0) else owed_on (states_of connection old) k)
+        → owed_on (states_of connection sent old) k ≡ (if b then (if pays (states_of connection sent old) id then more (owed_on (states_of connection sent old) id) n else 0) else owed_on (states_of connection sent old) k)
     by k false p = refl
     by k true p =
-        ap (λ j. owed_on (states_of connection old) j) (eqb-true k id p)
-        ∙ ap (λ b. if b then connection else amount_of (state_on (states_of connection old) id)) away
-        ∙ nothing-paid (state_on (states_of connection old) id) unpaid
-        ∙ sym (ap (λ b. if (if b then true else is_paid (state_on (states_of connection old) id)) then more (owed_on (states_of connection old) id) n else 0) away
-        ∙ ap (λ b. if b then more (owed_on (states_of connection old) id) n else 0) unpaid)
+        ap (λ j. owed_on (states_of connection sent old) j) (eqb-true k id p)
+        ∙ ap (λ b. if b then connection else amount_of (state_on (states_of connection sent old) id)) away
+        ∙ nothing-paid (state_on (states_of connection sent old) id) unpaid
+        ∙ sym (ap (λ b. if (if b then true else is_paid (state_on (states_of connection sent old) id)) then more (owed_on (states_of connection sent old) id) n else 0) away
+        ∙ ap (λ b. if b then more (owed_on (states_of connection sent old) id) n else 0) unpaid)
 
-module _ (connection : ℕ) (old mid new : List Entry) (id n place : ℕ) (positive : 0 < id) (adds : Adds old id n (Some place) mid)
+module _ (connection : ℕ) (sent : Shared) (old mid new : List Entry) (id n place : ℕ) (positive : 0 < id) (adds : Adds old id n (Some place) mid)
     (same : (k : ℕ) → lookup (nat_eq k) new ≡ lookup (nat_eq k) mid) where
-  found : state_on (states_of connection old) id ≡ Call adds.0 adds.1
-  found = state-found connection old id ∙ ap (λ o. state_in (state_of o)) adds.3
+  found : state_on (states_of connection sent old) id ≡ Call adds.0 adds.1
+  found = state-found connection sent old id ∙ ap (λ o. state_in (state_of o)) adds.3
 
-  puts : PutsEntry old id (record { state = Call (more adds.0 n) adds.1; opened = adds.2 }) new
+  puts : PutsEntry old id (record adds.2 { state = Call (more adds.0 n) adds.1 }) new
   puts k = same k ∙ adds.5 k
 
-  view : Puts (states_of connection old) id (Call (more adds.0 n) adds.1) (states_of connection new)
-  view = puts-view connection old id (record { state = Call (more adds.0 n) adds.1; opened = adds.2 }) new puts
+  view : Puts (states_of connection sent old) id (Call (more adds.0 n) adds.1) (states_of connection sent new)
+  view = puts-view connection sent old id (record adds.2 { state = Call (more adds.0 n) adds.1 }) new puts
 
-  pub adds-grants : Grants (states_of connection old) id n (states_of connection new)
+  pub adds-grants : Grants (states_of connection sent old) id n (states_of connection sent new)
   adds-grants = (
     λ k. (
-      part-same (states_of connection old) (states_of connection new) id (Call (more adds.0 n) adds.1) positive refl view is_of_call (sym (ap is_of_call found)) k,
-      pays-same (states_of connection old) (states_of connection new) id (Call (more adds.0 n) adds.1) positive refl view (sym (ap is_paid found)) k,
-      part-same (states_of connection old) (states_of connection new) id (Call (more adds.0 n) adds.1) positive refl view is_reset_state (sym (ap is_reset_state found)) k,
+      part-same (states_of connection sent old) (states_of connection sent new) id (Call (more adds.0 n) adds.1) positive refl view is_of_call (sym (ap is_of_call found)) k,
+      pays-same (states_of connection sent old) (states_of connection sent new) id (Call (more adds.0 n) adds.1) positive refl view (sym (ap is_paid found)) k,
+      part-same (states_of connection sent old) (states_of connection sent new) id (Call (more adds.0 n) adds.1) positive refl view is_reset_state (sym (ap is_reset_state found)) k,
     ),
-    λ k. owed-put (states_of connection old) (states_of connection new) id (Call (more adds.0 n) adds.1) positive refl view k
-        ∙ ap (λ m. if k == id then m else owed_on (states_of connection old) k) here,
+    λ k. owed-put (states_of connection sent old) (states_of connection sent new) id (Call (more adds.0 n) adds.1) positive refl view k
+        ∙ ap (λ m. if k == id then m else owed_on (states_of connection sent old) k) here,
   )
     where
       away : (id == 0) ≡ false
       away = ne_eqb id 0 (λ z. omega (arith, z, positive))
 
-      here : more adds.0 n ≡ (if pays (states_of connection old) id then more (owed_on (states_of connection old) id) n else 0)
-      here = sym (ap (λ b. if (if b then true else is_paid (state_on (states_of connection old) id)) then more (if b then connection else amount_of (state_on (states_of connection old) id)) n else 0) away
+      here : more adds.0 n ≡ (if pays (states_of connection sent old) id then more (owed_on (states_of connection sent old) id) n else 0)
+      here = sym (ap (λ b. if (if b then true else is_paid (state_on (states_of connection sent old) id)) then more (if b then connection else amount_of (state_on (states_of connection sent old) id)) n else 0) away
           ∙ ap (λ (s : StreamState). if is_paid s then more (amount_of s) n else 0) found)
 
-  pub adds-ends : SameEnds (states_of connection old) (states_of connection new)
+  pub adds-ends : SameEnds (states_of connection sent old) (states_of connection sent new)
   adds-ends k = (
-    part-same (states_of connection old) (states_of connection new) id (Call (more adds.0 n) adds.1) positive refl view (λ state. option_map by_reset (end_of state))
+    part-same (states_of connection sent old) (states_of connection sent new) id (Call (more adds.0 n) adds.1) positive refl view (λ state. option_map by_reset (end_of state))
         (sym (ap (λ s. option_map by_reset (end_of s)) found)) k,
-    hears-again (states_of connection old) (states_of connection new) id (ap is_some (found-state connection old id ∙ ap state_of adds.3))
-        (hears-put (states_of connection old) (states_of connection new) id (Call (more adds.0 n) adds.1) positive refl view) k,
+    hears-again (states_of connection sent old) (states_of connection sent new) id (ap is_some (found-state connection sent old id ∙ ap state_of adds.3))
+        (hears-put (states_of connection sent old) (states_of connection sent new) id (Call (more adds.0 n) adds.1) positive refl view) k,
   )
 
-  pub adds-open : SameOpen (states_of connection old) (states_of connection new)
-  adds-open = open-view connection old id (record { state = Call (more adds.0 n) adds.1; opened = adds.2 }) new puts (ap opened_of adds.3)
+  pub adds-moves : Moves (states_of connection sent old) [] (states_of connection sent new)
+  adds-moves = put-stays sent old id (record adds.2 { state = Call (more adds.0 n) adds.1 }) new puts (sym (ap balance_in adds.3))
+
+  pub adds-open : SameOpen (states_of connection sent old) (states_of connection sent new)
+  adds-open = open-view connection sent old id (record adds.2 { state = Call (more adds.0 n) adds.1 }) new puts (ap opened_of adds.3)
 
 -- ---- what is in hand of an open stream
 
@@ -768,21 +923,28 @@ can-unreset (Reset is_call None) e = absurd (true≢false (sym e))
 can-unreset (Reset is_call (Some by)) e = absurd (true≢false (sym e))
 
 -- a look at a stream, where it is among the entries
-pub entry-looks : {E : Type 0} (r : Result Hand E) (es : List Entry) (id : ℕ) (was now : Stream) (new : List Entry) (from to : Windows)
+pub entry-looks : {E : Type 0} (r : Result Hand E) (es : List Entry) (id : ℕ) (was now : Stream) (new : List Entry) (from to : Shared)
     → lookup (nat_eq id) es ≡ Some was → new ≡ set_value (nat_eq id) es now → IfOk r (LooksAtStream id was now from to) → IfOk r (LooksAtEntry id es new from to)
 entry-looks (Err e) es id was now new from to there is looks = tt
 entry-looks (Ok hand) es id was now new from to there is looks =
     subst (λ (o : Option Stream). MatchOption o ((hand ≡ Shut) × (new ≡ es) × (to ≡ from)) (λ s. (next : Stream) × (new ≡ set_value (nat_eq id) es next) × LooksAtStream id s next from to hand))
     (sym there) (now, is, looks)
 
-module _ (connection : ℕ) (es : List Entry) (owing id : ℕ) (within : IsWithin connection es owing) (was : Stream) (found : lookup (nat_eq id) es ≡ Some was) where
-  state-there : state_on (states_of connection es) id ≡ was.state
-  state-there = state-found connection es id ∙ ap (λ o. state_in (state_of o)) found
+pub entry-begins : {E : Type 0} (r : Result Looked E) (es : List Entry) (id : ℕ) (was now : Stream) (new : List Entry) (from to : Shared) (message : List ℕ)
+    → lookup (nat_eq id) es ≡ Some was → new ≡ set_value (nat_eq id) es now → IfOk r (BeginsOnStream id was now from to message) → IfOk r (BeginsAtEntry id es new from to message)
+entry-begins (Err e) es id was now new from to message there is begins = tt
+entry-begins (Ok l) es id was now new from to message there is begins =
+    subst (λ (o : Option Stream). MatchOption o ((new ≡ es) × (to ≡ from) × IsUnsent message l) (λ s. (next : Stream) × (new ≡ set_value (nat_eq id) es next) × BeginsOnStream id s next from to message l))
+    (sym there) (now, is, begins)
 
-  open-there : open_at (states_of connection es) id ≡ was.opened
-  open-there = found-open connection es id ∙ ap opened_of found
+module _ (connection : ℕ) (sent : Shared) (es : List Entry) (owing id : ℕ) (within : IsWithin connection es owing) (was : Stream) (found : lookup (nat_eq id) es ≡ Some was) where
+  state-there : state_on (states_of connection sent es) id ≡ was.state
+  state-there = state-found connection sent es id ∙ ap (λ o. state_in (state_of o)) found
 
-  writable-there : can_write was.state ≡ true → TakesFrames (states_of connection es) id
+  open-there : open_at (states_of connection sent es) id ≡ was.opened
+  open-there = found-open connection sent es id ∙ ap opened_of found
+
+  writable-there : can_write was.state ≡ true → TakesFrames (states_of connection sent es) id
   writable-there can = record {
     stream = not_0 es id was within.apart found;
     number = within.numbered id (ap is_some found);
@@ -790,83 +952,100 @@ module _ (connection : ℕ) (es : List Entry) (owing id : ℕ) (within : IsWithi
     not_reset = ap is_reset_state state-there ∙ can-unreset was.state can;
   }
 
-  shut-there : (can_write was.state ≡ false) ⊎ (was.opened ≡ None) → IsShut (states_of connection es) id
+  shut-there : (can_write was.state ≡ false) ⊎ (was.opened ≡ None) → IsShut (states_of connection sent es) id
   shut-there (inl cannot) = inl (ap can_write state-there ∙ cannot)
   shut-there (inr none) = inr (open-there ∙ none)
 
-  unwritten : (new : List Entry) (now : Stream) → new ≡ set_value (nat_eq id) es now → now ≡ was → states_of connection new ≡ states_of connection es
-  unwritten new now is same = ap (states_of connection) (is ∙ ap (set_value (nat_eq id) es) same ∙ set_value_same (nat_eq id) es was found)
+  unwritten : (new : List Entry) (now : Stream) → new ≡ set_value (nat_eq id) es now → now ≡ was → states_of connection sent new ≡ states_of connection sent es
+  unwritten new now is same = ap (states_of connection sent) (is ∙ ap (set_value (nat_eq id) es) same ∙ set_value_same (nat_eq id) es was found)
 
-  written-hand : (new : List Entry) (now : Stream) (place : ℕ) (message : List ℕ) (hand : Option (List ℕ)) → new ≡ set_value (nat_eq id) es now
-      → shown was.opened ≡ Some (place, Some message) → shown now.opened ≡ Some (place, hand)
-      → shown (opened_of (lookup (nat_eq id) new)) ≡ with_hand hand (shown (opened_of (lookup (nat_eq id) es)))
-  written-hand new now place message hand is before after =
+  written : (new : List Entry) (now : Stream) (f : Shown → Shown) → new ≡ set_value (nat_eq id) es now → shown now.opened ≡ f (shown was.opened)
+      → shown (opened_of (lookup (nat_eq id) new)) ≡ f (shown (opened_of (lookup (nat_eq id) es)))
+  written new now f is here =
       ap (λ (l : List Entry). shown (opened_of (lookup (nat_eq id) l))) is
       ∙ ap (λ o. shown (opened_of o)) (put-there es id now was found id)
       ∙ ap (λ b. shown (opened_of (if b then Some now else lookup (nat_eq id) es))) (eq-eqb id id refl)
-      ∙ after ∙ sym (ap (λ o. with_hand hand (shown (opened_of o))) found ∙ ap (with_hand hand) before)
+      ∙ here ∙ sym (ap (λ o. f (shown (opened_of o))) found)
 
-  looks-there : (new : List Entry) (now : Stream) (from to : Windows) (hand : Hand) → Edits es id new → new ≡ set_value (nat_eq id) es now
-      → LooksAtStream id was now from to hand → LooksAtHand id (states_of connection es) (states_of connection new) from to hand
-  looks-there new now from to Shut edits is looks = (unwritten new now is looks.0, looks.1, shut-there looks.2)
-  looks-there new now from to (Empty place) edits is looks = (unwritten new now is looks.0, looks.1, writable-there looks.2, ap shown open-there ∙ looks.3)
-  looks-there new now from to (Message found_in) edits is looks = (
+  written-hand : (new : List Entry) (now : Stream) (in_hand : Option (List ℕ)) (place : ℕ) (hand : Option (List ℕ)) → new ≡ set_value (nat_eq id) es now
+      → shown was.opened ≡ Some (place, in_hand) → shown now.opened ≡ Some (place, hand)
+      → shown (opened_of (lookup (nat_eq id) new)) ≡ with_hand hand (shown (opened_of (lookup (nat_eq id) es)))
+  written-hand new now in_hand place hand is before after = written new now (with_hand hand) is (after ∙ sym (ap (with_hand hand) before))
+
+  puts-there : (new : List Entry) (now : Stream) → new ≡ set_value (nat_eq id) es now → PutsEntry es id now new
+  puts-there new now is = subst (PutsEntry es id now) (sym is) (put-there es id now was found)
+
+  looks-there : (new : List Entry) (now : Stream) (to : Shared) (hand : Hand) → Rewrites es id new → new ≡ set_value (nat_eq id) es now
+      → LooksAtStream id was now sent to hand → LooksAtHand id (states_of connection sent es) (states_of connection to new) hand
+  looks-there new now to Shut rewrites is looks = (ap (λ (x : Shared). states_of connection x new) looks.1 ∙ unwritten new now is looks.0, shut-there looks.2)
+  looks-there new now to (Empty place) rewrites is looks =
+      (ap (λ (x : Shared). states_of connection x new) looks.1 ∙ unwritten new now is looks.0, writable-there looks.2, ap shown open-there ∙ looks.3)
+  looks-there new now to (Message found_in) rewrites is looks = (
     writable-there looks.0,
-    edit-stands connection es id new edits,
+    rewrite-stands connection sent to es id new rewrites,
     looks.1,
     looks.2,
     looks.3,
     ap shown open-there ∙ looks.4,
-    edit-shows connection es id new (with_hand (kept looks.3)) edits (written-hand new now looks.1 looks.2 (kept looks.3) is looks.4 looks.5),
-    looks.6,
+    rewrite-shows connection sent es id new (with_hand (kept looks.3)) rewrites
+        (written-hand new now (Some looks.2) looks.1 (kept looks.3) is looks.4 looks.5),
+    data-view sent to es id was now new looks.2 looks.3 found is (puts-there new now is) found_in looks.6,
+  )
+
+  begins-there : (new : List Entry) (now : Stream) (to : Shared) (message : List ℕ) (l : Looked) → Rewrites es id new → new ≡ set_value (nat_eq id) es now
+      → BeginsOnStream id was now sent to message l → BeginsMessage id (states_of connection sent es) (states_of connection to new) message l
+  begins-there new now to message l rewrites is begins = (
+    rewrite-stands connection sent to es id new rewrites,
+    begins.0,
+    rewrite-shows connection sent es id new (with_hand (kept begins.0)) rewrites (written new now (with_hand (kept begins.0)) is begins.1),
+    data-view sent to es id was now new message begins.0 found is (puts-there new now is) l begins.2,
   )
 
 -- and among all of them
-pub looks-view : (connection : ℕ) (es : List Entry) (owing id : ℕ) (new : List Entry) (from to : Windows) (hand : Hand) → IsWithin connection es owing → Edits es id new
-    → LooksAtEntry id es new from to hand → LooksAtHand id (states_of connection es) (states_of connection new) from to hand
-looks-view connection es owing id new from to hand within edits looks = by (lookup (nat_eq id) es) refl looks
+pub looks-view : (connection : ℕ) (sent : Shared) (es : List Entry) (owing id : ℕ) (new : List Entry) (to : Shared) (hand : Hand) → IsWithin connection es owing → Rewrites es id new
+    → LooksAtEntry id es new sent to hand → LooksAtHand id (states_of connection sent es) (states_of connection to new) hand
+looks-view connection sent es owing id new to hand within rewrites looks = by (lookup (nat_eq id) es) refl looks
   where
     by : (o : Option Stream) → lookup (nat_eq id) es ≡ o
-        → MatchOption o ((hand ≡ Shut) × (new ≡ es) × (to ≡ from)) (λ was. (now : Stream) × (new ≡ set_value (nat_eq id) es now) × LooksAtStream id was now from to hand)
-        → LooksAtHand id (states_of connection es) (states_of connection new) from to hand
-    by None none h = subst (LooksAtHand id (states_of connection es) (states_of connection new) from to) (sym h.0)
-        (ap (states_of connection) h.1, h.2, inr (found-open connection es id ∙ ap opened_of none))
-    by (Some was) found h = looks-there connection es owing id within was found new h.0 from to hand edits h.1 h.2
+        → MatchOption o ((hand ≡ Shut) × (new ≡ es) × (to ≡ sent)) (λ was. (now : Stream) × (new ≡ set_value (nat_eq id) es now) × LooksAtStream id was now sent to hand)
+        → LooksAtHand id (states_of connection sent es) (states_of connection to new) hand
+    by None none h = subst (LooksAtHand id (states_of connection sent es) (states_of connection to new)) (sym h.0)
+        (ap (λ (x : Shared). states_of connection x new) h.2 ∙ ap (states_of connection sent) h.1, inr (found-open connection sent es id ∙ ap opened_of none))
+    by (Some was) found h = looks-there connection sent es owing id within was found new h.0 to hand rewrites h.1 h.2
+
+-- a message that begins
+pub begins-view : (connection : ℕ) (sent : Shared) (es : List Entry) (owing id : ℕ) (new : List Entry) (to : Shared) (message : List ℕ) (l : Looked) → IsWithin connection es owing → Rewrites es id new
+    → BeginsAtEntry id es new sent to message l → BeginsMessage id (states_of connection sent es) (states_of connection to new) message l
+begins-view connection sent es owing id new to message l within rewrites begins = by (lookup (nat_eq id) es) refl begins
+  where
+    untaken : lookup (nat_eq id) es ≡ None → IsUnsent message l → TakesData id (windows_of sent es) (windows_of sent es) message message l
+    untaken none unsent = unsent-takes sent es id none message l unsent
+
+    kept-there : lookup (nat_eq id) es ≡ None → HandIs id (kept message) (open_at (states_of connection sent es)) (open_at (states_of connection sent es))
+    kept-there none k = shut (k == id) refl
+      where
+        shut : (b : Bool) → (k == id) ≡ b → shows (open_at (states_of connection sent es)) k
+            ≡ (if b then with_hand (kept message) (shows (open_at (states_of connection sent es)) k) else shows (open_at (states_of connection sent es)) k)
+        shut true p =
+            let closed : shows (open_at (states_of connection sent es)) k ≡ None =
+            ap (λ n. shows (open_at (states_of connection sent es)) n) (eqb-true k id p) ∙ ap shown (found-open connection sent es id ∙ ap opened_of none) in
+            closed ∙ sym (ap (with_hand (kept message)) closed)
+        shut false p = refl
+
+    by : (o : Option Stream) → lookup (nat_eq id) es ≡ o
+        → MatchOption o ((new ≡ es) × (to ≡ sent) × IsUnsent message l) (λ was. (now : Stream) × (new ≡ set_value (nat_eq id) es now) × BeginsOnStream id was now sent to message l)
+        → BeginsMessage id (states_of connection sent es) (states_of connection to new) message l
+    by None none h =
+        subst (λ (x : States). BeginsMessage id (states_of connection sent es) x message l)
+        (sym (ap (λ (x : Shared). states_of connection x new) h.1 ∙ ap (states_of connection sent) h.0))
+        (refl, message, kept-there none, untaken none h.2)
+    by (Some was) found h = begins-there connection sent es owing id within was found new h.0 to message l rewrites h.1 h.2
 
 -- what is shown of each stream is the same
-pub edit-same : (connection : ℕ) (es : List Entry) (id : ℕ) (new : List Entry) → Edits es id new
-    → shown (opened_of (lookup (nat_eq id) new)) ≡ shown (opened_of (lookup (nat_eq id) es)) → SameHands (open_at (states_of connection es)) (open_at (states_of connection new))
-edit-same connection es id new edits here k = edit-shows connection es id new (λ v. v) edits here k ∙ by (k == id)
+pub edit-same : (connection : ℕ) (sent : Shared) (es : List Entry) (id : ℕ) (new : List Entry) → Edits es id new
+    → shown (opened_of (lookup (nat_eq id) new)) ≡ shown (opened_of (lookup (nat_eq id) es)) → SameHands (open_at (states_of connection sent es)) (open_at (states_of connection sent new))
+edit-same connection sent es id new edits here k = edit-shows connection sent es id new (λ v. v) edits here k ∙ by (k == id)
   where
-    by : (b : Bool) → (if b then shows (open_at (states_of connection es)) k else shows (open_at (states_of connection es)) k) ≡ shows (open_at (states_of connection es)) k
+    by : (b : Bool) → (if b then shows (open_at (states_of connection sent es)) k else shows (open_at (states_of connection sent es)) k) ≡ shows (open_at (states_of connection sent es)) k
     by true = refl
     by false = refl
-
--- bytes that are kept, where there are any
-pub kept-some : (id : ℕ) (bytes : List ℕ) (old new : OpenStreams) → (length bytes == 0) ≡ false → HandIs id (Some bytes) old new → HandKeeps id bytes old new
-kept-some id [] old new some is = absurd (true≢false some)
-kept-some id (byte ∷ bytes) old new some is = is
-
-pub kept-none : (id : ℕ) (bytes : List ℕ) (old : OpenStreams) → (length bytes == 0) ≡ true → HandKeeps id bytes old old
-kept-none id [] old none = λ k. refl
-kept-none id (byte ∷ bytes) old none = let wrong : length (byte ∷ bytes) ≡ 0 = eqb-true (length (byte ∷ bytes)) 0 none in absurd (omega (arith, wrong))
-
--- ---- an Open
-
--- a stream becomes open where it is one of which nothing was heard
-pub opened-when : (id : ℕ) (opened : Option OpenStream) (old new : States) (stream is_new : Bool) → is_new ≡ (stream && not (knows old id))
-    → (is_new ≡ false → SameOpen old new) → (is_new ≡ true → BecomesOpen old id opened new)
-    → (k : ℕ) → open_at new k ≡ (if (stream && not (is_heard old id)) && (k == id) then opened else open_at old k)
-opened-when id opened old new true true is same becomes k = becomes refl k
-opened-when id opened old new false true is same becomes k = absurd (true≢false is)
-opened-when id opened old new false false is same becomes k = ap (λ f. f k) (same refl)
-opened-when id opened old new true false is same becomes k =
-    ap (λ f. f k) (same refl) ∙ sym (ap (λ b. if not b && (k == id) then opened else open_at old k) (knows-heard old id (by (knows old id) is)))
-  where
-    by : (b : Bool) → false ≡ not b → b ≡ true
-    by true e = refl
-    by false e = absurd (true≢false (sym e))
-
-pub on-both : {X E : Type 0} (r : Result X E) (P Q R : Type 0) → (P → Q → R) → OnOk r P → OnOk r Q → OnOk r R
-on-both (Ok x) P Q R f p q = f p q
-on-both (Err e) P Q R f p q = tt

@@ -46,10 +46,10 @@ elsewhere-is hand id k middle left is ne = is k ∙ ap (λ b. if b then with_han
 module _ {L In Out Shut : Type 0} where
   others-stuck : (got ahead : Out → List OutItem) (old mid new : Sending L In Out Shut) (id : ℕ) (run : List Step) → Holds got run old
       → SameAhead (shows (open_at old.outbound.states) id) (aheads ahead old.senders.items) (aheads ahead mid.senders.items)
-      → ((k : ℕ) → k ≢ id → shows (open_at new.outbound.states) k ≡ shows (open_at old.outbound.states) k) → new.senders ≡ mid.senders → new.outbound.windows ≡ old.outbound.windows
+      → ((k : ℕ) → k ≢ id → shows (open_at new.outbound.states) k ≡ shows (open_at old.outbound.states) k) → new.senders ≡ mid.senders → new.outbound.states.windows ≡ old.outbound.states.windows
       → (k : ℕ) → k ≢ id → StuckAt ahead k old → StuckAt ahead k new
   others-stuck got ahead old mid new id run (marks, s, heeds) same hands senders windows k ne stuck stream e =
-      stuck-same (room old.outbound.windows k) (room new.outbound.windows k) f.0.in_hand stream.in_hand
+      stuck-same (room old.outbound.states.windows k) (room new.outbound.states.windows k) f.0.in_hand stream.in_hand
       (get_or (aheads ahead old.senders.items) f.0.place []) (get_or (aheads ahead new.senders.items) stream.place [])
       (ap (λ (w : Windows). room w k) windows) (sym f.3)
       (ap (λ senders. get_or (aheads ahead senders.items) stream.place []) senders ∙ by (shows (open_at old.outbound.states) id) refl same
@@ -95,10 +95,10 @@ module _ {L In Out Shut : Type 0} where
         let found = takes-nothing (shows (open_at old.outbound.states) id) (calls got old.senders.items) (calls got mid.senders.items) (aheads ahead mid.senders.items) old.outbound.encoder mid.outbound.encoder
         (subst (λ (p : Polled). Took got ahead old mid id p) is took).takes in
         let hand = hand-of None (shows (open_at old.outbound.states) id) (stream.place, stream.in_hand) (found.2 ∙ sym (ap (λ (o : Outbound). shows (open_at o.states) id) took.outbound) ∙ ap shown e) in
-        subst (λ (x : Option (List ℕ)). IsStuck (room mid.outbound.windows id) x (get_or (aheads ahead mid.senders.items) stream.place [])) (sym hand.0)
+        subst (λ (x : Option (List ℕ)). IsStuck (room mid.outbound.states.windows id) x (get_or (aheads ahead mid.senders.items) stream.place [])) (sym hand.0)
         (found.3 (stream.place, hand.1.0) hand.1.1),
     others-stuck got ahead old mid mid id run h same (λ k ne. ap (λ (o : Outbound). shows (open_at o.states) k) took.outbound) refl
-        (ap (λ (o : Outbound). o.windows) took.outbound),
+        (ap (λ (o : Outbound). o.states.windows) took.outbound),
   )
 
   pub stuck-data : (got ahead : Out → List OutItem) (old mid new : Sending L In Out Shut) (id : ℕ) (bytes : List ℕ) (result : Polled)
@@ -107,11 +107,11 @@ module _ {L In Out Shut : Type 0} where
   stuck-data got ahead old mid new id bytes result took same tells senders run h = (
     λ stream e.
         let hand = hand-of (Some bytes) (shows (open_at mid.outbound.states) id) (stream.place, stream.in_hand) (here-is (Some bytes) id (open_at mid.outbound.states) (open_at new.outbound.states) stream tells.0 e) in
-        subst (λ (x : Option (List ℕ)). IsStuck (room new.outbound.windows id) x (get_or (aheads ahead new.senders.items) stream.place [])) (sym hand.0)
-        (ap (λ (o : Outbound). room o.windows id) tells.1 ∙ tells.2),
+        subst (λ (x : Option (List ℕ)). IsStuck (room new.outbound.states.windows id) x (get_or (aheads ahead new.senders.items) stream.place [])) (sym hand.0)
+        (ap (λ (o : Outbound). room o.states.windows id) tells.1 ∙ tells.2),
     others-stuck got ahead old mid new id run h same
         (λ k ne. elsewhere-is (Some bytes) id k (open_at mid.outbound.states) (open_at new.outbound.states) tells.0 ne ∙ ap (λ (o : Outbound). shows (open_at o.states) k) took.outbound) senders
-        (ap (λ (o : Outbound). o.windows) tells.1 ∙ ap (λ (o : Outbound). o.windows) took.outbound),
+        (ap (λ (o : Outbound). o.states.windows) tells.1 ∙ ap (λ (o : Outbound). o.states.windows) took.outbound),
   )
 
   -- a message without bytes
@@ -121,7 +121,7 @@ module _ {L In Out Shut : Type 0} where
   leaves-empty got ahead old mid new id bytes result took same tells senders run h =
       others-stuck got ahead old mid new id run h same
       (λ k ne. elsewhere-is None id k (open_at mid.outbound.states) (open_at new.outbound.states) tells.1 ne ∙ ap (λ (o : Outbound). shows (open_at o.states) k) took.outbound) senders
-      (ap (λ (o : Outbound). o.windows) tells.2 ∙ ap (λ (o : Outbound). o.windows) took.outbound)
+      (ap (λ (o : Outbound). o.states.windows) tells.2 ∙ ap (λ (o : Outbound). o.states.windows) took.outbound)
 
   pub looks-data : (got ahead : Out → List OutItem) (old mid new : Sending L In Out Shut) (id : ℕ) (bytes : List ℕ) (result : Polled) (found : Looked)
       → Took got ahead old mid id result → SameAhead (shows (open_at old.outbound.states) id) (aheads ahead old.senders.items) (aheads ahead mid.senders.items)

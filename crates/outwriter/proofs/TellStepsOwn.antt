@@ -4,6 +4,7 @@ use Rattle.std.specs.Prelude.{if◌then◌else◌, ◌||◌, ◌&&◌, not, is_s
 use Rattle.std.specs.List.{list_any}
 use Rattle.std.proofs.lemmas.Bool.{eqb-true}
 use Rattle.std.proofs.lemmas.List.Folds.{list_any-append}
+use Rattle.flow.specs.Windows.{Windows}
 use Rattle.h2frame.specs.declared.frame.Frame.{Frame}
 use Rattle.lists.specs.declared.field.Field.{Field}
 use Rattle.hpack_codec.specs.Codec.{Writes}
@@ -12,7 +13,7 @@ use Rattle.outwriter.specs.declared.due.Due.{Due}
 use Rattle.outwriter.specs.declared.due.Due.TheVariants as due_kind
 use Rattle.outwriter.specs.declared.outbound.Outbound.{Outbound}
 use Rattle.outwriter.specs.CoreChanges.{may_write}
-use Rattle.outwriter.specs.States.{SameEnds, SameOpen, SameOwed, SetsEnd, StandAs, is_heard, is_reset, knows, over_on, open_at}
+use Rattle.outwriter.specs.States.{SameEnds, SameOpen, SameOwed, SetsEnd, StandAs, StandButWindows, States, is_heard, is_reset, knows, over_on, open_at}
 use Rattle.outwriter.specs.Histories.{is_stream}
 use Rattle.outwriter.specs.RunState.{Ends}
 use Rattle.outwriter.specs.Parts.{Mark}
@@ -30,11 +31,14 @@ standing-then old mid new a b id = ((b id).0 ∙ (a id).0, (b id).1 ∙ (a id).1
 pub standing-same : (old new : Outbound) → new.states ≡ old.states → SameStanding old new
 standing-same old new e id = (ap (λ s. knows s id) e, ap (λ s. is_reset s id) e, λ heard. ap (λ s. is_heard s id) e ∙ heard)
 
--- or what is kept of the open streams changes
-pub standing-as : (old new : Outbound) → StandAs old.states new.states → SameStanding old new
+-- or what is kept of the open streams changes, and the windows
+pub stands-but : (old new : States) → StandAs old new → StandButWindows old new
+stands-but old new e = e ∙ ap (λ (w : Windows). record old { opened = new.opened; windows = w }) (sym (ap (λ (s : States). s.windows) e))
+
+pub standing-as : (old new : Outbound) → StandButWindows old.states new.states → SameStanding old new
 standing-as old new e id = (ap (λ s. knows s id) e, ap (λ s. is_reset s id) e, λ heard. ap (λ s. is_heard s id) e ∙ heard)
 
-pub ends-as : (old new : Outbound) → StandAs old.states new.states → SameEnds old.states new.states
+pub ends-as : (old new : Outbound) → StandButWindows old.states new.states → SameEnds old.states new.states
 ends-as old new e id = (ap (λ s. over_on s id) e, ap (λ s. is_heard s id) e)
 
 -- and whose ends were written
@@ -238,7 +242,7 @@ not-refused o at fields may denied is id there e = by (id == at) (is_reset o.sta
 pub refusal-own : {E : Type 0} (id : ℕ) (fields : List Field) (bytes : List ℕ) (result : Result Frame E) (old mid new : Outbound)
     → mid ≡ record old { encoder = mid.encoder } → over_on old.states id ≡ None → Writes old.encoder fields bytes mid.encoder
     → IfOk result (λ frame. TellsBlock id true bytes frame mid new) → OnOk result (Ends mid.states id true new.states) → OnOk result (SameOwed mid.states new.states) → OnOk result (SameOpen mid.states new.states)
-    → OnOk result (new ≡ record mid { windows = new.windows; states = new.states; block = new.block })
+    → OnOk result (new ≡ record mid { states = new.states; block = new.block })
     → IfOk result (λ frame. OwnByDue (due_kind.Refuse id fields) frame old new)
 refusal-own id fields bytes (Err e) old mid new is none writes tells sets same kept rest = tt
 refusal-own id fields bytes (Ok frame) old mid new is none writes tells sets same kept rest = (

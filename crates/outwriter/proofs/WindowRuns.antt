@@ -1,21 +1,25 @@
 -- What controls do to the windows of a run.
-use Rattle.std.proofs.Common.{◌≡◌, ℕ, ◌<◌, inl, inr, Bool, true, false, ℤ, pos, ◌+ℤ◌, refl, sym, ap, subst, ◌∙◌, List, [], ◌∷◌, ◌++◌, Option, Some, None, Result, Ok, Err, arith, nat_eq, OnOk, OnErr, true≢false}
-use Rattle.std.specs.Prelude.{not, is_some, if◌then◌else◌, ◌<ℤ◌, MatchOption, All, map, reverse}
-use Rattle.std.specs.Map.{lookup, remove_entry}
+use Rattle.std.proofs.Common.{◌≡◌, ℕ, zero, suc, ◌<◌, inl, inr, Bool, true, false, ℤ, pos, ◌+ℤ◌, refl, sym, ap, subst, ◌∙◌, List, [], ◌∷◌, ◌++◌, Option, Some, None, Result, Ok, Err, arith, OnOk, OnErr, true≢false}
+use Rattle.std.specs.Prelude.{not, ◌&&◌, is_some, if◌then◌else◌, ◌<ℤ◌, MatchOption, All, map, reverse}
 use Rattle.std.specs.Option.{option_map}
-use Rattle.std.proofs.lemmas.Bool.{eq-eqb}
 use Rattle.flow.specs.declared.send_windows.WindowFault.{WindowFault}
 use Rattle.flow.specs.declared.send_windows.WindowFault.TheVariants.{Overflow, NoRoom, Unknown, OutOfMemory}
 use Rattle.flow.specs.declared.TheConstants.{MAX_WINDOW}
 use Rattle.flow.specs.WindowHistory.{Opening, Credit, Resizing, Closing, stream_window, since_opening, balance_of, initial_size, CanCredit, CanResize, Follows}
 use Rattle.flow.specs.WindowHistory.{Step as WindowStep}
-use Rattle.flow.specs.Windows.{Windows, window, balance, opened, closed, CreditFault, Meets}
+use Rattle.flow.specs.Windows.{Windows, window, balance, CreditFault, Meets}
 use Rattle.outwriter.specs.declared.control.Control.TheVariants.{Window, Settings, Open, Reset}
 use Rattle.h2frame.specs.declared.error_code.ErrorCode.{ErrorCode}
 use Rattle.h2frame.specs.declared.settings.PeerSetting.{PeerSetting}
-use Rattle.outwriter.specs.Histories.{HasWindow, Overflows, Takes, opens, window_sizes}
-use Rattle.outwriter.specs.RunState.{HasWindows}
+use Rattle.outwriter.specs.Histories.{HasWindow, Overflows, Takes, is_over, is_stream, window_sizes}
+use Rattle.outwriter.specs.RunState.{HasOver, HasWindows}
+use Rattle.outwriter.specs.States.{Moves, States, opening, opens_window}
 use Rattle.outwriter.specs.Steps.{Step, Order, Taken}
+
+-- a stream isn't the connection
+number-positive : (id : ℕ) → is_stream id ≡ true → 0 < id
+number-positive zero e = absurd (true≢false (sym e))
+number-positive (suc n) e = omega arith
 
 -- ---- a window by what is kept, and by its history
 
@@ -38,13 +42,13 @@ open-by None size P h = absurd h
 open-by (Some steps) size P h = refl
 
 -- what a control of credit does to the windows: it is credited, or refused and changes nothing
-pub window-taken : (run : List Step) (id n : ℕ) (old new : Windows) (r : Result (Unit {0}) WindowFault)
-    → OnOk r ((history : List WindowStep) → Follows history old → CanCredit history id n)
-    → OnErr r ((history : List WindowStep) → Follows history old → ¬ CanCredit history id n)
-    → OnErr r (new ≡ old) → OnOk r ((history : List WindowStep) → Follows history old → Follows (Credit id n ∷ history) new)
-    → HasWindows run old → HasWindows (Taken (Window id n) ∷ run) new
+pub window-taken : (run : List Step) (id n : ℕ) (old new : States) (r : Result (Unit {0}) WindowFault)
+    → OnOk r ((history : List WindowStep) → Follows history old.windows → CanCredit history id n)
+    → OnErr r ((history : List WindowStep) → Follows history old.windows → ¬ CanCredit history id n)
+    → OnErr r (new ≡ old) → OnOk r (Moves old (Credit id n ∷ []) new)
+    → HasWindows run old.windows → HasWindows (Taken (Window id n) ∷ run) new.windows
 window-taken run id n old new (Ok done) can cannot same follows (h, has, f) = (Credit id n ∷ h, (h, has, inl (can h f, refl)), follows h f)
-window-taken run id n old new (Err fault) can cannot same follows (h, has, f) = (h, (h, has, inr (cannot h f, refl)), subst (Follows h) (sym same) f)
+window-taken run id n old new (Err fault) can cannot same follows (h, has, f) = (h, (h, has, inr (cannot h f, refl)), subst (λ (s : States). Follows h s.windows) (sym same) f)
 
 -- credit that overflows no window has room, where there is a window
 pub fits-unless-over : (w : Windows) (id n : ℕ) (r : Result (Unit {0}) WindowFault) → Meets (CreditFault w id n) r
@@ -75,13 +79,14 @@ over-stands w id n (Err NoRoom) meets cannot is = absurd meets
 over-stands w id n (Err OutOfMemory) meets cannot is = absurd meets
 
 -- what SETTINGS do to the windows: all their initial sizes are set, or none
-pub settings-taken : (run : List Step) (settings : List PeerSetting) (old new : Windows) (r : Result (Unit {0}) WindowFault)
-    → OnOk r ((history : List WindowStep) → Follows history old → All (CanResize history) (window_sizes settings) × Follows (reverse (map Resizing (window_sizes settings)) ++ history) new)
-    → OnErr r ((history : List WindowStep) → Follows history old → ¬ All (CanResize history) (window_sizes settings)) → OnErr r (new ≡ old)
-    → HasWindows run old → HasWindows (Taken (Settings settings) ∷ run) new
-settings-taken run settings old new (Ok done) ok err same (h, has, f) =
-    let both = ok h f in (reverse (map Resizing (window_sizes settings)) ++ h, (h, has, inl (both.0, refl)), both.1)
-settings-taken run settings old new (Err fault) ok err same (h, has, f) = (h, (h, has, inr (err h f, refl)), subst (Follows h) (sym same) f)
+pub settings-taken : (run : List Step) (settings : List PeerSetting) (old new : States) (r : Result (Unit {0}) WindowFault)
+    → OnOk r ((history : List WindowStep) → Follows history old.windows → All (CanResize history) (window_sizes settings))
+    → OnErr r ((history : List WindowStep) → Follows history old.windows → ¬ All (CanResize history) (window_sizes settings))
+    → OnErr r (new ≡ old) → OnOk r (Moves old (reverse (map Resizing (window_sizes settings))) new)
+    → HasWindows run old.windows → HasWindows (Taken (Settings settings) ∷ run) new.windows
+settings-taken run settings old new (Ok done) fit over same moves (h, has, f) =
+    (reverse (map Resizing (window_sizes settings)) ++ h, (h, has, inl (fit h f, refl)), moves h f)
+settings-taken run settings old new (Err fault) fit over same moves (h, has, f) = (h, (h, has, inr (over h f, refl)), subst (λ (s : States). Follows h s.windows) (sym same) f)
 
 -- a control that concerns no window
 pub nothing-taken : (run : List Step) (order : Order) (w : Windows) → ((history : List WindowStep) → Takes run history order history)
@@ -95,28 +100,28 @@ pub reset-taken : (run : List Step) (id : ℕ) (code : ErrorCode) (written : Boo
 reset-taken run id code written w windows follows (h, has, f) = (Closing id ∷ h, (h, has, refl), follows h f)
 
 -- an Open, whether or not it opens the window of its stream
-pub open-taken : (run : List Step) (id : ℕ) (w windows : Windows) (opening : Bool)
-    → ((history : List WindowStep) → Follows history w → opening ≡ opens run history id)
-    → ((history : List WindowStep) → Follows history w → Follows (if opening then Opening id ∷ history else history) windows)
-    → HasWindows run w → HasWindows (Taken (Open id tt) ∷ run) windows
-open-taken run id w windows opening value follows (h, has, f) =
-    (if opening then Opening id ∷ h else h, (h, has, ap (λ b. if b then Opening id ∷ h else h) (value h f)), follows h f)
+pub open-taken : (run : List Step) (id : ℕ) (old new : States) → HasOver run old → Moves old (if is_stream id then opening old id else []) new
+    → HasWindows run old.windows → HasWindows (Taken (Open id tt) ∷ run) new.windows
+open-taken run id old new over moves (h, has, f) = ((if is_stream id then opening old id else []) ++ h, (h, has, by (is_stream id) refl), moves h f)
+  where
+    mapped : (o : Option (List WindowStep)) → is_some (option_map (balance_of id) o) ≡ is_some o
+    mapped None = refl
+    mapped (Some steps) = refl
 
--- ---- a window that was opened in vain
+    same : 0 < id → opens_window old id ≡ (not (is_over id run) && not (is_some (since_opening id h)))
+    same positive = ap (λ b. not b && not (is_some (balance old.windows id))) (over id).0
+        ∙ ap (λ b. not (is_over id run) && not b) (ap is_some (f.balances id positive) ∙ mapped (since_opening id h))
 
-remove-behind : (test : ℕ → Bool) (x : ℕ × ℤ) (es : List (ℕ × ℤ)) (e : ℕ × ℤ) (b : Bool) → test x.0 ≡ b → (if b then Some x.1 else lookup test es) ≡ None
-    → (lookup test es ≡ None → remove_entry test (es ++ e ∷ []) ≡ es) → (if b then es ++ e ∷ [] else x ∷ remove_entry test (es ++ e ∷ [])) ≡ x ∷ es
-remove-behind test x es e true is none rest = cc
-remove-behind test x es e false is none rest = ap (λ (l : List (ℕ × ℤ)). x ∷ l) (rest none)
+    both : (b c : Bool) → b ≡ c → (if b then Opening id ∷ [] else []) ++ h ≡ (if c then Opening id ∷ h else h)
+    both true true e = refl
+    both false false e = refl
+    both true false e = absurd (true≢false e)
+    both false true e = absurd (true≢false (sym e))
 
-remove-pushed : (test : ℕ → Bool) (es : List (ℕ × ℤ)) (e : ℕ × ℤ) → lookup test es ≡ None → test e.0 ≡ true → remove_entry test (es ++ e ∷ []) ≡ es
-remove-pushed test [] e none here = ap (λ b. if b then [] else e ∷ []) here
-remove-pushed test (x ∷ es) e none here = remove-behind test x es e (test x.0) refl none (λ n. remove-pushed test es e n here)
-
-pub closed-again : (w : Windows) (id : ℕ) → balance w id ≡ None → closed (opened w id) id ≡ w
-closed-again w id none =
-    ap (λ (es : List (ℕ × ℤ)). let all : Windows = record { connection = w.connection; initial = w.initial; balances = es } in all)
-    (remove-pushed (nat_eq id) w.balances (id, pos 0) none (eq-eqb id id refl))
+    by : (b : Bool) → is_stream id ≡ b
+        → (if b then opening old id else []) ++ h ≡ (if (b && not (is_over id run)) && not (is_some (since_opening id h)) then Opening id ∷ h else h)
+    by false e = refl
+    by true e = both (opens_window old id) (not (is_over id run) && not (is_some (since_opening id h))) (same (number-positive id e))
 
 pub not-true : (b : Bool) → not b ≡ true → b ≡ false
 not-true true e = cc

@@ -32,7 +32,7 @@ IsStuck room_now (Some bytes) ahead = room_now ≡ 0
 -- of each open stream, where this is ahead of the senders
 abbrev pub AreStuck : Outbound → OpenStreams → List (List OutItem) → Type 0
 AreStuck o streams aheads = (id : ℕ) (stream : OpenStream) → streams id ≡ Some stream
-    → IsStuck (room o.windows id) stream.in_hand (get_or aheads stream.place [])
+    → IsStuck (room o.states.windows id) stream.in_hand (get_or aheads stream.place [])
 
 module _ {L In Out Shut : Type 0} where
   -- what is kept of a stream, if it is open
@@ -114,7 +114,7 @@ module _ {L In Out Shut : Type 0} where
   pub data HasNoFrame (run : List Step) (core : OutCore L In Out Shut) (id : ℕ) (ahead : List OutItem) : Type 0 where
     Ended : is_over id run ≡ true → HasNoFrame run core id ahead
     WasReset : was_reset id run ≡ true → HasNoFrame run core id ahead
-    Stuck : (stream : OpenStream) → open_stream core id ≡ Some stream → IsStuck (room core.sending.outbound.windows id) stream.in_hand ahead
+    Stuck : (stream : OpenStream) → open_stream core id ≡ Some stream → IsStuck (room core.sending.outbound.states.windows id) stream.in_hand ahead
         → HasNoFrame run core id ahead
 
   -- so it is of each, unless the last frame was a GOAWAY with an error

@@ -1,7 +1,7 @@
 -- DATA of a message (RFC 9113, section 6.1), and of what is in hand of a stream.
-use Rattle.std.specs.Prelude.{◌≡◌, ◌⊎◌, ℕ, ◌<◌, ◌≤◌, ◌^◌, nat_eq, false, true, List, [], ◌++◌, length, None, Some, MatchOption}
+use Rattle.std.specs.Prelude.{◌≡◌, ◌⊎◌, ℕ, ℤ, pos, ◌+ℤ◌, ◌-ℤ◌, ◌-◌, Option, ◌<◌, ◌≤◌, ◌^◌, nat_eq, false, true, List, [], ◌++◌, length, None, Some, MatchOption}
 use Rattle.std.specs.Map.{lookup, set_value}
-use Rattle.flow.specs.Windows.{Windows, room}
+use Rattle.flow.specs.Windows.{Shared, Windows, lesser, room}
 use Rattle.flow.specs.WindowHistory.{Follows, room_after}
 use Rattle.flow.specs.WindowHistory.{Step as WindowStep}
 use Rattle.outwriter.specs.declared.states.Stream.{Stream}
@@ -11,9 +11,9 @@ use Rattle.outwriter.specs.declared.stream.Hand.TheVariants as hand
 use Rattle.outwriter.specs.declared.stream.Looked.{Looked}
 use Rattle.outwriter.specs.declared.stream.Looked.TheVariants as looked
 use Rattle.outwriter.specs.Frames.{data_frame}
-use Rattle.outwriter.specs.OpenStreams.{HandIs, kept, shown, shows}
+use Rattle.outwriter.specs.OpenStreams.{HandIs, kept, shown, shows, with_hand}
 use Rattle.outwriter.specs.RunState.{spent}
-use Rattle.outwriter.specs.States.{IsShut, StandAs, States, can_write, is_reset, open_at, over_on}
+use Rattle.outwriter.specs.States.{IsShut, StandButWindows, States, can_write, is_reset, open_at, over_on, room_in}
 
 -- DATA of a front of a message, for which both windows have room and out of which it is taken; nothing, where they have none; or
 -- the message has no bytes. The rest of it stays.
@@ -24,25 +24,52 @@ TakesData id old new message rest (looked.Frame frame) = (front : List ℕ) × (
 TakesData id old new message rest looked.Nothing = (rest ≡ message) × (new ≡ old) × (0 < length message) × (room old id ≡ 0)
 TakesData id old new message rest looked.Empty = (rest ≡ message) × (new ≡ old) × (message ≡ [])
 
+-- bytes are taken out of both windows, which have as many: of a stream's that isn't open none are
+abbrev pub Spends : Shared → Shared → Option ℤ → Option ℤ → ℕ → Type 0
+Spends from to None new n = (n ≡ 0) × (to ≡ from) × (new ≡ None)
+Spends from to (Some b) new n = (n ≤ lesser from.connection (pos from.initial +ℤ b)) × (to ≡ record from { connection = from.connection - n }) × (new ≡ Some (b -ℤ pos n))
+
+-- the same DATA, by what all windows share and the balance of the stream's
+abbrev pub CutsData : ℕ → Shared → Shared → Option ℤ → Option ℤ → List ℕ → List ℕ → Looked → Type 0
+CutsData id from to old new message rest (looked.Frame frame) = (front : List ℕ) × (message ≡ front ++ rest) × (frame ≡ data_frame id front) × (0 < length front) × (length front ≤ 16384)
+    × Spends from to old new (length front)
+CutsData id from to old new message rest looked.Nothing = (rest ≡ message) × (to ≡ from) × (new ≡ old) × (0 < length message) × (room_in from old ≡ 0)
+CutsData id from to old new message rest looked.Empty = (rest ≡ message) × (to ≡ from) × (new ≡ old) × (message ≡ [])
+
 -- what a look at what is in hand of an open stream finds: nothing; or a message, of which the rest is kept
-abbrev pub LooksAtOpen : ℕ → OpenStream → OpenStream → Windows → Windows → Hand → Type 0
-LooksAtOpen id old new from to hand.Shut = ⊥
-LooksAtOpen id old new from to (hand.Empty place) = (new ≡ old) × (to ≡ from) × (old.place ≡ place) × (old.in_hand ≡ None)
-LooksAtOpen id old new from to (hand.Message found) = (message : List ℕ) × (rest : List ℕ) × (old.in_hand ≡ Some message) × (shown (Some new) ≡ Some (old.place, kept rest))
-    × TakesData id from to message rest found
+abbrev pub LooksAtOpen : ℕ → OpenStream → OpenStream → Shared → Shared → Option ℤ → Option ℤ → Hand → Type 0
+LooksAtOpen id old new from to was now hand.Shut = ⊥
+LooksAtOpen id old new from to was now (hand.Empty place) = (new ≡ old) × (to ≡ from) × (now ≡ was) × (old.place ≡ place) × (old.in_hand ≡ None)
+LooksAtOpen id old new from to was now (hand.Message found) = (message : List ℕ) × (rest : List ℕ) × (old.in_hand ≡ Some message) × (shown (Some new) ≡ Some (old.place, kept rest))
+    × CutsData id from to was now message rest found
 
 -- the same of a stream
-abbrev pub LooksAtStream : ℕ → Stream → Stream → Windows → Windows → Hand → Type 0
+abbrev pub LooksAtStream : ℕ → Stream → Stream → Shared → Shared → Hand → Type 0
 LooksAtStream id old new from to hand.Shut = (new ≡ old) × (to ≡ from) × ((can_write old.state ≡ false) ⊎ (old.opened ≡ None))
 LooksAtStream id old new from to (hand.Empty place) = (new ≡ old) × (to ≡ from) × (can_write old.state ≡ true) × (shown old.opened ≡ Some (place, None))
 LooksAtStream id old new from to (hand.Message found) = (can_write old.state ≡ true)
     × (place : ℕ) × (message : List ℕ) × (rest : List ℕ) × (shown old.opened ≡ Some (place, Some message)) × (shown new.opened ≡ Some (place, kept rest))
-    × TakesData id from to message rest found
+    × CutsData id from to old.balance new.balance message rest found
 
 -- of a stream among the entries, if it is there
-abbrev pub LooksAtEntry : ℕ → List (ℕ × Stream) → List (ℕ × Stream) → Windows → Windows → Hand → Type 0
+abbrev pub LooksAtEntry : ℕ → List (ℕ × Stream) → List (ℕ × Stream) → Shared → Shared → Hand → Type 0
 LooksAtEntry id old new from to found = MatchOption (lookup (nat_eq id) old) ((found ≡ hand.Shut) × (new ≡ old) × (to ≡ from))
     (λ was. (now : Stream) × (new ≡ set_value (nat_eq id) old now) × LooksAtStream id was now from to found)
+
+-- what is found of a message that begins, of which the rest is in hand then, if the stream is open
+abbrev pub BeginsOnStream : ℕ → Stream → Stream → Shared → Shared → List ℕ → Looked → Type 0
+BeginsOnStream id old new from to message found =
+    (rest : List ℕ) × (shown new.opened ≡ with_hand (kept rest) (shown old.opened)) × CutsData id from to old.balance new.balance message rest found
+
+-- where there is no window, nothing of it is written
+abbrev pub IsUnsent : List ℕ → Looked → Type 0
+IsUnsent message (looked.Frame frame) = ⊥
+IsUnsent message looked.Nothing = 0 < length message
+IsUnsent message looked.Empty = message ≡ []
+
+abbrev pub BeginsAtEntry : ℕ → List (ℕ × Stream) → List (ℕ × Stream) → Shared → Shared → List ℕ → Looked → Type 0
+BeginsAtEntry id old new from to message found = MatchOption (lookup (nat_eq id) old) ((new ≡ old) × (to ≡ from) × IsUnsent message found)
+    (λ was. (now : Stream) × (new ≡ set_value (nat_eq id) old now) × BeginsOnStream id was now from to message found)
 
 -- frames may be written on a stream
 pub record TakesFrames (states : States) (id : ℕ) : Type 0 where
@@ -52,9 +79,14 @@ pub record TakesFrames (states : States) (id : ℕ) : Type 0 where
   pub not_reset : is_reset states id ≡ false
 
 -- and among all of them
-abbrev pub LooksAtHand : ℕ → States → States → Windows → Windows → Hand → Type 0
-LooksAtHand id old new from to hand.Shut = (new ≡ old) × (to ≡ from) × IsShut old id
-LooksAtHand id old new from to (hand.Empty place) = (new ≡ old) × (to ≡ from) × TakesFrames old id × (shows (open_at old) id ≡ Some (place, None))
-LooksAtHand id old new from to (hand.Message found) = TakesFrames old id × StandAs old new
+abbrev pub LooksAtHand : ℕ → States → States → Hand → Type 0
+LooksAtHand id old new hand.Shut = (new ≡ old) × IsShut old id
+LooksAtHand id old new (hand.Empty place) = (new ≡ old) × TakesFrames old id × (shows (open_at old) id ≡ Some (place, None))
+LooksAtHand id old new (hand.Message found) = TakesFrames old id × StandButWindows old new
     × (place : ℕ) × (message : List ℕ) × (rest : List ℕ) × (shows (open_at old) id ≡ Some (place, Some message)) × HandIs id (kept rest) (open_at old) (open_at new)
-    × TakesData id from to message rest found
+    × TakesData id old.windows new.windows message rest found
+
+-- what is found of a message that begins, of which the rest is in hand then
+abbrev pub BeginsMessage : ℕ → States → States → List ℕ → Looked → Type 0
+BeginsMessage id old new message found = StandButWindows old new
+    × (rest : List ℕ) × HandIs id (kept rest) (open_at old) (open_at new) × TakesData id old.windows new.windows message rest found

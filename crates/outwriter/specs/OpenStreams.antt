@@ -38,11 +38,6 @@ abbrev pub kept : List ℕ → Option (List ℕ)
 kept [] = None
 kept (byte ∷ bytes) = Some (byte ∷ bytes)
 
--- bytes are kept in hand, where there are any
-abbrev pub HandKeeps : ℕ → List ℕ → OpenStreams → OpenStreams → Type 0
-HandKeeps id [] old new = SameHands old new
-HandKeeps id (byte ∷ bytes) old new = HandIs id (Some (byte ∷ bytes)) old new
-
 -- a stream isn't open any more
 abbrev pub Closes : ℕ → OpenStreams → OpenStreams → Type 0
 Closes id old new = (k : ℕ) → new k ≡ (if k == id then None else old k)

@@ -116,7 +116,7 @@ pub record Mirrors (run : List Step) (begun gone : Bool) (windows : Windows) (wa
   pub stand : HasStates run states
 
 abbrev pub MirrorsOf : List Step → Outbound → Type 0
-MirrorsOf run o = Mirrors run o.begun o.gone o.windows o.due.items o.block o.states
+MirrorsOf run o = Mirrors run o.begun o.gone o.states.windows o.due.items o.block o.states
 
 -- whatever run led to the state before, with this step it leads to the state after
 abbrev pub MirrorsOn : Step → Outbound → Outbound → Type 0
@@ -134,7 +134,7 @@ pub record IsBetween (o : Outbound) : Type 0 where
 
 -- the same for a frame that was first among those that are due, and is no longer among them
 abbrev pub MirrorsWith : List Step → Due → Outbound → Type 0
-MirrorsWith run one o = Mirrors run o.begun o.gone o.windows (one ∷ o.due.items) o.block o.states
+MirrorsWith run one o = Mirrors run o.begun o.gone o.states.windows (one ∷ o.due.items) o.block o.states
 
 abbrev pub WritesDue : Due → Frame → Outbound → Outbound → Type 0
 WritesDue one frame old new = (run : List Step) → MirrorsWith run one old → MayWrite run frame × MirrorsOf (Written frame ∷ run) new
@@ -146,7 +146,7 @@ WritesOrSkips one None old new = (duties_of one ≡ []) × (new ≡ old)
 
 -- a header block begins, whatever was due with what is due now
 abbrev pub Heads : Frame → Outbound → Outbound → Type 0
-Heads frame old new = (run : List Step) (before : List Due) → Mirrors run old.begun old.gone old.windows before old.block old.states
+Heads frame old new = (run : List Step) (before : List Due) → Mirrors run old.begun old.gone old.states.windows before old.block old.states
     → HasDue run old.due.items → MayWrite run frame × MirrorsOf (Written frame ∷ run) new
 
 -- a frame, if there is one; else nothing changed

@@ -1,9 +1,15 @@
 -- How the streams stand of a connection (RFC 9113, section 5.1), and the credit that is owed to the peer (section 6.9).
-use Rattle.std.specs.Prelude.{◌≡◌, ◌≢◌, ℕ, ◌+◌, ◌<◌, ◌≤◌, ◌^◌, ◌==◌, ◌||◌, ◌&&◌, ◌⊎◌, min, not, nat_eq, Bool, true, false, List, [], length, get_or, map, All, Option, None, Some, is_some, if◌then◌else◌}
+use Rattle.std.specs.Prelude.{◌≡◌, ◌≢◌, ℕ, ℤ, pos, int_le, ◌+ℤ◌, ◌<ℤ◌, ◌+◌, ◌<◌, ◌≤◌, ◌^◌, ◌==◌, ◌||◌, ◌&&◌, ◌⊎◌, min, not, nat_eq, Bool, true, false, List, [], ◌∷◌, ◌++◌, length, get_or, map, filter, All, MatchOption, Result, Ok, Err, Option, None, Some, is_some, if◌then◌else◌}
 use Rattle.std.specs.Map.{lookup, set_value}
 use Rattle.std.specs.Option.{option_map}
 use Rattle.indexmap.specs.IndexMap.{insert_entry, set_value_at}
 use Rattle.flow.specs.declared.TheConstants.{MAX_WINDOW}
+use Rattle.flow.specs.WindowHistory.{Step, Follows, Opening, Closing}
+use Rattle.flow.specs.declared.send_windows.WindowFault.{WindowFault}
+use Rattle.flow.specs.declared.send_windows.WindowFault.TheVariants.{Overflow, Unknown}
+use Rattle.flow.specs.Windows.{Shared, Windows, Fits as FitsWindow, balance, lesser_if_open, new_windows}
+use Rattle.outwriter.specs.declared.states.Change.{Change}
+use Rattle.outwriter.specs.declared.states.Change.TheVariants as change
 use Rattle.outwriter.specs.declared.states.Over.{Over}
 use Rattle.outwriter.specs.declared.states.Over.TheVariants as end_by
 use Rattle.outwriter.specs.declared.states.StreamState.{StreamState}
@@ -12,11 +18,13 @@ use Rattle.outwriter.specs.declared.states.Stream.{Stream}
 use Rattle.outwriter.specs.declared.stream.OpenStream.{OpenStream}
 use Rattle.outwriter.specs.OpenStreams.{OpenStreams}
 
--- what is owed on the connection, each stream of which something was heard or written, and what is kept of those that are open
+-- what is owed on the connection, each stream of which something was heard or written, what is kept of those that are open, and the
+-- windows of what is sent
 pub record States : Type 0 where
   pub connection : ℕ
   pub streams : List (ℕ × StreamState)
   pub opened : List (ℕ × Option OpenStream)
+  pub windows : Windows
 
 -- ---- one stream
 
@@ -91,7 +99,7 @@ abbrev pub is_heard : States → ℕ → Bool
 is_heard states id = is_some (lookup (nat_eq id) states.streams)
 
 abbrev pub nothing_known : States
-nothing_known = record { connection = 0; streams = []; opened = [] }
+nothing_known = record { connection = 0; streams = []; opened = []; windows = new_windows }
 
 -- n more, of which at most 2^31 - 1 at once
 abbrev pub more : ℕ → ℕ → ℕ
@@ -114,6 +122,25 @@ IsShut states id = (can_write (state_on states id) ≡ false) ⊎ (open_at state
 -- but for what is kept of the open streams, all is the same
 abbrev pub StandAs : States → States → Type 0
 StandAs old new = new ≡ record old { opened = new.opened }
+
+-- the same, but for the windows too
+abbrev pub StandButWindows : States → States → Type 0
+StandButWindows old new = new ≡ record old { opened = new.opened; windows = new.windows }
+
+-- but for the windows, all is the same
+abbrev pub SameButWindows : States → States → Type 0
+SameButWindows old new = new ≡ record old { windows = new.windows }
+
+-- the windows are those that were, with these steps
+abbrev pub Moves : States → List Step → States → Type 0
+Moves old steps new = (history : List Step) → Follows history old.windows → Follows (steps ++ history) new.windows
+
+-- an Open opens a stream's window, unless that is open or the stream is over
+abbrev pub opens_window : States → ℕ → Bool
+opens_window states id = not (is_some (over_on states id)) && not (is_some (balance states.windows id))
+
+abbrev pub opening : States → ℕ → List Step
+opening states id = if opens_window states id then Opening id ∷ [] else []
 
 -- the same streams are open, as they were
 abbrev pub SameOpen : States → States → Type 0
@@ -176,12 +203,80 @@ Puts old id state new = (other : ℕ) → lookup (nat_eq other) new.streams ≡ 
 abbrev pub BecomesOpen : States → ℕ → Option OpenStream → States → Type 0
 BecomesOpen old id opened new = (other : ℕ) → open_at new other ≡ (if not (is_heard old id) && (other == id) then opened else open_at old other)
 
+-- ---- what changes how a stream stands
+
+abbrev pub HasParts : Option Over → ℕ → Bool → Bool → Bool → StreamState → Type 0
+HasParts over amount call paid was_reset state =
+    (end_of state ≡ over) × (amount_of state ≡ amount) × (is_of_call state ≡ call) × (is_paid state ≡ paid) × (is_reset_state state ≡ was_reset)
+
+-- its state behind a change
+abbrev pub IsAfter : Change → StreamState → StreamState → Type 0
+IsAfter change.Open old new = HasParts (end_of old) (amount_of old) true (not (is_reset_state old)) (is_reset_state old) new
+IsAfter change.Hear old new = HasParts (end_of old) (amount_of old) (is_of_call old) (is_paid old) (is_reset_state old) new
+IsAfter change.Reset old new = HasParts (end_of old) 0 (is_of_call old) false true new
+IsAfter (change.End by) old new = HasParts (Some by) (amount_of old) (is_of_call old) (is_paid old) (is_reset_state old) new
+
+-- the balance of its window: an Open opens that, unless it is open or the stream is over; a reset and its end close it
+abbrev pub balance_after : Change → StreamState → Option ℤ → Option ℤ
+balance_after change.Open state kept = if not (is_some (end_of state)) && not (is_some kept) then Some (pos 0) else kept
+balance_after change.Hear state kept = kept
+balance_after change.Reset state kept = None
+balance_after (change.End by) state kept = None
+
+-- what that is in a history of windows
+abbrev pub steps_of : Change → States → ℕ → List Step
+steps_of change.Open states id = opening states id
+steps_of change.Hear states id = []
+steps_of change.Reset states id = Closing id ∷ []
+steps_of (change.End by) states id = Closing id ∷ []
+
+-- the state behind a change is put at a stream
+abbrev pub PutsAfter : Change → States → ℕ → States → Type 0
+PutsAfter change old id new = (state : StreamState) × IsAfter change (state_on old id) state × Puts old id state new
+
+-- ---- the window of one stream, by its balance
+
+-- how many bytes may be sent on it: none, where it isn't open
+abbrev pub room_in : Shared → Option ℤ → ℕ
+room_in shared kept = lesser_if_open shared.connection (option_map (λ b. pos shared.initial +ℤ b) kept)
+
+-- with this initial size it is at most 2^31 - 1, if it is open
+abbrev pub fits_with : ℕ → Option ℤ → Bool
+fits_with size None = true
+fits_with size (Some b) = int_le (pos size +ℤ b) (pos MAX_WINDOW)
+
+-- it is credited, or is not open, or would be over 2^31 - 1
+abbrev pub CreditsStream : Shared → Option ℤ → Option ℤ → ℕ → Result (Unit {0}) WindowFault → Type 0
+CreditsStream shared None new n answer = (new ≡ None) × (answer ≡ Err Unknown)
+CreditsStream shared (Some b) new n (Ok done) = (new ≡ Some (b +ℤ pos n)) × FitsWindow ((pos shared.initial +ℤ b) +ℤ pos n)
+CreditsStream shared (Some b) new n (Err fault) = (new ≡ Some b) × (fault ≡ Overflow) × (pos MAX_WINDOW <ℤ ((pos shared.initial +ℤ b) +ℤ pos n))
+
 -- ---- the streams as entries
 
+-- the balances of the windows that are open. No stream has two entries: of those of one, the first would count
+abbrev pub balance_first : ℕ → Option ℤ → List (ℕ × ℤ) → List (ℕ × ℤ)
+balance_first id None others = filter (λ other. not (nat_eq id other.0)) others
+balance_first id (Some b) others = (id, b) ∷ others
+
+abbrev pub balances_of : List (ℕ × Stream) → List (ℕ × ℤ)
+balances_of [] = []
+balances_of (entry ∷ entries) = balance_first entry.0 entry.1.balance (balances_of entries)
+
+abbrev pub windows_of : Shared → List (ℕ × Stream) → Windows
+windows_of shared streams = record { connection = shared.connection; initial = shared.initial; balances = balances_of streams }
+
+abbrev pub balance_in : Option Stream → Option ℤ
+balance_in None = None
+balance_in (Some stream) = stream.balance
+
 -- what they are of the streams
-abbrev pub states_of : ℕ → List (ℕ × Stream) → States
-states_of connection streams =
-    record { connection = connection; streams = map (λ entry. (entry.0, entry.1.state)) streams; opened = map (λ entry. (entry.0, entry.1.opened)) streams }
+abbrev pub states_of : ℕ → Shared → List (ℕ × Stream) → States
+states_of connection shared streams = record {
+  connection = connection;
+  streams = map (λ entry. (entry.0, entry.1.state)) streams;
+  opened = map (λ entry. (entry.0, entry.1.opened)) streams;
+  windows = windows_of shared streams;
+}
 
 abbrev pub state_of : Option Stream → Option StreamState
 state_of found = option_map (λ stream. stream.state) found
@@ -194,28 +289,44 @@ opened_of (Some stream) = stream.opened
 abbrev pub PutsEntry : List (ℕ × Stream) → ℕ → Stream → List (ℕ × Stream) → Type 0
 PutsEntry old id stream new = (other : ℕ) → lookup (nat_eq other) new ≡ (if nat_eq id other then Some stream else lookup (nat_eq other) old)
 
--- a stream, whose state is put: what is open of it stays, and this is where nothing was heard of it
-abbrev pub with_state : StreamState → Option OpenStream → Option Stream → Stream
-with_state state opened None = record { state = state; opened = opened }
-with_state state opened (Some stream) = record { state = state; opened = stream.opened }
+-- a stream: one of which nothing was heard is no call's, and may be given as open
+abbrev pub stream_in : Option OpenStream → Option Stream → Stream
+stream_in opened None = record { state = NoCall None; opened = opened; balance = None }
+stream_in opened (Some stream) = stream
 
--- the entries after the state of a stream is put
-abbrev pub PutsState : List (ℕ × Stream) → ℕ → StreamState → Option OpenStream → List (ℕ × Stream) → Type 0
-PutsState old id state opened new = PutsEntry old id (with_state state opened (lookup (nat_eq id) old)) new
-    × (new ≡ insert_entry nat_eq old id (with_state state opened (lookup (nat_eq id) old)))
+-- a stream changes how it stands
+abbrev pub IsChanged : Change → Stream → Stream → Type 0
+IsChanged change old new = (new.opened ≡ old.opened) × IsAfter change old.state new.state × (new.balance ≡ balance_after change old.state old.balance)
+
+-- the entries after one does
+abbrev pub Changes : List (ℕ × Stream) → ℕ → Change → Option OpenStream → List (ℕ × Stream) → Type 0
+Changes old id change opened new = (now : Stream) × IsChanged change (stream_in opened (lookup (nat_eq id) old)) now × PutsEntry old id now new × (new ≡ insert_entry nat_eq old id now)
+
+-- the balance of a window is set, if the stream is there
+abbrev pub SetsBalance : List (ℕ × Stream) → ℕ → Option ℤ → List (ℕ × Stream) → Type 0
+SetsBalance old id kept new = MatchOption (lookup (nat_eq id) old) (new ≡ old) (λ was. new ≡ set_value (nat_eq id) old (record was { balance = kept }))
+
+-- the window of a stream is credited, if the stream is there
+abbrev pub CreditsEntry : Shared → List (ℕ × Stream) → ℕ → List (ℕ × Stream) → ℕ → Result (Unit {0}) WindowFault → Type 0
+CreditsEntry shared old id new n answer = MatchOption (lookup (nat_eq id) old) ((new ≡ old) × (answer ≡ Err Unknown))
+    (λ was. (kept : Option ℤ) × (new ≡ set_value (nat_eq id) old (record was { balance = kept })) × CreditsStream shared was.balance kept n answer)
 
 -- what is kept of an open stream changes at most
 abbrev pub Edits : List (ℕ × Stream) → ℕ → List (ℕ × Stream) → Type 0
 Edits old id new = (new ≡ old) ⊎ ((was : Stream) × (opened : Option OpenStream) × (lookup (nat_eq id) old ≡ Some was)
     × (new ≡ set_value (nat_eq id) old (record was { opened = opened })))
 
+-- and its window
+abbrev pub Rewrites : List (ℕ × Stream) → ℕ → List (ℕ × Stream) → Type 0
+Rewrites old id new = (new ≡ old) ⊎ ((was : Stream) × (now : Stream) × (lookup (nat_eq id) old ≡ Some was) × (now.state ≡ was.state) × (new ≡ set_value (nat_eq id) old now))
+
 -- n more are owed on a stream that may be owed something, at its place
 abbrev pub Adds : List (ℕ × Stream) → ℕ → ℕ → Option ℕ → List (ℕ × Stream) → Type 0
 Adds old id n None new = (new ≡ old) × (is_paid (state_in (state_of (lookup (nat_eq id) old))) ≡ false)
-Adds old id n (Some place) new = (owed : ℕ) × (over : Option Over) × (opened : Option OpenStream)
-    × (lookup (nat_eq id) old ≡ Some (record { state = Call owed over; opened = opened })) × (place < length old)
-    × PutsEntry old id (record { state = Call (more owed n) over; opened = opened }) new
-    × (new ≡ set_value_at old place (record { state = Call (more owed n) over; opened = opened }))
+Adds old id n (Some place) new = (owed : ℕ) × (over : Option Over) × (was : Stream)
+    × (lookup (nat_eq id) old ≡ Some (record was { state = Call owed over })) × (place < length old)
+    × PutsEntry old id (record was { state = Call (more owed n) over }) new
+    × (new ≡ set_value_at old place (record was { state = Call (more owed n) over }))
 
 -- nothing is owed here
 abbrev pub IsSettled : Stream → Type 0
@@ -231,9 +342,9 @@ IsSettledBut but owing streams = (k : ℕ) (d : ℕ × Stream) → owing ≤ k �
 -- all that is owed at a place is taken, or nothing is owed there
 abbrev pub TakesAt : List (ℕ × Stream) → ℕ → Option (ℕ × ℕ) → List (ℕ × Stream) → Type 0
 TakesAt old place None new = (new ≡ old) × ((d : ℕ × Stream) → IsSettled (get_or old place d).1)
-TakesAt old place (Some taken) new = (over : Option Over) × (opened : Option OpenStream) × (0 < taken.1)
-    × (lookup (nat_eq taken.0) old ≡ Some (record { state = Call taken.1 over; opened = opened }))
-    × PutsEntry old taken.0 (record { state = Call 0 over; opened = opened }) new × (new ≡ set_value_at old place (record { state = Call 0 over; opened = opened }))
+TakesAt old place (Some taken) new = (over : Option Over) × (was : Stream) × (0 < taken.1)
+    × (lookup (nat_eq taken.0) old ≡ Some (record was { state = Call taken.1 over }))
+    × PutsEntry old taken.0 (record was { state = Call 0 over }) new × (new ≡ set_value_at old place (record was { state = Call 0 over }))
 
 -- the same for the last of the first places at which something is owed
 abbrev pub TakesLast : List (ℕ × Stream) → ℕ → Option (ℕ × ℕ) → List (ℕ × Stream) → Type 0

@@ -97,14 +97,14 @@ module _ {L In Out Shut : Type 0} where
   -- DATA of a front of some bytes, of which the rest is in hand then; or all of them are, as there is no room
   abbrev pub TellsData : ℕ → List ℕ → Looked → Sending L In Out Shut → Sending L In Out Shut → Type 0
   TellsData id bytes (looked.Frame frame) old new = (front : List ℕ) × (rest : List ℕ) × (bytes ≡ front ++ rest) × HandIs id (kept rest) (open_at old.outbound.states) (open_at new.outbound.states)
-      × TellsMore frame (on_stream id (map Byte front)) old.outbound new.outbound × (new.outbound ≡ record old.outbound { windows = new.outbound.windows; states = record old.outbound.states { opened = new.outbound.states.opened } })
-  TellsData id bytes looked.Nothing old new = HandIs id (Some bytes) (open_at old.outbound.states) (open_at new.outbound.states) × SameButOpen old.outbound new.outbound × (room old.outbound.windows id ≡ 0)
+      × TellsMore frame (on_stream id (map Byte front)) old.outbound new.outbound × (new.outbound ≡ record old.outbound { states = record old.outbound.states { opened = new.outbound.states.opened; windows = new.outbound.states.windows } })
+  TellsData id bytes looked.Nothing old new = HandIs id (Some bytes) (open_at old.outbound.states) (open_at new.outbound.states) × SameButOpen old.outbound new.outbound × (room old.outbound.states.windows id ≡ 0)
   TellsData id bytes looked.Empty old new = (bytes ≡ []) × HandIs id None (open_at old.outbound.states) (open_at new.outbound.states) × SameButOpen old.outbound new.outbound
 
   -- nothing can be written on this stream, if it is open
   abbrev pub StuckAt : (Out → List OutItem) → ℕ → Sending L In Out Shut → Type 0
   StuckAt ahead id core = (stream : OpenStream) → (open_at core.outbound.states) id ≡ Some stream
-      → IsStuck (room core.outbound.windows id) stream.in_hand (get_or (aheads ahead core.senders.items) stream.place [])
+      → IsStuck (room core.outbound.states.windows id) stream.in_hand (get_or (aheads ahead core.senders.items) stream.place [])
 
   -- nor on any on which nothing could be before
   abbrev pub GetsStuck : (Out → List OutItem) → (Out → List OutItem) → ℕ → Sending L In Out Shut → Sending L In Out Shut → Type 0

@@ -3,13 +3,13 @@
 //! An open stream that isn't among those that take turns is looked at once in a while, one of them with each frame. A
 //! stream that a window holds isn't among them, so it costs the others that look and no more.
 
-ghost use Rattle.std.specs.Prelude.{◌≡◌, ◌≢◌, ◌<◌, ◌^◌, length, List, true, false, None, Err, IfOk, IfErr, IfSome, IfNone, nat_eq};
+ghost use Rattle.std.specs.Prelude.{◌≡◌, ◌<◌, List, true, false, None, Err, IfOk, IfErr, IfSome, IfNone};
 
 use crate::control::OutFault;
 use crate::out_core::OutCore;
 use crate::sending::Sending;
 use crate::states::StreamStates;
-use crate::stream::{Hand, Looked, Polled, next_data, poll};
+use crate::stream::{Hand, Looked, Polled, poll};
 use account::OutItem;
 use bytes::Bytes;
 use callbox::Sender;
@@ -77,10 +77,8 @@ impl<L: Lane<Item = OutItem>> OutCore<L> {
 
 impl<L: Lane<Item = OutItem>> Sending<L> {
     ghost use Rattle.outwriter.specs.Frames.{IsSound};
-    ghost use Rattle.outwriter.specs.Cores.{calls, lanes};
+    ghost use Rattle.outwriter.specs.Cores.{lanes};
     ghost use Rattle.outwriter.specs.Data.{TakesFrames};
-    ghost use Rattle.outwriter.specs.OpenStreams.{has_hand};
-    ghost use Rattle.outwriter.specs.States.{open_at};
     ghost use Rattle.outwriter.specs.Polls.{coming};
     ghost use Rattle.outwriter.specs.StreamLooks.{AllStuck, GetsQuiet, GetsStuck, Gives, HoldsOn, LooksAt, Picks, TellsData, frame_in};
     ghost use Rattle.outwriter.specs.RunState.{SameOwn, IsSpent, Progress, Progresses, IsBetween};
@@ -222,7 +220,7 @@ impl<L: Lane<Item = OutItem>> Sending<L> {
         ensures gives { Gives L.got L.out_name self.old self.new }
         ensures looks { IfOk result (λ l. LooksAt L.got (coming L.got L.ahead) id l self.old self.new) }
     {
-        let place = match self.outbound.states.look(id, &mut self.outbound.windows)? {
+        let place = match self.outbound.states.look(id)? {
             Hand::Shut => return Ok(Looked::Nothing),
             Hand::Message(looked) => return Ok(looked),
             Hand::Empty(place) => place,
@@ -241,17 +239,13 @@ impl<L: Lane<Item = OutItem>> Sending<L> {
     fn data(&mut self, id: StreamId, message: Bytes) -> Result<Looked, AllocError>
         requires between { IsBetween self.old.outbound }
         requires writable { TakesFrames self.old.outbound.states id }
-        requires empty { has_hand (open_at self.old.outbound.states id) ≡ false }
         ensures sound { IfOk result (λ l. IfSome (frame_in l) IsSound) }
         ensures frame { IfOk result (λ l. Progress (frame_in l) self.old.outbound self.new.outbound) }
         ensures own { IfOk result (λ l. IfNone (frame_in l) (SameOwn self.old.outbound self.new.outbound)) }
         ensures data { IfOk result (λ l. TellsData id message l self.old self.new) }
         ensures senders { self.new.senders ≡ self.old.senders }
     {
-        let mut rest = message;
-        let looked = next_data(&mut self.outbound.windows, id, &mut rest)?;
-        self.outbound.states.keep(id, rest);
-        Ok(looked)
+        self.outbound.states.begin_message(id, message)
     }
 }
 

@@ -154,9 +154,9 @@ impl<L: Lane<Item = OutItem>> OutCore<L> {
 
     /// Whether an item of the stream is in hand that a window keeps back.
     pub fn held(&self, id: StreamId) -> bool
-        ensures { result ≡ is_held (open_stream self.now id) (room self.now.sending.outbound.windows id) }
+        ensures { result ≡ is_held (open_stream self.now id) (room self.now.sending.outbound.states.windows id) }
     {
-        self.sending.outbound.states.has_hand(id) && self.sending.outbound.windows.room(id) == 0
+        self.sending.outbound.states.has_hand(id) && self.sending.outbound.states.room(id) == 0
     }
 
     /// The senders that are kept: of each call whose sender wasn't given back.

@@ -4,13 +4,11 @@
 //! that frame: whatever run led to the state before, the frame might be written behind it, and the run with the frame
 //! leads to the state behind it.
 
-ghost use Rattle.std.specs.Prelude.{Err, ◌==◌, ◌∷◌, if◌then◌else◌, ◌≢◌, ◌≡◌, ◌≤◌, ◌<◌, ◌^◌, ◌&&◌, ◌||◌, not, true, false, nat_lt, nat_le, ℕ, All, List, [], Some, None, OnOk, OnErr, IfErr, length};
-ghost use Rattle.flow.specs.WindowHistory.{Follows, CanCredit, CanResize};
+ghost use Rattle.std.specs.Prelude.{Err, ◌==◌, ◌∷◌, if◌then◌else◌, ◌≢◌, ◌≡◌, ◌<◌, ◌^◌, ◌&&◌, ◌||◌, not, true, false, nat_lt, nat_le, ℕ, All, List, [], Some, None, OnOk, OnErr, IfErr};
+ghost use Rattle.flow.specs.WindowHistory.{Follows, CanCredit, CanResize, Closing};
 ghost use Rattle.flow.specs.WindowHistory.{Step as WindowStep};
-ghost use Rattle.flow.specs.Windows.{balance};
-ghost use Rattle.outwriter.specs.States.{BecomesOpen, SameOpen, SameOver, open_at, is_heard, is_reset, knows, owed_on, nothing_known, pays};
+ghost use Rattle.outwriter.specs.States.{Moves, SameOpen, SameOver, opening, open_at, is_heard, is_reset, knows, owed_on, nothing_known, pays};
 ghost use Rattle.outwriter.specs.OpenStreams.{stream_at};
-ghost use Rattle.outwriter.specs.RunState.{HasOver};
 ghost use Rattle.outwriter.specs.Histories.{is_stream as is_number, table_sizes};
 ghost use Rattle.outwriter.specs.TableLimits.{limited_by};
 ghost use Rattle.outwriter.specs.ToldByNow.{SpellsOf};
@@ -21,7 +19,7 @@ use crate::control::{Control, OutFault};
 use crate::due::Due;
 use crate::resize::resize;
 use crate::states::StreamStates;
-use flow::{MAX_WINDOW, SendWindows, WindowFault};
+use flow::{MAX_WINDOW, WindowFault};
 use h2frame::{ErrorCode, PeerSetting, PeerSettings, StreamId};
 use hpack_codec::Encoder;
 use lists::{Field, Sequence};
@@ -36,7 +34,6 @@ pub(crate) struct Outbound {
     pub(crate) begun: bool,
     /// Whether a GOAWAY with an error was written.
     pub(crate) gone: bool,
-    pub(crate) windows: SendWindows,
     pub(crate) encoder: Encoder,
     /// The header block that was begun and isn't whole.
     pub(crate) block: Option<HeaderBlock>,
@@ -46,8 +43,8 @@ pub(crate) struct Outbound {
 
 impl Outbound {
     ghost use Rattle.std.specs.VecDeque.{deque_len, deque_capacity};
-    ghost use Rattle.outwriter.specs.Steps.{Step, Taken, Granted};
-    ghost use Rattle.outwriter.specs.Histories.{opens, HasWindow, Overflows, window_sizes};
+    ghost use Rattle.outwriter.specs.Steps.{Taken, Granted};
+    ghost use Rattle.outwriter.specs.Histories.{HasWindow, Overflows, window_sizes};
     ghost use Rattle.outwriter.specs.RunState.{IsBetween, MirrorsOf, MirrorsOn, Stays};
     ghost use Rattle.outwriter.specs.CallState.{Takes, none_is_new};
     ghost use Rattle.outwriter.specs.CoreChanges.{KeptOn, becomes_open, due_reset, is_new_call as is_new_call_of};
@@ -66,7 +63,6 @@ impl Outbound {
             alloc,
             begun: false,
             gone: false,
-            windows: SendWindows::new(alloc),
             encoder: Encoder::new(alloc),
             block: None,
             due: VecDeque::new(alloc),
@@ -86,7 +82,6 @@ impl Outbound {
         ensures stays { Stays self.old self.new }
         ensures room { OnOk result (deque_len self.new.due < deque_capacity self.new.due) }
         ensures states { self.new.states ≡ self.old.states }
-        ensures windows { self.new.windows ≡ self.old.windows }
         ensures takes { Takes [] none_is_new [] self.old self.new }
         ensures encoder { self.new.encoder ≡ self.old.encoder }
     {
@@ -99,13 +94,13 @@ impl Outbound {
         requires room { deque_len self.old.due < deque_capacity self.old.due }
         ensures taken { MirrorsOn (Taken (order.Settings settings.now)) self.old self.new }
         ensures takes { Takes (due_kind.SettingsAck ∷ []) none_is_new (table_sizes settings.now) self.old self.new }
-        ensures fits { OnOk result ((history : List WindowStep) → Follows history self.old.windows → All (CanResize history) (window_sizes settings.now)) }
-        ensures over { OnErr result ((history : List WindowStep) → Follows history self.old.windows → ¬ All (CanResize history) (window_sizes settings.now)) }
+        ensures fits { OnOk result ((history : List WindowStep) → Follows history self.old.states.windows → All (CanResize history) (window_sizes settings.now)) }
+        ensures over { OnErr result ((history : List WindowStep) → Follows history self.old.states.windows → ¬ All (CanResize history) (window_sizes settings.now)) }
         ensures limits { self.new.encoder ≡ limited_by self.old.encoder (table_sizes settings.now) }
     {
         self.due.push_back_reserved(Due::SettingsAck);
         limit_table(&mut self.encoder, settings.as_slice());
-        resize(&mut self.windows, settings.as_slice())
+        resize(&mut self.states, settings.as_slice())
     }
 
     /// Owes the answer to a PING.
@@ -122,11 +117,11 @@ impl Outbound {
     pub(crate) fn take_window(&mut self, id: StreamId, increment: u32) -> bool
         ensures taken { MirrorsOn (Taken (order.Window id increment)) self.old self.new }
         ensures takes { Takes [] none_is_new [] self.old self.new }
-        ensures fits { result ≡ true → (history : List WindowStep) → Follows history self.old.windows → HasWindow history id → CanCredit history id increment }
-        ensures over { result ≡ false → (history : List WindowStep) → Follows history self.old.windows → Overflows history id increment }
+        ensures fits { result ≡ true → (history : List WindowStep) → Follows history self.old.states.windows → HasWindow history id → CanCredit history id increment }
+        ensures over { result ≡ false → (history : List WindowStep) → Follows history self.old.states.windows → Overflows history id increment }
         ensures encoder { self.new.encoder ≡ self.old.encoder }
     {
-        let credited = self.windows.credit(id, increment);
+        let credited = self.states.credit(id, increment);
         !is_overflow(credited)
     }
 
@@ -140,36 +135,7 @@ impl Outbound {
         ensures takes_none { OnErr result (Takes [] none_is_new [] self.old self.new) }
         ensures encoder { self.new.encoder ≡ self.old.encoder }
     {
-        let is_new = self.is_new_call(id);
-        if !self.opens(id) {
-            return open_state(&mut self.states, id, is_new, place);
-        }
-        let Ok(()) = self.windows.open(id) else {
-            return Err(AllocError);
-        };
-        match open_state(&mut self.states, id, is_new, place) {
-            Ok(()) => Ok(()),
-            Err(e) => {
-                self.windows.close(id);
-                Err(e)
-            }
-        }
-    }
-
-    /// Whether a stream is a call's from now on, and wasn't yet.
-    fn is_new_call(&self, id: StreamId) -> bool
-        ensures { result ≡ is_new_call_of self.now id }
-    {
-        is_stream(id) && !self.states.state(id).is_call()
-    }
-
-    /// Whether an Open opens a stream's window.
-    fn opens(&self, id: StreamId) -> bool
-        ensures value { (run : List Step) (history : List WindowStep) → HasOver run self.now.states → Follows history self.now.windows → result ≡ opens run history id }
-        ensures stream { result ≡ true → 0 < id }
-        ensures closed { result ≡ true → balance self.now.windows id ≡ None }
-    {
-        is_stream(id) && self.states.state(id).over().is_none() && !self.windows.has(id)
+        open_state(&mut self.states, id, place)
     }
 
     /// Refuses a stream of which nothing was or will be written. Out of memory, it hands the control back and changes nothing.
@@ -251,7 +217,6 @@ impl Outbound {
     {
         let is_due = written && self.may_write(id);
         reset_state(&mut self.states, id)?;
-        self.windows.close(id);
         if is_due {
             self.due.push_back_reserved(Due::Reset(id, code));
         }
@@ -298,25 +263,20 @@ pub(crate) fn is_stream(id: StreamId) -> bool
     0 < id && id <= MAX_WINDOW
 }
 
-/// The state of a call's stream, if the stream is new.
-fn open_state(
-    states: &mut StreamStates,
-    id: StreamId,
-    is_new: bool,
-    place: usize,
-) -> Result<(), AllocError>
-    requires { is_new ≡ (is_number id && not (knows states.old id)) }
+/// A call begins on a stream, if it is one.
+fn open_state(states: &mut StreamStates, id: StreamId, place: usize) -> Result<(), AllocError>
     ensures owed { OnOk result ((other : ℕ) → owed_on states.new other ≡ owed_on states.old other) }
-    ensures pays { OnOk result ((other : ℕ) → pays states.new other ≡ (if is_new && (other == id) then not (is_reset states.old id) else pays states.old other)) }
-    ensures known { OnOk result ((other : ℕ) → knows states.new other ≡ ((is_new && (other == id)) || knows states.old other)) }
+    ensures pays { OnOk result ((other : ℕ) → pays states.new other ≡ (if (is_number id && not (knows states.old id)) && (other == id) then not (is_reset states.old id) else pays states.old other)) }
+    ensures known { OnOk result ((other : ℕ) → knows states.new other ≡ (((is_number id && not (knows states.old id)) && (other == id)) || knows states.old other)) }
     ensures resets { OnOk result ((other : ℕ) → is_reset states.new other ≡ is_reset states.old other) }
-    ensures heard { OnOk result ((other : ℕ) → is_heard states.new other ≡ ((is_new && (other == id)) || is_heard states.old other)) }
+    ensures heard { OnOk result ((other : ℕ) → is_heard states.new other ≡ (((is_number id && not (knows states.old id)) && (other == id)) || is_heard states.old other)) }
     ensures over { OnOk result (SameOver states.old states.new) }
-    ensures same { OnOk result (is_new ≡ false → SameOpen states.old states.new) }
-    ensures becomes { OnOk result (is_new ≡ true → BecomesOpen states.old id (Some (stream_at place)) states.new) }
+    ensures same { OnOk result ((is_number id && not (knows states.old id)) ≡ false → SameOpen states.old states.new) }
+    ensures becomes { OnOk result ((k : ℕ) → open_at states.new k ≡ (if (is_number id && not (is_heard states.old id)) && (k == id) then Some (stream_at place) else open_at states.old k)) }
+    ensures windows { OnOk result (Moves states.old (if is_number id then opening states.old id else []) states.new) }
     ensures unchanged { OnErr result (states.new ≡ states.old) }
 {
-    if !is_new {
+    if !is_stream(id) {
         return Ok(());
     }
     states.open(id, place)
@@ -331,9 +291,11 @@ fn reset_state(states: &mut StreamStates, id: StreamId) -> Result<(), AllocError
     ensures heard { OnOk result ((k : ℕ) → is_heard states.new k ≡ ((is_number id && (k == id)) || is_heard states.old k)) }
     ensures over { OnOk result (SameOver states.old states.new) }
     ensures open { OnOk result (SameOpen states.old states.new) }
+    ensures windows { OnOk result (Moves states.old (Closing id ∷ []) states.new) }
     ensures unchanged { OnErr result (states.new ≡ states.old) }
 {
     if !is_stream(id) {
+        states.close_window(id);
         return Ok(());
     }
     states.reset(id)

@@ -1,27 +1,30 @@
 //! The initial windows of SETTINGS (RFC 9113, section 6.9.2).
 
-ghost use Rattle.std.specs.Prelude.{◌≡◌, ◌++◌, List, reverse, map, All, OnOk, OnErr};
+ghost use Rattle.std.specs.Prelude.{◌≡◌, List, reverse, map, All, OnOk, OnErr};
 ghost use Rattle.flow.specs.WindowHistory.{Step, Resizing, Follows, CanResize};
 ghost use Rattle.outwriter.specs.Histories.{window_sizes};
 ghost use Rattle.outwriter.specs.Resizes.{IsSeen};
+ghost use Rattle.outwriter.specs.States.{Moves, SameButWindows};
 
-use flow::{SendWindows, WindowFault};
+use crate::states::StreamStates;
+use flow::WindowFault;
 use h2frame::PeerSetting;
 
 /// Sets the initial windows of SETTINGS, of which the last one counts. All of them have to fit, so the greatest is tried
 /// first.
-pub(crate) fn resize(windows: &mut SendWindows, settings: &[PeerSetting]) -> Result<(), WindowFault>
-    ensures ok { OnOk result ((history : List Step) → Follows history windows.old → All (CanResize history) (window_sizes settings.now)
-        × Follows (reverse (map Resizing (window_sizes settings.now)) ++ history) windows.new) }
-    ensures overflow { OnErr result ((history : List Step) → Follows history windows.old → ¬ All (CanResize history) (window_sizes settings.now)) }
-    ensures unchanged { OnErr result (windows.new ≡ windows.old) }
+pub(crate) fn resize(states: &mut StreamStates, settings: &[PeerSetting]) -> Result<(), WindowFault>
+    ensures rest { SameButWindows states.old states.new }
+    ensures windows { OnOk result (Moves states.old (reverse (map Resizing (window_sizes settings.now))) states.new) }
+    ensures fits { OnOk result ((history : List Step) → Follows history states.old.windows → All (CanResize history) (window_sizes settings.now)) }
+    ensures overflow { OnErr result ((history : List Step) → Follows history states.old.windows → ¬ All (CanResize history) (window_sizes settings.now)) }
+    ensures unchanged { OnErr result (states.new ≡ states.old) }
 {
     let (greatest, last) = sizes(settings);
     let Some(size) = last else {
         return Ok(());
     };
-    windows.initial(greatest)?;
-    windows.initial(size)?;
+    states.initial(greatest)?;
+    states.initial(size)?;
     Ok(())
 }
 

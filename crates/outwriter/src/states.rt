@@ -1,15 +1,21 @@
-//! How each stream stands of which something was heard or written (RFC 9113, section 5.1), and the credit that is owed to
-//! the peer (section 6.9).
+//! How each stream stands of which something was heard or written (RFC 9113, section 5.1), the credit that is owed to the
+//! peer, and the windows of what is sent (section 6.9).
 
-ghost use Rattle.std.specs.Prelude.{◌≡◌, ◌<◌, ◌≤◌, ◌^◌, ◌⊎◌, ℕ, List, Option, None, Some, false, true, not, is_some, IfSome, IfNone, IfOk, OnOk, OnErr, length, nat_eq};
-ghost use Rattle.std.specs.Map.{lookup};
-ghost use Rattle.outwriter.specs.States.{nothing_known, open_at, knows, is_reset, state_on, over_on, amount_of, by_reset, more, is_heard, can_write, IsShut, Hears, Opens, BecomesOpen, Grants, Resets, SameEnds, SameOver, SameOwed, SameOpen, StandAs, SetsEnd, Puts, PutsState, Edits, TakesAll, Adds, AllFit, IsSettledBut, IsSettledFrom, TakesAt, TakesLast, opened_of};
-ghost use Rattle.outwriter.specs.Data.{LooksAtEntry, LooksAtHand, LooksAtStream};
-ghost use Rattle.outwriter.specs.OpenStreams.{Closes, HandKeeps, PlaceIs, SameHands, has_hand, shown, stream_at, with_hand, with_place};
+ghost use Rattle.std.specs.Prelude.{◌≡◌, ◌<◌, ◌≤◌, ◌^◌, ℕ, pos, ◌&&◌, if◌then◌else◌, List, [], ◌∷◌, Option, None, Some, false, true, not, is_some, IfSome, IfOk, OnOk, OnErr, length, nat_eq};
+ghost use Rattle.std.specs.List.{list_all};
+ghost use Rattle.std.specs.Map.{lookup, values_of};
+ghost use Rattle.indexmap.specs.IndexMap.{IsUnique};
+ghost use Rattle.flow.specs.WindowHistory.{CanCredit, CanResize, Closing, Credit, Follows, Resizing};
+ghost use Rattle.flow.specs.WindowHistory.{Step as WindowStep};
+ghost use Rattle.flow.specs.Windows.{CreditFault, Meets, room};
+ghost use Rattle.outwriter.specs.States.{nothing_known, open_at, is_reset, state_on, amount_of, by_reset, end_of, more, is_heard, can_write, balance_after as balance_after_of, fits_with, room_in, steps_of, Changes, CreditsEntry, CreditsStream, IsAfter, PutsAfter, Rewrites, SetsBalance, Hears, Opens, BecomesOpen, Grants, Moves, Resets, SameButWindows, SameEnds, SameOver, SameOwed, SameOpen, StandAs, SetsEnd, Edits, TakesAll, Adds, AllFit, IsSettledBut, IsSettledFrom, TakesAt, TakesLast, opened_of, opening};
+ghost use Rattle.outwriter.specs.Resizes.{FitsOn};
+ghost use Rattle.outwriter.specs.Data.{BeginsAtEntry, BeginsMessage, BeginsOnStream, IsUnsent, LooksAtEntry, LooksAtHand, LooksAtStream};
+ghost use Rattle.outwriter.specs.OpenStreams.{Closes, PlaceIs, SameHands, has_hand, kept as kept_of, shown, stream_at, with_hand, with_place};
 
-use crate::stream::{Hand, OpenStream};
+use crate::stream::{Hand, Looked, OpenStream, kept, next_data};
 use bytes::Bytes;
-use flow::{MAX_WINDOW, SendWindows};
+use flow::{Balance, ConnectionWindow, MAX_WINDOW, WindowFault};
 use h2frame::StreamId;
 use indexmap::IndexMap;
 use std::alloc::{AllocError, Global};
@@ -33,10 +39,23 @@ pub(crate) enum StreamState {
     Reset { is_call: bool, over: Option<Over> },
 }
 
-impl StreamState {
-    ghost use Rattle.outwriter.specs.States.{end_of, is_paid, is_of_call, is_reset_state};
+/// What changes how a stream stands.
+#[derive(Clone, Copy)]
+enum Change {
+    /// A call begins on it.
+    Open,
+    /// It is heard of.
+    Hear,
+    /// It is reset.
+    Reset,
+    /// Its end is written.
+    End(Over),
+}
 
-    pub(crate) fn is_call(&self) -> bool
+impl StreamState {
+    ghost use Rattle.outwriter.specs.States.{IsAfter, end_of, is_paid, is_of_call, is_reset_state};
+
+    fn is_call(&self) -> bool
         ensures { result ≡ is_of_call self.now }
     {
         match self {
@@ -74,23 +93,34 @@ impl StreamState {
         }
     }
 
-    /// The state behind an Open.
+    /// The state behind a change.
+    fn after(self, change: Change) -> StreamState
+        ensures { IsAfter change self result }
+    {
+        match change {
+            Change::Open => self.opened(),
+            Change::Hear => self,
+            Change::Reset => self.reset(),
+            Change::End(by) => self.ended(by),
+        }
+    }
+
+    /// The state behind an Open. That of a call stays.
     fn opened(self) -> StreamState
-        requires { is_of_call self ≡ false }
         ensures end { end_of result ≡ end_of self }
-        ensures amount { amount_of result ≡ 0 }
+        ensures amount { amount_of result ≡ amount_of self }
         ensures call { is_of_call result ≡ true }
         ensures paid { is_paid result ≡ not (is_reset_state self) }
         ensures reset { is_reset_state result ≡ is_reset_state self }
     {
-        let over = self.over();
-        if self.is_reset() {
-            return StreamState::Reset {
+        match self {
+            StreamState::NoCall { over } => StreamState::Call { owed: 0, over },
+            StreamState::Call { owed, over } => StreamState::Call { owed, over },
+            StreamState::Reset { over, .. } => StreamState::Reset {
                 is_call: true,
                 over,
-            };
+            },
         }
-        StreamState::Call { owed: 0, over }
     }
 
     /// The state behind a Reset.
@@ -130,36 +160,98 @@ pub(crate) struct Stream {
     state: StreamState,
     /// What is written of it, while it is open.
     opened: Option<OpenStream>,
+    /// That of its window, while the window is open.
+    balance: Option<Balance>,
 }
 
 impl Stream {
-    /// Looks at what is in hand, if something may be written on it.
-    fn look(&mut self, id: StreamId, windows: &mut SendWindows) -> Result<Hand, AllocError>
+    /// Changes how it stands. An Open opens its window, unless that is open or the stream is over; a reset and its end close it.
+    fn change(&mut self, change: Change)
+        ensures opened { self.new.opened ≡ self.old.opened }
+        ensures state { IsAfter change self.old.state self.new.state }
+        ensures balance { self.new.balance ≡ balance_after_of change self.old.state self.old.balance }
+    {
+        self.balance = balance_after(change, self.state, self.balance);
+        self.state = self.state.after(change);
+    }
+
+    /// Adds the peer's credit to its window.
+    fn credit(&mut self, window: &ConnectionWindow, increment: u32) -> Result<(), WindowFault>
         ensures state { self.new.state ≡ self.old.state }
-        ensures looks { IfOk result (LooksAtStream id self.old self.new windows.old windows.new) }
+        ensures opened { self.new.opened ≡ self.old.opened }
+        ensures credits { CreditsStream window.now self.old.balance self.new.balance increment result }
+    {
+        match &mut self.balance {
+            Some(balance) => window.credit_stream(balance, increment),
+            None => Err(WindowFault::Unknown),
+        }
+    }
+
+    /// How many bytes of DATA may be sent on it now.
+    fn room(&self, window: &ConnectionWindow) -> u32
+        ensures { result ≡ room_in window.now self.now.balance }
+    {
+        match self.balance {
+            Some(balance) => window.room(balance),
+            None => 0,
+        }
+    }
+
+    /// Whether its window with this initial size is at most 2^31 - 1 bytes, if it is open.
+    fn fits(&self, size: u32) -> bool
+        ensures { result ≡ fits_with size self.now.balance }
+    {
+        match self.balance {
+            Some(balance) => balance.fits(size),
+            None => true,
+        }
+    }
+
+    /// Looks at what is in hand, if something may be written on it.
+    fn look(&mut self, id: StreamId, window: &mut ConnectionWindow) -> Result<Hand, AllocError>
+        ensures state { self.new.state ≡ self.old.state }
+        ensures looks { IfOk result (LooksAtStream id self.old self.new window.old window.new) }
     {
         if !self.state.can_write() {
             return Ok(Hand::Shut);
         }
         match &mut self.opened {
-            Some(stream) => stream.look(id, windows),
+            Some(stream) => stream.look(id, window, &mut self.balance),
             None => Ok(Hand::Shut),
         }
     }
 
-    /// Keeps bytes in hand, if it is open.
-    fn keep(&mut self, bytes: Bytes)
+    /// The first DATA of a message, of which what is left is kept in hand, if it is open.
+    fn begin(
+        &mut self,
+        id: StreamId,
+        window: &mut ConnectionWindow,
+        message: Bytes,
+    ) -> Result<Looked, AllocError>
         ensures state { self.new.state ≡ self.old.state }
-        ensures hand { shown self.new.opened ≡ with_hand (Some bytes) (shown self.old.opened) }
+        ensures begins { IfOk result (BeginsOnStream id self.old self.new window.old window.new message) }
+    {
+        let mut rest = message;
+        let looked = next_data(window, &mut self.balance, id, &mut rest)?;
+        self.keep(rest);
+        Ok(looked)
+    }
+
+    /// What is left of a message is in hand, if it is open.
+    fn keep(&mut self, rest: Bytes)
+        ensures state { self.new.state ≡ self.old.state }
+        ensures balance { self.new.balance ≡ self.old.balance }
+        ensures hand { shown self.new.opened ≡ with_hand (kept_of rest) (shown self.old.opened) }
     {
         if let Some(stream) = &mut self.opened {
-            stream.in_hand = Some(bytes);
+            stream.in_hand = kept(rest);
         }
     }
 
     /// Whether it takes turns from now on, if it is open. It answers whether it is.
     fn turn(&mut self, in_turn: bool) -> bool
         ensures state { self.new.state ≡ self.old.state }
+        ensures balance { self.new.balance ≡ self.old.balance }
         ensures hand { shown self.new.opened ≡ shown self.old.opened }
     {
         match &mut self.opened {
@@ -174,6 +266,7 @@ impl Stream {
     /// Its sender stands at another place, if it is open and that stood there.
     fn move_place(&mut self, from: usize, to: usize)
         ensures state { self.new.state ≡ self.old.state }
+        ensures balance { self.new.balance ≡ self.old.balance }
         ensures place { shown self.new.opened ≡ with_place from to (shown self.old.opened) }
     {
         if let Some(stream) = &mut self.opened {
@@ -184,13 +277,37 @@ impl Stream {
     }
 }
 
-/// The streams of a connection, and the bytes to be credited to the peer on the connection itself.
+/// The balance of a stream's window behind a change, if that is open.
+fn balance_after(change: Change, state: StreamState, balance: Option<Balance>) -> Option<Balance>
+    ensures { result ≡ balance_after_of change state balance }
+{
+    match change {
+        Change::Open => opened(state, balance),
+        Change::Hear => balance,
+        Change::Reset => None,
+        Change::End(_by) => None,
+    }
+}
+
+/// The same behind an Open.
+fn opened(state: StreamState, balance: Option<Balance>) -> Option<Balance>
+    ensures { result ≡ (if not (is_some (end_of state)) && not (is_some balance) then Some (pos 0) else balance) }
+{
+    if state.over().is_none() && balance.is_none() {
+        return Some(Balance::new());
+    }
+    balance
+}
+
+/// The streams of a connection with their windows, and the bytes to be credited to the peer on the connection itself.
 #[derive(Drop)]
 pub(crate) struct StreamStates {
     connection: u32,
     streams: IndexMap<StreamId, Stream>,
     /// Nothing is owed on the streams from here on.
     owing: usize,
+    /// What the windows of all streams share.
+    window: ConnectionWindow,
 }
 
 impl Model for StreamStates {
@@ -198,7 +315,7 @@ impl Model for StreamStates {
 
     ghost Value = { States };
 
-    ghost view = { λ c. states_of c.connection c.streams.entries };
+    ghost view = { λ c. states_of c.connection c.window c.streams.entries };
 
     ghost invariant = { λ c. IsWithin c.connection c.streams.entries c.owing };
 }
@@ -212,6 +329,7 @@ impl StreamStates {
             connection: 0,
             streams: IndexMap::new(alloc),
             owing: 0,
+            window: ConnectionWindow::new(),
         }
     }
 
@@ -266,25 +384,34 @@ impl StreamStates {
         }
     }
 
-    /// The stream of a call that begins, whose sender stands at a place. It becomes open, if nothing was heard of it. None
-    /// is owed on one that was reset.
+    /// How many bytes of DATA may be sent on a stream now.
+    pub(crate) fn room(&self, id: StreamId) -> u32
+        ensures { result ≡ room self.now.windows id }
+    {
+        match self.streams.get(&id) {
+            Some(stream) => stream.room(&self.window),
+            None => 0,
+        }
+    }
+
+    /// A call begins on a stream, and its sender stands at a place. The stream's window opens, unless it is open or the stream is
+    /// over. The stream becomes open where nothing was heard of it, and a call's where it is none. None is owed on one that was reset.
     pub(crate) fn open(&mut self, id: StreamId, place: usize) -> Result<(), AllocError>
         requires stream { 0 < id }
         requires number { id < 2 ^ 31 }
-        requires not_open { knows self.old id ≡ false }
         ensures ok { OnOk result (Opens self.old id self.new) }
         ensures hears { OnOk result (Hears self.old id self.new) }
         ensures over { OnOk result (SameOver self.old self.new) }
         ensures becomes { OnOk result (BecomesOpen self.old id (Some (stream_at place)) self.new) }
+        ensures windows { OnOk result (Moves self.old (opening self.old id) self.new) }
         ensures unchanged { OnErr result (self.new ≡ self.old) }
     {
-        let state = self.state(id).opened();
         let stream = OpenStream {
             place,
             in_hand: None,
             in_turn: false,
         };
-        self.put(id, state, Some(stream))
+        self.change(id, Change::Open, Some(stream))
     }
 
     /// A stream is heard of. It stands as it did.
@@ -295,13 +422,13 @@ impl StreamStates {
         ensures over { OnOk result (SameOver self.old self.new) }
         ensures owed { OnOk result (SameOwed self.old self.new) }
         ensures open { OnOk result (SameOpen self.old self.new) }
+        ensures windows { OnOk result (Moves self.old [] self.new) }
         ensures unchanged { OnErr result (self.new ≡ self.old) }
     {
-        let state = self.state(id);
-        self.put(id, state, None)
+        self.change(id, Change::Hear, None)
     }
 
-    /// A stream is reset: nothing is owed on it, now and later. Out of memory, nothing changes.
+    /// A stream is reset: its window closes, and nothing is owed on it, now and later. Out of memory, nothing changes.
     pub(crate) fn reset(&mut self, id: StreamId) -> Result<(), AllocError>
         requires stream { 0 < id }
         requires number { id < 2 ^ 31 }
@@ -309,66 +436,104 @@ impl StreamStates {
         ensures hears { OnOk result (Hears self.old id self.new) }
         ensures over { OnOk result (SameOver self.old self.new) }
         ensures open { OnOk result (SameOpen self.old self.new) }
+        ensures windows { OnOk result (Moves self.old (Closing id ∷ []) self.new) }
         ensures unchanged { OnErr result (self.new ≡ self.old) }
     {
-        let state = self.state(id).reset();
-        self.put(id, state, None)
+        self.change(id, Change::Reset, None)
     }
 
-    /// The end of a stream is written. What is owed on it stays.
+    /// The end of a stream is written: its window closes. What is owed on it stays.
     pub(crate) fn end(&mut self, id: StreamId, by: Over) -> Result<(), AllocError>
         requires stream { 0 < id }
         requires number { id < 2 ^ 31 }
         ensures ok { OnOk result (SetsEnd self.old id (by_reset by) self.new) }
         ensures owed { OnOk result (SameOwed self.old self.new) }
         ensures open { OnOk result (SameOpen self.old self.new) }
+        ensures windows { OnOk result (Moves self.old (Closing id ∷ []) self.new) }
         ensures unchanged { OnErr result (self.new ≡ self.old) }
     {
-        let state = self.state(id).ended(by);
-        self.put(id, state, None)
+        self.change(id, Change::End(by), None)
     }
 
-    /// Puts the state of a stream, on which no more may be owed by it. One of which nothing was heard becomes open, where
-    /// that is given.
-    fn put(
+    /// Closes the window of a stream, if it is open.
+    pub(crate) fn close_window(&mut self, id: StreamId)
+        ensures rest { SameButWindows self.old self.new }
+        ensures windows { Moves self.old (Closing id ∷ []) self.new }
+    {
+        close_window_of(&mut self.streams, id);
+    }
+
+    /// Adds the peer's credit to the window of a stream, or to the connection's where the id is 0.
+    pub(crate) fn credit(&mut self, id: StreamId, increment: u32) -> Result<(), WindowFault>
+        ensures rest { SameButWindows self.old self.new }
+        ensures fault { Meets (CreditFault self.old.windows id increment) result }
+        ensures windows { OnOk result (Moves self.old (Credit id increment ∷ []) self.new) }
+        ensures can { OnOk result ((history : List WindowStep) → Follows history self.old.windows → CanCredit history id increment) }
+        ensures cannot { OnErr result ((history : List WindowStep) → Follows history self.old.windows → ¬ CanCredit history id increment) }
+        ensures unchanged { OnErr result (self.new ≡ self.old) }
+    {
+        if id == 0 {
+            return self.window.credit(increment);
+        }
+        credit_of(&mut self.streams, &self.window, id, increment)
+    }
+
+    /// Takes a new initial size of the streams' windows. Where one of them would be over 2^31 - 1, none changes.
+    pub(crate) fn initial(&mut self, size: u32) -> Result<(), WindowFault>
+        ensures ok { OnOk result (self.new ≡ record self.old { windows = record self.old.windows { initial = size } }) }
+        ensures windows { OnOk result (Moves self.old (Resizing size ∷ []) self.new) }
+        ensures fits { OnOk result (FitsOn self.old.windows size) }
+        ensures overflow { OnErr result (¬ FitsOn self.old.windows size) }
+        ensures can { OnOk result ((history : List WindowStep) → Follows history self.old.windows → CanResize history size) }
+        ensures cannot { OnErr result ((history : List WindowStep) → Follows history self.old.windows → ¬ CanResize history size) }
+        ensures unchanged { OnErr result (self.new ≡ self.old) }
+    {
+        if size > MAX_WINDOW {
+            return Err(WindowFault::Overflow);
+        }
+        if !all_fit(&self.streams, size) {
+            return Err(WindowFault::Overflow);
+        }
+        self.window.resize(size);
+        Ok(())
+    }
+
+    /// Changes how a stream stands. One of which nothing was heard becomes open, where that is given.
+    fn change(
         &mut self,
         id: StreamId,
-        state: StreamState,
+        change: Change,
         opened: Option<OpenStream>,
     ) -> Result<(), AllocError>
         requires stream { 0 < id }
         requires number { id < 2 ^ 31 }
-        requires amount { amount_of state ≤ amount_of (state_on self.old id) }
-        ensures puts { OnOk result (Puts self.old id state self.new) }
+        ensures puts { OnOk result (PutsAfter change self.old id self.new) }
         ensures becomes { OnOk result (BecomesOpen self.old id opened self.new) }
         ensures open { OnOk result (opened ≡ None → SameOpen self.old self.new) }
         ensures connection { self.new.connection ≡ self.old.connection }
+        ensures windows { OnOk result (Moves self.old (steps_of change self.old id) self.new) }
         ensures unchanged { OnErr result (self.new ≡ self.old) }
     {
-        put_state(&mut self.streams, id, state, opened)
+        change_of(&mut self.streams, id, change, opened)
     }
 
     /// Looks at what is in hand of a stream, if that is open and something may be written on it: DATA of it are taken out
     /// of it, and out of the windows.
-    pub(crate) fn look(
-        &mut self,
-        id: StreamId,
-        windows: &mut SendWindows,
-    ) -> Result<Hand, AllocError>
-        ensures { IfOk result (LooksAtHand id self.old self.new windows.old windows.new) }
+    pub(crate) fn look(&mut self, id: StreamId) -> Result<Hand, AllocError>
+        ensures { IfOk result (LooksAtHand id self.old self.new) }
     {
-        look_at(&mut self.streams, id, windows)
+        look_at(&mut self.streams, id, &mut self.window)
     }
 
-    /// Keeps what is left of a message in hand of an open stream, if anything is.
-    pub(crate) fn keep(&mut self, id: StreamId, bytes: Bytes)
-        ensures stands { StandAs self.old self.new }
-        ensures kept { HandKeeps id bytes (open_at self.old) (open_at self.new) }
+    /// The first DATA of a message, as far as the windows let it through. What is left is kept in hand of an open stream.
+    pub(crate) fn begin_message(
+        &mut self,
+        id: StreamId,
+        message: Bytes,
+    ) -> Result<Looked, AllocError>
+        ensures { IfOk result (BeginsMessage id self.old self.new message) }
     {
-        if bytes.is_empty() {
-            return;
-        }
-        keep_of(&mut self.streams, id, bytes);
+        begin_at(&mut self.streams, id, &mut self.window, message)
     }
 
     /// Whether a stream takes turns from now on, if it is open. It answers whether it is.
@@ -401,6 +566,7 @@ impl StreamStates {
         ensures grants { Grants self.old id n self.new }
         ensures ends { SameEnds self.old self.new }
         ensures open { SameOpen self.old self.new }
+        ensures windows { Moves self.old [] self.new }
     {
         if id == 0 {
             self.connection = sum(self.connection, n);
@@ -414,6 +580,7 @@ impl StreamStates {
         ensures takes { TakesAll self.old result self.new }
         ensures ends { SameEnds self.old self.new }
         ensures open { SameOpen self.old self.new }
+        ensures windows { Moves self.old [] self.new }
         ensures numbered { IfSome result (λ taken. taken.0 < 2 ^ 31) }
     {
         if self.connection > 0 {
@@ -427,48 +594,105 @@ impl StreamStates {
     }
 }
 
-/// Puts the state of a stream. One of which nothing was heard becomes open, where that is given.
-fn put_state(
+/// Changes how a stream stands. One of which nothing was heard becomes open, where that is given.
+fn change_of(
     streams: &mut IndexMap<StreamId, Stream>,
     id: StreamId,
-    state: StreamState,
+    change: Change,
     opened: Option<OpenStream>,
 ) -> Result<(), AllocError>
-    ensures puts { OnOk result (PutsState streams.old.entries id state opened streams.new.entries) }
+    ensures changes { OnOk result (Changes streams.old.entries id change opened streams.new.entries) }
     ensures unchanged { OnErr result (streams.new.entries ≡ streams.old.entries) }
 {
     if let Some(stream) = streams.get_mut(&id) {
-        stream.state = state;
+        stream.change(change);
         return Ok(());
     }
-    match streams.insert(id, Stream { state, opened }) {
+    let mut stream = Stream {
+        state: StreamState::NoCall { over: None },
+        opened,
+        balance: None,
+    };
+    stream.change(change);
+    match streams.insert(id, stream) {
         Ok(_before) => Ok(()),
         Err(_refused) => Err(AllocError),
     }
+}
+
+/// Closes the window of a stream.
+fn close_window_of(streams: &mut IndexMap<StreamId, Stream>, id: StreamId)
+    ensures { SetsBalance streams.old.entries id None streams.new.entries }
+{
+    if let Some(stream) = streams.get_mut(&id) {
+        stream.balance = None;
+    }
+}
+
+/// Adds the peer's credit to the window of a stream.
+fn credit_of(
+    streams: &mut IndexMap<StreamId, Stream>,
+    window: &ConnectionWindow,
+    id: StreamId,
+    increment: u32,
+) -> Result<(), WindowFault>
+    ensures { CreditsEntry window.now streams.old.entries id streams.new.entries increment result }
+{
+    match streams.get_mut(&id) {
+        Some(stream) => stream.credit(window, increment),
+        None => Err(WindowFault::Unknown),
+    }
+}
+
+/// Whether each open window with this initial size is at most 2^31 - 1 bytes.
+fn all_fit(streams: &IndexMap<StreamId, Stream>, size: u32) -> bool
+    ensures value { result ≡ list_all (λ stream. fits_with size stream.balance) (values_of streams.now.entries) }
+    ensures unique { IsUnique nat_eq streams.now }
+{
+    // That no key stands twice is said by `len`.
+    let _count = streams.len();
+    streams.values().all(|stream| stream.fits(size))
 }
 
 /// Looks at what is in hand of a stream.
 fn look_at(
     streams: &mut IndexMap<StreamId, Stream>,
     id: StreamId,
-    windows: &mut SendWindows,
+    window: &mut ConnectionWindow,
 ) -> Result<Hand, AllocError>
-    ensures edits { Edits streams.old.entries id streams.new.entries }
-    ensures looks { IfOk result (LooksAtEntry id streams.old.entries streams.new.entries windows.old windows.new) }
+    ensures rewrites { Rewrites streams.old.entries id streams.new.entries }
+    ensures looks { IfOk result (LooksAtEntry id streams.old.entries streams.new.entries window.old window.new) }
 {
     match streams.get_mut(&id) {
-        Some(stream) => stream.look(id, windows),
+        Some(stream) => stream.look(id, window),
         None => Ok(Hand::Shut),
     }
 }
 
-/// Keeps bytes in hand of an open stream.
-fn keep_of(streams: &mut IndexMap<StreamId, Stream>, id: StreamId, bytes: Bytes)
-    ensures edits { Edits streams.old.entries id streams.new.entries }
-    ensures hand { shown (opened_of (lookup (nat_eq id) streams.new.entries)) ≡ with_hand (Some bytes) (shown (opened_of (lookup (nat_eq id) streams.old.entries))) }
+/// The first DATA of a message, of which what is left is kept in hand of an open stream.
+fn begin_at(
+    streams: &mut IndexMap<StreamId, Stream>,
+    id: StreamId,
+    window: &mut ConnectionWindow,
+    message: Bytes,
+) -> Result<Looked, AllocError>
+    ensures rewrites { Rewrites streams.old.entries id streams.new.entries }
+    ensures begins { IfOk result (BeginsAtEntry id streams.old.entries streams.new.entries window.old window.new message) }
 {
-    if let Some(stream) = streams.get_mut(&id) {
-        stream.keep(bytes);
+    match streams.get_mut(&id) {
+        Some(stream) => stream.begin(id, window, message),
+        None => Ok(unsent(&message)),
+    }
+}
+
+/// What is found of a message on a stream that has no window.
+fn unsent(message: &Bytes) -> Looked
+    ensures { IsUnsent message.now result }
+{
+    if message.is_empty() {
+        Looked::Empty
+    } else {
+        Looked::Nothing
     }
 }
 

@@ -1,9 +1,10 @@
 //! An open stream, and what its call's sender has for it.
 
-ghost use Rattle.std.specs.Prelude.{◌≡◌, [], ◌∷◌, ◌++◌, IfOk, OnErr};
+ghost use Rattle.std.specs.Prelude.{◌≡◌, [], ◌∷◌, ◌++◌, min, IfOk, OnErr};
 ghost use Rattle.hpack_codec.specs.Codec.{Writes};
 ghost use Rattle.outwriter.specs.Polls.{Polls, coming};
-ghost use Rattle.outwriter.specs.Data.{LooksAtOpen, TakesData};
+ghost use Rattle.outwriter.specs.Data.{CutsData, LooksAtOpen, Spends};
+ghost use Rattle.outwriter.specs.States.{room_in};
 ghost use Rattle.outwriter.specs.OpenStreams.{kept as kept_of};
 ghost use Rattle.account.specs.declared.call.OutItem.{OutItem};
 
@@ -11,7 +12,7 @@ use crate::frames::make_data;
 use account::OutItem;
 use bytes::Bytes;
 use callbox::Sender;
-use flow::SendWindows;
+use flow::{Balance, ConnectionWindow};
 use h2frame::{Frame, MAX_PAYLOAD, StreamId};
 use hpack_codec::Encoder;
 use lane::Lane;
@@ -30,25 +31,27 @@ pub(crate) struct OpenStream {
 }
 
 impl OpenStream {
-    /// Looks at what is in hand, if anything is: DATA of it are taken out of it, and out of the windows.
+    /// Looks at what is in hand, if anything is: DATA of it are taken out of it, and out of the connection's window and its own,
+    /// of which this is the balance.
     pub(crate) fn look(
         &mut self,
         id: StreamId,
-        windows: &mut SendWindows,
+        window: &mut ConnectionWindow,
+        balance: &mut Option<Balance>,
     ) -> Result<Hand, AllocError>
-        ensures { IfOk result (LooksAtOpen id self.old self.new windows.old windows.new) }
+        ensures { IfOk result (LooksAtOpen id self.old self.new window.old window.new balance.old balance.new) }
     {
         let Some(mut rest) = self.in_hand.take() else {
             return Ok(Hand::Empty(self.place));
         };
-        let looked = next_data(windows, id, &mut rest)?;
+        let looked = next_data(window, balance, id, &mut rest)?;
         self.in_hand = kept(rest);
         Ok(Hand::Message(looked))
     }
 }
 
 /// What is in hand of a message of which this is left.
-fn kept(rest: Bytes) -> Option<Bytes>
+pub(crate) fn kept(rest: Bytes) -> Option<Bytes>
     ensures { result ≡ kept_of rest }
 {
     if rest.is_empty() { None } else { Some(rest) }
@@ -84,24 +87,38 @@ pub(crate) enum Looked {
     Empty,
 }
 
-/// The next DATA of a message, as far as the windows let it through. It is taken out of the message, and out of them.
+/// The next DATA of a message, as far as the windows let it through: that of the connection, and the stream's, of which this is the
+/// balance. It is taken out of the message, and out of them.
 pub(crate) fn next_data(
-    windows: &mut SendWindows,
+    window: &mut ConnectionWindow,
+    balance: &mut Option<Balance>,
     id: StreamId,
     message: &mut Bytes,
 ) -> Result<Looked, AllocError>
-    ensures { IfOk result (TakesData id windows.old windows.new message.old message.new) }
+    ensures { IfOk result (CutsData id window.old window.new balance.old balance.new message.old message.new) }
 {
     if message.is_empty() {
         return Ok(Looked::Empty);
     }
     let most = message.len().min(MAX_PAYLOAD as usize) as u32;
-    let len = windows.spend_up_to(id, most);
+    let len = spend_up_to(window, balance, most);
     if len == 0 {
         return Ok(Looked::Nothing);
     }
     let piece = message.split_to(len as usize)?;
     Ok(Looked::Frame(make_data(id, piece)))
+}
+
+/// Takes as many bytes as may be sent now, and at most so many, out of both windows. It answers how many these are: none, where the
+/// stream's isn't open.
+fn spend_up_to(window: &mut ConnectionWindow, balance: &mut Option<Balance>, most: u32) -> u32
+    ensures spends { Spends window.old window.new balance.old balance.new result }
+    ensures value { result ≡ min (room_in window.old balance.old) most }
+{
+    match balance {
+        Some(balance) => window.spend_up_to(balance, most),
+        None => 0,
+    }
 }
 
 /// The next item of a sender. The bytes of a message are shared, and fields are encoded. Where the call was left there is

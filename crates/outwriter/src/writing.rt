@@ -1,10 +1,8 @@
 //! The frames of a connection, each with what it changes.
 
-ghost use Rattle.std.specs.Prelude.{◌≡◌, ℕ, List, [], ◌∷◌, ◌++◌, ◌≤◌, ◌<◌, ◌^◌, ◌==◌, ◌&&◌, not, is_some, nat_eq, true, false, Some, None, IfOk, IfSome, IfNone, OnOk, MatchOption, map, length, if◌then◌else◌};
-ghost use Rattle.flow.specs.WindowHistory.{Follows, Closing};
-ghost use Rattle.flow.specs.WindowHistory.{Step as WindowStep};
+ghost use Rattle.std.specs.Prelude.{◌≡◌, ℕ, List, [], ◌∷◌, ◌<◌, ◌^◌, ◌&&◌, not, is_some, true, false, Some, None, IfOk, IfSome, IfNone, OnOk};
 ghost use Rattle.outwriter.specs.RunState.{Ends, closing};
-ghost use Rattle.outwriter.specs.States.{SameOpen, SameOwed, SetsEnd, by_reset, over_on};
+ghost use Rattle.outwriter.specs.States.{Moves, SameOpen, SameOwed, over_on};
 
 use crate::blocks::HeaderBlock;
 use crate::due::Due;
@@ -15,7 +13,6 @@ use crate::outbound::{Outbound, is_stream};
 use crate::states::{Over, StreamStates};
 use crate::stream::encoded;
 use bytes::Bytes;
-use flow::SendWindows;
 use h2frame::{ErrorCode, Frame, StreamId};
 use lists::{Field, Sequence};
 use std::alloc::AllocError;
@@ -186,7 +183,7 @@ impl Outbound {
         ensures own { IfOk result (λ frame. OwnByDue (due_kind.Reset id code) frame self.old self.new) }
     {
         let frame = make_reset(self.alloc, id, code)?;
-        close(&mut self.windows, &mut self.states, id, Over::RstStream)?;
+        self.states.end(id, Over::RstStream)?;
         Ok(frame)
     }
 
@@ -239,9 +236,9 @@ impl Outbound {
         ensures ends { OnOk result (Ends self.old.states id ends self.new.states) }
         ensures owed { OnOk result (SameOwed self.old.states self.new.states) }
         ensures open { OnOk result (SameOpen self.old.states self.new.states) }
-        ensures rest { OnOk result (self.new ≡ record self.old { windows = self.new.windows; states = self.new.states; block = self.new.block }) }
+        ensures rest { OnOk result (self.new ≡ record self.old { states = self.new.states; block = self.new.block }) }
     {
-        close_if(&mut self.windows, &mut self.states, id, ends)?;
+        end_if(&mut self.states, id, ends)?;
         let block = HeaderBlock {
             id,
             ends,
@@ -254,41 +251,17 @@ impl Outbound {
     }
 }
 
-/// Notes that a stream's END_STREAM or RST_STREAM is written.
-fn close(
-    windows: &mut SendWindows,
-    states: &mut StreamStates,
-    id: StreamId,
-    by: Over,
-) -> Result<(), AllocError>
+/// Notes that a stream's END_STREAM is written, where it is.
+fn end_if(states: &mut StreamStates, id: StreamId, ends: bool) -> Result<(), AllocError>
     requires stream { 0 < id }
     requires number { id < 2 ^ 31 }
-    ensures windows { OnOk result ((history : List WindowStep) → Follows history windows.old → Follows (Closing id ∷ history) windows.new) }
-    ensures ends { OnOk result (SetsEnd states.old id (by_reset by) states.new) }
-    ensures owed { OnOk result (SameOwed states.old states.new) }
-    ensures open { OnOk result (SameOpen states.old states.new) }
-{
-    states.end(id, by)?;
-    windows.close(id);
-    Ok(())
-}
-
-/// The same for END_STREAM, where it is written.
-fn close_if(
-    windows: &mut SendWindows,
-    states: &mut StreamStates,
-    id: StreamId,
-    ends: bool,
-) -> Result<(), AllocError>
-    requires stream { 0 < id }
-    requires number { id < 2 ^ 31 }
-    ensures windows { OnOk result ((history : List WindowStep) → Follows history windows.old → Follows (closing id ends ++ history) windows.new) }
     ensures ends { OnOk result (Ends states.old id ends states.new) }
     ensures owed { OnOk result (SameOwed states.old states.new) }
     ensures open { OnOk result (SameOpen states.old states.new) }
+    ensures windows { OnOk result (Moves states.old (closing id ends) states.new) }
 {
     if ends {
-        return close(windows, states, id, Over::EndStream);
+        return states.end(id, Over::EndStream);
     }
     Ok(())
 }

@@ -1,5 +1,6 @@
 use Rattle.std.proofs.lemmas.Result.{IfErr-weaker}
-use Rattle.std.proofs.Common.{Some, refl, true, [], ◌∷◌}
+use Rattle.std.proofs.Common.{Some, ap, refl, true, [], ◌∷◌}
+use Rattle.outwriter.specs.States.{States}
 use Rattle.outwriter.specs.declared.control.Control.TheVariants as order
 use Rattle.outwriter.specs.declared.due.Due.TheVariants as due_kind
 use Rattle.outwriter.proofs.CallStepsOrders.{takes-nothing}
@@ -96,20 +97,20 @@ returns-in-Reset-clause-leads g c =
 
 pub returns-then-take_window-clause-room : goal.returns-then-take_window-clause-room
 returns-then-take_window-clause-room g c = λ run l.
-    credit-fits c.args.self.now.sending.outbound c.make_room.new.self.windows c.in-Window.id c.in-Window.increment c.args.control c.in-Window.is c.make_room.ensures.windows
+    credit-fits c.args.self.now.sending.outbound c.make_room.new.self.states.windows c.in-Window.id c.in-Window.increment c.args.control c.in-Window.is (ap (λ (x : States). x.windows) c.make_room.ensures.states)
     (c.take_window.ensures.fits c.if-take_window.true) run (l.keeps c.if-self.false).mirrors
 
 pub returns-in-Window-clause-fault : goal.returns-in-Window-clause-fault
 returns-in-Window-clause-fault g c = λ run l.
-    blamed c.args.self.now.sending.outbound c.make_room.new.self.windows c.in-Window.id c.args.control (order.Window c.in-Window.id c.in-Window.increment) c.in-Window.is c.make_room.ensures.windows
+    blamed c.args.self.now.sending.outbound c.make_room.new.self.states.windows c.in-Window.id c.args.control (order.Window c.in-Window.id c.in-Window.increment) c.in-Window.is (ap (λ (x : States). x.windows) c.make_room.ensures.states)
     (c.take_window.ensures.over c.if-take_window.false) run (l.keeps c.if-self.false).mirrors
 
 pub returns-in-Ok-take_settings-clause-room : goal.returns-in-Ok-take_settings-clause-room
 returns-in-Ok-take_settings-clause-room g c = λ run l.
-    settings-fit c.args.self.now.sending.outbound c.make_room.new.self.windows c.in-Settings.settings c.args.control c.in-Settings.is c.make_room.ensures.windows
+    settings-fit c.args.self.now.sending.outbound c.make_room.new.self.states.windows c.in-Settings.settings c.args.control c.in-Settings.is (ap (λ (x : States). x.windows) c.make_room.ensures.states)
     c.in-Ok-take_settings.ensures.fits run (l.keeps c.if-self.false).mirrors
 
 pub returns-in-Settings-clause-fault : goal.returns-in-Settings-clause-fault
 returns-in-Settings-clause-fault g c = λ run l.
-    blamed c.args.self.now.sending.outbound c.make_room.new.self.windows 0 c.args.control (order.Settings c.in-Settings.settings) c.in-Settings.is c.make_room.ensures.windows
+    blamed c.args.self.now.sending.outbound c.make_room.new.self.states.windows 0 c.args.control (order.Settings c.in-Settings.settings) c.in-Settings.is (ap (λ (x : States). x.windows) c.make_room.ensures.states)
     c.in-Err.ensures.over run (l.keeps c.if-self.false).mirrors

@@ -2,12 +2,15 @@ use Rattle.std.proofs.Common.{◌∙◌, inl, refl, []}
 use Rattle.outwriter.specs.Frames.{update_frame}
 use Rattle.outwriter.proofs.TellSteps.{plain-tells}
 use Rattle.outwriter.proofs.EndSteps.{update-written}
+use Rattle.outwriter.proofs.RunStateSteps.{windows-still}
 use Rattle.outwriter.proofs.TellStepsOwn.{none-over}
 use Rattle.outwriter.proofs.outbound.Outbound.credit_frame.Goals as goal
 
 pub returns-clause-frame : goal.returns-clause-frame
-returns-clause-frame c = λ run m. update-written run _ _ _ _ _ _ _ (c.in-Some.id, c.in-Some.n) _ c.in_ok-make_update.ensures
-    c.requires.between.begun c.requires.between.going c.requires.between.no_block c.in-Some.ensures.takes c.next.ensures.ends m
+returns-clause-frame c = λ run m.
+    let next = update-written run _ _ _ _ _ _ c.next.new.self (c.in-Some.id, c.in-Some.n) _ c.in_ok-make_update.ensures
+    c.requires.between.begun c.requires.between.going c.requires.between.no_block c.in-Some.ensures.takes c.next.ensures.ends m in
+    (next.0, windows-still _ _ _ c.args.self.now.states.windows c.next.new.self.windows _ _ c.next.new.self c.next.ensures.windows next.1)
 
 pub returns-clause-own : goal.returns-clause-own
 returns-clause-own c = (

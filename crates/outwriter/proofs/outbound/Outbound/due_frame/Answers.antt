@@ -25,8 +25,8 @@ loop-due-preserved c =
     record {
       between = search rules;
       mirrors = λ run m. subst (MirrorsOf run) (sym same)
-          (skipped run popped.begun popped.gone popped.windows c.in-Some.due popped.due.items popped.block popped.states skips.0
-          (subst (λ (waiting : List Due). Mirrors run popped.begun popped.gone popped.windows waiting popped.block popped.states) c.in-Some.ensures.items
+          (skipped run popped.begun popped.gone popped.states.windows c.in-Some.due popped.due.items popped.block popped.states skips.0
+          (subst (λ (waiting : List Due). Mirrors run popped.begun popped.gone popped.states.windows waiting popped.block popped.states) c.in-Some.ensures.items
           (c.loop-due.invariant.mirrors run m)));
       rests = rests-rests c.args.self.now c.loop-due.self c.frame_of_due.new.self c.loop-due.invariant.rests
           (subst (λ (o : Outbound). Rests c.loop-due.self o) (sym same) (dropped-rests c.loop-due.self popped c.in-Some.due c.in-Some.ensures.items refl

@@ -22,7 +22,7 @@ returns-then-is_due-clause-taken c = λ run m.
     ] in
     reset-led c.args.id c.args.code c.args.written run _ _ _ _ _ _ _ c.args.self.now.states c.reset_state.new.states c.in_ok-reset_state.ensures.owed c.in_ok-reset_state.ensures.pays
     c.in_ok-reset_state.ensures.known c.in_ok-reset_state.ensures.resets c.in_ok-reset_state.ensures.over
-    (reset-taken run c.args.id c.args.code c.args.written c.args.self.now.windows c.close.new.self c.close.ensures.follows m.windows_follow)
+    (reset-taken run c.args.id c.args.code c.args.written c.args.self.now.states.windows c.reset_state.new.states.windows c.in_ok-reset_state.ensures.windows m.windows_follow)
     (subst (λ (xs : List Due). HasDue (Taken reset ∷ run) xs) (sym c.push_back_reserved.ensures.items)
     (more-due reset run c.args.self.now.due.items (due_kind.Reset c.args.id c.args.code) refl
     (All-cons P (c.args.id, c.args.code) [] (inl (subst (λ b. Asks c.args.id c.args.code (order.Reset c.args.id c.args.code b)) (sym told) (refl, refl))) (All-nil P))
@@ -33,5 +33,5 @@ returns-else-is_due-clause-taken c = λ run m.
     let reset : Order = order.Reset c.args.id c.args.code c.args.written in
     reset-led c.args.id c.args.code c.args.written run _ _ _ _ _ _ _ c.args.self.now.states c.reset_state.new.states c.in_ok-reset_state.ensures.owed c.in_ok-reset_state.ensures.pays
     c.in_ok-reset_state.ensures.known c.in_ok-reset_state.ensures.resets c.in_ok-reset_state.ensures.over
-    (reset-taken run c.args.id c.args.code c.args.written c.args.self.now.windows c.close.new.self c.close.ensures.follows m.windows_follow)
+    (reset-taken run c.args.id c.args.code c.args.written c.args.self.now.states.windows c.reset_state.new.states.windows c.in_ok-reset_state.ensures.windows m.windows_follow)
     (same-due reset run c.args.self.now.due.items refl m.answers) m

@@ -1,6 +1,6 @@
-use Rattle.std.proofs.Common.{arith, is_some, length, subst, sym, ap, ◌∙◌}
-use Rattle.outwriter.specs.States.{AllFit, Grants, IsSettledBut, SameEnds, SameOpen, States, states_of}
-use Rattle.outwriter.proofs.StateLemmas.{length-set_at, settled_but-set_at, fit-set_at, apart-puts, numbered-puts, adds-ends, adds-grants, adds-open, none-grants}
+use Rattle.std.proofs.Common.{arith, is_some, length, [], subst, sym, ap, ◌∙◌}
+use Rattle.outwriter.specs.States.{AllFit, Grants, IsSettledBut, Moves, SameEnds, SameOpen, States, states_of}
+use Rattle.outwriter.proofs.StateLemmas.{length-set_at, settled_but-set_at, fit-set_at, apart-puts, numbered-puts, adds-ends, adds-grants, adds-moves, adds-open, none-grants}
 use Rattle.outwriter.proofs.states.StreamStates.grant.Goals as goal
 
 same_length : goal.bring_forward-self-inside-requires-clause-place
@@ -30,20 +30,25 @@ invariant_of-self-in-Some c = record {
 }
 
 pub returns-in-Some-clause-grants : goal.returns-in-Some-clause-grants
-returns-in-Some-clause-grants c = subst (λ (o : States). Grants o c.args.id c.args.n (states_of c.self.inside.connection c.bring_forward-self-inside.new.streams.entries)) c.self.view_is
-    (adds-grants c.self.inside.connection c.self.inside.streams.entries c.add.new.streams.entries c.bring_forward-self-inside.new.streams.entries c.args.id c.args.n c.in-Some.place
+returns-in-Some-clause-grants c = subst (λ (o : States). Grants o c.args.id c.args.n (states_of c.self.inside.connection c.self.inside.window c.bring_forward-self-inside.new.streams.entries)) c.self.view_is
+    (adds-grants c.self.inside.connection c.self.inside.window c.self.inside.streams.entries c.add.new.streams.entries c.bring_forward-self-inside.new.streams.entries c.args.id c.args.n c.in-Some.place
     (omega (arith, c.if-id-eq0.false)) c.in-Some.ensures c.bring_forward-self-inside.ensures.same)
 
 pub returns-in-Some-clause-ends : goal.returns-in-Some-clause-ends
-returns-in-Some-clause-ends c = subst (λ (o : States). SameEnds o (states_of c.self.inside.connection c.bring_forward-self-inside.new.streams.entries)) c.self.view_is
-    (adds-ends c.self.inside.connection c.self.inside.streams.entries c.add.new.streams.entries c.bring_forward-self-inside.new.streams.entries c.args.id c.args.n c.in-Some.place
+returns-in-Some-clause-ends c = subst (λ (o : States). SameEnds o (states_of c.self.inside.connection c.self.inside.window c.bring_forward-self-inside.new.streams.entries)) c.self.view_is
+    (adds-ends c.self.inside.connection c.self.inside.window c.self.inside.streams.entries c.add.new.streams.entries c.bring_forward-self-inside.new.streams.entries c.args.id c.args.n c.in-Some.place
     (omega (arith, c.if-id-eq0.false)) c.in-Some.ensures c.bring_forward-self-inside.ensures.same)
 
 pub returns-in-Some-clause-open : goal.returns-in-Some-clause-open
-returns-in-Some-clause-open c = subst (λ (o : States). SameOpen o (states_of c.self.inside.connection c.bring_forward-self-inside.new.streams.entries)) c.self.view_is
-    (adds-open c.self.inside.connection c.self.inside.streams.entries c.add.new.streams.entries c.bring_forward-self-inside.new.streams.entries c.args.id c.args.n c.in-Some.place
+returns-in-Some-clause-open c = subst (λ (o : States). SameOpen o (states_of c.self.inside.connection c.self.inside.window c.bring_forward-self-inside.new.streams.entries)) c.self.view_is
+    (adds-open c.self.inside.connection c.self.inside.window c.self.inside.streams.entries c.add.new.streams.entries c.bring_forward-self-inside.new.streams.entries c.args.id c.args.n c.in-Some.place
     (omega (arith, c.if-id-eq0.false)) c.in-Some.ensures c.bring_forward-self-inside.ensures.same)
 
 pub returns-in_default-clause-grants : goal.returns-in_default-clause-grants
-returns-in_default-clause-grants c = subst (λ (o : States). Grants o c.args.id c.args.n (states_of c.self.inside.connection c.add.new.streams.entries)) c.self.view_is
-    (none-grants c.self.inside.connection c.self.inside.streams.entries c.add.new.streams.entries c.args.id c.args.n (omega (arith, c.if-id-eq0.false)) c.in_default.ensures)
+returns-in_default-clause-grants c = subst (λ (o : States). Grants o c.args.id c.args.n (states_of c.self.inside.connection c.self.inside.window c.add.new.streams.entries)) c.self.view_is
+    (none-grants c.self.inside.connection c.self.inside.window c.self.inside.streams.entries c.add.new.streams.entries c.args.id c.args.n (omega (arith, c.if-id-eq0.false)) c.in_default.ensures)
+
+pub returns-in-Some-clause-windows : goal.returns-in-Some-clause-windows
+returns-in-Some-clause-windows c = subst (λ (o : States). Moves o [] (states_of c.self.inside.connection c.self.inside.window c.bring_forward-self-inside.new.streams.entries)) c.self.view_is
+    (adds-moves c.self.inside.connection c.self.inside.window c.self.inside.streams.entries c.add.new.streams.entries c.bring_forward-self-inside.new.streams.entries c.args.id c.args.n c.in-Some.place
+    (omega (arith, c.if-id-eq0.false)) c.in-Some.ensures c.bring_forward-self-inside.ensures.same)
