@@ -160,7 +160,7 @@ pub(crate) struct Stream {
     state: StreamState,
     /// What is written of it, while it is open.
     opened: Option<OpenStream>,
-    /// That of its window, while the window is open.
+    /// The balance of its window, while that is open.
     balance: Option<Balance>,
 }
 
