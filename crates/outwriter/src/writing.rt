@@ -135,7 +135,7 @@ impl Outbound {
         ensures written { IfOk result (λ frame. WritesDue (due_kind.PingAck bytes) frame self.old self.new) }
         ensures own { IfOk result (λ frame. OwnByDue (due_kind.PingAck bytes) frame self.old self.new) }
     {
-        make_ping_ack(self.alloc, bytes)
+        make_ping_ack(&mut self.small, bytes)
     }
 
     fn goaway_frame(&mut self, last: StreamId, code: ErrorCode) -> Result<Frame, AllocError>
@@ -144,7 +144,7 @@ impl Outbound {
         ensures written { IfOk result (λ frame. WritesDue (due_kind.Goaway last code) frame self.old self.new) }
         ensures own { IfOk result (λ frame. OwnByDue (due_kind.Goaway last code) frame self.old self.new) }
     {
-        let frame = make_goaway(self.alloc, last, code)?;
+        let frame = make_goaway(&mut self.small, last, code)?;
         self.gone = code.code() != 0;
         Ok(frame)
     }
@@ -182,7 +182,7 @@ impl Outbound {
         ensures written { IfOk result (λ frame. WritesDue (due_kind.Reset id code) frame self.old self.new) }
         ensures own { IfOk result (λ frame. OwnByDue (due_kind.Reset id code) frame self.old self.new) }
     {
-        let frame = make_reset(self.alloc, id, code)?;
+        let frame = make_reset(&mut self.small, id, code)?;
         self.states.end(id, Over::RstStream)?;
         Ok(frame)
     }
@@ -215,7 +215,7 @@ impl Outbound {
         let Some((id, n)) = self.states.next() else {
             return Ok(None);
         };
-        Ok(Some(make_update(self.alloc, id, n)?))
+        Ok(Some(make_update(&mut self.small, id, n)?))
     }
 
     /// The first frame of a header block.
