@@ -51,25 +51,10 @@ LooksAtStream id old new from to (hand.Message found) = (can_write old.state ≡
     × (place : ℕ) × (message : List ℕ) × (rest : List ℕ) × (shown old.opened ≡ Some (place, Some message)) × (shown new.opened ≡ Some (place, kept rest))
     × CutsData id from to old.balance new.balance message rest found
 
--- of a stream among the entries, if it is there
-abbrev pub LooksAtEntry : ℕ → List (ℕ × Stream) → List (ℕ × Stream) → Shared → Shared → Hand → Type 0
-LooksAtEntry id old new from to found = MatchOption (lookup (nat_eq id) old) ((found ≡ hand.Shut) × (new ≡ old) × (to ≡ from))
-    (λ was. (now : Stream) × (new ≡ set_value (nat_eq id) old now) × LooksAtStream id was now from to found)
-
 -- what is found of a message that begins, of which the rest is in hand then, if the stream is open
 abbrev pub BeginsOnStream : ℕ → Stream → Stream → Shared → Shared → List ℕ → Looked → Type 0
 BeginsOnStream id old new from to message found =
     (rest : List ℕ) × (shown new.opened ≡ with_hand (kept rest) (shown old.opened)) × CutsData id from to old.balance new.balance message rest found
-
--- where there is no window, nothing of it is written
-abbrev pub IsUnsent : List ℕ → Looked → Type 0
-IsUnsent message (looked.Frame frame) = ⊥
-IsUnsent message looked.Nothing = 0 < length message
-IsUnsent message looked.Empty = message ≡ []
-
-abbrev pub BeginsAtEntry : ℕ → List (ℕ × Stream) → List (ℕ × Stream) → Shared → Shared → List ℕ → Looked → Type 0
-BeginsAtEntry id old new from to message found = MatchOption (lookup (nat_eq id) old) ((new ≡ old) × (to ≡ from) × IsUnsent message found)
-    (λ was. (now : Stream) × (new ≡ set_value (nat_eq id) old now) × BeginsOnStream id was now from to message found)
 
 -- frames may be written on a stream
 pub record TakesFrames (states : States) (id : ℕ) : Type 0 where
@@ -77,14 +62,6 @@ pub record TakesFrames (states : States) (id : ℕ) : Type 0 where
   pub number : id < 2 ^ 31
   pub not_over : over_on states id ≡ None
   pub not_reset : is_reset states id ≡ false
-
--- and among all of them
-abbrev pub LooksAtHand : ℕ → States → States → Hand → Type 0
-LooksAtHand id old new hand.Shut = (new ≡ old) × IsShut old id
-LooksAtHand id old new (hand.Empty place) = (new ≡ old) × TakesFrames old id × (shows (open_at old) id ≡ Some (place, None))
-LooksAtHand id old new (hand.Message found) = TakesFrames old id × StandButWindows old new
-    × (place : ℕ) × (message : List ℕ) × (rest : List ℕ) × (shows (open_at old) id ≡ Some (place, Some message)) × HandIs id (kept rest) (open_at old) (open_at new)
-    × TakesData id old.windows new.windows message rest found
 
 -- what is found of a message that begins, of which the rest is in hand then
 abbrev pub BeginsMessage : ℕ → States → States → List ℕ → Looked → Type 0

@@ -321,6 +321,11 @@ Edits old id new = (new ≡ old) ⊎ ((was : Stream) × (opened : Option OpenStr
 abbrev pub Rewrites : List (ℕ × Stream) → ℕ → List (ℕ × Stream) → Type 0
 Rewrites old id new = (new ≡ old) ⊎ ((was : Stream) × (now : Stream) × (lookup (nat_eq id) old ≡ Some was) × (now.state ≡ was.state) × (new ≡ set_value (nat_eq id) old now))
 
+-- or all of it but what is owed on it
+abbrev pub KeepsAmount : List (ℕ × Stream) → ℕ → List (ℕ × Stream) → Type 0
+KeepsAmount old id new = (new ≡ old)
+    ⊎ ((was : Stream) × (now : Stream) × (lookup (nat_eq id) old ≡ Some was) × (amount_of now.state ≡ amount_of was.state) × (new ≡ set_value (nat_eq id) old now))
+
 -- n more are owed on a stream that may be owed something, at its place
 abbrev pub Adds : List (ℕ × Stream) → ℕ → ℕ → Option ℕ → List (ℕ × Stream) → Type 0
 Adds old id n None new = (new ≡ old) × (is_paid (state_in (state_of (lookup (nat_eq id) old))) ≡ false)
