@@ -23,7 +23,7 @@ use Rattle.outwriter.specs.States.{States, SameEnds, SameOwed, SetsEnd, is_reset
 use Rattle.outwriter.specs.Frames.{resets, ends, update_on, reset_frame, data_frame, update_frame, headers_frame, continuation_frame, ends_stream, ends_block}
 use Rattle.outwriter.specs.Histories.{is_over, is_stream, closing_of, spending_of}
 use Rattle.outwriter.specs.declared.outbound.Outbound.{Outbound}
-use Rattle.outwriter.specs.RunState.{BeginsBlock, Heads, IsBetween, MirrorsOf, Mirrors, resets_of, HasWindows, HasOver, HasDue, HasBlock, HasHead, HasResets, HasStates, spent, closing, Keeps, Ends}
+use Rattle.outwriter.specs.RunState.{BeginsBlock, IsBetween, MirrorsOf, Mirrors, resets_of, HasWindows, HasOver, HasDue, HasBlock, HasHead, HasResets, HasStates, spent, closing, Keeps, Ends}
 use Rattle.outwriter.specs.Runs.{due, IsAsked, Fragments, Continues, MayWrite, fragments, unfinished, updated, granted, is_opened, may_owe, owed as given, resets_stream, was_reset}
 use Rattle.outwriter.specs.Steps.{Step, Taken, Granted, Written, Returned, frames_of}
 use Rattle.outwriter.proofs.Others.{or-true}
@@ -455,6 +455,11 @@ update-written run begun gone w waiting block owed less taken made is is_begun n
     })
     (λ e. (taken.1, takes.0, small, refl))
     (sym not_gone) m)
+
+-- a header block begins, whatever was due with what is due now
+abbrev pub Heads : Frame → Outbound → Outbound → Type 0
+Heads frame old new = (run : List Step) (before : List Due) → Mirrors run old.begun old.gone old.states.windows before old.block old.states
+    → HasDue run old.due.items → MayWrite run frame × MirrorsOf (Written frame ∷ run) new
 
 -- HEADERS of a block that begins, on a stream whose end is noted where the block ends it
 pub block-heads : (old mid new : Outbound) (id : ℕ) (ends_it : Bool) (bytes : List ℕ) (frame : Frame) → IsBetween old → 0 < id → over_on old.states id ≡ None → is_reset old.states id ≡ false

@@ -1,6 +1,6 @@
 -- A look at what is next on a stream: what is in hand, or what its sender has.
 use Rattle.std.proofs.Common.{◌≡◌, inl, inr, ℕ, refl, sym, ap, subst, ◌∙◌, Bool, List, [], Option, None, Some}
-use Rattle.std.specs.Prelude.{◌≢◌, Ok, get_or}
+use Rattle.std.specs.Prelude.{Ok, get_or}
 use Rattle.account.specs.declared.call.OutItem.{OutItem}
 use Rattle.callbox.specs.declared.sender.Sender.{Sender}
 use Rattle.h2frame.specs.declared.frame.Frame.{Frame}
@@ -19,19 +19,17 @@ use Rattle.outwriter.specs.declared.stream.Polled.{Polled}
 use Rattle.outwriter.specs.declared.stream.Polled.TheVariants as polled
 use Rattle.outwriter.specs.CallState.{Heeds, Serves}
 use Rattle.outwriter.specs.Cores.{calls, IsStuck}
-use Rattle.outwriter.specs.Data.{BeginsMessage, LooksAtStream, TakesFrames}
+use Rattle.outwriter.specs.Data.{LooksAtStream, TakesFrames}
 use Rattle.outwriter.specs.Frames.{IsSound}
-use Rattle.outwriter.specs.NextOn.{Asks, AsksNone, EndsOn, NextOnStream, TakesNext, TakesUp, TakesUpStream}
-use Rattle.outwriter.specs.OpenStreams.{Removes, Shown, kept, shown, shows, with_hand}
-use Rattle.outwriter.specs.RunState.{BeginsBlock, Ends, IsBetween, MirrorsOf, SameOwn, Stays}
+use Rattle.outwriter.specs.NextOn.{Asks, EndsOn, NextOnStream, TakesNext, TakesUp}
+use Rattle.outwriter.specs.OpenStreams.{Removes, Shown, kept, shows, with_hand}
+use Rattle.outwriter.specs.RunState.{BeginsBlock, Ends, IsBetween, MirrorsOf}
 use Rattle.outwriter.specs.States.{IsShut, SameOwed, States, open_at, owed_on}
-use Rattle.outwriter.specs.Steps.{Step}
-use Rattle.outwriter.specs.StreamLooks.{GetsStuck, HoldsOn, LooksAt, Picks, SameAhead, SameElsewhere, StuckAt, TakesAt, TakesHand, TellsData, aheads, frame_in}
+use Rattle.outwriter.specs.StreamLooks.{GetsStuck, LooksAt, Picks, SameAhead, StuckAt, TakesAt, aheads, frame_in}
 use Rattle.outwriter.specs.ToldByNow.{TellsBlock}
-use Rattle.outwriter.proofs.DataSteps.{data-own, data-progress, data-sound, tells-data}
+use Rattle.outwriter.proofs.DataSteps.{TellsData, data-own, data-progress, data-sound, tells-data}
 use Rattle.outwriter.proofs.EndSteps.{block-heads}
 use Rattle.outwriter.proofs.ServeStepsLook.{Took, look-block, look-data, look-nothing, look-picks, progress-none}
-use Rattle.outwriter.proofs.ServeStepsTake.{same-ahead, takes-at}
 use Rattle.outwriter.proofs.StuckSteps.{looks-data, stuck-nothing, stuck-shut}
 
 -- ---- a stream

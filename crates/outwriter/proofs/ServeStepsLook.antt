@@ -1,6 +1,6 @@
 -- A look at an open stream: what is taken of it is written, or kept in hand.
 use Rattle.std.proofs.Common.{◌≡◌, ℕ, ◌<◌, ◌==◌, ◌⊎◌, inl, inr, refl, sym, ap, subst, ◌∙◌, Bool, true, false, List, [], ◌∷◌, ◌++◌, Option, Some, None, length, append_assoc, true≢false}
-use Rattle.std.specs.Prelude.{IfNone, IfOk, IfSome, Result, Ok, Err, map, get_or, if◌then◌else◌}
+use Rattle.std.specs.Prelude.{IfNone, IfSome, Result, Ok, map, get_or, if◌then◌else◌}
 use Rattle.std.proofs.lemmas.Bool.{eqb-true, eq-eqb}
 use Rattle.std.proofs.lemmas.Grind.{flat_map-append}
 use Rattle.std.proofs.lemmas.List.{map-append}
@@ -19,23 +19,22 @@ use Rattle.outwriter.specs.declared.stream.Looked.TheVariants as looked
 use Rattle.outwriter.specs.Calls.{is_served, TellFronts}
 use Rattle.outwriter.specs.Frames.{IsSound}
 use Rattle.outwriter.specs.Cores.{calls}
-use Rattle.outwriter.specs.States.{SameOpen, SameOwed, States, is_heard, knows, over_on, open_at}
+use Rattle.outwriter.specs.States.{SameOwed, is_heard, knows, over_on, open_at}
 use Rattle.outwriter.specs.OpenStreams.{Closes, HandIs, OpenStreams, Removes, Shown, kept, shown, shows, with_hand}
-use Rattle.outwriter.specs.RunState.{Ends, Heads, IsBetween, MirrorsOf, Progress, SameButOpen, SameOwn, Stays}
-use Rattle.outwriter.specs.RunState.{Writes as WritesFrame}
+use Rattle.outwriter.specs.RunState.{Ends, IsBetween, MirrorsOf, Progress, SameButOpen, SameOwn, Stays}
 use Rattle.outwriter.specs.Parts.{Mark, Byte, Fields, End, on_stream, spelled, marks_of_item, IsFrontOf, IsPart}
 use Rattle.outwriter.specs.NextOn.{GetsOne}
-use Rattle.outwriter.specs.StreamLooks.{one_more, SameAhead, SameElsewhere, TakesAt, TakesHand, TellsData, aheads, frame_in, HoldsOn, Picks}
+use Rattle.outwriter.specs.StreamLooks.{one_more, TakesAt, aheads, frame_in, HoldsOn, Picks}
 use Rattle.outwriter.specs.Polls.{block_item, GotNone}
 use Rattle.outwriter.specs.CallState.{Heeds, bytes_marks, Serves}
 use Rattle.outwriter.specs.Steps.{Step, Written}
 use Rattle.outwriter.specs.ToldByNow.{SpellsOf, SameStanding, TellsMore, TellsBlock, block_marks}
+use Rattle.outwriter.proofs.DataSteps.{TellsData}
 use Rattle.outwriter.proofs.ServeSteps.{append-nil, none-shown}
 use Rattle.outwriter.proofs.EndsKept.{KeepsEnds, heeds-kept, same-ends, block-ends, ends-heard}
 use Rattle.outwriter.proofs.TellStepsOwn.{ends-as, standing-as, stands-but}
 use Rattle.outwriter.proofs.Others.{later-none, later-written}
 use Rattle.outwriter.proofs.ServeStepsOpen.{Grows, grows-none, grows-one, goes-on, ends}
-use Rattle.outwriter.proofs.RunStateSteps.{mirrors-but-open}
 use Rattle.outwriter.proofs.ServeStepsOwn.{serves-but-open}
 use Rattle.outwriter.proofs.ServeStepsCore.{own-then}
 
@@ -281,16 +280,6 @@ module _ {L In Out Shut : Type 0} where
     pub takes : Found (shows (open_at old.outbound.states) id) (calls got old.senders.items) (calls got mid.senders.items) (aheads ahead mid.senders.items)
         old.outbound.encoder mid.outbound.encoder found
     pub outbound : mid.outbound ≡ record old.outbound { encoder = mid.outbound.encoder }
-
-  pub took : (got ahead : Out → List OutItem) (old mid : Sending L In Out Shut) (id place : ℕ) (hand : Option (List ℕ)) (found : Polled)
-      → mid.outbound ≡ record old.outbound { encoder = mid.outbound.encoder } → shows (open_at old.outbound.states) id ≡ Some (place, hand)
-      → TakesHand {E = Unit {0}} hand place (calls got old.senders.items) (calls got mid.senders.items) (aheads ahead mid.senders.items) old.outbound.encoder mid.outbound.encoder (Ok found)
-      → Took got ahead old mid id found
-  took got ahead old mid id place hand found outbound there takes = record {
-    takes = subst (λ (v : Shown). Found v (calls got old.senders.items) (calls got mid.senders.items) (aheads ahead mid.senders.items) old.outbound.encoder mid.outbound.encoder found)
-        (sym there) takes;
-    outbound = outbound;
-  }
 
   -- what a look at a message found
   pub look-picks : (got : Out → List OutItem) (old mid new : Sending L In Out Shut) (l : Looked) → Stays old.outbound mid.outbound → SameOwn old.outbound mid.outbound

@@ -32,8 +32,8 @@ use Rattle.outwriter.specs.declared.states.Over.TheVariants as end_by
 use Rattle.outwriter.specs.NextOn.{Asks, AsksNone, EndsOn, EndsStream, NextAtEntry, NextOnStream, TakesNext, TakesUp, TakesUpStream}
 use Rattle.outwriter.specs.declared.stream.Looked.{Looked}
 use Rattle.outwriter.specs.Data.{BeginsMessage, BeginsOnStream, TakesFrames}
-use Rattle.outwriter.specs.OpenStreams.{Closes, HandIs, SameHands, Shown, kept, shown, shows, with_hand}
-use Rattle.outwriter.specs.States.{States, Adds, BecomesOpen, Changes, CreditsEntry, CreditsStream, Edits, Grants, Hears, IsAfter, IsChanged, Moves, Opens, PutsAfter, Resets, Rewrites, SameButWindows, SameEnds, SetsBalance, StandButWindows, SameOpen, SameOver, SameOwed, SameStreams, SetsEnd, StandAs, IsShut, KeepsAmount, can_write, AllFit, IsSettled, IsSettledFrom, IsSettledBut, IsWithin, AreNumbered, Fits, Puts, PutsEntry, TakesAt, TakesLast, TakesAll, amount_of, more, open_at, opened_in, opened_of, state_of, states_of, steps_of, stream_in, balance_after, balance_in, balances_of, opens_window, windows_of, by_reset, end_of, is_of_call, is_paid, is_heard, is_reset, is_reset_state, knows, over_on, owed_on, pays, state_in, state_on}
+use Rattle.outwriter.specs.OpenStreams.{Closes, SameHands, Shown, kept, shown, shows, with_hand}
+use Rattle.outwriter.specs.States.{States, Adds, BecomesOpen, Changes, CreditsEntry, CreditsStream, Edits, Grants, Hears, IsAfter, IsChanged, Moves, Opens, PutsAfter, Resets, SameButWindows, SameEnds, SetsBalance, StandButWindows, SameOpen, SameOver, SameOwed, SameStreams, SetsEnd, StandAs, IsShut, KeepsAmount, can_write, AllFit, IsSettled, IsSettledFrom, IsSettledBut, IsWithin, AreNumbered, Fits, Puts, PutsEntry, TakesAt, TakesLast, TakesAll, amount_of, more, open_at, opened_in, opened_of, state_of, states_of, steps_of, stream_in, balance_after, balance_in, balances_of, opens_window, windows_of, by_reset, end_of, is_of_call, is_paid, is_heard, is_reset, is_reset_state, knows, over_on, owed_on, pays, state_in, state_on}
 use Rattle.outwriter.proofs.BalanceLemmas.{Credited, credit-none, credit-some, data-view, found-balance, found-stays, none-closes, put-closes, put-opens, put-stays, same-balances}
 
 abbrev Entry : Type 0
@@ -596,6 +596,10 @@ same-states : (es : List Entry) (id : ℕ) (w was : Stream) → lookup (nat_eq i
     → map (with_part (λ (x : Stream). x.state)) (set_value (nat_eq id) es w) ≡ map (with_part (λ (x : Stream). x.state)) es
 same-states es id w was found same = same-mapped (λ (x : Stream). x.state) es id w was found same
 
+-- what is kept of an open stream and of its window changes at most
+abbrev pub Rewrites : List Entry → ℕ → List Entry → Type 0
+Rewrites old id new = (new ≡ old) ⊎ ((was : Stream) × (now : Stream) × (lookup (nat_eq id) old ≡ Some was) × (now.state ≡ was.state) × (new ≡ set_value (nat_eq id) old now))
+
 -- but for what is open and the windows, all is the same
 pub rewrite-stands : (connection : ℕ) (from to : Shared) (es : List Entry) (id : ℕ) (new : List Entry) → Rewrites es id new → StandButWindows (states_of connection from es) (states_of connection to new)
 rewrite-stands connection from to es id new (inl e) = subst (λ (l : List Entry). StandButWindows (states_of connection from es) (states_of connection to l)) (sym e) refl
@@ -973,11 +977,6 @@ module _ (connection : ℕ) (sent : Shared) (es : List Entry) (owing id : ℕ) (
       ∙ ap (λ o. shown (opened_of o)) (put-there es id now was found id)
       ∙ ap (λ b. shown (opened_of (if b then Some now else lookup (nat_eq id) es))) (eq-eqb id id refl)
       ∙ here ∙ sym (ap (λ o. f (shown (opened_of o))) found)
-
-  written-hand : (new : List Entry) (now : Stream) (in_hand : Option (List ℕ)) (place : ℕ) (hand : Option (List ℕ)) → new ≡ set_value (nat_eq id) es now
-      → shown was.opened ≡ Some (place, in_hand) → shown now.opened ≡ Some (place, hand)
-      → shown (opened_of (lookup (nat_eq id) new)) ≡ with_hand hand (shown (opened_of (lookup (nat_eq id) es)))
-  written-hand new now in_hand place hand is before after = written new now (with_hand hand) is (after ∙ sym (ap (with_hand hand) before))
 
   puts-there : (new : List Entry) (now : Stream) → new ≡ set_value (nat_eq id) es now → PutsEntry es id now new
   puts-there new now is = subst (PutsEntry es id now) (sym is) (put-there es id now was found)

@@ -1,6 +1,5 @@
 -- DATA of a message (RFC 9113, section 6.1), and of what is in hand of a stream.
-use Rattle.std.specs.Prelude.{◌≡◌, ◌⊎◌, ℕ, ℤ, pos, ◌+ℤ◌, ◌-ℤ◌, ◌-◌, Option, ◌<◌, ◌≤◌, ◌^◌, nat_eq, false, true, List, [], ◌++◌, length, None, Some, MatchOption}
-use Rattle.std.specs.Map.{lookup, set_value}
+use Rattle.std.specs.Prelude.{◌≡◌, ◌⊎◌, ℕ, ℤ, pos, ◌+ℤ◌, ◌-ℤ◌, ◌-◌, Option, ◌<◌, ◌≤◌, ◌^◌, false, true, List, [], ◌++◌, length, None, Some}
 use Rattle.flow.specs.Windows.{Shared, Windows, lesser, room}
 use Rattle.flow.specs.WindowHistory.{Follows, room_after}
 use Rattle.flow.specs.WindowHistory.{Step as WindowStep}
@@ -11,9 +10,9 @@ use Rattle.outwriter.specs.declared.stream.Hand.TheVariants as hand
 use Rattle.outwriter.specs.declared.stream.Looked.{Looked}
 use Rattle.outwriter.specs.declared.stream.Looked.TheVariants as looked
 use Rattle.outwriter.specs.Frames.{data_frame}
-use Rattle.outwriter.specs.OpenStreams.{HandIs, kept, shown, shows, with_hand}
+use Rattle.outwriter.specs.OpenStreams.{HandIs, kept, shown, with_hand}
 use Rattle.outwriter.specs.RunState.{spent}
-use Rattle.outwriter.specs.States.{IsShut, StandButWindows, States, can_write, is_reset, open_at, over_on, room_in}
+use Rattle.outwriter.specs.States.{StandButWindows, States, can_write, is_reset, open_at, over_on, room_in}
 
 -- DATA of a front of a message, for which both windows have room and out of which it is taken; nothing, where they have none; or
 -- the message has no bytes. The rest of it stays.

@@ -30,17 +30,17 @@ abbrev pub EndsStream : Bool → Stream → Stream → Type 0
 EndsStream true old new = (new.opened ≡ None) × IsAfter (change.End end_by.EndStream) old.state new.state × (new.balance ≡ None)
 EndsStream false old new = new ≡ old
 
+-- nothing; of a message, DATA and what is in hand then; or a header block
 abbrev pub TakesUpStream : ℕ → Stream → Stream → Shared → Shared → Polled → Found → Type 0
 TakesUpStream id old new from to polled.Nothing found.Nothing = (new ≡ old) × (to ≡ from)
 TakesUpStream id old new from to (polled.Message bytes) (found.Message l) = (new.state ≡ old.state) × BeginsOnStream id old new from to bytes l
 TakesUpStream id old new from to (polled.Block bytes ends_it) (found.Block block ends) = (block ≡ bytes) × (ends ≡ ends_it) × EndsStream ends_it old new × (to ≡ from)
 TakesUpStream id old new from to _ _ = ⊥
 
--- the same among all streams
+-- the same among all streams: it is closed where the block ends it, and END_STREAM is noted
 abbrev pub EndsOn : ℕ → Bool → States → States → Type 0
 EndsOn id ends_it old new = Removes id ends_it (open_at old) (open_at new) × Ends old id ends_it new × SameOwed old new × Moves old (closing id ends_it) new
 
--- nothing; of a message, DATA and what is in hand then; or a header block
 abbrev pub TakesUp : ℕ → States → States → Polled → Found → Type 0
 TakesUp id old new polled.Nothing found.Nothing = new ≡ old
 TakesUp id old new (polled.Message bytes) (found.Message l) = BeginsMessage id old new bytes l

@@ -145,12 +145,7 @@ abbrev pub WritesOrSkips : Due → Option Frame → Outbound → Outbound → Ty
 WritesOrSkips one (Some frame) old new = WritesDue one frame old new
 WritesOrSkips one None old new = (duties_of one ≡ []) × (new ≡ old)
 
--- a header block begins, whatever was due with what is due now
-abbrev pub Heads : Frame → Outbound → Outbound → Type 0
-Heads frame old new = (run : List Step) (before : List Due) → Mirrors run old.begun old.gone old.states.windows before old.block old.states
-    → HasDue run old.due.items → MayWrite run frame × MirrorsOf (Written frame ∷ run) new
-
--- it is the first frame of this one, whose rest is kept
+-- the first frame of a header block, whose rest is kept
 abbrev pub BeginsBlock : ℕ → Bool → List ℕ → Frame → Outbound → Outbound → Type 0
 BeginsBlock id ends_it bytes frame old new =
     let whole : HeaderBlock = record { id = id; ends = ends_it; begun = false; rest = bytes } in (frame ≡ frame_of whole) × (new ≡ record old { block = rest_of whole })

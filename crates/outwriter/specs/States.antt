@@ -317,11 +317,7 @@ abbrev pub Edits : List (ℕ × Stream) → ℕ → List (ℕ × Stream) → Typ
 Edits old id new = (new ≡ old) ⊎ ((was : Stream) × (opened : Option OpenStream) × (lookup (nat_eq id) old ≡ Some was)
     × (new ≡ set_value (nat_eq id) old (record was { opened = opened })))
 
--- and its window
-abbrev pub Rewrites : List (ℕ × Stream) → ℕ → List (ℕ × Stream) → Type 0
-Rewrites old id new = (new ≡ old) ⊎ ((was : Stream) × (now : Stream) × (lookup (nat_eq id) old ≡ Some was) × (now.state ≡ was.state) × (new ≡ set_value (nat_eq id) old now))
-
--- or all of it but what is owed on it
+-- all of it does but the amount that is owed on it
 abbrev pub KeepsAmount : List (ℕ × Stream) → ℕ → List (ℕ × Stream) → Type 0
 KeepsAmount old id new = (new ≡ old)
     ⊎ ((was : Stream) × (now : Stream) × (lookup (nat_eq id) old ≡ Some was) × (amount_of now.state ≡ amount_of was.state) × (new ≡ set_value (nat_eq id) old now))

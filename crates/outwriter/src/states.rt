@@ -718,7 +718,7 @@ fn next_at<L: Lane<Item = OutItem>>(
     senders: &mut Vec<(StreamId, Sender<L>)>,
     encoder: &mut Encoder,
 ) -> Result<Found, AllocError>
-    ensures rewrites { KeepsAmount streams.old.entries id streams.new.entries }
+    ensures amount { KeepsAmount streams.old.entries id streams.new.entries }
     ensures next { IfOk result (NextAtEntry L.got (coming L.got L.ahead) id streams.old.entries streams.new.entries window.old window.new senders.old.items senders.new.items encoder.old encoder.new) }
     ensures got { GetsOne (calls L.got senders.old.items) (calls L.got senders.new.items) }
     ensures senders { lanes L.out_name senders.new.items ≡ lanes L.out_name senders.old.items }

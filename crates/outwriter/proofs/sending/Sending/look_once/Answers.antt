@@ -1,6 +1,6 @@
 use Rattle.outwriter.specs.Cores.{calls}
 use Rattle.outwriter.specs.Polls.{coming}
-use Rattle.outwriter.proofs.LookSteps.{block-found, block-picks, message-found, nothing-picks}
+use Rattle.outwriter.proofs.LookSteps.{block-found, block-picks, message-found, nothing-picks, nothing-stuck}
 use Rattle.outwriter.proofs.ServeStepsLook.{one-fronts}
 use Rattle.outwriter.proofs.sending.Sending.look_once.Goals as goal
 
@@ -10,6 +10,10 @@ returns-in_err-found-clause-gives g c = (one-fronts (calls g.L.Lane.got c.args.s
 pub returns-in-Nothing-clause-picks : goal.returns-in-Nothing-clause-picks
 returns-in-Nothing-clause-picks g c =
     nothing-picks g.L.Lane.got (coming g.L.Lane.got g.L.Lane.ahead) c.args.self.now (record c.args.self.now { senders = c.next_on.new.senders }) c.next_on.new.encoder c.next_on.new.self c.args.id c.requires c.in_ok-found.found c.in_ok-found.ensures.next c.in-Nothing.is
+
+pub returns-in-Nothing-clause-looks : goal.returns-in-Nothing-clause-looks
+returns-in-Nothing-clause-looks g c =
+    nothing-stuck g.L.Lane.got (coming g.L.Lane.got g.L.Lane.ahead) c.args.self.now (record c.args.self.now { senders = c.next_on.new.senders }) c.next_on.new.encoder c.next_on.new.self c.args.id c.requires c.in_ok-found.found c.in_ok-found.ensures.next c.in-Nothing.is
 
 pub returns-in-Nothing-clause-gives : goal.returns-in-Nothing-clause-gives
 returns-in-Nothing-clause-gives g c = (one-fronts (calls g.L.Lane.got c.args.self.now.senders.items) (calls g.L.Lane.got c.next_on.new.senders.items) c.next_on.ensures.got, c.next_on.ensures.senders)

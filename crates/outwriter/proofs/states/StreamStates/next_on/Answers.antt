@@ -9,7 +9,7 @@ use Rattle.outwriter.proofs.states.StreamStates.next_on.Goals as goal
 
 pub invariant_of-self : goal.invariant_of-self
 invariant_of-self g c = keeps-within c.self.inside.connection c.self.inside.streams.entries c.self.inside.owing c.args.id c.next_at.new.streams.entries
-    c.next_at.ensures.rewrites c.self.invariant
+    c.next_at.ensures.amount c.self.invariant
 
 pub returns-clause-next : goal.returns-clause-next
 returns-clause-next g c =
