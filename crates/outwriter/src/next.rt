@@ -78,7 +78,7 @@ impl<L: Lane<Item = OutItem>> Sending<L> {
     ghost use Rattle.outwriter.specs.Cores.{lanes};
     ghost use Rattle.outwriter.specs.Polls.{coming};
     ghost use Rattle.outwriter.specs.StreamLooks.{AllStuck, GetsQuiet, GetsStuck, Gives, HoldsOn, LooksAt, Picks, frame_in};
-    ghost use Rattle.outwriter.specs.RunState.{SameOwn, IsSpent, Progress, Progresses, IsBetween};
+    ghost use Rattle.outwriter.specs.RunState.{IsSpent, Progresses, IsBetween};
 
     /// SETTINGS first; the rest of a header block; what is due; credit; and then the streams.
     pub(crate) fn choose(&mut self) -> Result<Option<Frame>, AllocError>

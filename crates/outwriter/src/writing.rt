@@ -1,6 +1,6 @@
 //! The frames of a connection, each with what it changes.
 
-ghost use Rattle.std.specs.Prelude.{◌≡◌, ℕ, List, [], ◌∷◌, ◌<◌, ◌^◌, ◌&&◌, not, is_some, true, false, Some, None, IfOk, IfSome, IfNone, OnOk};
+ghost use Rattle.std.specs.Prelude.{◌≡◌, ℕ, List, [], ◌∷◌, ◌<◌, ◌^◌, ◌&&◌, not, is_some, true, false, Some, None, IfOk, IfSome, IfNone};
 ghost use Rattle.outwriter.specs.States.{over_on};
 
 use crate::blocks::HeaderBlock;
