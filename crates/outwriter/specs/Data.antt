@@ -50,7 +50,7 @@ LooksAtStream id old new from to (hand.Message found) = (can_write old.state ≡
     × (place : ℕ) × (message : List ℕ) × (rest : List ℕ) × (shown old.opened ≡ Some (place, Some message)) × (shown new.opened ≡ Some (place, kept rest))
     × CutsData id from to old.balance new.balance message rest found
 
--- what is found of a message that begins, of which the rest is in hand then, if the stream is open
+-- what is found of a message that begins or goes on, of which the rest is in hand then, if the stream is open
 abbrev pub BeginsOnStream : ℕ → Stream → Stream → Shared → Shared → List ℕ → Looked → Type 0
 BeginsOnStream id old new from to message found =
     (rest : List ℕ) × (shown new.opened ≡ with_hand (kept rest) (shown old.opened)) × CutsData id from to old.balance new.balance message rest found
@@ -62,7 +62,7 @@ pub record TakesFrames (states : States) (id : ℕ) : Type 0 where
   pub not_over : over_on states id ≡ None
   pub not_reset : is_reset states id ≡ false
 
--- what is found of a message that begins, of which the rest is in hand then
+-- the same among all streams
 abbrev pub BeginsMessage : ℕ → States → States → List ℕ → Looked → Type 0
 BeginsMessage id old new message found = StandButWindows old new
     × (rest : List ℕ) × HandIs id (kept rest) (open_at old) (open_at new) × TakesData id old.windows new.windows message rest found
