@@ -21,7 +21,7 @@ use Rattle.flow.proofs.WindowSteps.{CanCredit-stream, CanResize-fits, Follows-cl
 use Rattle.outwriter.specs.declared.states.Stream.{Stream}
 use Rattle.outwriter.specs.declared.stream.Looked.{Looked}
 use Rattle.outwriter.specs.declared.stream.Looked.TheVariants as looked
-use Rattle.outwriter.specs.Data.{CutsData, IsUnsent, Spends, TakesData}
+use Rattle.outwriter.specs.Data.{CutsData, Spends, TakesData}
 use Rattle.outwriter.specs.Resizes.{FitsOn}
 use Rattle.outwriter.specs.RunState.{spent}
 use Rattle.outwriter.specs.States.{CreditsStream, PutsEntry, balance_first, balance_in, balances_of, fits_with, room_in, windows_of}
@@ -273,10 +273,3 @@ module _ (from to : Shared) (es : List Entry) (id : ℕ) (was now : Stream) (new
       room-here : room_in from was.balance ≡ 0 → room (windows_of from es) id ≡ 0
       room-here none = ap (room_in from) here ∙ none
   data-view looked.Empty cuts = (cuts.0, same cuts.1 cuts.2, cuts.3)
-
--- of a stream that isn't there nothing is
-pub unsent-takes : (shared : Shared) (es : List Entry) (id : ℕ) → lookup (nat_eq id) es ≡ None → (message : List ℕ) (l : Looked) → IsUnsent message l
-    → TakesData id (windows_of shared es) (windows_of shared es) message message l
-unsent-takes shared es id none message (looked.Frame frame) unsent = absurd unsent
-unsent-takes shared es id none message looked.Nothing unsent = (refl, refl, unsent, ap (room_in shared) (found-balance shared es id ∙ ap balance_in none))
-unsent-takes shared es id none message looked.Empty unsent = (refl, refl, unsent)

@@ -1,8 +1,8 @@
 -- DATA of a message: how much of it is taken, and what that changes.
-use Rattle.std.proofs.Common.{◌≡◌, ℕ, ℤ, ◌<◌, ◌≤◌, refl, sym, ap, subst, ◌∙◌, List, [], ◌∷◌, ◌++◌, Option, Some, length, arith}
+use Rattle.std.proofs.Common.{◌≡◌, ℕ, ℤ, ◌<◌, ◌≤◌, refl, sym, ap, subst, ◌∙◌, List, [], ◌∷◌, ◌++◌, Option, Some, None, length, arith}
 use Rattle.std.specs.Prelude.{drop, take, map, IfNone, IfSome}
 use Rattle.std.proofs.lemmas.List.{length-take-le, take-append-drop}
-use Rattle.flow.specs.Windows.{Shared, Windows}
+use Rattle.flow.specs.Windows.{Shared, Windows, room}
 use Rattle.h2frame.specs.declared.frame.Frame.{Frame}
 use Rattle.outwriter.specs.declared.sending.Sending.{Sending}
 use Rattle.outwriter.specs.declared.outbound.Outbound.{Outbound}
@@ -15,7 +15,7 @@ use Rattle.outwriter.specs.Parts.{Mark, Byte, on_stream}
 use Rattle.outwriter.specs.RunState.{IsBetween, Progress, SameButOpen, SameOwn}
 use Rattle.outwriter.specs.States.{open_at, owed_on}
 use Rattle.outwriter.specs.Steps.{Written}
-use Rattle.outwriter.specs.StreamLooks.{TellsData, frame_in}
+use Rattle.outwriter.specs.StreamLooks.{frame_in}
 use Rattle.outwriter.specs.ToldByNow.{Spells, SpellsOf, TellsMore}
 use Rattle.outwriter.proofs.EndSteps.{data-written}
 use Rattle.outwriter.proofs.RunStateSteps.{mirrors-but-open, mirrors-moved}
@@ -85,6 +85,13 @@ kept-some [] some = absurd (omega (arith, some))
 kept-some (byte ∷ bytes) some = refl
 
 module _ {L In Out Shut : Type 0} where
+  -- DATA of a front of some bytes, of which the rest is in hand then; or all of them are, as there is no room
+  abbrev pub TellsData : ℕ → List ℕ → Looked → Sending L In Out Shut → Sending L In Out Shut → Type 0
+  TellsData id bytes (looked.Frame frame) old new = (front : List ℕ) × (rest : List ℕ) × (bytes ≡ front ++ rest) × HandIs id (kept rest) (open_at old.outbound.states) (open_at new.outbound.states)
+      × TellsMore frame (on_stream id (map Byte front)) old.outbound new.outbound × (new.outbound ≡ record old.outbound { states = record old.outbound.states { opened = new.outbound.states.opened; windows = new.outbound.states.windows } })
+  TellsData id bytes looked.Nothing old new = HandIs id (Some bytes) (open_at old.outbound.states) (open_at new.outbound.states) × SameButOpen old.outbound new.outbound × (room old.outbound.states.windows id ≡ 0)
+  TellsData id bytes looked.Empty old new = (bytes ≡ []) × HandIs id None (open_at old.outbound.states) (open_at new.outbound.states) × SameButOpen old.outbound new.outbound
+
   pub tells-data : (found : Looked) (old new : Sending L In Out Shut) (id : ℕ) (message rest : List ℕ) → IsBetween old.outbound → TakesFrames old.outbound.states id
       → HandIs id (kept rest) (open_at old.outbound.states) (open_at new.outbound.states)
       → new.outbound ≡ record old.outbound { states = record old.outbound.states { opened = new.outbound.states.opened; windows = new.outbound.states.windows } }

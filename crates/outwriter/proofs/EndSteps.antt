@@ -22,7 +22,8 @@ use Rattle.outwriter.specs.Blocks.{frame_of, rest_of, is_short}
 use Rattle.outwriter.specs.States.{States, SameEnds, SameOwed, SetsEnd, is_reset, over_on, owed_on, TakesAll}
 use Rattle.outwriter.specs.Frames.{resets, ends, update_on, reset_frame, data_frame, update_frame, headers_frame, continuation_frame, ends_stream, ends_block}
 use Rattle.outwriter.specs.Histories.{is_over, is_stream, closing_of, spending_of}
-use Rattle.outwriter.specs.RunState.{Mirrors, resets_of, HasWindows, HasOver, HasDue, HasBlock, HasHead, HasResets, HasStates, spent, closing, Keeps, Ends}
+use Rattle.outwriter.specs.declared.outbound.Outbound.{Outbound}
+use Rattle.outwriter.specs.RunState.{BeginsBlock, IsBetween, MirrorsOf, Mirrors, resets_of, HasWindows, HasOver, HasDue, HasBlock, HasHead, HasResets, HasStates, spent, closing, Keeps, Ends}
 use Rattle.outwriter.specs.Runs.{due, IsAsked, Fragments, Continues, MayWrite, fragments, unfinished, updated, granted, is_opened, may_owe, owed as given, resets_stream, was_reset}
 use Rattle.outwriter.specs.Steps.{Step, Taken, Granted, Written, Returned, frames_of}
 use Rattle.outwriter.proofs.Others.{or-true}
@@ -454,3 +455,21 @@ update-written run begun gone w waiting block owed less taken made is is_begun n
     })
     (λ e. (taken.1, takes.0, small, refl))
     (sym not_gone) m)
+
+-- a header block begins, whatever was due with what is due now
+abbrev pub Heads : Frame → Outbound → Outbound → Type 0
+Heads frame old new = (run : List Step) (before : List Due) → Mirrors run old.begun old.gone old.states.windows before old.block old.states
+    → HasDue run old.due.items → MayWrite run frame × MirrorsOf (Written frame ∷ run) new
+
+-- HEADERS of a block that begins, on a stream whose end is noted where the block ends it
+pub block-heads : (old mid new : Outbound) (id : ℕ) (ends_it : Bool) (bytes : List ℕ) (frame : Frame) → IsBetween old → 0 < id → over_on old.states id ≡ None → is_reset old.states id ≡ false
+    → mid ≡ record old { encoder = mid.encoder; states = mid.states }
+    → Ends old.states id ends_it mid.states → SameOwed old.states mid.states
+    → ((history : List WindowStep) → Follows history old.states.windows → Follows (closing id ends_it ++ history) mid.states.windows)
+    → BeginsBlock id ends_it bytes frame mid new → Heads frame old new
+block-heads old mid new id ends_it bytes frame between there not_over not_reset mid_is ended owed moves begins run before m dues =
+    let block : HeaderBlock = record { id = id; ends = ends_it; begun = false; rest = bytes } in
+    let is : new ≡ record old { encoder = mid.encoder; states = mid.states; block = rest_of block } = begins.1 ∙ ap (λ (o : Outbound). record o { block = rest_of block }) mid_is in
+    subst (λ (o : Outbound). MayWrite run frame × MirrorsOf (Written frame ∷ run) o) (sym is)
+    (headers-written run old.begun old.gone old.states.windows mid.states.windows before old.due.items old.block (rest_of block) old.states mid.states id ends_it (is_short block) (take 16384 bytes) frame
+    begins.0 between.begun between.going between.no_block there not_over not_reset moves ended owed (keeps-rest block) dues m)

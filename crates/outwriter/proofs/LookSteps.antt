@@ -1,80 +1,192 @@
--- A look at a stream: at what is in hand, and where that is nothing at what its sender has.
-use Rattle.std.proofs.Common.{◌≡◌, ℕ, refl, sym, ap, subst, ◌∙◌, List, Option, None}
-use Rattle.std.specs.Prelude.{Ok}
+-- A look at what is next on a stream: what is in hand, or what its sender has.
+use Rattle.std.proofs.Common.{◌≡◌, inl, inr, ℕ, refl, sym, ap, subst, ◌∙◌, Bool, List, [], Option, None, Some}
+use Rattle.std.specs.Prelude.{Ok, get_or}
 use Rattle.account.specs.declared.call.OutItem.{OutItem}
+use Rattle.callbox.specs.declared.sender.Sender.{Sender}
+use Rattle.h2frame.specs.declared.frame.Frame.{Frame}
 use Rattle.hpack_codec.specs.Codec.{Encoding}
+use Rattle.flow.specs.Windows.{Shared, room}
 use Rattle.outwriter.specs.declared.sending.Sending.{Sending}
 use Rattle.outwriter.specs.declared.outbound.Outbound.{Outbound}
+use Rattle.outwriter.specs.declared.states.Stream.{Stream}
+use Rattle.outwriter.specs.declared.stream.Found.{Found}
+use Rattle.outwriter.specs.declared.stream.Found.TheVariants as found
 use Rattle.outwriter.specs.declared.stream.Hand.{Hand}
 use Rattle.outwriter.specs.declared.stream.Hand.TheVariants as hand
 use Rattle.outwriter.specs.declared.stream.Looked.{Looked}
+use Rattle.outwriter.specs.declared.stream.OpenStream.{OpenStream}
 use Rattle.outwriter.specs.declared.stream.Polled.{Polled}
-use Rattle.outwriter.specs.Cores.{calls}
-use Rattle.outwriter.specs.Data.{LooksAtHand}
-use Rattle.outwriter.specs.OpenStreams.{shows}
-use Rattle.outwriter.specs.RunState.{IsBetween, SameOwn}
-use Rattle.outwriter.specs.States.{States, open_at, owed_on}
-use Rattle.outwriter.specs.StreamLooks.{Picks, SameAhead, SameElsewhere, TakesHand, TellsData, aheads, frame_in}
-use Rattle.outwriter.proofs.DataSteps.{data-own, data-progress, data-sound, tells-data}
-use Rattle.outwriter.proofs.ServeStepsCore.{picks-none}
-use Rattle.outwriter.proofs.ServeStepsLook.{Took, look-data, took, took-ahead, took-hand}
+use Rattle.outwriter.specs.declared.stream.Polled.TheVariants as polled
+use Rattle.outwriter.specs.CallState.{Heeds, Serves}
+use Rattle.outwriter.specs.Cores.{calls, IsStuck}
+use Rattle.outwriter.specs.Data.{LooksAtStream, TakesFrames}
+use Rattle.outwriter.specs.Frames.{IsSound}
+use Rattle.outwriter.specs.NextOn.{Asks, EndsOn, NextOnStream, TakesNext, TakesUp}
+use Rattle.outwriter.specs.OpenStreams.{Removes, Shown, kept, shows, with_hand}
+use Rattle.outwriter.specs.RunState.{BeginsBlock, Ends, IsBetween, MirrorsOf}
+use Rattle.outwriter.specs.States.{IsShut, SameOwed, States, open_at, owed_on}
+use Rattle.outwriter.specs.StreamLooks.{GetsStuck, LooksAt, Picks, SameAhead, StuckAt, TakesAt, aheads, frame_in}
+use Rattle.outwriter.specs.ToldByNow.{TellsBlock}
+use Rattle.outwriter.proofs.DataSteps.{TellsData, data-own, data-progress, data-sound, tells-data}
+use Rattle.outwriter.proofs.EndSteps.{block-heads}
+use Rattle.outwriter.proofs.ServeStepsLook.{Took, look-block, look-data, look-nothing, look-picks, progress-none}
+use Rattle.outwriter.proofs.StuckSteps.{looks-data, stuck-nothing, stuck-shut}
 
--- ---- what is in hand
+-- ---- a stream
+
+module _ {L In Out Shut : Type 0} (got ahead : Out → List OutItem) (id : ℕ) (old : Stream) (from : Shared) (senders : List (ℕ × Sender L In Out Shut)) (before : Option Encoding) where
+  pub next-hand : (new : Stream) (to : Shared) (found_it : Hand) (l : Looked) → new.state ≡ old.state → LooksAtStream id old new from to found_it → found_it ≡ hand.Message l
+      → NextOnStream got ahead id old new from to senders senders before before (found.Message l)
+  next-hand new to found_it l state at is =
+      let looks = subst (LooksAtStream id old new from to) is at in
+      inr (
+        looks.0,
+        polled.Message looks.2,
+        (
+          subst (λ (v : Shown). TakesAt {E = Unit {0}} v (calls got senders) (calls got senders) (aheads ahead senders) before before (Ok (polled.Message looks.2))) (sym looks.4) (refl, refl, refl),
+          subst (λ (v : Shown). SameAhead v (aheads ahead senders) (aheads ahead senders)) (sym looks.4) (λ k ne. refl),
+        ),
+        (state, (looks.3, looks.5 ∙ sym (ap (with_hand (kept looks.3)) looks.4), looks.6)),
+      )
+
+-- ---- a core
 
 module _ {L In Out Shut : Type 0} where
-  pub shut-picks : (got : Out → List OutItem) (old : Sending L In Out Shut) (states : States) (id : ℕ) (found : Hand)
-      → LooksAtHand id old.outbound.states states found → found ≡ hand.Shut → IsBetween old.outbound
-      → Picks got None old (record old { outbound = record old.outbound { states = states } })
-  shut-picks got old states id found at is between =
-      let looks = subst (LooksAtHand id old.outbound.states states) is at in
-      let same : record old { outbound = record old.outbound { states = states } } ≡ old = ap (λ (x : States). record old { outbound = record old.outbound { states = x } }) looks.0 in
-      subst (Picks got None old) (sym same) (picks-none got old between)
+  -- nothing was changed
+  module _ (got ahead : Out → List OutItem) (old new : Sending L In Out Shut) (outbound : new.outbound ≡ old.outbound) (senders : new.senders.items ≡ old.senders.items) where
+    still-picks : IsBetween old.outbound → Picks got None old new
+    still-picks between = (
+      tt,
+      (λ run m. subst (MirrorsOf run) (sym outbound) m, subst IsBetween (sym outbound) between),
+      (ap (λ (o : Outbound). o.due) outbound, λ k. ap (λ (o : Outbound). owed_on o.states k) outbound, ap (λ (o : Outbound). o.block) outbound),
+      λ run h. (
+        h.0,
+        subst (λ (o : Outbound). Serves run o (open_at o.states) (calls got new.senders.items) h.0) (sym outbound)
+            (subst (λ (l : List (ℕ × Sender L In Out Shut)). Serves run old.outbound (open_at old.outbound.states) (calls got l) h.0) (sym senders) h.1),
+        subst (λ (o : Outbound). Heeds run o (open_at o.states)) (sym outbound) h.2,
+      ),
+    )
 
-  module _ (got ahead : Out → List OutItem) (old : Sending L In Out Shut) (states : States) (id : ℕ) (found : Hand) (l : Looked)
-      (at : LooksAtHand id old.outbound.states states found) (is : found ≡ hand.Message l) (between : IsBetween old.outbound) where
+    abbrev StuckIn : ℕ → Outbound → List (ℕ × Sender L In Out Shut) → Type 0
+    StuckIn k o senders = (stream : OpenStream) → (open_at o.states) k ≡ Some stream → IsStuck (room o.states.windows k) stream.in_hand (get_or (aheads ahead senders) stream.place [])
+
+    stuck-as : (k : ℕ) → StuckAt ahead k old → StuckAt ahead k new
+    stuck-as k stuck =
+        subst (λ (o : Outbound). StuckIn k o new.senders.items) (sym outbound) (subst (λ (l : List (ℕ × Sender L In Out Shut)). StuckIn k old.outbound l) (sym senders) stuck)
+
+    still-stuck : (id : ℕ) → IsShut old.outbound.states id → GetsStuck got ahead id old new
+    still-stuck id shut run h = let was = stuck-shut got ahead old id shut run h in (stuck-as id was.0, λ k ne stuck. stuck-as k (was.1 k ne stuck))
+
+  module _ (got ahead : Out → List OutItem) (old left : Sending L In Out Shut) (encoder : Option Encoding) (states : States) (id : ℕ) (between : IsBetween old.outbound) where
+    -- what was found is taken from a sender
+    abbrev mid : Sending L In Out Shut
+    mid = record left { outbound = record old.outbound { encoder = encoder } }
+
+    -- and taken up
     abbrev after : Sending L In Out Shut
-    after = record old { outbound = record old.outbound { states = states } }
+    after = record left { outbound = record old.outbound { encoder = encoder; states = states } }
 
-    looks : LooksAtHand id old.outbound.states states (hand.Message l)
-    looks = subst (LooksAtHand id old.outbound.states states) is at
+    abbrev AsksFor : Polled → Type 0
+    AsksFor one = Asks got ahead (shows (open_at old.outbound.states) id) old.senders.items left.senders.items old.outbound.encoder encoder one
 
-    kept_but : after.outbound ≡ record old.outbound { states = record old.outbound.states { opened = states.opened; windows = states.windows } }
-    kept_but = ap (λ (x : States). record old.outbound { states = x }) looks.1
+    abbrev IsNext : Found → Type 0
+    IsNext result = TakesNext got ahead id old.outbound.states states old.senders.items left.senders.items old.outbound.encoder encoder result
 
-    told : TellsData id looks.3 l old after
-    told = tells-data l old after id looks.3 looks.4 between looks.0 looks.6 kept_but looks.7
+    took-for : (one : Polled) → AsksFor one → Took got ahead old mid id one
+    took-for one asks = record { takes = asks.0; outbound = refl }
 
-    pub hand-picks : Picks got (frame_in l) old after
-    hand-picks = (
-      data-sound old.outbound after.outbound id looks.3 looks.4 between looks.0 kept_but l looks.7,
-      data-progress old.outbound after.outbound id looks.3 looks.4 between looks.0 kept_but l looks.7,
-      data-own old.outbound after.outbound id looks.3 looks.4 between looks.0 kept_but l looks.7,
-      look-data got ahead old old after id looks.3 (took-hand got ahead old id looks.2 looks.3 looks.5) refl l told,
-    )
+    unchanged : states ≡ old.outbound.states → encoder ≡ old.outbound.encoder → after.outbound ≡ old.outbound
+    unchanged same kept_encoder = ap (λ (x : States). record old.outbound { encoder = encoder; states = x }) same ∙ ap (λ (x : Option Encoding). record old.outbound { encoder = x }) kept_encoder
 
-  -- ---- what the sender has
+    -- ---- nothing
 
-  module _ (got ahead : Out → List OutItem) (old : Sending L In Out Shut) (states : States) (id place : ℕ) (found : Hand)
-      (at : LooksAtHand id old.outbound.states states found) (is : found ≡ hand.Empty place)
-      (encoder : Option Encoding) (mid : Sending L In Out Shut) (outbound : mid.outbound ≡ record old.outbound { states = states; encoder = encoder }) where
-    sees : LooksAtHand id old.outbound.states states (hand.Empty place)
-    sees = subst (LooksAtHand id old.outbound.states states) is at
+    quiet-picks : (one : Polled) → AsksFor one → TakesUp id old.outbound.states states one found.Nothing → Picks got None old after
+    quiet-picks polled.Nothing asks same =
+        subst (λ (x : States). Picks got None old (record left { outbound = record old.outbound { encoder = encoder; states = x } })) (sym same)
+        (tt, progress-none old.outbound mid.outbound refl between, (refl, λ k. refl, refl), look-nothing got ahead old mid id polled.Nothing (took-for polled.Nothing asks) refl)
+    quiet-picks (polled.Message bytes) asks up = absurd up
+    quiet-picks (polled.Block bytes ends) asks up = absurd up
 
-    pub asked : (result : Polled)
-        → TakesHand {E = Unit {0}} None place (calls got old.senders.items) (calls got mid.senders.items) (aheads ahead mid.senders.items) old.outbound.encoder mid.outbound.encoder (Ok result)
-        → Took got ahead old mid id result
-    asked result takes = took got ahead old mid id place None result
-        (outbound ∙ ap (λ (x : States). record old.outbound { states = x; encoder = encoder }) sees.0
-        ∙ ap (λ (x : Option Encoding). record old.outbound { encoder = x }) (sym (ap (λ (o : Outbound). o.encoder) outbound)))
-        sees.2 takes
+    quiet-stuck : (one : Polled) → AsksFor one → TakesUp id old.outbound.states states one found.Nothing → GetsStuck got ahead id old after
+    quiet-stuck polled.Nothing asks same =
+        subst (λ (x : States). GetsStuck got ahead id old (record left { outbound = record old.outbound { encoder = encoder; states = x } })) (sym same)
+        (stuck-nothing got ahead old mid id polled.Nothing (took-for polled.Nothing asks) asks.1 refl)
+    quiet-stuck (polled.Message bytes) asks up = absurd up
+    quiet-stuck (polled.Block bytes ends) asks up = absurd up
 
-    pub asked-own : SameOwn old.outbound mid.outbound
-    asked-own = (
-      ap (λ (o : Outbound). o.due) outbound,
-      λ k. ap (λ (o : Outbound). owed_on o.states k) outbound ∙ ap (λ (x : States). owed_on x k) sees.0,
-      ap (λ (o : Outbound). o.block) outbound,
-    )
+    pub nothing-picks : (result : Found) → IsNext result → result ≡ found.Nothing → Picks got None old after
+    nothing-picks result next is = by (subst IsNext is next)
+      where
+        by : IsNext found.Nothing → Picks got None old after
+        by (inl (shut, none, same, asks)) = still-picks got ahead old after (unchanged same asks.1) asks.0 between
+        by (inr (can, one, asks, up)) = quiet-picks one asks up
 
-    pub asked-ahead : SameElsewhere place (aheads ahead old.senders.items) (aheads ahead mid.senders.items)
-        → SameAhead (shows (open_at old.outbound.states) id) (aheads ahead old.senders.items) (aheads ahead mid.senders.items)
-    asked-ahead same = took-ahead ahead old mid id place None sees.2 same
+    pub nothing-stuck : (result : Found) → IsNext result → result ≡ found.Nothing → GetsStuck got ahead id old after
+    nothing-stuck result next is = by (subst IsNext is next)
+      where
+        by : IsNext found.Nothing → GetsStuck got ahead id old after
+        by (inl (shut, none, same, asks)) = still-stuck got ahead old after (unchanged same asks.1) asks.0 id shut
+        by (inr (can, one, asks, up)) = quiet-stuck one asks up
+
+    -- ---- DATA
+
+    message-looks : (l : Looked) (one : Polled) → TakesFrames old.outbound.states id → AsksFor one → TakesUp id old.outbound.states states one (found.Message l)
+        → Picks got (frame_in l) old after × LooksAt got ahead id l old after
+    message-looks l (polled.Message bytes) can asks begins =
+        let but : after.outbound ≡ record mid.outbound { states = record mid.outbound.states { opened = states.opened; windows = states.windows } } =
+        ap (λ (x : States). record mid.outbound { states = x }) begins.0 in
+        let none = progress-none old.outbound mid.outbound refl between in
+        let tells : TellsData id bytes l mid after = tells-data l mid after id bytes begins.1 none.1 can begins.2 but begins.3 in (
+          look-picks got old mid after l none.0 (refl, λ k. refl, refl)
+              (data-sound mid.outbound after.outbound id bytes begins.1 none.1 can but l begins.3)
+              (data-progress mid.outbound after.outbound id bytes begins.1 none.1 can but l begins.3)
+              (data-own mid.outbound after.outbound id bytes begins.1 none.1 can but l begins.3)
+              (look-data got ahead old mid after id bytes (took-for (polled.Message bytes) asks) refl l tells),
+          looks-data got ahead old mid after id bytes (polled.Message bytes) l (took-for (polled.Message bytes) asks) asks.1 tells refl,
+        )
+    message-looks l polled.Nothing can asks up = absurd up
+    message-looks l (polled.Block bytes ends) can asks up = absurd up
+
+    pub message-found : (result : Found) (l : Looked) → IsNext result → result ≡ found.Message l → Picks got (frame_in l) old after × LooksAt got ahead id l old after
+    message-found result l next is = by (subst IsNext is next)
+      where
+        message-nothing : (r : Found) → r ≡ found.Message l → r ≡ found.Nothing → ⊥
+        message-nothing r e f = cc
+
+        by : IsNext (found.Message l) → Picks got (frame_in l) old after × LooksAt got ahead id l old after
+        by (inl (shut, none, same, asks)) = absurd (message-nothing (found.Message l) refl none)
+        by (inr (can, one, asks, up)) = message-looks l one can asks up
+
+    -- ---- a header block
+
+    abbrev TakesBlock : List ℕ → Bool → Type 0
+    TakesBlock bytes ends = TakesFrames old.outbound.states id × AsksFor (polled.Block bytes ends) × EndsOn id ends old.outbound.states states
+
+    block-of : (bytes : List ℕ) (ends : Bool) (one : Polled) → TakesFrames old.outbound.states id → AsksFor one → TakesUp id old.outbound.states states one (found.Block bytes ends) → TakesBlock bytes ends
+    block-of bytes ends (polled.Block block ends_it) can asks up =
+        subst (λ (l : List ℕ). TakesBlock l ends) (sym up.0) (subst (λ (b : Bool). TakesBlock block b) (sym up.1) (can, asks, up.2))
+    block-of bytes ends polled.Nothing can asks up = absurd up
+    block-of bytes ends (polled.Message message) can asks up = absurd up
+
+    pub block-found : (result : Found) (bytes : List ℕ) (ends : Bool) → IsNext result → result ≡ found.Block bytes ends → TakesBlock bytes ends
+    block-found result bytes ends next is = by (subst IsNext is next)
+      where
+        block-nothing : (r : Found) → r ≡ found.Block bytes ends → r ≡ found.Nothing → ⊥
+        block-nothing r e f = cc
+
+        by : IsNext (found.Block bytes ends) → TakesBlock bytes ends
+        by (inl (shut, none, same, asks)) = absurd (block-nothing (found.Block bytes ends) refl none)
+        by (inr (can, one, asks, up)) = block-of bytes ends one can asks up
+
+    pub block-picks : (bytes : List ℕ) (ends : Bool) (frame : Frame) (new : Outbound) → TakesBlock bytes ends → IsSound frame
+        → BeginsBlock id ends bytes frame after.outbound new → TellsBlock id ends bytes frame after.outbound new → Picks got (Some frame) old (record left { outbound = new })
+    block-picks bytes ends frame new (can, asks, (removes, ended, owed, moves)) sound begins tells =
+        let is : new.states ≡ states = ap (λ (o : Outbound). o.states) begins.1 in (
+          sound,
+          λ run m. block-heads old.outbound after.outbound new id ends bytes frame between can.stream can.not_over can.not_reset refl ended owed moves begins run old.outbound.due.items m m.answers,
+          tt,
+          look-block got ahead old mid (record left { outbound = new }) id bytes ends frame (took-for (polled.Block bytes ends) asks) refl
+              (subst (λ (x : States). Removes id ends (open_at old.outbound.states) (open_at x)) (sym is) removes)
+              (subst (Ends old.outbound.states id ends) (sym is) ended) (subst (SameOwed old.outbound.states) (sym is) owed)
+              (ap (λ (o : Outbound). o.due) begins.1) tells,
+        )

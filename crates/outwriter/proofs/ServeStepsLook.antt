@@ -1,6 +1,6 @@
 -- A look at an open stream: what is taken of it is written, or kept in hand.
 use Rattle.std.proofs.Common.{◌≡◌, ℕ, ◌<◌, ◌==◌, ◌⊎◌, inl, inr, refl, sym, ap, subst, ◌∙◌, Bool, true, false, List, [], ◌∷◌, ◌++◌, Option, Some, None, length, append_assoc, true≢false}
-use Rattle.std.specs.Prelude.{IfNone, IfOk, IfSome, Result, Ok, Err, map, get_or, if◌then◌else◌}
+use Rattle.std.specs.Prelude.{IfNone, IfSome, Result, Ok, map, get_or, if◌then◌else◌}
 use Rattle.std.proofs.lemmas.Bool.{eqb-true, eq-eqb}
 use Rattle.std.proofs.lemmas.Grind.{flat_map-append}
 use Rattle.std.proofs.lemmas.List.{map-append}
@@ -19,22 +19,22 @@ use Rattle.outwriter.specs.declared.stream.Looked.TheVariants as looked
 use Rattle.outwriter.specs.Calls.{is_served, TellFronts}
 use Rattle.outwriter.specs.Frames.{IsSound}
 use Rattle.outwriter.specs.Cores.{calls}
-use Rattle.outwriter.specs.States.{SameOpen, SameOwed, States, is_heard, knows, over_on, open_at}
+use Rattle.outwriter.specs.States.{SameOwed, is_heard, knows, over_on, open_at}
 use Rattle.outwriter.specs.OpenStreams.{Closes, HandIs, OpenStreams, Removes, Shown, kept, shown, shows, with_hand}
-use Rattle.outwriter.specs.RunState.{Ends, Heads, IsBetween, MirrorsOf, Progress, SameButOpen, SameOwn, Stays}
-use Rattle.outwriter.specs.RunState.{Writes as WritesFrame}
+use Rattle.outwriter.specs.RunState.{Ends, IsBetween, MirrorsOf, Progress, SameButOpen, SameOwn, Stays}
 use Rattle.outwriter.specs.Parts.{Mark, Byte, Fields, End, on_stream, spelled, marks_of_item, IsFrontOf, IsPart}
-use Rattle.outwriter.specs.StreamLooks.{one_more, SameAhead, SameElsewhere, TakesAt, TakesHand, TellsData, aheads, frame_in, HoldsOn, Picks}
+use Rattle.outwriter.specs.NextOn.{GetsOne}
+use Rattle.outwriter.specs.StreamLooks.{one_more, TakesAt, aheads, frame_in, HoldsOn, Picks}
 use Rattle.outwriter.specs.Polls.{block_item, GotNone}
 use Rattle.outwriter.specs.CallState.{Heeds, bytes_marks, Serves}
 use Rattle.outwriter.specs.Steps.{Step, Written}
 use Rattle.outwriter.specs.ToldByNow.{SpellsOf, SameStanding, TellsMore, TellsBlock, block_marks}
+use Rattle.outwriter.proofs.DataSteps.{TellsData}
 use Rattle.outwriter.proofs.ServeSteps.{append-nil, none-shown}
 use Rattle.outwriter.proofs.EndsKept.{KeepsEnds, heeds-kept, same-ends, block-ends, ends-heard}
 use Rattle.outwriter.proofs.TellStepsOwn.{ends-as, standing-as, stands-but}
 use Rattle.outwriter.proofs.Others.{later-none, later-written}
 use Rattle.outwriter.proofs.ServeStepsOpen.{Grows, grows-none, grows-one, goes-on, ends}
-use Rattle.outwriter.proofs.RunStateSteps.{mirrors-but-open}
 use Rattle.outwriter.proofs.ServeStepsOwn.{serves-but-open}
 use Rattle.outwriter.proofs.ServeStepsCore.{own-then}
 
@@ -132,21 +132,10 @@ takes-nothing (Some (place, None)) old new ahead from to t = (left-at place old 
         place_of d None = d.0
         place_of d (Some x) = x.0
 
-none-fronts : (run : List Step) (place : ℕ) (old new : List (ℕ × List OutItem)) → GotNone old (one_more place item.Left old) new → TellFronts run old → TellFronts run new
-none-fronts run place old new (inl e) all = subst (TellFronts run) (sym e) all
-none-fronts run place old new (inr e) all = fronts-grow run place (item.Left ∷ []) old new (grows-one place item.Left old new e) all
-
 -- whatever was taken, even without memory
-pub takes-fronts : {E : Type 0} (view : Shown) (old new : List (ℕ × List OutItem)) (ahead : List (List OutItem)) (from to : Option Encoding) (result : Result Polled E)
-    → TakesAt view old new ahead from to result → (run : List Step) → TellFronts run old → TellFronts run new
-takes-fronts None old new ahead from to result t run all = subst (TellFronts run) (sym t.1) all
-takes-fronts (Some (place, Some bs)) old new ahead from to result t run all = subst (TellFronts run) (sym t.1) all
-takes-fronts (Some (place, None)) old new ahead from to (Ok polled.Nothing) t run all = none-fronts run place old new t.0 all
-takes-fronts (Some (place, None)) old new ahead from to (Ok (polled.Message bytes)) t run all =
-    fronts-grow run place (item.Message bytes ∷ []) old new (grows-one place (item.Message bytes) old new t.0) all
-takes-fronts (Some (place, None)) old new ahead from to (Ok (polled.Block bytes ends_it)) t run all =
-    fronts-grow run place (block_item ends_it t.0 ∷ []) old new (grows-one place (block_item ends_it t.0) old new t.1) all
-takes-fronts (Some (place, None)) old new ahead from to (Err e) t run all = fronts-grow run place (t.0 ∷ []) old new (grows-one place t.0 old new t.1) all
+pub one-fronts : (old new : List (ℕ × List OutItem)) → GetsOne old new → (run : List Step) → TellFronts run old → TellFronts run new
+one-fronts old new (inl e) run all = subst (TellFronts run) (sym e) all
+one-fronts old new (inr (place, one, e)) run all = fronts-grow run place (one ∷ []) old new (grows-one place one old new e) all
 
 -- ---- what is in hand then
 
@@ -249,15 +238,7 @@ removes-closed id true streams left is k none = is k ∙ by (k == id)
     by false = none
 removes-closed id false streams left same k none = none-shown (left k) (same k ∙ ap shown none)
 
--- where the end of a stream is written, if it is
-ends-from : (old new : States) (opened : List (ℕ × Option OpenStream)) (id : ℕ) (ends_it : Bool) → Ends (record old { opened = opened }) id ends_it new → Ends old id ends_it new
-ends-from old new opened id true over = over
-ends-from old new opened id false over = over
-
 -- ---- what follows from the run
-
-pub unchanged-none : {X : Type 0} (r : Option X) (old new : States) → r ≡ None → IfNone r (new ≡ old) → new ≡ old
-unchanged-none {X} r old new none same = subst (λ (o : Option X). IfNone o (new ≡ old)) none same
 
 -- where the encoder wrote at most
 pub progress-none : (old mid : Outbound) → mid ≡ record old { encoder = mid.encoder } → IsBetween old → Stays old mid × IsBetween mid
@@ -276,12 +257,6 @@ progress-after None old mid new stays progress = (λ run m. progress.0 run (stay
 own-after : (o : Option Frame) (old mid new : Outbound) → SameOwn old mid → IfNone o (SameOwn mid new) → IfNone o (SameOwn old new)
 own-after (Some frame) old mid new a b = tt
 own-after None old mid new a b = own-then old mid new a b
-
-pub stays-end : (old mid fin : Outbound) → Stays old mid → SameButOpen mid fin → Stays old fin
-stays-end old mid fin stays same run m = mirrors-but-open run mid fin same (stays run m)
-
-pub heads-after : (frame : Frame) (old fin after : Outbound) → Stays old fin → Heads frame fin after → WritesFrame frame old after
-heads-after frame old fin after stays heads run m = let n = stays run m in heads run fin.due.items n n.answers
 
 -- ---- a core
 
@@ -306,42 +281,16 @@ module _ {L In Out Shut : Type 0} where
         old.outbound.encoder mid.outbound.encoder found
     pub outbound : mid.outbound ≡ record old.outbound { encoder = mid.outbound.encoder }
 
-  pub took : (got ahead : Out → List OutItem) (old mid : Sending L In Out Shut) (id place : ℕ) (hand : Option (List ℕ)) (found : Polled)
-      → mid.outbound ≡ record old.outbound { encoder = mid.outbound.encoder } → shows (open_at old.outbound.states) id ≡ Some (place, hand)
-      → TakesHand {E = Unit {0}} hand place (calls got old.senders.items) (calls got mid.senders.items) (aheads ahead mid.senders.items) old.outbound.encoder mid.outbound.encoder (Ok found)
-      → Took got ahead old mid id found
-  took got ahead old mid id place hand found outbound there takes = record {
-    takes = subst (λ (v : Shown). Found v (calls got old.senders.items) (calls got mid.senders.items) (aheads ahead mid.senders.items) old.outbound.encoder mid.outbound.encoder found)
-        (sym there) takes;
-    outbound = outbound;
-  }
-
-  -- what was in hand is a message that was begun, and no sender is asked
-  pub took-hand : (got ahead : Out → List OutItem) (old : Sending L In Out Shut) (id place : ℕ) (message : List ℕ)
-      → shows (open_at old.outbound.states) id ≡ Some (place, Some message) → Took got ahead old old id (polled.Message message)
-  took-hand got ahead old id place message there = took got ahead old old id place (Some message) (polled.Message message) refl there (refl, refl, refl)
-
-  pub hand-ahead : (ahead : Out → List OutItem) (old : Sending L In Out Shut) (view : Shown) → SameAhead view (aheads ahead old.senders.items) (aheads ahead old.senders.items)
-  hand-ahead ahead old None = refl
-  hand-ahead ahead old (Some s) = λ k ne. refl
-
-  pub took-ahead : (ahead : Out → List OutItem) (old mid : Sending L In Out Shut) (id place : ℕ) (hand : Option (List ℕ)) → shows (open_at old.outbound.states) id ≡ Some (place, hand)
-      → SameElsewhere place (aheads ahead old.senders.items) (aheads ahead mid.senders.items)
-      → SameAhead (shows (open_at old.outbound.states) id) (aheads ahead old.senders.items) (aheads ahead mid.senders.items)
-  took-ahead ahead old mid id place hand there same =
-      subst (λ (v : Shown). SameAhead v (aheads ahead old.senders.items) (aheads ahead mid.senders.items)) (sym there) same
-
   -- what a look at a message found
-  pub look-picks : {E : Type 0} (got : Out → List OutItem) (old mid new : Sending L In Out Shut) (r : Result Looked E) → Stays old.outbound mid.outbound → SameOwn old.outbound mid.outbound
-      → IfOk r (λ l. IfSome (frame_in l) IsSound) → IfOk r (λ l. Progress (frame_in l) mid.outbound new.outbound) → IfOk r (λ l. IfNone (frame_in l) (SameOwn mid.outbound new.outbound))
-      → IfOk r (λ l. HoldsOn got (frame_in l) old new) → IfOk r (λ l. Picks got (frame_in l) old new)
-  look-picks got old mid new (Ok l) stays same sound progress own holds = (
+  pub look-picks : (got : Out → List OutItem) (old mid new : Sending L In Out Shut) (l : Looked) → Stays old.outbound mid.outbound → SameOwn old.outbound mid.outbound
+      → IfSome (frame_in l) IsSound → Progress (frame_in l) mid.outbound new.outbound → IfNone (frame_in l) (SameOwn mid.outbound new.outbound)
+      → HoldsOn got (frame_in l) old new → Picks got (frame_in l) old new
+  look-picks got old mid new l stays same sound progress own holds = (
     sound,
     progress-after (frame_in l) old.outbound mid.outbound new.outbound stays progress,
     own-after (frame_in l) old.outbound mid.outbound new.outbound same own,
     holds,
   )
-  look-picks got old mid new (Err e) stays same sound progress own holds = tt
 
   pub look-nothing : (got ahead : Out → List OutItem) (old mid : Sending L In Out Shut) (id : ℕ) (result : Polled)
       → Took got ahead old mid id result → result ≡ polled.Nothing → HoldsOn got None old mid
@@ -401,35 +350,21 @@ module _ {L In Out Shut : Type 0} where
     look-data looked.Empty from =
         let tells = subst (λ (x : Outbound). TellsData id bytes looked.Empty (record mid { outbound = x }) new) same from in kept-holds None (ap (map Byte) tells.0) tells.1 tells.2
 
-  pub look-block : (got ahead : Out → List OutItem) (old mid fin : Sending L In Out Shut) (after : Outbound) (id : ℕ) (bytes : List ℕ) (ends_it : Bool) (result : Polled) (frame : Frame)
-      → Took got ahead old mid id result → result ≡ polled.Block bytes ends_it
-      → SameButOpen mid.outbound fin.outbound → Removes id ends_it (open_at mid.outbound.states) (open_at fin.outbound.states) → fin.senders ≡ mid.senders
-      → TellsBlock id ends_it bytes frame fin.outbound after → Ends fin.outbound.states id ends_it after.states → SameOwed fin.outbound.states after.states
-      → SameOpen fin.outbound.states after.states → after ≡ record fin.outbound { states = after.states; block = after.block }
-      → HoldsOn got (Some frame) old (record fin { outbound = after })
-  look-block got ahead old mid fin after id bytes ends_it result frame took is_block outbound removes senders tells over owed same_open is run (marks, s, heeds) =
-      let t = subst (λ (p : Polled). Found (shows (open_at old.outbound.states) id) (calls got old.senders.items) (calls got mid.senders.items) (aheads ahead mid.senders.items) old.outbound.encoder mid.outbound.encoder p) is_block took.takes in
-      let found = takes-block (shows (open_at old.outbound.states) id) (calls got old.senders.items) (calls got mid.senders.items) (aheads ahead mid.senders.items) old.outbound.encoder mid.outbound.encoder bytes ends_it t in
-      let leaves : Removes id ends_it (open_at old.outbound.states) (open_at fin.outbound.states) = subst (λ (x : Outbound). Removes id ends_it (open_at x.states) (open_at fin.outbound.states)) took.outbound removes in
-      let same : fin.outbound ≡ record old.outbound { encoder = mid.outbound.encoder; states = record old.outbound.states { opened = fin.outbound.states.opened } } =
-      outbound ∙ ap (λ (x : Outbound). record x { states = record x.states { opened = fin.outbound.states.opened } }) took.outbound in
-      let told : TellsBlock id ends_it bytes frame (record old.outbound { encoder = mid.outbound.encoder }) after =
-      subst (λ (x : Outbound). TellsBlock id ends_it bytes frame x after) same tells in
-      let owed_same : SameOwed old.outbound.states after.states = subst (λ (x : Outbound). SameOwed x.states after.states) same owed in
-      let ended : Ends old.outbound.states id ends_it after.states =
-      ends-from old.outbound.states after.states fin.outbound.states.opened id ends_it (subst (λ (x : Outbound). Ends x.states id ends_it after.states) same over) in
-      let rest : after ≡ record old.outbound { encoder = mid.outbound.encoder; states = after.states; block = after.block } =
-      subst (λ (x : Outbound). after ≡ record x { states = after.states; block = after.block }) same is in
-      let served : Serves (Written frame ∷ run) after (open_at fin.outbound.states) (calls got mid.senders.items) (marks ++ block_marks id found.1 ends_it) =
-      head-serves run old.outbound after (open_at old.outbound.states) (open_at fin.outbound.states) (calls got old.senders.items) (calls got mid.senders.items)
+  pub look-block : (got ahead : Out → List OutItem) (old mid new : Sending L In Out Shut) (id : ℕ) (bytes : List ℕ) (ends_it : Bool) (frame : Frame)
+      → Took got ahead old mid id (polled.Block bytes ends_it) → new.senders ≡ mid.senders
+      → Removes id ends_it (open_at old.outbound.states) (open_at new.outbound.states) → Ends old.outbound.states id ends_it new.outbound.states → SameOwed old.outbound.states new.outbound.states
+      → new.outbound.due ≡ old.outbound.due → TellsBlock id ends_it bytes frame (record old.outbound { encoder = mid.outbound.encoder }) new.outbound
+      → HoldsOn got (Some frame) old new
+  look-block got ahead old mid new id bytes ends_it frame took senders leaves ended owed due tells run (marks, s, heeds) =
+      let found = takes-block (shows (open_at old.outbound.states) id) (calls got old.senders.items) (calls got mid.senders.items) (aheads ahead mid.senders.items) old.outbound.encoder mid.outbound.encoder bytes ends_it took.takes in
+      let served : Serves (Written frame ∷ run) new.outbound (open_at new.outbound.states) (calls got mid.senders.items) (marks ++ block_marks id found.1 ends_it) =
+      head-serves run old.outbound new.outbound (open_at old.outbound.states) (open_at new.outbound.states) (calls got old.senders.items) (calls got mid.senders.items)
       marks id found.0 found.1 ends_it frame found.2 found.3 leaves
-      (told run marks found.1 old.outbound.encoder s.spells.1 found.4)
-      (ap (λ (x : Outbound). x.due.items) (sym rest)) (λ k. (owed_same.0 k).0) ended s in (
+      (tells run marks found.1 old.outbound.encoder s.spells.1 found.4)
+      (ap (λ due. due.items) (sym due)) (λ k. (owed.0 k).0) ended s in (
         marks ++ block_marks id found.1 ends_it,
-        subst (λ (streams : OpenStreams). Serves (Written frame ∷ run) after streams (calls got fin.senders.items) (marks ++ block_marks id found.1 ends_it)) (sym same_open)
-            (subst (λ senders. Serves (Written frame ∷ run) after (open_at fin.outbound.states) (calls got senders.items) (marks ++ block_marks id found.1 ends_it)) (sym senders) served),
-        heeds-look run old (record fin { outbound = after })
-            (block-ends old.outbound after id ends_it (ap (λ (x : Outbound). x.due) rest) owed_same ended)
-            (λ k. ((owed_same.0 k).0, (owed_same.0 k).2, ends-heard old.outbound.states after.states id ends_it ended k))
-            (λ k none. ap (λ (o : OpenStreams). o k) same_open ∙ removes-closed id ends_it (open_at old.outbound.states) (open_at fin.outbound.states) leaves k none) heeds,
+        subst (λ senders. Serves (Written frame ∷ run) new.outbound (open_at new.outbound.states) (calls got senders.items) (marks ++ block_marks id found.1 ends_it)) (sym senders) served,
+        heeds-look run old new (block-ends old.outbound new.outbound id ends_it due owed ended)
+            (λ k. ((owed.0 k).0, (owed.0 k).2, ends-heard old.outbound.states new.outbound.states id ends_it ended k))
+            (λ k none. removes-closed id ends_it (open_at old.outbound.states) (open_at new.outbound.states) leaves k none) heeds,
       )

@@ -15,6 +15,7 @@ use Rattle.outwriter.specs.declared.stream.Polled.{Polled}
 use Rattle.outwriter.specs.declared.stream.Polled.TheVariants as polled
 use Rattle.outwriter.specs.Cores.{calls, lanes}
 use Rattle.outwriter.specs.StreamLooks.{with_item, one_more, TakesHand, TakesAt, SameAhead, aheads}
+use Rattle.outwriter.specs.NextOn.{GetsOne}
 use Rattle.outwriter.specs.Polls.{Polls, block_item, GotNone, to_write}
 
 module _ {L In Out Shut : Type 0} where
@@ -69,6 +70,15 @@ module _ {L In Out Shut Name : Type 0} where
   lanes-same name senders place entry new is id same =
       map-set_same (λ (call : ℕ × Sender L In Out Shut). (call.0, call.1.id, name call.1.rx)) senders place (entry.0, new) entry
       (ap (λ (n : ℕ). (entry.0, n, name new.rx)) id ∙ ap (λ (n : Name). (entry.0, entry.1.id, n)) same ∙ ap (λ (call : ℕ × Sender L In Out Shut). (call.0, call.1.id, name call.1.rx)) is)
+
+-- it gave one item at most
+pub takes-one : {E : Type 0} (place : ℕ) (old new : List (ℕ × List OutItem)) (ahead : List (List OutItem)) (from to : Option Encoding) (result : Result Polled E)
+    → TakesHand None place old new ahead from to result → GetsOne old new
+takes-one place old new ahead from to (Ok polled.Nothing) (inl e, none, same) = inl e
+takes-one place old new ahead from to (Ok polled.Nothing) (inr e, none, same) = inr (place, item.Left, e)
+takes-one place old new ahead from to (Ok (polled.Message bytes)) t = inr (place, item.Message bytes, t.0)
+takes-one place old new ahead from to (Ok (polled.Block bytes ends)) t = inr (place, block_item ends t.0, t.1)
+takes-one place old new ahead from to (Err e) t = inr (place, t.0, t.1)
 
 pub shows-is : (o : Option OpenStream) (stream : OpenStream) → Some stream ≡ o → stream.in_hand ≡ None → shown o ≡ Some (stream.place, None)
 shows-is o stream e none = ap shown (sym e) ∙ ap (λ (h : Option (List ℕ)). Some (stream.place, h)) none

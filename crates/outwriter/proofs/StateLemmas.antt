@@ -21,13 +21,20 @@ use Rattle.flow.specs.WindowHistory.{Step as WindowStep}
 use Rattle.flow.specs.Windows.{Shared, Windows}
 use Rattle.flow.specs.declared.send_windows.WindowFault.{WindowFault}
 use Rattle.flow.specs.declared.send_windows.WindowFault.TheVariants.{Unknown}
-use Rattle.outwriter.specs.declared.stream.Hand.{Hand}
-use Rattle.outwriter.specs.declared.stream.Hand.TheVariants.{Shut, Empty, Message}
+use Rattle.account.specs.declared.call.OutItem.{OutItem}
+use Rattle.callbox.specs.declared.sender.Sender.{Sender}
+use Rattle.hpack_codec.specs.Codec.{Encoding}
+use Rattle.outwriter.specs.declared.stream.Found.{Found}
+use Rattle.outwriter.specs.declared.stream.Found.TheVariants.{Nothing, Message, Block}
+use Rattle.outwriter.specs.declared.stream.Polled.{Polled}
+use Rattle.outwriter.specs.declared.stream.Polled.TheVariants as polled
+use Rattle.outwriter.specs.declared.states.Over.TheVariants as end_by
+use Rattle.outwriter.specs.NextOn.{Asks, AsksNone, EndsOn, EndsStream, NextAtEntry, NextOnStream, TakesNext, TakesUp, TakesUpStream}
 use Rattle.outwriter.specs.declared.stream.Looked.{Looked}
-use Rattle.outwriter.specs.Data.{BeginsAtEntry, BeginsMessage, BeginsOnStream, IsUnsent, LooksAtEntry, LooksAtHand, LooksAtStream, TakesData, TakesFrames}
-use Rattle.outwriter.specs.OpenStreams.{Closes, HandIs, SameHands, Shown, kept, shown, shows, with_hand}
-use Rattle.outwriter.specs.States.{States, Adds, BecomesOpen, Changes, CreditsEntry, CreditsStream, Edits, Grants, Hears, IsAfter, IsChanged, Moves, Opens, PutsAfter, Resets, Rewrites, SameButWindows, SameEnds, SetsBalance, StandButWindows, SameOpen, SameOver, SameOwed, SameStreams, SetsEnd, StandAs, IsShut, can_write, AllFit, IsSettled, IsSettledFrom, IsSettledBut, IsWithin, AreNumbered, Fits, Puts, PutsEntry, TakesAt, TakesLast, TakesAll, amount_of, more, open_at, opened_in, opened_of, state_of, states_of, steps_of, stream_in, balance_after, balance_in, balances_of, opens_window, windows_of, by_reset, end_of, is_of_call, is_paid, is_heard, is_reset, is_reset_state, knows, over_on, owed_on, pays, state_in, state_on}
-use Rattle.outwriter.proofs.BalanceLemmas.{Credited, credit-none, credit-some, data-view, found-balance, found-stays, none-closes, put-closes, put-opens, put-stays, same-balances, unsent-takes}
+use Rattle.outwriter.specs.Data.{BeginsMessage, BeginsOnStream, TakesFrames}
+use Rattle.outwriter.specs.OpenStreams.{Closes, SameHands, Shown, kept, shown, shows, with_hand}
+use Rattle.outwriter.specs.States.{States, Adds, BecomesOpen, Changes, CreditsEntry, CreditsStream, Edits, Grants, Hears, IsAfter, IsChanged, Moves, Opens, PutsAfter, Resets, SameButWindows, SameEnds, SetsBalance, StandButWindows, SameOpen, SameOver, SameOwed, SameStreams, SetsEnd, StandAs, IsShut, KeepsAmount, can_write, AllFit, IsSettled, IsSettledFrom, IsSettledBut, IsWithin, AreNumbered, Fits, Puts, PutsEntry, TakesAt, TakesLast, TakesAll, amount_of, more, open_at, opened_in, opened_of, state_of, states_of, steps_of, stream_in, balance_after, balance_in, balances_of, opens_window, windows_of, by_reset, end_of, is_of_call, is_paid, is_heard, is_reset, is_reset_state, knows, over_on, owed_on, pays, state_in, state_on}
+use Rattle.outwriter.proofs.BalanceLemmas.{Credited, credit-none, credit-some, data-view, found-balance, found-stays, none-closes, put-closes, put-opens, put-stays, same-balances}
 
 abbrev Entry : Type 0
 Entry = ℕ × Stream
@@ -589,6 +596,10 @@ same-states : (es : List Entry) (id : ℕ) (w was : Stream) → lookup (nat_eq i
     → map (with_part (λ (x : Stream). x.state)) (set_value (nat_eq id) es w) ≡ map (with_part (λ (x : Stream). x.state)) es
 same-states es id w was found same = same-mapped (λ (x : Stream). x.state) es id w was found same
 
+-- what is kept of an open stream and of its window changes at most
+abbrev pub Rewrites : List Entry → ℕ → List Entry → Type 0
+Rewrites old id new = (new ≡ old) ⊎ ((was : Stream) × (now : Stream) × (lookup (nat_eq id) old ≡ Some was) × (now.state ≡ was.state) × (new ≡ set_value (nat_eq id) old now))
+
 -- but for what is open and the windows, all is the same
 pub rewrite-stands : (connection : ℕ) (from to : Shared) (es : List Entry) (id : ℕ) (new : List Entry) → Rewrites es id new → StandButWindows (states_of connection from es) (states_of connection to new)
 rewrite-stands connection from to es id new (inl e) = subst (λ (l : List Entry). StandButWindows (states_of connection from es) (states_of connection to l)) (sym e) refl
@@ -618,12 +629,16 @@ balance-stands connection from to es id was kept new found is =
     ∙ ap (λ (l : List (ℕ × Option OpenStream)). let old : States = states_of connection from es in record old { opened = l; windows = windows_of to new })
     (ap (map (with_part (λ (x : Stream). x.opened))) is ∙ same-mapped (λ (x : Stream). x.opened) es id (record was { balance = kept }) was found refl)
 
-pub rewrite-within : (connection : ℕ) (es : List Entry) (owing id : ℕ) (new : List Entry) → Rewrites es id new → IsWithin connection es owing → IsWithin connection new owing
-rewrite-within connection es owing id new (inl e) w = subst (λ (l : List Entry). IsWithin connection l owing) (sym e) w
-rewrite-within connection es owing id new (inr (was, now, found, same, is)) w =
+pub keeps-within : (connection : ℕ) (es : List Entry) (owing id : ℕ) (new : List Entry) → KeepsAmount es id new → IsWithin connection es owing → IsWithin connection new owing
+keeps-within connection es owing id new (inl e) w = subst (λ (l : List Entry). IsWithin connection l owing) (sym e) w
+keeps-within connection es owing id new (inr (was, now, found, same, is)) w =
     within-put connection es owing id now new w (not_0 es id was w.apart found) (w.numbered id (ap is_some found))
-    (subst (λ (o : Option Stream). amount_of now.state ≤ amount_of (state_in (state_of o))) (sym found) (omega (arith, ap amount_of same)))
+    (subst (λ (o : Option Stream). amount_of now.state ≤ amount_of (state_in (state_of o))) (sym found) (omega (arith, same)))
     (subst (PutsEntry es id now) (sym is) (put-there es id now was found)) (is ∙ put-found es id now was found)
+
+pub rewrite-within : (connection : ℕ) (es : List Entry) (owing id : ℕ) (new : List Entry) → Rewrites es id new → IsWithin connection es owing → IsWithin connection new owing
+rewrite-within connection es owing id new (inl e) w = keeps-within connection es owing id new (inl e) w
+rewrite-within connection es owing id new (inr (was, now, found, same, is)) w = keeps-within connection es owing id new (inr (was, now, found, ap amount_of same, is)) w
 
 pub balance-within : (connection : ℕ) (es : List Entry) (owing id : ℕ) (was : Stream) (kept : Option ℤ) (new : List Entry) → lookup (nat_eq id) es ≡ Some was
     → new ≡ set_value (nat_eq id) es (record was { balance = kept }) → IsWithin connection es owing → IsWithin connection new owing
@@ -922,20 +937,16 @@ can-unreset (Call owed over) e = refl
 can-unreset (Reset is_call None) e = absurd (true≢false (sym e))
 can-unreset (Reset is_call (Some by)) e = absurd (true≢false (sym e))
 
--- a look at a stream, where it is among the entries
-pub entry-looks : {E : Type 0} (r : Result Hand E) (es : List Entry) (id : ℕ) (was now : Stream) (new : List Entry) (from to : Shared)
-    → lookup (nat_eq id) es ≡ Some was → new ≡ set_value (nat_eq id) es now → IfOk r (LooksAtStream id was now from to) → IfOk r (LooksAtEntry id es new from to)
-entry-looks (Err e) es id was now new from to there is looks = tt
-entry-looks (Ok hand) es id was now new from to there is looks =
-    subst (λ (o : Option Stream). MatchOption o ((hand ≡ Shut) × (new ≡ es) × (to ≡ from)) (λ s. (next : Stream) × (new ≡ set_value (nat_eq id) es next) × LooksAtStream id s next from to hand))
-    (sym there) (now, is, looks)
-
-pub entry-begins : {E : Type 0} (r : Result Looked E) (es : List Entry) (id : ℕ) (was now : Stream) (new : List Entry) (from to : Shared) (message : List ℕ)
-    → lookup (nat_eq id) es ≡ Some was → new ≡ set_value (nat_eq id) es now → IfOk r (BeginsOnStream id was now from to message) → IfOk r (BeginsAtEntry id es new from to message)
-entry-begins (Err e) es id was now new from to message there is begins = tt
-entry-begins (Ok l) es id was now new from to message there is begins =
-    subst (λ (o : Option Stream). MatchOption o ((new ≡ es) × (to ≡ from) × IsUnsent message l) (λ s. (next : Stream) × (new ≡ set_value (nat_eq id) es next) × BeginsOnStream id s next from to message l))
-    (sym there) (now, is, begins)
+-- what is next on a stream, where it is among the entries
+pub entry-next : {L In Out Shut E : Type 0} (got ahead : Out → List OutItem) (r : Result Found E) (es : List Entry) (id : ℕ) (was now : Stream) (new : List Entry) (from to : Shared)
+    (senders left : List (ℕ × Sender L In Out Shut)) (before after : Option Encoding)
+    → lookup (nat_eq id) es ≡ Some was → new ≡ set_value (nat_eq id) es now → IfOk r (NextOnStream got ahead id was now from to senders left before after)
+    → IfOk r (NextAtEntry got ahead id es new from to senders left before after)
+entry-next got ahead (Err e) es id was now new from to senders left before after there is next = tt
+entry-next got ahead (Ok result) es id was now new from to senders left before after there is next =
+    subst (λ (o : Option Stream). MatchOption o ((result ≡ Nothing) × (new ≡ es) × (to ≡ from) × AsksNone senders left before after)
+    (λ s. (now : Stream) × (new ≡ set_value (nat_eq id) es now) × NextOnStream got ahead id s now from to senders left before after result))
+    (sym there) (now, is, next)
 
 module _ (connection : ℕ) (sent : Shared) (es : List Entry) (owing id : ℕ) (within : IsWithin connection es owing) (was : Stream) (found : lookup (nat_eq id) es ≡ Some was) where
   state-there : state_on (states_of connection sent es) id ≡ was.state
@@ -967,30 +978,8 @@ module _ (connection : ℕ) (sent : Shared) (es : List Entry) (owing id : ℕ) (
       ∙ ap (λ b. shown (opened_of (if b then Some now else lookup (nat_eq id) es))) (eq-eqb id id refl)
       ∙ here ∙ sym (ap (λ o. f (shown (opened_of o))) found)
 
-  written-hand : (new : List Entry) (now : Stream) (in_hand : Option (List ℕ)) (place : ℕ) (hand : Option (List ℕ)) → new ≡ set_value (nat_eq id) es now
-      → shown was.opened ≡ Some (place, in_hand) → shown now.opened ≡ Some (place, hand)
-      → shown (opened_of (lookup (nat_eq id) new)) ≡ with_hand hand (shown (opened_of (lookup (nat_eq id) es)))
-  written-hand new now in_hand place hand is before after = written new now (with_hand hand) is (after ∙ sym (ap (with_hand hand) before))
-
   puts-there : (new : List Entry) (now : Stream) → new ≡ set_value (nat_eq id) es now → PutsEntry es id now new
   puts-there new now is = subst (PutsEntry es id now) (sym is) (put-there es id now was found)
-
-  looks-there : (new : List Entry) (now : Stream) (to : Shared) (hand : Hand) → Rewrites es id new → new ≡ set_value (nat_eq id) es now
-      → LooksAtStream id was now sent to hand → LooksAtHand id (states_of connection sent es) (states_of connection to new) hand
-  looks-there new now to Shut rewrites is looks = (ap (λ (x : Shared). states_of connection x new) looks.1 ∙ unwritten new now is looks.0, shut-there looks.2)
-  looks-there new now to (Empty place) rewrites is looks =
-      (ap (λ (x : Shared). states_of connection x new) looks.1 ∙ unwritten new now is looks.0, writable-there looks.2, ap shown open-there ∙ looks.3)
-  looks-there new now to (Message found_in) rewrites is looks = (
-    writable-there looks.0,
-    rewrite-stands connection sent to es id new rewrites,
-    looks.1,
-    looks.2,
-    looks.3,
-    ap shown open-there ∙ looks.4,
-    rewrite-shows connection sent es id new (with_hand (kept looks.3)) rewrites
-        (written-hand new now (Some looks.2) looks.1 (kept looks.3) is looks.4 looks.5),
-    data-view sent to es id was now new looks.2 looks.3 found is (puts-there new now is) found_in looks.6,
-  )
 
   begins-there : (new : List Entry) (now : Stream) (to : Shared) (message : List ℕ) (l : Looked) → Rewrites es id new → new ≡ set_value (nat_eq id) es now
       → BeginsOnStream id was now sent to message l → BeginsMessage id (states_of connection sent es) (states_of connection to new) message l
@@ -1001,45 +990,81 @@ module _ (connection : ℕ) (sent : Shared) (es : List Entry) (owing id : ℕ) (
     data-view sent to es id was now new message begins.0 found is (puts-there new now is) l begins.2,
   )
 
+  closed-there : (new : List Entry) (now : Stream) → new ≡ set_value (nat_eq id) es now → now.opened ≡ None → Closes id (open_at (states_of connection sent es)) (open_at (states_of connection sent new))
+  closed-there new now is none k = found-open connection sent new k ∙ ap opened_of (puts-there new now is k) ∙ by (nat_eq id k) (k == id) refl refl
+    where
+      by : (b c : Bool) → nat_eq id k ≡ b → (k == id) ≡ c
+          → opened_of (if b then Some now else lookup (nat_eq k) es) ≡ (if c then None else open_at (states_of connection sent es) k)
+      by true true p q = none
+      by false false p q = sym (found-open connection sent es k)
+      by true false p q = absurd (true≢false (sym (eq-eqb k id (sym (eqb-true id k p))) ∙ q))
+      by false true p q = absurd (true≢false (sym (eq-eqb id k (sym (eqb-true k id q))) ∙ p))
+
+  ends-there : (new : List Entry) (now : Stream) (ends_it : Bool) → new ≡ set_value (nat_eq id) es now → EndsStream ends_it was now
+      → EndsOn id ends_it (states_of connection sent es) (states_of connection sent new)
+  ends-there new now false is same =
+      let still : EndsOn id false (states_of connection sent es) (states_of connection sent es) = (λ k. refl, refl, (λ k. (refl, refl, refl), λ k. refl), λ history follows. follows) in
+      subst (EndsOn id false (states_of connection sent es)) (sym (unwritten new now is same)) still
+  ends-there new now true is (none, after, closed) =
+      let puts = puts-view connection sent es id now new (puts-there new now is) in
+      let positive = not_0 es id was within.apart found in
+      let now_after : IsAfter (change_by.End end_by.EndStream) (state_on (states_of connection sent es) id) now.state =
+      subst (λ (s : StreamState). IsAfter (change_by.End end_by.EndStream) s now.state) (sym state-there) after in (
+        closed-there new now is none,
+        ends-put (states_of connection sent es) (states_of connection sent new) id now.state positive refl puts end_by.EndStream now_after.0,
+        owed-put-same (states_of connection sent es) (states_of connection sent new) id now.state positive refl puts now_after.1 now_after.2 now_after.3 now_after.4,
+        put-closes sent es id now new (puts-there new now is) closed,
+      )
+
+  takes-there : (new : List Entry) (now : Stream) (to : Shared) (one : Polled) (result : Found) → new ≡ set_value (nat_eq id) es now
+      → TakesUpStream id was now sent to one result → TakesUp id (states_of connection sent es) (states_of connection to new) one result
+  takes-there new now to polled.Nothing Nothing is takes = ap (λ (x : Shared). states_of connection x new) takes.1 ∙ unwritten new now is takes.0
+  takes-there new now to (polled.Message bytes) (Message l) is takes = begins-there new now to bytes l (inr (was, now, found, takes.0, is)) is takes.1
+  takes-there new now to (polled.Block bytes ends_it) (Block block ends) is takes = (
+    takes.0,
+    takes.1,
+    subst (λ (x : Shared). EndsOn id ends_it (states_of connection sent es) (states_of connection x new)) (sym takes.3) (ends-there new now ends_it is takes.2),
+  )
+  takes-there new now to polled.Nothing (Message l) is takes = absurd takes
+  takes-there new now to polled.Nothing (Block block ends) is takes = absurd takes
+  takes-there new now to (polled.Message bytes) Nothing is takes = absurd takes
+  takes-there new now to (polled.Message bytes) (Block block ends) is takes = absurd takes
+  takes-there new now to (polled.Block bytes ends_it) Nothing is takes = absurd takes
+  takes-there new now to (polled.Block bytes ends_it) (Message l) is takes = absurd takes
+
 -- and among all of them
-pub looks-view : (connection : ℕ) (sent : Shared) (es : List Entry) (owing id : ℕ) (new : List Entry) (to : Shared) (hand : Hand) → IsWithin connection es owing → Rewrites es id new
-    → LooksAtEntry id es new sent to hand → LooksAtHand id (states_of connection sent es) (states_of connection to new) hand
-looks-view connection sent es owing id new to hand within rewrites looks = by (lookup (nat_eq id) es) refl looks
+pub next-view : {L In Out Shut : Type 0} (got ahead : Out → List OutItem) (connection : ℕ) (sent : Shared) (es : List Entry) (owing id : ℕ) (new : List Entry) (to : Shared)
+    (senders left : List (ℕ × Sender L In Out Shut)) (before after : Option Encoding) (result : Found) → IsWithin connection es owing
+    → NextAtEntry got ahead id es new sent to senders left before after result
+    → TakesNext got ahead id (states_of connection sent es) (states_of connection to new) senders left before after result
+next-view got ahead connection sent es owing id new to senders left before after result within next = by (lookup (nat_eq id) es) refl next
   where
-    by : (o : Option Stream) → lookup (nat_eq id) es ≡ o
-        → MatchOption o ((hand ≡ Shut) × (new ≡ es) × (to ≡ sent)) (λ was. (now : Stream) × (new ≡ set_value (nat_eq id) es now) × LooksAtStream id was now sent to hand)
-        → LooksAtHand id (states_of connection sent es) (states_of connection to new) hand
-    by None none h = subst (LooksAtHand id (states_of connection sent es) (states_of connection to new)) (sym h.0)
-        (ap (λ (x : Shared). states_of connection x new) h.2 ∙ ap (states_of connection sent) h.1, inr (found-open connection sent es id ∙ ap opened_of none))
-    by (Some was) found h = looks-there connection sent es owing id within was found new h.0 to hand rewrites h.1 h.2
-
--- a message that begins
-pub begins-view : (connection : ℕ) (sent : Shared) (es : List Entry) (owing id : ℕ) (new : List Entry) (to : Shared) (message : List ℕ) (l : Looked) → IsWithin connection es owing → Rewrites es id new
-    → BeginsAtEntry id es new sent to message l → BeginsMessage id (states_of connection sent es) (states_of connection to new) message l
-begins-view connection sent es owing id new to message l within rewrites begins = by (lookup (nat_eq id) es) refl begins
-  where
-    untaken : lookup (nat_eq id) es ≡ None → IsUnsent message l → TakesData id (windows_of sent es) (windows_of sent es) message message l
-    untaken none unsent = unsent-takes sent es id none message l unsent
-
-    kept-there : lookup (nat_eq id) es ≡ None → HandIs id (kept message) (open_at (states_of connection sent es)) (open_at (states_of connection sent es))
-    kept-there none k = shut (k == id) refl
-      where
-        shut : (b : Bool) → (k == id) ≡ b → shows (open_at (states_of connection sent es)) k
-            ≡ (if b then with_hand (kept message) (shows (open_at (states_of connection sent es)) k) else shows (open_at (states_of connection sent es)) k)
-        shut true p =
-            let closed : shows (open_at (states_of connection sent es)) k ≡ None =
-            ap (λ n. shows (open_at (states_of connection sent es)) n) (eqb-true k id p) ∙ ap shown (found-open connection sent es id ∙ ap opened_of none) in
-            closed ∙ sym (ap (with_hand (kept message)) closed)
-        shut false p = refl
+    on : (was now : Stream) → lookup (nat_eq id) es ≡ Some was → new ≡ set_value (nat_eq id) es now → NextOnStream got ahead id was now sent to senders left before after result
+        → TakesNext got ahead id (states_of connection sent es) (states_of connection to new) senders left before after result
+    on was now found is (inl (shut, none, same, window, asks)) = inl (
+      shut-there connection sent es owing id within was found shut,
+      none,
+      ap (λ (x : Shared). states_of connection x new) window ∙ unwritten connection sent es owing id within was found new now is same,
+      asks,
+    )
+    on was now found is (inr (can, one, asks, takes)) = inr (
+      writable-there connection sent es owing id within was found can,
+      one,
+      subst (λ (v : Shown). Asks got ahead v senders left before after one) (sym (ap shown (open-there connection sent es owing id within was found))) asks,
+      takes-there connection sent es owing id within was found new now to one result is takes,
+    )
 
     by : (o : Option Stream) → lookup (nat_eq id) es ≡ o
-        → MatchOption o ((new ≡ es) × (to ≡ sent) × IsUnsent message l) (λ was. (now : Stream) × (new ≡ set_value (nat_eq id) es now) × BeginsOnStream id was now sent to message l)
-        → BeginsMessage id (states_of connection sent es) (states_of connection to new) message l
-    by None none h =
-        subst (λ (x : States). BeginsMessage id (states_of connection sent es) x message l)
-        (sym (ap (λ (x : Shared). states_of connection x new) h.1 ∙ ap (states_of connection sent) h.0))
-        (refl, message, kept-there none, untaken none h.2)
-    by (Some was) found h = begins-there connection sent es owing id within was found new h.0 to message l rewrites h.1 h.2
+        → MatchOption o ((result ≡ Nothing) × (new ≡ es) × (to ≡ sent) × AsksNone senders left before after)
+        (λ was. (now : Stream) × (new ≡ set_value (nat_eq id) es now) × NextOnStream got ahead id was now sent to senders left before after result)
+        → TakesNext got ahead id (states_of connection sent es) (states_of connection to new) senders left before after result
+    by None none (is, same, window, asks) = inl (
+      inr (found-open connection sent es id ∙ ap opened_of none),
+      is,
+      ap (λ (x : Shared). states_of connection x new) window ∙ ap (states_of connection sent) same,
+      asks,
+    )
+    by (Some was) found (now, is, next) = on was now found is next
 
 -- what is shown of each stream is the same
 pub edit-same : (connection : ℕ) (sent : Shared) (es : List Entry) (id : ℕ) (new : List Entry) → Edits es id new

@@ -18,8 +18,9 @@ use Rattle.outwriter.specs.declared.states.StreamState.TheVariants.{NoCall, Call
 use Rattle.outwriter.specs.Histories.{is_stream}
 use Rattle.outwriter.specs.States.{IsShut, by_reset, can_write, end_of, is_reset, is_reset_state, state_on, open_at}
 use Rattle.outwriter.specs.OpenStreams.{HandIs, OpenStreams, Shown, shown, shows, with_hand}
-use Rattle.outwriter.specs.StreamLooks.{SameAhead, TellsData, aheads, Holds, HoldsOn, StuckAt, GetsStuck, LeavesStuck, LooksAt}
+use Rattle.outwriter.specs.StreamLooks.{SameAhead, aheads, Holds, HoldsOn, StuckAt, GetsStuck, LeavesStuck, LooksAt}
 use Rattle.outwriter.specs.Steps.{Step}
+use Rattle.outwriter.proofs.DataSteps.{TellsData}
 use Rattle.outwriter.proofs.Others.{known-stream}
 use Rattle.outwriter.proofs.ServeSteps.{shown-some, from_some, none-some}
 use Rattle.outwriter.proofs.ServeStepsLook.{Took, takes-nothing}

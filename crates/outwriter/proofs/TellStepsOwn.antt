@@ -1,6 +1,6 @@
 -- A frame that is none of an open stream, from the frame for what was due.
 use Rattle.std.proofs.Common.{◌≡◌, ℕ, ◌==◌, inl, inr, refl, sym, ap, subst, ◌∙◌, Bool, true, false, List, [], ◌∷◌, ◌++◌, Option, Some, None, append_assoc, true≢false}
-use Rattle.std.specs.Prelude.{if◌then◌else◌, ◌||◌, ◌&&◌, not, is_some, Result, Ok, Err, IfOk, OnOk}
+use Rattle.std.specs.Prelude.{if◌then◌else◌, ◌||◌, ◌&&◌, not, is_some, Result, Ok, Err, IfOk}
 use Rattle.std.specs.List.{list_any}
 use Rattle.std.proofs.lemmas.Bool.{eqb-true}
 use Rattle.std.proofs.lemmas.List.Folds.{list_any-append}
@@ -15,7 +15,7 @@ use Rattle.outwriter.specs.declared.outbound.Outbound.{Outbound}
 use Rattle.outwriter.specs.CoreChanges.{may_write}
 use Rattle.outwriter.specs.States.{SameEnds, SameOpen, SameOwed, SetsEnd, StandAs, StandButWindows, States, is_heard, is_reset, knows, over_on, open_at}
 use Rattle.outwriter.specs.Histories.{is_stream}
-use Rattle.outwriter.specs.RunState.{Ends}
+use Rattle.outwriter.specs.RunState.{BeginsBlock, Ends}
 use Rattle.outwriter.specs.Parts.{Mark}
 use Rattle.outwriter.specs.CallState.{AreOver, Rests, IsOwn, OwnOrRests, is_due_of}
 use Rattle.outwriter.specs.ToldByNow.{SameStanding, Spells, SpellsOf, KeepsTelling, TellsMore, TellsBlock, OwnByDue, block_marks}
@@ -239,17 +239,24 @@ not-refused o at fields may denied is id there e = by (id == at) (is_reset o.sta
 
 -- ---- a refusal
 
-pub refusal-own : {E : Type 0} (id : ℕ) (fields : List Field) (bytes : List ℕ) (result : Result Frame E) (old mid new : Outbound)
+pub refusal-own : {E : Type 0} (id : ℕ) (fields : List Field) (bytes : List ℕ) (result : Result Frame E) (old mid ended new : Outbound)
     → mid ≡ record old { encoder = mid.encoder } → over_on old.states id ≡ None → Writes old.encoder fields bytes mid.encoder
-    → IfOk result (λ frame. TellsBlock id true bytes frame mid new) → OnOk result (Ends mid.states id true new.states) → OnOk result (SameOwed mid.states new.states) → OnOk result (SameOpen mid.states new.states)
-    → OnOk result (new ≡ record mid { states = new.states; block = new.block })
+    → ended ≡ record mid { states = ended.states } → Ends mid.states id true ended.states → SameOwed mid.states ended.states → SameOpen mid.states ended.states
+    → IfOk result (λ frame. BeginsBlock id true bytes frame ended new) → IfOk result (λ frame. TellsBlock id true bytes frame mid new)
     → IfOk result (λ frame. OwnByDue (due_kind.Refuse id fields) frame old new)
-refusal-own id fields bytes (Err e) old mid new is none writes tells sets same kept rest = tt
-refusal-own id fields bytes (Ok frame) old mid new is none writes tells sets same kept rest = (
-  (ap (λ (o : Outbound). o.due) rest ∙ ap (λ (o : Outbound). o.due) is, standing-then old mid new (standing-same old mid (ap (λ (o : Outbound). o.states) is)) (λ k. ((same.0 k).0, (same.0 k).2, λ e. still-heard mid.states new.states id false sets k e)), kept ∙ ap (λ (o : Outbound). (open_at o.states)) is),
-  (
-    λ run marks spells. tells run marks fields old.encoder
-        (subst (λ (b : Option HeaderBlock). Spells run b old.encoder marks) (sym (ap (λ (o : Outbound). o.block) is)) spells.1) writes,
-    (none, still-set old mid new id false (ends-same old mid (ap (λ (o : Outbound). o.states) is)) sets),
-  ),
-)
+refusal-own id fields bytes (Err e) old mid ended new is none writes ended_is sets same kept begins tells = tt
+refusal-own id fields bytes (Ok frame) old mid ended new is none writes ended_is sets same kept begins tells =
+    let states : new.states ≡ ended.states = ap (λ (o : Outbound). o.states) begins.1 in
+    let owed : SameOwed mid.states new.states = subst (SameOwed mid.states) (sym states) same in
+    let set : Ends mid.states id true new.states = subst (Ends mid.states id true) (sym states) sets in (
+      (
+        ap (λ (o : Outbound). o.due) begins.1 ∙ ap (λ (o : Outbound). o.due) ended_is ∙ ap (λ (o : Outbound). o.due) is,
+        standing-then old mid new (standing-same old mid (ap (λ (o : Outbound). o.states) is)) (λ k. ((owed.0 k).0, (owed.0 k).2, λ e. still-heard mid.states new.states id false set k e)),
+        ap open_at states ∙ kept ∙ ap (λ (o : Outbound). (open_at o.states)) is,
+      ),
+      (
+        λ run marks spells. tells run marks fields old.encoder
+            (subst (λ (b : Option HeaderBlock). Spells run b old.encoder marks) (sym (ap (λ (o : Outbound). o.block) is)) spells.1) writes,
+        (none, still-set old mid new id false (ends-same old mid (ap (λ (o : Outbound). o.states) is)) set),
+      ),
+    )

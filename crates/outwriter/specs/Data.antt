@@ -1,6 +1,5 @@
 -- DATA of a message (RFC 9113, section 6.1), and of what is in hand of a stream.
-use Rattle.std.specs.Prelude.{◌≡◌, ◌⊎◌, ℕ, ℤ, pos, ◌+ℤ◌, ◌-ℤ◌, ◌-◌, Option, ◌<◌, ◌≤◌, ◌^◌, nat_eq, false, true, List, [], ◌++◌, length, None, Some, MatchOption}
-use Rattle.std.specs.Map.{lookup, set_value}
+use Rattle.std.specs.Prelude.{◌≡◌, ◌⊎◌, ℕ, ℤ, pos, ◌+ℤ◌, ◌-ℤ◌, ◌-◌, Option, ◌<◌, ◌≤◌, ◌^◌, false, true, List, [], ◌++◌, length, None, Some}
 use Rattle.flow.specs.Windows.{Shared, Windows, lesser, room}
 use Rattle.flow.specs.WindowHistory.{Follows, room_after}
 use Rattle.flow.specs.WindowHistory.{Step as WindowStep}
@@ -11,9 +10,9 @@ use Rattle.outwriter.specs.declared.stream.Hand.TheVariants as hand
 use Rattle.outwriter.specs.declared.stream.Looked.{Looked}
 use Rattle.outwriter.specs.declared.stream.Looked.TheVariants as looked
 use Rattle.outwriter.specs.Frames.{data_frame}
-use Rattle.outwriter.specs.OpenStreams.{HandIs, kept, shown, shows, with_hand}
+use Rattle.outwriter.specs.OpenStreams.{HandIs, kept, shown, with_hand}
 use Rattle.outwriter.specs.RunState.{spent}
-use Rattle.outwriter.specs.States.{IsShut, StandButWindows, States, can_write, is_reset, open_at, over_on, room_in}
+use Rattle.outwriter.specs.States.{StandButWindows, States, can_write, is_reset, open_at, over_on, room_in}
 
 -- DATA of a front of a message, for which both windows have room and out of which it is taken; nothing, where they have none; or
 -- the message has no bytes. The rest of it stays.
@@ -51,25 +50,10 @@ LooksAtStream id old new from to (hand.Message found) = (can_write old.state ≡
     × (place : ℕ) × (message : List ℕ) × (rest : List ℕ) × (shown old.opened ≡ Some (place, Some message)) × (shown new.opened ≡ Some (place, kept rest))
     × CutsData id from to old.balance new.balance message rest found
 
--- of a stream among the entries, if it is there
-abbrev pub LooksAtEntry : ℕ → List (ℕ × Stream) → List (ℕ × Stream) → Shared → Shared → Hand → Type 0
-LooksAtEntry id old new from to found = MatchOption (lookup (nat_eq id) old) ((found ≡ hand.Shut) × (new ≡ old) × (to ≡ from))
-    (λ was. (now : Stream) × (new ≡ set_value (nat_eq id) old now) × LooksAtStream id was now from to found)
-
--- what is found of a message that begins, of which the rest is in hand then, if the stream is open
+-- what is found of a message that begins or goes on, of which the rest is in hand then, if the stream is open
 abbrev pub BeginsOnStream : ℕ → Stream → Stream → Shared → Shared → List ℕ → Looked → Type 0
 BeginsOnStream id old new from to message found =
     (rest : List ℕ) × (shown new.opened ≡ with_hand (kept rest) (shown old.opened)) × CutsData id from to old.balance new.balance message rest found
-
--- where there is no window, nothing of it is written
-abbrev pub IsUnsent : List ℕ → Looked → Type 0
-IsUnsent message (looked.Frame frame) = ⊥
-IsUnsent message looked.Nothing = 0 < length message
-IsUnsent message looked.Empty = message ≡ []
-
-abbrev pub BeginsAtEntry : ℕ → List (ℕ × Stream) → List (ℕ × Stream) → Shared → Shared → List ℕ → Looked → Type 0
-BeginsAtEntry id old new from to message found = MatchOption (lookup (nat_eq id) old) ((new ≡ old) × (to ≡ from) × IsUnsent message found)
-    (λ was. (now : Stream) × (new ≡ set_value (nat_eq id) old now) × BeginsOnStream id was now from to message found)
 
 -- frames may be written on a stream
 pub record TakesFrames (states : States) (id : ℕ) : Type 0 where
@@ -78,15 +62,7 @@ pub record TakesFrames (states : States) (id : ℕ) : Type 0 where
   pub not_over : over_on states id ≡ None
   pub not_reset : is_reset states id ≡ false
 
--- and among all of them
-abbrev pub LooksAtHand : ℕ → States → States → Hand → Type 0
-LooksAtHand id old new hand.Shut = (new ≡ old) × IsShut old id
-LooksAtHand id old new (hand.Empty place) = (new ≡ old) × TakesFrames old id × (shows (open_at old) id ≡ Some (place, None))
-LooksAtHand id old new (hand.Message found) = TakesFrames old id × StandButWindows old new
-    × (place : ℕ) × (message : List ℕ) × (rest : List ℕ) × (shows (open_at old) id ≡ Some (place, Some message)) × HandIs id (kept rest) (open_at old) (open_at new)
-    × TakesData id old.windows new.windows message rest found
-
--- what is found of a message that begins, of which the rest is in hand then
+-- the same among all streams
 abbrev pub BeginsMessage : ℕ → States → States → List ℕ → Looked → Type 0
 BeginsMessage id old new message found = StandButWindows old new
     × (rest : List ℕ) × HandIs id (kept rest) (open_at old) (open_at new) × TakesData id old.windows new.windows message rest found

@@ -17,6 +17,7 @@ pub mod CallState
 pub mod Cores
 pub mod StreamLooks
 pub mod Data
+pub mod NextOn
 pub mod CoreChanges
 pub mod Examples
 pub mod Releases

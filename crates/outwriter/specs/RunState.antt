@@ -7,6 +7,7 @@ use Rattle.flow.specs.Windows.{Windows}
 use Rattle.h2frame.specs.declared.error_code.ErrorCode.{ErrorCode}
 use Rattle.h2frame.specs.declared.frame.Frame.{Frame}
 use Rattle.outwriter.specs.declared.blocks.HeaderBlock.{HeaderBlock}
+use Rattle.outwriter.specs.Blocks.{frame_of, rest_of}
 use Rattle.outwriter.specs.declared.control.Control.{Control}
 use Rattle.outwriter.specs.declared.control.Control.TheVariants as control
 use Rattle.outwriter.specs.declared.stream.OpenStream.{OpenStream}
@@ -144,10 +145,10 @@ abbrev pub WritesOrSkips : Due → Option Frame → Outbound → Outbound → Ty
 WritesOrSkips one (Some frame) old new = WritesDue one frame old new
 WritesOrSkips one None old new = (duties_of one ≡ []) × (new ≡ old)
 
--- a header block begins, whatever was due with what is due now
-abbrev pub Heads : Frame → Outbound → Outbound → Type 0
-Heads frame old new = (run : List Step) (before : List Due) → Mirrors run old.begun old.gone old.states.windows before old.block old.states
-    → HasDue run old.due.items → MayWrite run frame × MirrorsOf (Written frame ∷ run) new
+-- the first frame of a header block, whose rest is kept
+abbrev pub BeginsBlock : ℕ → Bool → List ℕ → Frame → Outbound → Outbound → Type 0
+BeginsBlock id ends_it bytes frame old new =
+    let whole : HeaderBlock = record { id = id; ends = ends_it; begun = false; rest = bytes } in (frame ≡ frame_of whole) × (new ≡ record old { block = rest_of whole })
 
 -- a frame, if there is one; else nothing changed
 abbrev pub WritesIf : Option Frame → Outbound → Outbound → Type 0

@@ -123,7 +123,7 @@ IsShut states id = (can_write (state_on states id) ≡ false) ⊎ (open_at state
 abbrev pub StandAs : States → States → Type 0
 StandAs old new = new ≡ record old { opened = new.opened }
 
--- the same, but for the windows too
+-- but for that and the windows, all is the same
 abbrev pub StandButWindows : States → States → Type 0
 StandButWindows old new = new ≡ record old { opened = new.opened; windows = new.windows }
 
@@ -131,7 +131,7 @@ StandButWindows old new = new ≡ record old { opened = new.opened; windows = ne
 abbrev pub SameButWindows : States → States → Type 0
 SameButWindows old new = new ≡ record old { windows = new.windows }
 
--- the windows are those that were, with these steps
+-- whatever history led to the windows before, with these steps, of which the latest is first, it leads to those after
 abbrev pub Moves : States → List Step → States → Type 0
 Moves old steps new = (history : List Step) → Follows history old.windows → Follows (steps ++ history) new.windows
 
@@ -139,6 +139,7 @@ Moves old steps new = (history : List Step) → Follows history old.windows → 
 abbrev pub opens_window : States → ℕ → Bool
 opens_window states id = not (is_some (over_on states id)) && not (is_some (balance states.windows id))
 
+-- what that is in a history of windows
 abbrev pub opening : States → ℕ → List Step
 opening states id = if opens_window states id then Opening id ∷ [] else []
 
@@ -223,7 +224,7 @@ balance_after change.Hear state kept = kept
 balance_after change.Reset state kept = None
 balance_after (change.End by) state kept = None
 
--- what that is in a history of windows
+-- which steps of the windows it is
 abbrev pub steps_of : Change → States → ℕ → List Step
 steps_of change.Open states id = opening states id
 steps_of change.Hear states id = []
@@ -316,9 +317,10 @@ abbrev pub Edits : List (ℕ × Stream) → ℕ → List (ℕ × Stream) → Typ
 Edits old id new = (new ≡ old) ⊎ ((was : Stream) × (opened : Option OpenStream) × (lookup (nat_eq id) old ≡ Some was)
     × (new ≡ set_value (nat_eq id) old (record was { opened = opened })))
 
--- and its window
-abbrev pub Rewrites : List (ℕ × Stream) → ℕ → List (ℕ × Stream) → Type 0
-Rewrites old id new = (new ≡ old) ⊎ ((was : Stream) × (now : Stream) × (lookup (nat_eq id) old ≡ Some was) × (now.state ≡ was.state) × (new ≡ set_value (nat_eq id) old now))
+-- all of it does but the amount that is owed on it
+abbrev pub KeepsAmount : List (ℕ × Stream) → ℕ → List (ℕ × Stream) → Type 0
+KeepsAmount old id new = (new ≡ old)
+    ⊎ ((was : Stream) × (now : Stream) × (lookup (nat_eq id) old ≡ Some was) × (amount_of now.state ≡ amount_of was.state) × (new ≡ set_value (nat_eq id) old now))
 
 -- n more are owed on a stream that may be owed something, at its place
 abbrev pub Adds : List (ℕ × Stream) → ℕ → ℕ → Option ℕ → List (ℕ × Stream) → Type 0

@@ -17,13 +17,12 @@ use Rattle.outwriter.specs.declared.stream.Looked.TheVariants as looked
 use Rattle.outwriter.specs.Calls.{TellFronts}
 use Rattle.outwriter.specs.Frames.{IsSound}
 use Rattle.outwriter.specs.Cores.{calls, lanes, IsStuck, AreStuck, IsQuiet}
-use Rattle.outwriter.specs.Parts.{Mark, Byte, on_stream}
+use Rattle.outwriter.specs.Parts.{Mark}
 use Rattle.outwriter.specs.Polls.{block_item, GotNone}
 use Rattle.outwriter.specs.CallState.{Serves, Heeds}
-use Rattle.outwriter.specs.OpenStreams.{HandIs, Shown, kept}
-use Rattle.outwriter.specs.RunState.{Progress, SameButOpen, SameOwn}
+use Rattle.outwriter.specs.OpenStreams.{Shown}
+use Rattle.outwriter.specs.RunState.{Progress, SameOwn}
 use Rattle.outwriter.specs.Steps.{Step, Written}
-use Rattle.outwriter.specs.ToldByNow.{TellsMore}
 
 -- ---- calls
 
@@ -93,13 +92,6 @@ module _ {L In Out Shut : Type 0} where
   -- from the run still.
   abbrev pub Picks : (Out → List OutItem) → Option Frame → Sending L In Out Shut → Sending L In Out Shut → Type 0
   Picks got o old new = IfSome o IsSound × Progress o old.outbound new.outbound × IfNone o (SameOwn old.outbound new.outbound) × HoldsOn got o old new
-
-  -- DATA of a front of some bytes, of which the rest is in hand then; or all of them are, as there is no room
-  abbrev pub TellsData : ℕ → List ℕ → Looked → Sending L In Out Shut → Sending L In Out Shut → Type 0
-  TellsData id bytes (looked.Frame frame) old new = (front : List ℕ) × (rest : List ℕ) × (bytes ≡ front ++ rest) × HandIs id (kept rest) (open_at old.outbound.states) (open_at new.outbound.states)
-      × TellsMore frame (on_stream id (map Byte front)) old.outbound new.outbound × (new.outbound ≡ record old.outbound { states = record old.outbound.states { opened = new.outbound.states.opened; windows = new.outbound.states.windows } })
-  TellsData id bytes looked.Nothing old new = HandIs id (Some bytes) (open_at old.outbound.states) (open_at new.outbound.states) × SameButOpen old.outbound new.outbound × (room old.outbound.states.windows id ≡ 0)
-  TellsData id bytes looked.Empty old new = (bytes ≡ []) × HandIs id None (open_at old.outbound.states) (open_at new.outbound.states) × SameButOpen old.outbound new.outbound
 
   -- nothing can be written on this stream, if it is open
   abbrev pub StuckAt : (Out → List OutItem) → ℕ → Sending L In Out Shut → Type 0

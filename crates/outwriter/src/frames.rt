@@ -3,10 +3,11 @@
 ghost use Rattle.std.specs.Prelude.{◌≡◌, ◌≤◌, ◌<◌, length, IfOk};
 ghost use Rattle.outwriter.specs.Frames.{first_settings, settings_ack, ping_ack, reset_frame, goaway_frame, update_frame, data_frame, headers_frame, continuation_frame, block_bits};
 
+use crate::small::SmallContents;
 use bytes::Bytes;
 use flow::MAX_LIVE;
 use h2frame::{ErrorCode, Flags, Frame, FrameKind, StreamId};
-use std::alloc::{AllocError, Global};
+use std::alloc::AllocError;
 
 /// The numbers of two parameters (section 6.5.2), which `SettingId::code` has too.
 const MAX_CONCURRENT_STREAMS: u8 = 3;
@@ -49,22 +50,26 @@ pub(crate) fn make_settings_ack() -> Frame
     Frame::new(FrameKind::Settings, Flags::ACK, 0, Bytes::new())
 }
 
-pub(crate) fn make_ping_ack(alloc: Global, bytes: [u8; 8]) -> Result<Frame, AllocError>
+pub(crate) fn make_ping_ack(small: &mut SmallContents, bytes: [u8; 8]) -> Result<Frame, AllocError>
     ensures { IfOk result (λ frame. frame ≡ ping_ack bytes) }
 {
-    let content = Bytes::copy_from_slice(alloc, &bytes)?;
+    let content = small.content(&bytes)?;
     Ok(Frame::new(FrameKind::Ping, Flags::ACK, 0, content))
 }
 
-pub(crate) fn make_reset(alloc: Global, id: StreamId, code: ErrorCode) -> Result<Frame, AllocError>
+pub(crate) fn make_reset(
+    small: &mut SmallContents,
+    id: StreamId,
+    code: ErrorCode,
+) -> Result<Frame, AllocError>
     ensures { IfOk result (λ frame. frame ≡ reset_frame id code) }
 {
-    let content = Bytes::copy_from_slice(alloc, &code.code().to_be_bytes())?;
+    let content = small.content(&code.code().to_be_bytes())?;
     Ok(Frame::new(FrameKind::RstStream, Flags::NONE, id, content))
 }
 
 pub(crate) fn make_goaway(
-    alloc: Global,
+    small: &mut SmallContents,
     last: StreamId,
     code: ErrorCode,
 ) -> Result<Frame, AllocError>
@@ -72,14 +77,18 @@ pub(crate) fn make_goaway(
 {
     let [a, b, c, d] = last.to_be_bytes();
     let [e, f, g, h] = code.code().to_be_bytes();
-    let content = Bytes::copy_from_slice(alloc, &[a, b, c, d, e, f, g, h])?;
+    let content = small.content(&[a, b, c, d, e, f, g, h])?;
     Ok(Frame::new(FrameKind::GoAway, Flags::NONE, 0, content))
 }
 
-pub(crate) fn make_update(alloc: Global, id: StreamId, increment: u32) -> Result<Frame, AllocError>
+pub(crate) fn make_update(
+    small: &mut SmallContents,
+    id: StreamId,
+    increment: u32,
+) -> Result<Frame, AllocError>
     ensures { IfOk result (λ frame. frame ≡ update_frame id increment) }
 {
-    let content = Bytes::copy_from_slice(alloc, &increment.to_be_bytes())?;
+    let content = small.content(&increment.to_be_bytes())?;
     Ok(Frame::new(FrameKind::WindowUpdate, Flags::NONE, id, content))
 }
 

@@ -8,7 +8,7 @@
 //! Which runs are lawful is said in `specs/Runs.antt`: windows, acknowledgements in their order, resets that were asked
 //! for, whole header blocks, nothing behind a stream's end. `specs/Parts.antt` says what the frames of one stream tell, and what items spell.
 //!
-//! Read `control` for what goes in; `frames` and `blocks` for the frames that come out; `stream`, `due`,
+//! Read `control` for what goes in; `frames`, `small` and `blocks` for the frames that come out; `stream`, `due`,
 //! `resize` and `states` for what is kept, and `outbound` and `sending`, which bring it together; `out_core` for what a control does, `next` for the choice of a
 //! frame, and `release` for what a call that is through gives back.
 #![tactic(auto)]
@@ -23,6 +23,7 @@ mod outbound;
 mod release;
 mod resize;
 mod sending;
+mod small;
 mod states;
 mod stream;
 mod writing;

@@ -9,12 +9,10 @@ use crate::control::OutFault;
 use crate::out_core::OutCore;
 use crate::sending::Sending;
 use crate::states::StreamStates;
-use crate::stream::{Hand, Looked, Polled, poll};
+use crate::stream::{Found, Looked};
 use account::OutItem;
-use bytes::Bytes;
 use callbox::Sender;
 use h2frame::{Frame, StreamId};
-use hpack_codec::Encoder;
 use lane::Lane;
 use std::alloc::AllocError;
 use std::collections::VecDeque;
@@ -78,10 +76,9 @@ impl<L: Lane<Item = OutItem>> OutCore<L> {
 impl<L: Lane<Item = OutItem>> Sending<L> {
     ghost use Rattle.outwriter.specs.Frames.{IsSound};
     ghost use Rattle.outwriter.specs.Cores.{lanes};
-    ghost use Rattle.outwriter.specs.Data.{TakesFrames};
     ghost use Rattle.outwriter.specs.Polls.{coming};
-    ghost use Rattle.outwriter.specs.StreamLooks.{AllStuck, GetsQuiet, GetsStuck, Gives, HoldsOn, LooksAt, Picks, TellsData, frame_in};
-    ghost use Rattle.outwriter.specs.RunState.{SameOwn, IsSpent, Progress, Progresses, IsBetween};
+    ghost use Rattle.outwriter.specs.StreamLooks.{AllStuck, GetsQuiet, GetsStuck, Gives, HoldsOn, LooksAt, Picks, frame_in};
+    ghost use Rattle.outwriter.specs.RunState.{IsSpent, Progresses, IsBetween};
 
     /// SETTINGS first; the rest of a header block; what is due; credit; and then the streams.
     pub(crate) fn choose(&mut self) -> Result<Option<Frame>, AllocError>
@@ -220,40 +217,22 @@ impl<L: Lane<Item = OutItem>> Sending<L> {
         ensures gives { Gives L.got L.out_name self.old self.new }
         ensures looks { IfOk result (λ l. LooksAt L.got (coming L.got L.ahead) id l self.old self.new) }
     {
-        let place = match self.outbound.states.look(id)? {
-            Hand::Shut => return Ok(Looked::Nothing),
-            Hand::Message(looked) => return Ok(looked),
-            Hand::Empty(place) => place,
-        };
-        match poll_at(&mut self.senders, &mut self.outbound.encoder, place)? {
-            Polled::Nothing => Ok(Looked::Nothing),
-            Polled::Message(bytes) => self.data(id, bytes),
-            Polled::Block { bytes, ends } => {
-                end(&mut self.outbound.states, id, ends);
+        let found = self
+            .outbound
+            .states
+            .next_on(id, &mut self.senders, &mut self.outbound.encoder)?;
+        match found {
+            Found::Nothing => Ok(Looked::Nothing),
+            Found::Message(looked) => Ok(looked),
+            Found::Block { bytes, ends } => {
                 Ok(Looked::Frame(self.outbound.headers_frame(id, ends, bytes)?))
             }
         }
     }
-
-    /// The first DATA of a message, as far as the windows let it through. What is left is kept in hand.
-    fn data(&mut self, id: StreamId, message: Bytes) -> Result<Looked, AllocError>
-        requires between { IsBetween self.old.outbound }
-        requires writable { TakesFrames self.old.outbound.states id }
-        ensures sound { IfOk result (λ l. IfSome (frame_in l) IsSound) }
-        ensures frame { IfOk result (λ l. Progress (frame_in l) self.old.outbound self.new.outbound) }
-        ensures own { IfOk result (λ l. IfNone (frame_in l) (SameOwn self.old.outbound self.new.outbound)) }
-        ensures data { IfOk result (λ l. TellsData id message l self.old self.new) }
-        ensures senders { self.new.senders ≡ self.old.senders }
-    {
-        self.outbound.states.begin_message(id, message)
-    }
 }
 
-ghost use Rattle.outwriter.specs.Cores.{calls as calls_of, lanes as lanes_of};
-ghost use Rattle.outwriter.specs.OpenStreams.{SameHands, Removes};
-ghost use Rattle.outwriter.specs.Polls.{coming as coming_of};
+ghost use Rattle.outwriter.specs.OpenStreams.{SameHands};
 ghost use Rattle.outwriter.specs.States.{StandAs, open_at as open_of};
-ghost use Rattle.outwriter.specs.StreamLooks.{aheads, TakesHand, SameElsewhere};
 
 /// Puts a stream behind all others that take turns, if it is still open.
 fn take_turns(
@@ -268,30 +247,4 @@ fn take_turns(
         ready.push_back(id)?;
     }
     Ok(())
-}
-
-/// Closes a stream whose trailers are written.
-fn end(states: &mut StreamStates, id: StreamId, ends: bool)
-    ensures stands { StandAs states.old states.new }
-    ensures ended { Removes id ends (open_of states.old) (open_of states.new) }
-{
-    if ends {
-        states.close(id);
-    }
-}
-
-/// The next item of the sender at a place, if there is one.
-fn poll_at<L: Lane<Item = OutItem>>(
-    senders: &mut Vec<(StreamId, Sender<L>)>,
-    encoder: &mut Encoder,
-    place: usize,
-) -> Result<Polled, AllocError>
-    ensures takes { TakesHand None place (calls_of L.got senders.old.items) (calls_of L.got senders.new.items) (aheads (coming_of L.got L.ahead) senders.new.items) encoder.old encoder.new result }
-    ensures ahead { SameElsewhere place (aheads (coming_of L.got L.ahead) senders.old.items) (aheads (coming_of L.got L.ahead) senders.new.items) }
-    ensures senders { lanes_of L.out_name senders.new.items ≡ lanes_of L.out_name senders.old.items }
-{
-    match senders.get_mut(place) {
-        Some(call) => poll(&mut call.1, encoder),
-        None => Ok(Polled::Nothing),
-    }
 }

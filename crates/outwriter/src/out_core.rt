@@ -136,7 +136,7 @@ impl<L: Lane<Item = OutItem>> OutCore<L> {
         if !may_part {
             return None;
         }
-        match make_goaway(self.sending.outbound.alloc, last, code) {
+        match make_goaway(&mut self.sending.outbound.small, last, code) {
             Ok(frame) => Some(frame),
             Err(_e) => None,
         }

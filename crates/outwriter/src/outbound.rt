@@ -18,6 +18,7 @@ use crate::blocks::HeaderBlock;
 use crate::control::{Control, OutFault};
 use crate::due::Due;
 use crate::resize::resize;
+use crate::small::SmallContents;
 use crate::states::StreamStates;
 use flow::{MAX_WINDOW, WindowFault};
 use h2frame::{ErrorCode, PeerSetting, PeerSettings, StreamId};
@@ -29,7 +30,8 @@ use std::collections::VecDeque;
 /// What follows from the controls that were taken and the frames that were written.
 #[derive(Drop)]
 pub(crate) struct Outbound {
-    pub(crate) alloc: Global,
+    /// Where the contents of small frames are written.
+    pub(crate) small: SmallContents,
     /// Whether SETTINGS were written.
     pub(crate) begun: bool,
     /// Whether a GOAWAY with an error was written.
@@ -60,7 +62,7 @@ impl Outbound {
         ensures states { result.states ≡ nothing_known }
     {
         Outbound {
-            alloc,
+            small: SmallContents::new(alloc),
             begun: false,
             gone: false,
             encoder: Encoder::new(alloc),

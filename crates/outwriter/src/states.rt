@@ -8,16 +8,23 @@ ghost use Rattle.indexmap.specs.IndexMap.{IsUnique};
 ghost use Rattle.flow.specs.WindowHistory.{CanCredit, CanResize, Closing, Credit, Follows, Resizing};
 ghost use Rattle.flow.specs.WindowHistory.{Step as WindowStep};
 ghost use Rattle.flow.specs.Windows.{CreditFault, Meets, room};
-ghost use Rattle.outwriter.specs.States.{nothing_known, open_at, is_reset, state_on, amount_of, by_reset, end_of, more, is_heard, can_write, balance_after as balance_after_of, fits_with, room_in, steps_of, Changes, CreditsEntry, CreditsStream, IsAfter, PutsAfter, Rewrites, SetsBalance, Hears, Opens, BecomesOpen, Grants, Moves, Resets, SameButWindows, SameEnds, SameOver, SameOwed, SameOpen, StandAs, SetsEnd, Edits, TakesAll, Adds, AllFit, IsSettledBut, IsSettledFrom, TakesAt, TakesLast, opened_of, opening};
+ghost use Rattle.outwriter.specs.States.{nothing_known, open_at, is_reset, state_on, amount_of, by_reset, end_of, more, is_heard, can_write, balance_after as balance_after_of, fits_with, room_in, steps_of, Changes, CreditsEntry, CreditsStream, IsAfter, KeepsAmount, PutsAfter, SetsBalance, Hears, Opens, BecomesOpen, Grants, Moves, Resets, SameButWindows, SameEnds, SameOver, SameOwed, SameOpen, StandAs, SetsEnd, Edits, TakesAll, Adds, AllFit, IsSettledBut, IsSettledFrom, TakesAt, TakesLast, opened_of, opening};
 ghost use Rattle.outwriter.specs.Resizes.{FitsOn};
-ghost use Rattle.outwriter.specs.Data.{BeginsAtEntry, BeginsMessage, BeginsOnStream, IsUnsent, LooksAtEntry, LooksAtHand, LooksAtStream};
+ghost use Rattle.outwriter.specs.Cores.{calls, lanes};
+ghost use Rattle.outwriter.specs.Data.{BeginsOnStream, LooksAtStream};
+ghost use Rattle.outwriter.specs.NextOn.{EndsStream, GetsOne, NextAtEntry, NextOnStream, TakesNext, TakesUpStream};
+ghost use Rattle.outwriter.specs.Polls.{coming};
 ghost use Rattle.outwriter.specs.OpenStreams.{Closes, PlaceIs, SameHands, has_hand, kept as kept_of, shown, stream_at, with_hand, with_place};
 
-use crate::stream::{Hand, Looked, OpenStream, kept, next_data};
+use crate::stream::{Found, Hand, Looked, OpenStream, Polled, kept, next_data, poll_at};
+use account::OutItem;
 use bytes::Bytes;
+use callbox::Sender;
 use flow::{Balance, ConnectionWindow, MAX_WINDOW, WindowFault};
 use h2frame::StreamId;
+use hpack_codec::Encoder;
 use indexmap::IndexMap;
+use lane::Lane;
 use std::alloc::{AllocError, Global};
 use std::marker::Model;
 
@@ -160,7 +167,7 @@ pub(crate) struct Stream {
     state: StreamState,
     /// What is written of it, while it is open.
     opened: Option<OpenStream>,
-    /// That of its window, while the window is open.
+    /// The balance of its window, while that is open.
     balance: Option<Balance>,
 }
 
@@ -207,6 +214,28 @@ impl Stream {
         }
     }
 
+    /// What is next on it, if something may be written on it: DATA of what is in hand, or else what its sender has.
+    fn next<L: Lane<Item = OutItem>>(
+        &mut self,
+        id: StreamId,
+        window: &mut ConnectionWindow,
+        senders: &mut Vec<(StreamId, Sender<L>)>,
+        encoder: &mut Encoder,
+    ) -> Result<Found, AllocError>
+        ensures amount { amount_of self.new.state ≡ amount_of self.old.state }
+        ensures next { IfOk result (NextOnStream L.got (coming L.got L.ahead) id self.old self.new window.old window.new senders.old.items senders.new.items encoder.old encoder.new) }
+        ensures got { GetsOne (calls L.got senders.old.items) (calls L.got senders.new.items) }
+        ensures senders { lanes L.out_name senders.new.items ≡ lanes L.out_name senders.old.items }
+    {
+        let place = match self.look(id, window)? {
+            Hand::Shut => return Ok(Found::Nothing),
+            Hand::Message(looked) => return Ok(Found::Message(looked)),
+            Hand::Empty(place) => place,
+        };
+        let polled = poll_at(senders, encoder, place)?;
+        self.take_up(id, window, polled)
+    }
+
     /// Looks at what is in hand, if something may be written on it.
     fn look(&mut self, id: StreamId, window: &mut ConnectionWindow) -> Result<Hand, AllocError>
         ensures state { self.new.state ≡ self.old.state }
@@ -218,6 +247,36 @@ impl Stream {
         match &mut self.opened {
             Some(stream) => stream.look(id, window, &mut self.balance),
             None => Ok(Hand::Shut),
+        }
+    }
+
+    /// What is written of what its sender had: of a message the first DATA, and all of a header block.
+    fn take_up(
+        &mut self,
+        id: StreamId,
+        window: &mut ConnectionWindow,
+        polled: Polled,
+    ) -> Result<Found, AllocError>
+        ensures amount { amount_of self.new.state ≡ amount_of self.old.state }
+        ensures takes { IfOk result (TakesUpStream id self.old self.new window.old window.new polled) }
+    {
+        match polled {
+            Polled::Nothing => Ok(Found::Nothing),
+            Polled::Message(bytes) => Ok(Found::Message(self.begin(id, window, bytes)?)),
+            Polled::Block { bytes, ends } => {
+                self.end_if(ends);
+                Ok(Found::Block { bytes, ends })
+            }
+        }
+    }
+
+    /// Where END_STREAM is written on it, it isn't open any more, and its window closes.
+    fn end_if(&mut self, ends: bool)
+        ensures { EndsStream ends self.old self.new }
+    {
+        if ends {
+            self.opened = None;
+            self.change(Change::End(Over::EndStream));
         }
     }
 
@@ -517,23 +576,20 @@ impl StreamStates {
         change_of(&mut self.streams, id, change, opened)
     }
 
-    /// Looks at what is in hand of a stream, if that is open and something may be written on it: DATA of it are taken out
-    /// of it, and out of the windows.
-    pub(crate) fn look(&mut self, id: StreamId) -> Result<Hand, AllocError>
-        ensures { IfOk result (LooksAtHand id self.old self.new) }
-    {
-        look_at(&mut self.streams, id, &mut self.window)
-    }
-
-    /// The first DATA of a message, as far as the windows let it through. What is left is kept in hand of an open stream.
-    pub(crate) fn begin_message(
+    /// What is next on a stream, if that is open and something may be written on it: DATA of what is in hand, or else what its
+    /// sender has. DATA are taken out of the windows, and what is left of their message is in hand then. A stream that a header
+    /// block ends is closed, and its end is noted.
+    pub(crate) fn next_on<L: Lane<Item = OutItem>>(
         &mut self,
         id: StreamId,
-        message: Bytes,
-    ) -> Result<Looked, AllocError>
-        ensures { IfOk result (BeginsMessage id self.old self.new message) }
+        senders: &mut Vec<(StreamId, Sender<L>)>,
+        encoder: &mut Encoder,
+    ) -> Result<Found, AllocError>
+        ensures next { IfOk result (TakesNext L.got (coming L.got L.ahead) id self.old self.new senders.old.items senders.new.items encoder.old encoder.new) }
+        ensures got { GetsOne (calls L.got senders.old.items) (calls L.got senders.new.items) }
+        ensures senders { lanes L.out_name senders.new.items ≡ lanes L.out_name senders.old.items }
     {
-        begin_at(&mut self.streams, id, &mut self.window, message)
+        next_at(&mut self.streams, id, &mut self.window, senders, encoder)
     }
 
     /// Whether a stream takes turns from now on, if it is open. It answers whether it is.
@@ -654,45 +710,22 @@ fn all_fit(streams: &IndexMap<StreamId, Stream>, size: u32) -> bool
     streams.values().all(|stream| stream.fits(size))
 }
 
-/// Looks at what is in hand of a stream.
-fn look_at(
+/// What is next on a stream, if that is open and something may be written on it.
+fn next_at<L: Lane<Item = OutItem>>(
     streams: &mut IndexMap<StreamId, Stream>,
     id: StreamId,
     window: &mut ConnectionWindow,
-) -> Result<Hand, AllocError>
-    ensures rewrites { Rewrites streams.old.entries id streams.new.entries }
-    ensures looks { IfOk result (LooksAtEntry id streams.old.entries streams.new.entries window.old window.new) }
+    senders: &mut Vec<(StreamId, Sender<L>)>,
+    encoder: &mut Encoder,
+) -> Result<Found, AllocError>
+    ensures amount { KeepsAmount streams.old.entries id streams.new.entries }
+    ensures next { IfOk result (NextAtEntry L.got (coming L.got L.ahead) id streams.old.entries streams.new.entries window.old window.new senders.old.items senders.new.items encoder.old encoder.new) }
+    ensures got { GetsOne (calls L.got senders.old.items) (calls L.got senders.new.items) }
+    ensures senders { lanes L.out_name senders.new.items ≡ lanes L.out_name senders.old.items }
 {
     match streams.get_mut(&id) {
-        Some(stream) => stream.look(id, window),
-        None => Ok(Hand::Shut),
-    }
-}
-
-/// The first DATA of a message, of which what is left is kept in hand of an open stream.
-fn begin_at(
-    streams: &mut IndexMap<StreamId, Stream>,
-    id: StreamId,
-    window: &mut ConnectionWindow,
-    message: Bytes,
-) -> Result<Looked, AllocError>
-    ensures rewrites { Rewrites streams.old.entries id streams.new.entries }
-    ensures begins { IfOk result (BeginsAtEntry id streams.old.entries streams.new.entries window.old window.new message) }
-{
-    match streams.get_mut(&id) {
-        Some(stream) => stream.begin(id, window, message),
-        None => Ok(unsent(&message)),
-    }
-}
-
-/// What is found of a message on a stream that has no window.
-fn unsent(message: &Bytes) -> Looked
-    ensures { IsUnsent message.now result }
-{
-    if message.is_empty() {
-        Looked::Empty
-    } else {
-        Looked::Nothing
+        Some(stream) => stream.next(id, window, senders, encoder),
+        None => Ok(Found::Nothing),
     }
 }
 

@@ -1,8 +1,10 @@
 //! An open stream, and what its call's sender has for it.
 
-ghost use Rattle.std.specs.Prelude.{◌≡◌, [], ◌∷◌, ◌++◌, min, IfOk, OnErr};
+ghost use Rattle.std.specs.Prelude.{◌≡◌, [], ◌∷◌, ◌++◌, min, None, IfOk, OnErr};
 ghost use Rattle.hpack_codec.specs.Codec.{Writes};
 ghost use Rattle.outwriter.specs.Polls.{Polls, coming};
+ghost use Rattle.outwriter.specs.Cores.{calls, lanes};
+ghost use Rattle.outwriter.specs.StreamLooks.{aheads, TakesHand, SameElsewhere};
 ghost use Rattle.outwriter.specs.Data.{CutsData, LooksAtOpen, Spends};
 ghost use Rattle.outwriter.specs.States.{room_in};
 ghost use Rattle.outwriter.specs.OpenStreams.{kept as kept_of};
@@ -68,13 +70,24 @@ pub(crate) enum Hand {
     Message(Looked),
 }
 
-/// What is next on a stream.
+/// What a stream's sender has next.
 #[derive(Drop)]
 pub(crate) enum Polled {
     Nothing,
     /// The bytes of a message.
     Message(Bytes),
     /// A header block, and whether it ends the stream.
+    Block { bytes: Bytes, ends: bool },
+}
+
+/// What is next on a stream.
+#[derive(Drop)]
+pub(crate) enum Found {
+    /// Nothing may be written.
+    Nothing,
+    /// What may be written of a message.
+    Message(Looked),
+    /// A header block, and whether it ends the stream, which is closed then.
     Block { bytes: Bytes, ends: bool },
 }
 
@@ -118,6 +131,22 @@ fn spend_up_to(window: &mut ConnectionWindow, balance: &mut Option<Balance>, mos
     match balance {
         Some(balance) => window.spend_up_to(balance, most),
         None => 0,
+    }
+}
+
+/// The next item of the sender at a place, if there is one.
+pub(crate) fn poll_at<L: Lane<Item = OutItem>>(
+    senders: &mut Vec<(StreamId, Sender<L>)>,
+    encoder: &mut Encoder,
+    place: usize,
+) -> Result<Polled, AllocError>
+    ensures takes { TakesHand None place (calls L.got senders.old.items) (calls L.got senders.new.items) (aheads (coming L.got L.ahead) senders.new.items) encoder.old encoder.new result }
+    ensures ahead { SameElsewhere place (aheads (coming L.got L.ahead) senders.old.items) (aheads (coming L.got L.ahead) senders.new.items) }
+    ensures senders { lanes L.out_name senders.new.items ≡ lanes L.out_name senders.old.items }
+{
+    match senders.get_mut(place) {
+        Some(call) => poll(&mut call.1, encoder),
+        None => Ok(Polled::Nothing),
     }
 }
 

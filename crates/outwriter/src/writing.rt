@@ -1,8 +1,7 @@
 //! The frames of a connection, each with what it changes.
 
-ghost use Rattle.std.specs.Prelude.{◌≡◌, ℕ, List, [], ◌∷◌, ◌<◌, ◌^◌, ◌&&◌, not, is_some, true, false, Some, None, IfOk, IfSome, IfNone, OnOk};
-ghost use Rattle.outwriter.specs.RunState.{Ends, closing};
-ghost use Rattle.outwriter.specs.States.{Moves, SameOpen, SameOwed, over_on};
+ghost use Rattle.std.specs.Prelude.{◌≡◌, ℕ, List, [], ◌∷◌, ◌<◌, ◌^◌, ◌&&◌, not, is_some, true, false, Some, None, IfOk, IfSome, IfNone};
+ghost use Rattle.outwriter.specs.States.{over_on};
 
 use crate::blocks::HeaderBlock;
 use crate::due::Due;
@@ -10,7 +9,7 @@ use crate::frames::{
     make_first_settings, make_goaway, make_ping_ack, make_reset, make_settings_ack, make_update,
 };
 use crate::outbound::{Outbound, is_stream};
-use crate::states::{Over, StreamStates};
+use crate::states::Over;
 use crate::stream::encoded;
 use bytes::Bytes;
 use h2frame::{ErrorCode, Frame, StreamId};
@@ -26,7 +25,7 @@ impl Outbound {
     ghost use Rattle.outwriter.specs.Histories.{is_stream as is_number};
     ghost use Rattle.outwriter.specs.CallState.{AreOver, IsOwn, OwnOrRests};
     ghost use Rattle.outwriter.specs.ToldByNow.{TellsBlock, OwnByDue, OwnOfDue};
-    ghost use Rattle.outwriter.specs.RunState.{Progress, Stays, IsBetween, Writes, WritesIf, WritesDue, WritesOrSkips, Heads, MirrorsOf};
+    ghost use Rattle.outwriter.specs.RunState.{BeginsBlock, Progress, Stays, IsBetween, Writes, WritesIf, WritesDue, WritesOrSkips, MirrorsOf};
 
     /// SETTINGS, which are first.
     pub(crate) fn first_frame(&mut self) -> Frame
@@ -135,7 +134,7 @@ impl Outbound {
         ensures written { IfOk result (λ frame. WritesDue (due_kind.PingAck bytes) frame self.old self.new) }
         ensures own { IfOk result (λ frame. OwnByDue (due_kind.PingAck bytes) frame self.old self.new) }
     {
-        make_ping_ack(self.alloc, bytes)
+        make_ping_ack(&mut self.small, bytes)
     }
 
     fn goaway_frame(&mut self, last: StreamId, code: ErrorCode) -> Result<Frame, AllocError>
@@ -144,7 +143,7 @@ impl Outbound {
         ensures written { IfOk result (λ frame. WritesDue (due_kind.Goaway last code) frame self.old self.new) }
         ensures own { IfOk result (λ frame. OwnByDue (due_kind.Goaway last code) frame self.old self.new) }
     {
-        let frame = make_goaway(self.alloc, last, code)?;
+        let frame = make_goaway(&mut self.small, last, code)?;
         self.gone = code.code() != 0;
         Ok(frame)
     }
@@ -182,7 +181,7 @@ impl Outbound {
         ensures written { IfOk result (λ frame. WritesDue (due_kind.Reset id code) frame self.old self.new) }
         ensures own { IfOk result (λ frame. OwnByDue (due_kind.Reset id code) frame self.old self.new) }
     {
-        let frame = make_reset(self.alloc, id, code)?;
+        let frame = make_reset(&mut self.small, id, code)?;
         self.states.end(id, Over::RstStream)?;
         Ok(frame)
     }
@@ -199,6 +198,7 @@ impl Outbound {
         ensures own { IfOk result (λ frame. OwnByDue (due_kind.Refuse id fields) frame self.old self.new) }
     {
         let bytes = encoded(&mut self.encoder, fields.as_slice())?;
+        self.states.end(id, Over::EndStream)?;
         self.headers_frame(id, true, bytes)
     }
 
@@ -215,10 +215,10 @@ impl Outbound {
         let Some((id, n)) = self.states.next() else {
             return Ok(None);
         };
-        Ok(Some(make_update(self.alloc, id, n)?))
+        Ok(Some(make_update(&mut self.small, id, n)?))
     }
 
-    /// The first frame of a header block.
+    /// The first frame of a header block, of which the rest is kept.
     pub(crate) fn headers_frame(
         &mut self,
         id: StreamId,
@@ -226,19 +226,11 @@ impl Outbound {
         bytes: Bytes,
     ) -> Result<Frame, AllocError>
         requires between { IsBetween self.old }
-        requires stream { 0 < id }
         requires number { id < 2 ^ 31 }
-        requires open { over_on self.old.states id ≡ None }
-        requires unreset { is_reset self.old.states id ≡ false }
         ensures sound { IfOk result IsSound }
-        ensures written { IfOk result (λ frame. Heads frame self.old self.new) }
+        ensures begins { IfOk result (λ frame. BeginsBlock id ends bytes frame self.old self.new) }
         ensures tells { IfOk result (λ frame. TellsBlock id ends bytes frame self.old self.new) }
-        ensures ends { OnOk result (Ends self.old.states id ends self.new.states) }
-        ensures owed { OnOk result (SameOwed self.old.states self.new.states) }
-        ensures open { OnOk result (SameOpen self.old.states self.new.states) }
-        ensures rest { OnOk result (self.new ≡ record self.old { states = self.new.states; block = self.new.block }) }
     {
-        end_if(&mut self.states, id, ends)?;
         let block = HeaderBlock {
             id,
             ends,
@@ -249,19 +241,4 @@ impl Outbound {
         self.block = rest;
         Ok(frame)
     }
-}
-
-/// Notes that a stream's END_STREAM is written, where it is.
-fn end_if(states: &mut StreamStates, id: StreamId, ends: bool) -> Result<(), AllocError>
-    requires stream { 0 < id }
-    requires number { id < 2 ^ 31 }
-    ensures ends { OnOk result (Ends states.old id ends states.new) }
-    ensures owed { OnOk result (SameOwed states.old states.new) }
-    ensures open { OnOk result (SameOpen states.old states.new) }
-    ensures windows { OnOk result (Moves states.old (closing id ends) states.new) }
-{
-    if ends {
-        return states.end(id, Over::EndStream);
-    }
-    Ok(())
 }

@@ -1,6 +1,6 @@
 use Rattle.outwriter.specs.Polls.{coming}
 use Rattle.outwriter.proofs.ServeStepsTake.{polled-at, ahead-elsewhere, lanes-same}
-use Rattle.outwriter.proofs.next.poll_at.Goals as goal
+use Rattle.outwriter.proofs.stream.poll_at.Goals as goal
 
 pub returns-in-Some-clause-takes : goal.returns-in-Some-clause-takes
 returns-in-Some-clause-takes g c =
