@@ -1,4 +1,5 @@
-//! Writing the frames of calls: one stream of long replies, and 64 streams of small ones, over windows that don't bind.
+//! Writing the frames of calls: one stream of long replies, 64 streams of small ones, and one small reply at a time on a
+//! stream of 64 or of one, over windows that don't bind.
 
 use crate::sizes::number;
 use account::OutItem;
@@ -103,20 +104,26 @@ fn push_frame(frame: &Frame, out: &mut Vec<u8>) -> Result<()> {
 fn write_all(alloc: Global, core: &mut OutCore<Ring>) -> Result<Count> {
     let mut out = Vec::new(alloc);
     let mut count = NOTHING;
+    write_some(core, &mut out, &mut count)?;
+    count.bytes = count.bytes.wrapping_add(out.len() as u64);
+    Ok(count)
+}
+
+/// Writes what there is now. The bytes that left the buffer are counted.
+fn write_some(core: &mut OutCore<Ring>, out: &mut Vec<u8>, count: &mut Count) -> Result<()> {
     for _ in 0..u64::MAX {
         let next = core.next_frame().ok().context("no memory is left")?;
         let Next::Frame(frame) = next else {
             break;
         };
-        push_frame(&frame, &mut out)?;
+        push_frame(&frame, out)?;
         count.frames = count.frames.wrapping_add(1);
         if out.len() >= ENOUGH {
             count.bytes = count.bytes.wrapping_add(out.len() as u64);
             out.clear();
         }
     }
-    count.bytes = count.bytes.wrapping_add(out.len() as u64);
-    Ok(count)
+    Ok(())
 }
 
 /// So many calls of so many replies each, which are all given.
@@ -193,6 +200,70 @@ fn small_calls(streams: u32, replies: usize) -> Calls {
     }
 }
 
+/// Opens calls that give their heads, and no more yet.
+fn stand(alloc: Global, core: &mut OutCore<Ring>, streams: u32) -> Result<Vec<Giver<Ring>>> {
+    widen(alloc, core)?;
+    let mut givers = Vec::new(alloc);
+    for index in 0..streams {
+        let id = index.wrapping_mul(2).wrapping_add(1);
+        let (mut giver, sender) = open_out::<Ring>(alloc, id, ROOM)?;
+        let head = field(alloc, ":status", "200")?;
+        giver.head(head).ok().context("the head is refused")?;
+        tell(core, Control::Open(id, sender))?;
+        givers.push(giver)?;
+    }
+    Ok(givers)
+}
+
+/// Gives so many small replies, each on the stream behind the last one's, and writes each before the next is given.
+fn write_each(
+    alloc: Global,
+    core: &mut OutCore<Ring>,
+    givers: &mut Vec<Giver<Ring>>,
+    replies: usize,
+) -> Result<Count> {
+    let reply = Bytes::from_vec(vec![in alloc; 0; SMALL_LEN]?)?;
+    let mut out = Vec::new(alloc);
+    let mut count = NOTHING;
+    for index in 0..replies {
+        let place = index.checked_rem(givers.len()).unwrap_or(0);
+        let giver = givers.get_mut(place).context("no call stands")?;
+        if giver.has_head() {
+            giver.give(reply.clone()?).ok().context("a reply is refused")?;
+        }
+        write_some(core, &mut out, &mut count)?;
+    }
+    count.bytes = count.bytes.wrapping_add(out.len() as u64);
+    Ok(count)
+}
+
+/// What is written of so many replies, one at a time, while so many calls stand, and the time that giving and writing took.
+fn each_written(
+    rt: &(impl Clock + AllocGlobal),
+    streams: u32,
+    replies: usize,
+) -> Result<(Count, Duration)> {
+    let mut core = OutCore::<Ring>::new(rt.alloc());
+    let mut givers = stand(rt.alloc(), &mut core, streams)?;
+    let _heads = write_all(rt.alloc(), &mut core)?;
+    let start = Instant::now(rt)?;
+    let count = write_each(rt.alloc(), &mut core, &mut givers, replies)?;
+    Ok((count, start.elapsed(rt)?))
+}
+
+/// `outwriter-each REPLIES`: prints the frames, their bytes and the nanoseconds of so many small replies, one at a time, of
+/// 64 calls in turn.
+pub fn each(rt: &(impl Clock + AllocGlobal + Print), sizes: &[String]) -> Result<()> {
+    let (count, spent) = each_written(rt, STREAMS, number(sizes, 0)?)?;
+    print_count(rt, count, spent)
+}
+
+/// `outwriter-one REPLIES`: the same where one call stands.
+pub fn one(rt: &(impl Clock + AllocGlobal + Print), sizes: &[String]) -> Result<()> {
+    let (count, spent) = each_written(rt, 1, number(sizes, 0)?)?;
+    print_count(rt, count, spent)
+}
+
 fn print_count(rt: &impl Print, count: Count, spent: Duration) -> Result<()> {
     let Count { frames, bytes } = count;
     let nanos = spent.as_nanos();
@@ -205,5 +276,7 @@ pub fn small(rt: &(impl Clock + AllocGlobal + Print)) -> Result<()> {
     println!(rt; "outwriter-long: {frames} frames, {bytes} bytes")?;
     let (Count { frames, bytes }, _spent) = written(rt, small_calls(3, 4))?;
     println!(rt; "outwriter-small: {frames} frames, {bytes} bytes")?;
+    let (Count { frames, bytes }, _spent) = each_written(rt, 3, 4)?;
+    println!(rt; "outwriter-each: {frames} frames, {bytes} bytes")?;
     Ok(())
 }
