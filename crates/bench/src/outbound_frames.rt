@@ -229,7 +229,10 @@ fn write_each(
         let place = index.checked_rem(givers.len()).unwrap_or(0);
         let giver = givers.get_mut(place).context("no call stands")?;
         if giver.has_head() {
-            giver.give(reply.clone()?).ok().context("a reply is refused")?;
+            giver
+                .give(reply.clone()?)
+                .ok()
+                .context("a reply is refused")?;
         }
         write_some(core, &mut out, &mut count)?;
     }
