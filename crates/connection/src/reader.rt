@@ -45,7 +45,7 @@ use std::time::{Clock, Duration, Instant};
 /// How many bytes are read at a time: the DATA that a window lets through, with the heads of its frames.
 const PIECE: usize = 65_664;
 
-/// From how many bytes on the writer isn't rung for what came: it is DATA, and the calls ring once they have taken that.
+/// From how many bytes on the writer isn't rung for what came, where it is DATA that are fed to calls: these ring once they have taken that.
 const LARGE_PIECE: usize = 8_192;
 
 /// How long the reader waits for a slot before it looks again, in milliseconds.
@@ -595,10 +595,14 @@ where
     }
 
     /// Bytes came that count on the connection alone.
-    fn loose(&self, intake: &mut Intake<A, B, C>, flow: u32) -> Option<ErrorCode>
+    fn loose(&mut self, intake: &mut Intake<A, B, C>, flow: u32) -> Option<ErrorCode>
         requires whole { (intake.old.came.parts ≡ A.parts) × (0 < A.parts) × (intake.old.calls.parts ≡ B.parts) × (0 < B.parts) }
         ensures whole { (intake.new.came.parts ≡ A.parts) × (0 < A.parts) × (intake.new.calls.parts ≡ B.parts) × (0 < B.parts) }
+        ensures slots { self.new.slots ≡ self.old.slots }
+        ensures holds { HoldsReasons self.old self.new }
+        ensures noted { self.new.orders.are_unrung ≡ true }
     {
+        self.orders.note_credit();
         match intake.receive(&self.rt, 0, flow, 0) {
             Receipt::Overrun => Some(ErrorCode::FlowControlError),
             Receipt::Feed | Receipt::Discard | Receipt::CallWindow => None,
@@ -615,10 +619,12 @@ where
         }
     }
 
-    /// What comes for a call that is no longer live is fed to no one. So the call is never told that its half has ended, but its stream is reset.
+    /// What comes for a call that is no longer live is fed to no one, and returned at once. So the call is never told that its half has ended,
+    /// but its stream is reset.
     fn miss(&mut self, id: StreamId, bytes: &Bytes)
         ensures heard { (counted : ℕ) → ReadsAll M.names (events.Data id bytes.now counted ∷ []) self.old self.new }
     {
+        self.orders.note_credit();
         if bytes.is_empty() {
             return;
         }

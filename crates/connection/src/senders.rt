@@ -105,6 +105,15 @@ impl Senders {
         has_told
     }
 
+    /// Wakes the worker of the call of this stream, where a slot has it: so it looks whether the call is live still.
+    pub(crate) fn wake(&self, id: StreamId) {
+        for place in &self.places {
+            if place.id == id {
+                place.slot.bell.ring();
+            }
+        }
+    }
+
     /// A slot's first call begins.
     fn add(&mut self, id: StreamId, fresh: Fresh) -> Result<Control<Sender<OutLane>>, Untaken>
         ensures unused { IfOk result (IsUnused got) }

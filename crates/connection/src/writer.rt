@@ -216,7 +216,7 @@ impl<A: Ledger, B: Ledger, C: Ledger, W: ConnWrite + Drop, G: Gate + Drop> Write
         }
     }
 
-    /// The writer has ended a stream, or at 0 the connection.
+    /// The writer has ended a stream, or at 0 the connection. The worker of the stream's call is woken, to leave it.
     fn end(&mut self, rt: &impl Wait, id: StreamId)
         ensures frames { self.new.frames ≡ self.old.frames }
         ensures orders { self.new.orders ≡ self.old.orders }
@@ -227,6 +227,8 @@ impl<A: Ledger, B: Ledger, C: Ledger, W: ConnWrite + Drop, G: Gate + Drop> Write
         } else {
             self.call_off(id);
             self.outlet.shared.book.lock(rt).cut(id);
+            // Only now, so that the worker sees that the call is no longer live.
+            self.senders.wake(id);
         }
     }
 

@@ -13,10 +13,10 @@ pub returns-in-Data-clause-some : goal.returns-in-Data-clause-some
 returns-in-Data-clause-some g c = some-as _ _ _ _ c.in-Data.is c.data.ensures.some
 
 pub returns-in-Loose-clause-heard : goal.returns-in-Loose-clause-heard
-returns-in-Loose-clause-heard g c = λ ok. reads-as _ _ _ _ c.in-Loose.is (reads-idle _ _ _ Plain (λ id reason. reason) (idle-loose _) refl (λ id. refl))
+returns-in-Loose-clause-heard g c = λ ok. reads-as _ _ _ _ c.in-Loose.is (reads-idle _ _ _ Plain c.loose.ensures.holds (idle-loose _) c.loose.ensures.slots (λ id. refl))
 
 pub returns-in-Loose-clause-some : goal.returns-in-Loose-clause-some
-returns-in-Loose-clause-some g c = some-all _ _ _ (reads-as _ _ _ _ c.in-Loose.is (reads-idle _ _ _ Plain (λ id reason. reason) (idle-loose _) refl (λ id. refl)))
+returns-in-Loose-clause-some g c = some-all _ _ _ (reads-as _ _ _ _ c.in-Loose.is (reads-idle _ _ _ Plain c.loose.ensures.holds (idle-loose _) c.loose.ensures.slots (λ id. refl)))
 
 pub returns-in-Fatal-clause-heard : goal.returns-in-Fatal-clause-heard
 returns-in-Fatal-clause-heard g c = λ ok. reads-as _ _ _ _ c.in-Fatal.is (reads-idle _ _ _ Plain (λ id reason. reason) (idle-fatal _) refl (λ id. refl))
