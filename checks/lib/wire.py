@@ -222,7 +222,7 @@ class Peer:
 
 
 class Server:
-    """`interop serve`, which ends by itself behind so many connections."""
+    """`interop serve`, which ends by itself behind so many connections, or never where none are named."""
 
     def __init__(self, program, connections, *options, **environment):
         # A port that was free a moment ago may be had by another program by now.
@@ -230,7 +230,8 @@ class Server:
             with socket.socket() as free:
                 free.bind(("127.0.0.1", 0))
                 self.port = free.getsockname()[1]
-            words = [program, "serve", "--port", str(self.port), "--conns", str(connections), *options]
+            ends = ["--conns", str(connections)] if connections else []
+            words = [program, "serve", "--port", str(self.port), *ends, *options]
             how = {"stdin": subprocess.DEVNULL, "stdout": subprocess.PIPE, "env": {**os.environ, **environment}}
             self.process = subprocess.Popen(words, **how)
             if self.process.stdout.readline() or self.ends(10) != 3:

@@ -1,19 +1,25 @@
-//! The program `interop`: what a gRPC client sent, read and printed.
+//! The program `interop`: the gRPC interop test server, and the client that tries such a server.
 //!
-//! `interop body --cut N` reads the joined DATA bytes of one call as hexadecimal text, takes them
-//! in pieces of N bytes, and prints the messages that they spell (gRPC over HTTP/2,
-//! "Length-Prefixed-Message"), then the end or the fault. It reads all of its input before it
-//! prints anything, and its text is a function of that input, in whatever pieces.
+//! It has five commands:
+//!
+//! - `interop serve --port P` serves `grpc.testing.TestService` on a port of 127.0.0.1.
+//! - `interop case NAME --port P` runs test cases as a client, against whatever server listens there.
+//! - `interop self` runs them against a server of its own.
+//! - `interop parts` serves the bytes of one connection, read as hexadecimal text, and prints what they are answered with.
+//! - `interop body --cut N` reads the joined DATA bytes of one call as hexadecimal text, takes them in pieces of N bytes, and
+//!   prints the messages that they spell (gRPC over HTTP/2, "Length-Prefixed-Message"), then the end or the fault. It reads all of
+//!   its input before it prints anything, and its text is a function of that input, in whatever pieces.
 //!
 //! Read in this order:
 //!
-//! - `words`: what the words of the command line mean, by `clap`.
+//! - `server` and `port`: `interop serve` and `interop self`; `served`: what `serve --report` tells.
+//! - `client` and `target`: `interop case`.
+//! - `parts`, `memory` and `streams`: `interop parts`.
+//! - `words`: what the words of `interop body` mean, by `clap`.
 //! - `body`: the command, over any device (the crate `device`); `specs/Body.antt` says what it prints.
 //! - `text`: hexadecimal text into bytes.
 //! - `call`: the events of a call whose bytes come in pieces.
 //! - `report`: the lines that tell messages, the end and faults.
-//! - `client` and `target`: `interop case`.
-//! - `server` and `port`: `interop serve` and `interop self`; `served`: what `serve --report` tells. `parts`, `memory` and `streams`: `interop parts`.
 #![tactic(auto)]
 
 ghost use Rattle.std.specs.Prelude.{◌<◌};
@@ -86,21 +92,34 @@ Usage: interop [body --cut N]
   serve --port P serve grpc.testing.TestService on port P of 127.0.0.1, until it is
                  interrupted, or N connections were served; with --report print a line of
                  each connection that ends, and of each call on it
-  -h, --help     print this text
+  -h, --help     print this text, also behind a command
   --version      print the version
 
-Exit status: 0 done, 1 a case failed, 2 bad arguments or input, 3 input, output or memory failed.";
+The cases, in the order in which case all runs them: empty_unary, large_unary,
+client_streaming, server_streaming, ping_pong, empty_stream, custom_metadata,
+status_code_and_message, special_status_message, unimplemented_method,
+unimplemented_service, cancel_after_begin, cancel_after_first_response,
+timeout_on_sleeping_server.
 
-// What is said to a lone word about the program itself.
+Exit status: 0 done, 1 a case failed, 2 bad arguments or input, 3 input, output, memory or
+the port failed; why a port can't be had is told on standard error.";
+
+// What is said to words that ask about the program itself: one of them alone, or the one for help behind a command.
 fn self_description(words: &[String]) -> Option<&'static str> {
     match words {
-        [word] => match word.as_str() {
-            "-h" | "--help" => Some(HELP),
-            "--version" => Some(VERSION),
-            _ => None,
-        },
+        [word] if word.as_str() == "--version" => Some(VERSION),
+        [word] if is_help(word.as_str()) => Some(HELP),
+        [command, word] if is_command(command.as_str()) && is_help(word.as_str()) => Some(HELP),
         _ => None,
     }
+}
+
+fn is_help(word: &str) -> bool {
+    matches!(word, "-h" | "--help")
+}
+
+fn is_command(word: &str) -> bool {
+    matches!(word, "body" | "case" | "parts" | "self" | "serve")
 }
 
 // Reports on standard output on the call in standard input, and answers the exit status.
@@ -206,6 +225,12 @@ where
     R: Net<Stream = TcpStream, Listener = TcpListener> + Input + Print + Eprint + AllocGlobal,
     R: Threads + Wait + Clock + Copy + Send + Sync + Drop + 'static,
 {
+    if let Some(text) = self_description(words) {
+        return match println!(rt; "{text}") {
+            Ok(()) => 0,
+            Err(_) => FAILED,
+        };
+    }
     if let Some((command, behind)) = words.split_first() {
         match command.as_str() {
             "case" => return obey_case(rt, behind),
@@ -217,12 +242,6 @@ where
             }
             _ => {}
         }
-    }
-    if let Some(text) = self_description(words) {
-        return match println!(rt; "{text}") {
-            Ok(()) => 0,
-            Err(_) => FAILED,
-        };
     }
     match words::read_words(rt.alloc(), words) {
         Ok(Words::Body(cut)) => print_body(rt, cut),

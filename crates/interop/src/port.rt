@@ -1,7 +1,8 @@
 //! The threads that serve a port.
 //!
-//! Each takes a connection, serves it to its end, and takes the next one. So a client that makes a connection a call waits
-//! for no thread to start. A connection that stays keeps its thread, and one more is started for those that come.
+//! Where all connections that come are served, each thread takes one, serves it to its end, and takes the next one. So a client
+//! that makes a connection a call waits for no thread to start. A connection that stays keeps its thread, and one more is started
+//! for those that come. Where only so many are served, each has a thread of its own.
 
 use crate::served::report_of;
 use connection::{OpenGate, Served, serve_connection};
@@ -25,10 +26,10 @@ const MOST_WAITING: usize = 16;
 /// How long no connection is taken after one could not be, in milliseconds.
 const PAUSE: u64 = 10;
 
-/// How long a thread sleeps at most before it looks whether more are wanted, in seconds.
+/// How long a thread sleeps at most before it looks again at what it waits for, in seconds.
 const LOOK: u64 = 3600;
 
-/// A port, and the threads that wait for a connection to it.
+/// A port, and how many threads wait for a connection to it. One that can't take any for now still counts.
 #[derive(Drop)]
 struct Port {
     listener: TcpListener,
@@ -63,10 +64,15 @@ where
         if port.waiting.load(Ordering::SeqCst) >= WAITING {
             port.wanted.wait_past(&rt, mark, Duration::from_secs(LOOK));
         } else if start(rt, alloc, &port, methods).is_err() {
-            let _ = thread::sleep(&rt, Duration::from_millis(PAUSE));
+            pause(&rt);
         }
     }
     unreachable!()
+}
+
+/// Sleeps until another connection may be taken, or another thread started.
+fn pause(rt: &impl Clock) {
+    let _ = thread::sleep(rt, Duration::from_millis(PAUSE));
 }
 
 /// Starts one more thread. That none can be made counts as want of memory.
@@ -98,28 +104,109 @@ where
     R: Print + Threads + Wait + Clock + Copy + Send + Sync + Drop + 'static,
 {
     for _ in rt.forever() {
-        let accepted = port.listener.accept();
+        let Ok((stream, peer)) = port.listener.accept() else {
+            pause(&rt);
+            continue;
+        };
         let before = port.waiting.fetch_sub(1, Ordering::SeqCst);
         if before <= 1 {
             port.wanted.ring();
         }
-        let served = match accepted {
-            Ok((stream, peer)) => serve_stream(rt, alloc, stream, peer, methods, port.has_report),
-            Err(error) => Err(error),
-        };
-        if served.is_err() {
-            let _ = thread::sleep(&rt, Duration::from_millis(PAUSE));
-        }
+        let served = serve_stream(rt, alloc, stream, peer, methods, port.has_report);
         let waiting = port.waiting.fetch_add(1, Ordering::SeqCst);
         if waiting >= MOST_WAITING {
             port.waiting.fetch_sub(1, Ordering::SeqCst);
             return;
         }
+        if served.is_err() {
+            pause(&rt);
+        }
+    }
+}
+
+/// How many connections are being served.
+#[derive(Drop)]
+struct Live {
+    count: AtomicUsize,
+    /// Rung where one has ended.
+    ended: Bell,
+}
+
+/// Serves so many connections, and returns where all of them have ended.
+pub fn serve_some<R>(
+    rt: R,
+    alloc: Global,
+    listener: &TcpListener,
+    methods: &Arc<Methods>,
+    count: u16,
+    has_report: bool,
+) -> Result<(), AllocError>
+where
+    R: Print + Threads + Wait + Clock + Copy + Send + Sync + Drop + 'static,
+{
+    let live = Arc::new(
+        alloc,
+        Live {
+            count: AtomicUsize::new(0),
+            ended: Bell::new(),
+        },
+    )?;
+    let mut left = count;
+    for _ in rt.forever() {
+        if left == 0 {
+            break;
+        }
+        if serve_next(rt, alloc, listener, methods, has_report, &live).is_ok() {
+            left -= 1;
+        } else {
+            pause(&rt);
+        }
+    }
+    wait_for_ends(&rt, &live);
+    Ok(())
+}
+
+/// Takes the next connection, and serves it in a thread of its own. One that no thread can be made for is ended.
+fn serve_next<R>(
+    rt: R,
+    alloc: Global,
+    listener: &TcpListener,
+    methods: &Arc<Methods>,
+    has_report: bool,
+    live: &Arc<Live>,
+) -> io::Result<()>
+where
+    R: Print + Threads + Wait + Clock + Copy + Send + Sync + Drop + 'static,
+{
+    let shared = Arc::try_clone(live)?;
+    let methods = Arc::try_clone(methods)?;
+    let (stream, peer) = listener.accept()?;
+    live.count.fetch_add(1, Ordering::SeqCst);
+    let serving = thread::spawn(&rt, move || {
+        let _served = serve_stream(rt, alloc, stream, peer, &methods, has_report);
+        shared.count.fetch_sub(1, Ordering::SeqCst);
+        shared.ended.ring();
+    });
+    if serving.is_err() {
+        live.count.fetch_sub(1, Ordering::SeqCst);
+        return Err(io::Error::from(io::ErrorKind::OutOfMemory));
+    }
+    Ok(())
+}
+
+/// Waits until no connection is being served.
+fn wait_for_ends<R: Wait>(rt: &R, live: &Live) {
+    for _ in rt.forever() {
+        let mark = live.ended.mark();
+        if live.count.load(Ordering::SeqCst) == 0 {
+            return;
+        }
+        live.ended.wait_past(rt, mark, Duration::from_secs(LOOK));
     }
 }
 
 /// Serves a connection to its end, and prints the report on it where there is to be one. It fails where nothing was read of it.
-pub fn serve_stream<R>(
+fn serve_stream<R>(
     rt: R,
     alloc: Global,
     stream: TcpStream,

@@ -6,7 +6,7 @@ ghost use Rattle.cases.specs.Report.{all_cases, have_passed, lines_of};
 ghost use Rattle.cases.specs.declared.report.Outcome.{Outcome};
 
 use crate::client::run_all_cases;
-use crate::port::{serve_all, serve_stream};
+use crate::port::{serve_all, serve_some};
 use crate::target::{LOOPBACK, Target, read_number};
 use cases::ReportFault;
 use device::ConnWrite;
@@ -14,7 +14,7 @@ use handlers::Methods;
 use std::alloc::Global;
 use std::net::{Net, TcpListener, TcpStream};
 use std::sync::{Arc, Wait};
-use std::thread::{JoinHandle, Threads};
+use std::thread::Threads;
 use std::time::Clock;
 use std::{io, thread};
 
@@ -90,11 +90,11 @@ fn read_serve_words(words: &[String]) -> Option<ServeWords> {
     })
 }
 
-/// Listens on the port of 127.0.0.1, and serves `grpc.testing.TestService` on each connection in a thread of its own: on all
-/// that come, or on as many as the words say. It fails where the port can't be had.
+/// Listens on the port of 127.0.0.1, and serves `grpc.testing.TestService`: on all connections that come, by threads that take one
+/// after another, or on as many as the words say, each in a thread of its own. It fails where the port can't be had.
 pub fn serve<R>(rt: R, methods: &Arc<Methods>, words: ServeWords) -> io::Result<()>
 where
-    R: Net<Stream = TcpStream, Listener = TcpListener> + Print + AllocGlobal,
+    R: Net<Stream = TcpStream, Listener = TcpListener> + Print + Eprint + AllocGlobal,
     R: Threads + Wait + Clock + Copy + Send + Sync + Drop + 'static,
 {
     let alloc = rt.alloc();
@@ -102,13 +102,24 @@ where
     let listener = listen(&rt, alloc, port)?;
     println!(rt; "listening {LOOPBACK}:{port}")?;
     match words.connections {
-        Some(count) => serve_some(rt, alloc, &listener, methods, count, words.has_report),
-        None => Ok(serve_all(rt, alloc, listener, methods, words.has_report)?),
+        Some(count) => serve_some(rt, alloc, &listener, methods, count, words.has_report)?,
+        None => serve_all(rt, alloc, listener, methods, words.has_report)?,
     }
+    Ok(())
 }
 
-/// Listens on the port of 127.0.0.1. It fails where the port can't be had.
-pub fn listen<R: Net>(rt: &R, alloc: Global, port: u16) -> io::Result<R::Listener> {
+/// Listens on the port of 127.0.0.1. Where it can't be had, a line on standard error names it and says why.
+pub fn listen<R: Net + Eprint>(rt: &R, alloc: Global, port: u16) -> io::Result<R::Listener> {
+    let listening = bind(rt, alloc, port);
+    if let Err(error) = &listening {
+        // The exit status tells of it even where nothing can be said here.
+        let _said = eprintln!(rt; "interop: port {port} can't be had: {error}");
+    }
+    listening
+}
+
+/// Listens on the port of 127.0.0.1.
+fn bind<R: Net>(rt: &R, alloc: Global, port: u16) -> io::Result<R::Listener> {
     let address = format!(in alloc; "{LOOPBACK}:{port}")?;
     TcpListener::bind(rt, address.as_str())
 }
@@ -143,48 +154,4 @@ where
         port,
     };
     run_all_cases(&rt, alloc, target, output)
-}
-
-/// Serves so many connections, to the end of each.
-fn serve_some<R>(
-    rt: R,
-    alloc: Global,
-    listener: &TcpListener,
-    methods: &Arc<Methods>,
-    count: u16,
-    has_report: bool,
-) -> io::Result<()>
-where
-    R: Print + Threads + Wait + Clock + Copy + Send + Sync + Drop + 'static,
-{
-    let mut served = Vec::new(alloc);
-    for _ in 0..count {
-        served.push(serve_next(rt, alloc, listener, methods, has_report)?)?;
-    }
-    for connection in served {
-        connection.join(&rt);
-    }
-    Ok(())
-}
-
-/// Takes the next connection, and serves it in a thread of its own.
-fn serve_next<R>(
-    rt: R,
-    alloc: Global,
-    listener: &TcpListener,
-    methods: &Arc<Methods>,
-    has_report: bool,
-) -> io::Result<JoinHandle<()>>
-where
-    R: Print + Threads + Wait + Clock + Copy + Send + Sync + Drop + 'static,
-{
-    let (stream, peer) = listener.accept()?;
-    let methods = Arc::try_clone(methods)?;
-    let serving = thread::spawn(&rt, move || {
-        let _served = serve_stream(rt, alloc, stream, peer, &methods, has_report);
-    });
-    match serving {
-        Ok(handle) => Ok(handle),
-        Err(_refused) => Err(io::Error::from(io::ErrorKind::OutOfMemory)),
-    }
 }
