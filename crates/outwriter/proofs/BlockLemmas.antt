@@ -1,11 +1,11 @@
 -- The frames of a header block, from the fragment that was cut off.
-use Rattle.std.proofs.Common.{◌≡◌, ◌<◌, ◌^◌, ℕ, Bool, subst, refl, true, false, sym, ap, ◌∙◌, List, take, drop, length, Some, None, min}
+use Rattle.std.proofs.Common.{◌≡◌, ℕ, true, false, sym, ap, ◌∙◌, List, take, drop, length, Some, None, min}
 use Rattle.std.specs.Prelude.{nat_le, if◌then◌else◌}
 use Rattle.std.proofs.lemmas.List.{take_min, drop_min}
 use Rattle.h2frame.specs.declared.frame.Frame.{Frame}
 use Rattle.outwriter.specs.declared.blocks.HeaderBlock.{HeaderBlock}
 use Rattle.outwriter.specs.Blocks.{is_short, frame_of, rest_of}
-use Rattle.outwriter.specs.Frames.{IsSound, headers_frame, continuation_frame}
+use Rattle.outwriter.specs.Frames.{headers_frame, continuation_frame}
 
 module _ (block : HeaderBlock) (len cut : ℕ) (len_is : len ≡ length block.rest) (cut_is : cut ≡ min 16384 (length block.rest)) where
   same_whole : nat_le len 16384 ≡ is_short block
@@ -35,23 +35,3 @@ module _ (block : HeaderBlock) (len cut : ℕ) (len_is : len ≡ length block.re
   rest_of-left rest long is =
       ap (λ (r : List ℕ). Some (record { id = block.id; ends = block.ends; begun = true; rest = r })) (is ∙ ap (λ n. drop n block.rest) cut_is ∙ drop_min 16384 block.rest)
       ∙ sym (ap (λ b. if b then None else Some (record { id = block.id; ends = block.ends; begun = true; rest = drop 16384 block.rest })) (sym same_whole ∙ long))
-
--- a fragment can be spelled
-sound-headers : (id : ℕ) (ends whole : Bool) (fragment : List ℕ) → id < 2 ^ 31 → IsSound (headers_frame id ends whole fragment)
-sound-headers id false false fragment small = (refl, small, refl, refl, refl)
-sound-headers id false true fragment small = (refl, small, refl, refl, refl)
-sound-headers id true false fragment small = (refl, small, refl, refl, refl)
-sound-headers id true true fragment small = (refl, small, refl, refl, refl)
-
-sound-continuation : (id : ℕ) (whole : Bool) (fragment : List ℕ) → id < 2 ^ 31 → IsSound (continuation_frame id whole fragment)
-sound-continuation id false fragment small = (refl, small, refl, refl, refl)
-sound-continuation id true fragment small = (refl, small, refl, refl, refl)
-
--- so can the next frame of a block
-pub sound-frame : (block : HeaderBlock) (frame : Frame) → frame ≡ frame_of block → block.id < 2 ^ 31 → IsSound frame
-sound-frame block frame is small = subst IsSound (sym is) (by block.begun)
-  where
-    by : (b : Bool) → IsSound (if b then continuation_frame block.id (is_short block) (take 16384 block.rest)
-        else headers_frame block.id block.ends (is_short block) (take 16384 block.rest))
-    by true = sound-continuation block.id (is_short block) (take 16384 block.rest) small
-    by false = sound-headers block.id block.ends (is_short block) (take 16384 block.rest) small

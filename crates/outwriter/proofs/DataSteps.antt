@@ -20,6 +20,7 @@ use Rattle.outwriter.specs.ToldByNow.{Spells, SpellsOf, TellsMore}
 use Rattle.outwriter.proofs.EndSteps.{data-written}
 use Rattle.outwriter.proofs.RunStateSteps.{mirrors-but-open, mirrors-moved}
 use Rattle.outwriter.proofs.ServeSteps.{append-nil}
+use Rattle.outwriter.proofs.SoundFrames.{sound-data}
 use Rattle.outwriter.proofs.TellSteps.{plain-tells}
 
 -- ---- what is taken
@@ -60,7 +61,7 @@ module _ (o after : Outbound) (id : ℕ) (message rest : List ℕ) (between : Is
   data-progress looked.Empty takes = let same = same-windows o after is takes.1 in (λ run m. mirrors-but-open run o after same m, between-still o after same between)
 
   pub data-sound : (found : Looked) → TakesData id o.states.windows after.states.windows message rest found → IfSome (frame_in found) IsSound
-  data-sound (looked.Frame frame) takes = subst IsSound (sym takes.2) (refl, can.number, refl, refl, refl)
+  data-sound (looked.Frame frame) takes = subst IsSound (sym takes.2) (sound-data id takes.0 can.stream can.number takes.4)
   data-sound looked.Nothing takes = tt
   data-sound looked.Empty takes = tt
 

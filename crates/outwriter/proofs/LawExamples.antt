@@ -1,27 +1,36 @@
 -- The law of runs on examples: a run that is lawful, and for each rule a frame that isn't.
-use Rattle.std.proofs.Common.{◌≡◌, ℕ, ◌<◌, ◌≤◌, ◌⊎◌, inl, inr, refl, sym, ap, subst, Bool, true, false, List, [], ◌∷◌, ◌==◌, arith, ◌∙◌, true≢false}
-use Rattle.std.specs.Prelude.{sum_by, ◌+◌, if◌then◌else◌}
+use Rattle.std.proofs.Common.{◌≡◌, ℕ, ◌<◌, ◌≤◌, ◌⊎◌, inl, inr, refl, sym, ap, subst, Bool, true, false, List, [], ◌∷◌, ◌==◌, Option, length, arith, ◌∙◌, true≢false}
+use Rattle.std.specs.Prelude.{sum_by, ◌+◌, if◌then◌else◌, is_some}
+use Rattle.std.specs.Int.{from_be_bytes, w32}
 use Rattle.std.specs.List.{list_all}
 use Rattle.std.proofs.lemmas.Bool.{eqb-true}
+use Rattle.std.proofs.lemmas.List.Elements.{All-cons, All-nil}
 use Rattle.std.proofs.lemmas.List.Sums.{sum_by-cons}
 use Rattle.account.specs.Accounts.{Begins}
-use Rattle.flow.specs.WindowHistory.{Opening, room_after}
+use Rattle.flow.specs.WindowHistory.{CanResize, Opening, Resizing, room_after}
 use Rattle.flow.specs.WindowHistory.{Step as WindowStep}
-use Rattle.h2frame.specs.declared.error_code.ErrorCode.TheVariants.{Cancel}
+use Rattle.h2frame.specs.declared.error_code.ErrorCode.{ErrorCode}
+use Rattle.h2frame.specs.declared.error_code.ErrorCode.TheVariants.{Cancel, InternalError, NoError}
+use Rattle.h2frame.specs.declared.fault.FrameFault.{FrameFault}
 use Rattle.h2frame.specs.declared.frame.Frame.{Frame}
 use Rattle.h2frame.specs.declared.kind.FrameKind.{FrameKind}
+use Rattle.h2frame.specs.declared.settings.PeerSetting.TheVariants.{TableSize, WindowSize}
 use Rattle.h2frame.specs.Faults.{increment_of}
+use Rattle.h2frame.specs.Flags.{end_stream}
 use Rattle.h2frame.specs.declared.kind.FrameKind.TheVariants as kind
 use Rattle.outwriter.specs.declared.control.Control.TheVariants as order
-use Rattle.outwriter.specs.Frames.{update_kind, update_on, first_settings, settings_ack, ping_ack, reset_frame, goaway_frame, update_frame, data_frame, headers_frame, continuation_frame, is_data}
-use Rattle.outwriter.specs.Histories.{HasHistory}
-use Rattle.outwriter.specs.Runs.{MayWrite, MayFollowEnd, MayFollowReset, IsLawful, updated, granted, owed}
+use Rattle.outwriter.specs.Frames.{frame_with, update_kind, update_on, first_settings, settings_ack, ping_ack, reset_frame, goaway_frame, update_frame, data_frame, headers_frame, continuation_frame, is_data}
+use Rattle.outwriter.specs.Histories.{HasHistory, Takes}
+use Rattle.outwriter.specs.Parts.{Mark, Tells}
+use Rattle.outwriter.specs.Runs.{MayWrite, MayFollowEnd, MayFollowReset, IsLawful, IsAsked, AreAmong, updated, granted, owed}
 use Rattle.outwriter.specs.Steps.{Step, Taken, Granted, Written, frames_of}
 use Rattle.outwriter.specs.Examples.{crediting}
 use Rattle.outwriter.specs.RunState.{IsAnswered}
+use Rattle.hpack_codec.specs.Table.{Table}
 use Rattle.hpack_codec.proofs.HuffmanTable.{and_true}
 use Rattle.outwriter.proofs.FrameSteps.{no-updates}
 use Rattle.outwriter.proofs.EndSteps.{told-amount}
+use Rattle.outwriter.proofs.SoundFrames.{sound-settings, sound-reset, sound-update, sound-data, sound-headers, sound-continuation}
 
 -- SETTINGS were written
 abbrev begun : List Step
@@ -40,6 +49,28 @@ closed-stream m =
     let none : fits.0 ≡ [] = subst (λ (earlier : List WindowStep). fits.0 ≡ earlier) fits.1.1 fits.1.2 in
     let room : 1 ≤ room_after [] 1 = subst (λ (history : List WindowStep). 1 ≤ room_after history 1) none fits.2 in
     omega (arith, room)
+
+-- nor may it have more bytes than a window has left, here of 1
+abbrev narrow : List Step
+narrow = Taken (order.Settings (WindowSize 1 ∷ [])) ∷ begun
+
+narrowed : (next : List WindowStep) → Takes begun [] (order.Settings (WindowSize 1 ∷ [])) next → next ≡ Resizing 1 ∷ []
+narrowed next (inl set) = set.1
+narrowed next (inr unset) = absurd (unset.0 (All-cons (CanResize []) 1 [] (omega arith, λ id some. tt) (All-nil (CanResize []))))
+
+pub past-the-window : ¬ MayWrite (Taken (order.Open 1 tt) ∷ narrow) (data_frame 1 (7 ∷ 8 ∷ []))
+past-the-window m =
+    let fits = (m.windows refl).1 (omega arith) in
+    let set = fits.1.1 in
+    let none : set.0 ≡ [] = subst (λ (earlier : List WindowStep). set.0 ≡ earlier) set.1.1 set.1.2 in
+    let sized : fits.1.0 ≡ Resizing 1 ∷ [] = narrowed fits.1.0 (subst (λ (h : List WindowStep). Takes begun h (order.Settings (WindowSize 1 ∷ [])) fits.1.0) none set.2) in
+    let all : fits.0 ≡ Opening 1 ∷ Resizing 1 ∷ [] = subst (λ (h : List WindowStep). Takes narrow h (order.Open 1 tt) fits.0) sized fits.1.2 in
+    let room : 2 ≤ room_after (Opening 1 ∷ Resizing 1 ∷ []) 1 = subst (λ (history : List WindowStep). 2 ≤ room_after history 1) all fits.2 in
+    omega (arith, room)
+
+-- nor more than 16,384
+pub too-long : (before : List Step) (id : ℕ) (bytes : List ℕ) → 16384 < length bytes → ¬ MayWrite before (data_frame id bytes)
+too-long before id bytes long m = omega (arith, long, (m.windows refl).0)
 
 -- DATA without bytes doesn't end its stream
 pub empty-data : (before : List Step) → ¬ MayWrite before (data_frame 1 [])
@@ -74,6 +105,27 @@ unasked-goaway m = by m.parts
     by : goaway_frame 7 Cancel ∷ [] ≡ [] → ⊥
     by e = cc
 
+-- GOAWAY of a later control was written
+abbrev swapped : List Frame
+swapped = goaway_frame 7 NoError ∷ goaway_frame 3 NoError ∷ []
+
+pub goaways-out-of-order : ¬ MayWrite (Written (goaway_frame 7 NoError) ∷ Taken (order.Goaway 7 NoError) ∷ Taken (order.Goaway 3 NoError) ∷ begun) (goaway_frame 3 NoError)
+goaways-out-of-order m = by m.parts
+  where
+    last_of : List Frame → ℕ
+    last_of [] = 0
+    last_of (frame ∷ frames) = from_be_bytes w32 frame.content
+
+    later : AreAmong swapped (goaway_frame 7 NoError ∷ []) → ⊥
+    later (inl e) = cc
+    later (inr (rest, e, none)) =
+        let one : 2 ≡ 1 = ap (λ (frames : List Frame). length frames) e ∙ ap (λ (frames : List Frame). length (goaway_frame 7 NoError ∷ frames)) none in
+        omega (arith, one)
+
+    by : AreAmong swapped (goaway_frame 3 NoError ∷ goaway_frame 7 NoError ∷ []) → ⊥
+    by (inl among) = later among
+    by (inr (rest, e, among)) = true≢false (ap (λ (frames : List Frame). last_of frames == 7) e)
+
 -- nor for a reset, or only for one that isn't to be written
 pub unasked-reset : ¬ MayWrite (Taken (order.Reset 3 Cancel false) ∷ begun) (reset_frame 3 Cancel)
 unasked-reset m = by (m.asked refl).1
@@ -81,6 +133,14 @@ unasked-reset m = by (m.asked refl).1
     by : ⊥ ⊎ ⊥ → ⊥
     by (inl h) = h
     by (inr h) = h
+
+-- or one with another error
+pub reset-with-another-error : ¬ MayWrite (Taken (order.Reset 3 Cancel true) ∷ begun) (reset_frame 3 InternalError)
+reset-with-another-error m = by (m.asked refl).0 (m.asked refl).1 (m.asked refl).2
+  where
+    by : (code : ErrorCode) → IsAsked 3 code (Taken (order.Reset 3 Cancel true) ∷ begun) → reset_frame 3 InternalError ≡ reset_frame 3 code → ⊥
+    by code (inl asked) e = true≢false (ap (λ (frame : Frame). from_be_bytes w32 frame.content == 2) (e ∙ ap (λ (c : ErrorCode). reset_frame 3 c) asked.1))
+    by code (inr none) e = none
 
 -- a header block is unfinished
 pub inside-a-block : ¬ MayWrite (Written (headers_frame 5 false false (1 ∷ [])) ∷ begun) (data_frame 5 (7 ∷ []))
@@ -162,6 +222,29 @@ no-credit m =
     let told = m.update refl in
     let amount : 0 ≡ told.0 = ap (λ (frame : Frame). increment_of frame.content) told.3 ∙ told-amount told.0 told.2 in
     omega (arith, amount, told.1)
+
+-- ---- frames that a peer can't read
+
+-- the head has another length than the content
+pub other-length : (before : List Step) → ¬ IsLawful (Written (record { head = record { kind = kind.Data; flags = record { bits = 1 }; stream = 1; length = 0 }; content = 7 ∷ [] }) ∷ before)
+other-length before l = true≢false (ap (λ n. n == 0) l.0.writable.whole)
+
+-- DATA on stream 0
+pub data-on-stream-0 : (before : List Step) → ¬ IsLawful (Written (data_frame 0 (7 ∷ [])) ∷ before)
+data-on-stream-0 before l = true≢false (ap (λ (fault : Option FrameFault). is_some fault) l.0.faultless)
+
+-- END_STREAM on CONTINUATION
+pub end-on-continuation : (before : List Step) → ¬ IsLawful (Written (frame_with kind.Continuation end_stream 5 (131 ∷ [])) ∷ before)
+end-on-continuation before l = true≢false (ap (λ n. n == 0) l.0.flags)
+
+-- ---- a header block that tells nothing
+
+-- it leaves a greater table than SETTINGS allow
+pub table-over-the-limit : (table : Table) (marks : List (ℕ × Mark)) → 100 < table.limit
+    → ¬ Tells (Written (headers_frame 1 true true (130 ∷ [])) ∷ Taken (order.Settings (TableSize 100 ∷ [])) ∷ begun) table marks
+table-over-the-limit table marks over tells =
+    let limited : table.limit ≤ 100 = tells.3.2 in
+    omega (arith, limited, over)
 
 -- ---- a lawful run
 
@@ -266,7 +349,15 @@ end-may = record {
 }
 
 pub one-call : IsLawful (Written (headers_frame 1 true true (130 ∷ [])) ∷ sent)
-one-call = (end-may, (data-may, (head-may, (first-may, tt))))
+one-call = (
+  sound-headers 1 true true (130 ∷ []) (omega arith) (omega arith) (omega arith),
+  end-may,
+  (
+    sound-data 1 (8 ∷ 9 ∷ []) (omega arith) (omega arith) (omega arith),
+    data-may,
+    (sound-headers 1 false true (130 ∷ []) (omega arith) (omega arith) (omega arith), head-may, (sound-settings, first-may, tt)),
+  ),
+)
 
 -- ---- another: a Reset comes inside of a header block, of which the rest is written, and then RST_STREAM
 
@@ -334,7 +425,15 @@ reset-may = record {
 }
 
 pub one-reset : IsLawful (Written (reset_frame 5 Cancel) ∷ rest)
-one-reset = (reset-may, (rest-may, (half-may, (first-may, tt))))
+one-reset = (
+  sound-reset 5 Cancel (omega arith) (omega arith),
+  reset-may,
+  (
+    sound-continuation 5 true (131 ∷ []) (omega arith) (omega arith) (omega arith),
+    rest-may,
+    (sound-headers 5 false false (130 ∷ []) (omega arith) (omega arith) (omega arith), half-may, (sound-settings, first-may, tt)),
+  ),
+)
 
 -- ---- a third: credit is granted on the connection and on a call's stream, and told as it is owed
 
@@ -382,4 +481,4 @@ credit-may = record {
 }
 
 pub one-credit : IsLawful crediting
-one-credit = (credit-may, (first-may, tt))
+one-credit = (sound-update 1 4 (omega arith) (omega arith) (omega arith), credit-may, (sound-settings, first-may, tt))

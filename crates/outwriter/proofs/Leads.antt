@@ -24,7 +24,7 @@ use Rattle.outwriter.specs.Calls.{is_closed, closes, is_fresh, is_served, calls_
 use Rattle.outwriter.specs.CallState.{Kept, MayBeDue, Takes, none_is_new}
 use Rattle.outwriter.specs.CoreChanges.{KeptOn, KeptStill, KeptWith, Prepares, becomes_open, due_reset, is_new_call}
 use Rattle.outwriter.specs.Cores.{IsAtRest, IsUnused, Keeps, Leads, LeadsControl, LeadsOn, LeadsStill, Parts, calls}
-use Rattle.outwriter.specs.Frames.{goaway_frame}
+use Rattle.outwriter.specs.Frames.{IsSound, goaway_frame}
 use Rattle.outwriter.specs.Histories.{is_stream}
 use Rattle.outwriter.specs.OpenStreams.{Closes, OpenStreams, stream_at}
 use Rattle.outwriter.specs.Runs.{IsLawful, MayWrite, granted_by, opens_stream, resets_stream}
@@ -364,13 +364,13 @@ module _ {L In Out Shut : Type 0} (got : Out → List OutItem) where
   -- ---- frames
 
   module _ (old : OutCore L In Out Shut) (after : Sending L In Out Shut) (alive : old.is_dead ≡ false) where
-    pub leads-frame : (frame : Frame) → Progresses (Some frame) old.sending.outbound after.outbound → HoldsOn got (Some frame) old.sending after
+    pub leads-frame : (frame : Frame) → IsSound frame → Progresses (Some frame) old.sending.outbound after.outbound → HoldsOn got (Some frame) old.sending after
         → LeadsOn got (Written frame) old (record old { sending = after })
-    leads-frame frame writes holds run l =
+    leads-frame frame sound writes holds run l =
         let k = l.keeps alive in
         let written = writes run k.mirrors in
         let held = holds run (k.marks, k.serves, k.heeds) in
-        leads-living (Written frame ∷ run) (record old { sending = after }) alive (written.0, l.lawful) l.closed
+        leads-living (Written frame ∷ run) (record old { sending = after }) alive (sound, written.0, l.lawful) l.closed
         (record { mirrors = written.1; marks = held.0; serves = held.1; heeds = held.2 })
 
     -- no frame comes

@@ -25,6 +25,7 @@ pub mod ServeStepsOwn
 pub mod ServeStepsTake
 pub mod ServeStepsLook
 pub mod ServeStepsCore
+pub mod SoundFrames
 pub mod StuckSteps
 pub mod Leads
 pub mod DataSteps

@@ -1,12 +1,10 @@
 -- One part of a choice after another.
-use Rattle.std.proofs.Common.{ℕ, arith, refl, inl, inr, sym, ap, subst, ◌∙◌, List, ◌++◌, Option, Some, None, append-nil}
+use Rattle.std.proofs.Common.{inl, inr, sym, ap, subst, ◌∙◌, List, ◌++◌, Option, Some, None, append-nil}
 use Rattle.std.specs.Prelude.{IfNone, IfSome, flat_map, ◌≡◌}
 use Rattle.h2frame.specs.declared.frame.Frame.{Frame}
-use Rattle.h2frame.specs.Spelling.{IsWritable}
 use Rattle.outwriter.specs.declared.next.Next.TheVariants as next
 use Rattle.outwriter.specs.declared.outbound.Outbound.{Outbound}
-use Rattle.h2frame.specs.declared.error_code.ErrorCode.{ErrorCode}
-use Rattle.outwriter.specs.Frames.{IsSound, goaway_frame}
+use Rattle.outwriter.specs.Frames.{IsSound}
 use Rattle.outwriter.specs.declared.due.Due.{Due}
 use Rattle.outwriter.specs.RunState.{MirrorsOf, HasBlock, Progress, Progresses, Stays, IsBetween, IsSpent, IsAnswered, Writes, duties_of}
 use Rattle.outwriter.specs.Runs.{told}
@@ -34,15 +32,12 @@ spent-answered run o (inr (no_block, none, owed)) m = inr (
   λ id. sym (m.stand.owes id).0 ∙ owed id,
 )
 
--- a frame's writer takes it
-pub writable-from : (o : Option Frame) (made frame : Frame) → o ≡ Some made → next.Frame made ≡ next.Frame frame → IfSome o IsSound → IsWritable frame
-writable-from None made frame found is sound = absurd (none-is found)
+-- the peer can read a frame that comes
+pub sound-from : (o : Option Frame) (made frame : Frame) → o ≡ Some made → next.Frame made ≡ next.Frame frame → IfSome o IsSound → IsSound frame
+sound-from None made frame found is sound = absurd (none-is found)
   where
     none-is : None ≡ Some made → ⊥
     none-is e = cc
-writable-from (Some one) made frame found is sound =
+sound-from (Some one) made frame found is sound =
     let same : one ≡ frame = cc in
-    subst IsWritable same (record { kind = sound.0; stream = sound.1; whole = sound.2; not_padded = sound.3; no_priority = sound.4 })
-
-pub goaway-writable : (last : ℕ) (code : ErrorCode) → IsWritable (goaway_frame last code)
-goaway-writable last code = record { kind = refl; stream = omega arith; whole = refl; not_padded = refl; no_priority = refl }
+    subst IsSound same sound

@@ -1,17 +1,17 @@
 -- The frames of a server's connection (RFC 9113, section 6), and what is read off a frame.
-use Rattle.std.specs.Prelude.{◌≡◌, ◌<◌, ◌^◌, drop, take, ◌+◌, ℕ, ◌==◌, ◌&&◌, not, Bool, true, false, List, [], ◌++◌, length, if◌then◌else◌}
+use Rattle.std.specs.Prelude.{◌≡◌, bit_and, drop, take, ◌+◌, ℕ, ◌==◌, ◌&&◌, not, Bool, true, false, List, [], ◌++◌, length, if◌then◌else◌, None}
 use Rattle.std.specs.Int.{bytes_high_first, from_be_bytes, w32}
 use Rattle.h2frame.specs.declared.error_code.ErrorCode.{ErrorCode}
 use Rattle.h2frame.specs.declared.frame.Frame.{Frame}
 use Rattle.h2frame.specs.declared.kind.FrameKind.{FrameKind}
 use Rattle.h2frame.specs.declared.kind.FrameKind.TheVariants.{Data, Headers, RstStream, Settings, Ping, GoAway, WindowUpdate, Continuation}
 use Rattle.h2frame.specs.ErrorCode.{error_number}
-use Rattle.h2frame.specs.Faults.{increment_of}
-use Rattle.h2frame.specs.Kind.{kind_of, code_of}
+use Rattle.h2frame.specs.Faults.{frame_fault, increment_of}
 use Rattle.flow.specs.declared.TheConstants.{MAX_LIVE}
 use Rattle.h2frame.specs.declared.setting.SettingId.TheVariants.{MaxConcurrentStreams, MaxHeaderListSize}
 use Rattle.h2frame.specs.Setting.{setting_code}
-use Rattle.h2frame.specs.Flags.{is_padded, has_priority, has, ack, end_stream, end_headers}
+use Rattle.h2frame.specs.Flags.{has, ack, end_stream, end_headers}
+use Rattle.h2frame.specs.Spelling.{IsWritable}
 
 -- a frame without padding or priority
 abbrev pub frame_with : FrameKind → ℕ → ℕ → List ℕ → Frame
@@ -110,8 +110,25 @@ update_kind _ content = 0
 abbrev pub update_on : ℕ → Frame → ℕ
 update_on id frame = if id == frame.head.stream then update_kind frame.head.kind frame.content else 0
 
--- the frame can be spelled: its type is that of its code, the number of its stream has 31 bits, all of its payload is content, and nothing is
--- padded or has a priority
-abbrev pub IsSound : Frame → Type 0
-IsSound frame = (kind_of (code_of frame.head.kind) ≡ frame.head.kind) × (frame.head.stream < 2 ^ 31) × (frame.head.length ≡ length frame.content)
-    × (is_padded frame.head ≡ false) × (has_priority frame.head ≡ false)
+-- ---- frames that a peer can read
+
+-- the flags of a type of frame, but for those of padding and priority (sections 6.1, 6.2, 6.5, 6.7 and 6.10); of types that a server
+-- never writes none count
+abbrev pub flags_of : FrameKind → ℕ
+flags_of Data = end_stream
+flags_of Headers = end_stream + end_headers
+flags_of Settings = ack
+flags_of Ping = ack
+flags_of Continuation = end_headers
+flags_of _ = 0
+
+-- the peer can read the frame
+pub record IsSound (frame : Frame) : Type 0 where
+  -- it can be spelled: its type is that of its code, the number of its stream has 31 bits, all of its payload is content, and nothing is
+  -- padded or has a priority (section 4.1)
+  pub writable : IsWritable frame
+  -- a reader of its bytes has no fault with it: it has at most 16,384 bytes, and such a length, a stream and an increment as its type may
+  -- have (sections 4.2 and 6)
+  pub faultless : frame_fault frame ≡ None
+  -- no flag is set that means nothing on its type (section 4.1)
+  pub flags : bit_and frame.head.flags.bits (flags_of frame.head.kind) ≡ frame.head.flags.bits

@@ -1,4 +1,4 @@
--- Which runs of a server's writer are lawful (RFC 9113, sections 3.4, 4.3, 5.1, 5.4.2, 6.4, 6.5, 6.7 to 6.10 and 8.1).
+-- Which runs of a server's writer are lawful (RFC 9113, sections 3.4, 4.1 to 4.3, 5.1, 5.4.2, 6.4, 6.5, 6.7 to 6.10 and 8.1).
 use Rattle.std.specs.Prelude.{◌≡◌, ◌≢◌, ℕ, ◌+◌, ◌-◌, min, ◌<◌, ◌≤◌, ◌⊎◌, ◌==◌, ◌&&◌, ◌||◌, ◌^◌, Bool, true, false, List, [], ◌∷◌, ◌++◌, Option, None, Some, not, filter, sum_by, if◌then◌else◌}
 use Rattle.std.specs.List.{list_any}
 use Rattle.std.specs.Option.{option_map}
@@ -11,7 +11,7 @@ use Rattle.h2frame.specs.declared.frame.Frame.{Frame}
 use Rattle.h2frame.specs.declared.kind.FrameKind.{FrameKind}
 use Rattle.h2frame.specs.declared.kind.FrameKind.TheVariants as kind
 use Rattle.outwriter.specs.declared.control.Control.TheVariants.{Settings, Ping, Open, Reset, Goaway}
-use Rattle.outwriter.specs.Frames.{first_settings, settings_ack, ping_ack, reset_frame, goaway_frame, update_frame, ends_stream, ends_block, is_last, update_on, resets, ends}
+use Rattle.outwriter.specs.Frames.{IsSound, first_settings, settings_ack, ping_ack, reset_frame, goaway_frame, update_frame, ends_stream, ends_block, is_last, update_on, resets, ends}
 use Rattle.outwriter.specs.Histories.{HasHistory, is_stream}
 use Rattle.outwriter.specs.Steps.{Step, Order, Taken, Granted, Written, Returned, frames_of}
 
@@ -212,10 +212,10 @@ pub record MayWrite (before : List Step) (frame : Frame) : Type 0 where
   -- credit is of 1 to 2^31 - 1 bytes, and nothing else stands in its frame
   pub update : frame.head.kind ≡ kind.WindowUpdate → (n : ℕ) × (0 < n) × (n < 2 ^ 31) × (frame ≡ update_frame frame.head.stream n)
 
--- each frame of the run might be written after the steps before it
+-- each frame of the run is one that the peer can read, and might be written after the steps before it
 abbrev pub IsLawful : List Step → Type 0
 IsLawful [] = Unit {0}
 IsLawful (Taken order ∷ before) = IsLawful before
 IsLawful (Granted id n ∷ before) = IsLawful before
 IsLawful (Returned id items ∷ before) = IsLawful before
-IsLawful (Written frame ∷ before) = MayWrite before frame × IsLawful before
+IsLawful (Written frame ∷ before) = IsSound frame × MayWrite before frame × IsLawful before

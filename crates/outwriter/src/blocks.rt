@@ -33,7 +33,7 @@ impl Model for HeaderBlock {
 
     ghost view = { λ b. record { id = b.id; ends = b.ends; begun = b.begun; rest = b.rest } };
 
-    ghost invariant = { λ b. b.id < 2 ^ 31 };
+    ghost invariant = { λ b. (0 < b.id) × (b.id < 2 ^ 31) };
 }
 
 impl HeaderBlock {

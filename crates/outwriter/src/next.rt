@@ -32,7 +32,6 @@ impl<L: Lane<Item = OutItem>> OutCore<L> {
     ghost use Rattle.outwriter.specs.declared.control.OutFault.TheVariants as out_fault;
     ghost use Rattle.outwriter.specs.declared.next.Next.TheVariants as next_kind;
     ghost use Rattle.h2frame.specs.declared.frame.Frame.{Frame as FrameOf};
-    ghost use Rattle.h2frame.specs.Spelling.{IsWritable};
     ghost use Rattle.outwriter.specs.Frames.{IsSound};
     ghost use Rattle.outwriter.specs.Cores.{Leads, LeadsNext, RestsNext, lanes};
     ghost use Rattle.outwriter.specs.Polls.{coming};
@@ -43,8 +42,8 @@ impl<L: Lane<Item = OutItem>> OutCore<L> {
         // A frame that comes is the next step of the run.
         ensures leads { LeadsNext L.got result self.old self.new }
 
-        // What a frame's writer asks of it.
-        ensures writable { IfOk result (λ next. (frame : FrameOf) → next ≡ next_kind.Frame frame → IsWritable frame) }
+        // The peer can read it, and `write_frame` takes it.
+        ensures sound { IfOk result (λ next. (frame : FrameOf) → next ≡ next_kind.Frame frame → IsSound frame) }
         ensures dead { self.old.is_dead ≡ true → result ≡ Err (out_fault.OutOfMemory None) }
         ensures dies { IfErr result (λ fault. (fault ≡ out_fault.OutOfMemory None) × (self.new.is_dead ≡ true)) }
         ensures over { IfOk result (λ next. next ≡ next_kind.Over → self.new.closed ≡ true) }

@@ -13,8 +13,7 @@ ghost use Rattle.outwriter.specs.declared.control.OutFault.TheVariants as out_fa
 ghost use Rattle.outwriter.specs.RunState.{Blames, Concerns, HasRoom, is_held};
 ghost use Rattle.flow.specs.Windows.{room};
 ghost use Rattle.outwriter.specs.Calls.{TellFronts, TellReturned, TellOthers};
-ghost use Rattle.h2frame.specs.Spelling.{IsWritable};
-ghost use Rattle.outwriter.specs.Frames.{goaway_frame};
+ghost use Rattle.outwriter.specs.Frames.{IsSound, goaway_frame};
 ghost use Rattle.outwriter.specs.Runs.{MayWrite};
 ghost use Rattle.outwriter.specs.Steps.{Step, Taken, Granted};
 ghost use Rattle.outwriter.specs.TableLimits.{TakesLimits};
@@ -126,7 +125,7 @@ impl<L: Lane<Item = OutItem>> OutCore<L> {
 
         // As one that a control asked for, it may be written behind the run.
         ensures lawful { IfSome result (λ frame. (run : List Step) → Leads L.got run self.old → MayWrite (Taken (order.Goaway last code) ∷ run) frame) }
-        ensures writable { IfSome result IsWritable }
+        ensures sound { IfSome result IsSound }
         ensures dead { self.old.is_dead ≡ false → result ≡ None }
         ensures rest { self.new ≡ record self.old { may_part = self.new.may_part } }
         ensures once { self.new.may_part ≡ false }

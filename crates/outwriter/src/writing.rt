@@ -226,6 +226,7 @@ impl Outbound {
         bytes: Bytes,
     ) -> Result<Frame, AllocError>
         requires between { IsBetween self.old }
+        requires stream { 0 < id }
         requires number { id < 2 ^ 31 }
         ensures sound { IfOk result IsSound }
         ensures begins { IfOk result (λ frame. BeginsBlock id ends bytes frame self.old self.new) }

@@ -2,7 +2,8 @@ use Rattle.std.proofs.Common.{◌≡◌, min, length, arith, ◌∙◌, ◌<◌,
 use Rattle.std.proofs.lemmas.Bool.{lt-leb}
 use Rattle.outwriter.specs.Blocks.{frame_of, rest_of}
 use Rattle.outwriter.specs.HeaderBlocks.{Block}
-use Rattle.outwriter.proofs.BlockLemmas.{frame_of-begun, frame_of-first, rest_of-left, sound-frame}
+use Rattle.outwriter.proofs.BlockLemmas.{frame_of-begun, frame_of-first, rest_of-left}
+use Rattle.outwriter.proofs.SoundFrames.{sound-frame}
 use Rattle.outwriter.proofs.blocks.HeaderBlock.cut.Goals.{then-begun, else-begun}
 use Rattle.outwriter.proofs.blocks.HeaderBlock.cut.Goals as goal
 
@@ -19,7 +20,9 @@ returns-then-whole-clause-frame c =
     subst (λ (b : Block). c.if-begun.frame ≡ frame_of b) c.self.view_is made
 
 pub returns-then-whole-clause-sound : goal.returns-then-whole-clause-sound
-returns-then-whole-clause-sound c = sound-frame c.args.self c.if-begun.frame (returns-then-whole-clause-frame c) (subst (λ (b : Block). b.id < 2 ^ 31) c.self.view_is c.self.invariant)
+returns-then-whole-clause-sound c =
+    sound-frame c.args.self c.if-begun.frame (returns-then-whole-clause-frame c)
+    (subst (λ (b : Block). 0 < b.id) c.self.view_is c.self.invariant.0) (subst (λ (b : Block). b.id < 2 ^ 31) c.self.view_is c.self.invariant.1)
 
 pub returns-clause-frame : goal.returns-clause-frame
 returns-clause-frame c =
@@ -34,7 +37,9 @@ returns-clause-frame c =
     subst (λ (b : Block). c.if-begun.frame ≡ frame_of b) c.self.view_is made
 
 pub returns-clause-sound : goal.returns-clause-sound
-returns-clause-sound c = sound-frame c.args.self c.if-begun.frame (returns-clause-frame c) (subst (λ (b : Block). b.id < 2 ^ 31) c.self.view_is c.self.invariant)
+returns-clause-sound c =
+    sound-frame c.args.self c.if-begun.frame (returns-clause-frame c)
+    (subst (λ (b : Block). 0 < b.id) c.self.view_is c.self.invariant.0) (subst (λ (b : Block). b.id < 2 ^ 31) c.self.view_is c.self.invariant.1)
 
 pub returns-clause-rest : goal.returns-clause-rest
 returns-clause-rest c =

@@ -5,17 +5,18 @@ use Rattle.outwriter.specs.RunState.{Progresses}
 use Rattle.outwriter.specs.StreamLooks.{HoldsOn}
 use Rattle.outwriter.proofs.FrameSteps.{may-part}
 use Rattle.outwriter.proofs.Leads.{at-rest, leads-dead, leads-frame, leads-none}
-use Rattle.outwriter.proofs.Progresses.{writable-from}
+use Rattle.outwriter.proofs.Progresses.{sound-from}
 use Rattle.outwriter.proofs.out_core.OutCore.next_frame.Goals as goal
 
 pub returns-in-Ok-Some-clause-leads : goal.returns-in-Ok-Some-clause-leads
 returns-in-Ok-Some-clause-leads g c =
     leads-frame g.L.Lane.got c.args.self.now c.choose.new.self c.if-self.false c.in-Ok-Some.frame
+    (sound-from c.in-Ok-Some.field-0 c.in-Ok-Some.frame c.in-Ok-Some.frame c.in-Ok-Some.field-0-is refl c.in-Ok-Some.ensures.sound)
     (subst (λ (o : Option Frame). Progresses o c.args.self.now.sending.outbound c.choose.new.self.outbound) c.in-Ok-Some.field-0-is c.in-Ok-Some.ensures.frame)
     (subst (λ (o : Option Frame). HoldsOn g.L.Lane.got o c.args.self.now.sending c.choose.new.self) c.in-Ok-Some.field-0-is c.in-Ok-Some.ensures.served)
 
-pub returns-in-Ok-Some-clause-writable : goal.returns-in-Ok-Some-clause-writable
-returns-in-Ok-Some-clause-writable g c = λ frame is. writable-from c.in-Ok-Some.field-0 c.in-Ok-Some.frame frame c.in-Ok-Some.field-0-is is c.in-Ok-Some.ensures.sound
+pub returns-in-Ok-Some-clause-sound : goal.returns-in-Ok-Some-clause-sound
+returns-in-Ok-Some-clause-sound g c = λ frame is. sound-from c.in-Ok-Some.field-0 c.in-Ok-Some.frame frame c.in-Ok-Some.field-0-is is c.in-Ok-Some.ensures.sound
 
 pub returns-in-Ok-None-clause-leads : goal.returns-in-Ok-None-clause-leads
 returns-in-Ok-None-clause-leads g c =

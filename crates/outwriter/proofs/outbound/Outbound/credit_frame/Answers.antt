@@ -1,10 +1,16 @@
-use Rattle.std.proofs.Common.{◌∙◌, inl, refl, []}
+use Rattle.std.proofs.Common.{◌∙◌, inl, refl, [], subst, sym, arith}
 use Rattle.outwriter.specs.Frames.{update_frame}
 use Rattle.outwriter.proofs.TellSteps.{plain-tells}
 use Rattle.outwriter.proofs.EndSteps.{update-written}
 use Rattle.outwriter.proofs.RunStateSteps.{windows-still}
 use Rattle.outwriter.proofs.TellStepsOwn.{none-over}
+use Rattle.outwriter.specs.Frames.{IsSound}
+use Rattle.outwriter.proofs.SoundFrames.{sound-update}
 use Rattle.outwriter.proofs.outbound.Outbound.credit_frame.Goals as goal
+
+pub returns-clause-sound : goal.returns-clause-sound
+returns-clause-sound c = subst IsSound (sym c.in_ok-make_update.ensures)
+    (sound-update c.in-Some.id c.in-Some.n c.in-Some.ensures.numbered c.in-Some.ensures.takes.0 (omega (arith, c.in-Some.ensures.takes.1)))
 
 pub returns-clause-frame : goal.returns-clause-frame
 returns-clause-frame c = λ run m.

@@ -5,9 +5,14 @@ use Rattle.outwriter.specs.declared.due.Due.TheVariants.{Goaway}
 use Rattle.outwriter.specs.Frames.{goaway_frame}
 use Rattle.outwriter.proofs.TellSteps.{plain-tells}
 use Rattle.outwriter.proofs.FrameSteps.{due-written, goaway-plain}
+use Rattle.outwriter.specs.Frames.{IsSound}
+use Rattle.outwriter.proofs.SoundFrames.{sound-goaway}
 use Rattle.outwriter.proofs.outbound.Outbound.goaway_frame.Goals as goal
 use Rattle.h2frame.specs.ErrorCode.{error_number}
 use Rattle.std.proofs.Common.{subst, ◌<◌, ◌^◌}
+
+pub returns-clause-sound : goal.returns-clause-sound
+returns-clause-sound c = subst IsSound (sym c.in_ok-frame.ensures) (sound-goaway c.args.last c.args.code)
 
 pub returns-clause-written : goal.returns-clause-written
 returns-clause-written c = λ run m. due-written run _ _ _ _ (Goaway c.args.last c.args.code) _ _ _ _ (goaway_frame c.args.last c.args.code) c.in_ok-frame.ensures c.requires.begun c.requires.going c.requires.no_block

@@ -1,4 +1,4 @@
-use Rattle.std.proofs.Common.{◌≡◌, refl, sym}
+use Rattle.std.proofs.Common.{◌≡◌, refl, sym, subst, arith}
 use Rattle.std.proofs.lemmas.Result.{IfOk-weaker}
 use Rattle.h2frame.specs.declared.frame.Frame.{Frame}
 use Rattle.outwriter.specs.declared.due.Due.TheVariants.{PingAck}
@@ -7,7 +7,14 @@ use Rattle.outwriter.specs.RunState.{WritesDue}
 use Rattle.outwriter.specs.ToldByNow.{OwnByDue}
 use Rattle.outwriter.proofs.TellSteps.{plain-tells}
 use Rattle.outwriter.proofs.FrameSteps.{due-written, ping-plain}
+use Rattle.outwriter.specs.Frames.{IsSound}
+use Rattle.outwriter.proofs.SoundFrames.{sound-ping}
 use Rattle.outwriter.proofs.outbound.Outbound.ping_ack.Goals as goal
+
+pub returns-clause-sound : goal.returns-clause-sound
+returns-clause-sound c = IfOk-weaker c.make_ping_ack.result (λ (frame : Frame). frame ≡ ping_ack c.args.bytes) IsSound
+    (λ frame is. subst IsSound (sym is) (sound-ping c.args.bytes (omega (arith, c.well_formed))))
+    c.make_ping_ack.ensures
 
 pub returns-clause-written : goal.returns-clause-written
 returns-clause-written c = IfOk-weaker c.make_ping_ack.result (λ (frame : Frame). frame ≡ ping_ack c.args.bytes) (λ (frame : Frame). WritesDue (PingAck c.args.bytes) frame c.args.self.now c.args.self.now)

@@ -1,9 +1,14 @@
-use Rattle.std.proofs.Common.{true, refl}
+use Rattle.std.proofs.Common.{true, refl, subst, sym}
 use Rattle.outwriter.specs.Frames.{reset_frame}
 use Rattle.outwriter.proofs.TellSteps.{plain-tells}
 use Rattle.outwriter.proofs.StateLemmas.{still-heard}
 use Rattle.outwriter.proofs.EndSteps.{reset-written}
+use Rattle.outwriter.specs.Frames.{IsSound}
+use Rattle.outwriter.proofs.SoundFrames.{sound-reset}
 use Rattle.outwriter.proofs.outbound.Outbound.reset_frame.Goals as goal
+
+pub returns-clause-sound : goal.returns-clause-sound
+returns-clause-sound c = subst IsSound (sym c.in_ok-frame.ensures) (sound-reset c.args.id c.args.code c.requires.stream c.requires.number)
 
 pub returns-clause-written : goal.returns-clause-written
 returns-clause-written c = λ run m. reset-written run _ _ _ _ _ _ _ _ c.args.id c.args.code _ c.in_ok-frame.ensures c.requires.between.begun c.requires.between.going c.requires.between.no_block
