@@ -46,6 +46,7 @@ impl<L: Lane<Item = OutItem>> OutCore<L> {
         // What a frame's writer asks of it.
         ensures writable { IfOk result (λ next. (frame : FrameOf) → next ≡ next_kind.Frame frame → IsWritable frame) }
         ensures dead { self.old.is_dead ≡ true → result ≡ Err (out_fault.OutOfMemory None) }
+        ensures lives { IfOk result (λ next. self.new.is_dead ≡ false) }
         ensures dies { IfErr result (λ fault. (fault ≡ out_fault.OutOfMemory None) × (self.new.is_dead ≡ true)) }
         ensures over { IfOk result (λ next. next ≡ next_kind.Over → self.new.closed ≡ true) }
 
