@@ -1,6 +1,6 @@
 -- What a writer's core keeps as its run goes on: one step after another, and what callers see of it.
-use Rattle.std.proofs.Common.{◌≡◌, ℕ, refl, sym, ap, subst, ◌∙◌, Bool, true, false, true≢false, List, [], ◌∷◌, ◌++◌, Option, Some, None, Result, Ok, Err, length, arith}
-use Rattle.std.specs.Prelude.{All, IfErr, IfNone, OnErr, OnOk, ◌==◌, ◌&&◌, ◌||◌, if◌then◌else◌}
+use Rattle.std.proofs.Common.{◌≡◌, ℕ, inr, refl, sym, ap, subst, ◌∙◌, Bool, true, false, true≢false, List, [], ◌∷◌, ◌++◌, Option, Some, None, Result, Ok, Err, append-nil, length, arith}
+use Rattle.std.specs.Prelude.{All, get_or, IfErr, IfNone, OnErr, OnOk, ◌==◌, ◌&&◌, ◌||◌, if◌then◌else◌}
 use Rattle.std.proofs.lemmas.List.{length-map, map-append}
 use Rattle.std.proofs.lemmas.List.Elements.{All-cons, All-nil, All-weaker}
 use Rattle.std.proofs.lemmas.List.Sums.{sum_by-cons}
@@ -27,6 +27,7 @@ use Rattle.outwriter.specs.Cores.{IsAtRest, IsUnused, Keeps, Leads, LeadsControl
 use Rattle.outwriter.specs.Frames.{IsSound, goaway_frame}
 use Rattle.outwriter.specs.Histories.{is_stream}
 use Rattle.outwriter.specs.OpenStreams.{Closes, OpenStreams, stream_at}
+use Rattle.outwriter.specs.Parts.{Mark, IsPart}
 use Rattle.outwriter.specs.Runs.{IsLawful, MayWrite, granted_by, opens_stream, resets_stream}
 use Rattle.outwriter.specs.RunState.{IsSpent, MirrorsOf, MirrorsOn, Progresses, Stays}
 use Rattle.outwriter.specs.States.{SameOver, States, is_heard, is_reset, knows, nothing_known, open_at}
@@ -41,11 +42,12 @@ use Rattle.outwriter.proofs.EndsKept.{ended-if, heeds-calm, heeds-takes}
 use Rattle.outwriter.proofs.FrameSteps.{no-updates}
 use Rattle.outwriter.proofs.Fronts.{fronts_of, returned_of, others_of}
 use Rattle.outwriter.proofs.HeedSteps.{heeds-equal, open-heeds, refuse-again, refuse-heeds, reset-heeds}
-use Rattle.outwriter.proofs.Others.{later-granted}
+use Rattle.outwriter.proofs.Others.{later-granted, other-later}
 use Rattle.outwriter.proofs.Progresses.{spent-answered}
 use Rattle.outwriter.proofs.QuietSteps.{no-frame-if}
 use Rattle.outwriter.proofs.RunStateSteps.{mirrors-but-open, quiet-led}
 use Rattle.outwriter.proofs.ServeSteps.{some-none}
+use Rattle.outwriter.proofs.SoundFrames.{sound-goaway}
 use Rattle.outwriter.proofs.TellSteps.{granted-tells}
 
 -- ---- controls that are none of a stream's beginning or end
@@ -257,6 +259,11 @@ may-part-returned run id items last code m = record {
   update = λ e. cc;
 }
 
+-- the frames of a stream tell with a GOAWAY what they told before
+part-parted : (id : ℕ) (run : List Step) (last : ℕ) (code : ErrorCode) (part : List Mark) → IsPart id run part
+    → IsPart id (Written (goaway_frame last code) ∷ Taken (Goaway last code) ∷ run) part
+part-parted id run last code part (table, marks, tells, is) = (table, marks, (table, marks, tells, (refl, sym (append-nil marks))), is)
+
 -- ---- a core
 
 module _ {L In Out Shut : Type 0} (got : Out → List OutItem) where
@@ -307,7 +314,7 @@ module _ {L In Out Shut : Type 0} (got : Out → List OutItem) where
   }
 
   -- credit tells nothing, of a dead core as well
-  pub leads-granted : (old : OutCore L In Out Shut) (after : Outbound) (id n : ℕ) → KeptOn (Granted id n) old.sending.outbound after
+  pub leads-granted : (old : OutCore L In Out Shut) (after : Outbound) (id n : ℕ) → (old.is_dead ≡ false → KeptOn (Granted id n) old.sending.outbound after)
       → LeadsOn got (Granted id n) old (record old { sending = record old.sending { outbound = after } })
   leads-granted old after id n kept run l = record {
     lawful = l.lawful;
@@ -316,8 +323,24 @@ module _ {L In Out Shut : Type 0} (got : Out → List OutItem) where
     others = l.others;
     closed = l.closed;
     parts = λ dead may last code. may-part-granted run id n last code (l.parts dead may last code);
-    keeps = λ alive. kept run (calls got old.sending.senders.items) (l.keeps alive);
+    keeps = λ alive. kept alive run (calls got old.sending.senders.items) (l.keeps alive);
   }
+
+  -- the last word of a dead core is its next frame, behind a control that asks for it; it tells nothing of a stream
+  pub leads-parted : (old : OutCore L In Out Shut) (last : ℕ) (code : ErrorCode) (frame : Frame) → frame ≡ goaway_frame last code → old.is_dead ≡ true → old.may_part ≡ true
+      → (run : List Step) → Leads got run old → Leads got (Written frame ∷ Taken (Goaway last code) ∷ run) (record old { may_part = false })
+  leads-parted old last code frame is dead may run l =
+      subst (λ (f : Frame). Leads got (Written f ∷ Taken (Goaway last code) ∷ run) (record old { may_part = false })) (sym is) (record {
+        lawful = (sound-goaway last code, l.parts dead may last code, l.lawful);
+        fronts = λ k d within served. let t = l.fronts k d within served in (t.0, part-parted (get_or (calls got old.sending.senders.items) k d).0 run last code t.0 t.1, t.2);
+        returned = λ id items given served. let t = l.returned id items given served in (t.0, part-parted id run last code t.0 t.1, t.2);
+        others = λ id unopened.
+            let t = l.others id unopened in
+            (t.0, part-parted id run last code t.0 t.1, other-later run (Written (goaway_frame last code) ∷ Taken (Goaway last code) ∷ run) id t.0 (λ fields asked. inr asked) t.2);
+        closed = l.closed;
+        parts = λ dead may. absurd (true≢false (sym may));
+        keeps = λ alive. absurd (true≢false (sym dead ∙ alive));
+      })
 
   module _ (old : OutCore L In Out Shut) (alive : old.is_dead ≡ false) (made : Outbound) (room : KeptStill old.sending.outbound made) where
     -- a control is handed back

@@ -119,7 +119,7 @@ later-taken run order none = record {
   returned = λ id items is. is;
 }
 
-other-later : (run next : List Step) (id : ℕ) (part : List Mark) → ((fields : List Field) → IsRefused id fields run → IsRefused id fields next) → IsOther id run part → IsOther id next part
+pub other-later : (run next : List Step) (id : ℕ) (part : List Mark) → ((fields : List Field) → IsRefused id fields run → IsRefused id fields next) → IsOther id run part → IsOther id next part
 other-later run next id part refused (inl none) = inl none
 other-later run next id part refused (inr (inl reset)) = inr (inl reset)
 other-later run next id part refused (inr (inr (fields, asked, is))) = inr (inr (fields, refused fields asked, is))

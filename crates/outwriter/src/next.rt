@@ -45,6 +45,7 @@ impl<L: Lane<Item = OutItem>> OutCore<L> {
         // The peer can read it, and `write_frame` takes it.
         ensures sound { IfOk result (λ next. (frame : FrameOf) → next ≡ next_kind.Frame frame → IsSound frame) }
         ensures dead { self.old.is_dead ≡ true → result ≡ Err (out_fault.OutOfMemory None) }
+        ensures lives { IfOk result (λ next. self.new.is_dead ≡ false) }
         ensures dies { IfErr result (λ fault. (fault ≡ out_fault.OutOfMemory None) × (self.new.is_dead ≡ true)) }
         ensures over { IfOk result (λ next. next ≡ next_kind.Over → self.new.closed ≡ true) }
 

@@ -8,14 +8,14 @@
 //! was told of each call stays a prefix, so its senders can be brought back.
 
 ghost use Rattle.std.specs.Prelude.{◌≡◌, List, [], ◌∷◌, Some, None, Err, false, true, OnOk, IfErr, IfSome};
-ghost use Rattle.outwriter.specs.Cores.{Brings, Leads, LeadsControl, LeadsOn, calls, open_stream};
+ghost use Rattle.outwriter.specs.CallState.{Takes, none_is_new};
+ghost use Rattle.outwriter.specs.Cores.{Brings, Leads, LeadsControl, LeadsOn, LeadsStill, calls, open_stream};
 ghost use Rattle.outwriter.specs.declared.control.OutFault.TheVariants as out_fault;
 ghost use Rattle.outwriter.specs.RunState.{Blames, Concerns, HasRoom, is_held};
 ghost use Rattle.flow.specs.Windows.{room};
 ghost use Rattle.outwriter.specs.Calls.{TellFronts, TellReturned, TellOthers};
 ghost use Rattle.outwriter.specs.Frames.{IsSound, goaway_frame};
-ghost use Rattle.outwriter.specs.Runs.{MayWrite};
-ghost use Rattle.outwriter.specs.Steps.{Step, Taken, Granted};
+ghost use Rattle.outwriter.specs.Steps.{Step, Taken, Granted, Written};
 ghost use Rattle.outwriter.specs.TableLimits.{TakesLimits};
 ghost use Rattle.outwriter.specs.declared.control.Control.TheVariants as order;
 
@@ -123,10 +123,16 @@ impl<L: Lane<Item = OutItem>> OutCore<L> {
     pub fn farewell(&mut self, last: StreamId, code: ErrorCode) -> Option<Frame>
         ensures goaway { IfSome result (λ frame. frame ≡ goaway_frame last code) }
 
-        // As one that a control asked for, it may be written behind the run.
-        ensures lawful { IfSome result (λ frame. (run : List Step) → Leads L.got run self.old → MayWrite (Taken (order.Goaway last code) ∷ run) frame) }
+        // It is the next step of the run, behind the control that asks for it.
+        ensures leads { IfSome result (λ frame. (run : List Step) → Leads L.got run self.old → Leads L.got (Written frame ∷ Taken (order.Goaway last code) ∷ run) self.new) }
+
+        // A frame that is not written is no step.
+        ensures still { LeadsStill L.got self.old self.new }
         ensures sound { IfSome result IsSound }
         ensures dead { self.old.is_dead ≡ false → result ≡ None }
+
+        // Behind it nothing more is said.
+        ensures spent { self.old.may_part ≡ false → result ≡ None }
         ensures rest { self.new ≡ record self.old { may_part = self.new.may_part } }
         ensures once { self.new.may_part ≡ false }
     {
@@ -142,13 +148,19 @@ impl<L: Lane<Item = OutItem>> OutCore<L> {
     }
 
     /// Owes n bytes more of credit, which a WINDOW_UPDATE will tell: on a stream, or on the connection where it is 0. At
-    /// most 2^31 - 1 are owed at once. Nothing changes for a stream of no call, and for one that was reset.
+    /// most 2^31 - 1 are owed at once. Nothing changes for a stream of no call, for one that was reset, and of a dead core.
     pub fn grant(&mut self, id: StreamId, n: u32)
         // That it is granted is the next step of the run, by which what is owed is counted.
         ensures leads { LeadsOn L.got (Granted id n) self.old self.new }
-        ensures rest { self.new ≡ record self.old { sending = record self.old.sending { outbound = self.new.sending.outbound } } }
+        ensures dead_stays { self.old.is_dead ≡ true → self.new ≡ self.old }
+
+        // What is due stays, and which streams are open, over or reset.
+        ensures takes { Takes [] none_is_new [] self.old.sending.outbound self.new.sending.outbound }
+        ensures rest { self.new ≡ record self.old { sending = record self.old.sending { outbound = record self.old.sending.outbound { states = self.new.sending.outbound.states } } } }
     {
-        self.sending.outbound.grant(id, n);
+        if !self.is_dead {
+            self.sending.outbound.grant(id, n);
+        }
     }
 
     /// Whether an item of the stream is in hand that a window keeps back.

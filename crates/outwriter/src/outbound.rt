@@ -229,6 +229,7 @@ impl Outbound {
     pub(crate) fn grant(&mut self, id: StreamId, n: u32)
         ensures taken { MirrorsOn (Granted id n) self.old self.new }
         ensures takes { Takes [] none_is_new [] self.old self.new }
+        ensures rest { self.new ≡ record self.old { states = self.new.states } }
     {
         self.states.grant(id, n);
     }
