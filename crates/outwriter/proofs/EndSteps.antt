@@ -21,10 +21,10 @@ use Rattle.outwriter.specs.declared.due.Due.TheVariants as due_kind
 use Rattle.outwriter.specs.Blocks.{frame_of, rest_of, is_short}
 use Rattle.outwriter.specs.States.{States, SameEnds, SameOwed, SetsEnd, is_reset, over_on, owed_on, TakesAll}
 use Rattle.outwriter.specs.Frames.{resets, ends, update_on, reset_frame, data_frame, update_frame, headers_frame, continuation_frame, ends_stream, ends_block}
-use Rattle.outwriter.specs.Histories.{is_over, is_stream, closing_of, spending_of}
+use Rattle.outwriter.specs.Histories.{is_over, is_stream, closing_of, spending_of, resets_stream, was_reset}
 use Rattle.outwriter.specs.declared.outbound.Outbound.{Outbound}
 use Rattle.outwriter.specs.RunState.{BeginsBlock, IsBetween, MirrorsOf, Mirrors, resets_of, HasWindows, HasOver, HasDue, HasBlock, HasHead, HasResets, HasStates, spent, closing, Keeps, Ends}
-use Rattle.outwriter.specs.Runs.{due, IsAsked, Fragments, Continues, MayWrite, fragments, unfinished, updated, granted, is_opened, may_owe, owed as given, resets_stream, was_reset}
+use Rattle.outwriter.specs.Runs.{due, IsAsked, Fragments, Continues, MayWrite, fragments, unfinished, updated, granted, is_opened, may_owe, owed as given}
 use Rattle.outwriter.specs.Steps.{Step, Taken, Granted, Written, Returned, frames_of}
 use Rattle.outwriter.proofs.Others.{or-true}
 use Rattle.outwriter.proofs.RunStateSteps.{same-block, over-kept, owed-kept, credit-kept, stand-but-open}
@@ -94,16 +94,16 @@ asked-reset (Granted stream n ∷ run) id code asked = asked-reset run id code a
 asked-reset (Returned stream items ∷ run) id code asked = asked-reset run id code asked
 asked-reset (Written frame ∷ run) id code asked = asked-reset run id code asked
 asked-reset (Taken one ∷ run) id code (inr before) = or-true (resets_stream id one) (was_reset id run) (asked-reset run id code before)
-asked-reset (Taken (order.Reset stream found true) ∷ run) id code (inl asked) = ap (λ b. b || was_reset id run) (eq-eqb id stream asked.0)
-asked-reset (Taken (order.Reset stream found false) ∷ run) id code (inl asked) = absurd asked
-asked-reset (Taken (order.Settings settings) ∷ run) id code (inl asked) = absurd asked
-asked-reset (Taken (order.Ping bytes) ∷ run) id code (inl asked) = absurd asked
-asked-reset (Taken (order.Window stream n) ∷ run) id code (inl asked) = absurd asked
-asked-reset (Taken (order.Open stream sender) ∷ run) id code (inl asked) = absurd asked
-asked-reset (Taken (order.Refuse stream fields) ∷ run) id code (inl asked) = absurd asked
-asked-reset (Taken (order.Goaway last found) ∷ run) id code (inl asked) = absurd asked
-asked-reset (Taken order.InputEnded ∷ run) id code (inl asked) = absurd asked
-asked-reset (Taken order.Close ∷ run) id code (inl asked) = absurd asked
+asked-reset (Taken (order.Reset stream found true) ∷ run) id code (inl asked) = ap (λ b. b || was_reset id run) (eq-eqb id stream asked.0.0)
+asked-reset (Taken (order.Reset stream found false) ∷ run) id code (inl asked) = absurd asked.0
+asked-reset (Taken (order.Settings settings) ∷ run) id code (inl asked) = absurd asked.0
+asked-reset (Taken (order.Ping bytes) ∷ run) id code (inl asked) = absurd asked.0
+asked-reset (Taken (order.Window stream n) ∷ run) id code (inl asked) = absurd asked.0
+asked-reset (Taken (order.Open stream sender) ∷ run) id code (inl asked) = absurd asked.0
+asked-reset (Taken (order.Refuse stream fields) ∷ run) id code (inl asked) = absurd asked.0
+asked-reset (Taken (order.Goaway last found) ∷ run) id code (inl asked) = absurd asked.0
+asked-reset (Taken order.InputEnded ∷ run) id code (inl asked) = absurd asked.0
+asked-reset (Taken order.Close ∷ run) id code (inl asked) = absurd asked.0
 
 -- and wasn't, where that isn't kept
 pub unreset : (run : List Step) (id : ℕ) (owed : States) → HasResets run owed → is_reset owed id ≡ false → is_stream id ≡ true → was_reset id run ≡ true → ⊥

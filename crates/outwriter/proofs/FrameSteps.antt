@@ -15,9 +15,9 @@ use Rattle.outwriter.specs.declared.control.Control.TheVariants.{Goaway}
 use Rattle.outwriter.specs.declared.due.Due.{Due}
 use Rattle.outwriter.specs.States.{States, over_on}
 use Rattle.outwriter.specs.Frames.{is_last, reset_frame, resets, ends, ends_stream, is_reset, update_on, update_kind, update_frame, ends_block, first_settings, settings_ack, ping_ack, goaway_frame}
-use Rattle.outwriter.specs.Histories.{closing_of, spending_of, is_over, is_stream}
+use Rattle.outwriter.specs.Histories.{closing_of, spending_of, is_over, is_stream, was_reset}
 use Rattle.outwriter.specs.RunState.{Mirrors, HasWindows, HasOver, HasDue, HasBlock, HasHead, HasCredit, HasOwed, HasStates, duties_of, resets_of}
-use Rattle.outwriter.specs.Runs.{has_begun, IsAsked, Fragments, unfinished, granted, granted_by, updated, due, told, told_by, is_goaway, goaways, without_goaway, AreAmong, MayWrite, Continues, MayFollowEnd, fragments, owed as given, was_reset}
+use Rattle.outwriter.specs.Runs.{has_begun, IsAsked, Fragments, unfinished, granted, granted_by, updated, due, told, told_by, is_goaway, goaways, without_goaway, AreAmong, MayWrite, Continues, MayFollowEnd, fragments, owed as given}
 use Rattle.outwriter.specs.Steps.{Step, Taken, Granted, Written, Returned, frames_of}
 use Rattle.outwriter.proofs.RunStateSteps.{same-block, all-behind}
 

@@ -78,9 +78,18 @@ unasked-goaway m = by m.parts
 pub unasked-reset : ¬ MayWrite (Taken (order.Reset 3 Cancel false) ∷ begun) (reset_frame 3 Cancel)
 unasked-reset m = by (m.asked refl).1
   where
-    by : ⊥ ⊎ ⊥ → ⊥
-    by (inl h) = h
+    by : (⊥ × (false ≡ false)) ⊎ ⊥ → ⊥
+    by (inl h) = h.0
     by (inr h) = h
+
+-- the peer's reset is answered by one
+pub answered-reset : ¬ MayWrite (Taken (order.Reset 3 Cancel true) ∷ Taken (order.Reset 3 Cancel false) ∷ begun) (reset_frame 3 Cancel)
+answered-reset m = by (m.asked refl).1
+  where
+    by : {A : Type 0} → (A × (true ≡ false)) ⊎ ((⊥ × (false ≡ false)) ⊎ ⊥) → ⊥
+    by (inl h) = true≢false h.1
+    by (inr (inl h)) = h.0
+    by (inr (inr h)) = h
 
 -- a header block is unfinished
 pub inside-a-block : ¬ MayWrite (Written (headers_frame 5 false false (1 ∷ [])) ∷ begun) (data_frame 5 (7 ∷ []))
@@ -322,7 +331,7 @@ reset-may = record {
   content = λ e. cc;
   answers = ([], refl);
   parts = refl;
-  asked = λ e. (Cancel, inl (refl, refl), refl);
+  asked = λ e. (Cancel, inl ((refl, refl), refl), refl);
   after_reset = λ there was. inl refl;
   block = λ e. cc;
   not_reset = refl;

@@ -25,9 +25,9 @@ use Rattle.outwriter.specs.CallState.{Kept, MayBeDue, Takes, none_is_new}
 use Rattle.outwriter.specs.CoreChanges.{KeptOn, KeptStill, KeptWith, Prepares, becomes_open, due_reset, is_new_call}
 use Rattle.outwriter.specs.Cores.{IsAtRest, IsUnused, Keeps, Leads, LeadsControl, LeadsOn, LeadsStill, Parts, calls}
 use Rattle.outwriter.specs.Frames.{goaway_frame}
-use Rattle.outwriter.specs.Histories.{is_stream}
+use Rattle.outwriter.specs.Histories.{is_stream, resets_stream}
 use Rattle.outwriter.specs.OpenStreams.{Closes, OpenStreams, stream_at}
-use Rattle.outwriter.specs.Runs.{IsLawful, MayWrite, granted_by, opens_stream, resets_stream}
+use Rattle.outwriter.specs.Runs.{IsLawful, MayWrite, granted_by, opens_stream}
 use Rattle.outwriter.specs.RunState.{IsSpent, MirrorsOf, MirrorsOn, Progresses, Stays}
 use Rattle.outwriter.specs.States.{SameOver, States, is_heard, is_reset, knows, nothing_known, open_at}
 use Rattle.outwriter.specs.Steps.{Step, Order, Taken, Granted, Written, Returned, order_of}

@@ -11,13 +11,13 @@ use Rattle.outwriter.specs.declared.out_core.OutCore.{OutCore}
 use Rattle.outwriter.specs.declared.outbound.Outbound.{Outbound}
 use Rattle.outwriter.specs.declared.stream.OpenStream.{OpenStream}
 use Rattle.outwriter.specs.Calls.{is_fresh, is_served, IsReturned}
-use Rattle.outwriter.specs.Histories.{is_over}
+use Rattle.outwriter.specs.Histories.{is_over, was_reset}
 use Rattle.outwriter.specs.Cores.{Leads, LeadsOn, calls}
 use Rattle.outwriter.specs.Parts.{Mark, marks_on, spelled, IsPart, IsFrontOf}
 use Rattle.outwriter.specs.CallState.{IsEnded, IsExact, Serves, bytes_marks}
 use Rattle.outwriter.specs.OpenStreams.{OpenStreams, PlaceIs, Shown, shown, shows, with_place}
 use Rattle.outwriter.specs.Releases.{IsAt, MovedTo, Releases, HasEnded}
-use Rattle.outwriter.specs.Runs.{granted_by, was_reset}
+use Rattle.outwriter.specs.Runs.{granted_by}
 use Rattle.outwriter.specs.RunState.{HasOver, MirrorsOf, SameButOpen}
 use Rattle.outwriter.specs.States.{over_on, open_at}
 use Rattle.outwriter.specs.Steps.{Step, Returned}

@@ -21,9 +21,9 @@ use Rattle.outwriter.specs.declared.stream.OpenStream.{OpenStream}
 use Rattle.outwriter.specs.declared.states.StreamState.TheVariants.{NoCall, Call}
 use Rattle.outwriter.specs.declared.states.StreamState.TheVariants.{Reset as StreamReset}
 use Rattle.outwriter.specs.States.{States, StandAs, Grants, SameButWindows, SameEnds, SameOver, SameOwed, amount_of, is_paid, is_reset, knows, more, owed_on, pays, state_on}
-use Rattle.outwriter.specs.Histories.{Takes, is_stream}
+use Rattle.outwriter.specs.Histories.{Takes, is_stream, resets_stream, was_reset}
 use Rattle.outwriter.specs.RunState.{Mirrors, HasWindows, HasCredit, HasOver, HasDue, HasBlock, HasOwed, HasResets, HasStates, AreAsked, MirrorsOf, MirrorsOn, SameButOpen, duties_of, resets_of}
-use Rattle.outwriter.specs.Runs.{IsAsked, Fragments, unfinished, granted_by, is_opened, may_owe, opens_stream, owed, due, due_by, told, resets_stream, was_reset}
+use Rattle.outwriter.specs.Runs.{IsAsked, Fragments, unfinished, granted_by, is_opened, may_owe, opens_stream, owed, due, due_by, told}
 use Rattle.outwriter.specs.Steps.{Step, Order, Taken, Granted}
 use Rattle.outwriter.proofs.Others.{or-true}
 use Rattle.outwriter.proofs.WindowRuns.{nothing-taken}

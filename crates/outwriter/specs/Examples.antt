@@ -50,7 +50,7 @@ pub goaway_is_told : told leaving ≡ due leaving
 goaway_is_told = refl
 
 pub reset_is_asked : IsAsked 3 Cancel leaving
-reset_is_asked = inl (refl, refl)
+reset_is_asked = inl ((refl, refl), refl)
 
 -- The first SETTINGS come unasked. Further ones, an ACK with a payload, a PING that is no ACK and a PUSH_PROMISE would have to stand among
 -- what is due, and no control puts them there.

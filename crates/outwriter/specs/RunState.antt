@@ -18,8 +18,8 @@ use Rattle.outwriter.specs.declared.due.Due.TheVariants as due_kind
 use Rattle.outwriter.specs.declared.outbound.Outbound.{Outbound}
 use Rattle.outwriter.specs.States.{States, SetsEnd, StandAs, over_on, owed_on, pays, knows, is_reset}
 use Rattle.outwriter.specs.Frames.{is_last, resets, settings_ack, ping_ack, goaway_frame}
-use Rattle.outwriter.specs.Histories.{HasHistory, HasWindow, Overflows, window_sizes, is_over, is_stream}
-use Rattle.outwriter.specs.Runs.{has_begun, IsAsked, due, told, unfinished, granted, updated, owed, may_owe, is_opened, was_reset, MayWrite}
+use Rattle.outwriter.specs.Histories.{HasHistory, HasWindow, Overflows, window_sizes, is_over, is_stream, was_reset}
+use Rattle.outwriter.specs.Runs.{has_begun, IsAsked, due, told, unfinished, granted, updated, owed, may_owe, is_opened, MayWrite}
 use Rattle.outwriter.specs.Steps.{Step, Written, frames_of}
 
 -- the windows follow from the history of the run's
