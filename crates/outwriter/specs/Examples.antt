@@ -14,7 +14,7 @@ use Rattle.outwriter.specs.declared.control.Control.TheVariants as order
 use Rattle.h2frame.specs.declared.settings.PeerSetting.TheVariants.{TableSize, WindowSize}
 use Rattle.outwriter.specs.Calls.{is_called_off}
 use Rattle.outwriter.specs.Frames.{frame_with, first_settings, settings_ack, ping_ack, reset_frame, goaway_frame, update_frame, data_frame, headers_frame, continuation_frame, is_last}
-use Rattle.outwriter.specs.Histories.{window_sizes, table_sizes, spending_of, closing_of, is_over}
+use Rattle.outwriter.specs.Histories.{window_sizes, table_sizes, spending_of, closing_of, is_over, opens}
 use Rattle.outwriter.specs.Parts.{Byte, Fields, End, Reset, spelled, plain_marks, completed, marks_on, on_stream}
 use Rattle.outwriter.specs.Runs.{IsAsked, due, told, told_by, unfinished, granted, updated, owed}
 use Rattle.outwriter.specs.Steps.{Step, Taken, Granted, Written}
@@ -95,6 +95,13 @@ trailers_close = refl
 
 pub head_leaves_open : closing_of (headers_frame 1 false true (130 ∷ [])) ≡ []
 head_leaves_open = refl
+
+-- an Open of a stream that was reset before opens no window
+pub new_stream_opens : opens (Written first_settings ∷ []) [] 3 ≡ true
+new_stream_opens = refl
+
+pub reset_stream_opens_none : opens (Taken (order.Reset 3 Cancel false) ∷ Written first_settings ∷ []) (Closing 3 ∷ []) 3 ≡ false
+reset_stream_opens_none = refl
 
 -- a header block in two fragments is unfinished after the first, and whole with the second
 abbrev pub half_a_block : List Step

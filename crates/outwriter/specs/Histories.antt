@@ -56,9 +56,9 @@ was_reset id (Written frame ∷ before) = was_reset id before
 abbrev pub is_stream : ℕ → Bool
 is_stream id = nat_lt 0 id && nat_le id MAX_WINDOW
 
--- an Open opens the window of its stream, unless that is open or over
+-- an Open opens the window of its stream, unless that is open, or the stream is over or was reset
 abbrev pub opens : List Step → List WindowStep → ℕ → Bool
-opens run history id = (is_stream id && not (is_over id run)) && not (is_some (since_opening id history))
+opens run history id = is_stream id && ((not (is_over id run) && not (was_reset id run)) && not (is_some (since_opening id history)))
 
 -- From one history a control that is taken after a run leads to the next. One that would take a window over 2^31 - 1
 -- changes none; nor does credit of a stream that isn't open. A Reset closes its stream's window, whether or not it is to be written.
