@@ -1,9 +1,7 @@
 -- The law of runs on examples: a run that is lawful, and for each rule a frame that isn't.
 use Rattle.std.proofs.Common.{◌≡◌, ℕ, ◌<◌, ◌≤◌, ◌⊎◌, inl, inr, refl, sym, ap, subst, Bool, true, false, List, [], ◌∷◌, ◌==◌, arith, ◌∙◌, true≢false}
-use Rattle.std.specs.Prelude.{sum_by, ◌+◌, if◌then◌else◌}
-use Rattle.std.specs.List.{list_all}
+use Rattle.std.specs.Prelude.{if◌then◌else◌}
 use Rattle.std.proofs.lemmas.Bool.{eqb-true}
-use Rattle.std.proofs.lemmas.List.Sums.{sum_by-cons}
 use Rattle.account.specs.Accounts.{Begins}
 use Rattle.flow.specs.WindowHistory.{Opening, room_after}
 use Rattle.flow.specs.WindowHistory.{Step as WindowStep}
@@ -15,11 +13,10 @@ use Rattle.h2frame.specs.declared.kind.FrameKind.TheVariants as kind
 use Rattle.outwriter.specs.declared.control.Control.TheVariants as order
 use Rattle.outwriter.specs.Frames.{update_kind, update_on, first_settings, settings_ack, ping_ack, reset_frame, goaway_frame, update_frame, data_frame, headers_frame, continuation_frame, is_data}
 use Rattle.outwriter.specs.Histories.{HasHistory}
-use Rattle.outwriter.specs.Runs.{MayWrite, MayFollowEnd, MayFollowReset, IsLawful, updated, granted, owed}
-use Rattle.outwriter.specs.Steps.{Step, Taken, Granted, Written, frames_of}
+use Rattle.outwriter.specs.Runs.{MayWrite, MayFollowEnd, MayFollowReset, IsLawful, owed}
+use Rattle.outwriter.specs.Steps.{Step, Taken, Granted, Written}
 use Rattle.outwriter.specs.Examples.{crediting}
 use Rattle.outwriter.specs.RunState.{IsAnswered}
-use Rattle.hpack_codec.proofs.HuffmanTable.{and_true}
 use Rattle.outwriter.proofs.FrameSteps.{no-updates}
 use Rattle.outwriter.proofs.EndSteps.{told-amount}
 
@@ -143,8 +140,8 @@ pub after-the-last : ¬ MayWrite (Written (goaway_frame 7 Cancel) ∷ Taken (ord
 after-the-last m = true≢false m.goes_on
 
 -- more credit than was granted
-pub ungranted : ¬ MayWrite (Granted 1 3 ∷ begun) (update_frame 1 4)
-ungranted m = omega (arith, m.credit 1)
+pub ungranted : ¬ MayWrite (Granted 1 3 ∷ Taken (order.Open 1 tt) ∷ begun) (update_frame 1 4)
+ungranted m = omega (arith, m.owes 1)
 
 -- more than is owed: what was granted before the stream was opened is not, nor what is past 2^31 - 1 at once, nor what was told
 pub unowed-before-an-open : ¬ MayWrite (Taken (order.Open 1 tt) ∷ Granted 1 4 ∷ begun) (update_frame 1 4)
@@ -174,20 +171,9 @@ no-credit m =
 
 -- ---- a lawful run
 
-none-updated : (frames : List Frame) (id : ℕ) → list_all (λ frame. update_kind frame.head.kind frame.content == 0) frames ≡ true → sum_by (update_on id) frames ≡ 0
-none-updated [] id e = refl
-none-updated (frame ∷ frames) id e =
-    let both = and_true (update_kind frame.head.kind frame.content == 0) (list_all (λ f. update_kind f.head.kind f.content == 0) frames) e in
-    let here : update_on id frame ≡ 0 = no-updates [] frame (eqb-true (update_kind frame.head.kind frame.content) 0 both.0) id in
-    omega (arith, sum_by-cons (update_on id) frame frames, here, none-updated frames id both.1)
-
 -- no credit is told
-calm : (before : List Step) (frame : Frame) → list_all (λ f. update_kind f.head.kind f.content == 0) (frames_of before) ≡ true → update_kind frame.head.kind frame.content ≡ 0
-    → (id : ℕ) → updated id before + update_on id frame ≤ granted id before
-calm before frame all none id = omega (arith, none-updated (frames_of before) id all, no-updates before frame none id)
-
-calm-now : (before : List Step) (frame : Frame) → update_kind frame.head.kind frame.content ≡ 0 → (id : ℕ) → update_on id frame ≤ owed id before
-calm-now before frame none id = omega (arith, no-updates before frame none id)
+calm : (before : List Step) (frame : Frame) → update_kind frame.head.kind frame.content ≡ 0 → (id : ℕ) → update_on id frame ≤ owed id before
+calm before frame none id = omega (arith, no-updates before frame none id)
 
 -- a call is opened, and answered by headers, a message and trailers
 abbrev opened : List Step
@@ -212,8 +198,7 @@ first-may = record {
   not_reset = refl;
   not_ended = λ e. cc;
   goes_on = refl;
-  credit = calm [] first_settings refl refl;
-  owes = calm-now [] first_settings refl;
+  owes = calm [] first_settings refl;
   update = λ e. cc;
 }
 
@@ -230,8 +215,7 @@ head-may = record {
   not_reset = refl;
   not_ended = λ e. cc;
   goes_on = refl;
-  credit = calm opened (headers_frame 1 false true (130 ∷ [])) refl refl;
-  owes = calm-now opened (headers_frame 1 false true (130 ∷ [])) refl;
+  owes = calm opened (headers_frame 1 false true (130 ∷ [])) refl;
   update = λ e. cc;
 }
 
@@ -251,8 +235,7 @@ data-may = record {
   not_reset = refl;
   not_ended = λ e. cc;
   goes_on = refl;
-  credit = calm headed (data_frame 1 (8 ∷ 9 ∷ [])) refl refl;
-  owes = calm-now headed (data_frame 1 (8 ∷ 9 ∷ [])) refl;
+  owes = calm headed (data_frame 1 (8 ∷ 9 ∷ [])) refl;
   update = λ e. cc;
 }
 
@@ -269,8 +252,7 @@ end-may = record {
   not_reset = refl;
   not_ended = λ e. cc;
   goes_on = refl;
-  credit = calm sent (headers_frame 1 true true (130 ∷ [])) refl refl;
-  owes = calm-now sent (headers_frame 1 true true (130 ∷ [])) refl;
+  owes = calm sent (headers_frame 1 true true (130 ∷ [])) refl;
   update = λ e. cc;
 }
 
@@ -301,8 +283,7 @@ half-may = record {
   not_reset = refl;
   not_ended = λ e. cc;
   goes_on = refl;
-  credit = calm (Taken (order.Open 5 tt) ∷ begun) (headers_frame 5 false false (130 ∷ [])) refl refl;
-  owes = calm-now (Taken (order.Open 5 tt) ∷ begun) (headers_frame 5 false false (130 ∷ [])) refl;
+  owes = calm (Taken (order.Open 5 tt) ∷ begun) (headers_frame 5 false false (130 ∷ [])) refl;
   update = λ e. cc;
 }
 
@@ -319,8 +300,7 @@ rest-may = record {
   not_reset = refl;
   not_ended = λ e. cc;
   goes_on = refl;
-  credit = calm cut (continuation_frame 5 true (131 ∷ [])) refl refl;
-  owes = calm-now cut (continuation_frame 5 true (131 ∷ [])) refl;
+  owes = calm cut (continuation_frame 5 true (131 ∷ [])) refl;
   update = λ e. cc;
 }
 
@@ -337,8 +317,7 @@ reset-may = record {
   not_reset = refl;
   not_ended = λ e. cc;
   goes_on = refl;
-  credit = calm rest (reset_frame 5 Cancel) refl refl;
-  owes = calm-now rest (reset_frame 5 Cancel) refl;
+  owes = calm rest (reset_frame 5 Cancel) refl;
   update = λ e. cc;
 }
 
@@ -349,17 +328,6 @@ one-reset = (reset-may, (rest-may, (half-may, (first-may, tt))))
 
 abbrev granted-once : List Step
 granted-once = Granted 1 6 ∷ Granted 0 9 ∷ Granted 1 4 ∷ Taken (order.Open 1 tt) ∷ begun
-
-told-once : (id : ℕ) → updated id granted-once + update_on id (update_frame 1 4) ≤ granted id granted-once
-told-once id = by (id == 1) refl
-  where
-    by : (b : Bool) → (id == 1) ≡ b → updated id granted-once + update_on id (update_frame 1 4) ≤ granted id granted-once
-    by true p =
-        let P : ℕ → Type 0 = λ k. updated k granted-once + update_on k (update_frame 1 4) ≤ granted k granted-once in
-        subst P (sym (eqb-true id 1 p)) (omega arith)
-    by false p =
-        let none : update_on id (update_frame 1 4) ≡ 0 = ap (λ b. if b then 4 else 0) p in
-        omega (arith, none, none-updated (frames_of granted-once) id refl)
 
 owed-once : (id : ℕ) → update_on id (update_frame 1 4) ≤ owed id granted-once
 owed-once id = by (id == 1) refl
@@ -385,7 +353,6 @@ credit-may = record {
   not_reset = refl;
   not_ended = λ e. cc;
   goes_on = refl;
-  credit = told-once;
   owes = owed-once;
   update = λ e. (4, omega arith, omega arith, refl);
 }

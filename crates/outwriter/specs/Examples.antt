@@ -16,7 +16,7 @@ use Rattle.outwriter.specs.Calls.{is_called_off}
 use Rattle.outwriter.specs.Frames.{frame_with, first_settings, settings_ack, ping_ack, reset_frame, goaway_frame, update_frame, data_frame, headers_frame, continuation_frame, is_last}
 use Rattle.outwriter.specs.Histories.{window_sizes, table_sizes, spending_of, closing_of, is_over, opens}
 use Rattle.outwriter.specs.Parts.{Byte, Fields, End, Reset, spelled, plain_marks, completed, marks_on, on_stream}
-use Rattle.outwriter.specs.Runs.{IsAsked, due, told, told_by, unfinished, granted, updated, owed}
+use Rattle.outwriter.specs.Runs.{IsAsked, due, told, told_by, unfinished, owed}
 use Rattle.outwriter.specs.Steps.{Step, Taken, Granted, Written}
 use Rattle.outwriter.specs.TableLimits.{least_begun, least_table, limited_by}
 
@@ -130,15 +130,6 @@ over = refl
 -- of ten bytes that were granted on stream 1, which is open, four were written as credit
 abbrev pub crediting : List Step
 crediting = Written (update_frame 1 4) ∷ Granted 1 6 ∷ Granted 0 9 ∷ Granted 1 4 ∷ Taken (order.Open 1 tt) ∷ Written first_settings ∷ []
-
-pub ten_granted : granted 1 crediting ≡ 10
-ten_granted = refl
-
-pub four_updated : updated 1 crediting ≡ 4
-four_updated = refl
-
-pub none_on_the_connection : updated 0 crediting ≡ 0
-none_on_the_connection = refl
 
 -- so six are owed, and on the connection all that was granted
 pub six_owed : owed 1 crediting ≡ 6

@@ -1,5 +1,5 @@
 -- Which runs of a server's writer are lawful (RFC 9113, sections 3.4, 4.3, 5.1, 5.4.2, 6.4, 6.5, 6.7 to 6.10 and 8.1).
-use Rattle.std.specs.Prelude.{◌≡◌, ◌≢◌, ℕ, ◌+◌, ◌-◌, min, ◌<◌, ◌≤◌, ◌⊎◌, ◌==◌, ◌&&◌, ◌||◌, ◌^◌, Bool, true, false, List, [], ◌∷◌, ◌++◌, Option, None, Some, not, filter, sum_by, if◌then◌else◌}
+use Rattle.std.specs.Prelude.{◌≡◌, ◌≢◌, ℕ, ◌+◌, ◌-◌, min, ◌<◌, ◌≤◌, ◌⊎◌, ◌==◌, ◌&&◌, ◌||◌, ◌^◌, Bool, true, false, List, [], ◌∷◌, ◌++◌, Option, None, Some, not, filter, if◌then◌else◌}
 use Rattle.std.specs.List.{list_any}
 use Rattle.std.specs.Option.{option_map}
 use Rattle.account.specs.Accounts.{Begins}
@@ -151,18 +151,6 @@ owed id (Granted stream n ∷ before) = if (id == stream) && may_owe id before t
 owed id (Returned stream items ∷ before) = owed id before
 owed id (Written frame ∷ before) = owed id before - update_on id frame
 
-abbrev pub granted_by : ℕ → Step → ℕ
-granted_by id (Granted stream n) = if id == stream then n else 0
-granted_by id _ = 0
-
--- what was granted on a stream, or on the connection as stream 0
-abbrev pub granted : ℕ → List Step → ℕ
-granted id run = sum_by (granted_by id) run
-
--- the increments that were written on it
-abbrev pub updated : ℕ → List Step → ℕ
-updated id run = sum_by (update_on id) (frames_of run)
-
 -- ---- the law
 
 -- DATA fits into a frame and, unless it is empty, into the windows that the steps before leave (sections 4.2 and 6.9.1)
@@ -194,8 +182,7 @@ pub record MayWrite (before : List Step) (frame : Frame) : Type 0 where
   pub not_reset : list_any (resets frame.head.stream) (frames_of before) ≡ false
   pub not_ended : list_any (ends frame.head.stream) (frames_of before) ≡ true → MayFollowEnd frame.head.kind
   pub goes_on : list_any is_last (frames_of before) ≡ false
-  pub credit : (id : ℕ) → updated id before + update_on id frame ≤ granted id before
-  -- nor more than is owed
+  -- no more credit comes than is owed
   pub owes : (id : ℕ) → update_on id frame ≤ owed id before
   -- credit is of 1 to 2^31 - 1 bytes, and nothing else stands in its frame
   pub update : frame.head.kind ≡ kind.WindowUpdate → (n : ℕ) × (0 < n) × (n < 2 ^ 31) × (frame ≡ update_frame frame.head.stream n)
