@@ -12,9 +12,8 @@ use Rattle.outwriter.specs.declared.due.Due.TheVariants as due_kind
 use Rattle.outwriter.specs.declared.outbound.Outbound.{Outbound}
 use Rattle.outwriter.specs.declared.stream.OpenStream.{OpenStream}
 use Rattle.outwriter.specs.Calls.{is_fresh, is_served, IsRefused}
-use Rattle.outwriter.specs.Runs.{was_reset}
 use Rattle.outwriter.specs.States.{States, SameOver, is_heard, knows, nothing_known, over_on}
-use Rattle.outwriter.specs.Histories.{is_stream}
+use Rattle.outwriter.specs.Histories.{is_stream, was_reset}
 use Rattle.outwriter.specs.Parts.{Mark, marks_on}
 use Rattle.outwriter.specs.CallState.{Serves, Takes, MayBeDue, IsEnded, has_reason, none_is_new, refuses}
 use Rattle.outwriter.specs.Steps.{Step}

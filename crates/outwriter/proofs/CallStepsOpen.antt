@@ -10,9 +10,9 @@ use Rattle.outwriter.specs.declared.control.Control.TheVariants as order
 use Rattle.outwriter.specs.declared.outbound.Outbound.{Outbound}
 use Rattle.outwriter.specs.declared.stream.OpenStream.{OpenStream}
 use Rattle.outwriter.specs.Calls.{is_fresh, is_served}
-use Rattle.outwriter.specs.Runs.{was_reset, is_opened}
+use Rattle.outwriter.specs.Runs.{is_opened}
 use Rattle.outwriter.specs.States.{is_heard, knows, over_on}
-use Rattle.outwriter.specs.Histories.{is_stream}
+use Rattle.outwriter.specs.Histories.{is_stream, was_reset}
 use Rattle.outwriter.specs.CoreChanges.{Prepares, is_new_call, becomes_open}
 use Rattle.outwriter.specs.Parts.{Mark, marks_on, spelled}
 use Rattle.outwriter.specs.CallState.{Serves, MayBeDue, IsEnded, IsExact, has_reason}

@@ -15,10 +15,10 @@ use Rattle.outwriter.specs.declared.due.Due.TheVariants as due_kind
 use Rattle.outwriter.specs.declared.outbound.Outbound.{Outbound}
 use Rattle.outwriter.specs.declared.stream.OpenStream.{OpenStream}
 use Rattle.outwriter.specs.Calls.{is_fresh, is_served, is_called_off, is_dropped}
-use Rattle.outwriter.specs.Runs.{was_reset, is_opened, opens_stream}
+use Rattle.outwriter.specs.Runs.{is_opened, opens_stream}
 use Rattle.outwriter.specs.CoreChanges.{due_reset, may_write}
 use Rattle.outwriter.specs.States.{States, SameButWindows, SameOver, is_heard, is_reset, knows, open_at, over_on}
-use Rattle.outwriter.specs.Histories.{is_stream}
+use Rattle.outwriter.specs.Histories.{is_stream, was_reset}
 use Rattle.outwriter.specs.Parts.{Mark}
 use Rattle.outwriter.specs.CallState.{Serves, Takes, MayBeDue, has_reason, none_is_new, refuses}
 use Rattle.outwriter.specs.Steps.{Step, Order, Taken}

@@ -1,5 +1,5 @@
 -- A frame that ends a stream or resets it.
-use Rattle.std.proofs.Common.{◌≡◌, ◌⊎◌, ℕ, ◌+◌, ◌-◌, ◌<◌, ◌≤◌, ◌==◌, inl, inr, refl, sym, ap, subst, ◌∙◌, Bool, true, false, List, [], ◌∷◌, ◌++◌, Option, Some, None, length, arith, true≢false}
+use Rattle.std.proofs.Common.{◌≡◌, ◌⊎◌, ℕ, ◌-◌, ◌<◌, ◌≤◌, ◌==◌, inl, inr, refl, sym, ap, subst, ◌∙◌, Bool, true, false, List, [], ◌∷◌, ◌++◌, Option, Some, None, length, arith, true≢false}
 use Rattle.std.specs.Prelude.{IfSome, MatchOption, flat_map, take, drop, ◌%◌, ◌^◌, ◌||◌, ◌&&◌, is_some, not, if◌then◌else◌}
 use Rattle.std.specs.List.{list_any}
 use Rattle.std.specs.Int.{bytes_high_first}
@@ -8,7 +8,6 @@ use Rattle.std.proofs.lemmas.Bool.{eqb-true, eq-eqb, ne_eqb}
 use Rattle.h2frame.specs.Faults.{increment_of}
 use Rattle.hpack_codec.proofs.Bits.{small_mod}
 use Rattle.std.proofs.lemmas.List.Elements.{All-head}
-use Rattle.std.proofs.lemmas.List.Sums.{sum_by-cons}
 use Rattle.flow.specs.WindowHistory.{Follows, Closing, room_after}
 use Rattle.flow.specs.WindowHistory.{Step as WindowStep}
 use Rattle.flow.specs.Windows.{Windows}
@@ -21,14 +20,14 @@ use Rattle.outwriter.specs.declared.due.Due.TheVariants as due_kind
 use Rattle.outwriter.specs.Blocks.{frame_of, rest_of, is_short}
 use Rattle.outwriter.specs.States.{States, SameEnds, SameOwed, SetsEnd, is_reset, over_on, owed_on, TakesAll}
 use Rattle.outwriter.specs.Frames.{resets, ends, update_on, reset_frame, data_frame, update_frame, headers_frame, continuation_frame, ends_stream, ends_block}
-use Rattle.outwriter.specs.Histories.{is_over, is_stream, closing_of, spending_of}
+use Rattle.outwriter.specs.Histories.{is_over, is_stream, closing_of, spending_of, resets_stream, was_reset}
 use Rattle.outwriter.specs.declared.outbound.Outbound.{Outbound}
 use Rattle.outwriter.specs.RunState.{BeginsBlock, IsBetween, MirrorsOf, Mirrors, resets_of, HasWindows, HasOver, HasDue, HasBlock, HasHead, HasResets, HasStates, spent, closing, Keeps, Ends}
-use Rattle.outwriter.specs.Runs.{due, IsAsked, Fragments, Continues, MayWrite, fragments, unfinished, updated, granted, is_opened, may_owe, owed as given, resets_stream, was_reset}
+use Rattle.outwriter.specs.Runs.{due, IsAsked, Fragments, Continues, MayWrite, fragments, unfinished, is_opened, may_owe, owed as given}
 use Rattle.outwriter.specs.Steps.{Step, Taken, Granted, Written, Returned, frames_of}
 use Rattle.outwriter.proofs.Others.{or-true}
-use Rattle.outwriter.proofs.RunStateSteps.{same-block, over-kept, owed-kept, credit-kept, stand-but-open}
-use Rattle.outwriter.proofs.FrameSteps.{in-answers, in-goaways, not-over, none-over, none-begun, no-updates, credits-none, tells-first, due-told, no-block, over-same, stand-same, due-same, tells-none, credit-same, owes-same, windows-same, head-same, plain-written, IsPlain}
+use Rattle.outwriter.proofs.RunStateSteps.{same-block, over-kept, owed-kept, stand-but-open}
+use Rattle.outwriter.proofs.FrameSteps.{in-answers, in-goaways, not-over, none-over, none-begun, no-updates, tells-first, due-told, no-block, over-same, stand-same, due-same, tells-none, owes-same, windows-same, head-same, plain-written, IsPlain}
 
 -- the windows go on by what a frame closes and spends
 pub windows-more : (run : List Step) (frame : Frame) (w windows : Windows) (more : List WindowStep)
@@ -94,16 +93,16 @@ asked-reset (Granted stream n ∷ run) id code asked = asked-reset run id code a
 asked-reset (Returned stream items ∷ run) id code asked = asked-reset run id code asked
 asked-reset (Written frame ∷ run) id code asked = asked-reset run id code asked
 asked-reset (Taken one ∷ run) id code (inr before) = or-true (resets_stream id one) (was_reset id run) (asked-reset run id code before)
-asked-reset (Taken (order.Reset stream found true) ∷ run) id code (inl asked) = ap (λ b. b || was_reset id run) (eq-eqb id stream asked.0)
-asked-reset (Taken (order.Reset stream found false) ∷ run) id code (inl asked) = absurd asked
-asked-reset (Taken (order.Settings settings) ∷ run) id code (inl asked) = absurd asked
-asked-reset (Taken (order.Ping bytes) ∷ run) id code (inl asked) = absurd asked
-asked-reset (Taken (order.Window stream n) ∷ run) id code (inl asked) = absurd asked
-asked-reset (Taken (order.Open stream sender) ∷ run) id code (inl asked) = absurd asked
-asked-reset (Taken (order.Refuse stream fields) ∷ run) id code (inl asked) = absurd asked
-asked-reset (Taken (order.Goaway last found) ∷ run) id code (inl asked) = absurd asked
-asked-reset (Taken order.InputEnded ∷ run) id code (inl asked) = absurd asked
-asked-reset (Taken order.Close ∷ run) id code (inl asked) = absurd asked
+asked-reset (Taken (order.Reset stream found true) ∷ run) id code (inl asked) = ap (λ b. b || was_reset id run) (eq-eqb id stream asked.0.0)
+asked-reset (Taken (order.Reset stream found false) ∷ run) id code (inl asked) = absurd asked.0
+asked-reset (Taken (order.Settings settings) ∷ run) id code (inl asked) = absurd asked.0
+asked-reset (Taken (order.Ping bytes) ∷ run) id code (inl asked) = absurd asked.0
+asked-reset (Taken (order.Window stream n) ∷ run) id code (inl asked) = absurd asked.0
+asked-reset (Taken (order.Open stream sender) ∷ run) id code (inl asked) = absurd asked.0
+asked-reset (Taken (order.Refuse stream fields) ∷ run) id code (inl asked) = absurd asked.0
+asked-reset (Taken (order.Goaway last found) ∷ run) id code (inl asked) = absurd asked.0
+asked-reset (Taken order.InputEnded ∷ run) id code (inl asked) = absurd asked.0
+asked-reset (Taken order.Close ∷ run) id code (inl asked) = absurd asked.0
 
 -- and wasn't, where that isn't kept
 pub unreset : (run : List Step) (id : ℕ) (owed : States) → HasResets run owed → is_reset owed id ≡ false → is_stream id ≡ true → was_reset id run ≡ true → ⊥
@@ -138,7 +137,6 @@ reset-written run begun gone w windows waiting block owed less id code made is i
         not_reset = still.0;
         not_ended = λ e. absurd (true≢false (sym e ∙ still.1));
         goes_on = m.goes ∙ not_gone;
-        credit = credits-none run (reset_frame id code) owed none m.credits;
         owes = λ k. omega (arith, none k);
         update = λ e. cc;
       },
@@ -149,7 +147,6 @@ reset-written run begun gone w windows waiting block owed less id code made is i
         answers = due-told run (reset_frame id code) (due_kind.Reset id code) waiting refl m.answers;
         goes_on = same-block run (Written (reset_frame id code) ∷ run) block (no-block run (reset_frame id code) refl ∙ sym nothing) m.goes_on;
         not_reset = subst (HasHead (reset_frame id code ∷ frames_of run)) (sym no_block) tt;
-        credits = credit-kept (Written (reset_frame id code) ∷ run) owed less same (credit-same run (reset_frame id code) owed none m.credits);
         stand = ended-stand run (reset_frame id code) owed less id true (λ k. or-none (k == id)) (λ k e. cc) (λ k e. e) none
             (λ e. m.stand.resets id number ∙ asked-reset run id code asked) there sets same is_open m.stand;
       },
@@ -246,7 +243,6 @@ headers-written run begun gone w windows waiting left block rest owed less id en
         not_reset = still.0;
         not_ended = λ e. absurd (true≢false (sym e ∙ still.1));
         goes_on = m.goes ∙ not_gone;
-        credit = credits-none run (headers_frame id ends_it whole fragment) owed none m.credits;
         owes = λ k. omega (arith, none k);
         update = λ e. cc;
       },
@@ -257,7 +253,6 @@ headers-written run begun gone w windows waiting left block rest owed less id en
         answers = due-same run (headers_frame id ends_it whole fragment) left refl dues;
         goes_on = headed-block run id ends_it whole fragment rest keeps;
         not_reset = headed-head run id ends_it whole fragment rest keeps still.0;
-        credits = credit-kept (Written (headers_frame id ends_it whole fragment) ∷ run) owed less same (credit-same run (headers_frame id ends_it whole fragment) owed none m.credits);
         stand = headed-stand run id ends_it whole fragment owed less sets same there is_open m.stand;
       },
     )
@@ -309,7 +304,6 @@ continuation-written run begun gone w waiting block rest owed made is is_rest is
         not_reset = m.not_reset;
         not_ended = λ e. inr refl;
         goes_on = m.goes ∙ not_gone;
-        credit = credits-none run (continuation_frame block.id (is_short block) (take 16384 block.rest)) owed none m.credits;
         owes = λ k. omega (arith, none k);
         update = λ e. cc;
       },
@@ -320,7 +314,6 @@ continuation-written run begun gone w waiting block rest owed made is is_rest is
         answers = due-same run (continuation_frame block.id (is_short block) (take 16384 block.rest)) waiting refl m.answers;
         goes_on = continued-block run block.id (is_short block) (take 16384 block.rest) rest keeps m.goes_on.1 m.goes_on.2;
         not_reset = continued-head run block.id (is_short block) (take 16384 block.rest) rest keeps m.not_reset;
-        credits = credit-same run (continuation_frame block.id (is_short block) (take 16384 block.rest)) owed none m.credits;
         stand = stand-same run (continuation_frame block.id (is_short block) (take 16384 block.rest)) owed refl refl none m.stand;
       },
     )
@@ -351,7 +344,6 @@ data-written run begun gone w windows waiting block owed id bytes made is is_beg
         not_reset = still.0;
         not_ended = λ e. absurd (true≢false (sym e ∙ still.1));
         goes_on = m.goes ∙ not_gone;
-        credit = credits-none run (data_frame id bytes) owed none m.credits;
         owes = λ k. omega (arith, none k);
         update = λ e. cc;
       },
@@ -362,7 +354,6 @@ data-written run begun gone w windows waiting block owed id bytes made is is_beg
         answers = due-same run (data_frame id bytes) waiting refl m.answers;
         goes_on = same-block run (Written (data_frame id bytes) ∷ run) block (no-block run (data_frame id bytes) refl ∙ sym nothing) m.goes_on;
         not_reset = head-same (data_frame id bytes) (frames_of run) block refl m.not_reset;
-        credits = credit-same run (data_frame id bytes) owed none m.credits;
         stand = stand-same run (data_frame id bytes) owed refl refl none m.stand;
       },
     )
@@ -411,15 +402,6 @@ owed-told : (b : Bool) (n kept owed : ℕ) → kept ≡ owed → (b ≡ true →
 owed-told true n kept owed same is = let all : kept ≡ n = is refl in omega (arith, same, all)
 owed-told false n kept owed same is = omega arith
 
-at-most : (b : Bool) (n updates owed grants : ℕ) → updates + owed ≤ grants → (b ≡ true → owed ≡ n) → updates + (if b then n else 0) ≤ grants
-at-most true n updates owed grants h is = let e : owed ≡ n = is refl in omega (arith, h, e)
-at-most false n updates owed grants h is = omega (arith, h)
-
-at-most-left : (b : Bool) (n updates owed grants : ℕ) → updates + owed ≤ grants → (b ≡ true → owed ≡ n)
-    → ((if b then n else 0) + updates) + (if b then 0 else owed) ≤ grants
-at-most-left true n updates owed grants h is = let e : owed ≡ n = is refl in omega (arith, h, e)
-at-most-left false n updates owed grants h is = omega (arith, h)
-
 pub update-written : (run : List Step) (begun gone : Bool) (w : Windows) (waiting : List Due)
     (block : Option HeaderBlock) (owed less : States) (taken : ℕ × ℕ) (made : Frame)
     → made ≡ update_frame taken.0 taken.1 → begun ≡ true → gone ≡ false → block ≡ None → TakesAll owed (Some taken) less → SameEnds owed less
@@ -437,10 +419,6 @@ update-written run begun gone w waiting block owed less taken made is is_begun n
     ((m.stand.over taken.0).1 (not-over-there run owed taken.0 m.stand free))
     (λ e. inl refl)
     (unreset-there run taken.0 free)
-    (λ k. subst (λ n. updated k run + n ≤ granted k run) (sym (amount k)) (at-most (k == taken.0) taken.1 (updated k run) (owed_on owed k) (granted k run) (m.credits k) (here k)))
-    (λ k. subst (λ n. n + owed_on less k ≤ granted k run) (sym (sum_by-cons (update_on k) (update_frame taken.0 taken.1) (frames_of run) ∙ ap (λ n. n + updated k run) (amount k)))
-    (subst (λ n. ((if k == taken.0 then taken.1 else 0) + updated k run) + n ≤ granted k run) (sym (takes.4 k))
-    (at-most-left (k == taken.0) taken.1 (updated k run) (owed_on owed k) (granted k run) (m.credits k) (here k))))
     (λ k. subst (λ n. n ≤ given k run) (sym (amount k)) (owed-told (k == taken.0) taken.1 (owed_on owed k) (given k run) (m.stand.owes k).0 (here k)))
     (record {
       over = over-kept (Written (update_frame taken.0 taken.1) ∷ run) owed less (λ k. (ends k).0) (over-same run (update_frame taken.0 taken.1) owed refl refl m.stand.over);

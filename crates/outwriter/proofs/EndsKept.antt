@@ -14,9 +14,9 @@ use Rattle.outwriter.specs.declared.stream.OpenStream.{OpenStream}
 use Rattle.outwriter.specs.declared.outbound.Outbound.{Outbound}
 use Rattle.outwriter.specs.Calls.{calls_off, is_called_off, is_dropped, TellEnds}
 use Rattle.outwriter.specs.States.{States, SameOver, SameOwed, SetsEnd, StandButWindows, is_heard, is_reset, over_on}
-use Rattle.outwriter.specs.Histories.{is_stream, is_over}
+use Rattle.outwriter.specs.Histories.{is_stream, is_over, resets_stream, was_reset}
 use Rattle.outwriter.specs.RunState.{Ends, HasOver, IsSpent, SameButOpen}
-use Rattle.outwriter.specs.Runs.{resets_stream, was_reset, is_opened}
+use Rattle.outwriter.specs.Runs.{is_opened}
 use Rattle.outwriter.specs.CallState.{AreOver, Heeds, HeedsEnds, HeedsOpen, IsEnding, IsOwn, Rests, Takes, is_due_of, none_is_new, refuses}
 use Rattle.outwriter.specs.Steps.{Step, Order, Taken}
 use Rattle.outwriter.specs.ToldByNow.{SameStanding}

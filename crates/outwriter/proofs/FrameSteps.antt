@@ -1,9 +1,8 @@
 -- What is kept follows from a run of one more frame, and the frame might be written.
-use Rattle.std.proofs.Common.{◌≡◌, ℕ, ◌+◌, ◌<◌, ◌≤◌, ◌^◌, ◌==◌, inl, inr, refl, sym, ap, subst, ◌∙◌, Bool, true, false, List, [], ◌∷◌, ◌++◌, Option, Some, None, arith, append-nil, append_assoc, true≢false}
+use Rattle.std.proofs.Common.{◌≡◌, ℕ, ◌<◌, ◌≤◌, ◌^◌, ◌==◌, inl, inr, refl, sym, ap, subst, ◌∙◌, Bool, true, false, List, [], ◌∷◌, ◌++◌, Option, Some, None, arith, append-nil, append_assoc, true≢false}
 use Rattle.std.specs.Prelude.{filter, not, flat_map, ◌||◌, ◌&&◌, is_some, if◌then◌else◌}
 use Rattle.std.specs.List.{list_any}
 use Rattle.std.proofs.lemmas.List.Elements.{filter-append}
-use Rattle.std.proofs.lemmas.List.Sums.{sum_by-cons}
 use Rattle.account.specs.Accounts.{Begins}
 use Rattle.flow.specs.WindowHistory.{Step as WindowStep}
 use Rattle.flow.specs.Windows.{Windows}
@@ -15,9 +14,9 @@ use Rattle.outwriter.specs.declared.control.Control.TheVariants.{Goaway}
 use Rattle.outwriter.specs.declared.due.Due.{Due}
 use Rattle.outwriter.specs.States.{States, over_on}
 use Rattle.outwriter.specs.Frames.{is_last, reset_frame, resets, ends, ends_stream, is_reset, update_on, update_kind, update_frame, ends_block, first_settings, settings_ack, ping_ack, goaway_frame}
-use Rattle.outwriter.specs.Histories.{closing_of, spending_of, is_over, is_stream}
-use Rattle.outwriter.specs.RunState.{Mirrors, HasWindows, HasOver, HasDue, HasBlock, HasHead, HasCredit, HasOwed, HasStates, duties_of, resets_of}
-use Rattle.outwriter.specs.Runs.{has_begun, IsAsked, Fragments, unfinished, granted, granted_by, updated, due, told, told_by, is_goaway, goaways, without_goaway, AreAmong, MayWrite, Continues, MayFollowEnd, fragments, owed as given, was_reset}
+use Rattle.outwriter.specs.Histories.{closing_of, spending_of, is_over, is_stream, was_reset}
+use Rattle.outwriter.specs.RunState.{Mirrors, HasWindows, HasOver, HasDue, HasBlock, HasHead, HasOwed, HasStates, duties_of, resets_of}
+use Rattle.outwriter.specs.Runs.{has_begun, IsAsked, Fragments, unfinished, due, told, told_by, is_goaway, goaways, without_goaway, AreAmong, MayWrite, Continues, MayFollowEnd, fragments, owed as given}
 use Rattle.outwriter.specs.Steps.{Step, Taken, Granted, Written, Returned, frames_of}
 use Rattle.outwriter.proofs.RunStateSteps.{same-block, all-behind}
 
@@ -98,9 +97,6 @@ module _ (run : List Step) (frame : Frame) where
       → Begins (told run ++ told_by (has_begun (frames_of run)) frame) (due run)
   tells-first one waiting is h = (flat_map duties_of waiting, (due-told one waiting is h).0)
 
-  pub credit-same : (owed : States) → ((id : ℕ) → update_on id frame ≡ 0) → HasCredit run owed → HasCredit (Written frame ∷ run) owed
-  credit-same owed none h id = omega (arith, h id, none id, sum_by-cons (update_on id) frame (frames_of run))
-
   pub owes-same : (kept : States) → ((id : ℕ) → update_on id frame ≡ 0) → HasOwed run kept → HasOwed (Written frame ∷ run) kept
   owes-same kept none h id = (omega (arith, (h id).0, none id), (h id).1, (h id).2)
 
@@ -113,9 +109,6 @@ module _ (run : List Step) (frame : Frame) where
     owes = owes-same kept none h.owes;
     no_stream_0 = h.no_stream_0;
   }
-
-  pub credits-none : (owed : States) → ((id : ℕ) → update_on id frame ≡ 0) → HasCredit run owed → (id : ℕ) → updated id run + update_on id frame ≤ granted id run
-  credits-none owed none h id = omega (arith, h id, none id)
 
   zero-if : (b : Bool) (n : ℕ) → n ≡ 0 → (if b then n else 0) ≡ 0
   zero-if true n e = e
@@ -190,7 +183,6 @@ first-written run begun gone w waiting block owed frame is not_begun not_gone m 
         not_reset = ap (list_any (resets 0)) none;
         not_ended = λ e. absurd (true≢false (sym e ∙ ap (list_any (ends 0)) none));
         goes_on = m.goes ∙ not_gone;
-        credit = credits-none run first_settings owed no_update m.credits;
         owes = λ id. omega (arith, no_update id);
         update = λ e. cc;
       },
@@ -201,7 +193,6 @@ first-written run begun gone w waiting block owed frame is not_begun not_gone m 
         answers = due-same run first_settings waiting no_duty m.answers;
         goes_on = same-block run (Written first_settings ∷ run) block (no-block run first_settings refl ∙ sym nothing) m.goes_on;
         not_reset = head-same first_settings (frames_of run) block refl m.not_reset;
-        credits = credit-same run first_settings owed no_update m.credits;
         stand = stand-same run first_settings owed refl refl no_update m.stand;
       },
     )
@@ -224,13 +215,12 @@ pub plain-written : (run : List Step) (begun gone after : Bool) (w : Windows) (w
     → list_any (resets frame.head.stream) (frames_of run) ≡ false
     → (list_any (ends frame.head.stream) (frames_of run) ≡ true → MayFollowEnd frame.head.kind)
     → (is_stream frame.head.stream ≡ true → was_reset frame.head.stream run ≡ true → ⊥)
-    → ((id : ℕ) → updated id run + update_on id frame ≤ granted id run) → HasCredit (Written frame ∷ run) less
     → ((id : ℕ) → update_on id frame ≤ given id run) → HasStates (Written frame ∷ run) less
     → (frame.head.kind ≡ kind.WindowUpdate → (n : ℕ) × (0 < n) × (n < 2 ^ 31) × (frame ≡ update_frame frame.head.stream n))
     → is_last frame ≡ after
     → Mirrors run begun gone w waiting block owed
     → MayWrite run frame × Mirrors (Written frame ∷ run) begun after w left block less
-plain-written run begun gone after w waiting left block owed less frame is_begun not_gone no_block plain tells dues not_reset not_ended unreset allowed credits within stand whole last m =
+plain-written run begun gone after w waiting left block owed less frame is_begun not_gone no_block plain tells dues not_reset not_ended unreset within stand whole last m =
     let nothing : unfinished run ≡ None = subst (HasBlock run) no_block m.goes_on in (
       record {
         first = λ e. absurd (none-begun (frames_of run) (m.begins ∙ is_begun) e);
@@ -244,7 +234,6 @@ plain-written run begun gone after w waiting left block owed less frame is_begun
         not_reset = not_reset;
         not_ended = not_ended;
         goes_on = m.goes ∙ not_gone;
-        credit = allowed;
         owes = within;
         update = whole;
       },
@@ -255,7 +244,6 @@ plain-written run begun gone after w waiting left block owed less frame is_begun
         answers = dues;
         goes_on = same-block run (Written frame ∷ run) block (no-block run frame (plain.no_fragment (unfinished run)) ∙ sym nothing) m.goes_on;
         not_reset = head-same frame (frames_of run) block plain.no_reset m.not_reset;
-        credits = credits;
         stand = stand;
       },
     )
@@ -306,7 +294,7 @@ due-written run begun gone after w one waiting block owed made frame is is_begun
     (ap (λ id. list_any (resets id) (frames_of run)) on_0 ∙ still.0)
     (λ e. absurd (true≢false (sym e ∙ ap (λ id. list_any (ends id) (frames_of run)) on_0 ∙ still.1)))
     (λ there was. no-stream frame.head.stream on_0 there)
-    (credits-none run frame owed none m.credits) (credit-same run frame owed none m.credits) (λ k. omega (arith, none k)) (stand-same run frame owed plain.no_end plain.no_reset none m.stand)
+    (λ k. omega (arith, none k)) (stand-same run frame owed plain.no_end plain.no_reset none m.stand)
     (λ e. absurd (no_credit e)) last m)
 
 -- ---- the last word of a dead core
@@ -335,7 +323,6 @@ may-part run begun gone w waiting block owed last code is_begun not_gone no_bloc
       not_reset = still.0;
       not_ended = λ e. absurd (true≢false (sym e ∙ still.1));
       goes_on = m.goes ∙ not_gone;
-      credit = λ id. omega (arith, credits-none run frame owed none m.credits id, sum_by-cons (granted_by id) (Taken (Goaway last code)) run);
       owes = λ id. omega (arith, none id);
       update = λ e. cc;
     }

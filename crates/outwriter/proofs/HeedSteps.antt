@@ -17,10 +17,10 @@ use Rattle.outwriter.specs.Calls.{is_called_off, is_dropped}
 use Rattle.outwriter.specs.CallState.{Heeds, HeedsEnds, IsEnding, Serves, Takes, has_reason, is_due_of, none_is_new}
 use Rattle.outwriter.specs.CoreChanges.{Prepares, becomes_open, due_reset, is_new_call, may_write}
 use Rattle.outwriter.specs.States.{SameOver, is_heard, is_reset, knows, over_on}
-use Rattle.outwriter.specs.Histories.{is_stream}
+use Rattle.outwriter.specs.Histories.{is_stream, resets_stream, was_reset}
 use Rattle.outwriter.specs.Parts.{Mark}
 use Rattle.outwriter.specs.RunState.{HasResets}
-use Rattle.outwriter.specs.Runs.{resets_stream, was_reset, is_opened}
+use Rattle.outwriter.specs.Runs.{is_opened}
 use Rattle.outwriter.specs.Steps.{Step, Order, Taken, Granted, Written, Returned}
 use Rattle.outwriter.proofs.EndsKept.{either-true, heeds-before, heeds-called, heeds-taken, more-dues, over-same, takes-ends, takes-heard}
 use Rattle.outwriter.proofs.Others.{or-true, dropped-taken, known-opened, reason-taken}

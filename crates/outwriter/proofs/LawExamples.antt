@@ -1,11 +1,9 @@
 -- The law of runs on examples: a run that is lawful, and for each rule a frame that isn't.
 use Rattle.std.proofs.Common.{◌≡◌, ℕ, ◌<◌, ◌≤◌, ◌⊎◌, inl, inr, refl, sym, ap, subst, Bool, true, false, List, [], ◌∷◌, ◌==◌, Option, length, arith, ◌∙◌, true≢false}
-use Rattle.std.specs.Prelude.{sum_by, ◌+◌, if◌then◌else◌, is_some}
+use Rattle.std.specs.Prelude.{if◌then◌else◌, is_some}
 use Rattle.std.specs.Int.{from_be_bytes, w32}
-use Rattle.std.specs.List.{list_all}
 use Rattle.std.proofs.lemmas.Bool.{eqb-true}
 use Rattle.std.proofs.lemmas.List.Elements.{All-cons, All-nil}
-use Rattle.std.proofs.lemmas.List.Sums.{sum_by-cons}
 use Rattle.account.specs.Accounts.{Begins}
 use Rattle.flow.specs.WindowHistory.{CanResize, Opening, Resizing, room_after}
 use Rattle.flow.specs.WindowHistory.{Step as WindowStep}
@@ -22,12 +20,11 @@ use Rattle.outwriter.specs.declared.control.Control.TheVariants as order
 use Rattle.outwriter.specs.Frames.{frame_with, update_kind, update_on, first_settings, settings_ack, ping_ack, reset_frame, goaway_frame, update_frame, data_frame, headers_frame, continuation_frame, is_data}
 use Rattle.outwriter.specs.Histories.{HasHistory, Takes}
 use Rattle.outwriter.specs.Parts.{Mark, Tells}
-use Rattle.outwriter.specs.Runs.{MayWrite, MayFollowEnd, MayFollowReset, IsLawful, IsAsked, AreAmong, updated, granted, owed}
-use Rattle.outwriter.specs.Steps.{Step, Taken, Granted, Written, frames_of}
+use Rattle.outwriter.specs.Runs.{MayWrite, MayFollowEnd, MayFollowReset, IsLawful, IsAsked, AreAmong, owed}
+use Rattle.outwriter.specs.Steps.{Step, Taken, Granted, Written}
 use Rattle.outwriter.specs.Examples.{crediting}
 use Rattle.outwriter.specs.RunState.{IsAnswered}
 use Rattle.hpack_codec.specs.Table.{Table}
-use Rattle.hpack_codec.proofs.HuffmanTable.{and_true}
 use Rattle.outwriter.proofs.FrameSteps.{no-updates}
 use Rattle.outwriter.proofs.EndSteps.{told-amount}
 use Rattle.outwriter.proofs.SoundFrames.{sound-settings, sound-reset, sound-update, sound-data, sound-headers, sound-continuation}
@@ -130,8 +127,8 @@ goaways-out-of-order m = by m.parts
 pub unasked-reset : ¬ MayWrite (Taken (order.Reset 3 Cancel false) ∷ begun) (reset_frame 3 Cancel)
 unasked-reset m = by (m.asked refl).1
   where
-    by : ⊥ ⊎ ⊥ → ⊥
-    by (inl h) = h
+    by : (⊥ × (false ≡ false)) ⊎ ⊥ → ⊥
+    by (inl h) = h.0
     by (inr h) = h
 
 -- or one with another error
@@ -139,8 +136,17 @@ pub reset-with-another-error : ¬ MayWrite (Taken (order.Reset 3 Cancel true) �
 reset-with-another-error m = by (m.asked refl).0 (m.asked refl).1 (m.asked refl).2
   where
     by : (code : ErrorCode) → IsAsked 3 code (Taken (order.Reset 3 Cancel true) ∷ begun) → reset_frame 3 InternalError ≡ reset_frame 3 code → ⊥
-    by code (inl asked) e = true≢false (ap (λ (frame : Frame). from_be_bytes w32 frame.content == 2) (e ∙ ap (λ (c : ErrorCode). reset_frame 3 c) asked.1))
+    by code (inl asked) e = true≢false (ap (λ (frame : Frame). from_be_bytes w32 frame.content == 2) (e ∙ ap (λ (c : ErrorCode). reset_frame 3 c) asked.0.1))
     by code (inr none) e = none
+
+-- the peer's reset is answered by one
+pub answered-reset : ¬ MayWrite (Taken (order.Reset 3 Cancel true) ∷ Taken (order.Reset 3 Cancel false) ∷ begun) (reset_frame 3 Cancel)
+answered-reset m = by (m.asked refl).1
+  where
+    by : {A : Type 0} → (A × (true ≡ false)) ⊎ ((⊥ × (false ≡ false)) ⊎ ⊥) → ⊥
+    by (inl h) = true≢false h.1
+    by (inr (inl h)) = h.0
+    by (inr (inr h)) = h
 
 -- a header block is unfinished
 pub inside-a-block : ¬ MayWrite (Written (headers_frame 5 false false (1 ∷ [])) ∷ begun) (data_frame 5 (7 ∷ []))
@@ -194,8 +200,8 @@ pub after-the-last : ¬ MayWrite (Written (goaway_frame 7 Cancel) ∷ Taken (ord
 after-the-last m = true≢false m.goes_on
 
 -- more credit than was granted
-pub ungranted : ¬ MayWrite (Granted 1 3 ∷ begun) (update_frame 1 4)
-ungranted m = omega (arith, m.credit 1)
+pub ungranted : ¬ MayWrite (Granted 1 3 ∷ Taken (order.Open 1 tt) ∷ begun) (update_frame 1 4)
+ungranted m = omega (arith, m.owes 1)
 
 -- more than is owed: what was granted before the stream was opened is not, nor what is past 2^31 - 1 at once, nor what was told
 pub unowed-before-an-open : ¬ MayWrite (Taken (order.Open 1 tt) ∷ Granted 1 4 ∷ begun) (update_frame 1 4)
@@ -248,20 +254,9 @@ table-over-the-limit table marks over tells =
 
 -- ---- a lawful run
 
-none-updated : (frames : List Frame) (id : ℕ) → list_all (λ frame. update_kind frame.head.kind frame.content == 0) frames ≡ true → sum_by (update_on id) frames ≡ 0
-none-updated [] id e = refl
-none-updated (frame ∷ frames) id e =
-    let both = and_true (update_kind frame.head.kind frame.content == 0) (list_all (λ f. update_kind f.head.kind f.content == 0) frames) e in
-    let here : update_on id frame ≡ 0 = no-updates [] frame (eqb-true (update_kind frame.head.kind frame.content) 0 both.0) id in
-    omega (arith, sum_by-cons (update_on id) frame frames, here, none-updated frames id both.1)
-
 -- no credit is told
-calm : (before : List Step) (frame : Frame) → list_all (λ f. update_kind f.head.kind f.content == 0) (frames_of before) ≡ true → update_kind frame.head.kind frame.content ≡ 0
-    → (id : ℕ) → updated id before + update_on id frame ≤ granted id before
-calm before frame all none id = omega (arith, none-updated (frames_of before) id all, no-updates before frame none id)
-
-calm-now : (before : List Step) (frame : Frame) → update_kind frame.head.kind frame.content ≡ 0 → (id : ℕ) → update_on id frame ≤ owed id before
-calm-now before frame none id = omega (arith, no-updates before frame none id)
+calm : (before : List Step) (frame : Frame) → update_kind frame.head.kind frame.content ≡ 0 → (id : ℕ) → update_on id frame ≤ owed id before
+calm before frame none id = omega (arith, no-updates before frame none id)
 
 -- a call is opened, and answered by headers, a message and trailers
 abbrev opened : List Step
@@ -286,8 +281,7 @@ first-may = record {
   not_reset = refl;
   not_ended = λ e. cc;
   goes_on = refl;
-  credit = calm [] first_settings refl refl;
-  owes = calm-now [] first_settings refl;
+  owes = calm [] first_settings refl;
   update = λ e. cc;
 }
 
@@ -304,8 +298,7 @@ head-may = record {
   not_reset = refl;
   not_ended = λ e. cc;
   goes_on = refl;
-  credit = calm opened (headers_frame 1 false true (130 ∷ [])) refl refl;
-  owes = calm-now opened (headers_frame 1 false true (130 ∷ [])) refl;
+  owes = calm opened (headers_frame 1 false true (130 ∷ [])) refl;
   update = λ e. cc;
 }
 
@@ -325,8 +318,7 @@ data-may = record {
   not_reset = refl;
   not_ended = λ e. cc;
   goes_on = refl;
-  credit = calm headed (data_frame 1 (8 ∷ 9 ∷ [])) refl refl;
-  owes = calm-now headed (data_frame 1 (8 ∷ 9 ∷ [])) refl;
+  owes = calm headed (data_frame 1 (8 ∷ 9 ∷ [])) refl;
   update = λ e. cc;
 }
 
@@ -343,8 +335,7 @@ end-may = record {
   not_reset = refl;
   not_ended = λ e. cc;
   goes_on = refl;
-  credit = calm sent (headers_frame 1 true true (130 ∷ [])) refl refl;
-  owes = calm-now sent (headers_frame 1 true true (130 ∷ [])) refl;
+  owes = calm sent (headers_frame 1 true true (130 ∷ [])) refl;
   update = λ e. cc;
 }
 
@@ -383,8 +374,7 @@ half-may = record {
   not_reset = refl;
   not_ended = λ e. cc;
   goes_on = refl;
-  credit = calm (Taken (order.Open 5 tt) ∷ begun) (headers_frame 5 false false (130 ∷ [])) refl refl;
-  owes = calm-now (Taken (order.Open 5 tt) ∷ begun) (headers_frame 5 false false (130 ∷ [])) refl;
+  owes = calm (Taken (order.Open 5 tt) ∷ begun) (headers_frame 5 false false (130 ∷ [])) refl;
   update = λ e. cc;
 }
 
@@ -401,8 +391,7 @@ rest-may = record {
   not_reset = refl;
   not_ended = λ e. cc;
   goes_on = refl;
-  credit = calm cut (continuation_frame 5 true (131 ∷ [])) refl refl;
-  owes = calm-now cut (continuation_frame 5 true (131 ∷ [])) refl;
+  owes = calm cut (continuation_frame 5 true (131 ∷ [])) refl;
   update = λ e. cc;
 }
 
@@ -413,14 +402,13 @@ reset-may = record {
   content = λ e. cc;
   answers = ([], refl);
   parts = refl;
-  asked = λ e. (Cancel, inl (refl, refl), refl);
+  asked = λ e. (Cancel, inl ((refl, refl), refl), refl);
   after_reset = λ there was. inl refl;
   block = λ e. cc;
   not_reset = refl;
   not_ended = λ e. cc;
   goes_on = refl;
-  credit = calm rest (reset_frame 5 Cancel) refl refl;
-  owes = calm-now rest (reset_frame 5 Cancel) refl;
+  owes = calm rest (reset_frame 5 Cancel) refl;
   update = λ e. cc;
 }
 
@@ -439,17 +427,6 @@ one-reset = (
 
 abbrev granted-once : List Step
 granted-once = Granted 1 6 ∷ Granted 0 9 ∷ Granted 1 4 ∷ Taken (order.Open 1 tt) ∷ begun
-
-told-once : (id : ℕ) → updated id granted-once + update_on id (update_frame 1 4) ≤ granted id granted-once
-told-once id = by (id == 1) refl
-  where
-    by : (b : Bool) → (id == 1) ≡ b → updated id granted-once + update_on id (update_frame 1 4) ≤ granted id granted-once
-    by true p =
-        let P : ℕ → Type 0 = λ k. updated k granted-once + update_on k (update_frame 1 4) ≤ granted k granted-once in
-        subst P (sym (eqb-true id 1 p)) (omega arith)
-    by false p =
-        let none : update_on id (update_frame 1 4) ≡ 0 = ap (λ b. if b then 4 else 0) p in
-        omega (arith, none, none-updated (frames_of granted-once) id refl)
 
 owed-once : (id : ℕ) → update_on id (update_frame 1 4) ≤ owed id granted-once
 owed-once id = by (id == 1) refl
@@ -475,7 +452,6 @@ credit-may = record {
   not_reset = refl;
   not_ended = λ e. cc;
   goes_on = refl;
-  credit = told-once;
   owes = owed-once;
   update = λ e. (4, omega arith, omega arith, refl);
 }

@@ -3,7 +3,6 @@ use Rattle.std.proofs.Common.{◌≡◌, ℕ, inr, refl, sym, ap, subst, ◌∙�
 use Rattle.std.specs.Prelude.{All, get_or, IfErr, IfNone, OnErr, OnOk, ◌==◌, ◌&&◌, ◌||◌, if◌then◌else◌}
 use Rattle.std.proofs.lemmas.List.{length-map, map-append}
 use Rattle.std.proofs.lemmas.List.Elements.{All-cons, All-nil, All-weaker}
-use Rattle.std.proofs.lemmas.List.Sums.{sum_by-cons}
 use Rattle.account.specs.declared.call.OutItem.{OutItem}
 use Rattle.callbox.specs.declared.sender.Sender.{Sender}
 use Rattle.h2frame.specs.declared.error_code.ErrorCode.{ErrorCode}
@@ -25,10 +24,10 @@ use Rattle.outwriter.specs.CallState.{Kept, MayBeDue, Takes, none_is_new}
 use Rattle.outwriter.specs.CoreChanges.{KeptOn, KeptStill, KeptWith, Prepares, becomes_open, due_reset, is_new_call}
 use Rattle.outwriter.specs.Cores.{IsAtRest, IsUnused, Keeps, Leads, LeadsControl, LeadsOn, LeadsStill, Parts, calls}
 use Rattle.outwriter.specs.Frames.{IsSound, goaway_frame}
-use Rattle.outwriter.specs.Histories.{is_stream}
+use Rattle.outwriter.specs.Histories.{is_stream, resets_stream}
 use Rattle.outwriter.specs.OpenStreams.{Closes, OpenStreams, stream_at}
 use Rattle.outwriter.specs.Parts.{Mark, IsPart}
-use Rattle.outwriter.specs.Runs.{IsLawful, MayWrite, granted_by, opens_stream, resets_stream}
+use Rattle.outwriter.specs.Runs.{IsLawful, MayWrite, opens_stream}
 use Rattle.outwriter.specs.RunState.{IsSpent, MirrorsOf, MirrorsOn, Progresses, Stays}
 use Rattle.outwriter.specs.States.{SameOver, States, is_heard, is_reset, knows, nothing_known, open_at}
 use Rattle.outwriter.specs.Steps.{Step, Order, Taken, Granted, Written, Returned, order_of}
@@ -223,13 +222,6 @@ may-part-granted run id n last code m = record {
   not_reset = m.not_reset;
   not_ended = m.not_ended;
   goes_on = m.goes_on;
-  credit = λ k. omega (
-    arith,
-    m.credit k,
-    sum_by-cons (granted_by k) (Taken (Goaway last code)) run,
-    sum_by-cons (granted_by k) (Taken (Goaway last code)) (Granted id n ∷ run),
-    sum_by-cons (granted_by k) (Granted id n) run,
-  );
   owes = λ k. omega (arith, no-updates run (goaway_frame last code) refl k);
   update = λ e. cc;
 }
@@ -248,13 +240,6 @@ may-part-returned run id items last code m = record {
   not_reset = m.not_reset;
   not_ended = m.not_ended;
   goes_on = m.goes_on;
-  credit = λ k. omega (
-    arith,
-    m.credit k,
-    sum_by-cons (granted_by k) (Taken (Goaway last code)) run,
-    sum_by-cons (granted_by k) (Taken (Goaway last code)) (Returned id items ∷ run),
-    sum_by-cons (granted_by k) (Returned id items) run,
-  );
   owes = m.owes;
   update = λ e. cc;
 }

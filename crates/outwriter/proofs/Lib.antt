@@ -31,4 +31,5 @@ pub mod Leads
 pub mod DataSteps
 pub mod LookSteps
 pub mod LawExamples
+pub mod CreditGranted
 pub mod ReturnSteps

@@ -5,9 +5,9 @@ use Rattle.account.specs.declared.call.OutItem.{OutItem}
 use Rattle.h2frame.specs.declared.frame.Frame.{Frame}
 use Rattle.lists.specs.declared.field.Field.{Field}
 use Rattle.outwriter.specs.Calls.{is_fresh, is_served, refuses_stream, calls_off, is_called_off, drops, is_dropped, IsRefused, IsOther, IsReturned}
-use Rattle.outwriter.specs.Runs.{was_reset, resets_stream, is_opened, opens_stream}
+use Rattle.outwriter.specs.Runs.{is_opened, opens_stream}
 use Rattle.outwriter.specs.declared.outbound.Outbound.{Outbound}
-use Rattle.outwriter.specs.Histories.{is_stream}
+use Rattle.outwriter.specs.Histories.{is_stream, was_reset, resets_stream}
 use Rattle.outwriter.specs.States.{knows}
 use Rattle.outwriter.specs.Parts.{Mark}
 use Rattle.outwriter.specs.CallState.{IsUncalled, has_reason}

@@ -13,8 +13,7 @@ use Rattle.outwriter.specs.declared.stream.OpenStream.{OpenStream}
 use Rattle.h2frame.specs.declared.frame.Frame.{Frame}
 use Rattle.outwriter.specs.Cores.{calls, lanes, AreStuck, IsStuck, IsQuiet, HasNoFrame, Ended, WasReset, Stuck, HaveNoFrame}
 use Rattle.outwriter.specs.Calls.{is_served}
-use Rattle.outwriter.specs.Runs.{was_reset}
-use Rattle.outwriter.specs.Histories.{is_stream}
+use Rattle.outwriter.specs.Histories.{is_stream, was_reset}
 use Rattle.outwriter.specs.Parts.{Mark}
 use Rattle.outwriter.specs.States.{over_on, open_at}
 use Rattle.outwriter.specs.CallState.{Serves}

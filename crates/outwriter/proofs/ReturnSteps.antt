@@ -4,20 +4,18 @@ use Rattle.std.specs.Prelude.{◌≢◌, is_some, min, set, if◌then◌else◌}
 use Rattle.std.specs.List.{swap_remove}
 use Rattle.std.proofs.lemmas.Bool.{eqb-true, eq-eqb}
 use Rattle.std.proofs.lemmas.List.{get_or-map, length-map, length-take, length-set, get_or-take, get_or-set_same, get_or-set_other}
-use Rattle.std.proofs.lemmas.List.Sums.{sum_by-cons}
 use Rattle.account.specs.declared.call.OutItem.{OutItem}
 use Rattle.callbox.specs.declared.sender.Sender.{Sender}
 use Rattle.outwriter.specs.declared.out_core.OutCore.{OutCore}
 use Rattle.outwriter.specs.declared.outbound.Outbound.{Outbound}
 use Rattle.outwriter.specs.declared.stream.OpenStream.{OpenStream}
 use Rattle.outwriter.specs.Calls.{is_fresh, is_served, IsReturned}
-use Rattle.outwriter.specs.Histories.{is_over}
+use Rattle.outwriter.specs.Histories.{is_over, was_reset}
 use Rattle.outwriter.specs.Cores.{Leads, LeadsOn, calls}
 use Rattle.outwriter.specs.Parts.{Mark, marks_on, spelled, IsPart, IsFrontOf}
 use Rattle.outwriter.specs.CallState.{IsEnded, IsExact, Serves, bytes_marks}
 use Rattle.outwriter.specs.OpenStreams.{OpenStreams, PlaceIs, Shown, shown, shows, with_place}
 use Rattle.outwriter.specs.Releases.{IsAt, MovedTo, Releases, HasEnded}
-use Rattle.outwriter.specs.Runs.{granted_by, was_reset}
 use Rattle.outwriter.specs.RunState.{HasOver, MirrorsOf, SameButOpen}
 use Rattle.outwriter.specs.States.{over_on, open_at}
 use Rattle.outwriter.specs.Steps.{Step, Returned}
@@ -41,7 +39,6 @@ mirrors-returned run o id items m = record {
   answers = m.answers;
   goes_on = same-block run (Returned id items ∷ run) o.block refl m.goes_on;
   not_reset = m.not_reset;
-  credits = λ k. omega (arith, m.credits k, sum_by-cons (granted_by k) (Returned id items) run);
   stand = record { over = m.stand.over; silent = m.stand.silent; resets = m.stand.resets; owes = m.stand.owes; no_stream_0 = m.stand.no_stream_0 };
 }
 

@@ -1,10 +1,9 @@
 -- What is kept follows from a run of one more step.
-use Rattle.std.proofs.Common.{◌≡◌, ℕ, ◌+◌, ◌≤◌, ◌==◌, inr, refl, sym, ap, subst, ◌∙◌, Bool, true, false, true≢false, List, [], ◌∷◌, ◌++◌, Option, Some, None, arith, append-nil, append_assoc, min}
+use Rattle.std.proofs.Common.{◌≡◌, ℕ, ◌+◌, ◌==◌, inr, refl, sym, ap, subst, ◌∙◌, Bool, true, false, true≢false, List, [], ◌∷◌, ◌++◌, Option, Some, None, append-nil, append_assoc, min}
 use Rattle.std.specs.Prelude.{IfSome, All, is_some, flat_map, ◌||◌, ◌&&◌, not, if◌then◌else◌}
 use Rattle.std.proofs.lemmas.Bool.{eqb-true, ne_eqb, eq-eqb}
 use Rattle.std.proofs.lemmas.Grind.{flat_map-append}
 use Rattle.std.proofs.lemmas.List.Elements.{All-append, All-tail, All-weaker}
-use Rattle.std.proofs.lemmas.List.Sums.{sum_by-cons}
 use Rattle.flow.specs.declared.TheConstants.{MAX_WINDOW}
 use Rattle.flow.specs.WindowHistory.{Follows}
 use Rattle.flow.specs.WindowHistory.{Step as WindowStep}
@@ -21,9 +20,9 @@ use Rattle.outwriter.specs.declared.stream.OpenStream.{OpenStream}
 use Rattle.outwriter.specs.declared.states.StreamState.TheVariants.{NoCall, Call}
 use Rattle.outwriter.specs.declared.states.StreamState.TheVariants.{Reset as StreamReset}
 use Rattle.outwriter.specs.States.{States, StandAs, Grants, SameButWindows, SameEnds, SameOver, SameOwed, amount_of, is_paid, is_reset, knows, more, owed_on, pays, state_on}
-use Rattle.outwriter.specs.Histories.{Takes, is_stream}
-use Rattle.outwriter.specs.RunState.{Mirrors, HasWindows, HasCredit, HasOver, HasDue, HasBlock, HasOwed, HasResets, HasStates, AreAsked, MirrorsOf, MirrorsOn, SameButOpen, duties_of, resets_of}
-use Rattle.outwriter.specs.Runs.{IsAsked, Fragments, unfinished, granted_by, is_opened, may_owe, opens_stream, owed, due, due_by, told, resets_stream, was_reset}
+use Rattle.outwriter.specs.Histories.{Takes, is_stream, resets_stream, was_reset}
+use Rattle.outwriter.specs.RunState.{Mirrors, HasWindows, HasOver, HasDue, HasBlock, HasOwed, HasResets, HasStates, AreAsked, MirrorsOf, MirrorsOn, SameButOpen, duties_of, resets_of}
+use Rattle.outwriter.specs.Runs.{IsAsked, Fragments, unfinished, is_opened, may_owe, opens_stream, owed, due, due_by, told}
 use Rattle.outwriter.specs.Steps.{Step, Order, Taken, Granted}
 use Rattle.outwriter.proofs.Others.{or-true}
 use Rattle.outwriter.proofs.WindowRuns.{nothing-taken}
@@ -79,7 +78,6 @@ taken order run begun gone w windows waiting after block owed m follow dues stan
   answers = dues;
   goes_on = same-block run (Taken order ∷ run) block refl m.goes_on;
   not_reset = m.not_reset;
-  credits = λ id. omega (arith, m.credits id, sum_by-cons (granted_by id) (Taken order) run);
   stand = stand;
 }
 
@@ -220,9 +218,6 @@ over-kept run kept left ends has id = (ap is_some (ends id) ∙ (has id).0, λ i
 pub owed-kept : (run : List Step) (kept left : States) → SameOwed kept left → HasOwed run kept → HasOwed run left
 owed-kept run kept left same owes k = (same.1 k ∙ (owes k).0, (same.0 k).1 ∙ (owes k).1, λ e. (owes k).2 (sym (same.0 k).0 ∙ e))
 
-pub credit-kept : (run : List Step) (kept left : States) → SameOwed kept left → HasCredit run kept → HasCredit run left
-credit-kept run kept left same has k = omega (arith, has k, same.1 k)
-
 -- nothing changes of how the streams stand
 pub stand-kept : (run : List Step) (kept left : States) → SameOver kept left → SameOwed kept left → HasStates run kept → HasStates run left
 stand-kept run kept left over same h = record {
@@ -245,7 +240,6 @@ mirrors-but-open run o after e m = subst (MirrorsOf run) (sym e) (record {
   answers = m.answers;
   goes_on = m.goes_on;
   not_reset = m.not_reset;
-  credits = m.credits;
   stand = stand-but-open run o.states after.states.opened m.stand;
 })
 
@@ -262,7 +256,6 @@ mirrors-moved run begun gone w windows waiting block states m = record {
   answers = m.answers;
   goes_on = m.goes_on;
   not_reset = m.not_reset;
-  credits = m.credits;
   stand = stand-moved run states windows m.stand;
 }
 
@@ -280,7 +273,6 @@ windows-still run begun gone w windows waiting block states moves m = record {
   answers = m.answers;
   goes_on = m.goes_on;
   not_reset = m.not_reset;
-  credits = m.credits;
   stand = m.stand;
 }
 
@@ -299,7 +291,6 @@ refuse-led id fields run begun gone w waiting after block kept left over same du
   answers = dues;
   goes_on = same-block run (Taken (Refuse id fields) ∷ run) block refl m.goes_on;
   not_reset = m.not_reset;
-  credits = λ k. omega (arith, m.credits k, same.1 k, sum_by-cons (granted_by k) (Taken (Refuse id fields)) run);
   stand = quiet-stand (Refuse id fields) run left (λ k. refl) (λ k. refl) (stand-kept run kept left over same m.stand);
 }
 
@@ -317,7 +308,6 @@ open-led id run begun gone w windows waiting block is_new kept left new same pai
   answers = same-due (Open id tt) run waiting refl m.answers;
   goes_on = same-block run (Taken (Open id tt) ∷ run) block refl m.goes_on;
   not_reset = m.not_reset;
-  credits = λ k. omega (arith, m.credits k, same k, sum_by-cons (granted_by k) (Taken (Open id tt)) run);
   stand = record {
     over = over-kept run kept left ends m.stand.over;
     silent = λ k is. marks k ∙ m.stand.silent k (sym (ends k) ∙ is);
@@ -341,7 +331,6 @@ reset-led id code written run begun gone w windows waiting after block kept left
   answers = dues;
   goes_on = same-block run (Taken (Reset id code written) ∷ run) block refl m.goes_on;
   not_reset = m.not_reset;
-  credits = λ k. omega (arith, m.credits k, at-most (is_stream id && (k == id)) (owed_on kept k) (owed_on left k) (less k), sum_by-cons (granted_by k) (Taken (Reset id code written)) run);
   stand = record {
     over = over-kept run kept left ends m.stand.over;
     silent = λ k is. marks k ∙ or-true (is_stream id && (k == id)) (is_reset kept k) (m.stand.silent k (sym (ends k) ∙ is));
@@ -351,10 +340,6 @@ reset-led id code written run begun gone w windows waiting after block kept left
   };
 }
   where
-    at-most : (b : Bool) (n left : ℕ) → left ≡ (if b then 0 else n) → left ≤ n
-    at-most true n left e = omega (arith, e)
-    at-most false n left e = omega (arith, e)
-
     none : (b : Bool) (k : ℕ) → ((b && false) || is_reset kept k) ≡ is_reset kept k
     none true k = refl
     none false k = refl
@@ -374,12 +359,6 @@ grant-led id n run begun gone w waiting block kept left grants ends m = record {
   answers = m.answers;
   goes_on = same-block run (Granted id n ∷ run) block refl m.goes_on;
   not_reset = m.not_reset;
-  credits = λ k. omega (
-    arith,
-    m.credits k,
-    at-most (k == id) (pays kept id) (owed_on kept id) (owed_on kept k) (owed_on left k) (λ e. ap (λ j. owed_on kept j) (sym (eqb-true k id e))) (grants.1 k),
-    sum_by-cons (granted_by k) (Granted id n) run,
-  );
   stand = record {
     over = over-kept run kept left (λ k. (ends k).0) m.stand.over;
     silent = λ k is. (grants.0 k).2 ∙ m.stand.silent k (sym (ends k).0 ∙ is);
@@ -388,12 +367,6 @@ grant-led id n run begun gone w waiting block kept left grants ends m = record {
     no_stream_0 = (ends 0).0 ∙ m.stand.no_stream_0;
   };
 }
-  where
-    at-most : (b paid : Bool) (here there left : ℕ) → (b ≡ true → here ≡ there) → left ≡ (if b then (if paid then more here n else 0) else there)
-        → left ≤ there + (if b then n else 0)
-    at-most true true here there left same e = let h : here ≡ there = same refl in omega (arith, e, h)
-    at-most true false here there left same e = omega (arith, e)
-    at-most false paid here there left same e = omega (arith, e)
 
 -- a control that obliges to nothing, opens and resets nothing, and concerns no window
 pub quiet-led : (order : Order) (o : Outbound) → due_by order ≡ [] → ((id : ℕ) → resets_stream id order ≡ false) → ((id : ℕ) → opens_stream id order ≡ false)
@@ -416,6 +389,5 @@ skipped run begun gone w one waiting block owed none m =
       );
       goes_on = m.goes_on;
       not_reset = m.not_reset;
-      credits = m.credits;
       stand = m.stand;
     }

@@ -11,9 +11,8 @@ use Rattle.outwriter.specs.declared.due.Due.TheVariants as due_kind
 use Rattle.outwriter.specs.declared.outbound.Outbound.{Outbound}
 use Rattle.outwriter.specs.declared.stream.OpenStream.{OpenStream}
 use Rattle.outwriter.specs.Calls.{is_fresh, is_served}
-use Rattle.outwriter.specs.Runs.{was_reset}
 use Rattle.outwriter.specs.States.{is_heard, knows, over_on}
-use Rattle.outwriter.specs.Histories.{is_stream}
+use Rattle.outwriter.specs.Histories.{is_stream, was_reset}
 use Rattle.outwriter.specs.Parts.{Mark, marks_on, on_stream, spelled}
 use Rattle.outwriter.specs.CallState.{bytes_marks, IsExact, IsEnded, IsUncalled, MayBeDue, Serves, has_reason}
 use Rattle.outwriter.specs.Steps.{Step}

@@ -511,14 +511,9 @@ module _ (connection : ℕ) (sent : Shared) (es : List Entry) (id : ℕ) (change
   pub change-moves : Moves (states_of connection sent es) (steps_of change (states_of connection sent es) id) (states_of connection sent new)
   change-moves = by change changes.1.2
     where
-      mapped : (o : Option Over) → is_some o ≡ is_some (option_map by_reset o)
-      mapped None = refl
-      mapped (Some over) = refl
-
-      opens : (not (is_some (end_of former.state)) && not (is_some former.balance)) ≡ opens_window (states_of connection sent es) id
-      opens = ap (λ (x : StreamState). not (is_some (end_of x)) && not (is_some former.balance)) state-was
-          ∙ ap (λ b. not b && not (is_some former.balance)) (mapped (end_of (state_on (states_of connection sent es) id)))
-          ∙ ap (λ b. not (is_some (over_on (states_of connection sent es) id)) && not (is_some b)) (balance-was ∙ sym (found-balance sent es id))
+      opens : (can_write former.state && not (is_some former.balance)) ≡ opens_window (states_of connection sent es) id
+      opens = ap (λ (x : StreamState). can_write x && not (is_some former.balance)) state-was
+          ∙ ap (λ b. can_write (state_on (states_of connection sent es) id) && not (is_some b)) (balance-was ∙ sym (found-balance sent es id))
 
       open-by : (b : Bool) → changes.0.balance ≡ (if b then Some (pos 0) else former.balance) → (h : List WindowStep) → Follows h (windows_of sent es)
           → Follows ((if b then Opening id ∷ [] else []) ++ h) (windows_of sent new)

@@ -11,9 +11,9 @@ use Rattle.flow.specs.Windows.{Windows, window, balance, CreditFault, Meets}
 use Rattle.outwriter.specs.declared.control.Control.TheVariants.{Window, Settings, Open, Reset}
 use Rattle.h2frame.specs.declared.error_code.ErrorCode.{ErrorCode}
 use Rattle.h2frame.specs.declared.settings.PeerSetting.{PeerSetting}
-use Rattle.outwriter.specs.Histories.{HasWindow, Overflows, Takes, is_over, is_stream, window_sizes}
-use Rattle.outwriter.specs.RunState.{HasOver, HasWindows}
-use Rattle.outwriter.specs.States.{Moves, States, opening, opens_window}
+use Rattle.outwriter.specs.Histories.{HasWindow, Overflows, Takes, is_over, is_stream, was_reset, window_sizes}
+use Rattle.outwriter.specs.RunState.{HasOver, HasResets, HasWindows}
+use Rattle.outwriter.specs.States.{Moves, States, by_reset, end_of, is_reset, opening, opens_window, state_on}
 use Rattle.outwriter.specs.Steps.{Step, Order, Taken}
 
 -- a stream isn't the connection
@@ -100,17 +100,19 @@ pub reset-taken : (run : List Step) (id : ℕ) (code : ErrorCode) (written : Boo
 reset-taken run id code written w windows follows (h, has, f) = (Closing id ∷ h, (h, has, refl), follows h f)
 
 -- an Open, whether or not it opens the window of its stream
-pub open-taken : (run : List Step) (id : ℕ) (old new : States) → HasOver run old → Moves old (if is_stream id then opening old id else []) new
+pub open-taken : (run : List Step) (id : ℕ) (old new : States) → HasOver run old → HasResets run old → Moves old (if is_stream id then opening old id else []) new
     → HasWindows run old.windows → HasWindows (Taken (Open id tt) ∷ run) new.windows
-open-taken run id old new over moves (h, has, f) = ((if is_stream id then opening old id else []) ++ h, (h, has, by (is_stream id) refl), moves h f)
+open-taken run id old new over resets moves (h, has, f) = ((if is_stream id then opening old id else []) ++ h, (h, has, by (is_stream id) refl), moves h f)
   where
-    mapped : (o : Option (List WindowStep)) → is_some (option_map (balance_of id) o) ≡ is_some o
-    mapped None = refl
-    mapped (Some steps) = refl
+    mapped : {A B : Type 0} (g : A → B) (o : Option A) → is_some (option_map g o) ≡ is_some o
+    mapped g None = refl
+    mapped g (Some x) = refl
 
-    same : 0 < id → opens_window old id ≡ (not (is_over id run) && not (is_some (since_opening id h)))
-    same positive = ap (λ b. not b && not (is_some (balance old.windows id))) (over id).0
-        ∙ ap (λ b. not (is_over id run) && not b) (ap is_some (f.balances id positive) ∙ mapped (since_opening id h))
+    same : is_stream id ≡ true → opens_window old id ≡ ((not (is_over id run) && not (was_reset id run)) && not (is_some (since_opening id h)))
+    same there = ap (λ b. (not b && not (is_reset old id)) && not (is_some (balance old.windows id))) (sym (mapped by_reset (end_of (state_on old id))) ∙ (over id).0)
+        ∙ ap (λ b. (not (is_over id run) && not b) && not (is_some (balance old.windows id))) (resets id there)
+        ∙ ap (λ b. (not (is_over id run) && not (was_reset id run)) && not b)
+        (ap is_some (f.balances id (number-positive id there)) ∙ mapped (balance_of id) (since_opening id h))
 
     both : (b c : Bool) → b ≡ c → (if b then Opening id ∷ [] else []) ++ h ≡ (if c then Opening id ∷ h else h)
     both true true e = refl
@@ -119,9 +121,9 @@ open-taken run id old new over moves (h, has, f) = ((if is_stream id then openin
     both false true e = absurd (true≢false (sym e))
 
     by : (b : Bool) → is_stream id ≡ b
-        → (if b then opening old id else []) ++ h ≡ (if (b && not (is_over id run)) && not (is_some (since_opening id h)) then Opening id ∷ h else h)
+        → (if b then opening old id else []) ++ h ≡ (if b && ((not (is_over id run) && not (was_reset id run)) && not (is_some (since_opening id h))) then Opening id ∷ h else h)
     by false e = refl
-    by true e = both (opens_window old id) (not (is_over id run) && not (is_some (since_opening id h))) (same (number-positive id e))
+    by true e = both (opens_window old id) ((not (is_over id run) && not (was_reset id run)) && not (is_some (since_opening id h))) (same e)
 
 pub not-true : (b : Bool) → not b ≡ true → b ≡ false
 not-true true e = cc

@@ -11,9 +11,9 @@ use Rattle.outwriter.specs.declared.due.Due.TheVariants as due_kind
 use Rattle.outwriter.specs.declared.outbound.Outbound.{Outbound}
 use Rattle.outwriter.specs.declared.stream.OpenStream.{OpenStream}
 use Rattle.outwriter.specs.Calls.{is_fresh, is_served, is_called_off, is_dropped, IsRefused, IsOther, IsReturned}
-use Rattle.outwriter.specs.Runs.{was_reset, is_opened}
+use Rattle.outwriter.specs.Runs.{is_opened}
 use Rattle.outwriter.specs.States.{States, SameEnds, SameOpen, SameOver, SetsEnd, is_heard, is_reset, knows, open_at, over_on}
-use Rattle.outwriter.specs.Histories.{is_stream}
+use Rattle.outwriter.specs.Histories.{is_stream, was_reset}
 use Rattle.outwriter.specs.OpenStreams.{OpenStreams}
 use Rattle.outwriter.specs.RunState.{HasResets, MirrorsOf}
 use Rattle.outwriter.specs.Parts.{Mark, Byte, marks_on, spelled, IsFrontOf}

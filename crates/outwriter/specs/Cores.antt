@@ -17,10 +17,10 @@ use Rattle.outwriter.specs.declared.stream.OpenStream.{OpenStream}
 use Rattle.outwriter.specs.Calls.{TellEnds, TellFronts, TellReturned, TellOthers, is_closed, is_served}
 use Rattle.h2frame.specs.declared.error_code.ErrorCode.{ErrorCode}
 use Rattle.outwriter.specs.Frames.{goaway_frame}
-use Rattle.outwriter.specs.Histories.{is_stream, is_over}
+use Rattle.outwriter.specs.Histories.{is_stream, is_over, was_reset}
 use Rattle.outwriter.specs.OpenStreams.{OpenStreams}
 use Rattle.outwriter.specs.RunState.{IsAnswered}
-use Rattle.outwriter.specs.Runs.{IsLawful, MayWrite, was_reset}
+use Rattle.outwriter.specs.Runs.{IsLawful, MayWrite}
 use Rattle.outwriter.specs.CallState.{Kept}
 use Rattle.outwriter.specs.Steps.{Step, Taken, Written, order_of}
 

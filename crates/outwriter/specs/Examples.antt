@@ -14,9 +14,9 @@ use Rattle.outwriter.specs.declared.control.Control.TheVariants as order
 use Rattle.h2frame.specs.declared.settings.PeerSetting.TheVariants.{TableSize, WindowSize}
 use Rattle.outwriter.specs.Calls.{is_called_off}
 use Rattle.outwriter.specs.Frames.{frame_with, first_settings, settings_ack, ping_ack, reset_frame, goaway_frame, update_frame, data_frame, headers_frame, continuation_frame, is_last}
-use Rattle.outwriter.specs.Histories.{window_sizes, table_sizes, spending_of, closing_of, is_over}
+use Rattle.outwriter.specs.Histories.{window_sizes, table_sizes, spending_of, closing_of, is_over, opens}
 use Rattle.outwriter.specs.Parts.{Byte, Fields, End, Reset, spelled, plain_marks, completed, marks_on, on_stream}
-use Rattle.outwriter.specs.Runs.{IsAsked, due, told, told_by, unfinished, granted, updated, owed}
+use Rattle.outwriter.specs.Runs.{IsAsked, due, told, told_by, unfinished, owed}
 use Rattle.outwriter.specs.Steps.{Step, Taken, Granted, Written}
 use Rattle.outwriter.specs.TableLimits.{least_begun, least_table, limited_by}
 
@@ -50,7 +50,7 @@ pub goaway_is_told : told leaving ≡ due leaving
 goaway_is_told = refl
 
 pub reset_is_asked : IsAsked 3 Cancel leaving
-reset_is_asked = inl (refl, refl)
+reset_is_asked = inl ((refl, refl), refl)
 
 -- The first SETTINGS come unasked. Further ones, an ACK with a payload, a PING that is no ACK and a PUSH_PROMISE would have to stand among
 -- what is due, and no control puts them there.
@@ -96,6 +96,13 @@ trailers_close = refl
 pub head_leaves_open : closing_of (headers_frame 1 false true (130 ∷ [])) ≡ []
 head_leaves_open = refl
 
+-- an Open of a stream that was reset before opens no window
+pub new_stream_opens : opens (Written first_settings ∷ []) [] 3 ≡ true
+new_stream_opens = refl
+
+pub reset_stream_opens_none : opens (Taken (order.Reset 3 Cancel false) ∷ Written first_settings ∷ []) (Closing 3 ∷ []) 3 ≡ false
+reset_stream_opens_none = refl
+
 -- a header block in two fragments is unfinished after the first, and whole with the second
 abbrev pub half_a_block : List Step
 half_a_block = Written (headers_frame 5 true false (1 ∷ 2 ∷ [])) ∷ Written first_settings ∷ []
@@ -123,15 +130,6 @@ over = refl
 -- of ten bytes that were granted on stream 1, which is open, four were written as credit
 abbrev pub crediting : List Step
 crediting = Written (update_frame 1 4) ∷ Granted 1 6 ∷ Granted 0 9 ∷ Granted 1 4 ∷ Taken (order.Open 1 tt) ∷ Written first_settings ∷ []
-
-pub ten_granted : granted 1 crediting ≡ 10
-ten_granted = refl
-
-pub four_updated : updated 1 crediting ≡ 4
-four_updated = refl
-
-pub none_on_the_connection : updated 0 crediting ≡ 0
-none_on_the_connection = refl
 
 -- so six are owed, and on the connection all that was granted
 pub six_owed : owed 1 crediting ≡ 6

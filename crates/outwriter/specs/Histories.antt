@@ -1,5 +1,5 @@
 -- The windows of a run (RFC 9113, section 6.9): what each step does to them.
-use Rattle.std.specs.Prelude.{◌&&◌, not, nat_lt, nat_le, is_some, ◌||◌, ◌≡◌, ℕ, ◌⊎◌, Bool, true, All, List, [], ◌∷◌, ◌++◌, reverse, map, flat_map, if◌then◌else◌}
+use Rattle.std.specs.Prelude.{◌&&◌, not, nat_lt, nat_le, is_some, ◌||◌, ◌≡◌, ◌==◌, ℕ, ◌⊎◌, Bool, true, false, All, List, [], ◌∷◌, ◌++◌, reverse, map, flat_map, if◌then◌else◌}
 use Rattle.std.specs.List.{list_any}
 use Rattle.flow.specs.declared.TheConstants.{MAX_WINDOW}
 use Rattle.flow.specs.WindowHistory.{Opening, Credit, Spending, Resizing, Closing, since_opening, CanCredit, CanResize}
@@ -39,13 +39,26 @@ Overflows history id n = HasWindow history id × (¬ CanCredit history id n)
 abbrev pub is_over : ℕ → List Step → Bool
 is_over id run = list_any (λ frame. resets id frame || ends id frame) (frames_of run)
 
+-- a control that resets this stream
+abbrev pub resets_stream : ℕ → Order → Bool
+resets_stream id (Reset stream code written) = id == stream
+resets_stream id _ = false
+
+-- a Reset of the stream was taken, whether or not it is to be written: by this side, or by the peer's RST_STREAM
+abbrev pub was_reset : ℕ → List Step → Bool
+was_reset id [] = false
+was_reset id (Taken order ∷ before) = resets_stream id order || was_reset id before
+was_reset id (Granted stream n ∷ before) = was_reset id before
+was_reset id (Returned stream items ∷ before) = was_reset id before
+was_reset id (Written frame ∷ before) = was_reset id before
+
 -- the number of a stream (section 5.1.1)
 abbrev pub is_stream : ℕ → Bool
 is_stream id = nat_lt 0 id && nat_le id MAX_WINDOW
 
--- an Open opens the window of its stream, unless that is open or over
+-- an Open opens the window of its stream, unless that is open, or the stream is over or was reset
 abbrev pub opens : List Step → List WindowStep → ℕ → Bool
-opens run history id = (is_stream id && not (is_over id run)) && not (is_some (since_opening id history))
+opens run history id = is_stream id && ((not (is_over id run) && not (was_reset id run)) && not (is_some (since_opening id history)))
 
 -- From one history a control that is taken after a run leads to the next. One that would take a window over 2^31 - 1
 -- changes none; nor does credit of a stream that isn't open. A Reset closes its stream's window, whether or not it is to be written.

@@ -6,9 +6,8 @@ use Rattle.callbox.specs.declared.sender.Sender.{Sender}
 use Rattle.outwriter.specs.declared.blocks.HeaderBlock.{HeaderBlock}
 use Rattle.outwriter.specs.declared.out_core.OutCore.{OutCore}
 use Rattle.outwriter.specs.Calls.{is_served}
-use Rattle.outwriter.specs.Runs.{was_reset}
 use Rattle.outwriter.specs.Cores.{Leads, open_stream}
-use Rattle.outwriter.specs.Histories.{is_stream, is_over}
+use Rattle.outwriter.specs.Histories.{is_stream, is_over, was_reset}
 use Rattle.outwriter.specs.Steps.{Step}
 use Rattle.outwriter.specs.OpenStreams.{OpenStreams, PlaceIs}
 

@@ -1,5 +1,5 @@
 -- What a writer keeps follows from its run.
-use Rattle.std.specs.Prelude.{◌≡◌, ◌≢◌, ◌⊎◌, ◌&&◌, All, ℕ, ◌+◌, ◌≤◌, ◌==◌, Bool, true, false, List, [], ◌∷◌, ◌++◌, flat_map, Option, None, Some, IfSome, MatchOption, is_some, nat_lt, if◌then◌else◌}
+use Rattle.std.specs.Prelude.{◌≡◌, ◌≢◌, ◌⊎◌, ◌&&◌, All, ℕ, ◌==◌, Bool, true, false, List, [], ◌∷◌, ◌++◌, flat_map, Option, None, Some, IfSome, MatchOption, is_some, nat_lt, if◌then◌else◌}
 use Rattle.std.specs.List.{list_any}
 use Rattle.flow.specs.WindowHistory.{Follows, Closing, Spending, CanCredit, CanResize}
 use Rattle.flow.specs.WindowHistory.{Step as WindowStep}
@@ -18,8 +18,8 @@ use Rattle.outwriter.specs.declared.due.Due.TheVariants as due_kind
 use Rattle.outwriter.specs.declared.outbound.Outbound.{Outbound}
 use Rattle.outwriter.specs.States.{States, SetsEnd, StandAs, over_on, owed_on, pays, knows, is_reset}
 use Rattle.outwriter.specs.Frames.{is_last, resets, settings_ack, ping_ack, goaway_frame}
-use Rattle.outwriter.specs.Histories.{HasHistory, HasWindow, Overflows, window_sizes, is_over, is_stream}
-use Rattle.outwriter.specs.Runs.{has_begun, IsAsked, due, told, unfinished, granted, updated, owed, may_owe, is_opened, was_reset, MayWrite}
+use Rattle.outwriter.specs.Histories.{HasHistory, HasWindow, Overflows, window_sizes, is_over, is_stream, was_reset}
+use Rattle.outwriter.specs.Runs.{has_begun, IsAsked, due, told, unfinished, owed, may_owe, is_opened, MayWrite}
 use Rattle.outwriter.specs.Steps.{Step, Written, frames_of}
 
 -- the windows follow from the history of the run's
@@ -59,10 +59,6 @@ HasBlock run (Some block) = (block.begun ≡ true) × IfSome (unfinished run) (�
 abbrev pub HasHead : List Frame → Option HeaderBlock → Type 0
 HasHead frames None = Unit {0}
 HasHead frames (Some block) = list_any (resets block.id) frames ≡ false
-
--- no more credit was written than was granted, with what is owed
-abbrev pub HasCredit : List Step → States → Type 0
-HasCredit run owed = (id : ℕ) → updated id run + owed_on owed id ≤ granted id run
 
 -- what is owed follows from the run, and on which streams it may be
 abbrev pub HasOwed : List Step → States → Type 0
@@ -113,7 +109,6 @@ pub record Mirrors (run : List Step) (begun gone : Bool) (windows : Windows) (wa
   pub answers : HasDue run waiting
   pub goes_on : HasBlock run block
   pub not_reset : HasHead (frames_of run) block
-  pub credits : HasCredit run states
   pub stand : HasStates run states
 
 abbrev pub MirrorsOf : List Step → Outbound → Type 0

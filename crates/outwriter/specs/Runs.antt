@@ -1,5 +1,5 @@
 -- Which runs of a server's writer are lawful (RFC 9113, sections 3.4, 4.1 to 4.3, 5.1, 5.4.2, 6.4, 6.5, 6.7 to 6.10 and 8.1).
-use Rattle.std.specs.Prelude.{◌≡◌, ◌≢◌, ℕ, ◌+◌, ◌-◌, min, ◌<◌, ◌≤◌, ◌⊎◌, ◌==◌, ◌&&◌, ◌||◌, ◌^◌, Bool, true, false, List, [], ◌∷◌, ◌++◌, Option, None, Some, not, filter, sum_by, if◌then◌else◌}
+use Rattle.std.specs.Prelude.{◌≡◌, ◌≢◌, ℕ, ◌+◌, ◌-◌, min, ◌<◌, ◌≤◌, ◌⊎◌, ◌==◌, ◌&&◌, ◌||◌, ◌^◌, Bool, true, false, List, [], ◌∷◌, ◌++◌, Option, None, Some, not, filter, if◌then◌else◌}
 use Rattle.std.specs.List.{list_any}
 use Rattle.std.specs.Option.{option_map}
 use Rattle.account.specs.Accounts.{Begins}
@@ -12,7 +12,7 @@ use Rattle.h2frame.specs.declared.kind.FrameKind.{FrameKind}
 use Rattle.h2frame.specs.declared.kind.FrameKind.TheVariants as kind
 use Rattle.outwriter.specs.declared.control.Control.TheVariants.{Settings, Ping, Open, Reset, Goaway}
 use Rattle.outwriter.specs.Frames.{IsSound, first_settings, settings_ack, ping_ack, reset_frame, goaway_frame, update_frame, ends_stream, ends_block, is_last, update_on, resets, ends}
-use Rattle.outwriter.specs.Histories.{HasHistory, is_stream}
+use Rattle.outwriter.specs.Histories.{HasHistory, is_stream, resets_stream, was_reset}
 use Rattle.outwriter.specs.Steps.{Step, Order, Taken, Granted, Written, Returned, frames_of}
 
 -- ---- what controls oblige to write
@@ -82,27 +82,15 @@ abbrev pub Asks : ℕ → ErrorCode → Order → Type 0
 Asks id code (Reset stream found true) = (id ≡ stream) × (code ≡ found)
 Asks id code _ = ⊥
 
--- such a control was taken
+-- Such a control was taken, as the first Reset of the stream: the peer's RST_STREAM isn't answered by one (section 5.4.2).
 abbrev pub IsAsked : ℕ → ErrorCode → List Step → Type 0
 IsAsked id code [] = ⊥
-IsAsked id code (Taken order ∷ before) = Asks id code order ⊎ IsAsked id code before
+IsAsked id code (Taken order ∷ before) = (Asks id code order × (was_reset id before ≡ false)) ⊎ IsAsked id code before
 IsAsked id code (Granted stream n ∷ before) = IsAsked id code before
 IsAsked id code (Returned stream items ∷ before) = IsAsked id code before
 IsAsked id code (Written frame ∷ before) = IsAsked id code before
 
-abbrev pub resets_stream : ℕ → Order → Bool
-resets_stream id (Reset stream code written) = id == stream
-resets_stream id _ = false
-
--- a Reset of the stream was taken, whether or not it is to be written: by this side, or by the peer's RST_STREAM
-abbrev pub was_reset : ℕ → List Step → Bool
-was_reset id [] = false
-was_reset id (Taken order ∷ before) = resets_stream id order || was_reset id before
-was_reset id (Granted stream n ∷ before) = was_reset id before
-was_reset id (Returned stream items ∷ before) = was_reset id before
-was_reset id (Written frame ∷ before) = was_reset id before
-
--- then a stream has its RST_STREAM, and before it the rest of a header block that was begun (sections 5.1 and 5.4.2)
+-- after a Reset a stream has its RST_STREAM, and before it the rest of a header block that was begun (sections 5.1 and 5.4.2)
 abbrev pub MayFollowReset : FrameKind → Type 0
 MayFollowReset found = (found ≡ kind.RstStream) ⊎ (found ≡ kind.Continuation)
 
@@ -163,18 +151,6 @@ owed id (Granted stream n ∷ before) = if (id == stream) && may_owe id before t
 owed id (Returned stream items ∷ before) = owed id before
 owed id (Written frame ∷ before) = owed id before - update_on id frame
 
-abbrev pub granted_by : ℕ → Step → ℕ
-granted_by id (Granted stream n) = if id == stream then n else 0
-granted_by id _ = 0
-
--- what was granted on a stream, or on the connection as stream 0
-abbrev pub granted : ℕ → List Step → ℕ
-granted id run = sum_by (granted_by id) run
-
--- the increments that were written on it
-abbrev pub updated : ℕ → List Step → ℕ
-updated id run = sum_by (update_on id) (frames_of run)
-
 -- ---- the law
 
 -- DATA fits into a frame and, unless it is empty, into the windows that the steps before leave (sections 4.2 and 6.9.1)
@@ -198,7 +174,7 @@ pub record MayWrite (before : List Step) (frame : Frame) : Type 0 where
   pub answers : Begins (without_goaway (told before ++ told_by (has_begun (frames_of before)) frame)) (without_goaway (due before))
   -- GOAWAY comes after the control that asks for it, and in order among GOAWAYs
   pub parts : AreAmong (goaways (told before ++ told_by (has_begun (frames_of before)) frame)) (goaways (due before))
-  -- a reset comes after the control that asks for it
+  -- a reset comes after the control that asks for it, which is the first Reset of its stream
   pub asked : frame.head.kind ≡ kind.RstStream → (code : ErrorCode) × IsAsked frame.head.stream code before × (frame ≡ reset_frame frame.head.stream code)
   -- after a Reset nothing else comes on its stream
   pub after_reset : is_stream frame.head.stream ≡ true → was_reset frame.head.stream before ≡ true → MayFollowReset frame.head.kind
@@ -206,8 +182,7 @@ pub record MayWrite (before : List Step) (frame : Frame) : Type 0 where
   pub not_reset : list_any (resets frame.head.stream) (frames_of before) ≡ false
   pub not_ended : list_any (ends frame.head.stream) (frames_of before) ≡ true → MayFollowEnd frame.head.kind
   pub goes_on : list_any is_last (frames_of before) ≡ false
-  pub credit : (id : ℕ) → updated id before + update_on id frame ≤ granted id before
-  -- nor more than is owed
+  -- no more credit comes than is owed
   pub owes : (id : ℕ) → update_on id frame ≤ owed id before
   -- credit is of 1 to 2^31 - 1 bytes, and nothing else stands in its frame
   pub update : frame.head.kind ≡ kind.WindowUpdate → (n : ℕ) × (0 < n) × (n < 2 ^ 31) × (frame ≡ update_frame frame.head.stream n)

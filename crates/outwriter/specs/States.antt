@@ -135,9 +135,9 @@ SameButWindows old new = new ≡ record old { windows = new.windows }
 abbrev pub Moves : States → List Step → States → Type 0
 Moves old steps new = (history : List Step) → Follows history old.windows → Follows (steps ++ history) new.windows
 
--- an Open opens a stream's window, unless that is open or the stream is over
+-- an Open opens a stream's window, unless that is open, or the stream is over or was reset
 abbrev pub opens_window : States → ℕ → Bool
-opens_window states id = not (is_some (over_on states id)) && not (is_some (balance states.windows id))
+opens_window states id = can_write (state_on states id) && not (is_some (balance states.windows id))
 
 -- what that is in a history of windows
 abbrev pub opening : States → ℕ → List Step
@@ -217,9 +217,9 @@ IsAfter change.Hear old new = HasParts (end_of old) (amount_of old) (is_of_call 
 IsAfter change.Reset old new = HasParts (end_of old) 0 (is_of_call old) false true new
 IsAfter (change.End by) old new = HasParts (Some by) (amount_of old) (is_of_call old) (is_paid old) (is_reset_state old) new
 
--- the balance of its window: an Open opens that, unless it is open or the stream is over; a reset and its end close it
+-- the balance of its window: an Open opens that, unless it is open, or the stream is over or was reset; a reset and its end close it
 abbrev pub balance_after : Change → StreamState → Option ℤ → Option ℤ
-balance_after change.Open state kept = if not (is_some (end_of state)) && not (is_some kept) then Some (pos 0) else kept
+balance_after change.Open state kept = if can_write state && not (is_some kept) then Some (pos 0) else kept
 balance_after change.Hear state kept = kept
 balance_after change.Reset state kept = None
 balance_after (change.End by) state kept = None

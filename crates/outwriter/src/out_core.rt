@@ -1,8 +1,8 @@
 //! The core of a connection's writer: what it is told.
 //!
-//! `Open`: an Open opens the window of its stream unless that is open or over, so each list of controls has a history,
-//! also one that opens a stream twice. A stream that is opened again keeps its first sender; the second comes back by
-//! `into_senders` and is never asked.
+//! `Open`: an Open opens the window of its stream unless that is open, or the stream is over or was reset, so each list of
+//! controls has a history, also one that opens a stream twice. A stream that is opened again keeps its first sender; the
+//! second comes back by `into_senders` and is never asked.
 //!
 //! `control`: A dead core hands each control back, since nothing that it keeps is known to follow from its run; what
 //! was told of each call stays a prefix, so its senders can be brought back.

@@ -127,8 +127,8 @@ impl Outbound {
         !is_overflow(credited)
     }
 
-    /// Opens the window of a call's stream, unless it is open or over, and its state, if the stream is new. It becomes
-    /// open where nothing was heard of it; its sender stands at a place. Out of memory, it changes nothing.
+    /// Opens the window of a call's stream, unless it is open, or the stream is over or was reset, and its state, if the stream is
+    /// new. It becomes open where nothing was heard of it; its sender stands at a place. Out of memory, it changes nothing.
     pub(crate) fn take_open(&mut self, id: StreamId, place: usize) -> Result<(), AllocError>
         ensures taken { OnOk result (MirrorsOn (Taken (order.Open id tt)) self.old self.new) }
         ensures stays { OnErr result (Stays self.old self.new) }

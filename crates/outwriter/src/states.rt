@@ -8,7 +8,7 @@ ghost use Rattle.indexmap.specs.IndexMap.{IsUnique};
 ghost use Rattle.flow.specs.WindowHistory.{CanCredit, CanResize, Closing, Credit, Follows, Resizing};
 ghost use Rattle.flow.specs.WindowHistory.{Step as WindowStep};
 ghost use Rattle.flow.specs.Windows.{CreditFault, Meets, room};
-ghost use Rattle.outwriter.specs.States.{nothing_known, open_at, is_reset, state_on, amount_of, by_reset, end_of, more, is_heard, can_write, balance_after as balance_after_of, fits_with, room_in, steps_of, Changes, CreditsEntry, CreditsStream, IsAfter, KeepsAmount, PutsAfter, SetsBalance, Hears, Opens, BecomesOpen, Grants, Moves, Resets, SameButWindows, SameEnds, SameOver, SameOwed, SameOpen, StandAs, SetsEnd, Edits, TakesAll, Adds, AllFit, IsSettledBut, IsSettledFrom, TakesAt, TakesLast, opened_of, opening};
+ghost use Rattle.outwriter.specs.States.{nothing_known, open_at, is_reset, state_on, amount_of, by_reset, more, is_heard, can_write, balance_after as balance_after_of, fits_with, room_in, steps_of, Changes, CreditsEntry, CreditsStream, IsAfter, KeepsAmount, PutsAfter, SetsBalance, Hears, Opens, BecomesOpen, Grants, Moves, Resets, SameButWindows, SameEnds, SameOver, SameOwed, SameOpen, StandAs, SetsEnd, Edits, TakesAll, Adds, AllFit, IsSettledBut, IsSettledFrom, TakesAt, TakesLast, opened_of, opening};
 ghost use Rattle.outwriter.specs.Resizes.{FitsOn};
 ghost use Rattle.outwriter.specs.Cores.{calls, lanes};
 ghost use Rattle.outwriter.specs.Data.{BeginsOnStream, LooksAtStream};
@@ -172,7 +172,8 @@ pub(crate) struct Stream {
 }
 
 impl Stream {
-    /// Changes how it stands. An Open opens its window, unless that is open or the stream is over; a reset and its end close it.
+    /// Changes how it stands. An Open opens its window, unless that is open, or the stream is over or was reset; a reset and its end
+    /// close it.
     fn change(&mut self, change: Change)
         ensures opened { self.new.opened ≡ self.old.opened }
         ensures state { IsAfter change self.old.state self.new.state }
@@ -350,9 +351,9 @@ fn balance_after(change: Change, state: StreamState, balance: Option<Balance>) -
 
 /// The same behind an Open.
 fn opened(state: StreamState, balance: Option<Balance>) -> Option<Balance>
-    ensures { result ≡ (if not (is_some (end_of state)) && not (is_some balance) then Some (pos 0) else balance) }
+    ensures { result ≡ (if can_write state && not (is_some balance) then Some (pos 0) else balance) }
 {
-    if state.over().is_none() && balance.is_none() {
+    if state.can_write() && balance.is_none() {
         return Some(Balance::new());
     }
     balance
@@ -453,8 +454,9 @@ impl StreamStates {
         }
     }
 
-    /// A call begins on a stream, and its sender stands at a place. The stream's window opens, unless it is open or the stream is
-    /// over. The stream becomes open where nothing was heard of it, and a call's where it is none. None is owed on one that was reset.
+    /// A call begins on a stream, and its sender stands at a place. The stream's window opens, unless it is open, or the stream is
+    /// over or was reset. The stream becomes open where nothing was heard of it, and a call's where it is none. None is owed on one
+    /// that was reset.
     pub(crate) fn open(&mut self, id: StreamId, place: usize) -> Result<(), AllocError>
         requires stream { 0 < id }
         requires number { id < 2 ^ 31 }

@@ -165,6 +165,7 @@ impl Outbound {
         ensures stream { result ≡ true → 0 < id }
         ensures open { result ≡ true → over_on self.now.states id ≡ None }
         ensures unreset { result ≡ true → is_reset self.now.states id ≡ false }
+        ensures is { result ≡ true → is_number id ≡ true }
         ensures value { result ≡ may_write_on self.now id }
     {
         let state = self.states.state(id);

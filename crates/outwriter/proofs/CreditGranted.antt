@@ -1,0 +1,51 @@
+-- In a lawful run no more credit is told than was granted (RFC 9113, section 6.9).
+use Rattle.std.proofs.Common.{◌≡◌, ℕ, ◌+◌, ◌≤◌, ◌==◌, refl, Bool, true, false, List, [], ◌∷◌, arith, min}
+use Rattle.std.specs.Prelude.{◌&&◌, sum_by, if◌then◌else◌}
+use Rattle.std.proofs.lemmas.List.Sums.{sum_by-cons}
+use Rattle.flow.specs.declared.TheConstants.{MAX_WINDOW}
+use Rattle.outwriter.specs.Examples.{crediting}
+use Rattle.outwriter.specs.Frames.{update_on}
+use Rattle.outwriter.specs.Histories.{is_stream, resets_stream}
+use Rattle.outwriter.specs.Runs.{IsLawful, may_owe, owed}
+use Rattle.outwriter.specs.Steps.{Step, Taken, Granted, Written, Returned, frames_of}
+
+abbrev granted_by : ℕ → Step → ℕ
+granted_by id (Granted stream n) = if id == stream then n else 0
+granted_by id _ = 0
+
+-- what was granted on a stream, or on the connection as stream 0
+abbrev pub granted : ℕ → List Step → ℕ
+granted id run = sum_by (granted_by id) run
+
+-- the increments that were written on it
+abbrev pub updated : ℕ → List Step → ℕ
+updated id run = sum_by (update_on id) (frames_of run)
+
+pub ten-granted : granted 1 crediting ≡ 10
+ten-granted = refl
+
+pub four-updated : updated 1 crediting ≡ 4
+four-updated = refl
+
+-- what was written, with what is owed still
+with-owed : (run : List Step) (id : ℕ) → IsLawful run → updated id run + owed id run ≤ granted id run
+with-owed [] id lawful = omega arith
+with-owed (Taken order ∷ run) id lawful =
+    omega (arith, with-owed run id lawful, at-most (resets_stream id order && is_stream id) (owed id run), sum_by-cons (granted_by id) (Taken order) run)
+  where
+    at-most : (b : Bool) (n : ℕ) → (if b then 0 else n) ≤ n
+    at-most true n = omega arith
+    at-most false n = omega arith
+with-owed (Granted stream n ∷ run) id lawful =
+    omega (arith, with-owed run id lawful, at-most (id == stream) (may_owe id run) (owed id run), sum_by-cons (granted_by id) (Granted stream n) run)
+  where
+    at-most : (here may : Bool) (k : ℕ) → (if here && may then min (k + n) MAX_WINDOW else k) ≤ k + (if here then n else 0)
+    at-most true true k = omega arith
+    at-most true false k = omega arith
+    at-most false may k = omega arith
+with-owed (Returned stream items ∷ run) id lawful = omega (arith, with-owed run id lawful, sum_by-cons (granted_by id) (Returned stream items) run)
+with-owed (Written frame ∷ run) id lawful =
+    omega (arith, with-owed run id lawful.1, lawful.0.owes id, sum_by-cons (update_on id) frame (frames_of run), sum_by-cons (granted_by id) (Written frame) run)
+
+pub no-more-than-granted : (run : List Step) (id : ℕ) → IsLawful run → updated id run ≤ granted id run
+no-more-than-granted run id lawful = omega (arith, with-owed run id lawful)
