@@ -9,8 +9,7 @@ ghost use Rattle.device.specs.Bytes.{AppendsPrefix};
 ghost use Rattle.flow.specs.Windows.{room};
 ghost use Rattle.outwriter.specs.Calls.{TellFronts, TellReturned, TellOthers};
 ghost use Rattle.outwriter.specs.Cores.{calls, open_stream, IsUnused};
-ghost use Rattle.h2frame.specs.Spelling.{IsWritable};
-ghost use Rattle.outwriter.specs.Frames.{ends_stream};
+ghost use Rattle.outwriter.specs.Frames.{IsSound, ends_stream};
 ghost use Rattle.outwriter.specs.Polls.{coming};
 ghost use Rattle.outwriter.specs.Releases.{IsThrough, HasNone, Releases};
 ghost use Rattle.outwriter.specs.RunState.{is_held};
@@ -300,7 +299,7 @@ impl<L: Lane<Item = OutItem>, W: ConnWrite> ConnWriter<L, W> {
 
     /// Puts a frame into the buffer.
     fn put(&mut self, frame: Frame) -> Option<Filled>
-        requires writable { IsWritable frame }
+        requires sound { IsSound frame }
         requires going { self.old.standing ≡ stands.Going }
         requires room { vec_len self.old.ended < vec_capacity self.old.ended }
         ensures puts { PutsOr frame result self.old self.new }
