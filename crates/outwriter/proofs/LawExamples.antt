@@ -229,10 +229,10 @@ no-credit m =
     let amount : 0 ≡ told.0 = ap (λ (frame : Frame). increment_of frame.content) told.3 ∙ told-amount told.0 told.2 in
     omega (arith, amount, told.1)
 
--- ---- frames that a peer can't read
+-- ---- frames that are not sound
 
 -- the head has another length than the content
-pub other-length : (before : List Step) → ¬ IsLawful (Written (record { head = record { kind = kind.Data; flags = record { bits = 1 }; stream = 1; length = 0 }; content = 7 ∷ [] }) ∷ before)
+pub other-length : (before : List Step) → ¬ IsLawful (Written (record { head = record { kind = kind.Data; flags = record { bits = end_stream }; stream = 1; length = 0 }; content = 7 ∷ [] }) ∷ before)
 other-length before l = true≢false (ap (λ n. n == 0) l.0.writable.whole)
 
 -- DATA on stream 0

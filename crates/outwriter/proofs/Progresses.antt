@@ -32,7 +32,7 @@ spent-answered run o (inr (no_block, none, owed)) m = inr (
   λ id. sym (m.stand.owes id).0 ∙ owed id,
 )
 
--- the peer can read a frame that comes
+-- a frame that comes is sound
 pub sound-from : (o : Option Frame) (made frame : Frame) → o ≡ Some made → next.Frame made ≡ next.Frame frame → IfSome o IsSound → IsSound frame
 sound-from None made frame found is sound = absurd (none-is found)
   where

@@ -1,4 +1,4 @@
--- Each frame that a writer makes is one that the peer can read.
+-- Each frame that a writer makes is sound.
 use Rattle.std.proofs.Common.{◌≡◌, ℕ, ◌<◌, ◌≤◌, ◌^◌, ◌==◌, Bool, true, false, List, Option, Some, None, length, take, ap, sym, subst, refl, arith, ◌∙◌}
 use Rattle.std.specs.Prelude.{if◌then◌else◌, bit_and}
 use Rattle.std.specs.Option.{option_or}

@@ -62,7 +62,7 @@ pub record TakesFrames (states : States) (id : ℕ) : Type 0 where
   pub not_over : over_on states id ≡ None
   pub not_reset : is_reset states id ≡ false
 
--- the same among all streams
+-- what is found of a message, and what is in hand then, among all streams
 abbrev pub BeginsMessage : ℕ → States → States → List ℕ → Looked → Type 0
 BeginsMessage id old new message found = StandButWindows old new
     × (rest : List ℕ) × HandIs id (kept rest) (open_at old) (open_at new) × TakesData id old.windows new.windows message rest found

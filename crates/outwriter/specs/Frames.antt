@@ -110,7 +110,7 @@ update_kind _ content = 0
 abbrev pub update_on : ℕ → Frame → ℕ
 update_on id frame = if id == frame.head.stream then update_kind frame.head.kind frame.content else 0
 
--- ---- frames that a peer can read
+-- ---- what each frame must be, whatever came before it
 
 -- the flags of a type of frame, but for those of padding and priority (sections 6.1, 6.2, 6.5, 6.7 and 6.10); of types that a server
 -- never writes none count
@@ -122,7 +122,7 @@ flags_of Ping = ack
 flags_of Continuation = end_headers
 flags_of _ = 0
 
--- the peer can read the frame
+-- the frame keeps the rules of its type (sections 4.1, 4.2 and 6)
 pub record IsSound (frame : Frame) : Type 0 where
   -- it can be spelled: its type is that of its code, the number of its stream has 31 bits, all of its payload is content, and nothing is
   -- padded or has a priority (section 4.1)
@@ -130,5 +130,5 @@ pub record IsSound (frame : Frame) : Type 0 where
   -- a reader of its bytes has no fault with it: it has at most 16,384 bytes, and such a length, a stream and an increment as its type may
   -- have (sections 4.2 and 6)
   pub faultless : frame_fault frame ≡ None
-  -- no flag is set that means nothing on its type (section 4.1)
+  -- no flag is set that means nothing on its type: a sender must leave those unset (section 4.1)
   pub flags : bit_and frame.head.flags.bits (flags_of frame.head.kind) ≡ frame.head.flags.bits

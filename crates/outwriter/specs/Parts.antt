@@ -42,7 +42,7 @@ spelled items = flat_map marks_of_item items
 
 -- ---- frames
 
--- the marks of a frame that isn't of a header block. WINDOW_UPDATE has none
+-- the marks of a frame that isn't of a header block. Credit has none, nor have the frames to which a control obliges, which are compared whole
 abbrev pub plain_kind : FrameKind → Frame → List Mark
 plain_kind Data frame = map Byte frame.content ++ end_mark (ends_stream frame)
 plain_kind RstStream frame = Reset (from_be_bytes w32 frame.content) ∷ []

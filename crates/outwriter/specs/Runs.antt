@@ -187,7 +187,7 @@ pub record MayWrite (before : List Step) (frame : Frame) : Type 0 where
   -- credit is of 1 to 2^31 - 1 bytes, and nothing else stands in its frame
   pub update : frame.head.kind ≡ kind.WindowUpdate → (n : ℕ) × (0 < n) × (n < 2 ^ 31) × (frame ≡ update_frame frame.head.stream n)
 
--- each frame of the run is one that the peer can read, and might be written after the steps before it
+-- each frame of the run is sound, and might be written after the steps before it
 abbrev pub IsLawful : List Step → Type 0
 IsLawful [] = Unit {0}
 IsLawful (Taken order ∷ before) = IsLawful before

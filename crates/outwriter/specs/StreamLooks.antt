@@ -88,7 +88,7 @@ module _ {L In Out Shut : Type 0} where
   abbrev pub Gives : {Name : Type 0} → (Out → List OutItem) → (Out → Name) → Sending L In Out Shut → Sending L In Out Shut → Type 0
   Gives got name old new = KeepsFronts got old new × (lanes name new.senders.items ≡ lanes name old.senders.items)
 
-  -- The peer can read a frame, it might be written, and is the next step. Where there is none, what is due and what is owed is the same, and what is kept follows
+  -- A frame is sound, might be written, and is the next step. Where there is none, what is due and what is owed is the same, and what is kept follows
   -- from the run still.
   abbrev pub Picks : (Out → List OutItem) → Option Frame → Sending L In Out Shut → Sending L In Out Shut → Type 0
   Picks got o old new = IfSome o IsSound × Progress o old.outbound new.outbound × IfNone o (SameOwn old.outbound new.outbound) × HoldsOn got o old new

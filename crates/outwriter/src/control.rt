@@ -1,4 +1,4 @@
-//! What the writer's core is told, and why it refuses.
+//! What the writer's core is told, and why it refuses (RFC 9113, sections 5.4 and 6).
 
 use h2frame::{ErrorCode, PeerSettings, StreamId};
 use lists::{Field, Sequence};
@@ -7,23 +7,25 @@ use std::fmt;
 /// What the core is told, by the peer or by its own side. `S` is the sender of a call.
 #[derive(Drop)]
 pub enum Control<S> {
-    /// The peer's SETTINGS, which are applied and then acknowledged.
+    /// The peer's SETTINGS, which are applied and then acknowledged (section 6.5.3).
     Settings(PeerSettings),
-    /// A PING of the peer, whose eight bytes are sent back.
+    /// A PING of the peer, whose eight bytes are sent back (section 6.7).
     Ping([u8; 8]),
-    /// The peer credits so many bytes to a stream, or to the connection where it is 0.
+    /// The peer credits so many bytes to a stream, or to the connection where it is 0 (section 6.9).
     Window(StreamId, u32),
-    /// A call begins, whose items are written on its stream.
+    /// A call begins, whose items are written on its stream. On 0, or on a number over 2^31 - 1, nothing is written: so it is of
+    /// the next two.
     Open(StreamId, S),
-    /// A stream is answered by one header block that ends it.
+    /// A stream is answered by one header block that ends it (section 8.1).
     Refuse(StreamId, Sequence<Field>),
-    /// A stream ends by an error, which is told to the peer where it is to be written.
+    /// A stream ends by an error, which is told to the peer by RST_STREAM where it is to be written (section 6.4).
     Reset {
         id: StreamId,
         code: ErrorCode,
         written: bool,
     },
-    /// The connection ends: `last` is the greatest stream that was looked at. With a code other than 0 it is the last frame.
+    /// The connection ends: `last`, below 2^31, is the greatest stream that was looked at. With a code other than 0 it is the last
+    /// frame (section 6.8).
     Goaway {
         last: StreamId,
         code: ErrorCode,

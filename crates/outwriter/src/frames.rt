@@ -14,7 +14,7 @@ const MAX_CONCURRENT_STREAMS: u8 = 3;
 
 const MAX_HEADER_LIST_SIZE: u8 = 6;
 
-/// The most bytes of fields that a header block may have.
+/// The most bytes of fields that the peer is told to put into a header block; the decoder takes more.
 const MAX_FIELD_BYTES: u32 = 16_384;
 
 /// The payload of the first SETTINGS: of each parameter its number and its value.

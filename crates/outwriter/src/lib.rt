@@ -4,13 +4,14 @@
 //! returned; it looks at the senders of the open calls, and answers the next frame, one at a time. It reads and writes
 //! nothing, and waits for nothing.
 //!
-//! What it does is a run: a list of steps, each a control taken, credit granted or a frame written (`specs/Steps.antt`).
+//! What it does is a run: a list of steps, each a control taken, credit granted, a frame
+//! written or a sender given back (`specs/Steps.antt`).
 //! Which runs are lawful is said in `specs/Runs.antt`: windows, acknowledgements in their order, resets that were asked
 //! for, whole header blocks, nothing behind a stream's end. `specs/Parts.antt` says what the frames of one stream tell, and what items spell.
 //!
 //! Read `control` for what goes in; `frames`, `small` and `blocks` for the frames that come out; `stream`, `due`,
-//! `resize` and `states` for what is kept, and `outbound` and `sending`, which bring it together; `out_core` for what a control does, `next` for the choice of a
-//! frame, and `release` for what a call that is through gives back.
+//! `resize` and `states` for what is kept, and `outbound`, `writing` and `sending`, which bring it together; `out_core` for
+//! what a control does, `next` for the choice of a frame, and `release` for what a call that is through gives back.
 #![tactic(auto)]
 
 mod blocks;

@@ -37,12 +37,13 @@ impl<L: Lane<Item = OutItem>> OutCore<L> {
     ghost use Rattle.outwriter.specs.Polls.{coming};
     ghost use Rattle.outwriter.specs.Steps.{Step};
 
-    /// The next frame. Once it was out of memory the core is dead, and answers that again.
+    /// The next frame, of at most 16,384 bytes. Once it was out of memory the core is dead, and answers that again; a field whose
+    /// name or value has more than 4,294,967,295 bytes counts as that.
     pub fn next_frame(&mut self) -> Result<Next, OutFault<Sender<L>>>
         // A frame that comes is the next step of the run.
         ensures leads { LeadsNext L.got result self.old self.new }
 
-        // The peer can read it, and `write_frame` takes it.
+        // It keeps the rules of its type, so that `write_frame` takes it.
         ensures sound { IfOk result (λ next. (frame : FrameOf) → next ≡ next_kind.Frame frame → IsSound frame) }
         ensures dead { self.old.is_dead ≡ true → result ≡ Err (out_fault.OutOfMemory None) }
         ensures lives { IfOk result (λ next. self.new.is_dead ≡ false) }

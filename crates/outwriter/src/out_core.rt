@@ -163,7 +163,7 @@ impl<L: Lane<Item = OutItem>> OutCore<L> {
         }
     }
 
-    /// Whether an item of the stream is in hand that a window keeps back.
+    /// Whether an item of the stream is in hand that a window keeps back. Of what its sender has yet nothing is said.
     pub fn held(&self, id: StreamId) -> bool
         ensures { result ≡ is_held (open_stream self.now id) (room self.now.sending.outbound.states.windows id) }
     {

@@ -20,7 +20,8 @@ impl<L: Lane<Item = OutItem>> OutCore<L> {
     ghost use Rattle.outwriter.specs.Steps.{Returned};
 
     /// Gives back the sender of a call that is through: its stream isn't open any more, and no header block of it is
-    /// unfinished. It takes no memory. A stream that was opened twice has two.
+    /// unfinished. It takes no memory, and looks through the senders. A stream that was opened
+    /// twice has two.
     pub fn release(&mut self, id: StreamId) -> Option<Sender<L>>
         // That it is given back, with what it has given, is the next step of the run.
         ensures leads { IfSome result (λ sender. LeadsOn L.got (Returned id (L.got sender.rx)) self.old self.new) }
