@@ -1,13 +1,14 @@
 -- What the steps of a writer do to what it wrote.
-use Rattle.std.proofs.Common.{◌≡◌, ◌≢◌, ◌∙◌, ℕ, Bool, true, false, List, [], ◌∷◌, ◌++◌, Option, None, Some, ap, append_assoc, sym, refl, map, subst}
+use Rattle.std.proofs.Common.{◌≡◌, ◌≢◌, ◌∙◌, ℕ, Bool, true, false, true≢false, List, [], ◌∷◌, ◌++◌, Option, None, Some, ap, append_assoc, sym, refl, map, subst}
 use Rattle.std.proofs.lemmas.List.{append-nil, map-append}
 use Rattle.account.specs.declared.call.OutItem.{OutItem}
 use Rattle.std.specs.Io.KnownBytes.{Appends}
 use Rattle.std.specs.Prelude.{◌==◌, Err, IfSome, if◌then◌else◌}
 use Rattle.callbox.specs.declared.sender.Sender.{Sender}
 use Rattle.device.specs.Bytes.{AppendsPrefix}
-use Rattle.h2frame.specs.declared.error_code.ErrorCode.TheVariants.{FlowControlError}
+use Rattle.h2frame.specs.declared.error_code.ErrorCode.TheVariants.{FlowControlError, InternalError}
 use Rattle.h2frame.specs.declared.frame.Frame.{Frame}
+use Rattle.h2frame.specs.Spelling.{spelled}
 use Rattle.outwriter.specs.declared.control.Control.{Control}
 use Rattle.outwriter.specs.declared.control.Control.TheVariants.{Reset, Goaway}
 use Rattle.outwriter.specs.declared.control.OutFault.{OutFault}
@@ -15,16 +16,17 @@ use Rattle.outwriter.specs.declared.control.OutFault.TheVariants as out_fault
 use Rattle.outwriter.specs.declared.control.OutFault.TheVariants.{PeerWindow}
 use Rattle.outwriter.specs.declared.out_core.OutCore.{OutCore}
 use Rattle.outwriter.specs.Cores.{IsUnused, Leads, LeadsControl, LeadsOn, LeadsStill}
+use Rattle.outwriter.specs.Frames.{goaway_frame}
 use Rattle.outwriter.specs.RunState.{Concerns}
 use Rattle.outwriter.specs.Steps.{Step, Order, Taken, Written, Returned, frames_of, order_of}
 use Rattle.connwriter.specs.declared.filled.Filled.{Filled}
 use Rattle.connwriter.specs.declared.standing.Standing.{Standing}
 use Rattle.connwriter.specs.declared.standing.Standing.TheVariants.{Going, OutOfMemory, Broken}
 use Rattle.connwriter.specs.declared.writer.ConnWriter.{ConnWriter}
-use Rattle.connwriter.specs.Orders.{own_control, own_order}
-use Rattle.connwriter.specs.Spelled.{Holds, IsFront, IsAll, IsWhole}
+use Rattle.connwriter.specs.Orders.{own_control, own_order, parting}
+use Rattle.connwriter.specs.Spelled.{Holds, IsFront, IsAll, IsWhole, ended_by}
 use Rattle.connwriter.specs.Wrote.{Wrote, WritesOn, Fills, Puts, Loses, PutsOr, RestsIf}
-use Rattle.connwriter.proofs.SpelledLemmas.{parted-more, holds-all, holds-cut, holds-flushed, holds-front, holds-whole}
+use Rattle.connwriter.proofs.SpelledLemmas.{parted-more, holds-all, holds-cut, holds-flushed, holds-front, holds-more, holds-whole}
 
 appends-nothing : (bytes : Option (List ℕ)) → Appends bytes bytes []
 appends-nothing None = tt
@@ -38,6 +40,14 @@ not-going e = cc
 
 not-broken-2 : OutOfMemory ≢ Broken
 not-broken-2 e = cc
+
+none-some : (frame : Frame) → None ≡ Some frame → ⊥
+none-some frame e = cc
+
+-- only a core that is dead says a last word
+dead-by : (is_dead : Bool) (said : Option Frame) (frame : Frame) → said ≡ Some frame → (is_dead ≡ false → said ≡ None) → is_dead ≡ true
+dead-by true said frame some alive = refl
+dead-by false said frame some alive = absurd (none-some frame (sym (alive refl) ∙ some))
 
 -- ---- what a core answers
 
@@ -82,36 +92,34 @@ module _ {L In Out Shut : Type 0} (got : Out → List OutItem) where
 -- ---- what was written
 
 module _ {L In Out Shut W : Type 0} (got : Out → List OutItem) (contents : W → Option (List ℕ)) (failed : W → Bool) where
-  -- the parts of which `Wrote` speaks are the same
-  pub same-wrote : (old new : ConnWriter L W In Out Shut) → new.core ≡ old.core → new.standing ≡ old.standing → new.device ≡ old.device
-      → new.buffer.items ≡ old.buffer.items → new.ended.items ≡ old.ended.items → WritesOn got contents failed [] old new
-  same-wrote old new core standing device buffer ended before run w = record {
-    leads = subst (λ (found : OutCore L In Out Shut). Leads got run found) (sym core) w.leads;
-    bytes = rw (standing, device, buffer, ended) w.bytes;
-    marked = rw (standing, device) w.marked;
-  }
-
-  -- the core goes on by steps that write nothing
-  pub core-on : (steps : List Step) (old : ConnWriter L W In Out Shut) (core : OutCore L In Out Shut) → ((run : List Step) → frames_of (steps ++ run) ≡ frames_of run)
+  -- the core goes on by steps that write nothing, and lives or is dead as before
+  pub core-on : (steps : List Step) (old : ConnWriter L W In Out Shut) (core : OutCore L In Out Shut) → core.is_dead ≡ old.core.is_dead → ((run : List Step) → frames_of (steps ++ run) ≡ frames_of run)
       → ((run : List Step) → Leads got run old.core → Leads got (steps ++ run) core) → WritesOn got contents failed steps old (record old { core = core })
-  core-on steps old core same leads before run w = record {
+  core-on steps old core dead same leads before run w = record {
     leads = leads run w.leads;
-    bytes = subst (λ (frames : List Frame). Holds old.standing frames before (contents old.device) old.buffer.items old.ended.items) (sym (same run)) w.bytes;
+    bytes = subst (λ (is_dead : Bool). Holds old.standing is_dead (frames_of (steps ++ run)) before (contents old.device) old.buffer.items old.ended.items) (sym dead)
+        (subst (λ (frames : List Frame). Holds old.standing old.core.is_dead frames before (contents old.device) old.buffer.items old.ended.items) (sym (same run)) w.bytes);
     marked = w.marked;
   }
 
   -- a sender is given back
   pub returned-on : (id : ℕ) (old : ConnWriter L W In Out Shut) (core : OutCore L In Out Shut) (result : Option (Sender L In Out Shut))
-      → IfSome result (λ sender. LeadsOn got (Returned id (got sender.rx)) old.core core)
+      → core.is_dead ≡ old.core.is_dead → IfSome result (λ sender. LeadsOn got (Returned id (got sender.rx)) old.core core)
       → IfSome result (λ sender. WritesOn got contents failed (Returned id (got sender.rx) ∷ []) old (record old { core = core }))
-  returned-on id old core None leads = tt
-  returned-on id old core (Some sender) leads = core-on (Returned id (got sender.rx) ∷ []) old core (λ run. refl) leads
+  returned-on id old core None dead leads = tt
+  returned-on id old core (Some sender) dead leads = core-on (Returned id (got sender.rx) ∷ []) old core dead (λ run. refl) leads
 
   -- the writer makes no more frames
   pub stopped-on : (old : ConnWriter L W In Out Shut) → old.standing ≡ Going → WritesOn got contents failed [] old (record old { standing = OutOfMemory })
   stopped-on old going before run w = record {
     leads = w.leads;
-    bytes = ([], frames_of run, refl, subst (λ (standing : Standing). Holds standing (frames_of run) before (contents old.device) old.buffer.items old.ended.items) going w.bytes);
+    bytes = (
+      [],
+      frames_of run,
+      refl,
+      subst (λ (standing : Standing). Holds standing old.core.is_dead (frames_of run) before (contents old.device) old.buffer.items old.ended.items) going w.bytes,
+      λ dead. refl,
+    );
     marked = λ broken. absurd (not-broken-2 broken);
   }
 
@@ -122,7 +130,7 @@ module _ {L In Out Shut W : Type 0} (got : Out → List OutItem) (contents : W �
       → mid.standing ≡ old.standing → mid.device ≡ old.device → mid.buffer.items ≡ old.buffer.items → mid.ended.items ≡ old.ended.items
       → Puts frame mid new → WritesOn got contents failed (Written frame ∷ []) old new
   puts-on frame old mid new going leads standing device buffer ended p before run w =
-      let parted = subst (λ (s : Standing). Holds s (frames_of run) before (contents old.device) old.buffer.items old.ended.items) going w.bytes in
+      let parted = subst (λ (s : Standing). Holds s old.core.is_dead (frames_of run) before (contents old.device) old.buffer.items old.ended.items) going w.bytes in
       let stands : new.standing ≡ Going = p.standing ∙ (standing ∙ going) in
       record {
         leads = subst (λ (found : OutCore L In Out Shut). Leads got (Written frame ∷ run) found) (sym p.core) (leads run w.leads);
@@ -132,26 +140,27 @@ module _ {L In Out Shut W : Type 0} (got : Out → List OutItem) (contents : W �
       }
 
   loses-on : (frame : Frame) (old mid new : ConnWriter L W In Out Shut) → old.standing ≡ Going
-      → LeadsOn got (Written frame) old.core mid.core
+      → LeadsOn got (Written frame) old.core mid.core → mid.core.is_dead ≡ false
       → mid.device ≡ old.device → mid.buffer.items ≡ old.buffer.items → mid.ended.items ≡ old.ended.items
       → Loses mid new → WritesOn got contents failed (Written frame ∷ []) old new
-  loses-on frame old mid new going leads device buffer ended p before run w =
-      let parted = subst (λ (s : Standing). Holds s (frames_of run) before (contents old.device) old.buffer.items old.ended.items) going w.bytes in
+  loses-on frame old mid new going leads lives device buffer ended p before run w =
+      let parted = subst (λ (s : Standing). Holds s old.core.is_dead (frames_of run) before (contents old.device) old.buffer.items old.ended.items) going w.bytes in
       record {
         leads = subst (λ (found : OutCore L In Out Shut). Leads got (Written frame ∷ run) found) (sym p.core) (leads run w.leads);
-        bytes = rw (p.standing, p.device, device, p.buffer, buffer, p.ended, ended) (frame ∷ [], frames_of run, refl, parted);
+        bytes = rw (p.standing, p.device, device, p.buffer, buffer, p.ended, ended)
+            (frame ∷ [], frames_of run, refl, parted, λ dead. absurd (true≢false (sym dead ∙ (ap (λ (core : OutCore L In Out Shut). core.is_dead) p.core ∙ lives))));
         marked = λ broken. absurd (not-broken-2 (sym p.standing ∙ broken));
       }
 
   pub put-fills : (ahead : Out → List OutItem) (frame : Frame) (filled : Option Filled) (old mid new : ConnWriter L W In Out Shut) → old.standing ≡ Going
-      → LeadsOn got (Written frame) old.core mid.core
+      → LeadsOn got (Written frame) old.core mid.core → mid.core.is_dead ≡ false
       → mid.standing ≡ old.standing → mid.device ≡ old.device → mid.buffer.items ≡ old.buffer.items → mid.ended.items ≡ old.ended.items
       → PutsOr frame filled mid new → Fills got ahead contents failed filled old new
-  put-fills ahead frame None old mid new going leads standing device buffer ended p before run w =
+  put-fills ahead frame None old mid new going leads lives standing device buffer ended p before run w =
       (frame ∷ [], puts-on frame old mid new going leads standing device buffer ended p before run w, tt)
-  put-fills ahead frame (Some filled) old mid new going leads standing device buffer ended p before run w = (
+  put-fills ahead frame (Some filled) old mid new going leads lives standing device buffer ended p before run w = (
     frame ∷ [],
-    loses-on frame old mid new going leads device buffer ended p.1 before run w,
+    loses-on frame old mid new going leads lives device buffer ended p.1 before run w,
     subst (λ (f : Filled). RestsIf {L = L} {In = In} {Out = Out} {Shut = Shut} {W = W} ahead (Some f) (Written frame ∷ run) new) (sym p.0) (λ going_still. absurd (not-going (sym p.1.standing ∙ going_still))),
   )
 
@@ -171,6 +180,21 @@ module _ {L In Out Shut W : Type 0} (got : Out → List OutItem) (contents : W �
   pub fills-none : (ahead : Out → List OutItem) (writer : ConnWriter L W In Out Shut) → Fills got ahead contents failed None writer writer
   fills-none ahead writer before run w = ([], w, tt)
 
+  -- ---- the last word
+
+  pub parts-on : (last : ℕ) (frame : Frame) (said : Option Frame) (old new : ConnWriter L W In Out Shut) → frame ≡ goaway_frame last InternalError → old.standing ≡ OutOfMemory → said ≡ Some frame → (old.core.is_dead ≡ false → said ≡ None)
+      → new.core.is_dead ≡ old.core.is_dead → ((run : List Step) → Leads got run old.core → Leads got (Written frame ∷ Taken (Goaway last InternalError) ∷ run) new.core)
+      → new.standing ≡ old.standing → new.device ≡ old.device → new.buffer.items ≡ old.buffer.items ++ spelled frame → new.ended.items ≡ old.ended.items
+      → WritesOn got contents failed (parting last true) old new
+  parts-on last frame said old new is memory some dead still leads standing device buffer ended before run w =
+      let held = subst (λ (s : Standing). Holds s old.core.is_dead (frames_of run) before (contents old.device) old.buffer.items old.ended.items) memory w.bytes in
+      subst (λ (f : Frame). Wrote got contents failed before (Written f ∷ Taken (Goaway last InternalError) ∷ run) new) is (record {
+        leads = leads run w.leads;
+        bytes = rw (still, standing, memory, device, buffer, ended)
+            (holds-more frame old.core.is_dead (frames_of run) before (contents old.device) old.buffer.items old.ended.items (dead-by old.core.is_dead said frame some dead) (ap (λ (f : Frame). ended_by (f ∷ [])) is) held);
+        marked = rw (standing, device) w.marked;
+      })
+
   -- ---- a new writer
 
   pub new-wrote : (new : ConnWriter L W In Out Shut) → new.standing ≡ Going → new.buffer.items ≡ [] → new.ended.items ≡ []
@@ -187,8 +211,8 @@ module _ {L In Out Shut W : Type 0} (got : Out → List OutItem) (contents : W �
       → new.buffer.items ≡ [] → new.ended.items ≡ [] → Appends (contents old.device) (contents new.device) old.buffer.items → WritesOn got contents failed [] old new
   flushed-on old new whole core standing buffer ended appends before run w = record {
     leads = subst (λ (found : OutCore L In Out Shut). Leads got run found) (sym core) w.leads;
-    bytes = rw (standing, buffer, ended)
-        (holds-flushed old.standing (frames_of run) before (contents old.device) (contents new.device) old.buffer.items old.ended.items whole w.bytes appends);
+    bytes = rw (core, standing, buffer, ended)
+        (holds-flushed old.standing old.core.is_dead (frames_of run) before (contents old.device) (contents new.device) old.buffer.items old.ended.items whole w.bytes appends);
     marked = λ broken. absurd (whole (sym standing ∙ broken));
   }
 
@@ -196,33 +220,34 @@ module _ {L In Out Shut W : Type 0} (got : Out → List OutItem) (contents : W �
       → failed new.device ≡ true → AppendsPrefix (contents old.device) (contents new.device) old.buffer.items → WritesOn got contents failed [] old new
   broken-on old new whole core standing mark cut before run w = record {
     leads = subst (λ (found : OutCore L In Out Shut). Leads got run found) (sym core) w.leads;
-    bytes = rw standing (holds-cut old.standing (frames_of run) before (contents old.device) (contents new.device) old.buffer.items old.ended.items whole w.bytes cut);
+    bytes = rw standing (holds-cut old.standing old.core.is_dead (frames_of run) before (contents old.device) (contents new.device) old.buffer.items old.ended.items whole w.bytes cut);
     marked = λ broken. mark;
   }
 
   -- what the device has of it in the end
   pub wrote-front : (before : Option (List ℕ)) (run : List Step) (writer : ConnWriter L W In Out Shut) → Wrote got contents failed before run writer
       → IsFront (frames_of run) before (contents writer.device)
-  wrote-front before run writer w = holds-front writer.standing (frames_of run) before (contents writer.device) writer.buffer.items writer.ended.items w.bytes
+  wrote-front before run writer w = holds-front writer.standing writer.core.is_dead (frames_of run) before (contents writer.device) writer.buffer.items writer.ended.items w.bytes
 
   pub wrote-all : (before : Option (List ℕ)) (run : List Step) (writer : ConnWriter L W In Out Shut) → writer.standing ≡ Going → writer.buffer.items ≡ []
       → Wrote got contents failed before run writer → IsAll (frames_of run) before (contents writer.device)
   wrote-all before run writer going empty w =
       holds-all (frames_of run) before (contents writer.device) writer.buffer.items writer.ended.items
-      (subst (λ (s : Standing). Holds s (frames_of run) before (contents writer.device) writer.buffer.items writer.ended.items) going w.bytes) empty
+      (subst (λ (s : Standing). Holds s writer.core.is_dead (frames_of run) before (contents writer.device) writer.buffer.items writer.ended.items) going w.bytes) empty
 
   pub wrote-whole : (before : Option (List ℕ)) (run : List Step) (writer : ConnWriter L W In Out Shut) → writer.standing ≢ Broken → writer.buffer.items ≡ []
       → Wrote got contents failed before run writer → IsWhole (frames_of run) before (contents writer.device)
   wrote-whole before run writer sound empty w =
-      holds-whole writer.standing (frames_of run) before (contents writer.device) writer.buffer.items writer.ended.items sound w.bytes empty
+      holds-whole writer.standing writer.core.is_dead (frames_of run) before (contents writer.device) writer.buffer.items writer.ended.items sound w.bytes empty
 
   -- ---- no frame comes
 
-  pub still-on : (old mid : ConnWriter L W In Out Shut) → LeadsStill got old.core mid.core → mid.standing ≡ old.standing → mid.device ≡ old.device
+  pub still-on : (old mid : ConnWriter L W In Out Shut) → old.standing ≡ Going → LeadsStill got old.core mid.core → mid.standing ≡ old.standing → mid.device ≡ old.device
       → mid.buffer.items ≡ old.buffer.items → mid.ended.items ≡ old.ended.items → WritesOn got contents failed [] old mid
-  still-on old mid leads standing device buffer ended before run w = record {
+  still-on old mid going leads standing device buffer ended before run w = record {
     leads = leads run w.leads;
-    bytes = rw (standing, device, buffer, ended) w.bytes;
+    bytes = rw (standing ∙ going, device, buffer, ended)
+        (subst (λ (s : Standing). Holds s old.core.is_dead (frames_of run) before (contents old.device) old.buffer.items old.ended.items) going w.bytes);
     marked = rw (standing, device) w.marked;
   }
 

@@ -1,11 +1,12 @@
--- The orders that a writer makes by itself: the peer's window overflows (RFC 9113, sections 6.9.1 and 6.9.2).
-use Rattle.std.specs.Prelude.{◌≡◌, ◌≢◌, ℕ, ◌==◌, true, List, [], ◌∷◌, if◌then◌else◌}
-use Rattle.h2frame.specs.declared.error_code.ErrorCode.TheVariants.{FlowControlError}
+-- The orders that a writer makes by itself: the peer's window overflows (RFC 9113, sections 6.9.1 and 6.9.2), or its core ran out of memory.
+use Rattle.std.specs.Prelude.{◌≡◌, ◌≢◌, ℕ, ◌==◌, Bool, true, false, List, [], ◌∷◌, if◌then◌else◌}
+use Rattle.h2frame.specs.declared.error_code.ErrorCode.TheVariants.{FlowControlError, InternalError}
 use Rattle.outwriter.specs.declared.control.Control.{Control}
 use Rattle.outwriter.specs.declared.control.Control.TheVariants.{Reset, Goaway}
 use Rattle.outwriter.specs.declared.control.OutFault.TheVariants.{PeerWindow}
+use Rattle.outwriter.specs.Frames.{goaway_frame}
 use Rattle.outwriter.specs.RunState.{Blames, Concerns, HasRoom}
-use Rattle.outwriter.specs.Steps.{Order, Step, Taken}
+use Rattle.outwriter.specs.Steps.{Order, Step, Taken, Written}
 use Rattle.connwriter.specs.declared.standing.Standing.{Standing}
 use Rattle.connwriter.specs.declared.standing.Standing.TheVariants.{Going}
 use Rattle.connwriter.specs.declared.taking.Taking.{Taking}
@@ -17,6 +18,11 @@ own_control last id = if id == 0 then Goaway last FlowControlError else Reset id
 
 abbrev pub own_order : ℕ → ℕ → Order
 own_order last id = own_control last id
+
+-- The last word of a writer whose core ran out of memory, where it is said: GOAWAY with INTERNAL_ERROR, and before it the order for it.
+abbrev pub parting : ℕ → Bool → List Step
+parting last true = Written (goaway_frame last InternalError) ∷ Taken (Goaway last InternalError) ∷ []
+parting last false = []
 
 module _ {S : Type 0} where
   -- the steps that an order leads to, the latest first

@@ -1,5 +1,5 @@
 -- What a connection's writer did: a run of its core, and the bytes of the run's frames.
-use Rattle.std.specs.Prelude.{◌≡◌, ◌≢◌, ℕ, Bool, true, List, [], ◌∷◌, ◌++◌, map, Option, None, Some}
+use Rattle.std.specs.Prelude.{◌≡◌, ◌≢◌, ℕ, Bool, true, false, List, [], ◌∷◌, ◌++◌, map, Option, None, Some}
 use Rattle.account.specs.declared.call.OutItem.{OutItem}
 use Rattle.h2frame.specs.declared.frame.Frame.{Frame}
 use Rattle.h2frame.specs.Spelling.{spelled}
@@ -16,7 +16,7 @@ module _ {L In Out Shut W : Type 0} where
   pub record Wrote (got : Out → List OutItem) (contents : W → Option (List ℕ)) (failed : W → Bool) (before : Option (List ℕ)) (run : List Step)
       (writer : ConnWriter L W In Out Shut) : Type 0 where
     pub leads : Leads got run writer.core
-    pub bytes : Holds writer.standing (frames_of run) before (contents writer.device) writer.buffer.items writer.ended.items
+    pub bytes : Holds writer.standing writer.core.is_dead (frames_of run) before (contents writer.device) writer.buffer.items writer.ended.items
     pub marked : writer.standing ≡ Broken → failed writer.device ≡ true
 
   -- whatever run led to the writer before, with these steps it leads to the writer after
@@ -24,10 +24,10 @@ module _ {L In Out Shut W : Type 0} where
   WritesOn got contents failed steps old new =
       (before : Option (List ℕ)) (run : List Step) → Wrote got contents failed before run old → Wrote got contents failed before (steps ++ run) new
 
-  -- why the buffer isn't filled further
+  -- Why the buffer isn't filled further. Nothing more comes where a Close was taken, and nothing now where none was.
   abbrev pub Rests : (Out → List OutItem) → Filled → List Step → ConnWriter L W In Out Shut → Type 0
   Rests ahead Full run writer = Unit {0}
-  Rests ahead Idle run writer = IsAtRest ahead run writer.core
+  Rests ahead Idle run writer = IsAtRest ahead run writer.core × (writer.core.closed ≡ false)
   Rests ahead Over run writer = IsAtRest ahead run writer.core × (writer.core.closed ≡ true)
   Rests ahead Stopped run writer = writer.standing ≢ Going
 

@@ -3,7 +3,7 @@
 //! `fill` stops where a frame of the greatest length might not fit, so the buffer never has more than eight of those, and it
 //! is used again for the next frames.
 
-ghost use Rattle.std.specs.Prelude.{◌≡◌, ◌≢◌, ◌≤◌, ◌<◌, ◌+◌, ℕ, true, List, [], ◌∷◌, Option, Some, IsErr, OnOk, OnErr, OnSome, IfSome, IfNone, length, vec_len, vec_capacity};
+ghost use Rattle.std.specs.Prelude.{◌≡◌, ◌≢◌, ◌≤◌, ◌<◌, ◌+◌, ℕ, true, false, List, [], ◌∷◌, Option, Some, IsErr, OnOk, OnErr, OnSome, IfSome, IfNone, length, vec_len, vec_capacity};
 ghost use Rattle.std.specs.Io.KnownBytes.{Appends};
 ghost use Rattle.device.specs.Bytes.{AppendsPrefix};
 ghost use Rattle.flow.specs.Windows.{room};
@@ -16,7 +16,7 @@ ghost use Rattle.outwriter.specs.RunState.{is_held};
 ghost use Rattle.outwriter.specs.Steps.{Step, Taken, Granted, Returned, order_of, frames_of};
 ghost use Rattle.connwriter.specs.declared.standing.Standing.TheVariants as stands;
 ghost use Rattle.connwriter.specs.declared.filled.Filled.TheVariants as filled;
-ghost use Rattle.connwriter.specs.Orders.{own_control, own_order, steps_of, Blamed, Stops};
+ghost use Rattle.connwriter.specs.Orders.{own_control, own_order, parting, steps_of, Blamed, Stops};
 ghost use Rattle.connwriter.specs.Spelled.{IsFront, IsWhole, IsAll};
 ghost use Rattle.connwriter.specs.Wrote.{Wrote, WritesOn, Fills, PutsOr};
 
@@ -210,6 +210,32 @@ impl<L: Lane<Item = OutItem>, W: ConnWrite> ConnWriter<L, W> {
     {
         if let Standing::Going = self.standing {
             self.standing = Standing::OutOfMemory;
+        }
+    }
+
+    /// The last word of a writer whose core ran out of memory, once: GOAWAY with INTERNAL_ERROR into the buffer (RFC 9113,
+    /// section 6.8), where the core may still say one and there is room and memory for it. Whether it is there.
+    pub fn part(&mut self, last: StreamId) -> bool
+        // It is the next step of the run, behind the order for it; unsaid it is none.
+        ensures wrote { WritesOn L.got W.contents W.failed (parting last result) self.old self.new }
+        ensures dead { result ≡ true → (self.old.standing ≡ stands.OutOfMemory) × (self.old.core.is_dead ≡ true) }
+
+        // Behind it nothing more is said.
+        ensures once { result ≡ true → self.new.core.may_part ≡ false }
+        ensures spent { self.old.core.may_part ≡ false → result ≡ false }
+        ensures room { length self.old.buffer.items ≤ 131144 → length self.new.buffer.items ≤ 131144 }
+        ensures unsaid { result ≡ false → self.new.buffer.items ≡ self.old.buffer.items }
+        ensures rest { self.new ≡ record self.old { core = self.new.core; buffer = self.new.buffer } }
+    {
+        if self.standing != Standing::OutOfMemory || self.buffer.len() > BUFFER - LONGEST_FRAME {
+            return false;
+        }
+        let Some(frame) = self.core.farewell(last, ErrorCode::InternalError) else {
+            return false;
+        };
+        match write_frame(&frame, &mut self.buffer) {
+            Ok(()) => true,
+            Err(_fault) => false,
         }
     }
 
