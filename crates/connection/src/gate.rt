@@ -1,4 +1,4 @@
-//! Who says when a call goes on.
+//! Who says when a call goes on, and closes a connection behind the last byte that is written.
 
 use h2frame::StreamId;
 
@@ -11,6 +11,10 @@ pub trait Gate {
 
     /// The last frame of this stream was written, of a call or of the refusal of one. The thread that writes tells so.
     fn trailers_written(&self, id: StreamId);
+
+    /// The writer has ended the connection, and writes nothing more: whoever reads it is to read its end, so that it can be closed
+    /// (RFC 9113, section 5.4.1). The thread that writes tells so, maybe again and again.
+    fn writing_ended(&self);
 }
 
 /// Each call goes on at once.
@@ -23,4 +27,6 @@ impl Gate for OpenGate {
     }
 
     fn trailers_written(&self, _id: StreamId) {}
+
+    fn writing_ended(&self) {}
 }

@@ -395,13 +395,18 @@ impl<A: Ledger, B: Ledger, C: Ledger, W: ConnWrite + Drop, G: Gate + Drop> Write
         true
     }
 
-    /// Whether nothing more can be written. Once the input has ended no window opens, so the calls that wait for one are cut.
+    /// Whether nothing more can be written. Once the input has ended no window opens, so the calls that wait for one are cut. Where the
+    /// writer has ended the connection, all that it writes is written.
     fn has_ended(&self, rt: &impl Wait, filled: Filled) -> bool
         ensures stopped { result ≡ true → filled ≡ filling.Stopped }
     {
         if filled == Filled::Stopped {
             self.stop(rt);
+            self.gate.writing_ended();
             return self.closed;
+        }
+        if self.outlet.shared.has_stopped() {
+            self.gate.writing_ended();
         }
         if self.input_ended {
             self.cut_held(rt);

@@ -125,6 +125,8 @@ impl Gate for Refusing {
             self.is_answered.store(true, Ordering::SeqCst);
         }
     }
+
+    fn writing_ended(&self) {}
 }
 
 #[test]
@@ -175,6 +177,8 @@ impl<R: Wait + Drop> Gate for Keeping<R> {
             self.answered.ring();
         }
     }
+
+    fn writing_ended(&self) {}
 }
 
 #[test]

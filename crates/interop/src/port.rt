@@ -5,12 +5,13 @@
 //! for those that come. Where only so many are served, each has a thread of its own.
 
 use crate::served::report_of;
-use connection::{OpenGate, Served, serve_connection};
+use connection::{Gate, Served, serve_connection};
 use device::Marked;
+use h2frame::StreamId;
 use handlers::Methods;
 use lane::Bell;
 use std::alloc::{AllocError, Global};
-use std::net::{SocketAddr, TcpListener, TcpStream};
+use std::net::{Shutdown, SocketAddr, TcpListener, TcpStream};
 use std::sync::atomic::{AtomicUsize, Ordering};
 use std::sync::{Arc, Wait};
 use std::thread::Threads;
@@ -205,6 +206,25 @@ fn wait_for_ends<R: Wait>(rt: &R, live: &Live) {
     }
 }
 
+/// The gate of a connection to a port, with what is read of it. Each call goes on at once.
+#[derive(Drop)]
+struct ClosingGate {
+    stream: TcpStream,
+}
+
+impl Gate for ClosingGate {
+    fn may_go(&self, _id: StreamId) -> bool {
+        true
+    }
+
+    fn trailers_written(&self, _id: StreamId) {}
+
+    /// Shuts the connection down. Where its peer has ended it, that is refused, and nothing is left to do.
+    fn writing_ended(&self) {
+        let _ = self.stream.shutdown(Shutdown::Both);
+    }
+}
+
 /// Serves a connection to its end, and prints the report on it where there is to be one. It fails where nothing was read of it.
 fn serve_stream<R>(
     rt: R,
@@ -221,10 +241,11 @@ where
     stream.set_nodelay(true)?;
     let output = Marked::new(stream.try_clone()?);
     let theirs = Arc::try_clone(methods)?;
-    let gate = Arc::new(alloc, OpenGate)?;
-    let mut input = Marked::new(stream);
+    let gate = Arc::new(alloc, ClosingGate { stream })?;
+    let closing = Arc::try_clone(&gate)?;
+    let mut input = Marked::new(&gate.stream);
     let Served { ending, calls, .. } = serve_connection(
-        rt, alloc, &mut input, output, theirs, gate,
+        rt, alloc, &mut input, output, theirs, closing,
     );
     if has_report {
         let report = report_of(alloc, peer, methods, ending, calls)?;
