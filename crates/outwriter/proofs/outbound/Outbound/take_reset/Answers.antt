@@ -1,4 +1,4 @@
-use Rattle.std.proofs.Common.{◌≡◌, refl, sym, subst, inl, ℕ, ◌∙◌, true, false, true≢false, List, [], ◌∷◌}
+use Rattle.std.proofs.Common.{◌≡◌, refl, sym, subst, inl, ℕ, ◌∙◌, true, false, true≢false, List, [], ◌∷◌, arith}
 use Rattle.std.proofs.lemmas.List.Elements.{All-nil, All-cons}
 use Rattle.h2frame.specs.declared.error_code.ErrorCode.{ErrorCode}
 use Rattle.outwriter.specs.declared.control.Control.TheVariants as order
@@ -19,7 +19,7 @@ returns-then-is_due-clause-taken c = λ run m.
     let reset : Order = order.Reset c.args.id c.args.code c.args.written in
     let P : ℕ × ErrorCode → Type 0 = λ asked. IsAsked asked.0 asked.1 (Taken reset ∷ run) in
     let first : (c.args.written ≡ true) × (is_reset c.args.self.now.states c.args.id ≡ false) × (is_stream c.args.id ≡ true) = elim c.if-written.branch [
-      | then-written w ↦ let may = sym w.is_due-is ∙ c.if-is_due.true in (w.if-written.true, w.may_write-is_due.ensures.unreset may, w.may_write-is_due.ensures.is may)
+      | then-written w ↦ let may = sym w.is_due-is ∙ c.if-is_due.true in (w.if-written.true, grind (arith, w, may), grind (arith, w, may))
       | else-written w ↦ absurd (true≢false (sym c.if-is_due.true ∙ w.is_due-is ∙ w.if-written.false))
     ] in
     reset-led c.args.id c.args.code c.args.written run _ _ _ _ _ _ _ c.args.self.now.states c.reset_state.new.states c.in_ok-reset_state.ensures.owed c.in_ok-reset_state.ensures.pays
