@@ -89,7 +89,7 @@ pub(crate) struct Orders<A: Ledger, B: Ledger, C: Ledger, N: Route> {
 }
 
 impl<A: Ledger, B: Ledger, C: Ledger, N: Route> Orders<A, B, C, N> {
-    ghost use Rattle.std.specs.Prelude.{true, false};
+    ghost use Rattle.std.specs.Prelude.{false};
     ghost use Rattle.lane.specs.Ring.{out_name, put_in, taken};
     ghost use Rattle.connection.specs.Orders.{AreOf, PutsOrDrops};
 
@@ -130,14 +130,6 @@ impl<A: Ledger, B: Ledger, C: Ledger, N: Route> Orders<A, B, C, N> {
                 .wait_past(rt, mark, Duration::from_millis(STEP));
         }
         unreachable!()
-    }
-
-    /// Notes that credit was returned that no call rings for: the writer is still to be rung.
-    pub(crate) fn note_credit(&mut self)
-        ensures same { (self.new.outbox ≡ self.old.outbox) × (self.new.has_dropped ≡ self.old.has_dropped) }
-        ensures noted { self.new.are_unrung ≡ true }
-    {
-        self.are_unrung = true;
     }
 
     /// Rings the writer.

@@ -584,7 +584,7 @@ where
         let padding = flow.saturating_sub(u32::try_from(bytes.len()).unwrap_or(u32::MAX));
         match intake.receive(&rt, id, flow, padding) {
             Receipt::Feed => self.feed(id, bytes),
-            Receipt::Discard => self.miss(id, &bytes),
+            Receipt::Discard => self.discard(id, &bytes),
             Receipt::CallWindow => self.cut(id, ErrorCode::FlowControlError, true),
             Receipt::Overrun => {
                 self.let_go(id, ErrorCode::FlowControlError);
@@ -602,7 +602,7 @@ where
         ensures holds { HoldsReasons self.old self.new }
         ensures noted { self.new.orders.are_unrung ≡ true }
     {
-        self.orders.note_credit();
+        self.note_credit();
         match intake.receive(&self.rt, 0, flow, 0) {
             Receipt::Overrun => Some(ErrorCode::FlowControlError),
             Receipt::Feed | Receipt::Discard | Receipt::CallWindow => None,
@@ -619,12 +619,28 @@ where
         }
     }
 
-    /// What comes for a call that is no longer live is fed to no one, and returned at once. So the call is never told that its half has ended,
-    /// but its stream is reset.
+    /// DATA came that no call takes. They were returned at once, for which the writer is to be rung.
+    fn discard(&mut self, id: StreamId, bytes: &Bytes)
+        ensures heard { (counted : ℕ) → ReadsAll M.names (events.Data id bytes.now counted ∷ []) self.old self.new }
+        ensures noted { self.new.orders.are_unrung ≡ true }
+    {
+        self.miss(id, bytes);
+        self.note_credit();
+    }
+
+    /// Notes that credit was returned that no call rings for.
+    fn note_credit(&mut self)
+        ensures slots { self.new.slots ≡ self.old.slots }
+        ensures holds { HoldsReasons self.old self.new }
+        ensures noted { self.new.orders.are_unrung ≡ true }
+    {
+        self.orders.are_unrung = true;
+    }
+
+    /// What comes for a call that is no longer live is fed to no one. So the call is never told that its half has ended, but its stream is reset.
     fn miss(&mut self, id: StreamId, bytes: &Bytes)
         ensures heard { (counted : ℕ) → ReadsAll M.names (events.Data id bytes.now counted ∷ []) self.old self.new }
     {
-        self.orders.note_credit();
         if bytes.is_empty() {
             return;
         }

@@ -19,10 +19,10 @@ pub returns-in-Feed-clause-some : goal.returns-in-Feed-clause-some
 returns-in-Feed-clause-some g c = some-all _ _ _ (c.feed.ensures.heard c.args.flow)
 
 pub returns-in-Discard-clause-heard : goal.returns-in-Discard-clause-heard
-returns-in-Discard-clause-heard g c = λ none. c.miss.ensures.heard c.args.flow
+returns-in-Discard-clause-heard g c = λ none. c.discard.ensures.heard c.args.flow
 
 pub returns-in-Discard-clause-some : goal.returns-in-Discard-clause-some
-returns-in-Discard-clause-some g c = some-all _ _ _ (c.miss.ensures.heard c.args.flow)
+returns-in-Discard-clause-some g c = some-all _ _ _ (c.discard.ensures.heard c.args.flow)
 
 pub returns-in-CallWindow-clause-heard : goal.returns-in-CallWindow-clause-heard
 returns-in-CallWindow-clause-heard g c = λ none.
