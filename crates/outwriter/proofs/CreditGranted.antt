@@ -45,7 +45,7 @@ with-owed (Granted stream n ∷ run) id lawful =
     at-most false may k = omega arith
 with-owed (Returned stream items ∷ run) id lawful = omega (arith, with-owed run id lawful, sum_by-cons (granted_by id) (Returned stream items) run)
 with-owed (Written frame ∷ run) id lawful =
-    omega (arith, with-owed run id lawful.1.1, lawful.1.0.owes id, sum_by-cons (update_on id) frame (frames_of run), sum_by-cons (granted_by id) (Written frame) run)
+    omega (arith, with-owed run id lawful.2, lawful.1.owes id, sum_by-cons (update_on id) frame (frames_of run), sum_by-cons (granted_by id) (Written frame) run)
 
 pub no-more-than-granted : (run : List Step) (id : ℕ) → IsLawful run → updated id run ≤ granted id run
 no-more-than-granted run id lawful = omega (arith, with-owed run id lawful)
