@@ -30,7 +30,7 @@ const PAUSE: u64 = 10;
 /// How long a thread sleeps at most before it looks again at what it waits for, in seconds.
 const LOOK: u64 = 3600;
 
-/// A port, and how many threads wait for a connection to it. One that can't take any for now still counts.
+/// A port, and how many threads wait for a connection to it, those too that pause before they try again.
 #[derive(Drop)]
 struct Port {
     listener: TcpListener,
