@@ -11,7 +11,7 @@
 //! - `intake`: the reader's hold on the credit book, `outlet` the writer's.
 //! - `slot`: what the threads see of a slot; `slots`: what the reader has of all, `seat` of each, and `half` of the half of
 //!   its call; `senders`: what the writer has.
-//! - `gate`: who says when a call goes on.
+//! - `gate`: who says when a call goes on, and what ends behind the last byte; `report`: what is told of a connection that was served.
 //! - `worker`: what a worker does with its calls; `hired`: its thread, and what it promises; `answering`: what methods answer.
 //! - `orders`: what the reader has the writer do, and its end of their ring; `inbox`: the writer's.
 //! - `reader`: what becomes of each event; `writer`: orders and credit in, frames out.

@@ -7,7 +7,7 @@ use std::sync::atomic::{AtomicBool, AtomicU32, Ordering};
 use std::sync::ledger::Ledger;
 use std::sync::{Arc, Mutex};
 
-/// The lock of a connection, and the bell at which its writer waits.
+/// The lock of a connection, and the bells at which its threads wait.
 #[derive(Drop)]
 pub(crate) struct Shared<A: Ledger, B: Ledger, C: Ledger> {
     pub(crate) book: Mutex<ConnBook<A, B, C>>,
