@@ -10,7 +10,7 @@ use Rattle.outwriter.specs.RunState.{Blames, Concerns, HasRoom}
 use Rattle.outwriter.specs.Steps.{Order, Step, Taken, Granted, Written, Returned, order_of}
 use Rattle.connwriter.specs.declared.taking.Taking.{Taking}
 use Rattle.connwriter.specs.declared.taking.Taking.TheVariants.{Done, Ended, Unanswered, HandedBack}
-use Rattle.connwriter.specs.Orders.{Blamed, own_order, steps_of}
+use Rattle.connwriter.specs.Orders.{Blamed, own_order, parting, steps_of}
 use Rattle.connection.specs.declared.orders.Opened.{Opened}
 use Rattle.connection.specs.declared.inbox.Inbox.{Inbox}
 use Rattle.connection.specs.Orders.{AreAnswered, HasGiven, HasTaken, IsAnswer, IsOwn, MayMiss, Obeys, lost_by, order_in, orders_of, taken_by}
@@ -138,6 +138,10 @@ module _ {S : Type 0} where
   obeys-lossy (Ended id) order orders run obeys = obeys
   obeys-lossy (Unanswered id) order orders run obeys = obeys
   obeys-lossy (HandedBack back) order orders run obeys = obeys-more orders (order ∷ []) run (subst (λ (os : List Order). Obeys true os run) (append-nil orders) obeys)
+
+-- the last word of a core is a GOAWAY of the writer's own, for which orders are lost
+pub obeys-last-word : (last : ℕ) (lost : Bool) (orders : List Order) (run : List Step) → Obeys lost orders run → Obeys true orders (parting last true ++ run)
+obeys-last-word last lost orders run obeys = obeys-parting {S = Unit {0}} last Done lost orders run tt obeys
 
 -- ---- the inbox
 

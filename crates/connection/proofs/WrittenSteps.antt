@@ -1,7 +1,7 @@
 -- What each step of a connection's writer does to what it wrote.
 use Rattle.std.proofs.Common.{◌≡◌, ◌≢◌, ◌∙◌, ℕ, Bool, true, false, true≢false, List, [], ◌∷◌, ◌++◌, Option, None, Some, IfSome, ap, append-nil, sym, refl, map, subst}
 use Rattle.account.specs.declared.call.OutItem.{OutItem}
-use Rattle.outwriter.specs.Calls.{TellReturned, TellOthers}
+use Rattle.outwriter.specs.Calls.{TellOthers}
 use Rattle.outwriter.specs.declared.control.Control.{Control}
 use Rattle.outwriter.specs.declared.control.Control.TheVariants as control
 use Rattle.h2frame.specs.declared.error_code.ErrorCode.TheVariants.{InternalError}
@@ -13,7 +13,7 @@ use Rattle.connwriter.specs.declared.standing.Standing.TheVariants as stands
 use Rattle.connwriter.specs.declared.writer.ConnWriter.{ConnWriter}
 use Rattle.connwriter.specs.Spelled.{IsFront, IsWhole, IsAll}
 use Rattle.connwriter.specs.declared.taking.Taking.{Taking}
-use Rattle.connwriter.specs.Orders.{Blamed, steps_of}
+use Rattle.connwriter.specs.Orders.{Blamed, parting, steps_of}
 use Rattle.connwriter.specs.Wrote.{Wrote, WritesOn, Fills}
 use Rattle.lane.specs.Ring.{out_name, taken}
 use Rattle.connection.specs.declared.inbox.Inbox.{Inbox}
@@ -21,8 +21,11 @@ use Rattle.connection.specs.declared.orders.Opened.{Opened}
 use Rattle.connection.specs.declared.report.Ending.{Ending}
 use Rattle.connection.specs.declared.report.Ending.TheVariants as ending
 use Rattle.connection.specs.Orders.{Gives, Obeys, order_in, orders_of, lost_by, taken_by}
-use Rattle.connection.specs.Written.{HasWritten, IsFlushed, Runs, RunsOn, RunsOut, Stays, TakesBy, Takes, Loses, Led, LedOut, LeadsOn, LeadsOut}
-use Rattle.connection.proofs.OrderSteps.{all-given, given-all, obeys-frames, obeys-lossy, obeys-lost, obeys-more, obeys-parting, obeys-taking}
+use Rattle.connection.specs.Written.{HasWritten, IsFlushed, Runs, Ends, RunsOn, RunsOut, Stays, Parts, TakesBy, Takes, Loses, Led, LedOut, LeadsOn, LeadsOut}
+use Rattle.connection.proofs.OrderSteps.{all-given, given-all, obeys-frames, obeys-last-word, obeys-lossy, obeys-lost, obeys-more, obeys-parting, obeys-taking}
+
+memory-going : stands.OutOfMemory ≢ stands.Going
+memory-going e = cc
 
 standing-of : {A : Type 0} (standing : Standing) → (standing ≡ stands.Going → A) → (standing ≡ stands.OutOfMemory → A) → (standing ≡ stands.Broken → A) → A
 standing-of stands.Going going memory broken = going refl
@@ -69,6 +72,29 @@ module _ {L In Out Shut W : Type 0} (got : Out → List OutItem) (contents : W �
   pub stays-here : (writer : ConnWriter L W In Out Shut) → Stays got contents failed writer writer
   stays-here writer = record { runs = λ lost orders before runs. runs; ends = λ lost orders before ends. ends }
 
+  -- the last word of a core
+  pub parts-on : (last : ℕ) (lost : Bool) (old new : ConnWriter L W In Out Shut) → WritesOn got contents failed (parting last true) old new → old.standing ≡ stands.OutOfMemory
+      → new.standing ≡ old.standing → Parts got contents failed lost true old new
+  parts-on last lost old new on memory still = record {
+    runs = λ orders before runs. (parting last true ++ runs.0, on before runs.0 runs.1, obeys-last-word last lost orders runs.0 runs.2);
+    ends = λ orders before ends. (
+      parting last true ++ ends.0,
+      on before ends.0 ends.1,
+      obeys-last-word last lost orders ends.0 ends.2,
+      λ going. absurd (memory-going (sym memory ∙ (sym still ∙ going))),
+    );
+  }
+
+  -- it is not said
+  pub silent-on : (lost : Bool) (old new : ConnWriter L W In Out Shut) → WritesOn got contents failed [] old new → new.standing ≡ old.standing → Parts got contents failed lost lost old new
+  silent-on lost old new on still = record {
+    runs = λ orders before runs. (runs.0, on before runs.0 runs.1, runs.2);
+    ends = λ orders before ends. (ends.0, on before ends.0 ends.1, ends.2, λ going. ends.3 (sym still ∙ going));
+  }
+
+  pub parts-here : (lost : Bool) (writer : ConnWriter L W In Out Shut) → Parts got contents failed lost lost writer writer
+  parts-here lost writer = record { runs = λ orders before runs. runs; ends = λ orders before ends. ends }
+
   -- ---- with orders
 
   -- the core was given an order
@@ -109,6 +135,15 @@ module _ {L In Out Shut W : Type 0} (got : Out → List OutItem) (contents : W �
   pub leads-then : (one two three : Inbox) (old mid new : ConnWriter L W In Out Shut) → LeadsOn got contents failed one old two mid → LeadsOn got contents failed two mid three new
       → LeadsOn got contents failed one old three new
   leads-then one two three old mid new first second = record { name = second.name ∙ first.name; on = λ before led. second.on before (first.on before led) }
+
+  -- no order is taken, and more may be lost
+  pub leads-losing : (from to : Inbox) (old new : ConnWriter L W In Out Shut) → to ≡ record from { has_lost = to.has_lost }
+      → ((orders : List Order) (before : Option (List ℕ)) → Runs got contents failed from.has_lost orders before old → Runs got contents failed to.has_lost orders before new)
+      → LeadsOn got contents failed from old to new
+  leads-losing from to old new same on = record {
+    name = ap (λ (inbox : Inbox). out_name inbox.ring) same;
+    on = λ before led. subst (λ (inbox : Inbox). Led got contents failed before inbox new) (sym same) (led.0, led.1, on led.0 before led.2);
+  }
 
   -- no order is taken
   pub leads-still : (from to : Inbox) (old new : ConnWriter L W In Out Shut) → to ≡ from → RunsOn got contents failed old new → LeadsOn got contents failed from old to new
@@ -152,6 +187,20 @@ module _ {L In Out Shut W : Type 0} (got : Out → List OutItem) (contents : W �
       let then = first.on before led in
       subst (λ (inbox : Inbox). LedOut got contents failed before inbox new) (sym same) (then.0, then.1, out two.has_lost then.0 before then.2)
 
+  -- there the last word is said, or it is not
+  pub out-parts : (one two three : Inbox) (old mid new : ConnWriter L W In Out Shut) → LeadsOut got contents failed one old two mid → three ≡ record two { has_lost = three.has_lost }
+      → Parts got contents failed two.has_lost three.has_lost mid new → LeadsOut got contents failed one old three new
+  out-parts one two three old mid new first same parts before led =
+      let then = first before led in
+      subst (λ (inbox : Inbox). LedOut got contents failed before inbox new) (sym same) (then.0, then.1, parts.ends then.0 before then.2)
+
+  -- and it stays there
+  pub out-stays : (one two three : Inbox) (old mid new : ConnWriter L W In Out Shut) → LeadsOut got contents failed one old two mid → three ≡ two → Stays got contents failed mid new
+      → LeadsOut got contents failed one old three new
+  out-stays one two three old mid new first same stays before led =
+      let then = first before led in
+      subst (λ (inbox : Inbox). LedOut got contents failed before inbox new) (sym same) (then.0, then.1, stays.ends two.has_lost then.0 before then.2)
+
   -- a writer that has taken nothing
   pub led-none : (before : Option (List ℕ)) (inbox : Inbox) (writer : ConnWriter L W In Out Shut) → taken inbox.ring ≡ [] → inbox.set_aside ≡ None
       → Wrote got contents failed before [] writer → Led got contents failed before inbox writer
@@ -161,14 +210,14 @@ module _ {L In Out Shut W : Type 0} (got : Out → List OutItem) (contents : W �
   -- what is left of a writer whose buffer is flushed
   pub has-written : (before : Option (List ℕ)) (inbox : Inbox) (writer : ConnWriter L W In Out Shut) (device : W) (told : Option Ending) → device ≡ writer.device → IsFlushed writer
       → (led : LedOut got contents failed before inbox writer)
-      → TellReturned led.2.0 → TellOthers led.2.0
+      → TellOthers led.2.0
       → IsFront (frames_of led.2.0) before (contents device)
       → (writer.standing ≢ stands.Broken → writer.buffer.items ≡ [] → IsWhole (frames_of led.2.0) before (contents device))
       → (writer.standing ≡ stands.Going → writer.buffer.items ≡ [] → IsAll (frames_of led.2.0) before (contents device))
       → (writer.standing ≡ stands.OutOfMemory → told ≡ Some ending.OutOfMemory)
       → (told ≢ Some ending.OutOfMemory → told ≢ Some ending.WriteFailed → (inbox.has_lost ≡ false) × (inbox.set_aside ≡ None))
       → HasWritten contents failed before (orders_of (taken inbox.ring)) told device
-  has-written before inbox writer device told same flushed led returned others front whole all memory each =
+  has-written before inbox writer device told same flushed led others front whole all memory each =
       let ends = led.2 in
       let sound : failed device ≡ false → writer.standing ≢ stands.Broken = λ unmarked stood. true≢false (sym (ap failed same ∙ ends.1.marked stood) ∙ unmarked) in
       record {
@@ -181,7 +230,6 @@ module _ {L In Out Shut W : Type 0} (got : Out → List OutItem) (contents : W �
             let found = each spared sent in
             subst (λ (orders : List Order). Obeys false orders ends.0) (given-all led.0 inbox found.1 led.1)
             (subst (λ (lost : Bool). Obeys lost led.0 ends.0) found.0 ends.2);
-        returned = returned;
         others = others;
         front = front;
         whole = λ unmarked. whole (sound unmarked) (flushed (sound unmarked));
@@ -203,7 +251,6 @@ told-on contents failed before took put one other device memory failing left par
   each = λ spared sent.
       subst (λ (orders : List Order). Obeys false orders h.run) (sym (append-nil took) ∙ (ap (λ (os : List Order). took ++ os) (sym (none spared sent)) ∙ parts))
       (h.each (λ lacked. spared (memory lacked)) (λ broke. sent (failing broke spared)));
-  returned = h.returned;
   others = h.others;
   front = h.front;
   whole = h.whole;

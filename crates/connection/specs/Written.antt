@@ -1,7 +1,7 @@
 -- What the writer of a connection wrote: the frames of a lawful run of its core, as far as they went out.
 use Rattle.std.specs.Prelude.{◌≡◌, ◌≢◌, ℕ, Bool, true, false, List, [], ◌∷◌, ◌++◌, Option, Some}
 use Rattle.account.specs.declared.call.OutItem.{OutItem}
-use Rattle.outwriter.specs.Calls.{TellReturned, TellOthers, is_closed}
+use Rattle.outwriter.specs.Calls.{TellOthers, is_closed}
 use Rattle.outwriter.specs.Runs.{IsLawful}
 use Rattle.outwriter.specs.RunState.{IsAnswered}
 use Rattle.outwriter.specs.Steps.{Step, Order, frames_of}
@@ -43,6 +43,11 @@ module _ {L In Out Shut W : Type 0} (got : Out → List OutItem) (contents : W �
   pub record Stays (old new : ConnWriter L W In Out Shut) : Type 0 where
     pub runs : RunsOn old new
     pub ends : (lost : Bool) (orders : List Order) (before : Option (List ℕ)) → Ends lost orders before old → Ends lost orders before new
+
+  -- the last word of its core is said, for which orders are lost, or it is not
+  pub record Parts (lost loses : Bool) (old new : ConnWriter L W In Out Shut) : Type 0 where
+    pub runs : (orders : List Order) (before : Option (List ℕ)) → Runs lost orders before old → Runs loses orders before new
+    pub ends : (orders : List Order) (before : Option (List ℕ)) → Ends lost orders before old → Ends loses orders before new
 
   -- ---- with orders
 
@@ -88,9 +93,7 @@ pub record HasWritten {W : Type 0} (contents : W → Option (List ℕ)) (failed 
   -- it took some of the orders; and where memory didn't run out and no write failed, each of them
   pub some : Obeys true orders run
   pub each : ending ≢ Some OutOfMemory → ending ≢ Some WriteFailed → Obeys false orders run
-  -- what is told of a call whose sender was given back begins what its items spell; of a stream that was never opened nothing is told, a
-  -- reset, or what it was refused with
-  pub returned : TellReturned run
+  -- of a stream that was never opened nothing is told, a reset, or what it was refused with
   pub others : TellOthers run
   pub front : IsFront (frames_of run) before (contents device)
   -- where no write failed, whole frames; and where memory didn't run out, all of them, and the run is over

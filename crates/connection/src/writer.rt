@@ -9,7 +9,7 @@ ghost use Rattle.connwriter.specs.declared.filled.Filled.TheVariants as filling;
 ghost use Rattle.connwriter.specs.declared.standing.Standing.TheVariants as stands;
 ghost use Rattle.connection.specs.declared.report.Ending.TheVariants as ending;
 ghost use Rattle.connection.specs.Orders.{orders_of};
-ghost use Rattle.connection.specs.Written.{HasWritten, IsFlushed, RunsOn, Stays, Takes, TakesBy, Loses, Led, LedOut, LeadsOn, LeadsOut};
+ghost use Rattle.connection.specs.Written.{HasWritten, IsFlushed, RunsOn, Stays, Parts, Takes, TakesBy, Loses, Led, LedOut, LeadsOn, LeadsOut};
 
 use crate::gate::Gate;
 use crate::inbox::Inbox;
@@ -153,6 +153,7 @@ impl<A: Ledger, B: Ledger, C: Ledger, W: ConnWrite + Drop, G: Gate + Drop> Write
         self.drain(rt);
         self.announce(rt);
         let filled = self.frames.fill();
+        self.say_last(filled);
         let is_silent = self.frames.is_flushed();
         if !is_silent {
             self.outlet.shared.room.ring();
@@ -284,6 +285,21 @@ impl<A: Ledger, B: Ledger, C: Ledger, W: ConnWrite + Drop, G: Gate + Drop> Write
         let code = ErrorCode::InternalError;
         let taking = self.frames.take(Control::Goaway { last, code }, last);
         matches!(taking, Taking::Done)
+    }
+
+    /// Tells the peer that no more frames come, where the writer has stopped because its core had no memory: by the core's last word, a
+    /// GOAWAY of the writer's own.
+    fn say_last(&mut self, filled: Filled)
+        ensures parts { Parts got W.contents W.failed self.old.orders.has_lost self.new.orders.has_lost self.old.frames self.new.frames }
+        ensures orders { self.new.orders ≡ record self.old.orders { has_lost = self.new.orders.has_lost } }
+    {
+        if filled != Filled::Stopped {
+            return;
+        }
+        let last = self.outlet.shared.last();
+        if self.frames.part(last) {
+            self.orders.has_lost = true;
+        }
     }
 
     /// Makes no more frames.

@@ -7,7 +7,6 @@ pub returns : goal.returns
 returns g c = record {
   written = λ before led.
       has-written got g.W.ConnWrite.contents g.W.ConnWrite.failed before c.args.self.orders c.args.self.frames c.into_parts-senders.result.1 c.ending-ending.result c.into_parts-senders.ensures.device c.requires.flushed led
-      (c.into_parts-senders.ensures.returned before led.2.0 led.2.1)
       (c.into_parts-senders.ensures.others before led.2.0 led.2.1)
       (c.into_parts-senders.ensures.prefix before led.2.0 led.2.1)
       (λ sound empty. c.into_parts-senders.ensures.whole sound empty before led.2.0 led.2.1)
