@@ -15,3 +15,4 @@ pub mod Ids
 pub mod Reasons
 pub mod Unfed
 pub mod AccountFrames
+pub mod SentPlaces

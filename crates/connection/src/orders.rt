@@ -1,13 +1,11 @@
 //! What the reader has the writer do.
 
-ghost use Rattle.std.specs.Prelude.{◌≡◌, [], Some, IfOk, IfErr, IsSomeAnd};
+ghost use Rattle.std.specs.Prelude.{◌≡◌, [], Some, IsSomeAnd};
 ghost use Rattle.std.specs.Option.{IsSomeAnd-prop};
 ghost use Rattle.lane.specs.Ring.{in_name};
 ghost use Rattle.lane.specs.RingEnds.{RingName_set};
-ghost use Rattle.lane.specs.RingLane.{got};
+ghost use Rattle.lane.specs.RingLane.{got, past_out};
 ghost use Rattle.outwriter.specs.declared.control.Control.TheVariants as orders;
-ghost use Rattle.outwriter.specs.Cores.{IsUnused};
-ghost use Rattle.outwriter.specs.Steps.{order_of};
 
 use crate::shared::Shared;
 use crate::slot::{OutLane, Slot};
@@ -29,17 +27,19 @@ pub(crate) enum Opened {
     Again(usize),
 }
 
-/// A new slot, and its sender, of which nothing was got.
+/// A new slot, and its sender, of which nothing was got, of no call.
 #[derive(Drop)]
 pub(crate) struct Fresh {
     pub(crate) slot: Arc<Slot>,
     pub(crate) sender: Sender<OutLane>,
     ghost unused: { got sender.rx ≡ [] },
+    ghost first: { past_out sender.rx ≡ [] },
 }
 
 impl Fresh {
     pub(crate) fn new(slot: Arc<Slot>, sender: Sender<OutLane>) -> Fresh
-        requires { got sender.rx ≡ [] }
+        requires unused { got sender.rx ≡ [] }
+        requires first { past_out sender.rx ≡ [] }
     {
         Fresh { slot, sender }
     }
@@ -155,24 +155,5 @@ impl<A: Ledger, B: Ledger, C: Ledger, N: Route> Orders<A, B, C, N> {
         let Outbox { mut ring, .. } = self.outbox;
         let mut rx = rx;
         Ring::meet(&mut ring, &mut rx) == 0
-    }
-}
-
-/// The control that an order is where no call begins by it; else which call begins, and whose sender sends it.
-pub(crate) fn split(order: Order) -> Result<Control<Sender<OutLane>>, (StreamId, Opened)>
-    ensures unused { IfOk result (IsUnused got) }
-    ensures same { IfOk result (λ control. order_of control ≡ order_of order) }
-    ensures opens { IfErr result (λ call. order_of order ≡ orders.Open call.0 tt) }
-{
-    match order {
-        Control::Open(id, opened) => Err((id, opened)),
-        Control::Settings(settings) => Ok(Control::Settings(settings)),
-        Control::Ping(bytes) => Ok(Control::Ping(bytes)),
-        Control::Window(id, increment) => Ok(Control::Window(id, increment)),
-        Control::Refuse(id, fields) => Ok(Control::Refuse(id, fields)),
-        Control::Reset { id, code, written } => Ok(Control::Reset { id, code, written }),
-        Control::Goaway { last, code } => Ok(Control::Goaway { last, code }),
-        Control::InputEnded => Ok(Control::InputEnded),
-        Control::Close => Ok(Control::Close),
     }
 }

@@ -1,7 +1,7 @@
 //! The senders of a connection's slots, as its writer has them: each comes once, with its slot's first call, is with the writer's
 //! core while a call is sent, and here between two calls.
 
-use crate::orders::{Fresh, Opened, Order, split};
+use crate::orders::{Fresh, Opened, Order};
 use crate::slot::{OutLane, Slot};
 use callbox::Sender;
 use h2frame::StreamId;
@@ -39,12 +39,14 @@ pub(crate) struct Senders {
 }
 
 impl Senders {
-    ghost use Rattle.std.specs.Prelude.{◌≡◌, [], IfOk, IfErr, IfSome};
+    ghost use Rattle.std.specs.Prelude.{◌≡◌, [], IfOk, IfErr, IfSome, IfNone, OnErr, length};
     ghost use Rattle.lane.specs.RingLane.{got};
     ghost use Rattle.outwriter.specs.declared.control.Control.TheVariants as orders;
     ghost use Rattle.outwriter.specs.Cores.{IsUnused};
     ghost use Rattle.outwriter.specs.Steps.{order_of};
+    ghost use Rattle.connection.specs.declared.orders.Opened.TheVariants as opens;
     ghost use Rattle.connection.specs.Orders.{IsBack};
+    ghost use Rattle.connection.specs.Sent.{Adds, Begins, IsSameBack, KeepsOn, MakesOf, NoneWaits, SamePlaces, TakesHome, Waits};
 
     pub(crate) fn new(alloc: Global) -> Senders {
         Senders {
@@ -59,6 +61,11 @@ impl Senders {
         ensures unused { IfOk result (IsUnused got) }
         ensures same { IfOk result (λ control. order_of control ≡ order_of order) }
         ensures back { IfErr result (IsBack (order_of order)) }
+
+        // An Open gets the sender of its slot: a new one, or the one that is held, which goes on to the next call.
+        ensures makes { IfOk result (λ control. MakesOf order control self.old.places.items self.new.places.items) }
+        ensures stays { OnErr result (SamePlaces self.old.places.items self.new.places.items) }
+        ensures same_back { IfErr result (IsSameBack order) }
     {
         match split(order) {
             Ok(control) => Ok(control),
@@ -70,38 +77,68 @@ impl Senders {
         }
     }
 
-    /// Keeps the sender of a call that is through for the next one. Answers whether the slot was told so.
-    pub(crate) fn keep(&mut self, sender: Sender<OutLane>, is_at_end: bool) -> bool {
-        let id = sender.id();
-        for place in &mut self.places {
-            if place.id == id && place.sender.is_none() {
-                place.sender = Some(sender);
-                place.is_at_end = is_at_end;
-                if is_at_end {
-                    place.slot.give_back();
+    /// Keeps the sender of a stream's call that is through for the next one. Answers whether the slot was told so.
+    pub(crate) fn keep(&mut self, id: StreamId, sender: Sender<OutLane>, is_at_end: bool) -> bool
+        // It is held in the place of the stream; or each place of it holds one.
+        ensures home { TakesHome id sender self.old.places.items self.new.places.items }
+    {
+        let Some(number) = self.place_of(id) else {
+            return false;
+        };
+        let Some(place) = self.places.get_mut(number) else {
+            return false;
+        };
+        place.sender = Some(sender);
+        place.is_at_end = is_at_end;
+        if is_at_end {
+            place.slot.give_back();
+        }
+        self.are_some_behind = self.are_some_behind || !is_at_end;
+        is_at_end
+    }
+
+    /// The first place that is at the call of this stream and holds no sender.
+    fn place_of(&self, id: StreamId) -> Option<usize>
+        ensures some { IfSome result (λ number. Waits id number self.now.places.items) }
+        ensures none { IfNone result (NoneWaits id (length self.now.places.items) self.now.places.items) }
+    {
+        for number in 0..self.places.len() {
+            if let Some(place) = self.places.get(number) {
+                if place.id == id && place.sender.is_none() {
+                    return Some(number);
                 }
-                self.are_some_behind = self.are_some_behind || !is_at_end;
-                return is_at_end;
             }
         }
-        false
+        None
     }
 
     /// Gets what is left of the calls that were called off. Answers whether a slot was told that all was got.
-    pub(crate) fn catch_up(&mut self) -> bool {
+    pub(crate) fn catch_up(&mut self) -> bool
+        ensures keeps { KeepsOn self.old.places.items self.new.places.items }
+    {
         if !self.are_some_behind {
             return false;
         }
         self.are_some_behind = false;
         let mut has_told = false;
-        for place in &mut self.places {
-            if place.catch_up() {
+        for number in 0..self.places.len() {
+            if self.catch_up_at(number) {
                 has_told = true;
             }
-            if place.is_behind() {
-                self.are_some_behind = true;
-            }
         }
+        has_told
+    }
+
+    /// The same of one place.
+    fn catch_up_at(&mut self, number: usize) -> bool
+        ensures keeps { KeepsOn self.old.places.items self.new.places.items }
+    {
+        let Some(place) = self.places.get_mut(number) else {
+            return false;
+        };
+        let has_told = place.catch_up();
+        let is_behind = place.is_behind();
+        self.are_some_behind = self.are_some_behind || is_behind;
         has_told
     }
 
@@ -119,6 +156,9 @@ impl Senders {
         ensures unused { IfOk result (IsUnused got) }
         ensures opens { IfOk result (λ control. order_of control ≡ orders.Open id tt) }
         ensures back { IfErr result (IsBack (orders.Open id tt)) }
+        ensures adds { IfOk result (λ control. (control ≡ orders.Open id fresh.sender) × Adds id self.old.places.items self.new.places.items) }
+        ensures stays { OnErr result (SamePlaces self.old.places.items self.new.places.items) }
+        ensures same_back { IfErr result (IsSameBack (orders.Open id (opens.New fresh))) }
     {
         let Fresh { slot, sender, .. } = fresh;
         let place = Place {
@@ -136,6 +176,8 @@ impl Senders {
     /// A further call of a slot begins. None where its sender isn't back.
     fn begin(&mut self, id: StreamId, number: usize) -> Option<Sender<OutLane>>
         ensures unused { IfSome result (λ sender. got sender.rx ≡ []) }
+        ensures begins { IfSome result (λ sender. Begins number id sender self.old.places.items self.new.places.items) }
+        ensures stays { IfNone result (SamePlaces self.old.places.items self.new.places.items) }
     {
         let place = self.places.get_mut(number)?;
         let mut sender = place.sender.take()?;
@@ -150,25 +192,73 @@ impl Senders {
 }
 
 impl Place {
+    ghost use Rattle.std.specs.Prelude.{◌≡◌};
+    ghost use Rattle.connection.specs.Sent.{GetsRest};
+
     /// Whether the sender is back, and not all of its call was got.
     fn is_behind(&self) -> bool {
         self.sender.is_some() && !self.is_at_end
     }
 
     /// Gets what is left of the call, once the worker has given all of it. Answers whether it did.
-    fn catch_up(&mut self) -> bool {
+    fn catch_up(&mut self) -> bool
+        ensures id { self.new.id ≡ self.old.id }
+        ensures rest { GetsRest self.old.sender self.new.sender }
+    {
         if !self.is_behind() || !self.slot.is_answered() {
             return false;
         }
-        if let Some(sender) = &mut self.sender {
-            for _ in 0..u64::MAX {
-                if sender.next().is_none() {
-                    break;
-                }
-            }
-        }
+        get_rest_of(&mut self.sender);
         self.is_at_end = true;
         self.slot.give_back();
         true
+    }
+}
+
+ghost use Rattle.std.specs.Prelude.{◌≡◌, IfOk, IfErr};
+ghost use Rattle.lane.specs.RingLane.{got};
+ghost use Rattle.outwriter.specs.declared.control.Control.TheVariants as orders;
+ghost use Rattle.outwriter.specs.Cores.{IsUnused};
+ghost use Rattle.outwriter.specs.Steps.{order_of};
+ghost use Rattle.connection.specs.Sent.{GetsMore, GetsRest, IsPlain};
+
+/// Gets what is there of the call of a sender, where it is held.
+fn get_rest_of(held: &mut Option<Sender<OutLane>>)
+    ensures { GetsRest held.old held.new }
+{
+    match held {
+        Some(sender) => get_rest(sender),
+        None => {}
+    }
+}
+
+/// Gets what is there of the call.
+fn get_rest(sender: &mut Sender<OutLane>)
+    ensures { GetsMore sender.old sender.new }
+{
+    for _ in 0..u64::MAX {
+        if sender.next().is_none() {
+            break;
+        }
+    }
+}
+
+/// The control that an order is where no call begins by it; else which call begins, and whose sender sends it.
+fn split(order: Order) -> Result<Control<Sender<OutLane>>, (StreamId, Opened)>
+    ensures unused { IfOk result (IsUnused got) }
+    ensures same { IfOk result (λ control. order_of control ≡ order_of order) }
+    ensures opens { IfErr result (λ call. order ≡ orders.Open call.0 call.1) }
+    ensures plain { IfOk result (λ control. IsPlain order control) }
+{
+    match order {
+        Control::Open(id, opened) => Err((id, opened)),
+        Control::Settings(settings) => Ok(Control::Settings(settings)),
+        Control::Ping(bytes) => Ok(Control::Ping(bytes)),
+        Control::Window(id, increment) => Ok(Control::Window(id, increment)),
+        Control::Refuse(id, fields) => Ok(Control::Refuse(id, fields)),
+        Control::Reset { id, code, written } => Ok(Control::Reset { id, code, written }),
+        Control::Goaway { last, code } => Ok(Control::Goaway { last, code }),
+        Control::InputEnded => Ok(Control::InputEnded),
+        Control::Close => Ok(Control::Close),
     }
 }

@@ -1,7 +1,7 @@
 //! The slots of a connection, as its reader has them.
 
 ghost use Rattle.std.specs.Prelude.{◌≡◌, ◌<◌, ℕ, List, [], ◌∷◌, ◌++◌, All, None, true, false, OnOk, OnErr, IfOk, IfErr, IfSome, IsSome, IsSomeAnd, map, position};
-ghost use Rattle.lane.specs.RingLane.{got};
+ghost use Rattle.lane.specs.RingLane.{got, past_out};
 ghost use Rattle.connbook.specs.declared.answers.Receipt.TheVariants.{Feed};
 ghost use Rattle.handlers.specs.Listed.{listed};
 ghost use Rattle.session.specs.declared.event.InEvent.TheVariants as events;
@@ -49,6 +49,7 @@ pub(crate) struct Made {
     pub(crate) slot: Arc<Slot>,
     pub(crate) sender: Sender<OutLane>,
     ghost unused: { got sender.rx ≡ [] },
+    ghost first: { past_out sender.rx ≡ [] },
 }
 
 /// The slots of a connection, at most as many as calls may be live, by their numbers.
@@ -273,6 +274,7 @@ where
     requires known { IsWithin M.known (answers_by (λ method. answers (method.vtable, method.value)) (listed methods.value)) }
     requires named { M.names job.head.path job.index }
     ensures unused { IfOk result (λ r. got r.1.rx ≡ []) }
+    ensures first { IfOk result (λ r. past_out r.1.rx ≡ []) }
     ensures id { IfOk result (λ r. r.0.id ≡ job.id) }
     ensures jobs { IfOk result (λ r. jobs_of r.0 ≡ job ∷ []) }
     ensures heard { IfOk result (λ r. (told : List Step) → IsSeat M.names (Told (events.Open job.id job.head) Admitted ∷ told) r.0) }

@@ -405,7 +405,7 @@ impl<A: Ledger, B: Ledger, C: Ledger, W: ConnWrite + Drop, G: Gate + Drop> Write
         let Some(sender) = self.frames.release(id) else {
             return false;
         };
-        if self.senders.keep(sender, is_at_end) {
+        if self.senders.keep(id, sender, is_at_end) {
             self.outlet.shared.reader.ring();
         }
         true

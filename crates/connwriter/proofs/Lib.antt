@@ -1,2 +1,3 @@
+pub mod SentSteps
 pub mod SpelledLemmas
 pub mod WroteSteps

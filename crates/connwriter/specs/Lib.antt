@@ -1,3 +1,4 @@
 pub mod Orders
+pub mod Sent
 pub mod Spelled
 pub mod Wrote

@@ -1,15 +1,27 @@
 -- What a connection's writer did: a run of its core, and the bytes of the run's frames.
-use Rattle.std.specs.Prelude.{◌≡◌, ◌≢◌, ℕ, Bool, true, false, List, [], ◌∷◌, ◌++◌, map, Option, None, Some}
+use Rattle.std.specs.Prelude.{◌≡◌, ◌≢◌, ℕ, Bool, true, false, List, [], ◌∷◌, ◌++◌, map, Option, None, Some, Ok}
 use Rattle.account.specs.declared.call.OutItem.{OutItem}
+use Rattle.callbox.specs.declared.sender.Sender.{Sender}
 use Rattle.h2frame.specs.declared.frame.Frame.{Frame}
 use Rattle.h2frame.specs.Spelling.{spelled}
-use Rattle.outwriter.specs.Cores.{IsAtRest, Leads}
+use Rattle.outwriter.specs.declared.control.Control.{Control}
+use Rattle.outwriter.specs.Cores.{Brings, IsAtRest, Leads}
 use Rattle.outwriter.specs.Steps.{Step, Written, frames_of}
 use Rattle.connwriter.specs.declared.filled.Filled.{Filled}
 use Rattle.connwriter.specs.declared.filled.Filled.TheVariants.{Full, Idle, Over, Stopped}
 use Rattle.connwriter.specs.declared.standing.Standing.TheVariants.{Going, OutOfMemory, Broken}
+use Rattle.connwriter.specs.declared.taking.Taking.{Taking}
+use Rattle.connwriter.specs.declared.taking.Taking.TheVariants.{Done, Ended, Unanswered, HandedBack}
 use Rattle.connwriter.specs.declared.writer.ConnWriter.{ConnWriter}
 use Rattle.connwriter.specs.Spelled.{Holds, ended_by}
+
+module _ {L In Out Shut : Type 0} where
+  -- an Open that is taken brings its sender behind the others; nothing else changes them
+  abbrev pub BringsBy : Taking (Sender L In Out Shut) → Control (Sender L In Out Shut) → List (ℕ × Sender L In Out Shut) → List (ℕ × Sender L In Out Shut) → Type 0
+  BringsBy Done control old new = Brings (Ok tt) control old new
+  BringsBy (Ended id) control old new = new ≡ old
+  BringsBy (Unanswered id) control old new = new ≡ old
+  BringsBy (HandedBack back) control old new = new ≡ old
 
 module _ {L In Out Shut W : Type 0} where
   -- This run led to the writer, whose device had something before it.

@@ -8,7 +8,7 @@ ghost use Rattle.std.specs.Io.KnownBytes.{Appends};
 ghost use Rattle.device.specs.Bytes.{AppendsPrefix};
 ghost use Rattle.flow.specs.Windows.{room};
 ghost use Rattle.outwriter.specs.Calls.{TellFronts, TellReturned, TellOthers};
-ghost use Rattle.outwriter.specs.Cores.{calls, open_stream, IsUnused};
+ghost use Rattle.outwriter.specs.Cores.{calls, lanes, lane_and_past, open_stream, IsUnused};
 ghost use Rattle.outwriter.specs.Frames.{IsSound, ends_stream};
 ghost use Rattle.outwriter.specs.Polls.{coming};
 ghost use Rattle.outwriter.specs.Releases.{IsThrough, HasNone, Releases};
@@ -18,7 +18,7 @@ ghost use Rattle.connwriter.specs.declared.standing.Standing.TheVariants as stan
 ghost use Rattle.connwriter.specs.declared.filled.Filled.TheVariants as filled;
 ghost use Rattle.connwriter.specs.Orders.{own_control, own_order, parting, steps_of, Blamed, Stops};
 ghost use Rattle.connwriter.specs.Spelled.{IsFront, IsWhole, IsAll};
-ghost use Rattle.connwriter.specs.Wrote.{Wrote, WritesOn, Fills, PutsOr};
+ghost use Rattle.connwriter.specs.Wrote.{Wrote, WritesOn, BringsBy, Fills, PutsOr};
 
 use crate::filled::Filled;
 use crate::standing::Standing;
@@ -115,6 +115,9 @@ impl<L: Lane<Item = OutItem>, W: ConnWrite> ConnWriter<L, W> {
         // The writer ends a stream or the connection exactly where a window would be over 2^31 - 1 bytes.
         ensures blamed { (before : Option (List ℕ)) (run : List Step) → Wrote L.got W.contents W.failed before run self.old → Blamed result control run }
         ensures stands { Stops result self.old.standing self.new.standing }
+
+        // The sender of an Open that is taken stands behind the others, and nothing else changes them.
+        ensures brings { BringsBy result control self.old.core.sending.senders.items self.new.core.sending.senders.items }
         ensures rest { self.new ≡ record self.old { core = self.new.core; standing = self.new.standing } }
     {
         match self.core.control(control) {
@@ -131,6 +134,7 @@ impl<L: Lane<Item = OutItem>, W: ConnWrite> ConnWriter<L, W> {
     /// Owes n bytes more of credit, on a stream, or on the connection where it is 0.
     pub fn grant(&mut self, id: StreamId, n: u32)
         ensures wrote { WritesOn L.got W.contents W.failed (Granted id n ∷ []) self.old self.new }
+        ensures senders { self.new.core.sending.senders ≡ self.old.core.sending.senders }
         ensures rest { self.new ≡ record self.old { core = self.new.core } }
     {
         self.core.grant(id, n);
@@ -155,6 +159,9 @@ impl<L: Lane<Item = OutItem>, W: ConnWrite> ConnWriter<L, W> {
     pub fn fill(&mut self) -> Filled
         // Frames are the next steps of the run. Where none comes, all is written that can be.
         ensures wrote { Fills L.got (coming L.got L.ahead) W.contents W.failed (Some result) self.old self.new }
+
+        // Each sender stays at its place, an end of the same lane, and what was got of the calls before its own stays too.
+        ensures senders { lanes (lane_and_past L.out_name L.past_out) self.new.core.sending.senders.items ≡ lanes (lane_and_past L.out_name L.past_out) self.old.core.sending.senders.items }
         ensures room { length self.old.buffer.items ≤ 131144 → length self.new.buffer.items ≤ 131144 }
         ensures device { self.new.device ≡ self.old.device }
         ensures left { self.new.left ≡ self.old.left }
@@ -218,6 +225,7 @@ impl<L: Lane<Item = OutItem>, W: ConnWrite> ConnWriter<L, W> {
     pub fn part(&mut self, last: StreamId) -> bool
         // It is the next step of the run, behind the order for it; unsaid it is none.
         ensures wrote { WritesOn L.got W.contents W.failed (parting last result) self.old self.new }
+        ensures senders { self.new.core.sending.senders ≡ self.old.core.sending.senders }
         ensures dead { result ≡ true → (self.old.standing ≡ stands.OutOfMemory) × (self.old.core.is_dead ≡ true) }
 
         // Behind it nothing more is said.
@@ -267,6 +275,7 @@ impl<L: Lane<Item = OutItem>, W: ConnWrite> ConnWriter<L, W> {
     fn end(&mut self, id: StreamId, last: StreamId) -> Result<(), AllocError>
         ensures wrote { OnOk result (WritesOn L.got W.contents W.failed (Taken (own_order last id) ∷ []) self.old self.new) }
         ensures still { OnErr result (WritesOn L.got W.contents W.failed [] self.old self.new) }
+        ensures senders { self.new.core.sending.senders.items ≡ self.old.core.sending.senders.items }
         ensures stands { OnOk result (self.new.standing ≡ self.old.standing) }
         ensures stops { OnErr result (self.new.standing ≢ stands.Going) }
         ensures rest { self.new ≡ record self.old { core = self.new.core; standing = self.new.standing } }
@@ -285,6 +294,7 @@ impl<L: Lane<Item = OutItem>, W: ConnWrite> ConnWriter<L, W> {
     fn fill_on(&mut self) -> Filled
         requires { self.old.standing ≡ stands.Going }
         ensures wrote { Fills L.got (coming L.got L.ahead) W.contents W.failed (Some result) self.old self.new }
+        ensures senders { lanes (lane_and_past L.out_name L.past_out) self.new.core.sending.senders.items ≡ lanes (lane_and_past L.out_name L.past_out) self.old.core.sending.senders.items }
         ensures room { length self.old.buffer.items ≤ 131144 → length self.new.buffer.items ≤ 131144 }
         ensures device { self.new.device ≡ self.old.device }
         ensures left { self.new.left ≡ self.old.left }
@@ -302,6 +312,7 @@ impl<L: Lane<Item = OutItem>, W: ConnWrite> ConnWriter<L, W> {
     fn add_frame(&mut self) -> Option<Filled>
         requires { self.old.standing ≡ stands.Going }
         ensures wrote { Fills L.got (coming L.got L.ahead) W.contents W.failed result self.old self.new }
+        ensures senders { lanes (lane_and_past L.out_name L.past_out) self.new.core.sending.senders.items ≡ lanes (lane_and_past L.out_name L.past_out) self.old.core.sending.senders.items }
         ensures grows { IfNone result (length self.old.buffer.items < length self.new.buffer.items) }
         ensures fits { length self.new.buffer.items ≤ length self.old.buffer.items + 16393 }
         ensures goes { result ≢ Some filled.Stopped → self.new.standing ≡ stands.Going }

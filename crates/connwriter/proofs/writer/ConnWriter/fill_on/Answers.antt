@@ -14,4 +14,5 @@ frames-preserved g c = record {
   going = c.in_default.ensures.goes (λ e. cc);
   device = c.in_default.ensures.device ∙ c.frames.invariant.device;
   left = c.in_default.ensures.left ∙ c.frames.invariant.left;
+  senders = c.in_default.ensures.senders ∙ c.frames.invariant.senders;
 }

@@ -1,4 +1,5 @@
 use Rattle.std.proofs.Common.{◌≡◌, ◌≤◌, ◌-◌, length, None}
+use Rattle.outwriter.specs.Cores.{lanes, lane_and_past}
 use Rattle.outwriter.specs.Polls.{coming}
 use Rattle.connwriter.specs.Wrote.{Fills}
 use Rattle.connwriter.specs.declared.standing.Standing.TheVariants.{Going}
@@ -12,6 +13,8 @@ invariant-frames g l = record {
   going : l.self.standing ≡ Going;
   device : l.self.device ≡ l.fn.self.device;
   left : l.self.left ≡ l.fn.self.left;
+  senders : lanes (lane_and_past g.L.Lane.out_name g.L.Lane.past_out) l.self.core.sending.senders.items
+      ≡ lanes (lane_and_past g.L.Lane.out_name g.L.Lane.past_out) l.fn.self.core.sending.senders.items;
 }
 
 abbrev pub decreases-frames : goal.decreases-frames
