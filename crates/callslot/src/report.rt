@@ -1,20 +1,10 @@
 //! How a connection ended, and what became of its calls.
 
 ghost use Rattle.std.specs.Prelude.{◌≡◌};
-ghost use Rattle.connection.specs.Accounts.{unanswered};
+ghost use Rattle.callslot.specs.Accounts.{unanswered};
 
 use account::Told;
 use h2frame::{ErrorCode, StreamId};
-
-/// What became of a connection.
-#[derive(Drop)]
-pub struct Served<O: Drop> {
-    pub ending: Ending,
-    /// What was written to. None where no memory or no thread was to be had before anything was read.
-    pub output: Option<O>,
-    /// A row for each call that was admitted, in the order of their streams. None where there was no memory for all of them.
-    pub calls: Option<Vec<CallReport>>,
-}
 
 /// What became of a call. A number over the greatest `u64` counts as that.
 #[derive(Clone, Copy, Debug, PartialEq, Eq)]
@@ -39,7 +29,7 @@ pub struct CallReport {
 
 impl CallReport {
     /// The row of a call of which nothing was taken, and to which nothing was given.
-    pub(crate) fn unanswered(id: StreamId, method: usize) -> CallReport
+    pub fn unanswered(id: StreamId, method: usize) -> CallReport
         ensures { result ≡ unanswered id method }
     {
         CallReport {

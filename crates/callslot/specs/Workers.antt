@@ -8,9 +8,9 @@ use Rattle.callbox.specs.declared.taker.Progress.{Progress}
 use Rattle.callbox.specs.InSides.{Took}
 use Rattle.callbox.specs.Slots.{TookOf}
 use Rattle.handlers.specs.declared.step.Step.{Step}
-use Rattle.connection.specs.declared.report.CallReport.{CallReport}
-use Rattle.connection.specs.declared.slot.Job.{Job}
-use Rattle.connection.specs.Accounts.{IsAnswered}
+use Rattle.callslot.specs.declared.report.CallReport.{CallReport}
+use Rattle.callslot.specs.declared.slot.Job.{Job}
+use Rattle.callslot.specs.Accounts.{IsAnswered}
 
 module _ (answers : ℕ → List (List ℕ) → Bool → Step → Type 0) where
   -- Of the call of this job this was got and given, and this is its row.

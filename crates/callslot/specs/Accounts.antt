@@ -11,7 +11,7 @@ use Rattle.callbox.specs.InSides.{bytes_of, shut_of}
 use Rattle.callhead.specs.declared.head.CallHead.{CallHead}
 use Rattle.handlers.specs.declared.step.Step.{Step}
 use Rattle.callrun.specs.Outcomes.{IsOutcome, is_end}
-use Rattle.connection.specs.declared.report.CallReport.{CallReport}
+use Rattle.callslot.specs.declared.report.CallReport.{CallReport}
 
 -- what the method of this index answers to messages, and to whether their end was told; where there is none, nothing
 abbrev pub answers_by : {A : Type 0} → (A → List (List ℕ) → Bool → Step → Type 0) → List A → ℕ → List (List ℕ) → Bool → Step → Type 0
