@@ -1,0 +1,78 @@
+-- What was heard, one after another.
+use Rattle.std.proofs.Common.{◌≡◌, ◌≢◌, ◌∙◌, ℕ, Option, None, Some, List, [], ◌∷◌, ◌++◌, ap, eq-eqb, refl, subst, sym, append-nil}
+use Rattle.std.proofs.lemmas.List.{append_assoc}
+use Rattle.session.specs.declared.event.InEvent.{InEvent}
+use Rattle.slots.specs.Steps.{Fate, Missed, Plain, Step, Told, CutOff, admitted_by, events_of, shut_at}
+use Rattle.account.specs.declared.call.Shut.TheVariants as shut
+use Rattle.h2frame.specs.ErrorCode.{error_number}
+use Rattle.h2frame.specs.declared.error_code.ErrorCode.TheVariants.{EnhanceYourCalm}
+use Rattle.std.specs.Prelude.{IfErr, OnErr, OnOk, Result, Ok, Err}
+use Rattle.h2frame.specs.declared.error_code.ErrorCode.{ErrorCode}
+use Rattle.callhead.specs.declared.head.CallHead.{CallHead}
+use Rattle.callhead.specs.declared.fault.HeadFault.{HeadFault}
+use Rattle.session.specs.declared.event.Control.{Control}
+use Rattle.session.specs.declared.event.InEvent.TheVariants as events
+use Rattle.slots.specs.Concerns.{IsIdle}
+
+-- ---- events that touch no call
+
+pub idle-open : (id : ℕ) (head : CallHead) (fate : Fate) → admitted_by (Told (events.Open id head) fate) ≡ None → IsIdle (Told (events.Open id head) fate)
+idle-open id head fate none = record { admits = none; shuts = λ other. refl; feeds = λ other. refl }
+
+pub idle-loose : (counted : ℕ) → IsIdle (Told (events.Loose counted) Plain)
+idle-loose counted = record { admits = refl; shuts = λ other. refl; feeds = λ other. refl }
+
+pub idle-head : (id : ℕ) (fault : HeadFault) → IsIdle (Told (events.BadHead id fault) Plain)
+idle-head id fault = record { admits = refl; shuts = λ other. refl; feeds = λ other. refl }
+
+pub idle-control : (control : Control) → IsIdle (Told (events.Control control) Plain)
+idle-control control = record { admits = refl; shuts = λ other. refl; feeds = λ other. refl }
+
+pub idle-goaway : IsIdle (Told events.PeerGoaway Plain)
+idle-goaway = record { admits = refl; shuts = λ other. refl; feeds = λ other. refl }
+
+pub idle-fatal : (code : ErrorCode) → IsIdle (Told (events.Fatal code) Plain)
+idle-fatal code = record { admits = refl; shuts = λ other. refl; feeds = λ other. refl }
+
+-- a piece that the lane of its call refused
+pub shuts-missed : (id counted : ℕ) (piece : List ℕ) → shut_at id (Told (events.Data id piece counted) Missed) ≡ Some (shut.Reset (error_number EnhanceYourCalm))
+shuts-missed id counted piece = rw (eq-eqb id id refl) refl
+
+-- ---- answers
+
+pub ok-any : {A E : Type 0} (result : Result A E) (P : Type 0) → P → OnOk result P
+ok-any (Ok value) P p = p
+ok-any (Err fault) P p = tt
+
+pub err-any : {A E : Type 0} (result : Result A E) (P : Type 0) → P → OnErr result P
+err-any (Ok value) P p = tt
+err-any (Err fault) P p = p
+
+pub some-not-none : {A E : Type 0} (result : Result (Option A) E) (found : Option A) (value : A) → result ≡ Ok found → found ≡ Some value → result ≢ Ok None
+some-not-none (Err fault) found value is some same = cc
+some-not-none (Ok None) found value is some same = cc
+some-not-none (Ok (Some other)) found value is some same = cc
+
+pub err-not-none : {A E : Type 0} (result : Result (Option A) E) (fault : E) → result ≡ Err fault → result ≢ Ok None
+err-not-none (Ok found) fault is same = cc
+err-not-none (Err other) fault is same = cc
+
+pub ok-is : {A E : Type 0} (result : Result A E) (value : A) (P : Type 0) → result ≡ Ok value → OnOk result P → P
+ok-is (Ok other) value P is p = p
+ok-is (Err fault) value P is p = absurd cc
+
+pub err-is : {A E : Type 0} (result : Result A E) (fault : E) (P : Type 0) → result ≡ Err fault → OnErr result P → P
+err-is (Ok value) fault P is p = absurd cc
+err-is (Err other) fault P is p = p
+
+pub fault-is : {A E : Type 0} (result : Result A E) (fault : E) (P : E → Type 0) → result ≡ Err fault → IfErr result P → P fault
+fault-is (Ok value) fault P is p = absurd cc
+fault-is {A} {E} (Err other) fault P is p = let same : other ≡ fault = cc in subst P same p
+
+pub not-ok : {A E : Type 0} (result : Result A E) (P : Type 0) → ((value : A) → result ≡ Ok value → ⊥) → OnErr result P → P
+not-ok (Ok value) P other p = absurd (other value refl)
+not-ok (Err fault) P other p = p
+
+pub not-err : {A E : Type 0} (result : Result A E) (P : Type 0) → ((fault : E) → result ≡ Err fault → ⊥) → OnOk result P → P
+not-err (Ok value) P other p = p
+not-err (Err fault) P other p = absurd (other fault refl)

@@ -1,0 +1,91 @@
+-- Why the half of a call was reset though its client ended it: a reset of the stream is among the orders.
+use Rattle.std.proofs.Common.{◌≡◌, ◌∙◌, ◌⊎◌, inl, inr, ℕ, Bool, true, false, true≢false, nat_eq, List, [], ◌∷◌, ◌++◌, Option, None, Some, ap, eqb-true, refl, subst, sym}
+use Rattle.std.specs.Prelude.{◌&&◌, if◌then◌else◌, is_none}
+use Rattle.std.proofs.lemmas.Bool.{and_parts}
+use Rattle.std.specs.Option.{is_some}
+use Rattle.connbook.specs.declared.answers.Receipt.TheVariants.{Feed, Discard, CallWindow, Overrun}
+use Rattle.h2frame.specs.declared.error_code.ErrorCode.{ErrorCode}
+use Rattle.h2frame.specs.declared.error_code.ErrorCode.TheVariants.{FlowControlError, EnhanceYourCalm}
+use Rattle.outwriter.specs.Steps.{Order}
+use Rattle.session.specs.declared.event.InEvent.TheVariants as events
+use Rattle.slots.specs.Calls.{is_admitted}
+use Rattle.slots.specs.Orders.{IsReset, cut_code, ends_at, is_fed, orders_at, orders_by}
+use Rattle.slots.specs.Reports.{AreCalm, WasResetFor}
+use Rattle.slots.specs.Steps.{Fate, Plain, Admitted, Unknown, TurnedAway, Received, Missed, Lacking, Cause, Step, Told, CutOff, lets_go, lost, shut_by, since}
+use Rattle.slots.proofs.LetGo.{let-go-before}
+
+-- ---- among orders
+
+pub reset-left : (id : ℕ) (first more : List Order) → IsReset id first → IsReset id (first ++ more)
+reset-left id [] more is = absurd is
+reset-left id (order ∷ first) more (inl here) = inl here
+reset-left id (order ∷ first) more (inr rest) = inr (reset-left id first more rest)
+
+pub reset-right : (id : ℕ) (first more : List Order) → IsReset id more → IsReset id (first ++ more)
+reset-right id [] more is = is
+reset-right id (order ∷ first) more is = inr (reset-right id first more is)
+
+-- ---- the order of a step
+
+untaken-resets : (id : ℕ) (byte : ℕ) (bytes : List ℕ) (before : List Step) (counted : ℕ) → is_fed id before ≡ true
+    → IsReset id (orders_at before (Told (events.Data id (byte ∷ bytes) counted) (Received Discard)))
+untaken-resets id byte bytes before counted fed = rw fed (inl (EnhanceYourCalm, refl))
+
+data-resets : (id : ℕ) (piece : List ℕ) (counted : ℕ) (fate : Fate) (before : List Step) → is_fed id before ≡ true → is_some (lost piece fate) ≡ true
+    → ends_at (Told (events.Data id piece counted) fate) ≡ None → IsReset id (orders_at before (Told (events.Data id piece counted) fate))
+data-resets id [] counted (Received Discard) before fed lets calm = absurd cc
+data-resets id (byte ∷ bytes) counted (Received Discard) before fed lets calm = untaken-resets id byte bytes before counted fed
+data-resets id piece counted (Received CallWindow) before fed lets calm = inl (FlowControlError, refl)
+data-resets id piece counted (Received Overrun) before fed lets calm = absurd cc
+data-resets id piece counted (Received Feed) before fed lets calm = absurd cc
+data-resets id piece counted Missed before fed lets calm = inl (EnhanceYourCalm, refl)
+data-resets id piece counted Plain before fed lets calm = absurd cc
+data-resets id piece counted Admitted before fed lets calm = absurd cc
+data-resets id piece counted Unknown before fed lets calm = absurd cc
+data-resets id piece counted (TurnedAway fault) before fed lets calm = absurd cc
+data-resets id piece counted Lacking before fed lets calm = absurd cc
+
+cut-resets : (id : ℕ) (why : Cause) (before : List Step) → is_fed id before ≡ true → IsReset id (orders_at before (CutOff id why))
+cut-resets id why before fed = rw fed (inl (cut_code why, refl))
+
+at-resets : (id : ℕ) (step : Step) (before : List Step) → is_fed id before ≡ true → lets_go id step ≡ true → ends_at step ≡ None → IsReset id (orders_at before step)
+at-resets id (Told (events.Data other piece counted) fate) before fed lets calm =
+    let parts = and_parts (nat_eq id other) (is_some (lost piece fate)) lets in
+    subst (λ (n : ℕ). IsReset id (orders_at before (Told (events.Data n piece counted) fate))) (eqb-true id other parts.0)
+    (data-resets id piece counted fate before fed parts.1 calm)
+at-resets id (CutOff other why) before fed lets calm =
+    subst (λ (n : ℕ). IsReset id (orders_at before (CutOff n why))) (eqb-true id other lets) (cut-resets id why before fed)
+at-resets id (Told (events.End other) fate) before fed lets calm = absurd cc
+at-resets id (Told (events.Reset other code) fate) before fed lets calm = absurd cc
+at-resets id (Told (events.StreamError other code) fate) before fed lets calm = absurd cc
+at-resets id (Told (events.Open other head) fate) before fed lets calm = absurd cc
+at-resets id (Told (events.BadHead other fault) fate) before fed lets calm = absurd cc
+at-resets id (Told (events.Loose counted) fate) before fed lets calm = absurd cc
+at-resets id (Told (events.Control control) fate) before fed lets calm = absurd cc
+at-resets id (Told events.PeerGoaway fate) before fed lets calm = absurd cc
+at-resets id (Told (events.Fatal code) fate) before fed lets calm = absurd cc
+
+-- ---- of all steps
+
+by-resets : (id : ℕ) (later : List Step) (step : Step) (before : List Step) → IsReset id (orders_at before step) → IsReset id (orders_by (later ++ step ∷ before))
+by-resets id [] step before is = reset-right id (orders_by before) (orders_at before step) is
+by-resets id (other ∷ later) step before is = reset-left id (orders_by (later ++ step ∷ before)) (orders_at (later ++ step ∷ before) other) (by-resets id later step before is)
+
+calm-at : (later : List Step) (step : Step) (before : List Step) → AreCalm (later ++ step ∷ before) → ends_at step ≡ None
+calm-at [] step before calm = calm.0
+calm-at (other ∷ later) step before calm = calm-at later step before calm.1
+
+fed-now : (id : ℕ) (before : List Step) → is_admitted id before ≡ true → shut_by id (since id before) ≡ None → is_fed id before ≡ true
+fed-now id before known unshut = rw (known, unshut) refl
+
+pub reset-ordered : (told : List Step) (id : ℕ) → AreCalm told → is_admitted id told ≡ true → WasResetFor told (orders_by told) id
+reset-ordered told id calm known code ended closed =
+    let was = let-go-before id code told known ended closed in
+    subst (λ (steps : List Step). IsReset id (orders_by steps)) (sym was.parts)
+    (by-resets id was.later was.step was.before
+    (at-resets id was.step was.before (fed-now id was.before was.known was.unshut) was.lets
+    (calm-at was.later was.step was.before (subst AreCalm was.parts calm))))
+
+pub calm-more : (more before : List Step) → AreCalm more → AreCalm before → AreCalm (more ++ before)
+calm-more [] before calm rest = rest
+calm-more (step ∷ more) before calm rest = (calm.0, calm-more more before calm.1 rest)

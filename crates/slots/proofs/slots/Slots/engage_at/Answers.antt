@@ -1,0 +1,14 @@
+use Rattle.std.proofs.Common.{refl}
+use Rattle.slots.proofs.Heard.{err-any}
+use Rattle.slots.proofs.SlotSteps.{keeps-set, kept-begins}
+use Rattle.slots.proofs.slots.Slots.engage_at.Goals as goal
+
+pub returns-in_err-begin-clause-stays : goal.returns-in_err-begin-clause-stays
+returns-in_err-begin-clause-stays g c = err-any c.from_residual.result _ (λ told k.
+    keeps-set c.args.self.now _ c.args.place c.in-Some.seat.now c.begin.new.self c.in-Some.ensures.item.3.0 c.in-Some.ensures.value refl told refl
+    c.in_err-begin.ensures.id_stays c.in_err-begin.ensures.jobs_stay (c.in_err-begin.ensures.stays told) k)
+
+pub returns-clause-heard : goal.returns-clause-heard
+returns-clause-heard g c = λ told k.
+    kept-begins c.args.self.now _ c.args.place c.in-Some.seat.now c.begin.new.self c.in-Some.ensures.item.3.0 c.in-Some.ensures.value refl told c.args.job c.requires.above refl
+    c.in_ok-begin.ensures.id c.in_ok-begin.ensures.jobs (c.in_ok-begin.ensures.heard told) k

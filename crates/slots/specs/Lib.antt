@@ -1,0 +1,13 @@
+pub mod Steps
+pub mod StepExamples
+pub mod Concerns
+pub mod Halves
+pub mod Calls
+pub mod Ids
+pub mod Seats
+pub mod SeatExamples
+pub mod Orders
+pub mod Readings
+pub mod Streams
+pub mod Reports
+pub mod AccountFrames

@@ -1,0 +1,150 @@
+-- What the reading side of a connection orders its writing side to do, step by step: what the peer tells goes on to it, a call
+-- that is admitted is opened, and a stream is refused or reset, or the connection ended, for its cause (RFC 9113, sections 5.4, 6.8,
+-- 6.9.1, 8.1.1 and 8.7; gRPC over HTTP/2, "Responses").
+-- A list of steps has the latest first, a list of orders the earliest.
+use Rattle.std.specs.Prelude.{◌≡◌, ◌⊎◌, ◌&&◌, ℕ, ◌==◌, Bool, true, false, List, [], ◌∷◌, ◌++◌, length, Option, Some, None, is_none, if◌then◌else◌, max}
+use Rattle.connbook.specs.declared.answers.AdmitFault.{AdmitFault}
+use Rattle.connbook.specs.declared.answers.AdmitFault.TheVariants as refused
+use Rattle.connbook.specs.declared.answers.Receipt.TheVariants.{Discard, CallWindow, Overrun}
+use Rattle.callhead.specs.declared.fault.HeadFault.{HeadFault}
+use Rattle.callhead.specs.StatusFields.{refusal_of, unknown_method}
+use Rattle.callslot.specs.declared.report.Ending.{Ending}
+use Rattle.callslot.specs.declared.report.Ending.TheVariants.{ProtocolError as Failed, OutOfMemory as RanOut}
+use Rattle.h2frame.specs.declared.error_code.ErrorCode.{ErrorCode}
+use Rattle.h2frame.specs.declared.error_code.ErrorCode.TheVariants.{NoError, ProtocolError, InternalError, FlowControlError, RefusedStream, Cancel, EnhanceYourCalm}
+use Rattle.lists.specs.declared.field.Field.{Field}
+use Rattle.outwriter.specs.declared.control.Control.TheVariants.{Settings, Ping, Window, Open, Refuse, Reset, Goaway}
+use Rattle.outwriter.specs.Steps.{Order}
+use Rattle.session.specs.declared.event.Control.{Control}
+use Rattle.session.specs.declared.event.Control.TheVariants as controls
+use Rattle.session.specs.declared.event.InEvent.TheVariants as events
+use Rattle.slots.specs.Calls.{is_admitted}
+use Rattle.slots.specs.Steps.{Fate, Admitted, Unknown, TurnedAway, Received, Missed, Lacking, Cause, AtEnd, NotLive, Step, Told, CutOff, shut_by, since}
+
+-- ---- streams that were begun
+
+-- the stream that a step begins, with a head of a call or without
+abbrev pub begun_at : Step → List ℕ
+begun_at (Told (events.Open id head) fate) = id ∷ []
+begun_at (Told (events.BadHead id fault) fate) = id ∷ []
+begun_at _ = []
+
+abbrev pub begun : List Step → List ℕ
+begun [] = []
+begun (step ∷ before) = begun_at step ++ begun before
+
+-- the greatest of them, 0 for none: what a GOAWAY names (section 6.8)
+abbrev pub greatest : List ℕ → ℕ
+greatest [] = 0
+greatest (id ∷ ids) = max id (greatest ids)
+
+-- how many streams a client may begin; at the last of them it is told to open no more
+abbrev pub most_streams : ℕ
+most_streams = 4096
+
+abbrev pub last_stream : ℕ → List ℕ → List Order
+last_stream id before = if length before == 4095 then Goaway id NoError ∷ [] else []
+
+-- ---- the order of a step
+
+-- whether more may be fed to a call: it was admitted, and its half isn't shut
+abbrev pub is_fed : ℕ → List Step → Bool
+is_fed id told = is_admitted id told && is_none (shut_by id (since id told))
+
+-- what the peer tells the writing side goes on as it is
+abbrev pub news_of : Control → Order
+news_of (controls.Settings settings) = Settings settings
+news_of (controls.Ping bytes) = Ping bytes
+news_of (controls.Window id increment) = Window id increment
+
+-- a call that isn't admitted is reset as not begun; for want of memory the connection ends, and so where an id doesn't rise,
+-- which doesn't come
+abbrev pub turned_away : ℕ → ℕ → AdmitFault → Order
+turned_away last id refused.TooMany = Reset id RefusedStream true
+turned_away last id refused.Draining = Reset id RefusedStream true
+turned_away last id refused.NotNew = Goaway last InternalError
+turned_away last id refused.OutOfMemory = Goaway last InternalError
+
+-- how a stream that begins is answered: `last` is the greatest that was begun
+abbrev pub opened : ℕ → ℕ → Fate → List Order
+opened last id Admitted = Open id tt ∷ []
+opened last id Unknown = Refuse id unknown_method ∷ []
+opened last id (TurnedAway fault) = turned_away last id fault ∷ []
+opened last id Lacking = Goaway last InternalError ∷ []
+opened last id _ = []
+
+-- a malformed request is an error of its stream, others are refused with a block
+abbrev pub without_head : ℕ → Option (List Field) → Order
+without_head id None = Reset id ProtocolError true
+without_head id (Some fields) = Refuse id fields
+
+abbrev pub refused_head : ℕ → ℕ → HeadFault → Fate → List Order
+refused_head last id fault Lacking = Goaway last InternalError ∷ []
+refused_head last id fault _ = without_head id (refusal_of fault) ∷ []
+
+-- bytes that nobody takes, but padding
+abbrev pub untaken : ℕ → List ℕ → Bool → List Order
+untaken id [] feeding = []
+untaken id (byte ∷ bytes) feeding = if feeding then Reset id EnhanceYourCalm true ∷ [] else []
+
+-- bytes that came on a stream
+abbrev pub came : ℕ → ℕ → List ℕ → Bool → Fate → List Order
+came last id piece feeding (Received CallWindow) = Reset id FlowControlError true ∷ []
+came last id piece feeding (Received Overrun) = Goaway last FlowControlError ∷ []
+came last id piece feeding (Received Discard) = untaken id piece feeding
+came last id piece feeding Missed = Reset id EnhanceYourCalm true ∷ []
+came last id piece feeding _ = []
+
+abbrev pub came_loose : ℕ → Fate → List Order
+came_loose last (Received Overrun) = Goaway last FlowControlError ∷ []
+came_loose last _ = []
+
+-- with which code the stream of a call is reset that hears no more: it is cancelled where the input ended; a call that is live no
+-- more was left without trailers, or else the peer made its window too large
+abbrev pub cut_code : Cause → ErrorCode
+cut_code AtEnd = Cancel
+cut_code (NotLive false) = InternalError
+cut_code (NotLive true) = FlowControlError
+
+-- The orders that a step leads to, behind those before it.
+abbrev pub orders_at : List Step → Step → List Order
+orders_at before (Told (events.Open id head) fate) = last_stream id (begun before) ++ opened (greatest (id ∷ begun before)) id fate
+orders_at before (Told (events.BadHead id fault) fate) = last_stream id (begun before) ++ refused_head (greatest (id ∷ begun before)) id fault fate
+orders_at before (Told (events.Data id piece counted) fate) = came (greatest (begun before)) id piece (is_fed id before) fate
+orders_at before (Told (events.Loose counted) fate) = came_loose (greatest (begun before)) fate
+orders_at before (Told (events.Reset id code) fate) = Reset id code false ∷ []
+orders_at before (Told (events.StreamError id code) fate) = Reset id code true ∷ []
+orders_at before (Told (events.Control control) fate) = news_of control ∷ []
+orders_at before (Told (events.Fatal code) fate) = Goaway (greatest (begun before)) code ∷ []
+orders_at before (CutOff id why) = if is_fed id before then Reset id (cut_code why) true ∷ [] else []
+orders_at before _ = []
+
+-- The orders that steps lead to.
+abbrev pub orders_by : List Step → List Order
+orders_by [] = []
+orders_by (step ∷ before) = orders_by before ++ orders_at before step
+
+-- ---- the end of a connection
+
+-- how a step ends the connection, if it does: with an error that the peer is told, or for want of memory
+abbrev pub ends_if_refused : AdmitFault → Option Ending
+ends_if_refused refused.TooMany = None
+ends_if_refused refused.Draining = None
+ends_if_refused refused.NotNew = Some RanOut
+ends_if_refused refused.OutOfMemory = Some RanOut
+
+abbrev pub ends_by : Fate → Option Ending
+ends_by (TurnedAway fault) = ends_if_refused fault
+ends_by (Received Overrun) = Some (Failed FlowControlError)
+ends_by Lacking = Some RanOut
+ends_by _ = None
+
+abbrev pub ends_at : Step → Option Ending
+ends_at (Told (events.Fatal code) fate) = Some (Failed code)
+ends_at (Told event fate) = ends_by fate
+ends_at (CutOff id why) = None
+
+-- a reset of this stream, which the peer is told, is among these orders
+abbrev pub IsReset : ℕ → List Order → Type 0
+IsReset id [] = ⊥
+IsReset id (order ∷ orders) = ((code : ErrorCode) × (order ≡ Reset id code true)) ⊎ IsReset id orders

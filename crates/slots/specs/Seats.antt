@@ -1,0 +1,53 @@
+-- The slots of a connection, as they are by what its reading side heard.
+use Rattle.std.specs.Prelude.{◌≡◌, ◌<◌, ◌&&◌, ◌+◌, ℕ, Bool, nat_eq, List, [], ◌++◌, ◌∷◌, map, length, get_or, All}
+use Rattle.lane.specs.Ring as ring
+use Rattle.callslot.specs.declared.slot.Job.{Job}
+use Rattle.slots.specs.declared.seat.Seat.{Seat}
+use Rattle.slots.specs.declared.slots.Slots.{Slots}
+use Rattle.slots.specs.declared.worker.Worker.{Ghosts}
+use Rattle.slots.specs.Calls.{AreCalls}
+use Rattle.slots.specs.Halves.{is_open, past_of, shown}
+use Rattle.slots.specs.Ids.{times}
+use Rattle.slots.specs.Steps.{Step, admitted, last_of, IsRising}
+
+-- no two are at the same stream
+abbrev pub AreApart : List ℕ → Type 0
+AreApart ids = (one other : ℕ) → one < length ids → other < length ids → get_or ids one 0 ≡ get_or ids other 0 → one ≡ other
+
+module _ {H : Type 0} {hand : Ghosts H} where
+  -- the calls that its worker was handed, oldest first
+  abbrev pub jobs_of : Seat H hand → List Job
+  jobs_of seat = ring.put_in seat.jobs
+
+  -- their streams
+  abbrev pub ids_of : Seat H hand → List ℕ
+  ids_of seat = map (λ job. job.id) (jobs_of seat)
+
+  -- how often a stream is among those of the calls of all slots
+  abbrev pub times_in : ℕ → List (Seat H hand) → ℕ
+  times_in id [] = 0
+  times_in id (seat ∷ seats) = times id (ids_of seat) + times_in id seats
+
+  -- a slot is at a call of this stream, to which more may be fed
+  abbrev pub feeds : ℕ → Seat H hand → Bool
+  feeds id seat = nat_eq seat.id id && is_open seat.half
+
+module _ {H : Type 0} {hand : Ghosts H} (names : List ℕ → ℕ → Type 0) where
+  -- these steps led to a slot
+  abbrev pub IsSeat : List Step → Seat H hand → Type 0
+  IsSeat told seat = AreCalls names told (jobs_of seat) (past_of seat.half) seat.id (shown seat.half)
+
+  -- These steps led to the slots: each has its calls, and their calls are those that were admitted, each once.
+  pub record Kept (told : List Step) (slots : Slots H hand) : Type 0 where
+    pub rising : IsRising told
+    pub last : slots.last ≡ last_of told
+    pub each : All (λ seat. IsSeat told seat) slots.seats.items
+    pub apart : AreApart (map (λ seat. seat.id) slots.seats.items)
+    pub all : (id : ℕ) → times_in id slots.seats.items ≡ times id (admitted told)
+
+  -- Whatever steps led to the slots before, they lead to those after: the same steps; with this one.
+  abbrev pub Keeps : Slots H hand → Slots H hand → Type 0
+  Keeps old new = (told : List Step) → Kept told old → Kept told new
+
+  abbrev pub Hears : Step → Slots H hand → Slots H hand → Type 0
+  Hears step old new = (told : List Step) → Kept told old → Kept (step ∷ told) new

@@ -1,0 +1,28 @@
+-- What a call was fed, by the frames of its stream (RFC 9113, sections 5.1 and 8.1).
+use mathlib.Core.List.{IsPrefix}
+use Rattle.std.specs.Prelude.{◌≡◌, ◌⊎◌, ℕ, List, Some}
+use Rattle.account.specs.declared.call.Shut.TheVariants as shut
+use Rattle.h2frame.specs.FrameList.{Entry}
+use Rattle.session.specs.StreamData.{Finished, data_of, ending_of}
+use Rattle.slots.specs.Steps.{Step, WasLetGo, fed_by, shut_by, since}
+
+-- What these steps feed a call begins the data of its stream, by these frames. They end its half only where END_STREAM ended
+-- the stream, and then it was fed all data.
+pub record HasStreamData (id : ℕ) (steps : List Step) (entries : List Entry) : Type 0 where
+  pub front : IsPrefix (fed_by id steps) (data_of id entries)
+  pub whole : shut_by id steps ≡ Some shut.End → (fed_by id steps ≡ data_of id entries) × (ending_of id entries ≡ Finished)
+
+-- the half ended, and was fed all data of its stream
+pub record EndedWhole (id : ℕ) (steps : List Step) (entries : List Entry) : Type 0 where
+  pub closed : shut_by id steps ≡ Some shut.End
+  pub fed : fed_by id steps ≡ data_of id entries
+
+-- the half was reset, by the first step of those that shut it, which let it go before END_STREAM was told
+pub record ResetBefore (id : ℕ) (told : List Step) : Type 0 where
+  pub code : ℕ
+  pub closed : shut_by id (since id told) ≡ Some (shut.Reset code)
+  pub by : WasLetGo id code told
+
+-- What became of the half of a call whose stream END_STREAM ended, once all its events were heard.
+abbrev pub HasEnd : ℕ → List Step → List Entry → Type 0
+HasEnd id told entries = EndedWhole id (since id told) entries ⊎ ResetBefore id told

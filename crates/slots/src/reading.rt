@@ -1,0 +1,494 @@
+//! What the reading side of a connection decides.
+//!
+//! It hears the events of the connection one after another, each with what the lock answered to it, and decides what is ordered
+//! of the writing side, what each call is fed, and how each half is shut. `specs/Orders.antt` says which orders a step leads to,
+//! `specs/Steps.antt` what a half is fed and how it is shut; each function here does what they say of one step, and no more.
+//!
+//! An order that resets a stream is to be put before its call sees the reset. So the half that a decision shuts is named in it
+//! (`Decided::cut`), and shut by `Reading::shut` once the orders were put.
+
+ghost use Rattle.std.specs.Prelude.{◌≡◌, ◌<◌, ℕ, List, [], ◌∷◌, ◌++◌, Option, None, Some, IfErr, IfOk, IfSome, OnErr, OnOk, vec_capacity, vec_len};
+ghost use Rattle.callhead.specs.declared.head.CallHead.{CallHead as Head};
+ghost use Rattle.callslot.specs.declared.report.Ending.TheVariants as ending;
+ghost use Rattle.h2frame.specs.declared.error_code.ErrorCode.TheVariants.{InternalError};
+ghost use Rattle.h2frame.specs.ErrorCode.{error_number};
+ghost use Rattle.account.specs.declared.call.Shut.TheVariants as shut;
+ghost use Rattle.outwriter.specs.Steps.{order_of};
+ghost use Rattle.outwriter.specs.declared.control.Control.TheVariants as orders;
+ghost use Rattle.session.specs.declared.event.InEvent.TheVariants as events;
+ghost use Rattle.slots.specs.Orders.{begun, ends_at, greatest, last_stream, news_of, orders_at, orders_by};
+ghost use Rattle.slots.specs.Readings.{Awaits, Begins, Counts, Decides, DecidesOn, Reads, ReadsOn, Stays, fate_of, order_in, unless_ended};
+ghost use Rattle.slots.specs.Reports.{AreRows};
+ghost use Rattle.slots.specs.Seats.{IsSeat, jobs_of};
+ghost use Rattle.slots.specs.Steps.{Admitted, AtEnd, CutOff, Lacking, NotLive, Plain, Received, Step, Told, TurnedAway, Unknown, admitted};
+
+use crate::seat::Seat;
+use crate::slots::Slots;
+use crate::worker::Worker;
+use account::Shut;
+use bytes::Bytes;
+use callhead::{CallHead, HeadFault, unknown_method};
+use callslot::{CallReport, Ending, Fresh, Job, Opened, Order};
+use connbook::{AdmitFault, Receipt};
+use h2frame::{ErrorCode, StreamId};
+use lists::Sequence;
+use outwriter::Control;
+use session::Control as PeerControl;
+use std::alloc::{AllocError, Global};
+
+/// How many streams a client may begin (`flow::Halves`); at the last of them it is told to open no more.
+const STREAMS: u32 = 4096;
+
+/// A half that is to be shut: of the call of this stream, in this way. In the credit book the call is cut.
+#[derive(Clone, Copy, Debug, PartialEq, Eq)]
+pub struct Cut {
+    pub id: StreamId,
+    pub kind: Shut,
+}
+
+/// What was decided of a step.
+#[derive(Drop)]
+pub struct Decided {
+    /// What is ordered of the writing side, one after the other.
+    pub first: Option<Order>,
+    pub second: Option<Order>,
+    /// The half that is to be shut once that was ordered.
+    pub cut: Option<Cut>,
+    /// How the connection ends, if it does.
+    pub ends: Option<Ending>,
+}
+
+impl Decided {
+    /// Nothing is ordered.
+    fn nothing() -> Decided
+        ensures { (result.first ≡ None) × (result.second ≡ None) × (result.cut ≡ None) × (result.ends ≡ None) }
+    {
+        Decided {
+            first: None,
+            second: None,
+            cut: None,
+            ends: None,
+        }
+    }
+
+    /// This is ordered.
+    fn order(order: Order) -> Decided
+        ensures { (result.first ≡ None) × (result.second ≡ Some order) × (result.cut ≡ None) × (result.ends ≡ None) }
+    {
+        Decided {
+            second: Some(order),
+            ..Decided::nothing()
+        }
+    }
+
+    /// A stream is reset, of which the peer is told, unless it did so; and so is the half of its call, with this code.
+    fn reset(id: StreamId, code: ErrorCode, written: bool, kind: ErrorCode) -> Decided
+        ensures orders { (result.first ≡ None) × (result.second ≡ Some (orders.Reset id code written)) }
+        ensures cut { result.cut ≡ Some (record { id = id; kind = shut.Reset (error_number kind) }) }
+        ensures ends { result.ends ≡ None }
+    {
+        let kind = Shut::Reset(kind.code());
+        Decided {
+            second: Some(Control::Reset { id, code, written }),
+            cut: Some(Cut { id, kind }),
+            ..Decided::nothing()
+        }
+    }
+}
+
+/// The reading side of a connection: its slots, and which streams were begun.
+#[derive(Drop)]
+pub struct Reading<H: Worker> {
+    alloc: Global,
+    pub(crate) slots: Slots<H>,
+    /// The greatest stream that was begun, 0 for none.
+    pub(crate) last: StreamId,
+    /// How many were begun, up to `STREAMS`.
+    pub(crate) begun: u32,
+    /// Whether the peer opens no more streams.
+    peer_goaway: bool,
+}
+
+impl<H: Worker> Reading<H> {
+    /// That of a new connection.
+    pub fn new(alloc: Global) -> Reading<H>
+        ensures { Reads H.names [] result }
+    {
+        Reading {
+            alloc,
+            slots: Slots::new(alloc),
+            last: 0,
+            begun: 0,
+            peer_goaway: false,
+        }
+    }
+
+    // ---- a stream that begins
+
+    /// A stream begins with the head of a call. `index` is the method that its path names, if one has it, `opened` the moment. A call
+    /// of a method is to be admitted by the lock; any other is refused.
+    pub fn open(
+        &mut self,
+        id: StreamId,
+        head: CallHead,
+        index: Option<usize>,
+        opened: u64,
+    ) -> Result<Job, Decided>
+        requires named { IfSome index (λ index. H.names head.path index) }
+        ensures job { IfOk result (λ job. (job.id ≡ id) × (job.head ≡ head) × (index ≡ Some job.index)) }
+        ensures above { OnOk result (self.new.slots.last < id) }
+        ensures stays { OnOk result (self.new ≡ self.old) }
+        ensures refused { IfErr result (λ decided. DecidesOn H.names
+            (Told (events.Open id head) (unless_ended decided.ends Unknown)) decided self.old self.new) }
+    {
+        if id <= self.slots.last {
+            return Err(self.lack(id));
+        }
+        let Some(index) = index else {
+            return Err(self.refuse_unknown(id));
+        };
+        Ok(Job {
+            id,
+            index,
+            head,
+            opened,
+        })
+    }
+
+    /// Refuses a call whose path no method has.
+    fn refuse_unknown(&mut self, id: StreamId) -> Decided
+        ensures { (head : Head) → DecidesOn H.names
+            (Told (events.Open id head) (unless_ended result.ends Unknown)) result self.old self.new }
+    {
+        let Ok(fields) = unknown_method(self.alloc) else {
+            return self.lack(id);
+        };
+        self.begin(id, Control::Refuse(id, Sequence::from(fields)))
+    }
+
+    /// The lock didn't admit a call. Want of memory ends the connection.
+    pub fn turn_away(&mut self, id: StreamId, fault: AdmitFault) -> Decided
+        ensures { (head : Head) → DecidesOn H.names
+            (Told (events.Open id head) (TurnedAway fault)) result self.old self.new }
+    {
+        match fault {
+            AdmitFault::TooMany | AdmitFault::Draining => {
+                let code = ErrorCode::RefusedStream;
+                let written = true;
+                self.begin(id, Control::Reset { id, code, written })
+            }
+            AdmitFault::NotNew | AdmitFault::OutOfMemory => self.lack(id),
+        }
+    }
+
+    /// Hands a call that was admitted to a free slot. Where none is free the call is handed back.
+    pub fn engage(&mut self, job: Job) -> Result<Decided, Job>
+        requires named { H.names job.head.path job.index }
+        requires above { self.old.slots.last < job.id }
+        ensures engaged { IfOk result (λ decided. DecidesOn H.names
+            (Told (events.Open job.id job.head) Admitted) decided self.old self.new) }
+        ensures handed_back { IfErr result (λ back. back ≡ job) }
+        ensures stays { OnErr result (Stays H.names self.old self.new) }
+        ensures last { OnErr result (self.new.slots.last ≡ self.old.slots.last) }
+    {
+        let id = job.id;
+        let place = self.slots.engage(job)?;
+        Ok(self.begin(id, Control::Open(id, Opened::Again(place))))
+    }
+
+    /// Room for one slot more.
+    pub fn reserve(&mut self) -> Result<(), AllocError>
+        ensures room { OnOk result (vec_len self.new.slots.seats < vec_capacity self.new.slots.seats) }
+        ensures stays { Stays H.names self.old self.new }
+        ensures last { self.new.slots.last ≡ self.old.slots.last }
+    {
+        self.slots.reserve()
+    }
+
+    /// A call that was admitted begins in a new slot, whose worker was handed it.
+    pub fn add(&mut self, seat: Seat<H>, fresh: Fresh) -> Decided
+        requires room { vec_len self.old.slots.seats < vec_capacity self.old.slots.seats }
+        requires above { self.old.slots.last < seat.id }
+        ensures { (job : Job) → seat.id ≡ job.id → jobs_of seat ≡ job ∷ []
+            → ((told : List Step) → IsSeat H.names (Told (events.Open job.id job.head) Admitted ∷ told) seat)
+            → DecidesOn H.names (Told (events.Open job.id job.head) Admitted) result self.old self.new }
+    {
+        let id = seat.id;
+        self.slots.add(seat);
+        self.begin(id, Control::Open(id, Opened::New(fresh)))
+    }
+
+    /// A stream begins without the head of a call.
+    pub fn refuse(&mut self, id: StreamId, fault: HeadFault) -> Decided
+        ensures { DecidesOn H.names
+            (Told (events.BadHead id fault) (unless_ended result.ends Plain)) result self.old self.new }
+    {
+        let refusal = fault.refusal(self.alloc);
+        match refusal {
+            Ok(Some(fields)) => self.begin(id, Control::Refuse(id, Sequence::from(fields))),
+            Ok(None) => {
+                let code = ErrorCode::ProtocolError;
+                let written = true;
+                self.begin(id, Control::Reset { id, code, written })
+            }
+            Err(AllocError) => self.lack(id),
+        }
+    }
+
+    /// A stream begins, and this is ordered.
+    fn begin(&mut self, id: StreamId, order: Order) -> Decided
+        ensures { (told : List Step) (step : Step) → Begins H.names told step id self.old → ends_at step ≡ None
+            → orders_at told step ≡ last_stream id (begun told) ++ order_of order ∷ []
+            → Decides H.names told step result self.new }
+    {
+        let first = self.count(id);
+        Decided {
+            first,
+            ..Decided::order(order)
+        }
+    }
+
+    /// A stream begins, and there is no memory, or no thread, for what that leads to: the connection ends.
+    pub fn lack(&mut self, id: StreamId) -> Decided
+        ensures ends { (told : List Step) (step : Step) → Begins H.names told step id self.old
+            → ends_at step ≡ Some ending.OutOfMemory
+            → orders_at told step ≡ last_stream id (begun told) ++ orders.Goaway (greatest (id ∷ begun told)) InternalError ∷ []
+            → Decides H.names told step result self.new }
+        ensures lacking { (head : Head) → DecidesOn H.names (Told (events.Open id head) Lacking) result self.old self.new }
+        ensures memory { result.ends ≡ Some ending.OutOfMemory }
+    {
+        let first = self.count(id);
+        Decided {
+            first,
+            second: Some(self.goaway(ErrorCode::InternalError)),
+            cut: None,
+            ends: Some(Ending::OutOfMemory),
+        }
+    }
+
+    /// Counts a stream that begins. With the last that a client may begin, it is told to open no more.
+    fn count(&mut self, id: StreamId) -> Option<Order>
+        ensures slots { self.new.slots ≡ self.old.slots }
+        ensures counts { (ids : List ℕ) → Counts ids self.old
+            → Counts (id ∷ ids) self.new × (order_in result ≡ last_stream id ids) }
+    {
+        self.last = self.last.max(id);
+        if self.begun == STREAMS {
+            return None;
+        }
+        self.begun += 1;
+        if self.begun < STREAMS {
+            return None;
+        }
+        let code = ErrorCode::NoError;
+        Some(Control::Goaway { last: id, code })
+    }
+
+    // ---- what comes on a stream
+
+    /// DATA came on a stream, of which the lock said this.
+    pub fn data(&mut self, id: StreamId, piece: Bytes, receipt: Receipt) -> Decided
+        ensures { (counted : ℕ) → DecidesOn H.names
+            (Told (events.Data id piece counted) (fate_of receipt result.second)) result self.old self.new }
+    {
+        match receipt {
+            Receipt::Feed => self.feed(id, piece),
+            Receipt::Discard => self.discard(id, &piece),
+            Receipt::CallWindow => {
+                let code = ErrorCode::FlowControlError;
+                Decided::reset(id, code, true, code)
+            }
+            Receipt::Overrun => {
+                let code = ErrorCode::FlowControlError;
+                let kind = Shut::Reset(code.code());
+                Decided {
+                    cut: Some(Cut { id, kind }),
+                    ..self.fatal(code)
+                }
+            }
+        }
+    }
+
+    /// Feeds a piece to its call. One that its lane doesn't take resets the stream.
+    fn feed(&mut self, id: StreamId, piece: Bytes) -> Decided
+        ensures { (counted : ℕ) → DecidesOn H.names
+            (Told (events.Data id piece counted) (fate_of Feed result.second)) result self.old self.new }
+    {
+        match self.slots.feed(id, piece) {
+            Ok(()) => Decided::nothing(),
+            Err(_fault) => {
+                let code = ErrorCode::EnhanceYourCalm;
+                Decided::reset(id, code, true, code)
+            }
+        }
+    }
+
+    /// A piece came that no call takes. Where it isn't padding alone, and its call's half is open still, the call would miss it: its
+    /// stream is reset.
+    fn discard(&self, id: StreamId, piece: &Bytes) -> Decided
+        ensures { (counted : ℕ) → DecidesOn H.names
+            (Told (events.Data id piece.now counted) (Received Discard)) result self.now self.now }
+    {
+        if piece.is_empty() || !self.slots.is_fed(id) {
+            return Decided::nothing();
+        }
+        Decided::reset(id, ErrorCode::EnhanceYourCalm, true, ErrorCode::Cancel)
+    }
+
+    /// Bytes came that count on the connection alone, of which the lock said this.
+    pub fn loose(&self, receipt: Receipt) -> Decided
+        ensures { (counted : ℕ) → DecidesOn H.names
+            (Told (events.Loose counted) (Received receipt)) result self.now self.now }
+    {
+        match receipt {
+            Receipt::Overrun => self.fatal(ErrorCode::FlowControlError),
+            Receipt::Feed | Receipt::Discard | Receipt::CallWindow => Decided::nothing(),
+        }
+    }
+
+    /// The client has ended its half of a stream.
+    pub fn end_half(&mut self, id: StreamId)
+        ensures { ReadsOn H.names (Told (events.End id) Plain) self.old self.new }
+    {
+        self.slots.shut(id, Shut::End);
+    }
+
+    /// The client has reset a stream.
+    pub fn reset(&self, id: StreamId, code: ErrorCode) -> Decided
+        ensures { DecidesOn H.names (Told (events.Reset id code) Plain) result self.now self.now }
+    {
+        Decided::reset(id, code, false, code)
+    }
+
+    /// The client has made an error on a stream (RFC 9113, section 5.4.2).
+    pub fn fail(&self, id: StreamId, code: ErrorCode) -> Decided
+        ensures { DecidesOn H.names (Told (events.StreamError id code) Plain) result self.now self.now }
+    {
+        Decided::reset(id, code, true, code)
+    }
+
+    /// The half of a call is shut, as was decided.
+    pub fn shut(&mut self, cut: Cut)
+        ensures { (told : List Step) (step : Step) → Awaits H.names told step cut self.old → Reads H.names (step ∷ told) self.new }
+        ensures last { self.new.slots.last ≡ self.old.slots.last }
+    {
+        self.slots.shut(cut.id, cut.kind);
+    }
+
+    // ---- what comes on the connection
+
+    /// What the peer tells the writing side.
+    pub fn pass_on(&self, news: PeerControl) -> Decided
+        ensures { DecidesOn H.names (Told (events.Control news) Plain) result self.now self.now }
+    {
+        Decided::order(match news {
+            PeerControl::Settings(settings) => Control::Settings(settings),
+            PeerControl::Ping(bytes) => Control::Ping(bytes),
+            PeerControl::Window(id, increment) => Control::Window(id, increment),
+        })
+    }
+
+    /// The peer opens no more streams.
+    pub fn hear_goaway(&mut self)
+        ensures { ReadsOn H.names (Told events.PeerGoaway Plain) self.old self.new }
+    {
+        self.peer_goaway = true;
+    }
+
+    /// The client has made an error that ends the connection (RFC 9113, section 5.4.1).
+    pub fn fatal(&self, code: ErrorCode) -> Decided
+        ensures orders { (result.first ≡ None) × (result.second ≡ Some (orders.Goaway self.now.last code)) }
+        ensures ends { (result.cut ≡ None) × (result.ends ≡ Some (ending.ProtocolError code)) }
+        ensures decides { DecidesOn H.names (Told (events.Fatal code) Plain) result self.now self.now }
+    {
+        Decided {
+            ends: Some(Ending::ProtocolError(code)),
+            ..Decided::order(self.goaway(code))
+        }
+    }
+
+    /// The order that ends the connection with this error: where it is that for want of memory, no event needs to tell it.
+    pub fn goaway(&self, code: ErrorCode) -> Order
+        ensures order { result ≡ orders.Goaway self.now.last code }
+        ensures last { (told : List Step) → Reads H.names told self.now → result ≡ orders.Goaway (greatest (begun told)) code }
+    {
+        Control::Goaway {
+            last: self.last,
+            code,
+        }
+    }
+
+    // ---- calls that hear no more
+
+    /// How many slots there are.
+    pub fn slots(&self) -> usize {
+        self.slots.len()
+    }
+
+    /// Whether there are as many as there may be.
+    pub fn is_full(&self) -> bool {
+        self.slots.is_full()
+    }
+
+    /// Behind the end of the input: a slot's call that its client neither ended nor reset is cancelled.
+    pub fn cut_off(&self, place: usize) -> Option<Decided>
+        ensures { IfSome result (λ decided. (id : ℕ) × DecidesOn H.names (CutOff id AtEnd) decided self.now self.now) }
+    {
+        let id = self.slots.fed(place)?;
+        let code = ErrorCode::Cancel;
+        Some(Decided::reset(id, code, true, code))
+    }
+
+    /// The stream of a slot's call whose client neither ended nor reset it, once the call's worker has answered it: where the call is no
+    /// longer live, it is to be cut, for its slot.
+    pub fn answered(&self, place: usize) -> Option<(StreamId, bool)> {
+        self.slots.answered(place)
+    }
+
+    /// A call is no longer live, though its client neither ended nor reset it; it was answered with trailers or not. Its stream was reset by
+    /// the writing side.
+    pub fn abandon(&self, id: StreamId, has_trailers: bool) -> Decided
+        ensures { DecidesOn H.names (CutOff id (NotLive has_trailers)) result self.now self.now }
+    {
+        if !self.slots.is_fed(id) {
+            return Decided {
+                cut: Some(Cut {
+                    id,
+                    kind: Shut::Reset(ErrorCode::Cancel.code()),
+                }),
+                ..Decided::nothing()
+            };
+        }
+        let code = if has_trailers {
+            ErrorCode::FlowControlError
+        } else {
+            ErrorCode::InternalError
+        };
+        Decided::reset(id, code, true, ErrorCode::Cancel)
+    }
+
+    // ---- the end
+
+    /// How the connection has ended where its input has.
+    pub fn ending(&self) -> Ending {
+        if self.peer_goaway {
+            Ending::PeerGoaway
+        } else {
+            Ending::InputEnded
+        }
+    }
+
+    /// Rings the bells of the workers for which something came.
+    pub fn ring_noted(&self) {
+        self.slots.ring_noted();
+    }
+
+    /// Has each worker answer its call to the end, and waits for all: the rows of all calls, in the order in which these were begun, or
+    /// none for want of memory.
+    pub fn end(self) -> Option<Vec<CallReport>>
+        ensures rows { (told : List Step) → Reads H.names told self
+            → IfSome result (λ rows. AreRows H.known H.names told (admitted told) rows.items) }
+    {
+        self.slots.end()
+    }
+}

@@ -1,0 +1,211 @@
+//! The slots of a connection, as its reading side has them.
+
+ghost use Rattle.std.specs.Prelude.{◌≡◌, ◌<◌, ℕ, List, [], ◌∷◌, ◌++◌, Bool, None, Some, IfErr, IfSome, IsSomeAnd, OnErr, OnOk, is_some, position, vec_capacity, vec_len};
+ghost use Rattle.connbook.specs.declared.answers.Receipt.TheVariants.{Feed};
+ghost use Rattle.session.specs.declared.event.InEvent.TheVariants as events;
+ghost use Rattle.slots.specs.Concerns.{Concerns};
+ghost use Rattle.slots.specs.Reports.{AreRows};
+ghost use Rattle.slots.specs.Seats.{Hears, IsSeat, Keeps, Kept, feeds, jobs_of};
+ghost use Rattle.slots.specs.Steps.{Admitted, Received, Step, Told, admitted, shut_at};
+
+use crate::row_order::in_order;
+use crate::seat::Seat;
+use crate::worker::Worker;
+use account::Shut;
+use bytes::Bytes;
+use callbox::FeedFault;
+use callslot::{CallReport, Job};
+use flow::MAX_LIVE;
+use h2frame::StreamId;
+use std::alloc::{AllocError, Global};
+
+/// The slots of a connection, at most as many as calls may be live, by their numbers.
+#[derive(Drop)]
+pub struct Slots<H: Worker> {
+    alloc: Global,
+    pub(crate) seats: Vec<Seat<H>>,
+    /// The stream of the call that was begun last, 0 for none.
+    pub(crate) last: StreamId,
+}
+
+impl<H: Worker> Slots<H> {
+    pub(crate) fn new(alloc: Global) -> Slots<H>
+        ensures { Kept H.names [] result }
+    {
+        Slots {
+            alloc,
+            seats: Vec::new(alloc),
+            last: 0,
+        }
+    }
+
+    /// Hands a call to the first slot that is free, and answers its number; its bell is still to be rung. Where none is free the call is
+    /// handed back.
+    pub(crate) fn engage(&mut self, job: Job) -> Result<usize, Job>
+        requires named { H.names job.head.path job.index }
+        requires above { self.old.last < job.id }
+        ensures heard { OnOk result (Hears H.names (Told (events.Open job.id job.head) Admitted) self.old self.new) }
+        ensures handed_back { IfErr result (λ back. back ≡ job) }
+        ensures stays { OnErr result (Keeps H.names self.old self.new) }
+        ensures last { OnErr result (self.new.last ≡ self.old.last) }
+    {
+        let mut job = job;
+        'places: for place in 0..self.seats.len() {
+            match self.engage_at(place, job) {
+                Ok(()) => return Ok(place),
+                Err(back) => job = back,
+            }
+        }
+        Err(job)
+    }
+
+    /// The same for the slot of this number.
+    fn engage_at(&mut self, place: usize, job: Job) -> Result<(), Job>
+        requires named { H.names job.head.path job.index }
+        requires above { self.old.last < job.id }
+        ensures heard { OnOk result (Hears H.names (Told (events.Open job.id job.head) Admitted) self.old self.new) }
+        ensures handed_back { IfErr result (λ back. back ≡ job) }
+        ensures stays { OnErr result (Keeps H.names self.old self.new) }
+        ensures last_stays { OnErr result (self.new.last ≡ self.old.last) }
+    {
+        let Some(seat) = self.seats.get_mut(place) else {
+            return Err(job);
+        };
+        let id = job.id;
+        seat.begin(job)?;
+        self.last = id;
+        Ok(())
+    }
+
+    /// Room for one slot more.
+    pub(crate) fn reserve(&mut self) -> Result<(), AllocError>
+        ensures room { OnOk result (vec_len self.new.seats < vec_capacity self.new.seats) }
+        ensures stays { Keeps H.names self.old self.new }
+        ensures last { self.new.last ≡ self.old.last }
+    {
+        self.seats.reserve(1)
+    }
+
+    /// One slot more, whose worker was handed its first call.
+    pub(crate) fn add(&mut self, seat: Seat<H>)
+        requires room { vec_len self.old.seats < vec_capacity self.old.seats }
+        requires above { self.old.last < seat.id }
+        ensures heard { (job : Job) → seat.id ≡ job.id → jobs_of seat ≡ job ∷ []
+            → ((told : List Step) → IsSeat H.names (Told (events.Open job.id job.head) Admitted ∷ told) seat)
+            → Hears H.names (Told (events.Open job.id job.head) Admitted) self.old self.new }
+    {
+        self.last = seat.id;
+        self.seats.push_reserved(seat);
+    }
+
+    /// The number of the slot that is at a call of this stream, where more may be fed to it.
+    fn find(&self, id: StreamId) -> Option<usize>
+        ensures { result ≡ position (λ seat. feeds id seat) self.now.seats.items }
+    {
+        self.seats
+            .iter()
+            .position(|seat| seat.id == id && seat.half.is_open())
+    }
+
+    /// Feeds a piece to the call of this stream, if more may be fed to it. Its bell is to be rung once all that came with it is there.
+    pub(crate) fn feed(&mut self, id: StreamId, piece: Bytes) -> Result<(), FeedFault>
+        ensures heard { OnOk result ((counted : ℕ)
+            → Hears H.names (Told (events.Data id piece counted) (Received Feed)) self.old self.new) }
+        ensures stays { OnErr result (Keeps H.names self.old self.new) }
+        ensures last { self.new.last ≡ self.old.last }
+    {
+        let Some(place) = self.find(id) else {
+            return Ok(());
+        };
+        let Some(seat) = self.seats.get_mut(place) else {
+            return Ok(());
+        };
+        seat.feed(piece)
+    }
+
+    /// Shuts the half of the call of this stream in this way, which its worker is to see. Where it was shut before nothing changes.
+    pub(crate) fn shut(&mut self, id: StreamId, kind: Shut)
+        ensures heard { (step : Step) → Concerns id step → shut_at id step ≡ Some kind → Hears H.names step self.old self.new }
+        ensures last { self.new.last ≡ self.old.last }
+    {
+        let Some(place) = self.find(id) else {
+            return;
+        };
+        let Some(seat) = self.seats.get_mut(place) else {
+            return;
+        };
+        seat.shut(kind);
+    }
+
+    /// How many there are.
+    pub fn len(&self) -> usize {
+        self.seats.len()
+    }
+
+    /// Whether there are as many as there may be.
+    pub fn is_full(&self) -> bool {
+        self.seats.len() >= MAX_LIVE
+    }
+
+    /// Whether more may be fed to the call of this stream.
+    pub(crate) fn is_fed(&self, id: StreamId) -> bool
+        ensures { result ≡ is_some (position (λ seat. feeds id seat) self.now.seats.items) }
+    {
+        self.find(id).is_some()
+    }
+
+    /// The stream of a slot's call, where its half isn't shut.
+    pub(crate) fn fed(&self, place: usize) -> Option<StreamId> {
+        let seat = self.seats.get(place)?;
+        if seat.half.is_open() {
+            return Some(seat.id);
+        }
+        None
+    }
+
+    /// The stream of a slot's call whose worker has given the last item, where its half isn't shut; and whether that was trailers.
+    pub(crate) fn answered(&self, place: usize) -> Option<(StreamId, bool)> {
+        let seat = self.seats.get(place)?;
+        if seat.half.is_open() && seat.slot.is_answered() {
+            return Some((seat.id, !seat.slot.is_left()));
+        }
+        None
+    }
+
+    /// Rings the bells of the workers for which something came.
+    pub fn ring_noted(&self) {
+        for seat in &self.seats {
+            seat.slot.ring_noted();
+        }
+    }
+
+    /// Has each worker answer its call to the end, and waits for all: the rows of all calls, in the order in which these were begun, or
+    /// none for want of memory.
+    pub(crate) fn end(self) -> Option<Vec<CallReport>>
+        ensures rows { (told : List Step) → Kept H.names told self
+            → IfSome result (λ rows. AreRows H.known H.names told (admitted told) rows.items) }
+    {
+        let Slots { alloc, seats, .. } = self;
+        for seat in &seats {
+            seat.slot.end();
+        }
+        let mut rest = seats;
+        let mut all = Some(Vec::new(alloc));
+        'seats: while let Some(seat) = rest.pop() {
+            all = joined(all, seat.end());
+        }
+        Some(in_order(all?))
+    }
+}
+
+/// All rows, where there are both and memory for them.
+fn joined(all: Option<Vec<CallReport>>, rows: Option<Vec<CallReport>>) -> Option<Vec<CallReport>>
+    ensures { IfSome result (λ both. IsSomeAnd all (λ before. IsSomeAnd rows (λ more. both.items ≡ before.items ++ more.items))) }
+{
+    let mut all = all?;
+    let mut rows = rows?;
+    match all.append(&mut rows) {
+        Ok(()) => Some(all),
+        Err(_e) => None,
+    }
+}
