@@ -4,49 +4,15 @@ ghost use Rattle.std.specs.Prelude.{◌≡◌, [], Some, IsSomeAnd};
 ghost use Rattle.std.specs.Option.{IsSomeAnd-prop};
 ghost use Rattle.lane.specs.Ring.{in_name};
 ghost use Rattle.lane.specs.RingEnds.{RingName_set};
-ghost use Rattle.lane.specs.RingLane.{got, past_out};
-ghost use Rattle.outwriter.specs.declared.control.Control.TheVariants as orders;
 
-use crate::shared::Shared;
-use crate::slot::{OutLane, Slot};
-use callbox::Sender;
-use h2frame::{ErrorCode, StreamId};
+use callslot::Order;
+use callworker::Shared;
 use lane::{Ring, RingIn, RingOut};
 use outwriter::Control;
 use std::marker::{Brand, PhantomData};
 use std::sync::ledger::Ledger;
 use std::sync::{Arc, Wait};
 use std::time::Duration;
-
-/// Whose sender sends a call that begins.
-#[derive(Drop)]
-pub(crate) enum Opened {
-    /// That of a new slot, which stays with the writer. The slots come in the order of their numbers.
-    New(Fresh),
-    /// That of the slot of this number, once more.
-    Again(usize),
-}
-
-/// A new slot, and its sender, of which nothing was got, of no call.
-#[derive(Drop)]
-pub(crate) struct Fresh {
-    pub(crate) slot: Arc<Slot>,
-    pub(crate) sender: Sender<OutLane>,
-    ghost unused: { got sender.rx ≡ [] },
-    ghost first: { past_out sender.rx ≡ [] },
-}
-
-impl Fresh {
-    pub(crate) fn new(slot: Arc<Slot>, sender: Sender<OutLane>) -> Fresh
-        requires unused { got sender.rx ≡ [] }
-        requires first { past_out sender.rx ≡ [] }
-    {
-        Fresh { slot, sender }
-    }
-}
-
-/// An order to the writer.
-pub(crate) type Order = Control<Opened>;
 
 /// How many orders may wait for the writer.
 pub(crate) const ORDERS: usize = 1024;
@@ -89,12 +55,15 @@ pub(crate) struct Orders<A: Ledger, B: Ledger, C: Ledger, N: Route> {
 }
 
 impl<A: Ledger, B: Ledger, C: Ledger, N: Route> Orders<A, B, C, N> {
-    ghost use Rattle.std.specs.Prelude.{false};
+    ghost use Rattle.std.specs.Prelude.{◌∷◌, ◌++◌, true, false};
     ghost use Rattle.lane.specs.Ring.{out_name, put_in, taken};
-    ghost use Rattle.connection.specs.Orders.{AreOf, PutsOrDrops};
+    ghost use Rattle.outwriter.specs.declared.control.Control.TheVariants as orders;
+    ghost use Rattle.connection.specs.Puts.{AreOf, Puts, PutsAll, put_of};
 
     pub(crate) fn new(ring: RingIn<Order>, shared: Arc<Shared<A, B, C>>) -> Orders<A, B, C, N>
         requires route { N.ring ≡ Some (in_name ring) }
+        ensures put { put_of result ≡ put_in ring }
+        ensures dropped { result.has_dropped ≡ false }
     {
         Orders {
             outbox: Outbox {
@@ -107,11 +76,13 @@ impl<A: Ledger, B: Ledger, C: Ledger, N: Route> Orders<A, B, C, N> {
         }
     }
 
-    /// Puts an order, and waits where there is no room. Behind a writer that has stopped it is dropped, but not the last one: such
-    /// a writer takes orders still, and ends at that one.
+    /// Puts an order, and waits where there is no room. Once the writer has stopped it is dropped, and so are all behind it.
     pub(crate) fn put<R: Wait>(&mut self, rt: &R, order: Order)
-        ensures ordered { PutsOrDrops order (put_in self.old.outbox.ring) (put_in self.new.outbox.ring) self.old.has_dropped self.new.has_dropped }
+        ensures puts { Puts order self.old self.new }
     {
+        if self.has_dropped {
+            return;
+        }
         let mut order = order;
         self.are_unrung = true;
         'tries: for _ in rt.forever() {
@@ -121,10 +92,39 @@ impl<A: Ledger, B: Ledger, C: Ledger, N: Route> Orders<A, B, C, N> {
             };
             order = fault.into_item();
             self.shared.writer.ring();
-            if self.shared.has_stopped() && !matches!(order, Control::Close) {
+            if self.shared.has_stopped() {
                 self.has_dropped = true;
                 return;
             }
+            self.shared
+                .reader
+                .wait_past(rt, mark, Duration::from_millis(STEP));
+        }
+        unreachable!()
+    }
+
+    /// The same, where there is one.
+    pub(crate) fn put_some<R: Wait>(&mut self, rt: &R, order: Option<Order>)
+        ensures puts { PutsAll order self.old self.new }
+    {
+        if let Some(order) = order {
+            self.put(rt, order);
+        }
+    }
+
+    /// Puts the last order, and waits where there is no room: also a writer that has stopped takes orders, and ends at this one.
+    pub(crate) fn close<R: Wait>(&mut self, rt: &R)
+        ensures put { put_of self.new ≡ put_of self.old ++ orders.Close ∷ [] }
+        ensures dropped { self.new.has_dropped ≡ self.old.has_dropped }
+    {
+        let mut order = Control::Close;
+        'tries: for _ in rt.forever() {
+            let mark = self.shared.reader.mark();
+            let Err(fault) = self.outbox.ring.put(order) else {
+                return;
+            };
+            order = fault.into_item();
+            self.shared.writer.ring();
             self.shared
                 .reader
                 .wait_past(rt, mark, Duration::from_millis(STEP));
@@ -140,17 +140,10 @@ impl<A: Ledger, B: Ledger, C: Ledger, N: Route> Orders<A, B, C, N> {
         self.shared.writer.ring();
     }
 
-    /// Orders a stream to be reset; `written` where the peer is to be told.
-    pub(crate) fn reset(&mut self, rt: &impl Wait, id: StreamId, code: ErrorCode, written: bool)
-        ensures ordered { PutsOrDrops (orders.Reset id code written) (put_in self.old.outbox.ring) (put_in self.new.outbox.ring) self.old.has_dropped self.new.has_dropped }
-    {
-        self.put(rt, Control::Reset { id, code, written });
-    }
-
     /// Where the reader meets the writer: whether the writer has taken all orders that were put.
     pub(crate) fn meet(self, rx: RingOut<Order>) -> bool
         requires route { N.ring ≡ Some (out_name rx) }
-        ensures all { AreOf (taken rx) (put_in self.outbox.ring) result }
+        ensures all { AreOf (taken rx) (put_of self) result }
     {
         let Outbox { mut ring, .. } = self.outbox;
         let mut rx = rx;

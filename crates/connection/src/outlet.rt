@@ -3,7 +3,7 @@
 ghost use Rattle.std.specs.Prelude.{◌≡◌, ◌<◌};
 ghost use Rattle.connection.specs.Written.{RunsOn};
 
-use crate::shared::Shared;
+use callworker::Shared;
 use account::OutItem;
 use connbook::ConnBook;
 use connwriter::ConnWriter;

@@ -1,23 +1,23 @@
 //! The reading thread of a connection: it reads, asks the lock, and does what the reading side decides (the crate `slots`).
 
-ghost use Rattle.std.specs.Prelude.{◌≡◌, ◌≢◌, ◌<◌, ◌++◌, ◌∷◌, ℕ, List, [], None, Some, Ok, IfSome, OnErr, OnOk, false, true};
-ghost use Rattle.callslot.specs.Accounts.{IsWithin, answers_by};
-ghost use Rattle.callslot.specs.declared.report.Ending.TheVariants as ending;
+ghost use Rattle.callhead.specs.declared.head.CallHead.{CallHead as Head};
+ghost use Rattle.std.specs.Prelude.{◌≡◌, ◌<◌, ◌++◌, ◌∷◌, ℕ, List, [], None, Some, Ok, IfOk, IfSome, OnErr, true};
+ghost use Rattle.callworker.specs.Works.{IsKnown};
 ghost use Rattle.handlers.specs.Listed.{listed};
-ghost use Rattle.lane.specs.Ring.{put_in};
 ghost use Rattle.outwriter.specs.declared.control.Control.TheVariants.{InputEnded, Close};
 ghost use Rattle.session.specs.declared.event.InEvent.{InEvent as Event};
 ghost use Rattle.session.specs.declared.event.InEvent.TheVariants as events;
 ghost use Rattle.session.specs.CoreStates.{Reached};
 ghost use Rattle.slots.specs.Calls.{AreNames, IsFirstWith};
-ghost use Rattle.slots.specs.Orders.{ends_at, orders_by};
-ghost use Rattle.slots.specs.Readings.{Decides, Reads};
-ghost use Rattle.slots.specs.Reports.{AreHeard, AreRows, IsFront, is_heard_out};
-ghost use Rattle.slots.specs.Steps.{IsRising, Step, admitted, events_of};
+ghost use Rattle.slots.specs.Orders.{orders_by};
+ghost use Rattle.slots.specs.Readings.{Reads};
+ghost use Rattle.slots.specs.Reports.{AreRows, is_heard_out};
+ghost use Rattle.slots.specs.Steps.{Step, admitted, events_of};
 ghost use Rattle.std.specs.Io.KnownBytes.{Consumes};
-ghost use Rattle.connection.specs.Heard.{AreCalm, Hears, KeptFor, Ordered, ReadsAll, ReadsSome};
+ghost use Rattle.connection.specs.Heard.{Acts, CutsSome, EndsOrders, HasEnded, HasRead, KeptFor, ReadsTo}
+ghost use Rattle.connection.specs.Puts.{IsSame};;
 
-use crate::hired::Hand;
+use crate::hand::Hand;
 use crate::intake::Intake;
 use crate::orders::{Orders, Route};
 use crate::seats::open_seat;
@@ -25,7 +25,7 @@ use bytes::Bytes;
 use callhead::CallHead;
 use callslot::{CallReport, Ending, Job};
 use callworker::{Answering, Gate, moment};
-use connbook::AdmitFault;
+use connbook::{AdmitFault, Receipt};
 use device::ConnRead;
 use h2frame::{ErrorCode, StreamId};
 use handlers::{Method, Methods};
@@ -49,12 +49,426 @@ const STEP: u64 = 1;
 
 /// What the reading thread of a connection has.
 #[derive(Drop)]
-pub(crate) struct Reader<A: Ledger, B: Ledger, C: Ledger, M: Answering, N: Route, R: Drop, G: Drop> {
-    pub(crate) rt: R,
-    pub(crate) alloc: Global,
+pub(crate) struct Reader<
+    A: Ledger,
+    B: Ledger,
+    C: Ledger,
+    M: Answering,
+    N: Route,
+    R: Threads + Drop,
+    G: Drop,
+> {
+    rt: R,
+    alloc: Global,
     pub(crate) orders: Orders<A, B, C, N>,
     pub(crate) reading: Reading<Hand<M, R>>,
     gate: Arc<G>,
     /// When the connection began.
     start: Instant,
+}
+
+impl<A, B, C, M, N, R, G> Reader<A, B, C, M, N, R, G>
+where
+    A: Ledger + Send + Sync + 'static,
+    B: Ledger + Send + Sync + 'static,
+    C: Ledger + Send + Sync + 'static,
+    M: Answering + Send + Sync + 'static,
+    N: Route,
+    R: Threads + Wait + Clock + Copy + Send + Sync + Drop + 'static,
+    G: Gate + Send + Sync + Drop + 'static,
+{
+    pub(crate) fn new(
+        rt: R,
+        alloc: Global,
+        orders: Orders<A, B, C, N>,
+        gate: Arc<G>,
+        start: Instant,
+    ) -> Reader<A, B, C, M, N, R, G>
+        ensures reads { Reads M.names [] result.reading }
+        ensures orders { result.orders ≡ orders }
+    {
+        Reader {
+            rt,
+            alloc,
+            orders,
+            reading: Reading::new(alloc),
+            gate,
+            start,
+        }
+    }
+
+    /// Reads to the end, and says how the connection ended as far as the reader sees.
+    pub(crate) fn read<I: ConnRead>(
+        &mut self,
+        intake: &mut Intake<A, B, C>,
+        input: &mut I,
+        methods: &Arc<Methods>,
+    ) -> Ending
+        requires known { IsKnown M.known (λ m. answers (m.vtable, m.value)) (listed methods.now.value) }
+        requires named { AreNames (IsFirstWith (λ m. (⟦<dyn Method as Method>⟧ m.vtable).name m.value)
+            (listed methods.now.value)) M.names }
+        ensures heard { KeptFor M.names [] self.old.reading self.old.orders → (came : List ℕ)
+            × Consumes (I.remaining input.old) (I.remaining input.new) came
+            × ((told : List Step) × HasRead M.names result came told self.new.reading self.new.orders) }
+    {
+        let mut core = InCore::new(self.alloc);
+        let mut piece = [0u8; PIECE];
+        let rt = self.rt;
+        'pieces: for _ in rt.forever() {
+            if self.orders.shared.has_stopped() {
+                return self.reading.ending();
+            }
+            let Ok(count) = input.read(&mut piece) else {
+                return Ending::ReadFailed;
+            };
+            if count == 0 {
+                return self.reading.ending();
+            }
+            match self.take(intake, &mut core, &piece[..count], methods) {
+                Ok(None) => {}
+                Ok(Some(ending)) => {
+                    self.stop();
+                    return ending;
+                }
+                Err(AllocError) => {
+                    self.lack();
+                    self.stop();
+                    return Ending::OutOfMemory;
+                }
+            }
+        }
+        unreachable!()
+    }
+
+    /// Behind the last event: ends all halves and workers, and lets the writer end. The rows of all calls, or none for want of
+    /// memory; and what was ordered.
+    pub(crate) fn end(self) -> (Option<Vec<CallReport>>, Orders<A, B, C, N>)
+        ensures { (told : List Step) → Reads M.names told self.reading → (cuts : List Step)
+            × HasEnded (λ rows. rows.items) M.known M.names told cuts result.0 × EndsOrders told cuts self.orders result.1 }
+    {
+        let mut reader = self;
+        reader.cut_all();
+        let Reader {
+            rt,
+            mut orders,
+            reading,
+            ..
+        } = reader;
+        orders.put(&rt, Control::InputEnded);
+        orders.shared.writer.ring();
+        let calls = reading.end();
+        orders.close(&rt);
+        orders.shared.writer.ring();
+        (calls, orders)
+    }
+
+    /// Behind the last event: the calls that their clients neither ended nor reset are cut.
+    fn cut_all(&mut self)
+        ensures { CutsSome M.names self.old.reading self.old.orders self.new.reading self.new.orders }
+    {
+        'places: for place in 0..self.reading.slots() {
+            if let Some(decided) = self.reading.cut_off(place) {
+                self.act(decided);
+            }
+        }
+    }
+
+    /// There is no memory for what was read: the connection ends.
+    fn lack(&mut self)
+        ensures same { self.new.reading ≡ self.old.reading }
+    {
+        let rt = self.rt;
+        let order = self.reading.goaway(ErrorCode::InternalError);
+        self.orders.put(&rt, order);
+    }
+
+    /// The connection ends: no call is live.
+    fn stop(&self) {
+        self.orders.shared.book.lock(&self.rt).stop();
+    }
+
+    /// What bytes that came lead to; how the connection ends, if it does.
+    fn take(
+        &mut self,
+        intake: &mut Intake<A, B, C>,
+        core: &mut InCore,
+        piece: &[u8],
+        methods: &Arc<Methods>,
+    ) -> Result<Option<Ending>, AllocError>
+        requires known { IsKnown M.known (λ m. answers (m.vtable, m.value)) (listed methods.now.value) }
+        requires named { AreNames (IsFirstWith (λ m. (⟦<dyn Method as Method>⟧ m.vtable).name m.value)
+            (listed methods.now.value)) M.names }
+        ensures on { IfOk result (λ end. (bytes : List ℕ) (before : List Event) → Reached bytes before core.old
+            → (given : List Event) × Reached (bytes ++ piece.now) (before ++ given) core.new
+            × ReadsTo M.names given end self.old.reading self.old.orders self.new.reading self.new.orders) }
+        ensures same { OnErr result ((self.new.reading ≡ self.old.reading) × (self.new.orders ≡ self.old.orders)) }
+    {
+        let events = core.feed(piece)?;
+        let end = self.heed(intake, events, methods);
+        if end.is_none() {
+            self.ring(piece.len());
+        }
+        Ok(end)
+    }
+
+    /// Rings for so many bytes that came. The writer wakes while the calls are answered.
+    fn ring(&mut self, count: usize)
+        ensures reading { self.new.reading ≡ self.old.reading }
+        ensures same { IsSame self.old.orders self.new.orders }
+    {
+        self.reading.ring_noted();
+        if count >= LARGE_PIECE && !self.orders.are_unrung {
+            return;
+        }
+        self.orders.ring();
+    }
+
+    /// What events lead to, one after another; how the connection ends, if it does.
+    fn heed(
+        &mut self,
+        intake: &mut Intake<A, B, C>,
+        events: Vec<InEvent>,
+        methods: &Arc<Methods>,
+    ) -> Option<Ending>
+        requires known { IsKnown M.known (λ m. answers (m.vtable, m.value)) (listed methods.now.value) }
+        requires named { AreNames (IsFirstWith (λ m. (⟦<dyn Method as Method>⟧ m.vtable).name m.value)
+            (listed methods.now.value)) M.names }
+        ensures reads { ReadsTo M.names events.items result
+            self.old.reading self.old.orders self.new.reading self.new.orders }
+    {
+        'events: for event in events {
+            let end = self.follow(intake, event, methods);
+            if end.is_some() {
+                return end;
+            }
+        }
+        None
+    }
+
+    /// What one event leads to; how the connection ends, if it does.
+    fn follow(
+        &mut self,
+        intake: &mut Intake<A, B, C>,
+        event: InEvent,
+        methods: &Arc<Methods>,
+    ) -> Option<Ending>
+        requires known { IsKnown M.known (λ m. answers (m.vtable, m.value)) (listed methods.now.value) }
+        requires named { AreNames (IsFirstWith (λ m. (⟦<dyn Method as Method>⟧ m.vtable).name m.value)
+            (listed methods.now.value)) M.names }
+        ensures reads { ReadsTo M.names (event ∷ []) result
+            self.old.reading self.old.orders self.new.reading self.new.orders }
+    {
+        let decided = match event {
+            InEvent::Open(id, head) => return self.open(intake, id, head, methods),
+            InEvent::Data(id, bytes, flow) => return self.data(intake, id, bytes, flow),
+            InEvent::Loose(flow) => return self.loose(intake, flow),
+            InEvent::End(id) => {
+                self.end_half(id);
+                return None;
+            }
+            InEvent::PeerGoaway => {
+                self.reading.hear_goaway();
+                return None;
+            }
+            InEvent::BadHead(id, fault) => self.reading.refuse(id, fault),
+            InEvent::Reset(id, code) => self.reading.reset(id, code),
+            InEvent::StreamError(id, code) => self.reading.fail(id, code),
+            InEvent::Control(news) => self.reading.pass_on(news),
+            InEvent::Fatal(code) => self.reading.fatal(code),
+        };
+        self.act(decided)
+    }
+
+    /// Does what was decided: what is ordered first, then the half that is to be shut. How the connection ends, if it does.
+    fn act(&mut self, decided: Decided) -> Option<Ending>
+        ensures acts { Acts M.names decided self.old.reading self.old.orders self.new.reading self.new.orders }
+        ensures ends { result ≡ decided.ends }
+        ensures last { self.new.reading.slots.last ≡ self.old.reading.slots.last }
+    {
+        let rt = self.rt;
+        let Decided {
+            first,
+            second,
+            cut,
+            ends,
+        } = decided;
+        self.orders.put_some(&rt, first);
+        self.orders.put_some(&rt, second);
+        if let Some(cut) = cut {
+            self.reading.shut(cut);
+            self.orders.shared.book.lock(&rt).cut(cut.id);
+        }
+        ends
+    }
+
+    /// A stream begins with the head of a call. A call of a method is to be admitted by the lock.
+    fn open(
+        &mut self,
+        intake: &mut Intake<A, B, C>,
+        id: StreamId,
+        head: CallHead,
+        methods: &Arc<Methods>,
+    ) -> Option<Ending>
+        requires known { IsKnown M.known (λ m. answers (m.vtable, m.value)) (listed methods.now.value) }
+        requires named { AreNames (IsFirstWith (λ m. (⟦<dyn Method as Method>⟧ m.vtable).name m.value)
+            (listed methods.now.value)) M.names }
+        ensures reads { ReadsTo M.names (events.Open id head ∷ []) result
+            self.old.reading self.old.orders self.new.reading self.new.orders }
+    {
+        let rt = self.rt;
+        let index = methods.find(head.path.as_slice());
+        let opened = match head.timeout {
+            Some(_) => moment(&rt, self.start),
+            None => 0,
+        };
+        let job = match self.reading.open(id, head, index, opened) {
+            Ok(job) => job,
+            Err(decided) => return self.act(decided),
+        };
+        match intake.admit(&rt, id) {
+            Ok(()) => self.start(job, methods),
+            Err(fault) => self.turn_away(id, fault),
+        }
+    }
+
+    /// A call isn't admitted.
+    fn turn_away(&mut self, id: StreamId, fault: AdmitFault) -> Option<Ending>
+        ensures reads { (head : Head) → ReadsTo M.names (events.Open id head ∷ []) result
+            self.old.reading self.old.orders self.new.reading self.new.orders }
+    {
+        let decided = self.reading.turn_away(id, fault);
+        self.act(decided)
+    }
+
+    /// Has a worker answer a call that was admitted: that of a free slot, or of a new one. Where there are as many slots as calls may be
+    /// live, one of them is at a call that is no longer live, and soon is free.
+    fn start(&mut self, job: Job, methods: &Arc<Methods>) -> Option<Ending>
+        requires known { IsKnown M.known (λ m. answers (m.vtable, m.value)) (listed methods.now.value) }
+        requires named { M.names job.head.path job.index }
+        requires above { self.old.reading.slots.last < job.id }
+        ensures reads { ReadsTo M.names (events.Open job.id job.head ∷ []) result
+            self.old.reading self.old.orders self.new.reading self.new.orders }
+    {
+        let rt = self.rt;
+        let id = job.id;
+        let mut job = job;
+        'looks: for _ in rt.forever() {
+            let mark = self.orders.shared.reader.mark();
+            match self.reading.engage(job) {
+                Ok(decided) => return self.act(decided),
+                Err(back) => job = back,
+            }
+            if !self.reading.is_full() {
+                return self.open_slot(job, methods);
+            }
+            if self.orders.shared.has_stopped() {
+                return self.turn_away(id, AdmitFault::Draining);
+            }
+            self.abandon_all();
+            self.wait(mark);
+        }
+        unreachable!()
+    }
+
+    /// Waits until a slot may be free.
+    fn wait(&self, mark: u64) {
+        let shared = &self.orders.shared;
+        self.reading.ring_noted();
+        shared.writer.ring();
+        shared
+            .reader
+            .wait_past(&self.rt, mark, Duration::from_millis(STEP));
+    }
+
+    /// Has the worker of a new slot answer a call. Where there is no memory or no thread for it the connection ends.
+    fn open_slot(&mut self, job: Job, methods: &Arc<Methods>) -> Option<Ending>
+        requires known { IsKnown M.known (λ m. answers (m.vtable, m.value)) (listed methods.now.value) }
+        requires named { M.names job.head.path job.index }
+        requires above { self.old.reading.slots.last < job.id }
+        ensures reads { ReadsTo M.names (events.Open job.id job.head ∷ []) result
+            self.old.reading self.old.orders self.new.reading self.new.orders }
+    {
+        let rt = self.rt;
+        let id = job.id;
+        let decided = match self.reading.reserve() {
+            Err(AllocError) => self.reading.lack(id),
+            Ok(()) => match open_seat(rt, self.alloc, &self.orders.shared, &self.gate, methods, self.start, job) {
+                Ok(made) => self.reading.add(made.seat, made.fresh),
+                Err(AllocError) => self.reading.lack(id),
+            },
+        };
+        self.act(decided)
+    }
+
+    /// Cuts the calls that are no longer live, though their clients neither ended nor reset them: before that their slots aren't free.
+    fn abandon_all(&mut self)
+        ensures cuts { CutsSome M.names self.old.reading self.old.orders self.new.reading self.new.orders }
+        ensures last { self.new.reading.slots.last ≡ self.old.reading.slots.last }
+    {
+        'places: for place in 0..self.reading.slots() {
+            if let Some((id, has_trailers)) = self.reading.answered(place) {
+                if self.is_lost(id) {
+                    let decided = self.reading.abandon(id, has_trailers);
+                    self.act(decided);
+                }
+            }
+        }
+    }
+
+    /// Whether a call is no longer live, but not since the writer has stopped.
+    fn is_lost(&self, id: StreamId) -> bool {
+        let book = self.orders.shared.book.lock(&self.rt);
+        !book.has_stopped() && !book.is_live(id)
+    }
+
+    /// DATA came on a stream, so many bytes of it by flow control.
+    fn data(
+        &mut self,
+        intake: &mut Intake<A, B, C>,
+        id: StreamId,
+        bytes: Bytes,
+        flow: u32,
+    ) -> Option<Ending>
+        ensures reads { ReadsTo M.names (events.Data id bytes flow ∷ []) result
+            self.old.reading self.old.orders self.new.reading self.new.orders }
+    {
+        let rt = self.rt;
+        let padding = flow.saturating_sub(u32::try_from(bytes.len()).unwrap_or(u32::MAX));
+        let receipt = intake.receive(&rt, id, flow, padding);
+        if receipt == Receipt::Discard {
+            self.note_credit();
+        }
+        let decided = self.reading.data(id, bytes, receipt);
+        self.act(decided)
+    }
+
+    /// Bytes came that count on the connection alone.
+    fn loose(&mut self, intake: &mut Intake<A, B, C>, flow: u32) -> Option<Ending>
+        ensures reads { ReadsTo M.names (events.Loose flow ∷ []) result
+            self.old.reading self.old.orders self.new.reading self.new.orders }
+    {
+        let receipt = intake.receive(&self.rt, 0, flow, 0);
+        self.note_credit();
+        let decided = self.reading.loose(receipt);
+        self.act(decided)
+    }
+
+    /// Notes that credit was returned that no call rings for.
+    fn note_credit(&mut self)
+        ensures reading { self.new.reading ≡ self.old.reading }
+        ensures same { IsSame self.old.orders self.new.orders }
+        ensures noted { self.new.orders.are_unrung ≡ true }
+    {
+        self.orders.are_unrung = true;
+    }
+
+    /// The client has ended its half of a stream.
+    fn end_half(&mut self, id: StreamId)
+        ensures reads { ReadsTo M.names (events.End id ∷ []) None
+            self.old.reading self.old.orders self.new.reading self.new.orders }
+    {
+        let rt = self.rt;
+        self.orders.shared.book.lock(&rt).end_remote(id);
+        self.reading.end_half(id);
+    }
 }

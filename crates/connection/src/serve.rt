@@ -1,32 +1,32 @@
 //! One connection from its first byte to its last.
 
 ghost use Rattle.std.specs.Prelude.{◌≡◌, ◌≢◌, ◌<◌, ℕ, List, [], Option, Some, None, false, true, IfOk, IfSome};
-ghost use Rattle.connection.specs.declared.report.Ending.TheVariants as ending;
+ghost use Rattle.callslot.specs.declared.report.Ending.TheVariants as ending;
 ghost use Rattle.std.specs.Io.KnownBytes.{Consumes};
 ghost use Rattle.handlers.specs.Listed.{listed};
 ghost use Rattle.h2frame.specs.declared.error_code.ErrorCode.{ErrorCode as Code};
-ghost use Rattle.connection.specs.Accounts.{IsWithin, answers_by};
-ghost use Rattle.connection.specs.Calls.{AreNames, IsFirstWith};
-ghost use Rattle.connection.specs.Reports.{AreAccounted, is_heard_out};
+ghost use Rattle.callslot.specs.Accounts.{IsWithin, answers_by};
+ghost use Rattle.slots.specs.Calls.{AreNames, IsFirstWith};
+ghost use Rattle.slots.specs.Reports.{AreAccounted, is_heard_out};
 ghost use Rattle.lane.specs.Ring.{in_name, out_name, put_in, taken};
 ghost use Rattle.outwriter.specs.Steps.{Order as Ordered};
-ghost use Rattle.connection.specs.Orders.{orders_of};
-ghost use Rattle.connection.specs.Written.{HasWritten};
+ghost use Rattle.slotwriter.specs.Orders.{orders_of};
+ghost use Rattle.slotwriter.specs.Written.{HasWritten};
 
-use crate::answering::Answering;
-use crate::gate::Gate;
 use crate::intake::Intake;
-use crate::orders::{ORDERS, Order, Orders, Route};
+use crate::orders::{ORDERS, Orders, Route};
 use crate::outlet::Outlet;
 use crate::reader::Reader;
-use crate::report::{CallReport, Ending, Served};
-use crate::shared::Shared;
+use crate::served::Served;
 use crate::writer;
-use crate::writer::{Writing, Written};
+use crate::writer::Writing;
+use callslot::{CallReport, Ending, Order};
+use callworker::{Answering, Gate, Shared};
 use connbook::ConnBook;
 use device::{ConnRead, ConnWrite};
 use handlers::{Method, Methods};
 use lane::{Ring, RingIn, RingOut};
+use slotwriter::Written;
 use std::alloc::{AllocError, Global};
 use std::marker::Brand;
 use std::sync::ledger::{Blank, Ledger};
@@ -186,8 +186,8 @@ fn of_both(read: Ending, written: Option<Ending>) -> Ending
     }
 }
 
-/// The same by whether the writer took all orders that were put, and whether others were dropped. Where no ending tells why, it counts as a
-/// write that failed; but that doesn't come.
+/// The same by whether the writer took all orders that were put, and whether others were dropped. Where no ending tells why, it counts as
+/// want of memory; but that doesn't come.
 fn by_orders(seen: Ending, are_all: bool, has_dropped: bool) -> Ending
     ensures memory { seen ≡ ending.OutOfMemory → result ≡ ending.OutOfMemory }
     ensures failed { seen ≡ ending.WriteFailed → result ≡ ending.WriteFailed }
@@ -197,9 +197,9 @@ fn by_orders(seen: Ending, are_all: bool, has_dropped: bool) -> Ending
 {
     match seen {
         Ending::OutOfMemory | Ending::WriteFailed => seen,
-        _ if !are_all => Ending::WriteFailed,
+        _ if !are_all => Ending::OutOfMemory,
         Ending::ProtocolError(_) => seen,
-        _ if has_dropped => Ending::WriteFailed,
+        _ if has_dropped => Ending::OutOfMemory,
         _ => seen,
     }
 }

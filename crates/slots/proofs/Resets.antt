@@ -1,6 +1,6 @@
 -- Why the half of a call was reset though its client ended it: a reset of the stream is among the orders.
 use Rattle.std.proofs.Common.{◌≡◌, ◌∙◌, ◌⊎◌, inl, inr, ℕ, Bool, true, false, true≢false, nat_eq, List, [], ◌∷◌, ◌++◌, Option, None, Some, ap, eqb-true, refl, subst, sym}
-use Rattle.std.specs.Prelude.{◌&&◌, if◌then◌else◌, is_none}
+use Rattle.std.specs.Prelude.{◌&&◌, IfSome, if◌then◌else◌, is_none}
 use Rattle.std.proofs.lemmas.Bool.{and_parts}
 use Rattle.std.specs.Option.{is_some}
 use Rattle.connbook.specs.declared.answers.Receipt.TheVariants.{Feed, Discard, CallWindow, Overrun}
@@ -9,8 +9,10 @@ use Rattle.h2frame.specs.declared.error_code.ErrorCode.TheVariants.{FlowControlE
 use Rattle.outwriter.specs.Steps.{Order}
 use Rattle.session.specs.declared.event.InEvent.TheVariants as events
 use Rattle.slots.specs.Calls.{is_admitted}
-use Rattle.slots.specs.Orders.{IsReset, cut_code, ends_at, is_fed, orders_at, orders_by}
-use Rattle.slots.specs.Reports.{AreCalm, WasResetFor}
+use Rattle.connbook.specs.declared.answers.AdmitFault.{AdmitFault}
+use Rattle.connbook.specs.declared.answers.AdmitFault.TheVariants as refused
+use Rattle.slots.specs.Orders.{IsReset, cut_code, ends_at, ends_by, ends_if_refused, is_fed, orders_at, orders_by}
+use Rattle.slots.specs.Reports.{AreCalm, WasResetFor, is_heard_out}
 use Rattle.slots.specs.Steps.{Fate, Plain, Admitted, Unknown, TurnedAway, Received, Missed, Lacking, Cause, Step, Told, CutOff, lets_go, lost, shut_by, since}
 use Rattle.slots.proofs.LetGo.{let-go-before}
 
@@ -89,3 +91,36 @@ reset-ordered told id calm known code ended closed =
 pub calm-more : (more before : List Step) → AreCalm more → AreCalm before → AreCalm (more ++ before)
 calm-more [] before calm rest = rest
 calm-more (step ∷ more) before calm rest = (calm.0, calm-more more before calm.1 rest)
+
+-- ---- a step that ends the connection does so with an error
+
+refused-harsh : (fault : AdmitFault) → IfSome (ends_if_refused fault) (λ end. is_heard_out end ≡ false)
+refused-harsh refused.TooMany = tt
+refused-harsh refused.Draining = tt
+refused-harsh refused.NotNew = refl
+refused-harsh refused.OutOfMemory = refl
+
+by-harsh : (fate : Fate) → IfSome (ends_by fate) (λ end. is_heard_out end ≡ false)
+by-harsh Plain = tt
+by-harsh Admitted = tt
+by-harsh Unknown = tt
+by-harsh (TurnedAway fault) = refused-harsh fault
+by-harsh (Received Feed) = tt
+by-harsh (Received Discard) = tt
+by-harsh (Received CallWindow) = tt
+by-harsh (Received Overrun) = refl
+by-harsh Missed = tt
+by-harsh Lacking = refl
+
+pub ends-harsh : (step : Step) → IfSome (ends_at step) (λ end. is_heard_out end ≡ false)
+ends-harsh (Told (events.Fatal code) fate) = refl
+ends-harsh (Told (events.Open id head) fate) = by-harsh fate
+ends-harsh (Told (events.BadHead id fault) fate) = by-harsh fate
+ends-harsh (Told (events.Data id piece counted) fate) = by-harsh fate
+ends-harsh (Told (events.Loose counted) fate) = by-harsh fate
+ends-harsh (Told (events.End id) fate) = by-harsh fate
+ends-harsh (Told (events.Reset id code) fate) = by-harsh fate
+ends-harsh (Told (events.StreamError id code) fate) = by-harsh fate
+ends-harsh (Told (events.Control control) fate) = by-harsh fate
+ends-harsh (Told events.PeerGoaway fate) = by-harsh fate
+ends-harsh (CutOff id why) = tt

@@ -1,0 +1,293 @@
+-- What the reading thread has heard, one after another.
+use Rattle.std.proofs.Common.{◌≡◌, ◌∙◌, ◌⊎◌, inl, inr, ℕ, Bool, true, false, true≢false, List, [], ◌∷◌, ◌++◌, Option, None, Some, ap, append-nil, refl, subst, sym, map, take}
+use Rattle.std.proofs.lemmas.List.{append_assoc, map-append}
+use Rattle.std.specs.Io.KnownBytes.{Consumes, Keeps, ReadConsumes}
+use Rattle.std.specs.Prelude.{IfSome, Result, Ok, Err}
+use mathlib.Core.List.{IsPrefix}
+use Rattle.callslot.specs.declared.order.Opened.{Opened}
+use Rattle.callslot.specs.declared.report.Ending.{Ending}
+use Rattle.outwriter.specs.declared.control.Control.{Control}
+use Rattle.outwriter.specs.Steps.{Order, order_of}
+use Rattle.session.specs.declared.event.InEvent.{InEvent}
+use Rattle.session.specs.CoreStates.{Core, Reached}
+use Rattle.session.specs.Events.{Events}
+use Rattle.session.proofs.EventLaws.{reached_events}
+use Rattle.session.proofs.OneEvents.{events_go_on, events_one}
+use Rattle.slots.specs.declared.reading.Cut.{Cut}
+use Rattle.slots.specs.declared.reading.Decided.{Decided}
+use Rattle.slots.specs.declared.reading.Reading.{Reading}
+use Rattle.slots.specs.declared.worker.Worker.{Ghosts as Hands}
+use Rattle.slots.specs.Orders.{ends_at, orders_at, orders_by}
+use Rattle.slots.specs.Readings.{Decides, DecidesOn, Reads, ReadsOn, Stays, orders_in}
+use Rattle.slots.specs.Reports.{AreCalm, AreHeard, IsFront, is_heard_out}
+use Rattle.slots.specs.Steps.{Cause, CutOff, Fate, Step, Told, events_of}
+use Rattle.slots.proofs.LetGo.{events-append}
+use Rattle.slots.proofs.Resets.{calm-more, ends-harsh}
+use Rattle.lane.specs.Ring.{put_in}
+use Rattle.connection.specs.declared.orders.Orders.{Orders}
+use Rattle.connection.specs.declared.orders.Outbox.{Outbox}
+use Rattle.connection.specs.declared.orders.Route.{Ghosts}
+use Rattle.connection.specs.Heard.{Acts, Cuts, CutsSome, HasRead, KeptFor, ReadsTo, Tells}
+use Rattle.connection.specs.Puts.{IsSame, Ordered, Puts, PutsAll, order_in, put_of, put_orders}
+
+-- what a core answered to the bytes before
+pub front-before : (bytes more : List ℕ) (given : List InEvent) (core : Core) → Reached bytes given core → IsFront (bytes ++ more) given
+front-before bytes more given core reached all are =
+    let on = events_go_on bytes more given all (reached_events bytes given core reached) are in
+    (on.0, sym on.1)
+
+-- a front of what it answered
+pub front-some : (bytes : List ℕ) (told given : List InEvent) (core : Core) → Reached bytes given core → IsPrefix told given → IsFront bytes told
+front-some bytes told given core reached begins all are =
+    (begins.0, begins.1 ∙ events_one bytes given all (reached_events bytes given core reached) are)
+
+-- ---- bytes that are read
+
+pub consumes-none : (known : Option (List ℕ)) → Consumes known known []
+consumes-none None = tt
+consumes-none (Some rest) = refl
+
+pub consumes-keeps : (old mid new : Option (List ℕ)) (bytes : List ℕ) → Consumes old mid bytes → Keeps mid new → Consumes old new bytes
+consumes-keeps None mid new bytes came kept = tt
+consumes-keeps (Some whole) None new bytes came kept = absurd came
+consumes-keeps (Some whole) (Some rest) None bytes came kept = absurd kept
+consumes-keeps (Some whole) (Some rest) (Some now) bytes came kept = came ∙ ap (λ (xs : List ℕ). bytes ++ xs) (sym kept)
+
+pub consumes-then : (old mid new : Option (List ℕ)) (bytes more : List ℕ) → Consumes old mid bytes → Consumes mid new more → Consumes old new (bytes ++ more)
+consumes-then None mid new bytes more came next = tt
+consumes-then (Some whole) None new bytes more came next = absurd came
+consumes-then (Some whole) (Some rest) None bytes more came next = absurd next
+consumes-then (Some whole) (Some rest) (Some now) bytes more came next = came ∙ ap (λ (xs : List ℕ). bytes ++ xs) next ∙ sym (append_assoc bytes more now)
+
+pub read-failed : {E : Type 0} (old new : Option (List ℕ)) (result : Result ℕ E) (buf : List ℕ) → ((n : ℕ) → result ≡ Ok n → ⊥) → ReadConsumes old new result buf → Consumes old new []
+read-failed old new (Ok n) buf not read = absurd (not n refl)
+read-failed old new (Err fault) buf not read = consumes-keeps old old new [] (consumes-none old) read
+
+-- ---- orders
+
+undropped : {P : Type 0} (dropped : Bool) → dropped ≡ true → dropped ≡ false → P
+undropped dropped is not = absurd (true≢false (sym is ∙ not))
+
+abbrev map_of : List (Control Opened) → List Order
+map_of controls = map (λ (order : Control Opened). order_of order) controls
+
+module _ {A B C N : Type 0} {route : Ghosts N} where
+  -- an order more
+  pub ordered-put : (all : List Order) (order : Control Opened) (old new : Orders A B C N route) → Puts order old new → Ordered all old → Ordered (all ++ order_of order ∷ []) new
+  ordered-put all order old new (inl (put, had, has)) ordered =
+      let is : put_orders new ≡ all ++ order_of order ∷ [] =
+      ap map_of put ∙ (map-append (λ (o : Control Opened). order_of o) (put_of old) (order ∷ [])
+      ∙ ap (λ (os : List Order). os ++ order_of order ∷ []) (ordered.whole had)) in
+      record { front = ([], append-nil (put_orders new) ∙ is); whole = λ none. is }
+  ordered-put all order old new (inr (same, drops)) ordered = record {
+    front = (
+      ordered.front.0 ++ order_of order ∷ [],
+      ap (λ (os : List (Control Opened)). map_of os ++ (ordered.front.0 ++ order_of order ∷ [])) same
+          ∙ (sym (append_assoc (put_orders old) ordered.front.0 (order_of order ∷ [])) ∙ ap (λ (os : List Order). os ++ order_of order ∷ []) ordered.front.1),
+    );
+    whole = λ none. undropped new.has_dropped drops none;
+  }
+
+  pub ordered-some : (all : List Order) (order : Option (Control Opened)) (old new : Orders A B C N route) → PutsAll order old new → Ordered all old → Ordered (all ++ order_in order) new
+  ordered-some all None old new same ordered =
+      subst (λ (orders : Orders A B C N route). Ordered (all ++ []) orders) (sym same) (subst (λ (os : List Order). Ordered os old) (sym (append-nil all)) ordered)
+  ordered-some all (Some order) old new puts ordered = ordered-put all order old new puts ordered
+
+  pub ordered-same : (all : List Order) (old new : Orders A B C N route) → IsSame old new → Ordered all old → Ordered all new
+  ordered-same all old new same ordered =
+      let is : put_orders new ≡ put_orders old = ap (λ (outbox : Outbox N route). map_of (put_in outbox.ring)) same.0 in
+      record {
+        front = subst (λ (os : List Order). IsPrefix os all) (sym is) ordered.front;
+        whole = λ none. is ∙ ordered.whole (sym same.1 ∙ none);
+      }
+
+-- ---- steps
+
+silent-more : (more told : List Step) → events_of more ≡ [] → events_of (more ++ told) ≡ events_of told
+silent-more more told silent = events-append more told ∙ (ap (λ (es : List InEvent). events_of told ++ es) silent ∙ append-nil (events_of told))
+
+module _ {H : Type 0} {hand : Hands H} {A B C N : Type 0} {route : Ghosts N} {names : List ℕ → ℕ → Type 0} where
+  -- what was decided is done: two orders, and the half
+  pub acts-done : (decided : Decided) (reading reading_new : Reading H hand) (old mid new : Orders A B C N route) → PutsAll decided.first old mid → PutsAll decided.second mid new
+      → ((told : List Step) (step : Step) → Decides names told step decided reading → Reads names (step ∷ told) reading_new) → Acts names decided reading old reading_new new
+  acts-done decided reading reading_new old mid new first second reads told step decides = (
+    reads told step decides,
+    λ ordered.
+        subst (λ (os : List Order). Ordered os new) (append_assoc (orders_by told) (order_in decided.first) (order_in decided.second) ∙ ap (λ (os : List Order). orders_by told ++ os) decides.orders)
+        (ordered-some (orders_by told ++ order_in decided.first) decided.second mid new second (ordered-some (orders_by told) decided.first old mid first ordered)),
+  )
+
+  -- ---- cuts
+
+  pub cuts-none : (reading : Reading H hand) (orders : Orders A B C N route) → CutsSome names reading orders reading orders
+  cuts-none reading orders told reads = ([], record { silent = refl; calm = tt; reads = reads; ordered = λ ordered. ordered })
+
+  pub cuts-then : (one two three : Reading H hand) (old mid new : Orders A B C N route) → CutsSome names one old two mid → CutsSome names two mid three new → CutsSome names one old three new
+  cuts-then one two three old mid new first second told reads =
+      let a = first told reads in
+      let b = second (a.0 ++ told) a.1.reads in
+      let same : b.0 ++ (a.0 ++ told) ≡ (b.0 ++ a.0) ++ told = sym (append_assoc b.0 a.0 told) in (
+        b.0 ++ a.0,
+        record {
+          silent = silent-more b.0 a.0 b.1.silent ∙ a.1.silent;
+          calm = calm-more b.0 a.0 b.1.calm a.1.calm;
+          reads = subst (λ (steps : List Step). Reads names steps three) same b.1.reads;
+          ordered = λ ordered. subst (λ (steps : List Step). Ordered (orders_by steps) new) same (b.1.ordered (a.1.ordered ordered));
+        },
+      )
+
+  pub cuts-one : (decided : Decided) (id : ℕ) (why : Cause) (reading new_reading : Reading H hand) (old new : Orders A B C N route) → DecidesOn names (CutOff id why) decided reading reading
+      → Acts names decided reading old new_reading new → CutsSome names reading old new_reading new
+  cuts-one decided id why reading new_reading old new decides acts told reads =
+      let done = acts told (CutOff id why) (decides told reads) in
+      (CutOff id why ∷ [], record { silent = refl; calm = (refl, tt); reads = done.0; ordered = done.1 })
+
+  pub cuts-same : (reading new_reading : Reading H hand) (old new : Orders A B C N route) → Stays names reading new_reading → ((all : List Order) → Ordered all old → Ordered all new)
+      → CutsSome names reading old new_reading new
+  cuts-same reading new_reading old new stays ordered told reads = ([], record { silent = refl; calm = tt; reads = stays told reads; ordered = ordered (orders_by told) })
+
+  -- ---- events
+
+  -- one event, whose step is decided and done
+  pub to-one : (event : InEvent) (fate : Fate) (decided : Decided) (end : Option Ending) (one two three : Reading H hand) (old new : Orders A B C N route) → end ≡ decided.ends
+      → DecidesOn names (Told event fate) decided one two → Acts names decided two old three new → ReadsTo names (event ∷ []) end one old three new
+  to-one event fate decided end one two three old new is decides acts told kept =
+      let decision = decides told kept.reads in
+      let done = acts told (Told event fate) decision in (
+        Told event fate ∷ [],
+        record {
+          front = ([], refl);
+          all = λ none. refl;
+          calm = λ none. (sym decision.ends ∙ (sym is ∙ none), tt);
+          harsh = subst (λ (found : Option Ending). IfSome found (λ ending. is_heard_out ending ≡ false)) (sym (is ∙ decision.ends)) (ends-harsh (Told event fate));
+          kept = record { reads = done.0; ordered = done.1 kept.ordered };
+        },
+      )
+
+  -- one that leads to no order
+  pub to-silent : (event : InEvent) (fate : Fate) (one two : Reading H hand) (old new : Orders A B C N route) → ((told : List Step) → orders_at told (Told event fate) ≡ []) → ends_at (Told event fate) ≡ None
+      → ReadsOn names (Told event fate) one two → IsSame old new → ReadsTo names (event ∷ []) None one old two new
+  to-silent event fate one two old new silent calm reads same told kept = (
+    Told event fate ∷ [],
+    record {
+      front = ([], refl);
+      all = λ none. refl;
+      calm = λ none. (calm, tt);
+      harsh = tt;
+      kept = record {
+        reads = reads told kept.reads;
+        ordered = subst (λ (os : List Order). Ordered os new) (sym (ap (λ (os : List Order). orders_by told ++ os) (silent told) ∙ append-nil (orders_by told)))
+            (ordered-same (orders_by told) old new same kept.ordered);
+      };
+    },
+  )
+
+  -- calls were cut before it
+  pub to-behind : (given : List InEvent) (end : Option Ending) (one two three : Reading H hand) (old mid new : Orders A B C N route) → CutsSome names one old two mid
+      → ReadsTo names given end two mid three new → ReadsTo names given end one old three new
+  to-behind given end one two three old mid new cuts reads told kept =
+      let a = cuts told kept.reads in
+      let b = reads (a.0 ++ told) (record { reads = a.1.reads; ordered = a.1.ordered kept.ordered }) in
+      let is : events_of (b.0 ++ a.0) ≡ events_of b.0 = events-append b.0 a.0 ∙ ap (λ (es : List InEvent). es ++ events_of b.0) a.1.silent in (
+        b.0 ++ a.0,
+        record {
+          front = subst (λ (es : List InEvent). IsPrefix es given) (sym is) b.1.front;
+          all = λ none. is ∙ b.1.all none;
+          calm = λ none. calm-more b.0 a.0 (b.1.calm none) a.1.calm;
+          harsh = b.1.harsh;
+          kept = subst (λ (steps : List Step). KeptFor names steps three new) (sym (append_assoc b.0 a.0 told)) b.1.kept;
+        },
+      )
+
+  pub to-none : (reading : Reading H hand) (orders : Orders A B C N route) → ReadsTo names [] None reading orders reading orders
+  to-none reading orders told kept = ([], record { front = ([], refl); all = λ none. refl; calm = λ none. tt; harsh = tt; kept = kept })
+
+  -- more events
+  pub to-then : (first more : List InEvent) (end : Option Ending) (one two three : Reading H hand) (old mid new : Orders A B C N route) → ReadsTo names first None one old two mid
+      → ReadsTo names more end two mid three new → ReadsTo names (first ++ more) end one old three new
+  to-then first more end one two three old mid new before behind told kept =
+      let a = before told kept in
+      let b = behind (a.0 ++ told) a.1.kept in
+      let is : events_of (b.0 ++ a.0) ≡ first ++ events_of b.0 = events-append b.0 a.0 ∙ ap (λ (es : List InEvent). es ++ events_of b.0) (a.1.all refl) in (
+        b.0 ++ a.0,
+        record {
+          front = (b.1.front.0, ap (λ (es : List InEvent). es ++ b.1.front.0) is ∙ (append_assoc first (events_of b.0) b.1.front.0 ∙ ap (λ (es : List InEvent). first ++ es) b.1.front.1));
+          all = λ none. is ∙ ap (λ (es : List InEvent). first ++ es) (b.1.all none);
+          calm = λ none. calm-more b.0 a.0 (b.1.calm none) (a.1.calm refl);
+          harsh = b.1.harsh;
+          kept = subst (λ (steps : List Step). KeptFor names steps three new) (sym (append_assoc b.0 a.0 told)) b.1.kept;
+        },
+      )
+
+  -- an event ended the connection, so those behind it were not heard
+  pub to-stop : (given rest : List InEvent) (ending : Ending) (end : Option Ending) (one two : Reading H hand) (old new : Orders A B C N route) → end ≡ Some ending
+      → ReadsTo names given end one old two new → ReadsTo names (given ++ rest) end one old two new
+  to-stop given rest ending end one two old new is reads told kept =
+      let a = reads told kept in (
+        a.0,
+        record {
+          front = (a.1.front.0 ++ rest, sym (append_assoc (events_of a.0) a.1.front.0 rest) ∙ ap (λ (es : List InEvent). es ++ rest) a.1.front.1);
+          all = λ none. absurd (not-both end is none);
+          calm = λ none. absurd (not-both end is none);
+          harsh = a.1.harsh;
+          kept = a.1.kept;
+        },
+      )
+    where
+      not-both : (found : Option Ending) → found ≡ Some ending → found ≡ None → ⊥
+      not-both None some none = cc
+      not-both (Some e) some none = cc
+
+  -- ---- bytes
+
+  -- all events of these bytes were heard
+  pub all-read : (end : Ending) (before : List InEvent) (told : List Step) (bytes given : List ℕ) (core : Core) (reading : Reading H hand) (orders : Orders A B C N route) → given ≡ bytes → Reached bytes before core
+      → events_of told ≡ before → AreCalm told → KeptFor names told reading orders → HasRead names end given told reading orders
+  all-read end before told bytes given core reading orders same reached is calm kept = record {
+    reads = kept.reads;
+    heard = subst (λ (bs : List ℕ). AreHeard end bs (events_of told)) (sym same) (record {
+      front = front-some bytes (events_of told) before core reached ([], append-nil (events_of told) ∙ is);
+      whole = λ ended. subst (λ (es : List InEvent). Events bytes es) (sym is) (reached_events bytes before core reached);
+    });
+    calm = λ ended. calm;
+    ordered = λ ended. kept.ordered;
+  }
+
+  -- some were, and one of them ended the connection
+  pub some-read : (end : Ending) (given before : List InEvent) (told : List Step) (bytes : List ℕ) (core : Core) (reading reading_new : Reading H hand) (orders orders_new : Orders A B C N route)
+      → Reached bytes (before ++ given) core → events_of told ≡ before → ReadsTo names given (Some end) reading orders reading_new orders_new
+      → KeptFor names told reading orders → (all : List Step) × HasRead names end bytes all reading_new orders_new
+  some-read end given before told bytes core reading reading_new orders orders_new reached is reads kept =
+      let more = reads told kept in
+      let not : is_heard_out end ≡ true → ⊥ = λ ended. true≢false (sym ended ∙ more.1.harsh) in (
+        more.0 ++ told,
+        record {
+          reads = more.1.kept.reads;
+          heard = record {
+            front = front-some bytes (events_of (more.0 ++ told)) (before ++ given) core reached (
+              more.1.front.0,
+              ap (λ (es : List InEvent). es ++ more.1.front.0) (events-append more.0 told ∙ ap (λ (es : List InEvent). es ++ events_of more.0) is)
+                  ∙ append_assoc before (events_of more.0) more.1.front.0 ∙ ap (λ (es : List InEvent). before ++ es) more.1.front.1,
+            );
+            whole = λ ended. absurd (not ended);
+          };
+          calm = λ ended. absurd (not ended);
+          ordered = λ ended. absurd (not ended);
+        },
+      )
+
+  -- none of the last bytes were heard
+  pub none-read : (before : List InEvent) (told : List Step) (bytes more : List ℕ) (core : Core) (end : Ending) (reading : Reading H hand) (orders : Orders A B C N route) → is_heard_out end ≡ false
+      → Reached bytes before core → events_of told ≡ before → Reads names told reading → HasRead names end (bytes ++ more) told reading orders
+  none-read before told bytes more core end reading orders other reached is reads =
+      let not : is_heard_out end ≡ true → ⊥ = λ ended. true≢false (sym ended ∙ other) in
+      record {
+        reads = reads;
+        heard = record { front = subst (λ (es : List InEvent). IsFront (bytes ++ more) es) (sym is) (front-before bytes more before core reached); whole = λ ended. absurd (not ended) };
+        calm = λ ended. absurd (not ended);
+        ordered = λ ended. absurd (not ended);
+      }
+
+-- none came
+pub none-more : (bytes buf : List ℕ) (count : ℕ) → count ≡ 0 → bytes ++ take count buf ≡ bytes
+none-more bytes buf count none = ap (λ (n : ℕ). bytes ++ take n buf) none ∙ append-nil bytes

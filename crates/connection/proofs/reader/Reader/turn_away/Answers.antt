@@ -1,5 +1,0 @@
-use Rattle.connection.proofs.Reasons.{reasons-put}
-use Rattle.connection.proofs.reader.Reader.turn_away.Goals as goal
-
-pub returns-clause-holds : goal.returns-clause-holds
-returns-clause-holds g c = reasons-put _ _ _ c.reset.ensures.ordered
