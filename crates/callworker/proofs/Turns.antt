@@ -1,7 +1,7 @@
 -- The turns of a call, and what stands at its end.
 use Rattle.std.proofs.Common.{◌≡◌, ◌∙◌, ◌⊎◌, inl, inr, ap, refl, subst, sym, ℕ, ◌≤◌, Bool, true, false, List, [], ◌∷◌, ◌++◌, Option, None, Some, append-nil, append_assoc}
 use Rattle.std.specs.Prelude.{IfSome, IsSome, IsSomeAnd, MatchBool, slice_get}
-use Rattle.lane.specs.RingLane.{got, out_name, past_out}
+use Rattle.lane.specs.RingLane.{got, out_name, past_out, put_in, put_shut}
 use Rattle.account.specs.declared.call.OutItem.{OutItem}
 use Rattle.account.specs.declared.call.OutItem.TheVariants.{Left}
 use Rattle.account.specs.declared.call.Told.{Told}
@@ -40,7 +40,7 @@ owes_less items p q messages less took = subst (λ (r : Progress). Took items r 
 
 some_of : {A : Type 0} (P : A → Type 0) (found : Option A) → IsSomeAnd found P → IsSome found
 some_of P None has = absurd has
-some_of P (Some a) has = tt
+some_of P (Some a) has = refl
 
 pub one_call_none : (a : SlotRun) → IsOneCall a a
 one_call_none a = (refl, refl, refl, refl, refl, refl, refl, λ late. inl late)
@@ -106,7 +106,7 @@ one_call_left a b name past same = (
 
 -- ---- what leads to it
 
-module _ {A : Type 0} {answers : A → List (List ℕ) → Bool → Step → Type 0} {stands : A → MethodState → List (List ℕ) → Step → Type 0} (methods : List A) where
+module _ {A : Type 0} (answers : A → List (List ℕ) → Bool → Step → Type 0) (stands : A → MethodState → List (List ℕ) → Step → Type 0) (methods : List A) where
   stays : (found : Option A) (a : SlotRun) → IfSome found (λ m. LeadsOn (answers m) (stands m) a a)
   stays None a = tt
   stays (Some m) a = λ messages took come. (
@@ -181,7 +181,7 @@ module _ {A : Type 0} {answers : A → List (List ℕ) → Bool → Step → Typ
       let come = with_none a.taker.progress.told [] a.call a.in_hand (shows a) empty begun in
       let leads = subst (λ (found : Option A). IfSome found (λ n. LeadsOn (answers n) (stands n) a b)) same goes in
       let all = leads [] took come in
-      ([] ++ all.0, all.1, closed_run _ _ _ b.response b.taker.progress.told ([] ++ all.0) b.call b.in_hand closed all.2)
+      ([] ++ all.0, all.1, closed_run (λ g. put_in g.tx) (λ s. put_shut s.shut) (λ s. true) b.response b.taker.progress.told ([] ++ all.0) b.call b.in_hand closed all.2)
 
   -- from a call of which nothing was taken yet to one that gives nothing more: the messages that were taken, and what stands of them
   pub run_all : (index : ℕ) (a b : SlotRun) (said : Option Told) (put : List OutItem) → a.index ≡ index → Took (got a.taker.rx) a.taker.progress [] → a.taker.progress.told ≡ None
@@ -196,7 +196,7 @@ module _ {A : Type 0} {answers : A → List (List ℕ) → Bool → Step → Typ
 
 timed_head : (timeout : Option ℕ) (opened : ℕ) → IsSome (deadline_of timeout opened) → IsSome timeout
 timed_head None opened some = some
-timed_head (Some timeout) opened some = tt
+timed_head (Some timeout) opened some = refl
 
 true_of : {X : Type 0} (b : Bool) → b ≡ false → b ≡ true → X
 true_of true is other = absurd (cc)

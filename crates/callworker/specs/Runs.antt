@@ -1,11 +1,14 @@
 -- How a call goes on from turn to turn, over the lanes of its slot.
 use Rattle.std.specs.Prelude.{◌≡◌, ◌⊎◌, ℕ, Bool, true, List, ◌++◌, Option, IfSome, IsSome, slice_get}
+use Rattle.lane.specs.contracts.ring_lane.RingLaneLane.TheImpl.{ghosts, no_dict}
 use Rattle.lane.specs.declared.ring_lane.RingLane.{RingLane}
 use Rattle.lane.specs.declared.ring_lane.RingLaneIn.{RingLaneIn}
 use Rattle.lane.specs.declared.ring_lane.RingLaneOut.{RingLaneOut}
 use Rattle.lane.specs.declared.ring_lane.RingLaneShut.{RingLaneShut}
 use Rattle.lane.specs.RingLane.{LaneName, got, in_name, out_name, past_in, past_out, past_shut, put_in, put_shut, shut_name}
+use Rattle.account.specs.contracts.call.OutItem as out_item
 use Rattle.account.specs.declared.call.OutItem.{OutItem}
+use Rattle.callbox.specs.contracts.piece.InPiece as in_piece
 use Rattle.callbox.specs.declared.giver.Giver.{Giver}
 use Rattle.callbox.specs.declared.giver.GivenShut.{GivenShut}
 use Rattle.callbox.specs.declared.piece.InPiece.{InPiece}
@@ -21,17 +24,22 @@ use Rattle.callrun.specs.Sides.{Shown, name_by, shown}
 use Rattle.callslot.specs.declared.report.CallReport.{CallReport}
 use Rattle.callslot.specs.Accounts.{IsGivenAs}
 
+-- ---- the types of a slot's ends, over its two lanes
+
 abbrev pub SlotGiver : Type 0
-SlotGiver = Giver (RingLane OutItem) (RingLaneIn OutItem) (RingLaneOut OutItem) (RingLaneShut OutItem)
+SlotGiver = Giver (RingLane OutItem) (RingLaneIn OutItem) (RingLaneOut OutItem) (RingLaneShut OutItem) (ghosts out_item.the_row no_dict)
 
 abbrev pub SlotGiven : Type 0
-SlotGiven = GivenShut (RingLane OutItem) (RingLaneIn OutItem) (RingLaneOut OutItem) (RingLaneShut OutItem)
+SlotGiven = GivenShut (RingLane OutItem) (RingLaneIn OutItem) (RingLaneOut OutItem) (RingLaneShut OutItem) (ghosts out_item.the_row no_dict)
 
--- a call over the lanes of a slot
+-- a call over them
 abbrev pub SlotRun : Type 0
 SlotRun = CallRun (RingLane InPiece) (RingLane OutItem)
     (RingLaneIn InPiece) (RingLaneOut InPiece) (RingLaneShut InPiece)
     (RingLaneIn OutItem) (RingLaneOut OutItem) (RingLaneShut OutItem)
+    (ghosts in_piece.the_row no_dict) (ghosts out_item.the_row no_dict)
+
+-- ---- what a call shows
 
 -- what its giving end shows: what was given of the call, by which end, and what was given by that for the calls before
 abbrev pub shown_by : Response SlotGiver SlotGiven → Shown

@@ -11,10 +11,10 @@ pub returns-clause-answers : goal.returns-clause-answers
 returns-clause-answers g c =
     let untouched : Took (got c.new-run.result.taker.rx) c.new-run.result.taker.progress [] = rw c.new-run.ensures.taker (subst (λ (items : List InPiece). Took items c.args.taker.progress []) (sym c.requires.fresh.0) c.requires.fresh.1) in
     let untold : c.new-run.result.taker.progress.told ≡ None = rw c.new-run.ensures.taker c.requires.fresh.2 in
-    row_answers _ _ (listed c.args.methods.now) _ c.args.job _ _ _ _ refl (λ none. absurd (search rules))
+    row_answers _ _ (listed c.args.methods.now) _ c.args.job c.run.new.run _ _ _ refl (λ none. absurd (search rules))
     (c.run.ensures.same.5 ∙ c.new-run.ensures.head) (ap got c.end.ensures.rx)
-    (overdue_timed _ _ c.args.job.head _ c.new-run.ensures.early c.new-run.ensures.deadline c.run.ensures.same)
-    (run_all (listed c.args.methods.now) c.args.job.index _ _ _ _ c.new-run.ensures.index_is untouched untold c.requires.fresh.2 c.requires.ungiven c.new-run.ensures.hand c.run.ensures.over c.new-run.ensures.run c.run.ensures.goes_on)
+    (overdue_timed c.new-run.result c.run.new.run c.args.job.head _ c.new-run.ensures.early c.new-run.ensures.deadline c.run.ensures.same)
+    (run_all _ _ (listed c.args.methods.now) c.args.job.index c.new-run.result c.run.new.run _ _ c.new-run.ensures.index_is untouched untold c.requires.fresh.2 c.requires.ungiven c.new-run.ensures.hand c.run.ensures.over c.new-run.ensures.run c.run.ensures.goes_on)
     c.end.ensures.given c.end.ensures.row
 
 pub returns-then-is_none-clause-answers : goal.returns-then-is_none-clause-answers

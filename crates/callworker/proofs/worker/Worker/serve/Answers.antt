@@ -1,8 +1,8 @@
-use Rattle.std.proofs.Common.{ap, ◌∙◌, ◌++◌, ◌∷◌, [], List, subst, sym}
+use Rattle.std.proofs.Common.{ap, refl, ◌∙◌, ◌++◌, ◌∷◌, [], List, subst, sym}
 use Rattle.lane.specs.RingLane.{got, past_in, past_shut, put_in, put_shut}
 use Rattle.account.specs.declared.call.OutItem.{OutItem}
 use Rattle.callbox.specs.declared.piece.InPiece.{InPiece}
-use Rattle.callworker.proofs.Rows.{given-none, none_came, not_begun, of_fewer, one_longer, one_more}
+use Rattle.callworker.proofs.SlotRows.{given-none, none_came, not_begun, of_fewer, one_longer, one_more}
 use Rattle.callworker.proofs.worker.Worker.serve.Goals as goal
 
 pub returns-in_default-clause-rows : goal.returns-in_default-clause-rows

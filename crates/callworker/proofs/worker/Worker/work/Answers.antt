@@ -1,5 +1,5 @@
 use Rattle.std.proofs.Common.{ap, length, refl, sym, ◌∙◌}
-use Rattle.callworker.proofs.Rows.{no_rows}
+use Rattle.callworker.proofs.SlotRows.{no_rows}
 use Rattle.callworker.proofs.worker.Worker.work.Goals as goal
 
 pub calls-init : goal.calls-init
