@@ -1,7 +1,7 @@
 use Rattle.std.proofs.Common.{refl}
 use Rattle.lane.specs.RingLane.{got}
-use Rattle.connection.proofs.WrittenSteps.{leads-still, leads-then}
-use Rattle.connection.proofs.writer.Writer.drain.Goals as goal
+use Rattle.slotwriter.proofs.WrittenSteps.{leads-still, leads-then}
+use Rattle.slotwriter.proofs.slot_writer.SlotWriter.drain.Goals as goal
 
 pub orders-init : goal.orders-init
 orders-init g c = leads-still got g.W.ConnWrite.contents g.W.ConnWrite.failed _ _ _ _ refl (λ lost orders before runs. runs)

@@ -1,8 +1,8 @@
 use Rattle.std.proofs.Common.{◌∙◌, ap, refl}
 use Rattle.lane.specs.Ring.{out_name}
 use Rattle.lane.specs.RingLane.{got}
-use Rattle.connection.proofs.WrittenSteps.{leads-still, leads-then}
-use Rattle.connection.proofs.writer.Writer.write.Goals as goal
+use Rattle.slotwriter.proofs.WrittenSteps.{leads-still, leads-then}
+use Rattle.slotwriter.proofs.slot_writer.SlotWriter.write.Goals as goal
 
 pub turns-init : goal.turns-init
 turns-init g c = leads-still got g.W.ConnWrite.contents g.W.ConnWrite.failed _ _ _ _ refl (λ lost orders before runs. runs)

@@ -1,8 +1,8 @@
 use Rattle.lane.specs.RingLane.{got, ahead}
 use Rattle.outwriter.specs.Polls.{coming}
 use Rattle.std.proofs.Common.{◌∙◌, Some}
-use Rattle.connection.proofs.WrittenSteps.{fills-on, fills-over, fills-stopped, leads-losing, leads-out, leads-still, leads-then, out-parts, out-stays, stays-then}
-use Rattle.connection.proofs.writer.Writer.write_once.Goals as goal
+use Rattle.slotwriter.proofs.WrittenSteps.{fills-on, fills-over, fills-stopped, leads-losing, leads-out, leads-still, leads-then, out-parts, out-stays, stays-then}
+use Rattle.slotwriter.proofs.slot_writer.SlotWriter.write_once.Goals as goal
 
 pub returns-clause-runs : goal.returns-clause-runs
 returns-clause-runs g c =
