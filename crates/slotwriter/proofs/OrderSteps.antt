@@ -15,7 +15,7 @@ use Rattle.connwriter.specs.declared.taking.Taking.TheVariants.{Done, Ended, Una
 use Rattle.connwriter.specs.Orders.{Blamed, own_order, parting, steps_of}
 use Rattle.callslot.specs.declared.order.Opened.{Opened}
 use Rattle.slotwriter.specs.declared.inbox.Inbox.{Inbox}
-use Rattle.slotwriter.specs.Orders.{AreAnswered, AreLast, HasGiven, HasParted, HasTaken, IsAmong, IsAnswer, Obeys, loses_by, order_in, orders_of}
+use Rattle.slotwriter.specs.Orders.{AreAnswered, AreLast, HasGiven, HasTaken, IsAmong, IsAnswer, Obeys, loses_by, order_in, orders_of}
 
 -- ---- orders were lost
 

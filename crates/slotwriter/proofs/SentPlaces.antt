@@ -1,15 +1,11 @@
 -- What each step of a connection's writer does to the senders of its slots.
-use Rattle.std.proofs.Common.{◌≡◌, ◌∙◌, ℕ, zero, suc, false, List, [], ◌∷◌, ◌++◌, Option, None, Some, map, get_or, set, length, ◌<◌, ◌≤◌, ◌⊎◌, inl, inr, arith, ap, sym, refl, subst}
-use Rattle.std.specs.Prelude.{Ok}
+use Rattle.std.proofs.Common.{◌≡◌, ◌∙◌, ℕ, zero, suc, false, List, [], ◌∷◌, ◌++◌, Option, None, Some, get_or, set, length, ◌<◌, ◌≤◌, ◌⊎◌, inl, inr, arith, ap, sym, refl, subst}
 use Rattle.std.proofs.lemmas.List.{map-append, map-set}
 use Rattle.std.proofs.Math.Seq.{map-set_same}
-use Rattle.account.specs.declared.call.OutItem.{OutItem}
 use Rattle.lane.proofs.CutLemmas.{prefix_refl}
 use Rattle.lane.specs.RingLane.{LaneName, got, out_name, past_out, ring_of}
 use Rattle.outwriter.specs.declared.control.Control.{Control}
 use Rattle.outwriter.specs.declared.control.Control.TheVariants.{Settings, Ping, Window, Open, Refuse, Reset, Goaway, InputEnded, Close}
-use Rattle.outwriter.specs.Cores.{Brings}
-use Rattle.outwriter.specs.Cores.{lane_and_past}
 use Rattle.outwriter.specs.Releases.{Releases}
 use Rattle.outwriter.specs.Runs.{opens_stream}
 use Rattle.outwriter.specs.Steps.{Step, Order, Taken, Returned, order_of}
@@ -20,7 +16,7 @@ use Rattle.connwriter.proofs.SentSteps.{on-taken, sent-again, sent-away, sent-ba
 use Rattle.callslot.specs.declared.order.Opened.{Opened}
 use Rattle.callslot.specs.declared.order.Opened.TheVariants.{New, Again}
 use Rattle.slotwriter.specs.declared.senders.Place.{Place}
-use Rattle.slotwriter.specs.Sent.{AreFresh, OpensRise, lines_from, lines_of, GetsMore, GetsRest, KeepsOn, NoneWaits, TakesHome, Waits, SlotSender, Lines, line_step, IsFresh, ids_of, held_of, AreKept, SamePlaces, Adds, Begins, MakesOf, IsPlain}
+use Rattle.slotwriter.specs.Sent.{AreFresh, OpensRise, lines_from, lines_of, GetsRest, KeepsOn, NoneWaits, TakesHome, Waits, SlotSender, Lines, line_step, IsFresh, ids_of, held_of, AreKept, SamePlaces, Begins, MakesOf, IsPlain}
 
 ids-again : (lines : Lines) (n id : ℕ) → last_ids (again_at lines n id) ≡ set (last_ids lines) n id
 ids-again [] n id = refl

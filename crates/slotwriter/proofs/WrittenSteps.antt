@@ -124,7 +124,7 @@ module _ {W : Type 0} (contents : W → Option (List ℕ)) (failed : W → Bool)
     steps_of (order_of one) last taking ++ runs.0,
     on before runs.0 runs.1,
     subst (λ (found : Bool). Obeys found (orders ++ order_of one ∷ []) (steps_of (order_of one) last taking ++ runs.0)) (sym lost)
-    (obeys-taking one last taking orders runs.0 (blamed before runs.0 runs.1) runs.2),
+        (obeys-taking one last taking orders runs.0 (blamed before runs.0 runs.1) runs.2),
   )
 
   -- a GOAWAY of the writer's own
@@ -144,6 +144,12 @@ module _ {W : Type 0} (contents : W → Option (List ℕ)) (failed : W → Bool)
   passes-by order old new same orders before runs =
       subst (λ (frames : FrameWriter W). Runs contents failed true (orders ++ order ∷ []) before frames) (sym same) (runs.0, runs.1, obeys-more orders (order ∷ []) runs.0 runs.2)
 
+  -- between writers that are these
+  pub takes-between : (order : Order) (loses : Bool) (one old mid new : FrameWriter W) → one ≡ old → new ≡ mid → Takes contents failed order loses one mid → Takes contents failed order loses old new
+  takes-between order loses one old mid new from to takes orders before runs =
+      subst (λ (frames : FrameWriter W). Runs contents failed loses (orders ++ order ∷ []) before frames) (sym to)
+      (takes orders before (subst (λ (frames : FrameWriter W). Runs contents failed false orders before frames) (sym from) runs))
+
   -- ---- with the inbox
 
   pub leads-then : (old mid new : SlotWriter W) → LeadsOn contents failed old mid → LeadsOn contents failed mid new → LeadsOn contents failed old new
@@ -160,6 +166,9 @@ module _ {W : Type 0} (contents : W → Option (List ℕ)) (failed : W → Bool)
 
   pub stays-here : (writer : SlotWriter W) → Stays contents failed writer writer
   stays-here writer = record { leads = leads-here writer; out = λ before led. led }
+
+  pub out-then : (old mid out new : SlotWriter W) → LeadsOn contents failed old mid → LeadsOut contents failed mid out → Stays contents failed out new → LeadsOut contents failed old new
+  out-then old mid out new first leads then before led = then.out before (leads before (first.on before led))
 
   -- no order is taken
   pub leads-still : (old new : SlotWriter W) → new.inbox ≡ old.inbox → RunsOn contents failed old.frames new.frames → LeadsOn contents failed old new
@@ -198,14 +207,14 @@ module _ {W : Type 0} (contents : W → Option (List ℕ)) (failed : W → Bool)
         led.0,
         keeps.given led.0 led.1,
         subst (λ (lost : Bool). Runs contents failed lost (orders_of led.0) before new.frames) (sym keeps.lost)
-        (subst (λ (writing : FrameWriter W). Runs contents failed old.inbox.has_lost (orders_of led.0) before writing) (sym frames) led.2),
+            (subst (λ (writing : FrameWriter W). Runs contents failed old.inbox.has_lost (orders_of led.0) before writing) (sym frames) led.2),
       );
     };
     out = λ before led. (
       led.0,
       keeps.given led.0 led.1,
       subst (λ (lost : Bool). Ends contents failed lost (orders_of led.0) before new.frames) (sym keeps.lost)
-      (subst (λ (writing : FrameWriter W). Ends contents failed old.inbox.has_lost (orders_of led.0) before writing) (sym frames) led.2),
+          (subst (λ (writing : FrameWriter W). Ends contents failed old.inbox.has_lost (orders_of led.0) before writing) (sym frames) led.2),
     );
   }
 
@@ -289,7 +298,7 @@ module _ {W : Type 0} (contents : W → Option (List ℕ)) (failed : W → Bool)
           led.0,
           led.1,
           subst (λ (was : Bool). Runs contents failed was (orders_of led.0) before new.frames) (sym lost)
-          (parts (orders_of led.0) before (subst (λ (was : Bool). Runs contents failed was (orders_of led.0) before old.frames) lost led.2)),
+              (parts (orders_of led.0) before (subst (λ (was : Bool). Runs contents failed was (orders_of led.0) before old.frames) lost led.2)),
         );
   }
 
@@ -323,7 +332,7 @@ module _ {W : Type 0} (contents : W → Option (List ℕ)) (failed : W → Bool)
         each = λ spared sent.
             let found = each spared sent in
             let none : orders_of led.0 ≡ orders_of (taken writer.inbox.ring) =
-                sym (given-all led.0 writer.inbox led.1 ∙ (ap (λ (aside : Option (Control Opened)). orders_of led.0 ++ orders_of (order_in aside)) found.1 ∙ append-nil (orders_of led.0))) in
+            sym (given-all led.0 writer.inbox led.1 ∙ (ap (λ (aside : Option (Control Opened)). orders_of led.0 ++ orders_of (order_in aside)) found.1 ∙ append-nil (orders_of led.0))) in
             subst (λ (orders : List Order). Obeys false orders ends.0) none (subst (λ (lost : Bool). Obeys lost (orders_of led.0) ends.0) found.0 ends.2);
         others = others;
         front = front;

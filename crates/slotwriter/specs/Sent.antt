@@ -10,7 +10,7 @@ use Rattle.lane.specs.declared.ring_lane.RingLaneShut.{RingLaneShut}
 use Rattle.lane.specs.RingLane.{LaneName, got, out_name, past_out, ring_of}
 use Rattle.outwriter.specs.declared.control.Control.{Control}
 use Rattle.outwriter.specs.declared.control.Control.TheVariants.{Settings, Ping, Window, Open, Refuse, Reset, Goaway, InputEnded, Close}
-use Rattle.outwriter.specs.Steps.{Step, order_of}
+use Rattle.outwriter.specs.Steps.{Step}
 use Rattle.connwriter.specs.Sent.{Line, AreSent, IsOld, again_at, begun, last_ids}
 use Rattle.callslot.specs.declared.order.Opened.{Opened}
 use Rattle.callslot.specs.declared.order.Opened.TheVariants.{New, Again}

@@ -4,6 +4,7 @@ ghost use Rattle.std.specs.Prelude.{◌≡◌, ◌≢◌, ◌⊎◌, ℕ, true, 
 ghost use Rattle.lane.specs.Ring.{taken};
 ghost use Rattle.lane.specs.RingLane.{got};
 ghost use Rattle.outwriter.specs.Cores.{IsUnused, open_stream};
+ghost use Rattle.outwriter.specs.declared.control.Control.TheVariants as orders;
 ghost use Rattle.outwriter.specs.RunState.{is_held};
 ghost use Rattle.outwriter.specs.Steps.{order_of};
 ghost use Rattle.flow.specs.Windows.{room};
@@ -55,12 +56,7 @@ pub struct Written<W: ConnWrite + Drop> {
 
 impl<W: ConnWrite + Drop> SlotWriter<W> {
     /// A writer that has taken no orders, and written nothing to a device that was so.
-    pub fn new(
-        alloc: Global,
-        orders: RingOut<Order>,
-        device: W,
-        was: &Snapshot<W>,
-    ) -> SlotWriter<W>
+    pub fn new(alloc: Global, orders: RingOut<Order>, device: W, was: &Snapshot<W>) -> SlotWriter<W>
         requires was { was.now.value ≡ device }
         requires none { taken orders ≡ [] }
         ensures led { Led W.contents W.failed (W.contents was.now.value) result }
@@ -86,6 +82,14 @@ impl<W: ConnWrite + Drop> SlotWriter<W> {
         ensures other { result ≡ waiting.Other → IfSome self.new.inbox.set_aside TakesNoWindow }
     {
         self.inbox.look();
+        self.waiting()
+    }
+
+    /// Which order is set aside.
+    fn waiting(&self) -> Waiting
+        ensures nothing { result ≡ waiting.Nothing → self.now.inbox.set_aside ≡ None }
+        ensures other { result ≡ waiting.Other → IfSome self.now.inbox.set_aside TakesNoWindow }
+    {
         match &self.inbox.set_aside {
             None => Waiting::Nothing,
             Some(Control::Settings(_) | Control::Window(..)) => Waiting::Window,
@@ -103,7 +107,7 @@ impl<W: ConnWrite + Drop> SlotWriter<W> {
             return Took::Nothing;
         };
         if self.inbox.has_lost {
-            return self.pass_over(order, last);
+            return self.pass_over(&order, last);
         }
         match self.senders.control_of(order) {
             Ok(control) => self.take(control, last),
@@ -140,16 +144,26 @@ impl<W: ConnWrite + Drop> SlotWriter<W> {
     }
 
     /// Takes an order behind one that was lost: only a Close, and else that is lost too.
-    fn pass_over(&mut self, order: Order, last: StreamId) -> Took
-        ensures passes { PassesOver W.contents W.failed (order_of order) self.old.frames self.new.frames }
+    fn pass_over(&mut self, order: &Order, last: StreamId) -> Took
+        ensures passes { PassesOver W.contents W.failed (order_of order.now)
+            self.old.frames self.new.frames }
         ensures inbox { self.new.inbox ≡ self.old.inbox }
         ensures one { result ≡ took.One }
     {
-        if let Control::Close = order {
-            self.closed = true;
-            let _ = self.frames.take(Control::Close, last);
+        if is_close(order) {
+            self.close(last);
         }
         Took::One
+    }
+
+    /// No more orders come, behind one that was lost. Whether the core took that.
+    fn close(&mut self, last: StreamId) -> bool
+        ensures passes { PassesOver W.contents W.failed orders.Close self.old.frames self.new.frames }
+        ensures inbox { self.new.inbox ≡ self.old.inbox }
+    {
+        self.closed = true;
+        let taking = self.frames.take(Control::Close, last);
+        matches!(taking, Taking::Done)
     }
 
     /// Notes what ends by an order.
@@ -423,4 +437,11 @@ impl<W: ConnWrite + Drop> SlotWriter<W> {
             },
         }
     }
+}
+
+/// Whether an order says that no more orders come.
+fn is_close(order: &Order) -> bool
+    ensures close { result ≡ true → order.now ≡ orders.Close }
+{
+    matches!(order, Control::Close)
 }

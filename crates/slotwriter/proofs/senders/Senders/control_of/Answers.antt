@@ -1,4 +1,4 @@
-use Rattle.std.proofs.Common.{◌≡◌, IfErr, refl, subst, sym}
+use Rattle.std.proofs.Common.{◌≡◌, IfErr, subst, sym}
 use Rattle.outwriter.specs.declared.control.Control.{Control}
 use Rattle.outwriter.specs.declared.control.Control.TheVariants.{Open}
 use Rattle.callslot.specs.declared.order.Opened.{Opened}
@@ -10,7 +10,7 @@ use Rattle.slotwriter.proofs.senders.Senders.control_of.Goals as goal
 pub returns-in-Some-clause-makes : goal.returns-in-Some-clause-makes
 returns-in-Some-clause-makes c =
     again-makes c.args.order c.in-Err-default-Again.id c.in-Err-default-Again.number c.in-Some.sender c.args.self.now.places.items c.begin.new.self.places.items
-    (cc (c.in-Err-default-Again.ensures.opens, c.in-Err-default-Again.field-0-1-is, c.in-Err-default-Again.id-is, c.in-Err-default-Again.number-is)) c.in-Some.ensures.begins
+    (cc (c.in-Err-default-Again.ensures.opens, c.in-Err-default-Again.field-0-1-is)) c.in-Some.ensures.begins
 
 pub returns-in-Err-default-New-clause-back : goal.returns-in-Err-default-New-clause-back
 returns-in-Err-default-New-clause-back c =

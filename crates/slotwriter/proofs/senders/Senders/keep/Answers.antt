@@ -1,4 +1,4 @@
-use Rattle.std.proofs.Common.{◌≡◌, refl, subst, sym}
+use Rattle.std.proofs.Common.{refl, subst, sym}
 use Rattle.slotwriter.specs.Sent.{TakesHome}
 use Rattle.slotwriter.specs.declared.senders.Senders.{Senders}
 use Rattle.slotwriter.proofs.SentPlaces.{home-at}

@@ -8,5 +8,5 @@ slots-init g c = stays-same g.W.ConnWrite.contents g.W.ConnWrite.failed c.args.s
 pub slots-preserved : goal.slots-preserved
 slots-preserved g c = stays-then g.W.ConnWrite.contents g.W.ConnWrite.failed _ _ _ c.slots.invariant c.release_called_off_at.ensures.stays
 
-pub returns-then-not-has_called_off-clause-stays : goal.returns-then-not-has_called_off-clause-stays
-returns-then-not-has_called_off-clause-stays g c = stays-same g.W.ConnWrite.contents g.W.ConnWrite.failed c.args.self.now (record c.args.self.now { senders = c.has_called_off.new.self }) refl refl
+pub returns-then-not-has_called_off : goal.returns-then-not-has_called_off
+returns-then-not-has_called_off g c = record { stays = stays-same g.W.ConnWrite.contents g.W.ConnWrite.failed c.args.self.now (record c.args.self.now { senders = c.has_called_off.new.self }) refl refl }
