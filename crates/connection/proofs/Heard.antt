@@ -2,13 +2,15 @@
 use Rattle.std.proofs.Common.{◌≡◌, ◌∙◌, ◌⊎◌, inl, inr, ℕ, Bool, true, false, true≢false, List, [], ◌∷◌, ◌++◌, Option, None, Some, ap, append-nil, refl, subst, sym, map, take}
 use Rattle.std.proofs.lemmas.List.{append_assoc, map-append}
 use Rattle.std.specs.Io.KnownBytes.{Consumes, Keeps, ReadConsumes}
-use Rattle.std.specs.Prelude.{IfSome, Result, Ok, Err}
+use Rattle.std.specs.Prelude.{IfSome, Result, Ok, Err, is_some}
 use mathlib.Core.List.{IsPrefix}
 use Rattle.callslot.specs.declared.order.Opened.{Opened}
 use Rattle.callslot.specs.declared.report.Ending.{Ending}
 use Rattle.outwriter.specs.declared.control.Control.{Control}
 use Rattle.outwriter.specs.Steps.{Order, order_of}
 use Rattle.session.specs.declared.event.InEvent.{InEvent}
+use Rattle.session.specs.declared.event.InEvent.TheVariants as events
+use Rattle.callslot.specs.declared.slot.Job.{Job}
 use Rattle.session.specs.CoreStates.{Core, Reached}
 use Rattle.session.specs.Events.{Events}
 use Rattle.session.proofs.EventLaws.{reached_events}
@@ -18,7 +20,7 @@ use Rattle.slots.specs.declared.reading.Decided.{Decided}
 use Rattle.slots.specs.declared.reading.Reading.{Reading}
 use Rattle.slots.specs.declared.worker.Worker.{Ghosts as Hands}
 use Rattle.slots.specs.Orders.{ends_at, orders_at, orders_by}
-use Rattle.slots.specs.Readings.{Decides, DecidesOn, Reads, ReadsOn, Stays, orders_in}
+use Rattle.slots.specs.Readings.{Awaits, Decides, DecidesOn, Reads, ReadsOn, Stands, Stays, orders_in}
 use Rattle.slots.specs.Reports.{AreCalm, AreHeard, IsFront, is_heard_out}
 use Rattle.slots.specs.Steps.{Cause, CutOff, Fate, Step, Told, events_of}
 use Rattle.slots.proofs.LetGo.{events-append}
@@ -103,8 +105,18 @@ module _ {A B C N : Type 0} {route : Ghosts N} where
 
 -- ---- steps
 
-silent-more : (more told : List Step) → events_of more ≡ [] → events_of (more ++ told) ≡ events_of told
+pub silent-more : (more told : List Step) → events_of more ≡ [] → events_of (more ++ told) ≡ events_of told
 silent-more more told silent = events-append more told ∙ (ap (λ (es : List InEvent). events_of told ++ es) silent ∙ append-nil (events_of told))
+
+module _ {H : Type 0} {hand : Hands H} {names : List ℕ → ℕ → Type 0} where
+  pub reads-same : (told : List Step) (one two : Reading H hand) → two ≡ one → Reads names told one → Reads names told two
+  reads-same told one two is reads = subst (λ (r : Reading H hand). Reads names told r) (sym is) reads
+
+  pub awaits-of : (told : List Step) (step : Step) (decided : Decided) (cut : Cut) (reading : Reading H hand) → decided.cut ≡ Some cut → Decides names told step decided reading → Awaits names told step cut reading
+  awaits-of told step decided cut reading is decides = subst (λ (found : Option Cut). Stands names told step found reading) is decides.stands
+
+  pub reads-of : (told : List Step) (step : Step) (decided : Decided) (reading : Reading H hand) → decided.cut ≡ None → Decides names told step decided reading → Reads names (step ∷ told) reading
+  reads-of told step decided reading is decides = subst (λ (found : Option Cut). Stands names told step found reading) is decides.stands
 
 module _ {H : Type 0} {hand : Hands H} {A B C N : Type 0} {route : Ghosts N} {names : List ℕ → ℕ → Type 0} where
   -- what was decided is done: two orders, and the half
@@ -181,6 +193,32 @@ module _ {H : Type 0} {hand : Hands H} {A B C N : Type 0} {route : Ghosts N} {na
       };
     },
   )
+
+  -- nothing was put before it
+  pub to-same : (given : List InEvent) (end : Option Ending) (one two three : Reading H hand) (old mid new : Orders A B C N route) → two ≡ one → IsSame old mid
+      → ReadsTo names given end two mid three new → ReadsTo names given end one old three new
+  to-same given end one two three old mid new is same reads told kept =
+      reads told (record { reads = subst (λ (r : Reading H hand). Reads names told r) (sym is) kept.reads; ordered = ordered-same (orders_by told) old mid same kept.ordered })
+
+  -- the event by another name
+  pub to-as : (event given : InEvent) (end : Option Ending) (one two : Reading H hand) (old new : Orders A B C N route) → event ≡ given → ReadsTo names (given ∷ []) end one old two new
+      → ReadsTo names (event ∷ []) end one old two new
+  to-as event given end one two old new is reads = subst (λ (e : InEvent). ReadsTo names (e ∷ []) end one old two new) (sym is) reads
+
+  -- a job by another name
+  pub open-as : (job given : Job) (end : Option Ending) (one two : Reading H hand) (old new : Orders A B C N route) → job ≡ given
+      → ReadsTo names (events.Open job.id job.head ∷ []) end one old two new → ReadsTo names (events.Open given.id given.head ∷ []) end one old two new
+  open-as job given end one two old new is reads = subst (λ (j : Job). ReadsTo names (events.Open j.id j.head ∷ []) end one old two new) is reads
+
+  -- by another end
+  pub to-end : (given : List InEvent) (end other : Option Ending) (one two : Reading H hand) (old new : Orders A B C N route) → end ≡ other → ReadsTo names given end one old two new
+      → ReadsTo names given other one old two new
+  to-end given end other one two old new is reads = subst (λ (found : Option Ending). ReadsTo names given found one old two new) is reads
+
+  -- by other events
+  pub to-events : (given other : List InEvent) (end : Option Ending) (one two : Reading H hand) (old new : Orders A B C N route) → given ≡ other → ReadsTo names given end one old two new
+      → ReadsTo names other end one old two new
+  to-events given other end one two old new is reads = subst (λ (es : List InEvent). ReadsTo names es end one old two new) is reads
 
   -- calls were cut before it
   pub to-behind : (given : List InEvent) (end : Option Ending) (one two three : Reading H hand) (old mid new : Orders A B C N route) → CutsSome names one old two mid
@@ -291,3 +329,20 @@ module _ {H : Type 0} {hand : Hands H} {A B C N : Type 0} {route : Ghosts N} {na
 -- none came
 pub none-more : (bytes buf : List ℕ) (count : ℕ) → count ≡ 0 → bytes ++ take count buf ≡ bytes
 none-more bytes buf count none = ap (λ (n : ℕ). bytes ++ take n buf) none ∙ append-nil bytes
+
+pub some-end : (found : Option Ending) → is_some found ≡ true → (ending : Ending) × (found ≡ Some ending)
+some-end None is = absurd cc
+some-end (Some ending) is = (ending, refl)
+
+pub none-end : (found : Option Ending) → is_some found ≡ false → found ≡ None
+none-end None is = refl
+none-end (Some ending) is = absurd cc
+
+-- one event more of all
+pub parts-more : (before : List InEvent) (event : InEvent) (left rest all : List InEvent) → before ++ left ≡ all → left ≡ event ∷ rest → (before ++ event ∷ []) ++ rest ≡ all
+parts-more before event left rest all parts next =
+    append_assoc before (event ∷ []) rest ∙ (ap (λ (es : List InEvent). before ++ es) (sym next) ∙ parts)
+
+-- nothing was put yet
+pub ordered-none : {A B C N : Type 0} {route : Ghosts N} (orders : Orders A B C N route) → put_of orders ≡ [] → Ordered [] orders
+ordered-none orders none = record { front = ([], append-nil (put_orders orders) ∙ ap map_of none); whole = λ undropped. ap map_of none }

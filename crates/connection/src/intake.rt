@@ -13,12 +13,8 @@ use std::sync::{Arc, Wait};
 #[derive(Drop)]
 pub(crate) struct Intake<A: Ledger, B: Ledger, C: Ledger> {
     shared: Arc<Shared<A, B, C>>,
-    came: Share<A>,
-    calls: Share<B>,
-    ghost all_that_came: { came.parts ≡ A.parts },
-    ghost some_that_came: { 0 < A.parts },
-    ghost all_calls: { calls.parts ≡ B.parts },
-    ghost some_calls: { 0 < B.parts },
+    pub(crate) came: Share<A>,
+    pub(crate) calls: Share<B>,
 }
 
 impl<A: Ledger, B: Ledger, C: Ledger> Intake<A, B, C> {
@@ -27,8 +23,7 @@ impl<A: Ledger, B: Ledger, C: Ledger> Intake<A, B, C> {
         came: Share<A>,
         calls: Share<B>,
     ) -> Intake<A, B, C>
-        requires came { (came.parts ≡ A.parts) × (0 < A.parts) }
-        requires calls { (calls.parts ≡ B.parts) × (0 < B.parts) }
+        ensures { (result.came ≡ came) × (result.calls ≡ calls) }
     {
         Intake {
             shared,
@@ -38,7 +33,11 @@ impl<A: Ledger, B: Ledger, C: Ledger> Intake<A, B, C> {
     }
 
     /// Admits a call.
-    pub(crate) fn admit(&mut self, rt: &impl Wait, id: StreamId) -> Result<(), AdmitFault> {
+    pub(crate) fn admit(&mut self, rt: &impl Wait, id: StreamId) -> Result<(), AdmitFault>
+        requires calls { (self.old.calls.parts ≡ B.parts) × (0 < B.parts) }
+        ensures calls { self.new.calls.parts ≡ self.old.calls.parts }
+        ensures came { self.new.came ≡ self.old.came }
+    {
         let Intake { shared, calls, .. } = self;
         shared.book.lock(rt).admit(id, calls)
     }
@@ -52,6 +51,9 @@ impl<A: Ledger, B: Ledger, C: Ledger> Intake<A, B, C> {
         padding: u32,
     ) -> Receipt
         requires padding { padding ≤ flow }
+        requires came { (self.old.came.parts ≡ A.parts) × (0 < A.parts) }
+        ensures came { self.new.came.parts ≡ self.old.came.parts }
+        ensures calls { self.new.calls ≡ self.old.calls }
     {
         let Intake { shared, came, .. } = self;
         shared.book.lock(rt).receive(id, flow, padding, came)

@@ -1,28 +1,27 @@
 //! The reading thread of a connection: it reads, asks the lock, and does what the reading side decides (the crate `slots`).
 
 ghost use Rattle.callhead.specs.declared.head.CallHead.{CallHead as Head};
-ghost use Rattle.std.specs.Prelude.{◌≡◌, ◌<◌, ◌++◌, ◌∷◌, ℕ, List, [], None, Some, Ok, IfOk, IfSome, OnErr, true};
+ghost use Rattle.std.specs.Prelude.{◌≡◌, ◌<◌, ◌++◌, ◌∷◌, ℕ, List, [], None, Some, Ok, IfOk, IfSome, OnErr, true, vec_capacity, vec_len};
 ghost use Rattle.callworker.specs.Works.{IsKnown};
 ghost use Rattle.handlers.specs.Listed.{listed};
-ghost use Rattle.outwriter.specs.declared.control.Control.TheVariants.{InputEnded, Close};
 ghost use Rattle.session.specs.declared.event.InEvent.{InEvent as Event};
 ghost use Rattle.session.specs.declared.event.InEvent.TheVariants as events;
 ghost use Rattle.session.specs.CoreStates.{Reached};
 ghost use Rattle.slots.specs.Calls.{AreNames, IsFirstWith};
-ghost use Rattle.slots.specs.Orders.{orders_by};
 ghost use Rattle.slots.specs.Readings.{Reads};
-ghost use Rattle.slots.specs.Reports.{AreRows, is_heard_out};
-ghost use Rattle.slots.specs.Steps.{Step, admitted, events_of};
+ghost use Rattle.slots.specs.Seats.{IsSeat, jobs_of};
+ghost use Rattle.slots.specs.Steps.{Admitted, Step, Told, events_of};
+ghost use Rattle.callslot.specs.declared.slot.Job.{Job as Called};
 ghost use Rattle.std.specs.Io.KnownBytes.{Consumes};
-ghost use Rattle.connection.specs.Heard.{Acts, CutsSome, EndsOrders, HasEnded, HasRead, KeptFor, ReadsTo}
-ghost use Rattle.connection.specs.Puts.{IsSame};;
+ghost use Rattle.connection.specs.Heard.{Acts, CutsSome, EndsOrders, HasEnded, HasRead, KeptFor, ReadsTo};
+ghost use Rattle.connection.specs.Puts.{IsSame};
 
 use crate::hand::Hand;
 use crate::intake::Intake;
 use crate::orders::{Orders, Route};
-use crate::seats::open_seat;
+use crate::seats::{Made, open_seat};
 use bytes::Bytes;
-use callhead::CallHead;
+use callhead::{CallHead, HeadFault};
 use callslot::{CallReport, Ending, Job};
 use callworker::{Answering, Gate, moment};
 use connbook::{AdmitFault, Receipt};
@@ -31,7 +30,7 @@ use h2frame::{ErrorCode, StreamId};
 use handlers::{Method, Methods};
 use outwriter::Control;
 use session::{InCore, InEvent};
-use slots::{Decided, Reading};
+use slots::{Decided, Reading, Worker};
 use std::alloc::{AllocError, Global};
 use std::sync::ledger::Ledger;
 use std::sync::{Arc, Wait};
@@ -57,7 +56,10 @@ pub(crate) struct Reader<
     N: Route,
     R: Threads + Drop,
     G: Drop,
-> {
+>
+where
+    Hand<M, R>: Worker,
+{
     rt: R,
     alloc: Global,
     pub(crate) orders: Orders<A, B, C, N>,
@@ -107,6 +109,10 @@ where
         requires known { IsKnown M.known (λ m. answers (m.vtable, m.value)) (listed methods.now.value) }
         requires named { AreNames (IsFirstWith (λ m. (⟦<dyn Method as Method>⟧ m.vtable).name m.value)
             (listed methods.now.value)) M.names }
+        requires came { (intake.old.came.parts ≡ A.parts) × (0 < A.parts) }
+        requires calls { (intake.old.calls.parts ≡ B.parts) × (0 < B.parts) }
+        ensures came { (intake.new.came.parts ≡ A.parts) × (0 < A.parts) }
+        ensures calls { (intake.new.calls.parts ≡ B.parts) × (0 < B.parts) }
         ensures heard { KeptFor M.names [] self.old.reading self.old.orders → (came : List ℕ)
             × Consumes (I.remaining input.old) (I.remaining input.new) came
             × ((told : List Step) × HasRead M.names result came told self.new.reading self.new.orders) }
@@ -167,9 +173,16 @@ where
         ensures { CutsSome M.names self.old.reading self.old.orders self.new.reading self.new.orders }
     {
         'places: for place in 0..self.reading.slots() {
-            if let Some(decided) = self.reading.cut_off(place) {
-                self.act(decided);
-            }
+            self.cut_at(place);
+        }
+    }
+
+    /// The same for the slot of this number.
+    fn cut_at(&mut self, place: usize)
+        ensures cuts { CutsSome M.names self.old.reading self.old.orders self.new.reading self.new.orders }
+    {
+        if let Some(decided) = self.reading.cut_off(place) {
+            self.act(decided);
         }
     }
 
@@ -198,6 +211,10 @@ where
         requires known { IsKnown M.known (λ m. answers (m.vtable, m.value)) (listed methods.now.value) }
         requires named { AreNames (IsFirstWith (λ m. (⟦<dyn Method as Method>⟧ m.vtable).name m.value)
             (listed methods.now.value)) M.names }
+        requires came { (intake.old.came.parts ≡ A.parts) × (0 < A.parts) }
+        requires calls { (intake.old.calls.parts ≡ B.parts) × (0 < B.parts) }
+        ensures came { (intake.new.came.parts ≡ A.parts) × (0 < A.parts) }
+        ensures calls { (intake.new.calls.parts ≡ B.parts) × (0 < B.parts) }
         ensures on { IfOk result (λ end. (bytes : List ℕ) (before : List Event) → Reached bytes before core.old
             → (given : List Event) × Reached (bytes ++ piece.now) (before ++ given) core.new
             × ReadsTo M.names given end self.old.reading self.old.orders self.new.reading self.new.orders) }
@@ -233,6 +250,10 @@ where
         requires known { IsKnown M.known (λ m. answers (m.vtable, m.value)) (listed methods.now.value) }
         requires named { AreNames (IsFirstWith (λ m. (⟦<dyn Method as Method>⟧ m.vtable).name m.value)
             (listed methods.now.value)) M.names }
+        requires came { (intake.old.came.parts ≡ A.parts) × (0 < A.parts) }
+        requires calls { (intake.old.calls.parts ≡ B.parts) × (0 < B.parts) }
+        ensures came { (intake.new.came.parts ≡ A.parts) × (0 < A.parts) }
+        ensures calls { (intake.new.calls.parts ≡ B.parts) × (0 < B.parts) }
         ensures reads { ReadsTo M.names events.items result
             self.old.reading self.old.orders self.new.reading self.new.orders }
     {
@@ -255,28 +276,79 @@ where
         requires known { IsKnown M.known (λ m. answers (m.vtable, m.value)) (listed methods.now.value) }
         requires named { AreNames (IsFirstWith (λ m. (⟦<dyn Method as Method>⟧ m.vtable).name m.value)
             (listed methods.now.value)) M.names }
+        requires came { (intake.old.came.parts ≡ A.parts) × (0 < A.parts) }
+        requires calls { (intake.old.calls.parts ≡ B.parts) × (0 < B.parts) }
+        ensures came { (intake.new.came.parts ≡ A.parts) × (0 < A.parts) }
+        ensures calls { (intake.new.calls.parts ≡ B.parts) × (0 < B.parts) }
         ensures reads { ReadsTo M.names (event ∷ []) result
             self.old.reading self.old.orders self.new.reading self.new.orders }
     {
-        let decided = match event {
-            InEvent::Open(id, head) => return self.open(intake, id, head, methods),
-            InEvent::Data(id, bytes, flow) => return self.data(intake, id, bytes, flow),
-            InEvent::Loose(flow) => return self.loose(intake, flow),
-            InEvent::End(id) => {
-                self.end_half(id);
-                return None;
-            }
-            InEvent::PeerGoaway => {
-                self.reading.hear_goaway();
-                return None;
-            }
-            InEvent::BadHead(id, fault) => self.reading.refuse(id, fault),
-            InEvent::Reset(id, code) => self.reading.reset(id, code),
-            InEvent::StreamError(id, code) => self.reading.fail(id, code),
-            InEvent::Control(news) => self.reading.pass_on(news),
-            InEvent::Fatal(code) => self.reading.fatal(code),
-        };
+        match event {
+            InEvent::Open(id, head) => self.open(intake, id, head, methods),
+            InEvent::BadHead(id, fault) => self.refuse(id, fault),
+            InEvent::Data(id, bytes, flow) => self.data(intake, id, bytes, flow),
+            InEvent::Loose(flow) => self.loose(intake, flow),
+            InEvent::End(id) => self.end_half(id),
+            InEvent::Reset(id, code) => self.reset(id, code),
+            InEvent::StreamError(id, code) => self.fail(id, code),
+            InEvent::Control(news) => self.pass_on(news),
+            InEvent::PeerGoaway => self.hear_goaway(),
+            InEvent::Fatal(code) => self.fatal(code),
+        }
+    }
+
+    /// A stream begins without the head of a call.
+    fn refuse(&mut self, id: StreamId, fault: HeadFault) -> Option<Ending>
+        ensures reads { ReadsTo M.names (events.BadHead id fault ∷ []) result
+            self.old.reading self.old.orders self.new.reading self.new.orders }
+    {
+        let decided = self.reading.refuse(id, fault);
         self.act(decided)
+    }
+
+    /// The client has reset a stream.
+    fn reset(&mut self, id: StreamId, code: ErrorCode) -> Option<Ending>
+        ensures reads { ReadsTo M.names (events.Reset id code ∷ []) result
+            self.old.reading self.old.orders self.new.reading self.new.orders }
+    {
+        let decided = self.reading.reset(id, code);
+        self.act(decided)
+    }
+
+    /// The client has made an error on a stream.
+    fn fail(&mut self, id: StreamId, code: ErrorCode) -> Option<Ending>
+        ensures reads { ReadsTo M.names (events.StreamError id code ∷ []) result
+            self.old.reading self.old.orders self.new.reading self.new.orders }
+    {
+        let decided = self.reading.fail(id, code);
+        self.act(decided)
+    }
+
+    /// What the peer tells the side that writes.
+    fn pass_on(&mut self, news: session::Control) -> Option<Ending>
+        ensures reads { ReadsTo M.names (events.Control news ∷ []) result
+            self.old.reading self.old.orders self.new.reading self.new.orders }
+    {
+        let decided = self.reading.pass_on(news);
+        self.act(decided)
+    }
+
+    /// The client has made an error that ends the connection.
+    fn fatal(&mut self, code: ErrorCode) -> Option<Ending>
+        ensures reads { ReadsTo M.names (events.Fatal code ∷ []) result
+            self.old.reading self.old.orders self.new.reading self.new.orders }
+    {
+        let decided = self.reading.fatal(code);
+        self.act(decided)
+    }
+
+    /// The peer opens no more streams.
+    fn hear_goaway(&mut self) -> Option<Ending>
+        ensures reads { ReadsTo M.names (events.PeerGoaway ∷ []) result
+            self.old.reading self.old.orders self.new.reading self.new.orders }
+    {
+        self.reading.hear_goaway();
+        None
     }
 
     /// Does what was decided: what is ordered first, then the half that is to be shut. How the connection ends, if it does.
@@ -312,6 +384,10 @@ where
         requires known { IsKnown M.known (λ m. answers (m.vtable, m.value)) (listed methods.now.value) }
         requires named { AreNames (IsFirstWith (λ m. (⟦<dyn Method as Method>⟧ m.vtable).name m.value)
             (listed methods.now.value)) M.names }
+        requires came { (intake.old.came.parts ≡ A.parts) × (0 < A.parts) }
+        requires calls { (intake.old.calls.parts ≡ B.parts) × (0 < B.parts) }
+        ensures came { (intake.new.came.parts ≡ A.parts) × (0 < A.parts) }
+        ensures calls { (intake.new.calls.parts ≡ B.parts) × (0 < B.parts) }
         ensures reads { ReadsTo M.names (events.Open id head ∷ []) result
             self.old.reading self.old.orders self.new.reading self.new.orders }
     {
@@ -321,13 +397,33 @@ where
             Some(_) => moment(&rt, self.start),
             None => 0,
         };
-        let job = match self.reading.open(id, head, index, opened) {
-            Ok(job) => job,
-            Err(decided) => return self.act(decided),
-        };
-        match intake.admit(&rt, id) {
+        match self.reading.open(id, head, index, opened) {
+            Ok(job) => self.admit(intake, job, methods),
+            Err(decided) => self.act(decided),
+        }
+    }
+
+    /// Asks the lock to admit a call.
+    fn admit(
+        &mut self,
+        intake: &mut Intake<A, B, C>,
+        job: Job,
+        methods: &Arc<Methods>,
+    ) -> Option<Ending>
+        requires known { IsKnown M.known (λ m. answers (m.vtable, m.value)) (listed methods.now.value) }
+        requires named { M.names job.head.path job.index }
+        requires above { self.old.reading.slots.last < job.id }
+        requires came { (intake.old.came.parts ≡ A.parts) × (0 < A.parts) }
+        requires calls { (intake.old.calls.parts ≡ B.parts) × (0 < B.parts) }
+        ensures came { (intake.new.came.parts ≡ A.parts) × (0 < A.parts) }
+        ensures calls { (intake.new.calls.parts ≡ B.parts) × (0 < B.parts) }
+        ensures reads { ReadsTo M.names (events.Open job.id job.head ∷ []) result
+            self.old.reading self.old.orders self.new.reading self.new.orders }
+    {
+        let rt = self.rt;
+        match intake.admit(&rt, job.id) {
             Ok(()) => self.start(job, methods),
-            Err(fault) => self.turn_away(id, fault),
+            Err(fault) => self.turn_away(job.id, fault),
         }
     }
 
@@ -358,13 +454,13 @@ where
                 Ok(decided) => return self.act(decided),
                 Err(back) => job = back,
             }
+            self.abandon_all();
             if !self.reading.is_full() {
                 return self.open_slot(job, methods);
             }
             if self.orders.shared.has_stopped() {
                 return self.turn_away(id, AdmitFault::Draining);
             }
-            self.abandon_all();
             self.wait(mark);
         }
         unreachable!()
@@ -390,13 +486,35 @@ where
     {
         let rt = self.rt;
         let id = job.id;
-        let decided = match self.reading.reserve() {
-            Err(AllocError) => self.reading.lack(id),
-            Ok(()) => match open_seat(rt, self.alloc, &self.orders.shared, &self.gate, methods, self.start, job) {
-                Ok(made) => self.reading.add(made.seat, made.fresh),
-                Err(AllocError) => self.reading.lack(id),
-            },
-        };
+        if let Err(AllocError) = self.reading.reserve() {
+            return self.run_out(id);
+        }
+        let (shared, gate) = (&self.orders.shared, &self.gate);
+        match open_seat(rt, self.alloc, shared, gate, methods, self.start, job) {
+            Ok(made) => self.add(made),
+            Err(AllocError) => self.run_out(id),
+        }
+    }
+
+    /// A call begins in a new slot.
+    fn add(&mut self, made: Made<M, R>) -> Option<Ending>
+        requires room { vec_len self.old.reading.slots.seats < vec_capacity self.old.reading.slots.seats }
+        requires above { self.old.reading.slots.last < made.seat.id }
+        ensures reads { (job : Called) → made.seat.id ≡ job.id → jobs_of made.seat ≡ job ∷ []
+            → ((told : List Step) → IsSeat M.names (Told (events.Open job.id job.head) Admitted ∷ told) made.seat)
+            → ReadsTo M.names (events.Open job.id job.head ∷ []) result
+            self.old.reading self.old.orders self.new.reading self.new.orders }
+    {
+        let decided = self.reading.add(made.seat, made.fresh);
+        self.act(decided)
+    }
+
+    /// There is no memory, or no thread, for a stream that begins: the connection ends.
+    fn run_out(&mut self, id: StreamId) -> Option<Ending>
+        ensures reads { (head : Head) → ReadsTo M.names (events.Open id head ∷ []) result
+            self.old.reading self.old.orders self.new.reading self.new.orders }
+    {
+        let decided = self.reading.lack(id);
         self.act(decided)
     }
 
@@ -406,13 +524,23 @@ where
         ensures last { self.new.reading.slots.last ≡ self.old.reading.slots.last }
     {
         'places: for place in 0..self.reading.slots() {
-            if let Some((id, has_trailers)) = self.reading.answered(place) {
-                if self.is_lost(id) {
-                    let decided = self.reading.abandon(id, has_trailers);
-                    self.act(decided);
-                }
-            }
+            self.abandon_at(place);
         }
+    }
+
+    /// The same for the slot of this number.
+    fn abandon_at(&mut self, place: usize)
+        ensures cuts { CutsSome M.names self.old.reading self.old.orders self.new.reading self.new.orders }
+        ensures last { self.new.reading.slots.last ≡ self.old.reading.slots.last }
+    {
+        let Some((id, has_trailers)) = self.reading.answered(place) else {
+            return;
+        };
+        if !self.is_lost(id) {
+            return;
+        }
+        let decided = self.reading.abandon(id, has_trailers);
+        self.act(decided);
     }
 
     /// Whether a call is no longer live, but not since the writer has stopped.
@@ -429,46 +557,53 @@ where
         bytes: Bytes,
         flow: u32,
     ) -> Option<Ending>
+        requires came { (intake.old.came.parts ≡ A.parts) × (0 < A.parts) }
+        requires calls { (intake.old.calls.parts ≡ B.parts) × (0 < B.parts) }
+        ensures came { (intake.new.came.parts ≡ A.parts) × (0 < A.parts) }
+        ensures calls { (intake.new.calls.parts ≡ B.parts) × (0 < B.parts) }
         ensures reads { ReadsTo M.names (events.Data id bytes flow ∷ []) result
             self.old.reading self.old.orders self.new.reading self.new.orders }
     {
         let rt = self.rt;
         let padding = flow.saturating_sub(u32::try_from(bytes.len()).unwrap_or(u32::MAX));
         let receipt = intake.receive(&rt, id, flow, padding);
-        if receipt == Receipt::Discard {
-            self.note_credit();
-        }
+        self.note_credit(receipt == Receipt::Discard);
         let decided = self.reading.data(id, bytes, receipt);
         self.act(decided)
     }
 
     /// Bytes came that count on the connection alone.
     fn loose(&mut self, intake: &mut Intake<A, B, C>, flow: u32) -> Option<Ending>
+        requires came { (intake.old.came.parts ≡ A.parts) × (0 < A.parts) }
+        requires calls { (intake.old.calls.parts ≡ B.parts) × (0 < B.parts) }
+        ensures came { (intake.new.came.parts ≡ A.parts) × (0 < A.parts) }
+        ensures calls { (intake.new.calls.parts ≡ B.parts) × (0 < B.parts) }
         ensures reads { ReadsTo M.names (events.Loose flow ∷ []) result
             self.old.reading self.old.orders self.new.reading self.new.orders }
     {
         let receipt = intake.receive(&self.rt, 0, flow, 0);
-        self.note_credit();
+        self.note_credit(true);
         let decided = self.reading.loose(receipt);
         self.act(decided)
     }
 
-    /// Notes that credit was returned that no call rings for.
-    fn note_credit(&mut self)
+    /// Notes whether credit was returned that no call rings for.
+    fn note_credit(&mut self, is_returned: bool)
         ensures reading { self.new.reading ≡ self.old.reading }
         ensures same { IsSame self.old.orders self.new.orders }
-        ensures noted { self.new.orders.are_unrung ≡ true }
+        ensures noted { is_returned ≡ true → self.new.orders.are_unrung ≡ true }
     {
-        self.orders.are_unrung = true;
+        self.orders.are_unrung = self.orders.are_unrung || is_returned;
     }
 
     /// The client has ended its half of a stream.
-    fn end_half(&mut self, id: StreamId)
-        ensures reads { ReadsTo M.names (events.End id ∷ []) None
+    fn end_half(&mut self, id: StreamId) -> Option<Ending>
+        ensures reads { ReadsTo M.names (events.End id ∷ []) result
             self.old.reading self.old.orders self.new.reading self.new.orders }
     {
         let rt = self.rt;
         self.orders.shared.book.lock(&rt).end_remote(id);
         self.reading.end_half(id);
+        None
     }
 }

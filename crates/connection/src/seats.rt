@@ -31,7 +31,10 @@ const CALLS: usize = 2;
 
 /// A slot that was made for its first call, for the reading side, and for the writing side.
 #[derive(Drop)]
-pub(crate) struct Made<M: Answering, R: Threads + Drop> {
+pub(crate) struct Made<M: Answering, R: Threads + Drop>
+where
+    Hand<M, R>: slots::Worker,
+{
     pub(crate) seat: Seat<Hand<M, R>>,
     pub(crate) fresh: Fresh,
 }

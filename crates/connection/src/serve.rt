@@ -109,7 +109,8 @@ where
     requires announced { (blanks.2.name ≡ C.name) × (blanks.2.parts ≡ C.parts) × (0 < C.parts) }
     requires known { IsWithin M.known (answers_by (λ method. answers (method.vtable, method.value)) (listed methods.value)) }
     requires named { AreNames (IsFirstWith (λ method. (⟦<dyn Method as Method>⟧ method.vtable).name method.value) (listed methods.value)) M.names }
-    requires ring { (N.ring ≡ Some (in_name ring.0)) × (in_name ring.0 ≡ out_name ring.1) × (taken ring.1 ≡ []) }
+    requires ring { (N.ring ≡ Some (in_name ring.0)) × (in_name ring.0 ≡ out_name ring.1) }
+    requires unused { (put_in ring.0 ≡ []) × (taken ring.1 ≡ []) }
     ensures served { IfOk result (λ served. IfSome served.output (λ device. (orders : List Ordered) × HasWritten O.contents O.failed (O.contents output) orders (Some served.ending) device)) }
     ensures calls { IfOk result (λ served. IfSome served.calls (λ rows. (orders : List Ordered) × IfSome served.output (HasWritten O.contents O.failed (O.contents output) orders (Some served.ending))
         × ((came : List ℕ) × Consumes (I.remaining input.old) (I.remaining input.new) came × AreAccounted M.known M.names served.ending came orders rows.items))) }

@@ -3,12 +3,12 @@ use Rattle.std.proofs.lemmas.List.{map-append}
 use Rattle.lane.specs.Ring.{put_in, taken}
 use Rattle.outwriter.specs.declared.control.Control.{Control}
 use Rattle.outwriter.specs.Steps.{order_of}
-use Rattle.connection.specs.declared.orders.Opened.{Opened}
-use Rattle.connection.specs.Orders.{orders_of}
-use Rattle.connection.specs.declared.report.Ending.{Ending}
-use Rattle.connection.specs.Reports.{is_heard_out}
-use Rattle.connection.specs.Written.{HasWritten}
-use Rattle.connection.proofs.WrittenSteps.{told-on}
+use Rattle.callslot.specs.declared.order.Opened.{Opened}
+use Rattle.slotwriter.specs.Orders.{orders_of}
+use Rattle.callslot.specs.declared.report.Ending.{Ending}
+use Rattle.slots.specs.Reports.{is_heard_out}
+use Rattle.slotwriter.specs.Written.{HasWritten}
+use Rattle.slotwriter.proofs.WrittenSteps.{told-on}
 use Rattle.connection.proofs.serve.meet.Goals as goal
 
 pub returns-clause-served : goal.returns-clause-served

@@ -1,8 +1,8 @@
 use Rattle.std.proofs.Common.{Some}
 use Rattle.handlers.specs.Listed.{listed}
 use Rattle.lane.specs.Ring.{in_name}
-use Rattle.connection.specs.Accounts.{answers_by}
-use Rattle.connection.specs.Calls.{IsFirstWith}
+use Rattle.callslot.specs.Accounts.{answers_by}
+use Rattle.slots.specs.Calls.{IsFirstWith}
 use Rattle.connection.proofs.serve.serve_connection.Given as goal
 
 abbrev pub ghosts-serve_over-A-Ledger : goal.ghosts-serve_over-A-Ledger

@@ -1,7 +1,7 @@
 use Rattle.std.proofs.Common.{◌≡◌, ◌∙◌, List, [], ◌∷◌, ◌++◌, Result, Ok, Err, OnOk, ap, inl, refl}
-use Rattle.lane.specs.Ring.{put_in}
 use Rattle.outwriter.specs.declared.control.Control.{Control}
-use Rattle.connection.specs.declared.orders.Opened.{Opened}
+use Rattle.callslot.specs.declared.order.Opened.{Opened}
+use Rattle.connection.specs.Puts.{put_of}
 use Rattle.connection.proofs.orders.Orders.put.Goals as goal
 
 done : {T E P : Type 0} (result : Result T E) → ((fault : E) → result ≡ Err fault → ⊥) → OnOk result P → P
@@ -12,10 +12,11 @@ pub returns-in_default : goal.returns-in_default
 returns-in_default g c =
     let placed = done _ c.in_default.not-Err c.put.ensures.ok in
     record {
-      ordered = inl (
+      puts = inl (
         placed
             ∙ (ap (λ (os : List (Control Opened)). os ++ c.tries.order ∷ []) c.tries.invariant.0
-            ∙ ap (λ (one : Control Opened). put_in c.args.self.now.outbox.ring ++ one ∷ []) c.tries.invariant.2),
-        c.tries.invariant.1,
+            ∙ ap (λ (one : Control Opened). put_of c.args.self.now ++ one ∷ []) c.tries.invariant.2),
+        c.if-self.false,
+        c.tries.invariant.1 ∙ c.if-self.false,
       );
     }

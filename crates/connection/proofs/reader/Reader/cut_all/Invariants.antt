@@ -1,0 +1,6 @@
+use Rattle.std.proofs.Common.{◌≡◌}
+use Rattle.connection.specs.Heard.{CutsSome}
+use Rattle.connection.proofs.reader.Reader.cut_all.Given as goal
+
+abbrev pub invariant-places : goal.invariant-places
+invariant-places g l = CutsSome g.M.Answering.names l.fn.self.reading l.fn.self.orders l.self.reading l.self.orders

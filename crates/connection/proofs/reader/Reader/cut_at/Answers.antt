@@ -1,0 +1,6 @@
+use Rattle.slots.specs.Steps.{AtEnd}
+use Rattle.connection.proofs.Heard.{cuts-one}
+use Rattle.connection.proofs.reader.Reader.cut_at.Goals as goal
+
+pub returns-in-Some : goal.returns-in-Some
+returns-in-Some g c = record { cuts = cuts-one _ c.in-Some.ensures.0 AtEnd _ _ _ _ c.in-Some.ensures.1 c.act.ensures.acts }

@@ -1,0 +1,8 @@
+use Rattle.session.specs.declared.event.InEvent.TheVariants as events
+use Rattle.slots.specs.Steps.{Plain, TurnedAway, Lacking, Admitted}
+use Rattle.slots.specs.Readings.{unless_ended}
+use Rattle.connection.proofs.Heard.{to-one}
+use Rattle.connection.proofs.reader.Reader.pass_on.Goals as goal
+
+pub returns : goal.returns
+returns g c = record { reads = to-one (events.Control c.args.news) Plain _ _ _ _ _ _ _ c.act.ensures.ends c.pass_on-decided.ensures c.act.ensures.acts }

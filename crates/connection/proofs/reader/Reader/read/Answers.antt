@@ -1,0 +1,65 @@
+use Rattle.std.proofs.Common.{◌∙◌, List, [], ◌++◌, None, Some, Ok, ap, append-nil, refl, sym, take}
+use Rattle.session.specs.declared.event.InEvent.{InEvent}
+use Rattle.slots.specs.Steps.{events_of}
+use Rattle.slots.proofs.LetGo.{events-append}
+use Rattle.slots.proofs.Resets.{calm-more}
+use Rattle.callslot.specs.declared.report.Ending.TheVariants as ending
+use Rattle.connection.proofs.Heard.{all-read, consumes-then, none-more, none-read, read-failed, reads-same, some-read, to-end}
+use Rattle.connection.proofs.reader.Reader.read.Goals as goal
+
+pub returns-in_default-clause-heard : goal.returns-in_default-clause-heard
+returns-in_default-clause-heard g c = λ none.
+    let h = c.pieces.invariant.4 none in
+    (h.0 ++ [], consumes-then _ _ _ h.0 [] h.3 (read-failed _ _ _ _ c.in_default.not-Ok c.read.ensures.bytes), (h.2, all-read ending.ReadFailed h.1 h.2 h.0 (h.0 ++ []) _ _ _ (append-nil h.0) h.4 h.5 h.6 h.7))
+
+pub returns-then-has_stopped-clause-heard : goal.returns-then-has_stopped-clause-heard
+returns-then-has_stopped-clause-heard g c = λ none.
+    let h = c.pieces.invariant.4 none in
+    (h.0, h.3, (h.2, all-read _ h.1 h.2 h.0 h.0 _ _ _ refl h.4 h.5 h.6 h.7))
+
+pub returns-then-count-eq0-clause-heard : goal.returns-then-count-eq0-clause-heard
+returns-then-count-eq0-clause-heard g c = λ none.
+    let h = c.pieces.invariant.4 none in
+    let came = h.0 ++ take c.in-Ok.count c.read.new.buf in
+    (came, consumes-then _ _ _ h.0 _ h.3 c.in-Ok.ensures.bytes.0, (h.2, all-read _ h.1 h.2 h.0 came _ _ _ (none-more h.0 c.read.new.buf c.in-Ok.count c.if-count-eq0.true) h.4 h.5 h.6 h.7))
+
+pub pieces-preserved : goal.pieces-preserved
+pieces-preserved g c = (
+  c.take.ensures.came.0,
+  c.take.ensures.came.1,
+  c.take.ensures.calls.0,
+  c.take.ensures.calls.1,
+  λ none.
+      let h = c.pieces.invariant.4 none in
+      let on = c.in-Ok-None.ensures.on h.0 h.1 h.4 in
+      let more = on.2 h.2 h.7 in (
+        h.0 ++ take c.in-Ok.count c.read.new.buf,
+        h.1 ++ on.0,
+        more.0 ++ h.2,
+        consumes-then _ _ _ h.0 _ h.3 c.in-Ok.ensures.bytes.0,
+        on.1,
+        events-append more.0 h.2 ∙ (ap (λ (es : List InEvent). es ++ events_of more.0) h.5 ∙ ap (λ (es : List InEvent). h.1 ++ es) (more.1.all c.in-Ok-None.field-0-is)),
+        calm-more more.0 h.2 (more.1.calm c.in-Ok-None.field-0-is) h.6,
+        more.1.kept,
+      ),
+)
+
+pub returns-in-Ok-Some-clause-heard : goal.returns-in-Ok-Some-clause-heard
+returns-in-Ok-Some-clause-heard g c = λ none.
+    let h = c.pieces.invariant.4 none in
+    let on = c.in-Ok-Some.ensures.on h.0 h.1 h.4 in (
+      h.0 ++ take c.in-Ok.count c.read.new.buf,
+      consumes-then _ _ _ h.0 _ h.3 c.in-Ok.ensures.bytes.0,
+      some-read c.in-Ok-Some.ending on.0 h.1 h.2 _ _ _ _ _ _ on.1 h.5 (to-end _ _ _ _ _ _ _ c.in-Ok-Some.field-0-is on.2) h.7,
+    )
+
+pub returns-in-Err-clause-heard : goal.returns-in-Err-clause-heard
+returns-in-Err-clause-heard g c = λ none.
+    let h = c.pieces.invariant.4 none in (
+      h.0 ++ take c.in-Ok.count c.read.new.buf,
+      consumes-then _ _ _ h.0 _ h.3 c.in-Ok.ensures.bytes.0,
+      (
+        h.2,
+        none-read h.1 h.2 h.0 _ _ ending.OutOfMemory _ _ refl h.4 h.5 (reads-same h.2 _ _ (c.lack.ensures.same ∙ c.in-Err.ensures.same.0) h.7.reads),
+      ),
+    )

@@ -1,0 +1,8 @@
+use Rattle.session.specs.declared.event.InEvent.TheVariants as events
+use Rattle.slots.specs.Steps.{Plain, TurnedAway, Lacking, Admitted}
+use Rattle.slots.specs.Readings.{unless_ended}
+use Rattle.connection.proofs.Heard.{to-one}
+use Rattle.connection.proofs.reader.Reader.reset.Goals as goal
+
+pub returns : goal.returns
+returns g c = record { reads = to-one (events.Reset c.args.id c.args.code) Plain _ _ _ _ _ _ _ c.act.ensures.ends c.reset-decided.ensures c.act.ensures.acts }

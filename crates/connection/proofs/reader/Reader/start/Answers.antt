@@ -1,0 +1,35 @@
+use Rattle.std.proofs.Common.{◌∷◌, ◌∙◌, [], refl}
+use Rattle.session.specs.declared.event.InEvent.TheVariants as events
+use Rattle.slots.specs.Steps.{Admitted}
+use Rattle.connection.proofs.Heard.{cuts-none, cuts-same, cuts-then, open-as, to-behind, to-one}
+use Rattle.connection.proofs.reader.Reader.start.Goals as goal
+
+pub looks-init : goal.looks-init
+looks-init g c = (cuts-none _ _, refl, refl)
+
+pub returns-in-Ok : goal.returns-in-Ok
+returns-in-Ok g c = record {
+  reads = to-behind _ _ _ _ _ _ _ _ c.looks.invariant.0 (open-as c.looks.job c.args.job _ _ _ _ _ c.looks.invariant.2
+      (to-one (events.Open c.looks.job.id c.looks.job.head) Admitted _ _ _ _ _ _ _ c.act.ensures.ends c.in-Ok.ensures.engaged c.act.ensures.acts));
+}
+
+pub returns-then-not-is_full : goal.returns-then-not-is_full
+returns-then-not-is_full g c = record {
+  reads = to-behind _ _ _ _ _ _ _ _
+      (cuts-then _ _ _ _ _ _ (cuts-then _ _ _ _ _ _ c.looks.invariant.0 (cuts-same _ _ _ _ c.in-Err.ensures.stays (λ all ordered. ordered))) c.abandon_all.ensures.cuts)
+      (open-as c.in-Err.back c.args.job _ _ _ _ _ (c.in-Err.ensures.handed_back ∙ c.looks.invariant.2) c.open_slot.ensures.reads);
+}
+
+pub returns-then-has_stopped : goal.returns-then-has_stopped
+returns-then-has_stopped g c = record {
+  reads = to-behind _ _ _ _ _ _ _ _
+      (cuts-then _ _ _ _ _ _ (cuts-then _ _ _ _ _ _ c.looks.invariant.0 (cuts-same _ _ _ _ c.in-Err.ensures.stays (λ all ordered. ordered))) c.abandon_all.ensures.cuts)
+      (c.turn_away.ensures.reads c.args.job.head);
+}
+
+pub looks-preserved : goal.looks-preserved
+looks-preserved g c = (
+  cuts-then _ _ _ _ _ _ (cuts-then _ _ _ _ _ _ c.looks.invariant.0 (cuts-same _ _ _ _ c.in-Err.ensures.stays (λ all ordered. ordered))) c.abandon_all.ensures.cuts,
+  c.abandon_all.ensures.last ∙ (c.in-Err.ensures.last ∙ c.looks.invariant.1),
+  c.in-Err.ensures.handed_back ∙ c.looks.invariant.2,
+)
