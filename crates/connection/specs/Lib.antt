@@ -1,15 +1,2 @@
-pub mod Orders
-pub mod OrderExamples
-pub mod Written
-pub mod Halves
-pub mod Sent
-pub mod Streams
-pub mod Accounts
-pub mod Workers
-pub mod Calls
-pub mod Reports
-pub mod Seats
-pub mod SeatExamples
-pub mod Ids
-pub mod Reasons
-pub mod AccountFrames
+pub mod Puts
+pub mod Heard

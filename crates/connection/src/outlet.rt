@@ -1,16 +1,14 @@
 //! The writer's hold on the credit book.
 
 ghost use Rattle.std.specs.Prelude.{◌≡◌, ◌<◌};
-ghost use Rattle.connection.specs.Written.{RunsOn};
+ghost use Rattle.slotwriter.specs.Written.{LeadsOn};
 
 use callworker::Shared;
-use account::OutItem;
 use connbook::ConnBook;
-use connwriter::ConnWriter;
 use device::ConnWrite;
 use flow::MAX_LIVE;
 use h2frame::StreamId;
-use lane::Lane;
+use slotwriter::SlotWriter;
 use std::sync::ledger::{Ledger, Share};
 use std::sync::{Arc, Wait};
 
@@ -29,13 +27,14 @@ impl<A: Ledger, B: Ledger, C: Ledger> Outlet<A, B, C> {
         Outlet { shared, told }
     }
 
+    /// The greatest stream that was admitted.
+    pub(crate) fn last(&self, rt: &impl Wait) -> StreamId {
+        self.shared.book.lock(rt).last()
+    }
+
     /// Has the writer owe the peer all credit that is due.
-    pub(crate) fn announce<L: Lane<Item = OutItem>, W: ConnWrite>(
-        &mut self,
-        rt: &impl Wait,
-        writer: &mut ConnWriter<L, W>,
-    )
-        ensures runs { RunsOn L.got W.contents W.failed writer.old writer.new }
+    pub(crate) fn announce<W: ConnWrite + Drop>(&mut self, rt: &impl Wait, writing: &mut SlotWriter<W>)
+        ensures leads { LeadsOn W.contents W.failed writing.old writing.new }
     {
         let Outlet { shared, told, .. } = self;
         let mut book = shared.book.lock(rt);
@@ -43,31 +42,30 @@ impl<A: Ledger, B: Ledger, C: Ledger> Outlet<A, B, C> {
             let Some(id) = book.live_id(place) else {
                 break;
             };
-            announce_on(&mut book, told, writer, id);
+            announce_on(&mut book, told, writing, id);
         }
-        announce_on(&mut book, told, writer, 0);
+        announce_on(&mut book, told, writing, 0);
     }
 }
 
 /// Has the writer owe the peer what credit is due on a stream, or on the connection where it is 0.
-fn announce_on<A, B, C, L, W>(
+fn announce_on<A, B, C, W>(
     book: &mut ConnBook<A, B, C>,
     told: &mut Share<C>,
-    writer: &mut ConnWriter<L, W>,
+    writing: &mut SlotWriter<W>,
     id: StreamId,
 )
 where
     A: Ledger,
     B: Ledger,
     C: Ledger,
-    L: Lane<Item = OutItem>,
-    W: ConnWrite,
+    W: ConnWrite + Drop,
     requires some { 0 < told.old.parts }
     ensures parts { told.new.parts ≡ told.old.parts }
-    ensures runs { RunsOn L.got W.contents W.failed writer.old writer.new }
+    ensures leads { LeadsOn W.contents W.failed writing.old writing.new }
 {
     let increment = book.announce(id, told);
     if increment > 0 {
-        writer.grant(id, increment);
+        writing.grant(id, increment);
     }
 }

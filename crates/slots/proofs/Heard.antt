@@ -19,11 +19,11 @@ use Rattle.slots.specs.Concerns.{IsIdle}
 pub idle-open : (id : ℕ) (head : CallHead) (fate : Fate) → admitted_by (Told (events.Open id head) fate) ≡ None → IsIdle (Told (events.Open id head) fate)
 idle-open id head fate none = record { admits = none; shuts = λ other. refl; feeds = λ other. refl }
 
-pub idle-loose : (counted : ℕ) → IsIdle (Told (events.Loose counted) Plain)
-idle-loose counted = record { admits = refl; shuts = λ other. refl; feeds = λ other. refl }
+pub idle-loose : (counted : ℕ) (fate : Fate) → IsIdle (Told (events.Loose counted) fate)
+idle-loose counted fate = record { admits = refl; shuts = λ other. refl; feeds = λ other. refl }
 
-pub idle-head : (id : ℕ) (fault : HeadFault) → IsIdle (Told (events.BadHead id fault) Plain)
-idle-head id fault = record { admits = refl; shuts = λ other. refl; feeds = λ other. refl }
+pub idle-head : (id : ℕ) (fault : HeadFault) (fate : Fate) → IsIdle (Told (events.BadHead id fault) fate)
+idle-head id fault fate = record { admits = refl; shuts = λ other. refl; feeds = λ other. refl }
 
 pub idle-control : (control : Control) → IsIdle (Told (events.Control control) Plain)
 idle-control control = record { admits = refl; shuts = λ other. refl; feeds = λ other. refl }

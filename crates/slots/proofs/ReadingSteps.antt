@@ -14,7 +14,10 @@ use Rattle.connbook.specs.declared.answers.Receipt.TheVariants.{Feed, Discard, C
 use Rattle.h2frame.specs.declared.error_code.ErrorCode.{ErrorCode}
 use Rattle.outwriter.specs.declared.control.Control.{Control}
 use Rattle.outwriter.specs.Steps.{Order, order_of}
+use Rattle.session.specs.declared.event.InEvent.{InEvent}
 use Rattle.session.specs.declared.event.InEvent.TheVariants as events
+use Rattle.h2frame.specs.declared.error_code.ErrorCode.TheVariants.{EnhanceYourCalm}
+use Rattle.outwriter.specs.declared.control.Control.TheVariants.{Reset}
 use Rattle.slots.specs.declared.half.Half.{Half}
 use Rattle.slots.specs.declared.half.Half.TheVariants.{Open, Shut as Closed, Moving}
 use Rattle.slots.specs.declared.reading.Cut.{Cut}
@@ -26,11 +29,11 @@ use Rattle.slots.specs.declared.worker.Worker.{Ghosts}
 use Rattle.slots.specs.Calls.{is_admitted}
 use Rattle.slots.specs.Concerns.{Concerns, IsIdle}
 use Rattle.slots.specs.Halves.{is_open, shown}
-use Rattle.slots.specs.Orders.{begun, begun_at, ends_at, greatest, is_fed, last_stream, most_streams, orders_at}
-use Rattle.slots.specs.Readings.{Awaits, Begins, Counts, Decides, DecidesOn, Reads, ReadsOn, Stands, Stays, order_in, orders_in}
+use Rattle.slots.specs.Orders.{begun, begun_at, came_loose, cut_code, ends_at, greatest, is_fed, last_stream, most_streams, orders_at}
+use Rattle.slots.specs.Readings.{Awaits, Begins, Counts, Decides, DecidesOn, Reads, ReadsOn, Stands, Stays, order_in, orders_in, unless_ended}
 use Rattle.slots.specs.Seats.{Hears, IsSeat, Keeps, Kept, feeds}
-use Rattle.slots.specs.Steps.{Step, shut_at, shut_by, since}
-use Rattle.slots.proofs.SlotSteps.{kept-idle}
+use Rattle.slots.specs.Steps.{Cause, CutOff, Fate, Lacking, Received, Step, Told, shut_at, shut_by, since}
+use Rattle.slots.proofs.SlotSteps.{kept-idle, kept-none}
 use Rattle.slots.proofs.Unfed.{unfed-shut}
 
 -- ---- whether more may be fed
@@ -173,3 +176,90 @@ module _ {H : Type 0} {hand : Ghosts H} {names : List ℕ → ℕ → Type 0} wh
         slots = subst (λ (slots : Slots H hand). Kept names (step ∷ told) slots) (sym same) begins.slots;
         counts = subst (λ (ids : List ℕ). Counts ids new) (sym begins.begins) count.0;
       })
+
+-- ---- more of them
+
+module _ {H : Type 0} {hand : Ghosts H} {names : List ℕ → ℕ → Type 0} where
+  -- there was no memory, or there was
+  pub lacks-as : (event : InEvent) (fate : Fate) (decided : Decided) (ending : Ending) (old new : Reading H hand) → decided.ends ≡ Some ending
+      → DecidesOn names (Told event Lacking) decided old new → DecidesOn names (Told event (unless_ended decided.ends fate)) decided old new
+  lacks-as event fate decided ending old new is decides told reads =
+      subst (λ (end : Option Ending). Decides names told (Told event (unless_ended end fate)) decided new) (sym is) (decides told reads)
+
+  pub plain-as : (event : InEvent) (fate : Fate) (decided : Decided) (old new : Reading H hand) → decided.ends ≡ None
+      → DecidesOn names (Told event fate) decided old new → DecidesOn names (Told event (unless_ended decided.ends fate)) decided old new
+  plain-as event fate decided old new is decides told reads =
+      subst (λ (end : Option Ending). Decides names told (Told event (unless_ended end fate)) decided new) (sym is) (decides told reads)
+
+  -- a step that concerns a call to which no more may be fed
+  pub reads-unfed : (told : List Step) (step : Step) (id : ℕ) (reading : Reading H hand) → begun_at step ≡ [] → position (λ (seat : Seat H hand). feeds id seat) reading.slots.seats.items ≡ None
+      → Concerns id step → Reads names told reading → Reads names (step ∷ told) reading
+  reads-unfed told step id reading none unfed concerns reads = record {
+    slots = kept-none told step reading.slots id unfed concerns reads.slots;
+    counts = counts-step step told reading none reads.counts;
+  }
+
+-- one order, or none
+pub one-order : (decided : Decided) (order : Control Opened) → decided.first ≡ None → decided.second ≡ Some order → orders_in decided ≡ order_of order ∷ []
+one-order decided order none some = ap (λ (found : Option (Control Opened)). order_in found ++ order_in decided.second) none ∙ ap (λ (found : Option (Control Opened)). order_in found) some
+
+pub no-order : (decided : Decided) → decided.first ≡ None → decided.second ≡ None → orders_in decided ≡ []
+no-order decided none nothing = ap (λ (found : Option (Control Opened)). order_in found ++ order_in decided.second) none ∙ ap (λ (found : Option (Control Opened)). order_in found) nothing
+
+pub not-some : {A : Type 0} (found : Option A) → is_some found ≡ false → found ≡ None
+not-some None is = refl
+not-some (Some x) is = absurd cc
+
+pub untaken-fed : (id byte : ℕ) (bytes : List ℕ) (before : List Step) (counted : ℕ) (b : Bool) → is_fed id before ≡ b
+    → orders_at before (Told (events.Data id (byte ∷ bytes) counted) (Received Discard)) ≡ (if b then Reset id EnhanceYourCalm true ∷ [] else [])
+untaken-fed id byte bytes before counted b is = ap (λ (fed : Bool). if fed then Reset id EnhanceYourCalm true ∷ [] else []) is
+
+pub discard-fed : (id counted : ℕ) (piece : List ℕ) (before : List Step) → piece ≢ [] → is_fed id before ≡ true
+    → orders_at before (Told (events.Data id piece counted) (Received Discard)) ≡ Reset id EnhanceYourCalm true ∷ []
+discard-fed id counted [] before some fed = absurd (some refl)
+discard-fed id counted (byte ∷ bytes) before some fed = untaken-fed id byte bytes before counted true fed
+
+pub discard-unfed : (id counted : ℕ) (piece : List ℕ) (before : List Step) → is_fed id before ≡ false → orders_at before (Told (events.Data id piece counted) (Received Discard)) ≡ []
+discard-unfed id counted [] before unfed = refl
+discard-unfed id counted (byte ∷ bytes) before unfed = untaken-fed id byte bytes before counted false unfed
+
+pub cut-fed : (id : ℕ) (why : Cause) (code : ErrorCode) (before : List Step) → cut_code why ≡ code → is_fed id before ≡ true → orders_at before (CutOff id why) ≡ Reset id code true ∷ []
+cut-fed id why code before is fed =
+    ap (λ (b : Bool). if b then Reset id (cut_code why) true ∷ [] else []) fed ∙ ap (λ (c : ErrorCode). Reset id c true ∷ []) is
+
+pub cut-unfed : (id : ℕ) (why : Cause) (before : List Step) → is_fed id before ≡ false → orders_at before (CutOff id why) ≡ []
+cut-unfed id why before unfed = ap (λ (b : Bool). if b then Reset id (cut_code why) true ∷ [] else []) unfed
+
+pub loose-none : (last : ℕ) (receipt : Receipt) → receipt ≢ Overrun → came_loose last (Received receipt) ≡ []
+loose-none last Feed not = refl
+loose-none last Discard not = refl
+loose-none last CallWindow not = refl
+loose-none last Overrun not = absurd (not refl)
+
+pub loose-calm : (counted : ℕ) (receipt : Receipt) → receipt ≢ Overrun → ends_at (Told (events.Loose counted) (Received receipt)) ≡ None
+loose-calm counted Feed not = refl
+loose-calm counted Discard not = refl
+loose-calm counted CallWindow not = refl
+loose-calm counted Overrun not = absurd (not refl)
+
+pub discard-empty : (id counted : ℕ) (piece : List ℕ) (before : List Step) → piece ≡ [] → orders_at before (Told (events.Data id piece counted) (Received Discard)) ≡ []
+discard-empty id counted [] before none = refl
+discard-empty id counted (byte ∷ bytes) before none = absurd cc
+
+some-number : (found : Option ℕ) → is_some found ≡ true → (n : ℕ) × (found ≡ Some n)
+some-number None is = absurd cc
+some-number (Some n) is = (n, refl)
+
+module _ {H : Type 0} {hand : Ghosts H} {names : List ℕ → ℕ → Type 0} where
+  pub fed-is : (told : List Step) (id : ℕ) (slots : Slots H hand) → Kept names told slots
+      → is_some (position (λ (seat : Seat H hand). feeds id seat) slots.seats.items) ≡ true → is_fed id told ≡ true
+  fed-is told id slots kept is = among slots.seats.items refl is
+    where
+      among : (seats : List (Seat H hand)) → slots.seats.items ≡ seats → is_some (position (λ (seat : Seat H hand). feeds id seat) seats) ≡ true → is_fed id told ≡ true
+      among [] same some = absurd cc
+      among (seat ∷ seats) same some =
+          let at = some-number (position (λ (s : Seat H hand). feeds id s) (seat ∷ seats)) some in
+          fed-some told id at.0 seat slots kept (ap (λ (all : List (Seat H hand)). position (λ (s : Seat H hand). feeds id s) all) same ∙ at.1)
+
+  pub as-step : (told : List Step) (step other : Step) (decided : Decided) (reading : Reading H hand) → other ≡ step → Decides names told step decided reading → Decides names told other decided reading
+  as-step told step other decided reading is decides = subst (λ (s : Step). Decides names told s decided reading) (sym is) decides

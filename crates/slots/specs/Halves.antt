@@ -1,15 +1,9 @@
 -- The client's half of a call, as its slot has it, and as it is by what was heard.
 use Rattle.std.specs.Prelude.{◌≡◌, ◌≢◌, ℕ, Bool, true, false, List, [], ◌∷◌, ◌++◌, Option, Some, None, All}
 use Rattle.account.specs.declared.call.Shut.{Shut}
-use Rattle.callbox.specs.declared.feeder.Feeder.{Feeder}
-use Rattle.callbox.specs.declared.feeder.FedShut.{FedShut}
 use Rattle.callbox.specs.declared.piece.InPiece.{InPiece}
 use Rattle.callbox.specs.declared.piece.InPiece.TheVariants as in_piece
 use Rattle.callbox.specs.InSides.{bytes_of, pieces_of}
-use Rattle.lane.specs.declared.ring_lane.RingLane.{RingLane}
-use Rattle.lane.specs.declared.ring_lane.RingLaneIn.{RingLaneIn}
-use Rattle.lane.specs.declared.ring_lane.RingLaneOut.{RingLaneOut}
-use Rattle.lane.specs.declared.ring_lane.RingLaneShut.{RingLaneShut}
 use Rattle.lane.specs.RingLane.{LaneName, in_name, past_in, past_shut, put_in, put_shut, ring_of, shut_name}
 use Rattle.slots.specs.declared.half.Half.{Half}
 use Rattle.slots.specs.declared.half.Half.TheVariants.{Open, Shut as Closed, Moving}
@@ -22,12 +16,6 @@ pub record Shown : Type 0 where
   pub there : Bool
   pub items : List InPiece
   pub shut : Option Shut
-
-abbrev pub SlotFeeder : Type 0
-SlotFeeder = Feeder (RingLane InPiece) (RingLaneIn InPiece) (RingLaneOut InPiece) (RingLaneShut InPiece)
-
-abbrev pub SlotShut : Type 0
-SlotShut = FedShut (RingLane InPiece) (RingLaneIn InPiece) (RingLaneOut InPiece) (RingLaneShut InPiece)
 
 abbrev pub shown : Half → Shown
 shown (Open feeder) = record { there = true; items = put_in feeder.tx; shut = None }

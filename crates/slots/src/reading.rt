@@ -9,18 +9,20 @@
 
 ghost use Rattle.std.specs.Prelude.{◌≡◌, ◌<◌, ℕ, List, [], ◌∷◌, ◌++◌, Option, None, Some, IfErr, IfOk, IfSome, OnErr, OnOk, vec_capacity, vec_len};
 ghost use Rattle.callhead.specs.declared.head.CallHead.{CallHead as Head};
+ghost use Rattle.callhead.specs.StatusFields.{refusal_of, unknown_method as unknown_fields};
 ghost use Rattle.callslot.specs.declared.report.Ending.TheVariants as ending;
 ghost use Rattle.h2frame.specs.declared.error_code.ErrorCode.TheVariants.{InternalError};
 ghost use Rattle.h2frame.specs.ErrorCode.{error_number};
 ghost use Rattle.account.specs.declared.call.Shut.TheVariants as shut;
+ghost use Rattle.connbook.specs.declared.answers.Receipt.TheVariants.{Feed, Discard};
 ghost use Rattle.outwriter.specs.Steps.{order_of};
 ghost use Rattle.outwriter.specs.declared.control.Control.TheVariants as orders;
 ghost use Rattle.session.specs.declared.event.InEvent.TheVariants as events;
-ghost use Rattle.slots.specs.Orders.{begun, ends_at, greatest, last_stream, news_of, orders_at, orders_by};
+ghost use Rattle.slots.specs.Orders.{begun, ends_at, cut_code, greatest, last_stream, news_of, orders_at, without_head};
 ghost use Rattle.slots.specs.Readings.{Awaits, Begins, Counts, Decides, DecidesOn, Reads, ReadsOn, Stays, fate_of, order_in, unless_ended};
 ghost use Rattle.slots.specs.Reports.{AreRows};
 ghost use Rattle.slots.specs.Seats.{IsSeat, jobs_of};
-ghost use Rattle.slots.specs.Steps.{Admitted, AtEnd, CutOff, Lacking, NotLive, Plain, Received, Step, Told, TurnedAway, Unknown, admitted};
+ghost use Rattle.slots.specs.Steps.{Admitted, AtEnd, Cause, CutOff, Lacking, NotLive, Plain, Received, Step, Told, TurnedAway, Unknown, admitted};
 
 use crate::seat::Seat;
 use crate::slots::Slots;
@@ -160,10 +162,10 @@ impl<H: Worker> Reading<H> {
         ensures { (head : Head) → DecidesOn H.names
             (Told (events.Open id head) (unless_ended result.ends Unknown)) result self.old self.new }
     {
-        let Ok(fields) = unknown_method(self.alloc) else {
-            return self.lack(id);
-        };
-        self.begin(id, Control::Refuse(id, Sequence::from(fields)))
+        match unknown(self.alloc, id) {
+            Ok(order) => self.begin(id, order),
+            Err(AllocError) => self.lack(id),
+        }
     }
 
     /// The lock didn't admit a call. Want of memory ends the connection.
@@ -171,13 +173,13 @@ impl<H: Worker> Reading<H> {
         ensures { (head : Head) → DecidesOn H.names
             (Told (events.Open id head) (TurnedAway fault)) result self.old self.new }
     {
+        let code = ErrorCode::RefusedStream;
+        let written = true;
         match fault {
-            AdmitFault::TooMany | AdmitFault::Draining => {
-                let code = ErrorCode::RefusedStream;
-                let written = true;
-                self.begin(id, Control::Reset { id, code, written })
-            }
-            AdmitFault::NotNew | AdmitFault::OutOfMemory => self.lack(id),
+            AdmitFault::TooMany => self.begin(id, Control::Reset { id, code, written }),
+            AdmitFault::Draining => self.begin(id, Control::Reset { id, code, written }),
+            AdmitFault::NotNew => self.end_at(id),
+            AdmitFault::OutOfMemory => self.end_at(id),
         }
     }
 
@@ -223,21 +225,16 @@ impl<H: Worker> Reading<H> {
         ensures { DecidesOn H.names
             (Told (events.BadHead id fault) (unless_ended result.ends Plain)) result self.old self.new }
     {
-        let refusal = fault.refusal(self.alloc);
-        match refusal {
-            Ok(Some(fields)) => self.begin(id, Control::Refuse(id, Sequence::from(fields))),
-            Ok(None) => {
-                let code = ErrorCode::ProtocolError;
-                let written = true;
-                self.begin(id, Control::Reset { id, code, written })
-            }
-            Err(AllocError) => self.lack(id),
+        match without_head(self.alloc, id, fault) {
+            Ok(order) => self.begin(id, order),
+            Err(AllocError) => self.end_at(id),
         }
     }
 
     /// A stream begins, and this is ordered.
     fn begin(&mut self, id: StreamId, order: Order) -> Decided
-        ensures { (told : List Step) (step : Step) → Begins H.names told step id self.old → ends_at step ≡ None
+        ensures ends { result.ends ≡ None }
+        ensures decides { (told : List Step) (step : Step) → Begins H.names told step id self.old → ends_at step ≡ None
             → orders_at told step ≡ last_stream id (begun told) ++ order_of order ∷ []
             → Decides H.names told step result self.new }
     {
@@ -248,14 +245,21 @@ impl<H: Worker> Reading<H> {
         }
     }
 
-    /// A stream begins, and there is no memory, or no thread, for what that leads to: the connection ends.
+    /// A stream begins for which there is no memory, or no thread: the connection ends.
     pub fn lack(&mut self, id: StreamId) -> Decided
+        ensures memory { result.ends ≡ Some ending.OutOfMemory }
+        ensures lacking { (head : Head) → DecidesOn H.names (Told (events.Open id head) Lacking) result self.old self.new }
+    {
+        self.end_at(id)
+    }
+
+    /// A stream begins, with which the connection ends.
+    fn end_at(&mut self, id: StreamId) -> Decided
+        ensures memory { result.ends ≡ Some ending.OutOfMemory }
         ensures ends { (told : List Step) (step : Step) → Begins H.names told step id self.old
             → ends_at step ≡ Some ending.OutOfMemory
             → orders_at told step ≡ last_stream id (begun told) ++ orders.Goaway (greatest (id ∷ begun told)) InternalError ∷ []
             → Decides H.names told step result self.new }
-        ensures lacking { (head : Head) → DecidesOn H.names (Told (events.Open id head) Lacking) result self.old self.new }
-        ensures memory { result.ends ≡ Some ending.OutOfMemory }
     {
         let first = self.count(id);
         Decided {
@@ -273,7 +277,7 @@ impl<H: Worker> Reading<H> {
             → Counts (id ∷ ids) self.new × (order_in result ≡ last_stream id ids) }
     {
         self.last = self.last.max(id);
-        if self.begun == STREAMS {
+        if self.begun >= STREAMS {
             return None;
         }
         self.begun += 1;
@@ -329,7 +333,10 @@ impl<H: Worker> Reading<H> {
         ensures { (counted : ℕ) → DecidesOn H.names
             (Told (events.Data id piece.now counted) (Received Discard)) result self.now self.now }
     {
-        if piece.is_empty() || !self.slots.is_fed(id) {
+        if piece.is_empty() {
+            return Decided::nothing();
+        }
+        if !self.slots.is_fed(id) {
             return Decided::nothing();
         }
         Decided::reset(id, ErrorCode::EnhanceYourCalm, true, ErrorCode::Cancel)
@@ -342,7 +349,7 @@ impl<H: Worker> Reading<H> {
     {
         match receipt {
             Receipt::Overrun => self.fatal(ErrorCode::FlowControlError),
-            Receipt::Feed | Receipt::Discard | Receipt::CallWindow => Decided::nothing(),
+            _ => Decided::nothing(),
         }
     }
 
@@ -369,7 +376,8 @@ impl<H: Worker> Reading<H> {
 
     /// The half of a call is shut, as was decided.
     pub fn shut(&mut self, cut: Cut)
-        ensures { (told : List Step) (step : Step) → Awaits H.names told step cut self.old → Reads H.names (step ∷ told) self.new }
+        ensures heard { (told : List Step) (step : Step) → Awaits H.names told step cut self.old
+            → Reads H.names (step ∷ told) self.new }
         ensures last { self.new.slots.last ≡ self.old.slots.last }
     {
         self.slots.shut(cut.id, cut.kind);
@@ -381,11 +389,7 @@ impl<H: Worker> Reading<H> {
     pub fn pass_on(&self, news: PeerControl) -> Decided
         ensures { DecidesOn H.names (Told (events.Control news) Plain) result self.now self.now }
     {
-        Decided::order(match news {
-            PeerControl::Settings(settings) => Control::Settings(settings),
-            PeerControl::Ping(bytes) => Control::Ping(bytes),
-            PeerControl::Window(id, increment) => Control::Window(id, increment),
-        })
+        Decided::order(order_of_news(news))
     }
 
     /// The peer opens no more streams.
@@ -435,8 +439,7 @@ impl<H: Worker> Reading<H> {
         ensures { IfSome result (λ decided. (id : ℕ) × DecidesOn H.names (CutOff id AtEnd) decided self.now self.now) }
     {
         let id = self.slots.fed(place)?;
-        let code = ErrorCode::Cancel;
-        Some(Decided::reset(id, code, true, code))
+        Some(self.cut_call(id, ErrorCode::Cancel))
     }
 
     /// The stream of a slot's call whose client neither ended nor reset it, once the call's worker has answered it: where the call is no
@@ -450,21 +453,27 @@ impl<H: Worker> Reading<H> {
     pub fn abandon(&self, id: StreamId, has_trailers: bool) -> Decided
         ensures { DecidesOn H.names (CutOff id (NotLive has_trailers)) result self.now self.now }
     {
-        if !self.slots.is_fed(id) {
-            return Decided {
-                cut: Some(Cut {
-                    id,
-                    kind: Shut::Reset(ErrorCode::Cancel.code()),
-                }),
-                ..Decided::nothing()
-            };
-        }
         let code = if has_trailers {
             ErrorCode::FlowControlError
         } else {
             ErrorCode::InternalError
         };
-        Decided::reset(id, code, true, ErrorCode::Cancel)
+        self.cut_call(id, code)
+    }
+
+    /// A call hears no more of its client: its stream is reset with this code, where more could be fed to it.
+    fn cut_call(&self, id: StreamId, code: ErrorCode) -> Decided
+        ensures { (why : Cause) → cut_code why ≡ code → DecidesOn H.names (CutOff id why) result self.now self.now }
+    {
+        let kind = ErrorCode::Cancel;
+        if self.slots.is_fed(id) {
+            return Decided::reset(id, code, true, kind);
+        }
+        let kind = Shut::Reset(kind.code());
+        Decided {
+            cut: Some(Cut { id, kind }),
+            ..Decided::nothing()
+        }
     }
 
     // ---- the end
@@ -491,4 +500,35 @@ impl<H: Worker> Reading<H> {
     {
         self.slots.end()
     }
+}
+
+/// What the peer tells the writing side, as an order.
+fn order_of_news(news: PeerControl) -> Order
+    ensures { order_of result ≡ news_of news }
+{
+    match news {
+        PeerControl::Settings(settings) => Control::Settings(settings),
+        PeerControl::Ping(bytes) => Control::Ping(bytes),
+        PeerControl::Window(id, increment) => Control::Window(id, increment),
+    }
+}
+
+/// How a call is refused whose path no method has.
+fn unknown(alloc: Global, id: StreamId) -> Result<Order, AllocError>
+    ensures { IfOk result (λ order. order_of order ≡ orders.Refuse id unknown_fields) }
+{
+    let fields = unknown_method(alloc)?;
+    Ok(Control::Refuse(id, Sequence::from(fields)))
+}
+
+/// How a stream is answered that begins without the head of a call.
+fn without_head(alloc: Global, id: StreamId, fault: HeadFault) -> Result<Order, AllocError>
+    ensures { IfOk result (λ order. order_of order ≡ without_head id (refusal_of fault)) }
+{
+    if let Some(fields) = fault.refusal(alloc)? {
+        return Ok(Control::Refuse(id, Sequence::from(fields)));
+    }
+    let code = ErrorCode::ProtocolError;
+    let written = true;
+    Ok(Control::Reset { id, code, written })
 }

@@ -1,6 +1,6 @@
 use Rattle.std.proofs.Common.{◌<◌}
-use Rattle.connection.specs.Written.{RunsOn}
+use Rattle.slotwriter.specs.Written.{LeadsOn}
 use Rattle.connection.proofs.outlet.Outlet.announce.Given as goal
 
 abbrev pub invariant-calls : goal.invariant-calls
-invariant-calls g l = (0 < l.told.parts) × RunsOn g.L.Lane.got g.W.ConnWrite.contents g.W.ConnWrite.failed l.fn.writer l.writer
+invariant-calls g l = (0 < l.told.parts) × LeadsOn g.W.ConnWrite.contents g.W.ConnWrite.failed l.fn.writing l.writing

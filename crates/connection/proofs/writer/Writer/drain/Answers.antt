@@ -1,10 +1,8 @@
-use Rattle.std.proofs.Common.{refl}
-use Rattle.lane.specs.RingLane.{got}
-use Rattle.connection.proofs.WrittenSteps.{leads-still, leads-then}
+use Rattle.slotwriter.proofs.WrittenSteps.{leads-here, leads-then}
 use Rattle.connection.proofs.writer.Writer.drain.Goals as goal
 
 pub orders-init : goal.orders-init
-orders-init g c = leads-still got g.W.ConnWrite.contents g.W.ConnWrite.failed _ _ _ _ refl (λ lost orders before runs. runs)
+orders-init g c = leads-here g.W.ConnWrite.contents g.W.ConnWrite.failed c.args.self.now.writing
 
 pub orders-preserved : goal.orders-preserved
-orders-preserved g c = leads-then got g.W.ConnWrite.contents g.W.ConnWrite.failed _ _ _ _ _ _ c.orders.invariant c.take_next.ensures.runs
+orders-preserved g c = leads-then g.W.ConnWrite.contents g.W.ConnWrite.failed _ _ _ c.orders.invariant c.take_next.ensures.leads

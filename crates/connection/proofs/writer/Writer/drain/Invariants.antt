@@ -1,6 +1,5 @@
-use Rattle.lane.specs.RingLane.{got}
-use Rattle.connection.specs.Written.{LeadsOn}
+use Rattle.slotwriter.specs.Written.{LeadsOn}
 use Rattle.connection.proofs.writer.Writer.drain.Given as goal
 
 abbrev pub invariant-orders : goal.invariant-orders
-invariant-orders g l = LeadsOn got g.W.ConnWrite.contents g.W.ConnWrite.failed l.fn.self.orders l.fn.self.frames l.self.orders l.self.frames
+invariant-orders g l = LeadsOn g.W.ConnWrite.contents g.W.ConnWrite.failed l.fn.self.writing l.self.writing

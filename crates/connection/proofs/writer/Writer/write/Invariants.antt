@@ -1,6 +1,5 @@
-use Rattle.lane.specs.RingLane.{got}
-use Rattle.connection.specs.Written.{LeadsOn}
+use Rattle.slotwriter.specs.Written.{LeadsOn}
 use Rattle.connection.proofs.writer.Writer.write.Given as goal
 
 abbrev pub invariant-turns : goal.invariant-turns
-invariant-turns g l = LeadsOn got g.W.ConnWrite.contents g.W.ConnWrite.failed l.fn.self.orders l.fn.self.frames l.writer.orders l.writer.frames
+invariant-turns g l = LeadsOn g.W.ConnWrite.contents g.W.ConnWrite.failed l.fn.self.writing l.writer.writing

@@ -9,10 +9,10 @@ pub places-init : goal.places-init
 places-init g c = ((λ told kept. kept), refl, refl)
 
 pub engage_at-requires-clause-named : goal.engage_at-requires-clause-named
-engage_at-requires-clause-named g c κs within = subst (λ (j : Job). g.H.Worker.names j.head.path j.index) (sym c.places.invariant.2) c.requires.named
+engage_at-requires-clause-named g c = subst (λ (j : Job). g.H.Worker.names j.head.path j.index) (sym c.places.invariant.2) c.requires.named
 
 pub engage_at-requires-clause-above : goal.engage_at-requires-clause-above
-engage_at-requires-clause-above g c κs within = omega (arith, c.requires.above, c.places.invariant.1, ap (λ (j : Job). j.id) c.places.invariant.2)
+engage_at-requires-clause-above g c = omega (arith, c.requires.above, c.places.invariant.1, ap (λ (j : Job). j.id) c.places.invariant.2)
 
 pub returns-in-Ok-clause-heard : goal.returns-in-Ok-clause-heard
 returns-in-Ok-clause-heard g c = λ told kept.

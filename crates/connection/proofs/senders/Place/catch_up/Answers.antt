@@ -1,5 +1,0 @@
-use Rattle.connection.proofs.SentPlaces.{rest-same}
-use Rattle.connection.proofs.senders.Place.catch_up.Goals as goal
-
-pub returns-then-not-is_behind-clause-rest : goal.returns-then-not-is_behind-clause-rest
-returns-then-not-is_behind-clause-rest c = rest-same c.args.self.now.sender

@@ -1,5 +1,0 @@
-use Rattle.connection.specs.Sent.{KeepsOn}
-use Rattle.connection.proofs.senders.Senders.catch_up.Given as goal
-
-abbrev pub invariant-loop-number : goal.invariant-loop-number
-invariant-loop-number l = KeepsOn l.fn.self.places.items l.self.places.items

@@ -1,0 +1,28 @@
+use Rattle.std.proofs.Common.{◌∙◌, Some, refl, sym}
+use Rattle.account.specs.declared.call.Shut.TheVariants as shut
+use Rattle.h2frame.specs.ErrorCode.{error_number}
+use Rattle.h2frame.specs.declared.error_code.ErrorCode.TheVariants.{Cancel}
+use Rattle.slots.specs.declared.reading.Cut.{Cut}
+use Rattle.slots.specs.declared.reading.Decided.{Decided}
+use Rattle.slots.specs.Steps.{CutOff}
+use Rattle.slots.proofs.ReadingSteps.{awaits-cut, cut-fed, cut-unfed, decides-cut, fed-is, fed-none, no-order, not-some, one-order}
+use Rattle.slots.proofs.StepLemmas.{concerns-cut, shuts-cut}
+use Rattle.slots.proofs.reading.Reading.cut_call.Goals as goal
+
+pub returns-then-is_fed : goal.returns-then-is_fed
+returns-then-is_fed g c = λ why is told reads.
+    let fed = fed-is told c.args.id c.args.self.now.slots reads.slots (sym c.is_fed.ensures ∙ c.if-is_fed.true) in
+    let cut : Cut = record { id = c.args.id; kind = shut.Reset (error_number Cancel) } in
+    decides-cut told (CutOff c.args.id why) c.reset.result cut c.args.self.now
+    (one-order c.reset.result _ c.reset.ensures.orders.0 c.reset.ensures.orders.1 ∙ sym (cut-fed c.args.id why c.args.code told is fed)) c.reset.ensures.ends c.reset.ensures.cut
+    (awaits-cut told _ cut c.args.self.now refl (concerns-cut c.args.id why) (shuts-cut c.args.id _ why refl) reads)
+
+pub returns : goal.returns
+returns g c = λ why is told reads.
+    let unfed = not-some _ (sym c.is_fed.ensures ∙ c.if-is_fed.false) in
+    let done = c.nothing.ensures in
+    let cut : Cut = record { id = c.args.id; kind = shut.Reset c.code.result } in
+    let decided : Decided = record c.nothing.result { cut = Some cut } in
+    decides-cut told (CutOff c.args.id why) decided cut c.args.self.now
+    (no-order decided done.0 done.1 ∙ sym (cut-unfed c.args.id why told (fed-none told c.args.id c.args.self.now.slots reads.slots unfed))) done.3 refl
+    (awaits-cut told _ cut c.args.self.now refl (concerns-cut c.args.id why) (shuts-cut c.args.id _ why c.code.ensures) reads)

@@ -1,0 +1,40 @@
+use Rattle.std.proofs.Common.{◌∙◌, refl, sym}
+use Rattle.account.specs.declared.call.Shut.TheVariants as shut
+use Rattle.connbook.specs.declared.answers.Receipt.TheVariants.{Discard}
+use Rattle.h2frame.specs.ErrorCode.{error_number}
+use Rattle.h2frame.specs.declared.error_code.ErrorCode.TheVariants.{Cancel}
+use Rattle.session.specs.declared.event.InEvent.TheVariants as events
+use Rattle.slots.specs.declared.reading.Cut.{Cut}
+use Rattle.slots.specs.Steps.{Received, Told}
+use Rattle.slots.proofs.ReadingSteps.{awaits-cut, decides-cut, decides-now, discard-empty, discard-fed, discard-unfed, fed-is, fed-none, no-order, not-some, one-order, reads-idle, reads-unfed}
+use Rattle.slots.proofs.StepLemmas.{concerns-data, empty-of, idle-discard, shuts-discard, some-of}
+use Rattle.slots.proofs.reading.Reading.discard.Goals as goal
+
+pub returns-then-is_empty : goal.returns-then-is_empty
+returns-then-is_empty g c = λ counted told reads.
+    let piece = c.args.piece.now in
+    let none = empty-of c.is_empty.result piece c.is_empty.ensures c.if-is_empty.true in
+    let done = c.nothing.ensures in
+    decides-now told (Told (events.Data c.args.id piece counted) (Received Discard)) c.nothing.result c.args.self.now
+    (no-order c.nothing.result done.0 done.1 ∙ sym (discard-empty c.args.id counted piece told none)) done.3 done.2
+    (reads-idle told _ _ refl (idle-discard c.args.id counted piece none) reads)
+
+pub returns-then-not-is_fed : goal.returns-then-not-is_fed
+returns-then-not-is_fed g c = λ counted told reads.
+    let piece = c.args.piece.now in
+    let unfed = not-some _ (sym c.is_fed.ensures ∙ c.if-not-is_fed.true) in
+    let done = c.nothing-then-not-is_fed.ensures in
+    decides-now told (Told (events.Data c.args.id piece counted) (Received Discard)) c.nothing-then-not-is_fed.result c.args.self.now
+    (no-order c.nothing-then-not-is_fed.result done.0 done.1 ∙ sym (discard-unfed c.args.id counted piece told (fed-none told c.args.id c.args.self.now.slots reads.slots unfed))) done.3 done.2
+    (reads-unfed told _ c.args.id c.args.self.now refl unfed (concerns-data c.args.id counted piece (Received Discard)) reads)
+
+pub returns : goal.returns
+returns g c = λ counted told reads.
+    let piece = c.args.piece.now in
+    let some = some-of c.is_empty.result piece c.is_empty.ensures c.if-is_empty.false in
+    let fed = fed-is told c.args.id c.args.self.now.slots reads.slots (sym c.is_fed.ensures ∙ c.if-not-is_fed.false) in
+    let step = Told (events.Data c.args.id piece counted) (Received Discard) in
+    let cut : Cut = record { id = c.args.id; kind = shut.Reset (error_number Cancel) } in
+    decides-cut told step c.reset.result cut c.args.self.now
+    (one-order c.reset.result _ c.reset.ensures.orders.0 c.reset.ensures.orders.1 ∙ sym (discard-fed c.args.id counted piece told some fed)) c.reset.ensures.ends c.reset.ensures.cut
+    (awaits-cut told step cut c.args.self.now refl (concerns-data c.args.id counted piece (Received Discard)) (shuts-discard c.args.id counted _ piece some refl) reads)

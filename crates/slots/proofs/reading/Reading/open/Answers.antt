@@ -1,0 +1,10 @@
+use Rattle.session.specs.declared.event.InEvent.TheVariants as events
+use Rattle.slots.specs.Steps.{Unknown}
+use Rattle.slots.proofs.ReadingSteps.{lacks-as}
+use Rattle.slots.proofs.reading.Reading.open.Goals as goal
+
+pub returns-then-id-self-clause-refused : goal.returns-then-id-self-clause-refused
+returns-then-id-self-clause-refused g c = lacks-as (events.Open c.args.id c.args.head) Unknown _ _ _ _ c.lack.ensures.memory (c.lack.ensures.lacking c.args.head)
+
+pub returns-in_default-clause-refused : goal.returns-in_default-clause-refused
+returns-in_default-clause-refused g c = c.refuse_unknown.ensures c.args.head

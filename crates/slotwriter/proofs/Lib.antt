@@ -1,0 +1,3 @@
+pub mod OrderSteps
+pub mod WrittenSteps
+pub mod SentPlaces

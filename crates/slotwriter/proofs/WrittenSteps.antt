@@ -1,0 +1,369 @@
+-- What each step of a connection's writer does to what it wrote.
+use Rattle.std.proofs.Common.{◌≡◌, ◌≢◌, ◌∙◌, ℕ, Bool, true, false, true≢false, List, [], ◌∷◌, ◌++◌, Option, None, Some, IfSome, ap, append-nil, sym, refl, map, subst}
+use Rattle.std.specs.Prelude.{Result, Ok, Err, OnOk, OnErr}
+use Rattle.account.specs.declared.call.OutItem.{OutItem}
+use Rattle.outwriter.specs.Calls.{TellOthers}
+use Rattle.outwriter.specs.Polls.{coming}
+use Rattle.outwriter.specs.declared.control.Control.{Control}
+use Rattle.outwriter.specs.declared.control.Control.TheVariants as control
+use Rattle.h2frame.specs.declared.error_code.ErrorCode.TheVariants.{InternalError}
+use Rattle.outwriter.specs.Steps.{Order, Step, Granted, Returned, Written, frames_of, order_of}
+use Rattle.connwriter.specs.declared.filled.Filled.{Filled}
+use Rattle.connwriter.specs.declared.filled.Filled.TheVariants.{Over, Stopped}
+use Rattle.connwriter.specs.declared.standing.Standing.{Standing}
+use Rattle.connwriter.specs.declared.standing.Standing.TheVariants as stands
+use Rattle.connwriter.specs.Spelled.{IsFront, IsWhole, IsAll}
+use Rattle.connwriter.specs.declared.taking.Taking.{Taking}
+use Rattle.connwriter.specs.Orders.{Blamed, parting, steps_of}
+use Rattle.connwriter.specs.Wrote.{Wrote, WritesOn, Fills}
+use Rattle.lane.specs.Ring.{out_name, taken}
+use Rattle.lane.specs.RingLane.{got, ahead}
+use Rattle.callslot.specs.declared.order.Opened.{Opened}
+use Rattle.callslot.specs.declared.report.Ending.{Ending}
+use Rattle.callslot.specs.declared.report.Ending.TheVariants as ending
+use Rattle.slotwriter.specs.declared.inbox.Inbox.{Inbox}
+use Rattle.slotwriter.specs.declared.slot_writer.SlotWriter.{SlotWriter}
+use Rattle.slotwriter.specs.Orders.{Gives, HasGiven, Keeps, Obeys, order_in, orders_of, loses_by}
+use Rattle.slotwriter.specs.Written.{FrameWriter, HasWritten, IsFlushed, Runs, Ends, RunsOn, RunsOut, StaysOn, Takes, PassesOver, Parts, Led, LedOut, LeadsOn, LeadsOut, Stays}
+use Rattle.slotwriter.proofs.OrderSteps.{all-given, given-all, given-next, obeys-closing, obeys-frames, obeys-granted, obeys-last-word, obeys-lost, obeys-more, obeys-parting, obeys-returned, obeys-taking}
+
+memory-going : stands.OutOfMemory ≢ stands.Going
+memory-going e = cc
+
+broken-going : stands.Broken ≢ stands.Going
+broken-going e = cc
+
+standing-of : {A : Type 0} (standing : Standing) → (standing ≡ stands.Going → A) → (standing ≡ stands.OutOfMemory → A) → (standing ≡ stands.Broken → A) → A
+standing-of stands.Going going memory broken = going refl
+standing-of stands.OutOfMemory going memory broken = memory refl
+standing-of stands.Broken going memory broken = broken refl
+
+unless-lost : {A : Type 0} (standing : Standing) (told : Option Ending) → (standing ≡ stands.OutOfMemory → told ≡ Some ending.OutOfMemory) → standing ≢ stands.Broken
+    → (standing ≡ stands.Going → A) → told ≢ Some ending.OutOfMemory → A
+unless-lost standing told memory sound on other = standing-of standing on (λ stood. absurd (other (memory stood))) (λ stood. absurd (sound stood))
+
+module _ {W : Type 0} (contents : W → Option (List ℕ)) (failed : W → Bool) where
+  -- ---- frames
+
+  -- frames are put into the buffer
+  pub fills-on : (filled : Option Filled) (old new : FrameWriter W) → Fills got (coming got ahead) contents failed filled old new → RunsOn contents failed old new
+  fills-on filled old new fills lost orders before runs =
+      let found = fills before runs.0 runs.1 in (map Written found.0 ++ runs.0, found.1, obeys-frames lost orders found.0 runs.0 runs.2)
+
+  over-filled : (old new : FrameWriter W) → Fills got (coming got ahead) contents failed (Some Over) old new → RunsOut contents failed old new
+  over-filled old new fills lost orders before runs =
+      let found = fills before runs.0 runs.1 in
+      let rest = found.2 in
+      (map Written found.0 ++ runs.0, found.1, obeys-frames lost orders found.0 runs.0 runs.2, λ going. record { closed = found.1.leads.closed ∙ rest.1; answered = rest.0.answered })
+
+  stopped-filled : (old new : FrameWriter W) → Fills got (coming got ahead) contents failed (Some Stopped) old new → RunsOut contents failed old new
+  stopped-filled old new fills lost orders before runs =
+      let found = fills before runs.0 runs.1 in (map Written found.0 ++ runs.0, found.1, obeys-frames lost orders found.0 runs.0 runs.2, λ going. absurd (found.2 going))
+
+  -- so many that nothing is left to be written
+  pub fills-over : (filled : Filled) (old new : FrameWriter W) → Fills got (coming got ahead) contents failed (Some filled) old new → filled ≡ Over → RunsOut contents failed old new
+  fills-over filled old new fills over = over-filled old new (subst (λ (found : Filled). Fills got (coming got ahead) contents failed (Some found) old new) over fills)
+
+  -- the writer makes no more
+  pub fills-stopped : (filled : Filled) (old new : FrameWriter W) → Fills got (coming got ahead) contents failed (Some filled) old new → filled ≡ Stopped
+      → RunsOut contents failed old new
+  fills-stopped filled old new fills stopped =
+      stopped-filled old new (subst (λ (found : Filled). Fills got (coming got ahead) contents failed (Some found) old new) stopped fills)
+
+  -- credit is owed
+  pub grants-on : (id n : ℕ) (old new : FrameWriter W) → WritesOn got contents failed (Granted id n ∷ []) old new → RunsOn contents failed old new
+  grants-on id n old new on lost orders before runs = (Granted id n ∷ runs.0, on before runs.0 runs.1, obeys-granted lost orders id n runs.0 runs.2)
+
+  -- no step, of a writer that stands as it did
+  pub still-on : (lost : Bool) (old new : FrameWriter W) → WritesOn got contents failed [] old new → (new.standing ≡ stands.Going → old.standing ≡ stands.Going)
+      → StaysOn contents failed lost lost old new
+  still-on lost old new on still = record {
+    runs = λ orders before runs. (runs.0, on before runs.0 runs.1, runs.2);
+    ends = λ orders before ends. (ends.0, on before ends.0 ends.1, ends.2, λ going. ends.3 (still going));
+  }
+
+  -- the buffer is written, or that failed
+  pub flushes-on : {A E : Type 0} (lost : Bool) (result : Result A E) (old new : FrameWriter W) → WritesOn got contents failed [] old new → OnOk result (new.standing ≡ old.standing)
+      → OnErr result (new.standing ≡ stands.Broken) → StaysOn contents failed lost lost old new
+  flushes-on lost (Ok one) old new on stands broken = still-on lost old new on (λ going. sym stands ∙ going)
+  flushes-on lost (Err fault) old new on stands broken = still-on lost old new on (λ going. absurd (broken-going (sym broken ∙ going)))
+
+  -- a sender is given back
+  pub returns-on : (lost : Bool) (id : ℕ) (items : List OutItem) (old new : FrameWriter W) → WritesOn got contents failed (Returned id items ∷ []) old new
+      → new.standing ≡ old.standing → StaysOn contents failed lost lost old new
+  returns-on lost id items old new on still = record {
+    runs = λ orders before runs. (Returned id items ∷ runs.0, on before runs.0 runs.1, obeys-returned lost orders id items runs.0 runs.2);
+    ends = λ orders before ends. (
+      Returned id items ∷ ends.0,
+      on before ends.0 ends.1,
+      obeys-returned lost orders id items ends.0 ends.2,
+      λ going. let over = ends.3 (sym still ∙ going) in record { closed = over.closed; answered = over.answered },
+    );
+  }
+
+  -- the last word of a core
+  pub parts-on : (last : ℕ) (lost : Bool) (old new : FrameWriter W) → WritesOn got contents failed (parting last true) old new → old.standing ≡ stands.OutOfMemory
+      → new.standing ≡ old.standing → StaysOn contents failed lost true old new
+  parts-on last lost old new on memory still = record {
+    runs = λ orders before runs. (parting last true ++ runs.0, on before runs.0 runs.1, obeys-last-word last lost orders runs.0 runs.2);
+    ends = λ orders before ends. (
+      parting last true ++ ends.0,
+      on before ends.0 ends.1,
+      obeys-last-word last lost orders ends.0 ends.2,
+      λ going. absurd (memory-going (sym memory ∙ (sym still ∙ going))),
+    );
+  }
+
+  -- ---- orders
+
+  -- the core was given an order, and none was lost before
+  pub given-on : {S : Type 0} (one : Control S) (last : ℕ) (taking : Taking S) (loses : Bool) (old new : FrameWriter W) → WritesOn got contents failed (steps_of (order_of one) last taking) old new
+      → ((before : Option (List ℕ)) (run : List Step) → Wrote got contents failed before run old → Blamed taking one run) → loses ≡ loses_by taking
+      → Takes contents failed (order_of one) loses old new
+  given-on one last taking loses old new on blamed lost orders before runs = (
+    steps_of (order_of one) last taking ++ runs.0,
+    on before runs.0 runs.1,
+    subst (λ (found : Bool). Obeys found (orders ++ order_of one ∷ []) (steps_of (order_of one) last taking ++ runs.0)) (sym lost)
+        (obeys-taking one last taking orders runs.0 (blamed before runs.0 runs.1) runs.2),
+  )
+
+  -- a GOAWAY of the writer's own
+  pub parting-on : {S : Type 0} (last : ℕ) (taking : Taking S) (old new : FrameWriter W) → WritesOn got contents failed (steps_of (control.Goaway last InternalError) last taking) old new
+      → ((before : Option (List ℕ)) (run : List Step) → Wrote got contents failed before run old → Blamed taking (control.Goaway last InternalError) run) → Parts contents failed old new
+  parting-on last taking old new on blamed orders before runs =
+      (steps_of (control.Goaway last InternalError) last taking ++ runs.0, on before runs.0 runs.1, obeys-parting last taking orders runs.0 (blamed before runs.0 runs.1) runs.2)
+
+  -- a Close where orders were lost
+  pub closing-on : {S : Type 0} (last : ℕ) (taking : Taking S) (old new : FrameWriter W) → WritesOn got contents failed (steps_of control.Close last taking) old new
+      → ((before : Option (List ℕ)) (run : List Step) → Wrote got contents failed before run old → Blamed taking control.Close run) → PassesOver contents failed control.Close old new
+  closing-on last taking old new on blamed orders before runs =
+      (steps_of control.Close last taking ++ runs.0, on before runs.0 runs.1, obeys-closing last taking orders runs.0 (blamed before runs.0 runs.1) runs.2)
+
+  -- another order there
+  pub passes-by : (order : Order) (old new : FrameWriter W) → new ≡ old → PassesOver contents failed order old new
+  passes-by order old new same orders before runs =
+      subst (λ (frames : FrameWriter W). Runs contents failed true (orders ++ order ∷ []) before frames) (sym same) (runs.0, runs.1, obeys-more orders (order ∷ []) runs.0 runs.2)
+
+  -- between writers that are these
+  pub takes-between : (order : Order) (loses : Bool) (one old mid new : FrameWriter W) → one ≡ old → new ≡ mid → Takes contents failed order loses one mid → Takes contents failed order loses old new
+  takes-between order loses one old mid new from to takes orders before runs =
+      subst (λ (frames : FrameWriter W). Runs contents failed loses (orders ++ order ∷ []) before frames) (sym to)
+      (takes orders before (subst (λ (frames : FrameWriter W). Runs contents failed false orders before frames) (sym from) runs))
+
+  -- ---- with the inbox
+
+  pub leads-then : (old mid new : SlotWriter W) → LeadsOn contents failed old mid → LeadsOn contents failed mid new → LeadsOn contents failed old new
+  leads-then old mid new first second = record { name = second.name ∙ first.name; on = λ before led. second.on before (first.on before led) }
+
+  pub leads-here : (writer : SlotWriter W) → LeadsOn contents failed writer writer
+  leads-here writer = record { name = refl; on = λ before led. led }
+
+  pub stays-then : (old mid new : SlotWriter W) → Stays contents failed old mid → Stays contents failed mid new → Stays contents failed old new
+  stays-then old mid new first second = record {
+    leads = leads-then old mid new first.leads second.leads;
+    out = λ before led. second.out before (first.out before led);
+  }
+
+  pub stays-here : (writer : SlotWriter W) → Stays contents failed writer writer
+  stays-here writer = record { leads = leads-here writer; out = λ before led. led }
+
+  pub out-then : (old mid out new : SlotWriter W) → LeadsOn contents failed old mid → LeadsOut contents failed mid out → Stays contents failed out new → LeadsOut contents failed old new
+  out-then old mid out new first leads then before led = then.out before (leads before (first.on before led))
+
+  -- no order is taken
+  pub leads-still : (old new : SlotWriter W) → new.inbox ≡ old.inbox → RunsOn contents failed old.frames new.frames → LeadsOn contents failed old new
+  leads-still old new same on = record {
+    name = ap (λ (inbox : Inbox). out_name inbox.ring) same;
+    on = λ before led.
+        subst (λ (inbox : Inbox). (given : List (Control Opened)) × HasGiven given inbox × Runs contents failed inbox.has_lost (orders_of given) before new.frames) (sym same)
+        (led.0, led.1, on old.inbox.has_lost (orders_of led.0) before led.2);
+  }
+
+  pub leads-out : (old new : SlotWriter W) → new.inbox ≡ old.inbox → RunsOut contents failed old.frames new.frames → LeadsOut contents failed old new
+  leads-out old new same out before led =
+      subst (λ (inbox : Inbox). (given : List (Control Opened)) × HasGiven given inbox × Ends contents failed inbox.has_lost (orders_of given) before new.frames) (sym same)
+      (led.0, led.1, out old.inbox.has_lost (orders_of led.0) before led.2)
+
+  -- the same, and more may be lost
+  pub stays-by : (old new : SlotWriter W) → new.inbox ≡ record old.inbox { has_lost = new.inbox.has_lost }
+      → StaysOn contents failed old.inbox.has_lost new.inbox.has_lost old.frames new.frames → Stays contents failed old new
+  stays-by old new same on = record {
+    leads = record {
+      name = ap (λ (inbox : Inbox). out_name inbox.ring) same;
+      on = λ before led. (led.0, given-on-to led.0 led.1, on.runs (orders_of led.0) before led.2);
+    };
+    out = λ before led. (led.0, given-on-to led.0 led.1, on.ends (orders_of led.0) before led.2);
+  }
+    where
+      given-on-to : (given : List (Control Opened)) → HasGiven given old.inbox → HasGiven given new.inbox
+      given-on-to given has = subst (λ (inbox : Inbox). HasGiven given inbox) (sym same) has
+
+  -- an order is looked at
+  pub stays-with : (old new : SlotWriter W) → Keeps old.inbox new.inbox → new.frames ≡ old.frames → Stays contents failed old new
+  stays-with old new keeps frames = record {
+    leads = record {
+      name = keeps.name;
+      on = λ before led. (
+        led.0,
+        keeps.given led.0 led.1,
+        subst (λ (lost : Bool). Runs contents failed lost (orders_of led.0) before new.frames) (sym keeps.lost)
+            (subst (λ (writing : FrameWriter W). Runs contents failed old.inbox.has_lost (orders_of led.0) before writing) (sym frames) led.2),
+      );
+    };
+    out = λ before led. (
+      led.0,
+      keeps.given led.0 led.1,
+      subst (λ (lost : Bool). Ends contents failed lost (orders_of led.0) before new.frames) (sym keeps.lost)
+          (subst (λ (writing : FrameWriter W). Ends contents failed old.inbox.has_lost (orders_of led.0) before writing) (sym frames) led.2),
+    );
+  }
+
+  -- nothing is done
+  pub stays-same : (old new : SlotWriter W) → new.inbox ≡ old.inbox → new.frames ≡ old.frames → Stays contents failed old new
+  stays-same old new inbox frames =
+      stays-with old new (record { name = ap (λ (i : Inbox). out_name i.ring) inbox; lost = ap (λ (i : Inbox). i.has_lost) inbox; given = λ given has. subst (λ (i : Inbox). HasGiven given i) (sym inbox) has }) frames
+
+  -- ---- an order is looked for
+
+  -- it gives none
+  pub leads-none : (old new : SlotWriter W) → Gives None old.inbox new.inbox → new.frames ≡ old.frames → LeadsOn contents failed old new
+  leads-none old new gives frames = (stays-with old new (record {
+    name = gives.name;
+    lost = gives.lost;
+    given = λ given has. subst (λ (all : List (Control Opened)). HasGiven all new.inbox) (append-nil given) (gives.given given has);
+  }) frames).leads
+
+  -- what is given comes back
+  pub leads-back : (next back : Control Opened) (old new : SlotWriter W) (mid : Inbox) → Gives (Some next) old.inbox mid → new.inbox ≡ record mid { set_aside = Some back } → back ≡ next
+      → new.frames ≡ old.frames → LeadsOn contents failed old new
+  leads-back next back old new mid gives same is frames = (stays-with old new (record {
+    name = ap (λ (inbox : Inbox). out_name inbox.ring) same ∙ gives.name;
+    lost = ap (λ (inbox : Inbox). inbox.has_lost) same ∙ gives.lost;
+    given = λ given has. subst (λ (inbox : Inbox). HasGiven given inbox) (sym same) (ap (λ (one : Control Opened). given ++ one ∷ []) is ∙ aside given (gives.given given has));
+  }) frames).leads
+    where
+      aside : (given : List (Control Opened)) → HasGiven (given ++ next ∷ []) mid → given ++ next ∷ [] ≡ taken mid.ring
+      aside given has = sym (append-nil (given ++ next ∷ [])) ∙ (ap (λ (one : Option (Control Opened)). (given ++ next ∷ []) ++ order_in one) (sym gives.none_aside) ∙ has)
+
+  led-next : (next : Control Opened) (old new : SlotWriter W) (mid : Inbox) (before : Option (List ℕ)) → Gives (Some next) old.inbox mid
+      → new.inbox ≡ record mid { has_lost = new.inbox.has_lost } → (led : Led contents failed before old)
+      → Runs contents failed new.inbox.has_lost (orders_of led.0 ++ order_of next ∷ []) before new.frames → Led contents failed before new
+  led-next next old new mid before gives same led runs = (
+    led.0 ++ next ∷ [],
+    subst (λ (inbox : Inbox). HasGiven (led.0 ++ next ∷ []) inbox) (sym same) (gives.given led.0 led.1),
+    subst (λ (orders : List Order). Runs contents failed new.inbox.has_lost orders before new.frames) (sym (given-next led.0 next)) runs,
+  )
+
+  -- the next order is taken
+  pub leads-taken : (next : Control Opened) (order : Order) (old new : SlotWriter W) (mid : Inbox) → Gives (Some next) old.inbox mid → order ≡ order_of next → mid.has_lost ≡ false
+      → new.inbox ≡ record mid { has_lost = new.inbox.has_lost } → Takes contents failed order new.inbox.has_lost old.frames new.frames → LeadsOn contents failed old new
+  leads-taken next order old new mid gives is kept same takes = record {
+    name = ap (λ (inbox : Inbox). out_name inbox.ring) same ∙ gives.name;
+    on = λ before led.
+        led-next next old new mid before gives same led
+        (subst (λ (one : Order). Runs contents failed new.inbox.has_lost (orders_of led.0 ++ one ∷ []) before new.frames) is
+        (takes (orders_of led.0) before (subst (λ (lost : Bool). Runs contents failed lost (orders_of led.0) before old.frames) (sym gives.lost ∙ kept) led.2)));
+  }
+
+  -- it is passed over
+  pub leads-passed : (next : Control Opened) (old new : SlotWriter W) (mid : Inbox) → Gives (Some next) old.inbox mid → mid.has_lost ≡ true → new.inbox ≡ mid
+      → PassesOver contents failed (order_of next) old.frames new.frames → LeadsOn contents failed old new
+  leads-passed next old new mid gives lost same passes = record {
+    name = ap (λ (inbox : Inbox). out_name inbox.ring) same ∙ gives.name;
+    on = λ before led.
+        let runs = passes (orders_of led.0) before (subst (λ (was : Bool). Runs contents failed was (orders_of led.0) before old.frames) (sym gives.lost ∙ lost) led.2) in
+        led-next next old new mid before gives (same ∙ ap (λ (was : Bool). record mid { has_lost = was }) (sym (ap (λ (inbox : Inbox). inbox.has_lost) same))) led
+        (subst (λ (was : Bool). Runs contents failed was (orders_of led.0 ++ order_of next ∷ []) before new.frames) (sym (ap (λ (inbox : Inbox). inbox.has_lost) same ∙ lost)) runs);
+  }
+
+  -- it is lost
+  pub leads-lost : (next : Control Opened) (old new : SlotWriter W) (mid : Inbox) → Gives (Some next) old.inbox mid → new.inbox ≡ record mid { has_lost = true }
+      → new.frames ≡ old.frames → LeadsOn contents failed old new
+  leads-lost next old new mid gives same frames = record {
+    name = ap (λ (inbox : Inbox). out_name inbox.ring) same ∙ gives.name;
+    on = λ before led.
+        let lost : new.inbox.has_lost ≡ true = ap (λ (inbox : Inbox). inbox.has_lost) same in
+        let runs = subst (λ (writing : FrameWriter W). Runs contents failed old.inbox.has_lost (orders_of led.0) before writing) (sym frames) led.2 in
+        led-next next old new mid before gives (same ∙ ap (λ (was : Bool). record mid { has_lost = was }) (sym lost)) led
+        (subst (λ (was : Bool). Runs contents failed was (orders_of led.0 ++ order_of next ∷ []) before new.frames) (sym lost)
+        (runs.0, runs.1, obeys-more (orders_of led.0) (order_of next ∷ []) runs.0 (obeys-lost old.inbox.has_lost (orders_of led.0) runs.0 runs.2)));
+  }
+
+  -- a GOAWAY of the writer's own, where orders were lost
+  pub leads-parting : (old new : SlotWriter W) → old.inbox.has_lost ≡ true → new.inbox ≡ old.inbox → Parts contents failed old.frames new.frames → LeadsOn contents failed old new
+  leads-parting old new lost same parts = record {
+    name = ap (λ (inbox : Inbox). out_name inbox.ring) same;
+    on = λ before led.
+        subst (λ (inbox : Inbox). (given : List (Control Opened)) × HasGiven given inbox × Runs contents failed inbox.has_lost (orders_of given) before new.frames) (sym same) (
+          led.0,
+          led.1,
+          subst (λ (was : Bool). Runs contents failed was (orders_of led.0) before new.frames) (sym lost)
+              (parts (orders_of led.0) before (subst (λ (was : Bool). Runs contents failed was (orders_of led.0) before old.frames) lost led.2)),
+        );
+  }
+
+  -- a writer that has taken nothing
+  pub led-none : (before : Option (List ℕ)) (inbox : Inbox) (frames : FrameWriter W) → taken inbox.ring ≡ [] → inbox.set_aside ≡ None → inbox.has_lost ≡ false
+      → Wrote got contents failed before [] frames
+      → (given : List (Control Opened)) × HasGiven given inbox × Runs contents failed inbox.has_lost (orders_of given) before frames
+  led-none before inbox frames none aside kept wrote =
+      ([], all-given inbox aside none, subst (λ (lost : Bool). Runs contents failed lost [] before frames) (sym kept) ([], wrote, (refl, tt)))
+
+  -- what is left of a writer whose buffer is flushed
+  pub has-written : (before : Option (List ℕ)) (writer : SlotWriter W) (device : W) (told : Option Ending) → device ≡ writer.frames.device → IsFlushed writer
+      → (led : LedOut contents failed before writer)
+      → TellOthers led.2.0
+      → IsFront (frames_of led.2.0) before (contents device)
+      → (writer.frames.standing ≢ stands.Broken → writer.frames.buffer.items ≡ [] → IsWhole (frames_of led.2.0) before (contents device))
+      → (writer.frames.standing ≡ stands.Going → writer.frames.buffer.items ≡ [] → IsAll (frames_of led.2.0) before (contents device))
+      → (writer.frames.standing ≡ stands.OutOfMemory → told ≡ Some ending.OutOfMemory)
+      → (told ≢ Some ending.OutOfMemory → told ≢ Some ending.WriteFailed → (writer.inbox.has_lost ≡ false) × (writer.inbox.set_aside ≡ None))
+      → HasWritten contents failed before (orders_of (taken writer.inbox.ring)) told device
+  has-written before writer device told same flushed led others front whole all memory each =
+      let ends = led.2 in
+      let standing = writer.frames.standing in
+      let sound : failed device ≡ false → standing ≢ stands.Broken = λ unmarked stood. true≢false (sym (ap failed same ∙ ends.1.marked stood) ∙ unmarked) in
+      record {
+        run = ends.0;
+        lawful = ends.1.leads.lawful;
+        some =
+            subst (λ (orders : List Order). Obeys true orders ends.0) (sym (given-all led.0 writer.inbox led.1))
+            (obeys-more (orders_of led.0) (orders_of (order_in writer.inbox.set_aside)) ends.0 (obeys-lost writer.inbox.has_lost (orders_of led.0) ends.0 ends.2));
+        each = λ spared sent.
+            let found = each spared sent in
+            let none : orders_of led.0 ≡ orders_of (taken writer.inbox.ring) =
+            sym (given-all led.0 writer.inbox led.1 ∙ (ap (λ (aside : Option (Control Opened)). orders_of led.0 ++ orders_of (order_in aside)) found.1 ∙ append-nil (orders_of led.0))) in
+            subst (λ (orders : List Order). Obeys false orders ends.0) none (subst (λ (lost : Bool). Obeys lost (orders_of led.0) ends.0) found.0 ends.2);
+        others = others;
+        front = front;
+        whole = λ unmarked. whole (sound unmarked) (flushed (sound unmarked));
+        all = λ unmarked other. unless-lost standing told memory (sound unmarked) (λ going. all going (flushed (sound unmarked))) other;
+        over = λ unmarked other. unless-lost standing told memory (sound unmarked) ends.3 other;
+      }
+
+-- the ending that is told names want of memory, a failed write or that orders are left where there is one
+pub told-on : {W : Type 0} (contents : W → Option (List ℕ)) (failed : W → Bool) (before : Option (List ℕ)) (took put : List Order) (one other : Option Ending) (device : W)
+    → (one ≡ Some ending.OutOfMemory → other ≡ Some ending.OutOfMemory)
+    → (one ≡ Some ending.WriteFailed → other ≢ Some ending.OutOfMemory → other ≡ Some ending.WriteFailed)
+    → (left : List Order) → took ++ left ≡ put
+    → (other ≢ Some ending.OutOfMemory → other ≢ Some ending.WriteFailed → left ≡ [])
+    → HasWritten contents failed before took one device → HasWritten contents failed before put other device
+told-on contents failed before took put one other device memory failing left parts none h = record {
+  run = h.run;
+  lawful = h.lawful;
+  some = subst (λ (orders : List Order). Obeys true orders h.run) parts (obeys-more took left h.run h.some);
+  each = λ spared sent.
+      subst (λ (orders : List Order). Obeys false orders h.run) (sym (append-nil took) ∙ (ap (λ (os : List Order). took ++ os) (sym (none spared sent)) ∙ parts))
+      (h.each (λ lacked. spared (memory lacked)) (λ broke. sent (failing broke spared)));
+  others = h.others;
+  front = h.front;
+  whole = h.whole;
+  all = λ unmarked spared. h.all unmarked (λ lacked. spared (memory lacked));
+  over = λ unmarked spared. h.over unmarked (λ lacked. spared (memory lacked));
+}
+
+-- some orders are these
+pub some-orders : {W : Type 0} (contents : W → Option (List ℕ)) (failed : W → Bool) (before : Option (List ℕ)) (orders : List Order) (told : Option Ending) (output : Option W)
+    → IfSome output (HasWritten contents failed before orders told) → IfSome output (λ device. (put : List Order) × HasWritten contents failed before put told device)
+some-orders contents failed before orders told None written = written
+some-orders contents failed before orders told (Some device) written = (orders, written)

@@ -1,0 +1,5 @@
+use Rattle.slotwriter.specs.Sent.{KeepsOn}
+use Rattle.slotwriter.proofs.senders.Senders.catch_up.Given as goal
+
+abbrev pub invariant-loop-number : goal.invariant-loop-number
+invariant-loop-number l = KeepsOn l.fn.self.places.items l.self.places.items

@@ -1,0 +1,18 @@
+use Rattle.std.proofs.Common.{refl, Some}
+use Rattle.slotwriter.proofs.WrittenSteps.{fills-on, fills-over, fills-stopped, leads-out, leads-still}
+use Rattle.slotwriter.proofs.slot_writer.SlotWriter.fill.Goals as goal
+
+pub returns-clause-leads : goal.returns-clause-leads
+returns-clause-leads g c =
+    leads-still g.W.ConnWrite.contents g.W.ConnWrite.failed c.args.self.now (record c.args.self.now { frames = c.fill.new.self }) refl
+    (fills-on g.W.ConnWrite.contents g.W.ConnWrite.failed (Some c.fill.result) c.args.self.now.frames c.fill.new.self c.fill.ensures.wrote)
+
+pub returns-clause-over : goal.returns-clause-over
+returns-clause-over g c = λ over.
+    leads-out g.W.ConnWrite.contents g.W.ConnWrite.failed c.args.self.now (record c.args.self.now { frames = c.fill.new.self }) refl
+    (fills-over g.W.ConnWrite.contents g.W.ConnWrite.failed c.fill.result c.args.self.now.frames c.fill.new.self c.fill.ensures.wrote over)
+
+pub returns-clause-stopped : goal.returns-clause-stopped
+returns-clause-stopped g c = λ stopped.
+    leads-out g.W.ConnWrite.contents g.W.ConnWrite.failed c.args.self.now (record c.args.self.now { frames = c.fill.new.self }) refl
+    (fills-stopped g.W.ConnWrite.contents g.W.ConnWrite.failed c.fill.result c.args.self.now.frames c.fill.new.self c.fill.ensures.wrote stopped)

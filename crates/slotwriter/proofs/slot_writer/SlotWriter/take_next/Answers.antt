@@ -1,0 +1,31 @@
+use Rattle.std.proofs.Common.{Option, refl, subst, true}
+use Rattle.outwriter.specs.declared.control.Control.{Control}
+use Rattle.outwriter.specs.Steps.{order_of}
+use Rattle.callslot.specs.declared.order.Opened.{Opened}
+use Rattle.slotwriter.specs.Orders.{Gives}
+use Rattle.slotwriter.proofs.WrittenSteps.{leads-lost, leads-passed, leads-taken}
+use Rattle.slotwriter.proofs.slot_writer.SlotWriter.take_next.Goals as goal
+
+pub returns-in-Ok : goal.returns-in-Ok
+returns-in-Ok g c = record {
+  leads =
+      leads-taken g.W.ConnWrite.contents g.W.ConnWrite.failed c.in-Some.order (order_of c.in-Ok.control) c.args.self.now c.take.new.self c.next.new.self
+      (subst (λ (next : Option (Control Opened)). Gives next c.args.self.now.inbox c.next.new.self) c.in-Some.is c.next.ensures.gives)
+      c.in-Ok.ensures.same c.if-self.false c.take.ensures.inbox c.take.ensures.takes;
+  lost = c.take.ensures.lost;
+}
+
+pub returns-in-Err-OutOfMemory : goal.returns-in-Err-OutOfMemory
+returns-in-Err-OutOfMemory g c = record {
+  leads =
+      leads-lost g.W.ConnWrite.contents g.W.ConnWrite.failed c.in-Some.order c.args.self.now (record c.args.self.now { inbox = record c.next.new.self { has_lost = true }; senders = c.control_of.new.self }) c.next.new.self
+      (subst (λ (next : Option (Control Opened)). Gives next c.args.self.now.inbox c.next.new.self) c.in-Some.is c.next.ensures.gives)
+      refl refl;
+  lost = λ is. refl;
+}
+
+pub returns-then-self-clause-leads : goal.returns-then-self-clause-leads
+returns-then-self-clause-leads g c =
+    leads-passed g.W.ConnWrite.contents g.W.ConnWrite.failed c.in-Some.order c.args.self.now c.pass_over.new.self c.next.new.self
+    (subst (λ (next : Option (Control Opened)). Gives next c.args.self.now.inbox c.next.new.self) c.in-Some.is c.next.ensures.gives)
+    c.if-self.true c.pass_over.ensures.inbox c.pass_over.ensures.passes

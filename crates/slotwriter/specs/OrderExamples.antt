@@ -1,0 +1,64 @@
+-- Worked runs of a writer's core, by the orders that it took. A run has its latest step first, and orders the earliest.
+use Rattle.std.proofs.Common.{inl, inr, ap, subst, sym, ◌∙◌, true≢false}
+use Rattle.std.specs.Prelude.{◌≡◌, ◌++◌, ℕ, Bool, true, false, refl, List, [], ◌∷◌}
+use Rattle.flow.specs.WindowHistory.{CanCredit}
+use Rattle.flow.specs.WindowHistory.{Step as WindowStep}
+use Rattle.h2frame.specs.declared.error_code.ErrorCode.TheVariants.{FlowControlError, InternalError}
+use Rattle.outwriter.specs.declared.control.Control.TheVariants.{Ping, Window, Goaway, InputEnded, Close}
+use Rattle.outwriter.specs.declared.control.OutFault.TheVariants.{PeerWindow}
+use Rattle.outwriter.specs.Calls.{closes}
+use Rattle.outwriter.specs.RunState.{Blames}
+use Rattle.outwriter.specs.Steps.{Order, Taken, Granted}
+use Rattle.slotwriter.specs.Orders.{Obeys}
+
+-- in turn, whatever else is done between them
+pub in_turn : Obeys false (InputEnded ∷ Close ∷ []) (Taken Close ∷ Granted 0 10 ∷ Taken InputEnded ∷ [])
+in_turn = (inl (InputEnded ∷ [], refl, inl ([], refl, refl)), (inl tt, (inl tt, tt)))
+
+-- a window is too large, and the writer ends the connection by itself
+pub answered : (n : ℕ) → Blames {S = Unit {0}} (PeerWindow 0) (Window 0 n) []
+    → Obeys false (Window 0 n ∷ Close ∷ []) (Taken Close ∷ Taken (Goaway 5 FlowControlError) ∷ Taken (Window 0 n) ∷ [])
+answered n blames = (
+  inl (Window 0 n ∷ [], refl, inr ((5, 0, refl, refl, blames), inl ([], refl, refl))),
+  (inl tt, (inl tt, (inr (inl (5, 0, refl, refl)), tt))),
+)
+
+-- it must do so
+pub unanswered : (n : ℕ) → ¬ CanCredit [] 0 n → ¬ Obeys false (Window 0 n ∷ []) (Taken (Window 0 n) ∷ [])
+unanswered n over (took, (inl (history, none, room), rest)) = over (subst (λ (found : List WindowStep). CanCredit found 0 n) none (room (inl refl)))
+unanswered n over (took, (inr (inl answer), rest)) = answer
+unanswered n over (took, (inr (inr lacks), rest)) = true≢false (sym lacks)
+
+-- there was no memory for a PING: the writer ends the connection, and takes no more orders than Close
+pub parted : (bytes : List ℕ)
+    → Obeys true (InputEnded ∷ Ping bytes ∷ InputEnded ∷ Close ∷ []) (Taken Close ∷ Taken (Goaway 5 InternalError) ∷ Taken InputEnded ∷ [])
+parted bytes = record {
+  front = InputEnded ∷ [];
+  rest = Ping bytes ∷ InputEnded ∷ Close ∷ [];
+  ends = Taken Close ∷ Taken (Goaway 5 InternalError) ∷ [];
+  steps = Taken InputEnded ∷ [];
+  orders_are = refl;
+  run_is = refl;
+  took = inl ([], refl, refl);
+  answered = (inl tt, tt);
+  ended = (inr (refl, inr (inr (inl refl))), (inl (5, refl), tt));
+}
+
+abbrev last_closes : List Order → Bool
+last_closes [] = false
+last_closes (order ∷ []) = closes order
+last_closes (order ∷ next ∷ orders) = last_closes (next ∷ orders)
+
+closes_last : (orders : List Order) → last_closes (orders ++ Close ∷ []) ≡ true
+closes_last [] = refl
+closes_last (order ∷ []) = refl
+closes_last (order ∷ next ∷ orders) = closes_last (next ∷ orders)
+
+-- none is left out where none was lost
+pub left_out : ¬ Obeys false (Close ∷ []) []
+left_out obeys = true≢false (ap last_closes obeys.0)
+
+-- two are not exchanged
+pub exchanged : ¬ Obeys false (Close ∷ InputEnded ∷ []) (Taken Close ∷ Taken InputEnded ∷ [])
+exchanged (inl (earlier, parts, took), answered) = true≢false (sym (closes_last earlier) ∙ ap last_closes (sym parts))
+exchanged (inr ((last, id, is, concerns, blames), took), answered) = absurd concerns

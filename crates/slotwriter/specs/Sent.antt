@@ -1,0 +1,147 @@
+-- The lines of a connection's calls: by the orders that its writer took, and with the senders of its slots.
+use mathlib.Core.List.{IsPrefix}
+use Rattle.std.specs.Prelude.{◌≡◌, ◌⊎◌, ◌<◌, ℕ, length, List, [], ◌∷◌, ◌++◌, map, get_or, set, Option, None, Some}
+use Rattle.account.specs.declared.call.OutItem.{OutItem}
+use Rattle.callbox.specs.declared.sender.Sender.{Sender}
+use Rattle.lane.specs.declared.ring_lane.RingLane.{RingLane}
+use Rattle.lane.specs.declared.ring_lane.RingLaneIn.{RingLaneIn}
+use Rattle.lane.specs.declared.ring_lane.RingLaneOut.{RingLaneOut}
+use Rattle.lane.specs.declared.ring_lane.RingLaneShut.{RingLaneShut}
+use Rattle.lane.specs.RingLane.{LaneName, got, out_name, past_out, ring_of}
+use Rattle.outwriter.specs.declared.control.Control.{Control}
+use Rattle.outwriter.specs.declared.control.Control.TheVariants.{Settings, Ping, Window, Open, Refuse, Reset, Goaway, InputEnded, Close}
+use Rattle.outwriter.specs.Steps.{Step}
+use Rattle.connwriter.specs.Sent.{Line, AreSent, IsOld, again_at, begun, last_ids}
+use Rattle.callslot.specs.declared.order.Opened.{Opened}
+use Rattle.callslot.specs.declared.order.Opened.TheVariants.{New, Again}
+use Rattle.slotwriter.specs.declared.senders.Place.{Place}
+
+abbrev pub SlotSender : Type 0
+SlotSender = Sender (RingLane OutItem) (RingLaneIn OutItem) (RingLaneOut OutItem) (RingLaneShut OutItem)
+
+-- ---- by the orders
+
+abbrev pub Lines : Type 0
+Lines = List (Line LaneName)
+
+-- a new slot has a new line; a further call of a slot is one of its line
+abbrev pub line_step : Lines → Control Opened → Lines
+line_step lines (Open id (New fresh)) = lines ++ begun (ring_of (out_name fresh.sender.rx)) id ∷ []
+line_step lines (Open id (Again n)) = again_at lines n id
+line_step lines _ = lines
+
+abbrev pub lines_from : Lines → List (Control Opened) → Lines
+lines_from lines [] = lines
+lines_from lines (order ∷ orders) = lines_from (line_step lines order) orders
+
+-- the lines of orders, the earliest of which is first
+abbrev pub lines_of : List (Control Opened) → Lines
+lines_of orders = lines_from [] orders
+
+-- an order opens no stream of a call before
+abbrev pub IsFresh : Control Opened → Lines → Type 0
+IsFresh (Open id opened) lines = IsOld id lines → ⊥
+IsFresh _ lines = Unit {0}
+
+-- nor does any of these
+abbrev pub AreFresh : Lines → List (Control Opened) → Type 0
+AreFresh lines [] = Unit {0}
+AreFresh lines (order ∷ orders) = IsFresh order lines × AreFresh (line_step lines order) orders
+
+-- the streams that orders open rise, from this one on
+abbrev pub OpensRise : ℕ → List (Control Opened) → Type 0
+OpensRise last [] = Unit {0}
+OpensRise last (Open id opened ∷ orders) = (last < id) × OpensRise id orders
+OpensRise last (order ∷ orders) = OpensRise last orders
+
+-- ---- with the senders
+
+-- the streams of the slots' last calls, and the senders that are held between two calls
+abbrev pub ids_of : List Place → List ℕ
+ids_of places = map (λ place. place.id) places
+
+abbrev pub held_of : List Place → List (Option SlotSender)
+held_of places = map (λ place. place.sender) places
+
+-- the senders of these lines are in the places, and in the core
+pub record AreKept (run : List Step) (lines : Lines) (places : List Place) (core : List (ℕ × SlotSender)) : Type 0 where
+  pub sent : AreSent out_name past_out got ring_of run lines (held_of places) core
+  pub ids : ids_of places ≡ last_ids lines
+
+-- the same senders are held, of the same calls
+pub record SamePlaces (old new : List Place) : Type 0 where
+  pub held : held_of new ≡ held_of old
+  pub ids : ids_of new ≡ ids_of old
+
+-- a new place, whose sender isn't held
+pub record Adds (id : ℕ) (old new : List Place) : Type 0 where
+  pub held : held_of new ≡ held_of old ++ None ∷ []
+  pub ids : ids_of new ≡ ids_of old ++ id ∷ []
+
+-- the sender of a place goes on to the next call, of this stream, and isn't held then
+pub record Begins (n id : ℕ) (sender : SlotSender) (old new : List Place) : Type 0 where
+  pub was : SlotSender
+  pub is : get_or (held_of old) n None ≡ Some was
+  pub ring : ring_of (out_name sender.rx) ≡ ring_of (out_name was.rx)
+  pub past : past_out sender.rx ≡ past_out was.rx ++ got was.rx ∷ []
+  pub held : held_of new ≡ set (held_of old) n None
+  pub ids : ids_of new ≡ set (ids_of old) n id
+
+-- what a control is made of an order by: an Open has the sender of its slot
+abbrev pub MakesOf : Control Opened → Control SlotSender → List Place → List Place → Type 0
+MakesOf (Open id (New fresh)) control old new = (control ≡ Open id fresh.sender) × (past_out fresh.sender.rx ≡ []) × Adds id old new
+MakesOf (Open id (Again n)) control old new = (sender : SlotSender) × (control ≡ Open id sender) × Begins n id sender old new
+MakesOf (Settings settings) control old new = (control ≡ Settings settings) × SamePlaces old new
+MakesOf (Ping bytes) control old new = (control ≡ Ping bytes) × SamePlaces old new
+MakesOf (Window id n) control old new = (control ≡ Window id n) × SamePlaces old new
+MakesOf (Refuse id fields) control old new = (control ≡ Refuse id fields) × SamePlaces old new
+MakesOf (Reset id code written) control old new = (control ≡ Reset id code written) × SamePlaces old new
+MakesOf (Goaway last code) control old new = (control ≡ Goaway last code) × SamePlaces old new
+MakesOf InputEnded control old new = (control ≡ InputEnded) × SamePlaces old new
+MakesOf Close control old new = (control ≡ Close) × SamePlaces old new
+
+-- an order that opens nothing is this control
+abbrev pub IsPlain : Control Opened → Control SlotSender → Type 0
+IsPlain (Open id opened) control = ⊥
+IsPlain (Settings settings) control = control ≡ Settings settings
+IsPlain (Ping bytes) control = control ≡ Ping bytes
+IsPlain (Window id n) control = control ≡ Window id n
+IsPlain (Refuse id fields) control = control ≡ Refuse id fields
+IsPlain (Reset id code written) control = control ≡ Reset id code written
+IsPlain (Goaway last code) control = control ≡ Goaway last code
+IsPlain InputEnded control = control ≡ InputEnded
+IsPlain Close control = control ≡ Close
+
+-- ---- a sender comes back
+
+-- place number n is at the call of this stream, and holds no sender
+pub record Waits (id n : ℕ) (places : List Place) : Type 0 where
+  pub within : n < length places
+  pub at : (d : Place) → (get_or places n d).id ≡ id
+  pub none : (d : Place) → (get_or places n d).sender ≡ None
+
+-- none of the first places does
+abbrev pub NoneWaits : ℕ → ℕ → List Place → Type 0
+NoneWaits id count places = (k : ℕ) (d : Place) → k < count → k < length places → (get_or places k d).id ≡ id → (get_or places k d).sender ≡ None → ⊥
+
+-- the sender of a stream is held in the place that waits for it; or none waits for it
+abbrev pub TakesHome : ℕ → SlotSender → List Place → List Place → Type 0
+TakesHome id sender old new =
+    ((n : ℕ) × Waits id n old × (held_of new ≡ set (held_of old) n (Some sender)) × (ids_of new ≡ ids_of old))
+    ⊎ (NoneWaits id (length old) old × SamePlaces old new)
+
+-- ---- what is left is got
+
+-- more of the same call is got
+pub record GetsMore (old new : SlotSender) : Type 0 where
+  pub name : out_name new.rx ≡ out_name old.rx
+  pub past : past_out new.rx ≡ past_out old.rx
+  pub more : IsPrefix (got old.rx) (got new.rx)
+
+abbrev pub GetsRest : Option SlotSender → Option SlotSender → Type 0
+GetsRest None new = new ≡ None
+GetsRest (Some old) new = (sender : SlotSender) × (new ≡ Some sender) × GetsMore old sender
+
+-- the senders of whatever lines were in the places before are there after
+abbrev pub KeepsOn : List Place → List Place → Type 0
+KeepsOn old new = (run : List Step) (lines : Lines) (core : List (ℕ × SlotSender)) → AreKept run lines old core → AreKept run lines new core

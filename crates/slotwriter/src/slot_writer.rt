@@ -1,0 +1,447 @@
+//! What the writing side of a connection has, and its steps.
+
+ghost use Rattle.std.specs.Prelude.{◌≡◌, ◌≢◌, ◌⊎◌, ℕ, true, false, List, [], Option, None, Some, IfSome};
+ghost use Rattle.lane.specs.Ring.{taken};
+ghost use Rattle.lane.specs.RingLane.{got};
+ghost use Rattle.outwriter.specs.Cores.{IsUnused, open_stream};
+ghost use Rattle.outwriter.specs.declared.control.Control.TheVariants as orders;
+ghost use Rattle.outwriter.specs.RunState.{is_held};
+ghost use Rattle.outwriter.specs.Steps.{order_of};
+ghost use Rattle.flow.specs.Windows.{room};
+ghost use Rattle.connwriter.specs.declared.filled.Filled.TheVariants as filling;
+ghost use Rattle.connwriter.specs.declared.standing.Standing.TheVariants as stands;
+ghost use Rattle.callslot.specs.declared.report.Ending.TheVariants as ending;
+ghost use Rattle.slotwriter.specs.declared.steps.Rest.TheVariants as rest;
+ghost use Rattle.slotwriter.specs.declared.steps.Took.TheVariants as took;
+ghost use Rattle.slotwriter.specs.declared.steps.Waiting.TheVariants as waiting;
+ghost use Rattle.slotwriter.specs.Orders.{TakesNoWindow, orders_of};
+ghost use Rattle.slotwriter.specs.Written.{HasWritten, IsFlushed, Led, LedOut, LeadsOn, LeadsOut};
+ghost use Rattle.slotwriter.specs.Written.{Parts, PassesOver, Stays, Takes};
+
+use crate::inbox::Inbox;
+use crate::senders::{Senders, Untaken};
+use crate::steps::{Rest, Took, Waiting};
+use callbox::Sender;
+use callslot::{Ending, Order, OutLane};
+use connwriter::{ConnWriter, Filled, Standing, Taking};
+use device::{ConnWrite, DeviceFault};
+use h2frame::{ErrorCode, StreamId};
+use lane::RingOut;
+use outwriter::Control;
+use std::alloc::Global;
+use std::snapshot::Snapshot;
+
+/// What the writing side of a connection has.
+#[derive(Drop)]
+pub struct SlotWriter<W: ConnWrite> {
+    inbox: Inbox,
+    frames: ConnWriter<OutLane, W>,
+    /// The senders of slots between two calls.
+    senders: Senders,
+    /// Whether no more comes from the peer.
+    input_ended: bool,
+    /// Whether no more orders come.
+    closed: bool,
+    /// The error of its own that the writer ended the connection with.
+    failed: Option<ErrorCode>,
+}
+
+/// What a writer hands back: how the connection ended as far as it sees, what it wrote to, and its end of the ring of orders.
+#[derive(Drop)]
+pub struct Written<W: ConnWrite + Drop> {
+    pub ending: Option<Ending>,
+    pub device: W,
+    pub orders: RingOut<Order>,
+}
+
+impl<W: ConnWrite + Drop> SlotWriter<W> {
+    /// A writer that has taken no orders, and written nothing to a device that was so.
+    pub fn new(alloc: Global, orders: RingOut<Order>, device: W, was: &Snapshot<W>) -> SlotWriter<W>
+        requires was { was.now.value ≡ device }
+        requires none { taken orders ≡ [] }
+        ensures led { Led W.contents W.failed (W.contents was.now.value) result }
+        ensures ring { result.inbox.ring ≡ orders }
+    {
+        let frames = ConnWriter::new(alloc, device);
+        SlotWriter {
+            inbox: Inbox::new(orders),
+            frames,
+            senders: Senders::new(alloc),
+            input_ended: false,
+            closed: false,
+            failed: None,
+        }
+    }
+
+    // ---- orders
+
+    /// Which order is the next to be taken.
+    pub fn look(&mut self) -> Waiting
+        ensures stays { Stays W.contents W.failed self.old self.new }
+        ensures nothing { result ≡ waiting.Nothing → self.new.inbox.set_aside ≡ None }
+        ensures other { result ≡ waiting.Other → IfSome self.new.inbox.set_aside TakesNoWindow }
+    {
+        self.inbox.look();
+        self.waiting()
+    }
+
+    /// Which order is set aside.
+    fn waiting(&self) -> Waiting
+        ensures nothing { result ≡ waiting.Nothing → self.now.inbox.set_aside ≡ None }
+        ensures other { result ≡ waiting.Other → IfSome self.now.inbox.set_aside TakesNoWindow }
+    {
+        match &self.inbox.set_aside {
+            None => Waiting::Nothing,
+            Some(Control::Settings(_) | Control::Window(..)) => Waiting::Window,
+            Some(_) => Waiting::Other,
+        }
+    }
+
+    /// Takes the next order; `last` is the greatest stream that was admitted, which a GOAWAY of the writer's own tells (RFC 9113,
+    /// section 6.8). Once one was lost only Close is taken.
+    pub fn take_next(&mut self, last: StreamId) -> Took
+        ensures leads { LeadsOn W.contents W.failed self.old self.new }
+        ensures lost { result ≡ took.Lost → self.new.inbox.has_lost ≡ true }
+    {
+        let Some(order) = self.inbox.next() else {
+            return Took::Nothing;
+        };
+        if self.inbox.has_lost {
+            return self.pass_over(&order, last);
+        }
+        match self.senders.control_of(order) {
+            Ok(control) => self.take(control, last),
+            Err(Untaken::OutOfMemory) => {
+                self.inbox.has_lost = true;
+                Took::Lost
+            }
+            Err(Untaken::Early(order)) => {
+                self.inbox.set_aside = Some(order);
+                Took::Early
+            }
+        }
+    }
+
+    /// Takes an order; none was lost.
+    fn take(&mut self, order: Control<Sender<OutLane>>, last: StreamId) -> Took
+        requires unused { IsUnused got order }
+        requires kept { self.old.inbox.has_lost ≡ false }
+        ensures takes { Takes W.contents W.failed (order_of order) self.new.inbox.has_lost
+            self.old.frames self.new.frames }
+        ensures inbox { self.new.inbox ≡ record self.old.inbox { has_lost = self.new.inbox.has_lost } }
+        ensures lost { result ≡ took.Lost → self.new.inbox.has_lost ≡ true }
+    {
+        self.note(&order);
+        match self.frames.take(order, last) {
+            Taking::Done => Took::One,
+            Taking::Ended(id) => self.end(id),
+            Taking::Unanswered(_) => self.lose(),
+            Taking::HandedBack(back) => {
+                self.keep(back);
+                self.lose()
+            }
+        }
+    }
+
+    /// Takes an order behind one that was lost: only a Close, and else that is lost too.
+    fn pass_over(&mut self, order: &Order, last: StreamId) -> Took
+        ensures passes { PassesOver W.contents W.failed (order_of order.now)
+            self.old.frames self.new.frames }
+        ensures inbox { self.new.inbox ≡ self.old.inbox }
+        ensures one { result ≡ took.One }
+    {
+        if is_close(order) {
+            self.close(last);
+        }
+        Took::One
+    }
+
+    /// No more orders come, behind one that was lost. Whether the core took that.
+    fn close(&mut self, last: StreamId) -> bool
+        ensures passes { PassesOver W.contents W.failed orders.Close self.old.frames self.new.frames }
+        ensures inbox { self.new.inbox ≡ self.old.inbox }
+    {
+        self.closed = true;
+        let taking = self.frames.take(Control::Close, last);
+        matches!(taking, Taking::Done)
+    }
+
+    /// Notes what ends by an order.
+    fn note(&mut self, order: &Control<Sender<OutLane>>)
+        ensures frames { self.new.frames ≡ self.old.frames }
+        ensures inbox { self.new.inbox ≡ self.old.inbox }
+    {
+        match order {
+            Control::InputEnded => self.input_ended = true,
+            Control::Close => self.closed = true,
+            Control::Reset { id, .. } => self.senders.call_off(*id),
+            _ => {}
+        }
+    }
+
+    /// The writer has ended a stream, or at 0 the connection.
+    fn end(&mut self, id: StreamId) -> Took
+        ensures frames { self.new.frames ≡ self.old.frames }
+        ensures inbox { self.new.inbox ≡ self.old.inbox }
+        ensures ends { result ≢ took.Lost }
+    {
+        if id == 0 {
+            self.failed = Some(ErrorCode::FlowControlError);
+            return Took::Stops;
+        }
+        self.senders.call_off(id);
+        Took::Ends(id)
+    }
+
+    /// An order was lost, or the answer to it.
+    fn lose(&mut self) -> Took
+        ensures lost { result ≡ took.Lost }
+        ensures frames { self.new.frames ≡ self.old.frames }
+        ensures inbox { self.new.inbox ≡ record self.old.inbox { has_lost = true } }
+    {
+        self.inbox.has_lost = true;
+        Took::Lost
+    }
+
+    /// Keeps the sender of a call that could not begin.
+    fn keep(&mut self, order: Control<Sender<OutLane>>)
+        ensures frames { self.new.frames ≡ self.old.frames }
+        ensures inbox { self.new.inbox ≡ self.old.inbox }
+    {
+        if let Control::Open(id, sender) = order {
+            self.senders.keep(id, sender, false);
+        }
+    }
+
+    /// Ends the connection once an order was lost: by GOAWAY where there is memory for that, and behind it nothing is written.
+    pub fn give_up(&mut self, last: StreamId)
+        requires lost { self.old.inbox.has_lost ≡ true }
+        ensures leads { LeadsOn W.contents W.failed self.old self.new }
+    {
+        if !self.part(last) {
+            self.frames.stop();
+        }
+    }
+
+    /// Gives the core a GOAWAY of the writer's own. Whether it was taken.
+    fn part(&mut self, last: StreamId) -> bool
+        ensures parts { Parts W.contents W.failed self.old.frames self.new.frames }
+        ensures inbox { self.new.inbox ≡ self.old.inbox }
+    {
+        let code = ErrorCode::InternalError;
+        let taking = self.frames.take(Control::Goaway { last, code }, last);
+        matches!(taking, Taking::Done)
+    }
+
+    /// Wakes the worker of the call of a stream that the writer has ended, once the call was cut: so it sees that.
+    pub fn wake(&self, id: StreamId) {
+        self.senders.wake(id);
+    }
+
+    // ---- frames
+
+    /// Owes the peer n bytes more of credit, on a stream, or on the connection where it is 0.
+    pub fn grant(&mut self, id: StreamId, n: u32)
+        ensures leads { LeadsOn W.contents W.failed self.old self.new }
+    {
+        self.frames.grant(id, n);
+    }
+
+    /// Puts frames into the buffer, until none comes or the longest might not fit.
+    pub fn fill(&mut self) -> Filled
+        ensures leads { LeadsOn W.contents W.failed self.old self.new }
+        ensures over { result ≡ filling.Over → LeadsOut W.contents W.failed self.old self.new }
+        ensures stopped { result ≡ filling.Stopped → LeadsOut W.contents W.failed self.old self.new }
+    {
+        self.frames.fill()
+    }
+
+    /// Tells the peer that no more frames come, where the core had no memory for one: by its last word, a GOAWAY of the writer's own.
+    pub fn say_last(&mut self, last: StreamId)
+        ensures stays { Stays W.contents W.failed self.old self.new }
+    {
+        if self.frames.part(last) {
+            self.inbox.has_lost = true;
+        }
+    }
+
+    /// Whether nothing is in the buffer.
+    pub fn is_flushed(&self) -> bool {
+        self.frames.is_flushed()
+    }
+
+    /// Keeps the senders of calls that are through for the next calls of their slots, before the peer can see that: so the slots are
+    /// free for the calls that it begins then. Whether a slot may be free: the side that reads is to be rung.
+    pub fn release_all(&mut self) -> bool
+        ensures stays { Stays W.contents W.failed self.old self.new }
+    {
+        let ended = self.release_ended();
+        let called_off = self.release_called_off();
+        let rest = self.senders.catch_up();
+        ended || called_off || rest
+    }
+
+    /// Keeps those of calls whose END_STREAM is in the buffer.
+    fn release_ended(&mut self) -> bool
+        ensures stays { Stays W.contents W.failed self.old self.new }
+    {
+        let mut has_told = false;
+        'ended: for index in 0..self.frames.ended().len() {
+            if self.release_ended_at(index) {
+                has_told = true;
+            }
+        }
+        has_told
+    }
+
+    /// The same of one, by the place of its END_STREAM.
+    fn release_ended_at(&mut self, index: usize) -> bool
+        ensures stays { Stays W.contents W.failed self.old self.new }
+    {
+        match self.frames.ended().get(index).copied() {
+            Some(id) => self.release(id, true),
+            None => false,
+        }
+    }
+
+    /// Keeps those of calls that were called off.
+    fn release_called_off(&mut self) -> bool
+        ensures stays { Stays W.contents W.failed self.old self.new }
+    {
+        if !self.senders.has_called_off() {
+            return false;
+        }
+        let mut has_told = false;
+        'slots: for number in 0..self.senders.count() {
+            if self.release_called_off_at(number) {
+                has_told = true;
+            }
+        }
+        has_told
+    }
+
+    /// The same of one, by its slot's number.
+    fn release_called_off_at(&mut self, number: usize) -> bool
+        ensures stays { Stays W.contents W.failed self.old self.new }
+    {
+        match self.senders.called_off(number) {
+            Some(id) => self.release(id, false),
+            None => false,
+        }
+    }
+
+    /// Keeps the sender of a call that is through. Where it isn't through yet, that is noted: a full buffer may have cut a header block
+    /// of it. Whether the slot was told.
+    fn release(&mut self, id: StreamId, is_at_end: bool) -> bool
+        ensures stays { Stays W.contents W.failed self.old self.new }
+    {
+        match self.frames.release(id) {
+            Some(sender) => self.senders.keep(id, sender, is_at_end),
+            None => {
+                self.senders.call_off(id);
+                false
+            }
+        }
+    }
+
+    /// The streams whose END_STREAM is in the buffer: their calls take no more DATA, and from the next flush on they may have left.
+    pub fn ended(&self) -> &[StreamId]
+        ensures { result.now ≡ self.now.frames.ended.items }
+    {
+        self.frames.ended()
+    }
+
+    /// Writes what is in the buffer. After a fault nothing more is written, and the connection is to be stopped.
+    pub fn flush(&mut self) -> Result<(), DeviceFault>
+        ensures stays { Stays W.contents W.failed self.old self.new }
+        ensures flushed { IsFlushed self.new }
+    {
+        self.frames.flush()
+    }
+
+    /// The streams whose END_STREAM the last flush wrote.
+    pub fn left(&self) -> &[StreamId]
+        ensures { result.now ≡ self.now.frames.left.items }
+    {
+        self.frames.left()
+    }
+
+    // ---- the end
+
+    /// What comes once the buffer was filled and written; `is_silent` where it was empty.
+    pub fn rest(&self, filled: Filled, is_silent: bool) -> Rest
+        ensures over { result ≡ rest.Over → filled ≡ filling.Over }
+        ensures stopped { result ≡ rest.StoppedOver → filled ≡ filling.Stopped }
+    {
+        match filled {
+            Filled::Full => Rest::None,
+            Filled::Idle if !is_silent => Rest::None,
+            Filled::Idle => Rest::Idle,
+            Filled::Stopped if self.closed => Rest::StoppedOver,
+            Filled::Stopped => Rest::Stopped,
+            Filled::Over => Rest::Over,
+        }
+    }
+
+    /// How many slots there are.
+    pub fn slots(&self) -> usize {
+        self.senders.count()
+    }
+
+    /// The stream of a slot's call that waits for a window which won't open, since the input has ended: the call is to be cut.
+    pub fn stuck(&self, number: usize) -> Option<StreamId>
+        ensures ended { IfSome result (λ id. self.now.input_ended ≡ true) }
+        ensures held { IfSome result (λ id. is_held (open_stream self.now.frames.core id)
+            (room self.now.frames.core.sending.outbound.states.windows id) ≡ true) }
+    {
+        if !self.input_ended {
+            return None;
+        }
+        let id = self.senders.stream_of(number)?;
+        if self.frames.held(id) { Some(id) } else { None }
+    }
+
+    /// What is handed back once no more is to be written.
+    pub fn into_end(self) -> Written<W>
+        requires flushed { IsFlushed self }
+        ensures written { (before : Option (List ℕ)) → LedOut W.contents W.failed before self
+            → HasWritten W.contents W.failed before (orders_of (taken result.orders)) result.ending result.device }
+        ensures ring { result.orders ≡ self.inbox.ring }
+    {
+        let ending = self.ending();
+        let SlotWriter { inbox, frames, .. } = self;
+        let (_senders, device) = frames.into_parts();
+        Written {
+            ending,
+            device,
+            orders: inbox.ring,
+        }
+    }
+
+    fn ending(&self) -> Option<Ending>
+        ensures memory { self.now.frames.standing ≡ stands.OutOfMemory → result ≡ Some ending.OutOfMemory }
+        ensures each { result ≢ Some ending.OutOfMemory → result ≢ Some ending.WriteFailed
+            → (self.now.inbox.has_lost ≡ false) × (self.now.inbox.set_aside ≡ None) }
+    {
+        if self.inbox.has_lost {
+            return Some(Ending::OutOfMemory);
+        }
+        match self.frames.standing() {
+            Standing::OutOfMemory => Some(Ending::OutOfMemory),
+            Standing::Broken => Some(Ending::WriteFailed),
+            // It doesn't come that an order is set aside still.
+            Standing::Going if self.inbox.set_aside.is_some() => Some(Ending::WriteFailed),
+            Standing::Going => match self.failed {
+                Some(code) => Some(Ending::ProtocolError(code)),
+                None => None,
+            },
+        }
+    }
+}
+
+/// Whether an order says that no more orders come.
+fn is_close(order: &Order) -> bool
+    ensures close { result ≡ true → order.now ≡ orders.Close }
+{
+    matches!(order, Control::Close)
+}
