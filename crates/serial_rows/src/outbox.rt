@@ -1,5 +1,8 @@
 //! The reader's end of the ring of orders.
 
+ghost use Rattle.std.specs.Prelude.{◌≡◌, [], IfOk};
+ghost use Rattle.lane.specs.Ring.{taken};
+
 use anyhow::Result;
 use callslot::Order;
 use lane::{Ring, RingIn, RingOut};
@@ -29,7 +32,9 @@ pub struct Outbox {
 
 impl Outbox {
     /// Both ends of a ring with room for so many orders.
-    pub fn open(alloc: Global, room: usize) -> Result<(Outbox, RingOut<Order>)> {
+    pub fn open(alloc: Global, room: usize) -> Result<(Outbox, RingOut<Order>)>
+        ensures none { IfOk result (λ r. taken r.1 ≡ []) }
+    {
         let (ring, taking) = Ring::open(alloc, room)?;
         let outbox = Outbox {
             ring,

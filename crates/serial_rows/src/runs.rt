@@ -260,7 +260,10 @@ impl Run<'_> {
     }
 
     /// Reads the next frames, where nothing waits.
-    fn read<A: Ledger, B: Ledger, C: Ledger>(&mut self, credit: &mut Credit<A, B, C>) -> Result<()> {
+    fn read<A: Ledger, B: Ledger, C: Ledger>(
+        &mut self,
+        credit: &mut Credit<A, B, C>,
+    ) -> Result<()> {
         if !self.serial.is_reading() {
             return Ok(());
         }

@@ -1,7 +1,6 @@
 //! What the worker of a slot is at, and how it goes on in turns: as in the server's crate `callworker`, where a thread waits.
 
 ghost use Rattle.std.specs.Prelude.{◌≡◌};
-ghost use Rattle.lane.specs.RingLane.{out_name, ring_of};
 
 use crate::running::{Giving, Gone, Moment, Running};
 use callbox::{GivenShut, Giver, Taker};
@@ -55,6 +54,8 @@ pub enum Work {
 }
 
 impl Work {
+    ghost use Rattle.std.specs.Prelude.{None, Some, MatchOption};
+    ghost use Rattle.lane.specs.RingLane.{out_name, ring_of};
     ghost use Rattle.serial_rows.specs.Works.{ring_in};
 
     /// Whether it is free for the next call.
@@ -119,8 +120,7 @@ impl Work {
         match mem::replace(self, Work::Moving) {
             Work::Rests(taker, end) => {
                 let mut taker = taker;
-                taker.drain();
-                if taker.begin(alloc) {
+                if gets_all(alloc, &mut taker) {
                     slot.rest();
                     *self = Work::Free(taker, end);
                     return true;
@@ -145,8 +145,11 @@ impl Work {
         }
     }
 
-    /// What is left of it. A call that wasn't answered is left.
-    pub fn into_ends(self) -> Option<(Taker<InLane>, Giving)> {
+    /// What is left of it.
+    pub fn into_ends(self) -> Option<(Taker<InLane>, Giving)>
+        ensures ring { MatchOption result (ring_in self ≡ None)
+            (λ ends. ring_in self ≡ Some (ring_of (out_name ends.0.rx))) }
+    {
         match self {
             Work::Free(taker, end) | Work::Rests(taker, end) | Work::Over(taker, end) => {
                 Some((taker, end))
@@ -159,6 +162,10 @@ impl Work {
         }
     }
 }
+
+ghost use Rattle.std.specs.Prelude.{Some};
+ghost use Rattle.lane.specs.RingLane.{out_name, ring_of};
+ghost use Rattle.serial_rows.specs.Works.{ring_in};
 
 /// The giver of the next call, or what is left of the last one's.
 fn giver_of(alloc: Global, end: Giving) -> Result<Giver<OutLane>, GivenShut<OutLane>> {
@@ -175,7 +182,9 @@ fn answering(
     job: Job,
     taker: Taker<InLane>,
     giver: Giver<OutLane>,
-) -> Work {
+) -> Work
+    ensures ring { ring_in result ≡ Some (ring_of (out_name taker.rx)) }
+{
     if moment.methods.get(job.index).is_none() {
         return Work::Rests(taker, End::Shut(giver.leave()));
     }
@@ -183,7 +192,9 @@ fn answering(
 }
 
 /// A turn of a call, and what its worker is at then.
-fn turn(call: Running, moment: Moment<'_>, is_live: bool) -> (Work, Came) {
+fn turn(call: Running, moment: Moment<'_>, is_live: bool) -> (Work, Came)
+    ensures ring { ring_in result.0 ≡ Some (ring_of (out_name call.run.taker.rx)) }
+{
     let mut call = call;
     let id = call.id;
     let gone = call.turn(moment, is_live);
@@ -207,4 +218,12 @@ fn shut_of(end: Giving) -> GivenShut<OutLane> {
         End::Open(giver) => giver.leave(),
         End::Shut(shut) => shut,
     }
+}
+
+/// Gets what there is of a call that was answered, and goes on to the next one where that is all of it.
+fn gets_all(alloc: Global, taker: &mut Taker<InLane>) -> bool
+    ensures ring { ring_of (out_name taker.new.rx) ≡ ring_of (out_name taker.old.rx) }
+{
+    taker.drain();
+    taker.begin(alloc)
 }

@@ -70,7 +70,10 @@ impl SerialWorker {
             }
         }
         let SerialWorker {
-            alloc, slot, work, ..
+            alloc,
+            slot,
+            work,
+            ..
         } = self;
         match work.stream() {
             Some(id) => work.answer(moment, &**slot, book.is_live(id)),

@@ -1,5 +1,8 @@
 //! The writer of a connection, which has turns: its steps are those of the server's writing thread.
 
+ghost use Rattle.std.specs.Prelude.{◌≡◌, [], true};
+ghost use Rattle.lane.specs.Ring.{taken};
+
 use crate::credit::Credit;
 use crate::pipe::Pipe;
 use callslot::{Ending, Order};
@@ -92,7 +95,9 @@ impl Writing {
     }
 
     /// An order was lost for want of memory.
-    fn give_up<A: Ledger, B: Ledger, C: Ledger>(&mut self, book: &mut ConnBook<A, B, C>) {
+    fn give_up<A: Ledger, B: Ledger, C: Ledger>(&mut self, book: &mut ConnBook<A, B, C>)
+        requires lost { self.old.machine.inbox.has_lost ≡ true }
+    {
         self.machine.give_up(book.last());
         self.stop(book);
     }
