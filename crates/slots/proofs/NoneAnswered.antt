@@ -27,6 +27,7 @@ module _ (answers : ℕ → List (List ℕ) → Bool → Step → Type 0) where
     method = refl;
     answered = record {
       overdue = false;
+      timed = λ over. absurd cc;
       items = [];
       outcome = λ answer is. Unended [] (answer.replies, refl) (inl (refl, refl)) refl;
       ends = inl none;
