@@ -291,8 +291,19 @@ fn number_at(content: &[u8], place: usize) -> u32 {
 
 fn push_hex(text: &mut String, bytes: &[u8]) -> Result<()> {
     for byte in bytes {
-        write!(text, "{byte:02x}")?;
+        push_digit(text, *byte >> 4)?;
+        push_digit(text, *byte & 15)?;
     }
+    Ok(())
+}
+
+fn push_digit(text: &mut String, digit: u8) -> Result<()> {
+    let octet = match digit {
+        0..=9 => b'0' + digit,
+        10..=15 => b'a' + (digit - 10),
+        _ => b'?',
+    };
+    text.push(char::from(octet))?;
     Ok(())
 }
 
