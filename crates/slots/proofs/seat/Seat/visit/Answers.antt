@@ -8,7 +8,7 @@ use Rattle.slots.proofs.seat.Seat.visit.Goals as goal
 pub invariant_of-self : goal.invariant_of-self
 invariant_of-self g c =
     let gave : FnOnceReturnsAtMut g.F.FnOnce c.args.visit c.args.self.now.worker c.visit.result c.visit.new.arg2 =
-        record { shown = _; shows = refl; left = _; met = c.visit.ensures; leaves = refl } in
+    record { shown = _; shows = refl; left = _; met = c.visit.ensures; leaves = refl } in
     let same = c.requires.keeps c.args.self.now.worker c.visit.result c.visit.new.arg2 gave in
     record {
       one_ring = subst (λ (name : LaneName). IsSomeAnd (ring_in c.args.self.now.half) (λ ring. ring ≡ name)) (sym same.0) c.args.self.now.one_ring;
