@@ -1,6 +1,6 @@
 //! New slots, each with a worker of its own.
 
-ghost use Rattle.std.specs.Prelude.{◌≡◌, [], ◌∷◌, List, IfOk, Unit};
+ghost use Rattle.std.specs.Prelude.{◌≡◌, [], ◌∷◌, List, IfOk};
 ghost use Rattle.session.specs.declared.event.InEvent.TheVariants as events;
 ghost use Rattle.slots.specs.Seats.{IsSeat, jobs_of};
 ghost use Rattle.slots.specs.Steps.{Admitted, Step, Told};

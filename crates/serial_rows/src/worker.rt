@@ -1,6 +1,6 @@
 //! The worker of a slot, which has turns.
 
-ghost use Rattle.std.specs.Prelude.{◌≡◌, IsSomeAnd, Unit};
+ghost use Rattle.std.specs.Prelude.{◌≡◌, IsSomeAnd};
 ghost use Rattle.std.specs.Option.{IsSomeAnd-prop};
 ghost use Rattle.lane.specs.Ring as ring;
 ghost use Rattle.lane.specs.RingLane.{LaneName_set, out_name, ring_of};
@@ -123,8 +123,6 @@ impl SerialWorker {
 }
 
 impl Worker for SerialWorker {
-    ghost use Rattle.std.specs.Prelude.{ℕ, List, Bool, Unit};
-
     ghost lane = { λ worker. ring_of (out_name worker.first.value.rx) };
 
     ghost jobs = { λ worker. ring.out_name worker.jobs };
