@@ -1,44 +1,39 @@
-//! A connection in one thread: each step of its reader, its calls and its writer comes when it is asked for.
+//! A connection in one thread: each step of its reader, of the workers of its slots and of its writer comes when it is asked for.
+//!
+//! It decides nothing by itself: what the reader does with each event the crate `slots` decides, what the writer does with each order
+//! `slotwriter`; the credit book is asked as the server's threads ask it.
 
-ghost use Rattle.std.specs.Prelude.{◌≡◌};
+ghost use Rattle.std.specs.Prelude.{◌≡◌, ◌<◌};
 
 use crate::credit::Credit;
+use crate::outbox::{Outbox, Put};
 use crate::pipe::Pipe;
-use crate::running::{InLane, OutLane, Running};
-use anyhow::{Context, Result, bail};
-use callbox::{FedShut, Feeder, Sender, open_call};
+use crate::running::Moment;
+use crate::seats::open_seat;
+use crate::worker::SerialWorker;
+use crate::writing::Writing;
+use anyhow::{Result, bail};
 use callhead::CallHead;
-use callrun::Turn;
-use calltable::CallTable;
-use calltable::orders::{end_connection, pass_on, refuse_head, refuse_unknown, turn_away};
-use connbook::{AdmitFault, ConnBook, Receipt};
-use connwriter::{ConnWriter, Filled, Standing, Taking};
-use device::Marked;
-use flow::MAX_LIVE;
+use callslot::{CallReport, Ending, Job, Order};
+use connbook::{AdmitFault, ConnBook};
 use h2frame::{ErrorCode, StreamId};
 use handlers::Methods;
 use outwriter::Control;
 use session::{InCore, InEvent};
-use std::alloc::Global;
+use slots::{Decided, Reading};
+use std::alloc::{AllocError, Global};
 use std::collections::VecDeque;
 use std::sync::ledger::Ledger;
 
-type Order = Control<Sender<OutLane>>;
-
-type Device = Marked<Pipe>;
-
-/// Room for the pieces of a call's DATA.
-const IN_ROOM: usize = 4096;
-
-/// Room for what a call is answered with: so few items that calls find it full.
-const OUT_ROOM: usize = 2;
+/// How many turns the writer has at most, until there is room for an order.
+const TURNS: u32 = 4096;
 
 /// A step of a connection.
 #[derive(Clone, Copy, Debug, PartialEq, Eq)]
 pub enum Step {
     /// The reader looks at the next event; where none waits, it reads the next frame.
     Read,
-    /// One of the calls has a turn: that at this place among those that are answered.
+    /// The worker of the slot of this number has a turn.
     Turn(usize),
     /// The writer takes an order.
     Order,
@@ -46,36 +41,21 @@ pub enum Step {
     Announce,
     /// The writer puts frames into its buffer.
     Fill,
+    /// The writer lets go of the senders of calls that are through.
+    Release,
     /// The writer writes out its buffer.
     Flush,
 }
 
-/// How a connection ended.
-#[derive(Clone, Copy, Debug, PartialEq, Eq)]
-pub enum Ending {
-    /// With its input.
-    InputEnded,
-    /// The same, behind a GOAWAY of the client.
-    PeerGoaway,
-    /// With an error that the client was told.
-    ProtocolError,
-    /// With a write that failed.
-    WriteFailed,
-    /// For want of memory.
-    OutOfMemory,
-}
-
-impl Ending {
-    /// Its number in the texts that are wanted.
-    pub fn code(self) -> u32 {
-        match self {
-            Ending::InputEnded => 1,
-            Ending::PeerGoaway => 2,
-            Ending::ProtocolError => 3,
-            Ending::WriteFailed => 5,
-            Ending::OutOfMemory => 6,
-        }
-    }
+/// What came of a connection.
+#[derive(Drop)]
+pub struct Outcome {
+    pub ending: Ending,
+    pub output: Pipe,
+    /// A row for each call, by rising stream.
+    pub rows: Vec<CallReport>,
+    /// The kinds of the orders that were put.
+    pub orders: Vec<&'static str>,
 }
 
 /// What a connection in one thread has, beside its credit book.
@@ -85,179 +65,176 @@ pub struct Serial<'a> {
     methods: &'a Methods,
     core: InCore,
     events: VecDeque<InEvent>,
-    table: CallTable<Feeder<InLane>, FedShut<InLane>>,
-    running: Vec<Running>,
-    orders: VecDeque<Order>,
-    writer: ConnWriter<OutLane, Device>,
-    filled: Filled,
-    /// Whether the reader has seen an error that ends the connection.
-    failed: bool,
-    /// Whether there was no memory for what the connection needs.
-    lacks_memory: bool,
+    reading: Reading<SerialWorker>,
+    /// A call that was admitted, and waits for a slot.
+    waiting: Option<Job>,
+    outbox: Outbox,
+    pub writing: Writing,
+    rows: Vec<CallReport>,
+    /// How many calls were admitted.
+    pub admitted: u64,
+    /// How the connection ended, if the reader ended it.
+    ended: Option<Ending>,
     /// Whether a call ended for want of memory.
-    call_ran_out: bool,
-    /// Whether the client opens no more streams.
-    peer_goaway: bool,
-    /// Whether the writer was told that no more comes from the peer.
-    input_ended: bool,
+    pub call_ran_out: bool,
     /// The moment that the server's clock shows.
     pub clock: u64,
+    /// A stream whose call finds no memory, and behind how many of its turns.
+    lacks: Option<(StreamId, u64)>,
     /// How many turns calls had.
     pub turns: u64,
 }
 
 impl<'a> Serial<'a> {
-    pub fn new(alloc: Global, methods: &'a Methods, output: Pipe) -> Serial<'a> {
-        Serial {
+    /// A connection with room for so many orders.
+    pub fn new(
+        alloc: Global,
+        methods: &'a Methods,
+        output: Pipe,
+        orders: usize,
+        lacks: Option<(StreamId, u64)>,
+    ) -> Result<Serial<'a>> {
+        let (outbox, taking) = Outbox::open(alloc, orders)?;
+        Ok(Serial {
             alloc,
             methods,
             core: InCore::new(alloc),
             events: VecDeque::new(alloc),
-            table: CallTable::new(alloc),
-            running: Vec::new(alloc),
-            orders: VecDeque::new(alloc),
-            writer: ConnWriter::new(alloc, Marked::new(output)),
-            filled: Filled::Idle,
-            failed: false,
-            lacks_memory: false,
+            reading: Reading::new(alloc),
+            waiting: None,
+            outbox,
+            writing: Writing::new(alloc, taking, output),
+            rows: Vec::new(alloc),
+            admitted: 0,
+            ended: None,
             call_ran_out: false,
-            peer_goaway: false,
-            input_ended: false,
             clock: 0,
+            lacks,
             turns: 0,
-        }
+        })
     }
 
-    /// Whether a frame can be read: no event waits, and no error was seen.
+    /// Whether the reader reads on: it ended nothing, and the writer hasn't stopped.
+    pub fn reads_on(&self) -> bool {
+        self.ended.is_none() && !self.writing.has_stopped
+    }
+
+    /// Whether bytes can be read: nothing waits.
     pub fn is_reading(&self) -> bool {
-        self.events.is_empty() && !self.failed
+        self.events.is_empty() && self.waiting.is_none() && self.reads_on()
     }
 
-    /// How many calls are being answered.
-    pub fn calls(&self) -> usize {
-        self.running.len()
+    /// How many slots there are.
+    pub fn slots(&self) -> usize {
+        self.reading.slots()
     }
 
     /// How many orders wait for the writer.
-    pub fn waiting(&self) -> usize {
-        self.orders.len()
-    }
-
-    /// The greatest stream whose call was admitted.
-    pub fn last(&self) -> StreamId {
-        self.table.last()
-    }
-
-    /// How the connection ended.
-    pub fn ending(&self) -> Ending {
-        let standing = self.writer.standing();
-        if self.lacks_memory || standing == Standing::OutOfMemory {
-            Ending::OutOfMemory
-        } else if standing == Standing::Broken {
-            Ending::WriteFailed
-        } else if self.failed {
-            Ending::ProtocolError
-        } else if self.peer_goaway {
-            Ending::PeerGoaway
-        } else {
-            Ending::InputEnded
-        }
-    }
-
-    /// Whether there was no memory for the connection or for one of its calls.
-    pub fn ran_out(&self) -> bool {
-        self.call_ran_out || self.ending() == Ending::OutOfMemory
+    pub fn orders(&self) -> u64 {
+        self.outbox.count.saturating_sub(self.writing.taken)
     }
 
     /// Whether nothing waits, and the writer's last look found nothing to write, or it writes no more.
     pub fn is_idle(&self) -> bool {
-        let is_written = self.writer.is_flushed() && self.filled != Filled::Full;
         self.events.is_empty()
-            && self.orders.is_empty()
-            && (is_written || self.filled == Filled::Stopped)
+            && self.waiting.is_none()
+            && self.orders() == 0
+            && self.writing.is_idle()
     }
 
-    /// What was written, and how many writes there were.
-    pub fn into_output(self) -> Pipe {
-        let Serial { writer, .. } = self;
-        let (_senders, device) = writer.into_parts();
-        device.into_inner()
-    }
+    // ---- the reader
 
     /// Reads bytes: their events wait behind the others.
-    pub fn feed(&mut self, piece: &[u8]) -> Result<()> {
-        for event in self.core.feed(piece)? {
-            self.events.push_back(event)?;
+    pub fn feed<A: Ledger, B: Ledger, C: Ledger>(
+        &mut self,
+        credit: &mut Credit<A, B, C>,
+        piece: &[u8],
+    ) -> Result<()> {
+        match self.core.feed(piece) {
+            Ok(events) => {
+                for event in events {
+                    self.events.push_back(event)?;
+                }
+                Ok(())
+            }
+            Err(AllocError) => {
+                let order = self.reading.goaway(ErrorCode::InternalError);
+                self.put(credit, order)?;
+                self.finish(&mut credit.book, Ending::OutOfMemory);
+                Ok(())
+            }
         }
-        Ok(())
     }
 
-    /// Looks at the next event, if one waits.
+    /// Looks at the next event, if one waits; or at the call that waits for a slot.
     pub fn follow_next<A: Ledger, B: Ledger, C: Ledger>(
         &mut self,
         credit: &mut Credit<A, B, C>,
     ) -> Result<()>
         requires one_part { (A.parts ≡ 1) × (B.parts ≡ 1) }
     {
-        let Some(event) = self.events.pop_front() else {
-            return Ok(());
-        };
-        match event {
-            InEvent::Open(id, head) => self.open(credit, id, head),
+        if let Some(job) = self.waiting.take() {
+            return self.start_again(credit, job);
+        }
+        match self.events.pop_front() {
+            Some(event) => self.follow(credit, event),
+            None => Ok(()),
+        }
+    }
+
+    /// What one event leads to.
+    fn follow<A: Ledger, B: Ledger, C: Ledger>(
+        &mut self,
+        credit: &mut Credit<A, B, C>,
+        event: InEvent,
+    ) -> Result<()>
+        requires one_part { (A.parts ≡ 1) × (B.parts ≡ 1) }
+    {
+        let decided = match event {
+            InEvent::Open(id, head) => return self.open(credit, id, head),
             InEvent::Data(id, bytes, flow) => {
                 let len = u32::try_from(bytes.len()).unwrap_or(u32::MAX);
                 let receipt = credit.receive(id, flow, flow.saturating_sub(len));
-                let order = self.table.data(id, bytes, receipt);
-                self.judge(&mut credit.book, id, receipt, order)
+                self.reading.data(id, bytes, receipt)
             }
             InEvent::Loose(flow) => {
                 let receipt = credit.receive(0, flow, 0);
-                if receipt == Receipt::Overrun {
-                    return self.fail(&mut credit.book, ErrorCode::FlowControlError);
-                }
-                Ok(())
+                self.reading.loose(receipt)
             }
-            other => self.follow(&mut credit.book, other),
-        }
+            other => match self.heed(&mut credit.book, other) {
+                Some(decided) => decided,
+                None => return Ok(()),
+            },
+        };
+        self.act(credit, decided)
     }
 
-    /// What an event leads to that counts no bytes and begins no call.
-    fn follow<A: Ledger, B: Ledger, C: Ledger>(
+    /// What is decided of an event that counts no bytes and begins no call; none where that is nothing.
+    fn heed<A: Ledger, B: Ledger, C: Ledger>(
         &mut self,
         book: &mut ConnBook<A, B, C>,
         event: InEvent,
-    ) -> Result<()> {
+    ) -> Option<Decided> {
         match event {
-            InEvent::BadHead(id, fault) => {
-                let order = refuse_head(self.alloc, self.table.last(), id, fault)?;
-                self.put(order)
-            }
             InEvent::End(id) => {
                 book.end_remote(id);
-                self.table.end(id);
-                Ok(())
+                self.reading.end_half(id);
+                None
             }
-            InEvent::Reset(id, code) => {
-                let order = self.table.reset(id, code);
-                book.cut(id);
-                self.put(order)
-            }
-            InEvent::StreamError(id, code) => {
-                let order = self.table.fail(id, code);
-                book.cut(id);
-                self.put(order)
-            }
-            InEvent::Control(news) => self.put(pass_on(news)),
-            InEvent::Fatal(code) => self.fail(book, code),
             InEvent::PeerGoaway => {
-                self.peer_goaway = true;
-                Ok(())
+                self.reading.hear_goaway();
+                None
             }
-            InEvent::Open(_, _) | InEvent::Data(_, _, _) | InEvent::Loose(_) => Ok(()),
+            InEvent::BadHead(id, fault) => Some(self.reading.refuse(id, fault)),
+            InEvent::Reset(id, code) => Some(self.reading.reset(id, code)),
+            InEvent::StreamError(id, code) => Some(self.reading.fail(id, code)),
+            InEvent::Control(news) => Some(self.reading.pass_on(news)),
+            InEvent::Fatal(code) => Some(self.reading.fatal(code)),
+            InEvent::Open(_, _) | InEvent::Data(_, _, _) | InEvent::Loose(_) => None,
         }
     }
 
-    /// Begins a call, or refuses one that no method answers or that is one too many.
+    /// A stream begins with the head of a call. A call of a method is to be admitted by the lock.
     fn open<A: Ledger, B: Ledger, C: Ledger>(
         &mut self,
         credit: &mut Credit<A, B, C>,
@@ -266,223 +243,269 @@ impl<'a> Serial<'a> {
     ) -> Result<()>
         requires one_part { (A.parts ≡ 1) × (B.parts ≡ 1) }
     {
-        let Some(index) = self.methods.find(head.path.as_slice()) else {
-            let order = refuse_unknown(self.alloc, id)?;
-            return self.put(order);
+        let index = self.methods.find(head.path.as_slice());
+        let job = match self.reading.open(id, head, index, self.clock) {
+            Ok(job) => job,
+            Err(decided) => return self.act(credit, decided),
         };
-        if let Err(fault) = credit.admit(id) {
-            if fault == AdmitFault::OutOfMemory {
-                self.lacks_memory = true;
-                credit.book.stop();
+        match credit.admit(id) {
+            Ok(()) => {
+                self.admitted = self.admitted.saturating_add(1);
+                self.start(credit, job)
             }
-            let order = turn_away(self.table.last(), id, fault);
-            return self.put(order);
+            Err(fault) => self.turn_away(credit, id, fault),
         }
-        if id <= self.table.last() {
-            bail!("stream {id} was admitted twice");
+    }
+
+    /// A call isn't admitted, or no slot can be had for it.
+    fn turn_away<A: Ledger, B: Ledger, C: Ledger>(
+        &mut self,
+        credit: &mut Credit<A, B, C>,
+        id: StreamId,
+        fault: AdmitFault,
+    ) -> Result<()> {
+        let decided = self.reading.turn_away(id, fault);
+        self.act(credit, decided)
+    }
+
+    /// Has a worker answer a call that was admitted: that of a free slot, or of a new one. Where there are as many slots as calls may be
+    /// live, it waits.
+    fn start<A: Ledger, B: Ledger, C: Ledger>(
+        &mut self,
+        credit: &mut Credit<A, B, C>,
+        job: Job,
+    ) -> Result<()>
+        requires above { self.old.reading.slots.last < job.id }
+    {
+        let job = match self.reading.engage(job) {
+            Ok(decided) => return self.act(credit, decided),
+            Err(job) => job,
+        };
+        if !self.reading.is_full() {
+            return self.open_slot(credit, job);
         }
-        let (feeder, taker, giver, sender) = open_call::<InLane, OutLane>(
-            self.alloc, id, IN_ROOM, OUT_ROOM,
-        )?;
-        let order = self.table.open(id, feeder, sender)?;
-        let call = Running::new(
-            self.alloc,
-            self.methods,
+        if self.writing.has_stopped {
+            return self.turn_away(credit, job.id, AdmitFault::Draining);
+        }
+        self.abandon_all(credit)?;
+        self.waiting = Some(job);
+        Ok(())
+    }
+
+    /// Looks again for a slot for a call that waits.
+    fn start_again<A: Ledger, B: Ledger, C: Ledger>(
+        &mut self,
+        credit: &mut Credit<A, B, C>,
+        job: Job,
+    ) -> Result<()> {
+        let Job {
             id,
             index,
             head,
-            (taker, giver),
-            self.clock,
-        );
-        self.running.push(call)?;
-        self.put(order)
+            opened,
+        } = job;
+        match self.reading.open(id, head, Some(index), opened) {
+            Ok(job) => self.start(credit, job),
+            Err(decided) => self.act(credit, decided),
+        }
     }
 
-    /// What the lock said of bytes that came.
-    fn judge<A: Ledger, B: Ledger, C: Ledger>(
+    /// Has the worker of a new slot answer a call.
+    fn open_slot<A: Ledger, B: Ledger, C: Ledger>(
+        &mut self,
+        credit: &mut Credit<A, B, C>,
+        job: Job,
+    ) -> Result<()>
+        requires above { self.old.reading.slots.last < job.id }
+    {
+        let id = job.id;
+        let decided = match self.reading.reserve() {
+            Err(AllocError) => self.reading.lack(id),
+            Ok(()) => match open_seat(self.alloc, job) {
+                Ok(made) => self.reading.add(made.seat, made.fresh),
+                Err(AllocError) => self.reading.lack(id),
+            },
+        };
+        self.act(credit, decided)
+    }
+
+    /// Cuts the calls that are no longer live, though their clients neither ended nor reset them: before that their slots aren't free.
+    fn abandon_all<A: Ledger, B: Ledger, C: Ledger>(
+        &mut self,
+        credit: &mut Credit<A, B, C>,
+    ) -> Result<()> {
+        'places: for place in 0..self.reading.slots() {
+            if let Some((id, has_trailers)) = self.reading.answered(place) {
+                if !credit.book.has_stopped() && !credit.book.is_live(id) {
+                    let decided = self.reading.abandon(id, has_trailers);
+                    self.act(credit, decided)?;
+                }
+            }
+        }
+        Ok(())
+    }
+
+    /// Does what was decided: what is ordered first, then the half that is to be shut.
+    fn act<A: Ledger, B: Ledger, C: Ledger>(
+        &mut self,
+        credit: &mut Credit<A, B, C>,
+        decided: Decided,
+    ) -> Result<()> {
+        let Decided {
+            first,
+            second,
+            cut,
+            ends,
+        } = decided;
+        self.put_some(credit, first)?;
+        self.put_some(credit, second)?;
+        if let Some(cut) = cut {
+            self.reading.shut(cut);
+            credit.book.cut(cut.id);
+        }
+        if let Some(ending) = ends {
+            self.finish(&mut credit.book, ending);
+        }
+        Ok(())
+    }
+
+    /// The reader ends the connection: no call is live, and no event is looked at any more.
+    fn finish<A: Ledger, B: Ledger, C: Ledger>(
         &mut self,
         book: &mut ConnBook<A, B, C>,
-        id: StreamId,
-        receipt: Receipt,
+        ending: Ending,
+    ) {
+        self.ended = Some(ending);
+        self.events.clear();
+        book.stop();
+    }
+
+    fn put_some<A: Ledger, B: Ledger, C: Ledger>(
+        &mut self,
+        credit: &mut Credit<A, B, C>,
         order: Option<Order>,
     ) -> Result<()> {
-        if receipt == Receipt::Overrun {
-            book.stop();
-            self.failed = true;
-        } else if order.is_some() {
-            book.cut(id);
-        }
         match order {
-            Some(order) => self.put(order),
+            Some(order) => self.put(credit, order),
             None => Ok(()),
         }
     }
 
-    /// The connection ends by an error.
-    fn fail<A: Ledger, B: Ledger, C: Ledger>(
+    /// Puts an order. While there is no room the writer has its turns.
+    fn put<A: Ledger, B: Ledger, C: Ledger>(
         &mut self,
-        book: &mut ConnBook<A, B, C>,
-        code: ErrorCode,
+        credit: &mut Credit<A, B, C>,
+        order: Order,
     ) -> Result<()> {
-        self.failed = true;
-        book.stop();
-        let last = self.table.last();
-        self.put(end_connection(last, code))
+        let mut order = order;
+        'turns: for _ in 0..TURNS {
+            match self.outbox.put(order, self.writing.has_stopped)? {
+                Put::Done => return Ok(()),
+                Put::Full(back) => order = back,
+            }
+            self.writing.round(credit);
+        }
+        bail!("no room for an order")
     }
 
-    fn put(&mut self, order: Order) -> Result<()> {
-        self.orders.push_back(order)?;
-        Ok(())
+    /// No more comes: the calls that their clients neither ended nor reset are cut.
+    pub fn end_input<A: Ledger, B: Ledger, C: Ledger>(
+        &mut self,
+        credit: &mut Credit<A, B, C>,
+    ) -> Result<()> {
+        'places: for place in 0..self.reading.slots() {
+            if let Some(decided) = self.reading.cut_off(place) {
+                self.act(credit, decided)?;
+            }
+        }
+        self.put(credit, Control::InputEnded)
     }
 
-    /// Gives one of the calls a turn; whether it did something.
+    /// No call is answered any more.
+    pub fn close<A: Ledger, B: Ledger, C: Ledger>(
+        &mut self,
+        credit: &mut Credit<A, B, C>,
+    ) -> Result<()> {
+        let mut order = Control::Close;
+        'turns: for _ in 0..TURNS {
+            match self.outbox.put_last(order)? {
+                Put::Done => return Ok(()),
+                Put::Full(back) => order = back,
+            }
+            self.writing.round(credit);
+        }
+        bail!("no room for the last order")
+    }
+
+    // ---- the workers
+
+    /// Gives the worker of a slot a turn; whether it did something.
     pub fn turn<A: Ledger, B: Ledger, C: Ledger>(
         &mut self,
         book: &mut ConnBook<A, B, C>,
         place: usize,
     ) -> Result<bool> {
-        let methods = self.methods;
-        let Some(call) = self.running.get_mut(place) else {
+        let moment = Moment {
+            methods: self.methods,
+            now: self.clock,
+            lacks: self.lacks,
+        };
+        let shared: &ConnBook<A, B, C> = book;
+        let Some(came) = self
+            .reading
+            .visit(place, |worker| worker.turn(moment, shared))
+        else {
             return Ok(false);
         };
-        self.turns = self.turns.saturating_add(1);
-        let turn = call.turn(methods, self.clock);
-        self.call_ran_out = self.call_ran_out || call.ran_out();
-        let credit = call.credit();
-        if credit > 0 {
-            // Where the call is no longer live, its bytes were returned already.
-            let _ = book.give_back(call.id, credit);
-        }
-        match turn {
-            Turn::Went => Ok(true),
-            Turn::Nothing | Turn::Full => {
-                let is_live = book.is_live(call.id);
-                if !is_live {
-                    call.leave(methods);
-                }
-                Ok(!is_live)
-            }
-            Turn::Over => {
-                self.settle(book, place)?;
-                Ok(true)
-            }
-        }
-    }
-
-    /// A call is over. One without trailers is live no more; where there was no memory for them, its stream is reset.
-    fn settle<A: Ledger, B: Ledger, C: Ledger>(
-        &mut self,
-        book: &mut ConnBook<A, B, C>,
-        place: usize,
-    ) -> Result<()> {
-        if place >= self.running.len() {
-            return Ok(());
-        }
-        let call = self.running.remove(place);
-        let (id, ran_out) = (call.id, call.ran_out());
-        if call.into_status().is_some() {
-            return Ok(());
-        }
-        book.cut(id);
-        if ran_out {
-            let code = ErrorCode::InternalError;
-            self.put(Control::Reset {
-                id,
-                code,
-                written: true,
-            })?;
-        }
-        Ok(())
-    }
-
-    /// Has the writer take an order, if one waits.
-    pub fn order<A: Ledger, B: Ledger, C: Ledger>(&mut self, book: &mut ConnBook<A, B, C>) {
-        let Some(order) = self.orders.pop_front() else {
-            return;
+        self.call_ran_out = self.call_ran_out || came.ran_out;
+        let Some(id) = came.id else {
+            return Ok(came.went);
         };
-        if let Control::InputEnded = &order {
-            self.input_ended = true;
+        self.turns = self.turns.saturating_add(1);
+        if came.credit > 0 {
+            // Where the call is no longer live, its bytes were returned already.
+            let _ = book.give_back(id, came.credit);
         }
-        match self.writer.take(order, self.table.last()) {
-            Taking::Done => {}
-            Taking::Ended(0) => book.stop(),
-            Taking::Ended(id) => book.cut(id),
-            Taking::Unanswered(_) | Taking::HandedBack(_) => {
-                self.lacks_memory = true;
-                book.stop();
-            }
-        }
-    }
-
-    /// Has the writer owe the peer what credit is due.
-    pub fn announce<A: Ledger, B: Ledger, C: Ledger>(&mut self, credit: &mut Credit<A, B, C>) {
-        'calls: for place in 0..MAX_LIVE {
-            let Some(id) = credit.book.live_id(place) else {
-                break;
-            };
-            let increment = credit.announce(id);
-            if increment > 0 {
-                self.writer.grant(id, increment);
-            }
-        }
-        let increment = credit.announce(0);
-        if increment > 0 {
-            self.writer.grant(0, increment);
-        }
-    }
-
-    /// Has the writer put frames into its buffer.
-    pub fn fill<A: Ledger, B: Ledger, C: Ledger>(&mut self, book: &mut ConnBook<A, B, C>) {
-        self.filled = self.writer.fill();
-        match self.filled {
-            Filled::Stopped => book.stop(),
-            Filled::Idle => {
-                if self.input_ended {
-                    self.cut_held(book);
-                }
-            }
-            Filled::Full | Filled::Over => {}
-        }
-    }
-
-    /// Cuts the calls that wait for a window: none opens behind the input's end.
-    fn cut_held<A: Ledger, B: Ledger, C: Ledger>(&mut self, book: &mut ConnBook<A, B, C>) {
-        for place in (0..MAX_LIVE).rev() {
-            if let Some(id) = book.live_id(place) {
-                if self.writer.held(id) {
-                    book.cut(id);
-                }
-            }
-        }
-    }
-
-    /// Has the writer write out its buffer. The calls whose last frame is in it take no more DATA.
-    pub fn flush<A: Ledger, B: Ledger, C: Ledger>(&mut self, book: &mut ConnBook<A, B, C>) {
-        for id in self.writer.ended() {
-            book.end_local(*id);
-        }
-        if self.writer.flush().is_err() {
-            book.stop();
-        }
-    }
-
-    /// No more comes: the halves that are open are cut.
-    pub fn end_input<A: Ledger, B: Ledger, C: Ledger>(
-        &mut self,
-        book: &mut ConnBook<A, B, C>,
-    ) -> Result<()> {
-        for before in 0..self.table.last() {
-            let id = before.saturating_add(1);
-            if let Some(order) = self.table.cut(id) {
+        if let Some(row) = came.row {
+            if row.status.is_none() {
                 book.cut(id);
-                self.put(order)?;
             }
+            self.rows.push(row)?;
         }
-        self.put(Control::InputEnded)
+        Ok(came.went)
     }
 
-    /// No call is answered any more.
-    pub fn close(&mut self) -> Result<()> {
-        self.put(Control::Close)
+    // ---- the end
+
+    /// What came of it. The ends of each slot are brought together.
+    pub fn into_outcome(self) -> Outcome {
+        let Serial {
+            reading,
+            writing,
+            outbox,
+            mut rows,
+            ended,
+            ..
+        } = self;
+        let read = ended.unwrap_or(reading.ending());
+        let _none = reading.end();
+        let (written, output) = writing.into_end();
+        rows.sort_unstable_by_key(|row| row.id);
+        Outcome {
+            ending: ending_of(read, written),
+            output,
+            rows,
+            orders: outbox.kinds,
+        }
+    }
+}
+
+/// How a connection ended, by what the reader and the writer see.
+fn ending_of(read: Ending, written: Option<Ending>) -> Ending {
+    match (read, written) {
+        (Ending::OutOfMemory, _) | (_, Some(Ending::OutOfMemory)) => Ending::OutOfMemory,
+        (_, Some(Ending::ProtocolError(code))) => Ending::ProtocolError(code),
+        (_, Some(_)) => Ending::WriteFailed,
+        (read, None) => read,
     }
 }

@@ -1,8 +1,10 @@
-//! Connections in one thread: each step of the reader, of the calls and of the writer comes in an order that a row gives, or that
+//! Connections in one thread, over what the server's threads run: the reading side of `slots`, the writing side of `slotwriter`, the
+//! calls of `callrun`. Each step of the reader, of the slots' workers and of the writer comes in an order that a row gives, or that
 //! follows from a number. `data/README.md` says how rows are written.
 //!
-//! To be read in this order: `driver`, the connection with its steps; `credit`, `running` and `pipe`, its parts; `schedule` and
-//! `runs`, the orders; `told`, what a peer reads of what was written; `digits` and `subject`, the rows.
+//! To be read in this order: `driver`, the connection with its steps; `worker`, `work` and `running`, who answers the calls of a slot;
+//! `seats`, `outbox`, `writing`, `credit` and `pipe`, the other parts; `schedule` and `runs`, the orders; `told`, what a peer reads of
+//! what was written; `digits` and `subject`, the rows.
 #![tactic(auto)]
 
 use anyhow::{Result, ensure};
@@ -16,12 +18,17 @@ use std::rt::Files;
 mod credit;
 mod digits;
 mod driver;
+mod outbox;
 mod pipe;
 mod running;
 mod runs;
 mod schedule;
+mod seats;
 mod subject;
 mod told;
+mod work;
+mod worker;
+mod writing;
 
 fn main(rt: HostRuntime) -> Result<()> {
     let alloc = rt.alloc();

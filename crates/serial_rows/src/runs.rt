@@ -3,10 +3,11 @@
 ghost use Rattle.std.specs.Prelude.{◌≡◌};
 
 use crate::credit::Credit;
-use crate::driver::{Ending, Serial, Step};
+use crate::driver::{Outcome, Serial, Step};
 use crate::pipe::Pipe;
 use crate::schedule::{Schedule, Seed, step_of};
 use anyhow::Result;
+use callslot::{CallReport, Ending};
 use h2frame::StreamId;
 use handlers::Methods;
 use std::alloc::Global;
@@ -14,7 +15,7 @@ use std::marker::Brand;
 use std::sync::ledger::{Blank, Ledger};
 
 /// How many rounds a run has at most behind its schedule, of a step of each kind.
-const ROUNDS: u32 = 4096;
+const ROUNDS: u32 = 16_384;
 
 /// How many frames a connection has at most.
 const FRAMES: u32 = 65_536;
@@ -39,6 +40,12 @@ pub struct Course<'a> {
     pub most: usize,
     /// How many writes go well, where one fails.
     pub fails_at: Option<u64>,
+    /// How many frames are read at once.
+    pub pieces: usize,
+    /// How many orders may wait for the writer.
+    pub orders: usize,
+    /// A stream whose call finds no memory, and behind how many of its turns.
+    pub lacks: Option<(StreamId, u64)>,
     /// A stream that the client resets, and behind how many turns of calls.
     pub reset: Option<(StreamId, u64)>,
     /// A moment to which the clock jumps, and behind how many turns of calls.
@@ -50,6 +57,12 @@ pub struct Course<'a> {
 pub struct Ran {
     pub written: Vec<u8>,
     pub ending: Ending,
+    /// The rows of the calls, by rising stream.
+    pub rows: Vec<CallReport>,
+    /// The kinds of the orders that were put, one behind the other.
+    pub orders: Vec<&'static str>,
+    /// Whether there is one row for each call that was admitted, and no other.
+    pub is_accounted: bool,
     /// Whether there was no memory for the connection or for one of its calls.
     pub ran_out: bool,
     /// How many turns calls had.
@@ -109,7 +122,7 @@ fn run_over<A: Ledger, B: Ledger, C: Ledger>(
     let bytes = Vec::with_capacity(alloc, WRITTEN)?;
     let pipe = Pipe::new(bytes, course.most, course.fails_at);
     let mut run = Run {
-        serial: Serial::new(alloc, methods, pipe),
+        serial: Serial::new(alloc, methods, pipe, course.orders, course.lacks)?,
         frames,
         at: 0,
         course,
@@ -135,21 +148,30 @@ impl Run<'_> {
     {
         self.follow(credit)?;
         self.rest(credit)?;
-        self.serial.end_input(&mut credit.book)?;
+        self.serial.end_input(credit)?;
         self.rest(credit)?;
-        self.serial.close()?;
+        self.serial.close(credit)?;
         self.rest(credit)
     }
 
     /// What came of it.
     fn into_ran(self) -> Ran {
         let Run { serial, .. } = self;
-        let (ending, ran_out, turns) = (serial.ending(), serial.ran_out(), serial.turns);
-        let Pipe { bytes, calls, .. } = serial.into_output();
+        let (turns, admitted, call_ran_out) = (serial.turns, serial.admitted, serial.call_ran_out);
+        let Outcome {
+            ending,
+            output,
+            rows,
+            orders,
+        } = serial.into_outcome();
+        let Pipe { bytes, calls, .. } = output;
         Ran {
             written: bytes,
             ending,
-            ran_out,
+            is_accounted: are_rising(rows.as_slice()) && rows.len() as u64 == admitted,
+            rows,
+            orders,
+            ran_out: call_ran_out || ending == Ending::OutOfMemory,
             turns,
             writes: calls,
         }
@@ -172,7 +194,7 @@ impl Run<'_> {
             Schedule::Seeded(seed, steps) => {
                 let mut seed = Seed(seed);
                 'steps: for _ in 0..steps {
-                    let step = seed.step(self.serial.calls());
+                    let step = seed.step(self.serial.slots());
                     self.step(credit, step)?;
                 }
             }
@@ -187,16 +209,17 @@ impl Run<'_> {
         'rounds: for _ in 0..ROUNDS {
             self.step(credit, Step::Read)?;
             let mut went = false;
-            'calls: for place in (0..self.serial.calls()).rev() {
+            'calls: for place in (0..self.serial.slots()).rev() {
                 went = self.step(credit, Step::Turn(place))? || went;
             }
-            'orders: for _ in 0..self.serial.waiting() {
+            'orders: for _ in 0..self.serial.orders() {
                 self.step(credit, Step::Order)?;
             }
             self.step(credit, Step::Announce)?;
             self.step(credit, Step::Fill)?;
+            self.step(credit, Step::Release)?;
             self.step(credit, Step::Flush)?;
-            if !went && self.at >= self.frames.len() && self.serial.is_idle() {
+            if !went && self.has_read() && self.serial.is_idle() {
                 break;
             }
         }
@@ -213,30 +236,44 @@ impl Run<'_> {
     {
         match step {
             Step::Read => {
-                self.read()?;
+                self.read(credit)?;
                 self.serial.follow_next(credit)?;
             }
             Step::Turn(place) => {
                 self.disturb(credit)?;
                 return self.serial.turn(&mut credit.book, place);
             }
-            Step::Order => self.serial.order(&mut credit.book),
-            Step::Announce => self.serial.announce(credit),
-            Step::Fill => self.serial.fill(&mut credit.book),
-            Step::Flush => self.serial.flush(&mut credit.book),
+            Step::Order => {
+                let _ = self.serial.writing.order(&mut credit.book);
+            }
+            Step::Announce => self.serial.writing.announce(credit),
+            Step::Fill => self.serial.writing.fill(&credit.book),
+            Step::Release => self.serial.writing.release(),
+            Step::Flush => self.serial.writing.flush(&mut credit.book),
         }
         Ok(false)
     }
 
-    /// Reads the next frame, where no event waits.
-    fn read(&mut self) -> Result<()> {
+    /// Whether nothing more is read.
+    fn has_read(&self) -> bool {
+        self.at >= self.frames.len() || !self.serial.reads_on()
+    }
+
+    /// Reads the next frames, where nothing waits.
+    fn read<A: Ledger, B: Ledger, C: Ledger>(
+        &mut self,
+        credit: &mut Credit<A, B, C>,
+    ) -> Result<()> {
         if !self.serial.is_reading() {
             return Ok(());
         }
         let frames = self.frames;
-        if let Some(frame) = frames.get(self.at) {
+        'frames: for _ in 0..self.course.pieces {
+            let Some(frame) = frames.get(self.at) else {
+                break;
+            };
             self.at = self.at.saturating_add(1);
-            self.serial.feed(frame.as_slice())?;
+            self.serial.feed(credit, frame.as_slice())?;
         }
         Ok(())
     }
@@ -255,14 +292,22 @@ impl Run<'_> {
             }
         }
         if let Some((id, turn)) = self.course.reset {
-            if self.serial.turns >= turn && self.serial.last() >= id && self.serial.is_reading() {
+            if self.serial.turns >= turn && credit.book.last() >= id && self.serial.is_reading() {
                 self.course.reset = None;
                 let mut frame = CANCEL;
                 frame[5..9].copy_from_slice(&id.to_be_bytes());
-                self.serial.feed(&frame)?;
+                self.serial.feed(credit, &frame)?;
                 self.serial.follow_next(credit)?;
             }
         }
         Ok(())
     }
+}
+
+/// Whether no two rows are of one stream; they stand in order.
+fn are_rising(rows: &[CallReport]) -> bool {
+    rows.windows(2).all(|two| match two {
+        [one, next] => one.id < next.id,
+        _ => true,
+    })
 }

@@ -14,13 +14,14 @@ pub enum Schedule<'a> {
     Seeded(u64, u32),
 }
 
-/// The step that a word says: `read`, `turn N`, `order`, `announce`, `fill`, `flush`, in their first letters; `tN`.
+/// The step that a word says: `read`, `turn N`, `order`, `announce`, `fill`, `release`, `flush`.
 pub fn step_of(word: &str) -> Result<Step> {
     match word {
         "read" => Ok(Step::Read),
         "order" => Ok(Step::Order),
         "announce" => Ok(Step::Announce),
         "fill" => Ok(Step::Fill),
+        "release" => Ok(Step::Release),
         "flush" => Ok(Step::Flush),
         _ => match word.strip_prefix("turn") {
             Some(place) => Ok(Step::Turn(place.parse::<usize>().context("no place")?)),
@@ -44,14 +45,15 @@ impl Seed {
         high.checked_rem(bound).unwrap_or(0)
     }
 
-    /// The next step of a connection with so many calls. The writer's steps come as often as the reader's and the calls'.
-    pub fn step(&mut self, calls: usize) -> Step {
-        match self.below(8) {
+    /// The next step of a connection with so many slots. The writer's steps come as often as the reader's and the calls'.
+    pub fn step(&mut self, slots: usize) -> Step {
+        match self.below(9) {
             0 | 1 => Step::Read,
-            2 | 3 => Step::Turn(self.below(calls)),
+            2 | 3 => Step::Turn(self.below(slots)),
             4 => Step::Order,
             5 => Step::Announce,
             6 => Step::Fill,
+            7 => Step::Release,
             _ => Step::Flush,
         }
     }

@@ -5,6 +5,7 @@ use crate::runs::{Course, Ran, frames_of, run_connection};
 use crate::schedule::Schedule;
 use crate::told::Streams;
 use anyhow::{Context, Result, bail};
+use callslot::CallReport;
 use h2frame::StreamId;
 use handlers::Methods;
 use rows::{Given, Subject};
@@ -14,6 +15,9 @@ use std::rt::Files;
 
 /// How many steps a run by a number has at most before it goes on as the plain one.
 const STEPS: u32 = 400;
+
+/// How many orders may wait for the writer, where a row says nothing of it: as many as in the server.
+const ORDERS: usize = 1024;
 
 /// What a row says of the runs of its connection.
 #[derive(Clone, Copy)]
@@ -26,8 +30,20 @@ struct Words<'a> {
     is_alone: bool,
     /// Whether the order of all frames is compared too.
     in_order: bool,
+    /// Whether the rows of the calls are compared too.
+    has_rows: bool,
+    /// The stream from which on the streams are compared; below it that of the connection alone.
+    from: StreamId,
     /// How many runs follow from numbers.
     seeds: u64,
+    /// How many frames are read at once.
+    pieces: usize,
+    /// How many orders may wait for the writer, where the orders that are put are compared too.
+    orders: Option<usize>,
+    /// How many writes go well in each run, where one fails.
+    breaks: Option<u64>,
+    /// A stream whose call finds no memory, and behind how many of its turns.
+    lacks: Option<(StreamId, u64)>,
     most: usize,
     /// Whether each write fails in turn.
     fails: bool,
@@ -93,7 +109,13 @@ fn words_of(given: Given<'_>) -> Result<Words<'_>> {
         is_recorded: false,
         is_alone: false,
         in_order: false,
+        has_rows: false,
+        from: 0,
         seeds: 0,
+        pieces: 1,
+        orders: None,
+        breaks: None,
+        lacks: None,
         most: usize::MAX,
         fails: false,
         stream: 0,
@@ -105,7 +127,16 @@ fn words_of(given: Given<'_>) -> Result<Words<'_>> {
             None if word == "recorded" => words.is_recorded = true,
             None if word == "alone" => words.is_alone = true,
             None if word == "in_order" => words.in_order = true,
+            None if word == "rows" => words.has_rows = true,
             None if word == "fails" => words.fails = true,
+            Some(("from", id)) => words.from = id.parse::<u32>()?,
+            Some(("pieces", count)) => words.pieces = count.parse::<usize>()?,
+            Some(("orders", count)) => words.orders = Some(count.parse::<usize>()?),
+            Some(("breaks", count)) => words.breaks = Some(count.parse::<u64>()?),
+            Some(("lacks", call)) => {
+                let (id, turns) = call.split_once('@').context("no turns")?;
+                words.lacks = Some((id.parse::<u32>()?, turns.parse::<u64>()?));
+            }
             Some(("seeds", count)) => words.seeds = count.parse::<u64>()?,
             Some(("most", count)) => words.most = count.parse::<usize>()?,
             Some(("resets", id)) => {
@@ -132,7 +163,17 @@ struct Trial<'a> {
 impl Trial<'_> {
     /// The text of what a peer reads, and how the connection ended.
     fn text_of(&self, streams: &Streams, ran: &Ran) -> Result<String> {
-        let mut text = streams.text()?;
+        let mut text = streams.text(self.words.from)?;
+        if self.words.has_rows {
+            push_rows(&mut text, ran.rows.as_slice())?;
+        }
+        if self.words.orders.is_some() {
+            text.push_str("orders")?;
+            for kind in ran.orders.as_slice() {
+                write!(text, " {kind}")?;
+            }
+            text.push('\n')?;
+        }
         if self.words.in_order {
             text.push_str("in order\n")?;
             text.push_str(streams.frames())?;
@@ -160,7 +201,10 @@ impl Trial<'_> {
             Course {
                 schedule,
                 most: words.most,
-                fails_at,
+                fails_at: fails_at.or(words.breaks),
+                pieces: words.pieces,
+                orders: words.orders.unwrap_or(ORDERS),
+                lacks: words.lacks,
                 reset,
                 jump,
             },
@@ -216,10 +260,11 @@ impl Trial<'_> {
     ) -> Result<Verdict> {
         let streams = Streams::read(self.alloc, ran.written.as_slice())?;
         let text = self.text_of(&streams, ran)?;
-        if streams.is_lawful() && text.as_str() == wanted {
+        let is_lawful = streams.is_lawful() && ran.is_accounted;
+        if is_lawful && text.as_str() == wanted {
             return Ok(Verdict::Same);
         }
-        if streams.is_lawful() && ran.ran_out {
+        if is_lawful && ran.ran_out {
             bail!("out of memory");
         }
         let begins = if self.words.fails {
@@ -227,10 +272,10 @@ impl Trial<'_> {
         } else {
             self.words.stream != 0 && streams.begins(whole, self.words.stream)
         };
-        if streams.is_lawful() && begins {
+        if is_lawful && begins {
             return Ok(Verdict::Begins);
         }
-        if !streams.is_lawful() {
+        if !is_lawful {
             answer.push_str("unlawful; ")?;
         }
         for line in text.lines() {
@@ -238,4 +283,24 @@ impl Trial<'_> {
         }
         Ok(Verdict::Differs)
     }
+}
+
+/// Tells the rows of the calls: of each the stream, how many messages were taken and given, and the status, if it has one.
+fn push_rows(text: &mut String, rows: &[CallReport]) -> Result<()> {
+    text.push_str("calls\n")?;
+    for row in rows {
+        let CallReport {
+            id,
+            messages,
+            given,
+            status,
+            ..
+        } = row;
+        write!(text, "  {id} took {messages} gave {given}")?;
+        if let Some(status) = status {
+            write!(text, " status {status}")?;
+        }
+        text.push('\n')?;
+    }
+    Ok(())
 }

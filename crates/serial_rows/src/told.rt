@@ -68,8 +68,8 @@ impl Streams {
         Ok(streams)
     }
 
-    /// Whether each stream had at most a header block, DATA and trailers, in this order, and nothing behind them or behind
-    /// RST_STREAM but that.
+    /// Whether each stream had at most a header block, DATA and trailers, in this order, and nothing behind them; and one RST_STREAM
+    /// where the trailers didn't come, and nothing behind it.
     pub fn is_lawful(&self) -> bool {
         !self.is_unlawful
     }
@@ -90,10 +90,13 @@ impl Streams {
         true
     }
 
-    /// All streams in ascending order.
-    pub fn text(&self) -> Result<String> {
+    /// All streams from this one on in ascending order, behind that of the connection.
+    pub fn text(&self, from: StreamId) -> Result<String> {
         let mut text = String::new(self.alloc);
         for (id, stream) in self.streams.iter() {
+            if *id != 0 && *id < from {
+                continue;
+            }
             writeln!(text, "stream {id}")?;
             text.push_str(stream.text.as_str())?;
             push_data(&mut text, stream.piece.as_slice())?;
@@ -201,7 +204,7 @@ impl Streams {
         let ack = frame.head.flags.contains(Flags::ACK);
         let stream = self.entry(frame.head.stream)?;
         stream.end_piece()?;
-        let was_reset = stream.course == Course::Reset;
+        let is_through = matches!(stream.course, Course::Ended | Course::Reset);
         let text = &mut stream.text;
         match frame.head.kind {
             FrameKind::Settings if ack => text.push_str("settings ack")?,
@@ -223,7 +226,7 @@ impl Streams {
         stream.text.push('\n')?;
         if frame.head.kind == FrameKind::RstStream {
             stream.course = Course::Reset;
-            if was_reset {
+            if is_through {
                 self.is_unlawful = true;
             }
         }
@@ -288,8 +291,19 @@ fn number_at(content: &[u8], place: usize) -> u32 {
 
 fn push_hex(text: &mut String, bytes: &[u8]) -> Result<()> {
     for byte in bytes {
-        write!(text, "{byte:02x}")?;
+        push_digit(text, *byte >> 4)?;
+        push_digit(text, *byte & 15)?;
     }
+    Ok(())
+}
+
+fn push_digit(text: &mut String, digit: u8) -> Result<()> {
+    let octet = match digit {
+        0..=9 => b'0' + digit,
+        10..=15 => b'a' + (digit - 10),
+        _ => b'?',
+    };
+    text.push(char::from(octet))?;
     Ok(())
 }
 

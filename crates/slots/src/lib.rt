@@ -6,7 +6,7 @@
 //! workers of its own.
 //!
 //! - `half`: the half of a slot's call; `worker`: what a slot's worker is; `seat`: a slot with both; `slots`: all of them.
-//! - `reading`: what is decided of each event.
+//! - `reading`: what is decided of each event; `visit`: workers that no thread runs.
 //! - `row_order`: the rows of the calls in order; `laws`: what follows from the definitions.
 #![tactic(auto)]
 
@@ -16,6 +16,7 @@ pub mod reading;
 mod row_order;
 pub mod seat;
 pub mod slots;
+mod visit;
 pub mod worker;
 
 pub use half::Half;

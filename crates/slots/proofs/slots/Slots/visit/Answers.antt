@@ -1,0 +1,8 @@
+use Rattle.std.proofs.Common.{refl}
+use Rattle.slots.proofs.SlotSteps.{keeps-set}
+use Rattle.slots.proofs.slots.Slots.visit.Goals as goal
+
+pub returns-clause-stays : goal.returns-clause-stays
+returns-clause-stays g c = λ told k.
+    keeps-set c.args.self.now _ c.args.place c.in-Some.seat.now c.visit.new.self c.in-Some.ensures.item.3.0 c.in-Some.ensures.value refl told refl
+    c.visit.ensures.id c.visit.ensures.jobs (c.visit.ensures.stays told) k

@@ -1,0 +1,57 @@
+//! Workers that no thread runs.
+
+ghost use Rattle.std.specs.Prelude.{◌≡◌, List};
+ghost use Rattle.std.specs.Fn.{FnOnceReturnsAtMut};
+ghost use Rattle.slots.specs.Readings.{Stays};
+ghost use Rattle.slots.specs.Seats.{IsSeat, Keeps, jobs_of};
+ghost use Rattle.slots.specs.Steps.{Step};
+
+use crate::reading::Reading;
+use crate::seat::Seat;
+use crate::slots::Slots;
+use crate::worker::Worker;
+
+impl<H: Worker> Reading<H> {
+    /// Has the worker of a slot do something: a worker that stands for a thread in a test is given its turns so. None where there is no
+    /// such slot.
+    pub fn visit<T, F: FnOnce(&mut H) -> T>(&mut self, place: usize, visit: F) -> Option<T>
+        requires callable { F.IsAlwaysCallable visit }
+        // It takes of the same rings afterwards.
+        requires keeps { (old : H) (came : T) (new : H) → FnOnceReturnsAtMut F.FnOnce visit old came new
+            → (H.lane new ≡ H.lane old) × (H.jobs new ≡ H.jobs old) }
+        ensures stays { Stays H.names self.old self.new }
+        ensures last { self.new.slots.last ≡ self.old.slots.last }
+    {
+        self.slots.visit(place, visit)
+    }
+}
+
+impl<H: Worker> Slots<H> {
+    /// The same.
+    fn visit<T, F: FnOnce(&mut H) -> T>(&mut self, place: usize, visit: F) -> Option<T>
+        requires callable { F.IsAlwaysCallable visit }
+        requires keeps { (old : H) (came : T) (new : H) → FnOnceReturnsAtMut F.FnOnce visit old came new
+            → (H.lane new ≡ H.lane old) × (H.jobs new ≡ H.jobs old) }
+        ensures stays { Keeps H.names self.old self.new }
+        ensures last { self.new.last ≡ self.old.last }
+    {
+        let Some(seat) = self.seats.get_mut(place) else {
+            return None;
+        };
+        Some(seat.visit(visit))
+    }
+}
+
+impl<H: Worker> Seat<H> {
+    /// The same.
+    fn visit<T, F: FnOnce(&mut H) -> T>(&mut self, visit: F) -> T
+        requires callable { F.IsAlwaysCallable visit }
+        requires keeps { (old : H) (came : T) (new : H) → FnOnceReturnsAtMut F.FnOnce visit old came new
+            → (H.lane new ≡ H.lane old) × (H.jobs new ≡ H.jobs old) }
+        ensures stays { (told : List Step) → IsSeat H.names told self.old → IsSeat H.names told self.new }
+        ensures id { self.new.id ≡ self.old.id }
+        ensures jobs { jobs_of self.new ≡ jobs_of self.old }
+    {
+        visit(&mut self.worker)
+    }
+}
