@@ -1,5 +1,3 @@
-pub mod OrderSteps
-pub mod WrittenSteps
 pub mod Turns
 pub mod Rows
 pub mod Seats
@@ -15,4 +13,3 @@ pub mod Ids
 pub mod Reasons
 pub mod Unfed
 pub mod AccountFrames
-pub mod SentPlaces

@@ -1,8 +1,5 @@
 pub mod Orders
-pub mod OrderExamples
-pub mod Written
 pub mod Halves
-pub mod Sent
 pub mod Streams
 pub mod Accounts
 pub mod Workers
