@@ -33,7 +33,11 @@ impl<A: Ledger, B: Ledger, C: Ledger> Outlet<A, B, C> {
     }
 
     /// Has the writer owe the peer all credit that is due.
-    pub(crate) fn announce<W: ConnWrite + Drop>(&mut self, rt: &impl Wait, writing: &mut SlotWriter<W>)
+    pub(crate) fn announce<W: ConnWrite + Drop>(
+        &mut self,
+        rt: &impl Wait,
+        writing: &mut SlotWriter<W>,
+    )
         ensures leads { LeadsOn W.contents W.failed writing.old writing.new }
     {
         let Outlet { shared, told, .. } = self;

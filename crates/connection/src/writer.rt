@@ -161,7 +161,11 @@ impl<A: Ledger, B: Ledger, C: Ledger, W: ConnWrite + Drop, G: Gate + Drop> Write
     fn announce(&mut self, rt: &impl Wait)
         ensures leads { LeadsOn W.contents W.failed self.old.writing self.new.writing }
     {
-        let Writer { outlet, writing, .. } = self;
+        let Writer {
+            outlet,
+            writing,
+            ..
+        } = self;
         outlet.announce(rt, writing);
     }
 
