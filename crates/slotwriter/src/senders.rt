@@ -1,5 +1,5 @@
-//! The senders of a connection's slots: each comes once, with its slot's first call, is with the writer's core while a call is
-//! sent, and here between two calls.
+//! The senders of a connection's slots: each comes once, with its slot's first call, is with the
+//! writer's core while a call is sent, and here between two calls.
 
 use callbox::Sender;
 use callslot::{Fresh, Opened, Order, OutLane, Slot};
@@ -50,7 +50,8 @@ impl Senders {
     ghost use Rattle.outwriter.specs.Steps.{order_of};
     ghost use Rattle.callslot.specs.declared.order.Opened.TheVariants as opens;
     ghost use Rattle.slotwriter.specs.Orders.{IsBack};
-    ghost use Rattle.slotwriter.specs.Sent.{Adds, Begins, KeepsOn, MakesOf, NoneWaits, SamePlaces, TakesHome, Waits};
+    ghost use Rattle.slotwriter.specs.Sent.{Adds, Begins, KeepsOn, MakesOf, NoneWaits, SamePlaces};
+    ghost use Rattle.slotwriter.specs.Sent.{TakesHome, Waits};
 
     pub(crate) fn new(alloc: Global) -> Senders {
         Senders {
@@ -79,8 +80,10 @@ impl Senders {
         ensures unused { IfOk result (IsUnused got) }
         ensures same { IfOk result (λ control. order_of control ≡ order_of order) }
 
-        // An Open gets the sender of its slot: a new one, or the one that is held, which goes on to the next call.
-        ensures makes { IfOk result (λ control. MakesOf order control self.old.places.items self.new.places.items) }
+        // An Open gets the sender of its slot: a new one, or the one that is held, which goes on to
+        // the next call.
+        ensures makes { IfOk result (λ control. MakesOf order control
+            self.old.places.items self.new.places.items) }
         ensures stays { OnErr result (SamePlaces self.old.places.items self.new.places.items) }
         ensures back { IfErr result (IsBack order) }
     {
@@ -94,7 +97,8 @@ impl Senders {
         }
     }
 
-    /// Keeps the sender of a stream's call that is through for the next one. Answers whether the slot was told so.
+    /// Keeps the sender of a stream's call that is through for the next one. Answers whether the
+    /// slot was told so.
     pub(crate) fn keep(&mut self, id: StreamId, sender: Sender<OutLane>, is_at_end: bool) -> bool
         // It is held in the place of the stream; or each place of it holds one.
         ensures home { TakesHome id sender self.old.places.items self.new.places.items }
@@ -118,7 +122,8 @@ impl Senders {
     /// The first place that is at the call of this stream and holds no sender.
     fn place_of(&self, id: StreamId) -> Option<usize>
         ensures some { IfSome result (λ number. Waits id number self.now.places.items) }
-        ensures none { IfNone result (NoneWaits id (length self.now.places.items) self.now.places.items) }
+        ensures none { IfNone result
+            (NoneWaits id (length self.now.places.items) self.now.places.items) }
     {
         for number in 0..self.places.len() {
             if let Some(place) = self.places.get(number) {
@@ -130,7 +135,8 @@ impl Senders {
         None
     }
 
-    /// Gets what is left of the calls that were called off. Answers whether a slot was told that all was got.
+    /// Gets what is left of the calls that were called off. Answers whether a slot was told that
+    /// all was got.
     pub(crate) fn catch_up(&mut self) -> bool
         ensures keeps { KeepsOn self.old.places.items self.new.places.items }
     {
@@ -160,7 +166,8 @@ impl Senders {
         has_told
     }
 
-    /// Notes that the call of a stream was called off, or has ended, where its sender is with the core.
+    /// Notes that the call of a stream was called off, or has ended, where its sender is with the
+    /// core.
     pub(crate) fn call_off(&mut self, id: StreamId)
         ensures same { SamePlaces self.old.places.items self.new.places.items }
     {
@@ -187,7 +194,8 @@ impl Senders {
         place.is_called_off.then_some(place.id)
     }
 
-    /// Wakes the worker of the call of this stream, where a slot has it: so it looks whether the call is live still.
+    /// Wakes the worker of the call of this stream, where a slot has it: so it looks whether the
+    /// call is live still.
     pub(crate) fn wake(&self, id: StreamId) {
         for place in &self.places {
             if place.id == id {
@@ -222,7 +230,8 @@ impl Senders {
     /// A further call of a slot begins. None where its sender isn't back.
     fn begin(&mut self, id: StreamId, number: usize) -> Option<Sender<OutLane>>
         ensures unused { IfSome result (λ sender. got sender.rx ≡ []) }
-        ensures begins { IfSome result (λ sender. Begins number id sender self.old.places.items self.new.places.items) }
+        ensures begins { IfSome result (λ sender. Begins number id sender
+            self.old.places.items self.new.places.items) }
         ensures stays { IfNone result (SamePlaces self.old.places.items self.new.places.items) }
     {
         let place = self.places.get_mut(number)?;
@@ -290,7 +299,8 @@ fn get_rest(sender: &mut Sender<OutLane>)
     }
 }
 
-/// The control that an order is where no call begins by it; else which call begins, and whose sender sends it.
+/// The control that an order is where no call begins by it; else which call begins, and whose
+/// sender sends it.
 fn split(order: Order) -> Result<Control<Sender<OutLane>>, (StreamId, Opened)>
     ensures unused { IfOk result (IsUnused got) }
     ensures same { IfOk result (λ control. order_of control ≡ order_of order) }

@@ -1,6 +1,6 @@
 //! What the writing side of a connection has, and its steps.
 
-ghost use Rattle.std.specs.Prelude.{◌≡◌, ◌≢◌, ◌⊎◌, ℕ, true, false, List, [], Option, None, Some, IfSome};
+ghost use Rattle.std.specs.Prelude.{◌≡◌, ◌≢◌, ℕ, true, false, List, [], Option, None, Some, IfSome};
 ghost use Rattle.lane.specs.Ring.{taken};
 ghost use Rattle.lane.specs.RingLane.{got};
 ghost use Rattle.outwriter.specs.Cores.{IsUnused, open_stream};
@@ -46,7 +46,8 @@ pub struct SlotWriter<W: ConnWrite> {
     failed: Option<ErrorCode>,
 }
 
-/// What a writer hands back: how the connection ended as far as it sees, what it wrote to, and its end of the ring of orders.
+/// What a writer hands back: how the connection ended as far as it sees, what it wrote to, and its
+/// end of the ring of orders.
 #[derive(Drop)]
 pub struct Written<W: ConnWrite + Drop> {
     pub ending: Option<Ending>,
@@ -97,8 +98,8 @@ impl<W: ConnWrite + Drop> SlotWriter<W> {
         }
     }
 
-    /// Takes the next order; `last` is the greatest stream that was admitted, which a GOAWAY of the writer's own tells (RFC 9113,
-    /// section 6.8). Once one was lost only Close is taken.
+    /// Takes the next order; `last` is the greatest stream that was admitted, which a GOAWAY of the
+    /// writer's own tells (RFC 9113, section 6.8). Once one was lost only Close is taken.
     pub fn take_next(&mut self, last: StreamId) -> Took
         ensures leads { LeadsOn W.contents W.failed self.old self.new }
         ensures lost { result ≡ took.Lost → self.new.inbox.has_lost ≡ true }
@@ -128,7 +129,8 @@ impl<W: ConnWrite + Drop> SlotWriter<W> {
         requires kept { self.old.inbox.has_lost ≡ false }
         ensures takes { Takes W.contents W.failed (order_of order) self.new.inbox.has_lost
             self.old.frames self.new.frames }
-        ensures inbox { self.new.inbox ≡ record self.old.inbox { has_lost = self.new.inbox.has_lost } }
+        ensures inbox { self.new.inbox
+            ≡ record self.old.inbox { has_lost = self.new.inbox.has_lost } }
         ensures lost { result ≡ took.Lost → self.new.inbox.has_lost ≡ true }
     {
         self.note(&order);
@@ -158,7 +160,8 @@ impl<W: ConnWrite + Drop> SlotWriter<W> {
 
     /// No more orders come, behind one that was lost. Whether the core took that.
     fn close(&mut self, last: StreamId) -> bool
-        ensures passes { PassesOver W.contents W.failed orders.Close self.old.frames self.new.frames }
+        ensures passes { PassesOver W.contents W.failed orders.Close
+            self.old.frames self.new.frames }
         ensures inbox { self.new.inbox ≡ self.old.inbox }
     {
         self.closed = true;
@@ -213,7 +216,8 @@ impl<W: ConnWrite + Drop> SlotWriter<W> {
         }
     }
 
-    /// Ends the connection once an order was lost: by GOAWAY where there is memory for that, and behind it nothing is written.
+    /// Ends the connection once an order was lost: by GOAWAY where there is memory for that, and
+    /// behind it nothing is written.
     pub fn give_up(&mut self, last: StreamId)
         requires lost { self.old.inbox.has_lost ≡ true }
         ensures leads { LeadsOn W.contents W.failed self.old self.new }
@@ -233,7 +237,8 @@ impl<W: ConnWrite + Drop> SlotWriter<W> {
         matches!(taking, Taking::Done)
     }
 
-    /// Wakes the worker of the call of a stream that the writer has ended, once the call was cut: so it sees that.
+    /// Wakes the worker of the call of a stream that the writer has ended, once the call was cut:
+    /// so it sees that.
     pub fn wake(&self, id: StreamId) {
         self.senders.wake(id);
     }
@@ -251,12 +256,14 @@ impl<W: ConnWrite + Drop> SlotWriter<W> {
     pub fn fill(&mut self) -> Filled
         ensures leads { LeadsOn W.contents W.failed self.old self.new }
         ensures over { result ≡ filling.Over → LeadsOut W.contents W.failed self.old self.new }
-        ensures stopped { result ≡ filling.Stopped → LeadsOut W.contents W.failed self.old self.new }
+        ensures stopped { result ≡ filling.Stopped
+            → LeadsOut W.contents W.failed self.old self.new }
     {
         self.frames.fill()
     }
 
-    /// Tells the peer that no more frames come, where the core had no memory for one: by its last word, a GOAWAY of the writer's own.
+    /// Tells the peer that no more frames come, where the core had no memory for one: by its last
+    /// word, a GOAWAY of the writer's own.
     pub fn say_last(&mut self, last: StreamId)
         ensures stays { Stays W.contents W.failed self.old self.new }
     {
@@ -270,8 +277,9 @@ impl<W: ConnWrite + Drop> SlotWriter<W> {
         self.frames.is_flushed()
     }
 
-    /// Keeps the senders of calls that are through for the next calls of their slots, before the peer can see that: so the slots are
-    /// free for the calls that it begins then. Whether a slot may be free: the side that reads is to be rung.
+    /// Keeps the senders of calls that are through for the next calls of their slots, before the
+    /// peer can see that: so the slots are free for the calls that it begins then. Whether a slot
+    /// may be free: the side that reads is to be rung.
     pub fn release_all(&mut self) -> bool
         ensures stays { Stays W.contents W.failed self.old self.new }
     {
@@ -330,8 +338,8 @@ impl<W: ConnWrite + Drop> SlotWriter<W> {
         }
     }
 
-    /// Keeps the sender of a call that is through. Where it isn't through yet, that is noted: a full buffer may have cut a header block
-    /// of it. Whether the slot was told.
+    /// Keeps the sender of a call that is through. Where it isn't through yet, that is noted: a
+    /// full buffer may have cut a header block of it. Whether the slot was told.
     fn release(&mut self, id: StreamId, is_at_end: bool) -> bool
         ensures stays { Stays W.contents W.failed self.old self.new }
     {
@@ -344,14 +352,16 @@ impl<W: ConnWrite + Drop> SlotWriter<W> {
         }
     }
 
-    /// The streams whose END_STREAM is in the buffer: their calls take no more DATA, and from the next flush on they may have left.
+    /// The streams whose END_STREAM is in the buffer: their calls take no more DATA, and from the
+    /// next flush on they may have left.
     pub fn ended(&self) -> &[StreamId]
         ensures { result.now ≡ self.now.frames.ended.items }
     {
         self.frames.ended()
     }
 
-    /// Writes what is in the buffer. After a fault nothing more is written, and the connection is to be stopped.
+    /// Writes what is in the buffer. After a fault nothing more is written, and the connection is
+    /// to be stopped.
     pub fn flush(&mut self) -> Result<(), DeviceFault>
         ensures stays { Stays W.contents W.failed self.old self.new }
         ensures flushed { IsFlushed self.new }
@@ -388,7 +398,8 @@ impl<W: ConnWrite + Drop> SlotWriter<W> {
         self.senders.count()
     }
 
-    /// The stream of a slot's call that waits for a window which won't open, since the input has ended: the call is to be cut.
+    /// The stream of a slot's call that waits for a window which won't open, since the input has
+    /// ended: the call is to be cut.
     pub fn stuck(&self, number: usize) -> Option<StreamId>
         ensures ended { IfSome result (λ id. self.now.input_ended ≡ true) }
         ensures held { IfSome result (λ id. is_held (open_stream self.now.frames.core id)
@@ -405,7 +416,8 @@ impl<W: ConnWrite + Drop> SlotWriter<W> {
     pub fn into_end(self) -> Written<W>
         requires flushed { IsFlushed self }
         ensures written { (before : Option (List ℕ)) → LedOut W.contents W.failed before self
-            → HasWritten W.contents W.failed before (orders_of (taken result.orders)) result.ending result.device }
+            → HasWritten W.contents W.failed before (orders_of (taken result.orders))
+            result.ending result.device }
         ensures ring { result.orders ≡ self.inbox.ring }
     {
         let ending = self.ending();
@@ -419,7 +431,8 @@ impl<W: ConnWrite + Drop> SlotWriter<W> {
     }
 
     fn ending(&self) -> Option<Ending>
-        ensures memory { self.now.frames.standing ≡ stands.OutOfMemory → result ≡ Some ending.OutOfMemory }
+        ensures memory { self.now.frames.standing ≡ stands.OutOfMemory
+            → result ≡ Some ending.OutOfMemory }
         ensures each { result ≢ Some ending.OutOfMemory → result ≢ Some ending.WriteFailed
             → (self.now.inbox.has_lost ≡ false) × (self.now.inbox.set_aside ≡ None) }
     {

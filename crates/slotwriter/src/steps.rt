@@ -7,8 +7,8 @@ use h2frame::StreamId;
 pub enum Waiting {
     /// None.
     Nothing,
-    /// One by which a window of the peer's may overflow, so that the writer may end the connection: whoever has it taken tells
-    /// the greatest stream that was admitted.
+    /// One by which a window of the peer's may overflow, so that the writer may end the connection:
+    /// whoever has it taken tells the greatest stream that was admitted.
     Window,
     /// Another.
     Other,
@@ -23,12 +23,13 @@ pub enum Took {
     Early,
     /// It was taken, or passed over since one before it was lost.
     One,
-    /// It was taken, and the writer ended this stream: its call is to be cut, and then its worker is to be woken (`wake`).
+    /// It was taken, and the writer ended this stream: its call is to be cut, and then its worker
+    /// is to be woken (`wake`).
     Ends(StreamId),
     /// It was taken, and the writer ended the connection, which is to be stopped.
     Stops,
-    /// It was lost for want of memory, or the writer's answer to it was: the writer is to give up (`give_up`), and the connection
-    /// is to be stopped.
+    /// It was lost for want of memory, or the writer's answer to it was: the writer is to give up
+    /// (`give_up`), and the connection is to be stopped.
     Lost,
 }
 
@@ -37,9 +38,11 @@ pub enum Took {
 pub enum Rest {
     /// More may be written at once.
     None,
-    /// Nothing can be written now: what waits for a window that won't open is to be cut (`stuck`), and the owner waits.
+    /// Nothing can be written now: what waits for a window that won't open is to be cut (`stuck`),
+    /// and the owner waits.
     Idle,
-    /// Nothing is written any more, and orders may still come: the connection is to be stopped, and the owner waits.
+    /// Nothing is written any more, and orders may still come: the connection is to be stopped, and
+    /// the owner waits.
     Stopped,
     /// The same, and no more orders come: the connection is to be stopped, and it has ended.
     StoppedOver,
