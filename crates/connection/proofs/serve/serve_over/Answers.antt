@@ -22,9 +22,9 @@ returns-clause-calls g c =
     (λ given. IfSome c.meet.result.output (HasWritten g.O.ConnWrite.contents g.O.ConnWrite.failed (g.O.ConnWrite.contents c.args.output) given (Some c.meet.result.ending))) c.meet.result.calls c.meet.result.ending orders
     (c.meet.ensures.served (g.O.ConnWrite.contents c.args.output) c.in_ok-writing.ensures.begun)
     (
-      are-accounted g.M.Answering.known g.M.Answering.names (λ v. v.items) (λ came. Consumes (g.I.ConnRead.remaining c.args.input.now) (g.I.ConnRead.remaining c.read-read.new.input) came)
-      c.meet.result.calls c.end-calls.result.0 heard.0 c.read-read.result c.meet.result.ending heard.2.0 end.0 orders c.meet.ensures.calls c.meet.ensures.input heard.1 has.heard has.calm end.1
-      (λ out read_out. end.2 (has.ordered read_out) (calm-so _ _ out c.meet.ensures.dropped))
+    are-accounted g.M.Answering.known g.M.Answering.names (λ v. v.items) (λ came. Consumes (g.I.ConnRead.remaining c.args.input.now) (g.I.ConnRead.remaining c.read-read.new.input) came)
+    c.meet.result.calls c.end-calls.result.0 heard.0 c.read-read.result c.meet.result.ending heard.2.0 end.0 orders c.meet.ensures.calls c.meet.ensures.input heard.1 has.heard has.calm end.1
+    (λ out read_out. end.2 (has.ordered read_out) (calm-so _ _ out c.meet.ensures.dropped))
     )
 
 pub returns-clause-served : goal.returns-clause-served
