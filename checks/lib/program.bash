@@ -48,6 +48,7 @@ digest_sources() {
       [[ -d $here/crates/$name/$part ]] && places+=("crates/$name/$part")
     done
   done
+  [[ ${places[*]} ]] || return 1
   look=$(cd -- "$here" && find crates.txt HANDLES "${places[@]}" -printf '%p %s %i %C@\n' | sha256sum) || return 1
   if [[ -f $seen ]] && { read -r was && read -r sources; } <"$seen" && [[ $was == "$look" && $sources ]]; then
     return 0
