@@ -1,8 +1,7 @@
-#!/usr/bin/env python3
-"""libraries.py NAME..: proves and builds the libraries below these crates, by `rt lib`, each once those that it uses stand.
+"""Proves and builds the libraries below some crates, by `rt lib`, each once those that it uses stand.
 
-Those that do not wait for one another are built side by side, as many as there are processors and memory allow. On
-standard error comes a line for each that was built, and all that `rt lib` said of one that failed. Exits 1 where one fails.
+Those that share no library are built side by side, as many as there are processors and memory allow. On standard error comes
+a line for each that was built, and all that `rt lib` said of one that failed. The scripts of this folder import it.
 """
 import os
 import re
@@ -73,7 +72,3 @@ def build_below(names, root=crates.ROOT):
                 is_well = is_well and it.result()[0]
                 built.add(name)
     return is_well
-
-
-if __name__ == "__main__":
-    sys.exit(0 if build_below(sys.argv[1:]) else 1)

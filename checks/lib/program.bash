@@ -1,11 +1,13 @@
-# The program `interop` and the note beside it, which says what it was built from. For ./interop and ./check, which source
-# this file and have set `here` to the top of the repository. It starts one process at most, since it is to add little to
-# each run of ./interop.
+# The program `interop`: where it stands built, what each was built from, and how it is built. For ./interop and ./check, which
+# source this file and have set `here` to the top of the repository. It starts few processes, since it adds to each run of ./interop.
 # shellcheck shell=bash
-program=${here:?}/crates/interop/out/interop
-# Its time is that at which the build began. It holds the kit's `rt`, the file that names the kit, that name, and the lines
-# of crates.txt for the program's crate and all below it.
-stamp=$here/crates/interop/out/interop.stamp
+
+# The repository carries one program, which a proved build made, and another is built here where the sources have changed. In
+# either folder a file `built-from` stands beside it: a line of the kit, and one with the digest of the sources.
+carried=${here:?}/program
+built=$here/crates/interop/out
+# What the sources looked like when their digest was made last, and that digest.
+seen=$built/sources.seen
 
 # Sets `needed` to the crates that the program is built from, and `listed` to their lines of crates.txt.
 read_needed() {
@@ -26,27 +28,104 @@ read_needed() {
   done
 }
 
-# Writes to this file what a stamp of this moment holds. Fails with a line on standard error where there is no rt.
-write_stamp() {
+# The digest of all that decides what the program is, beside the kit: the lines of crates.txt, HANDLES, and each file of the crates
+# by its path below the repository.
+digest_of() {
+  set -o pipefail
+  {
+    printf '%s' "$listed" && cat HANDLES &&
+      find "$@" ! -type d -print0 | LC_ALL=C sort -z | xargs -0r sha256sum
+  } | sha256sum
+}
+
+# Sets `sources` to the digest of the sources as they stand. Where no file has changed since it was made last, by names, sizes and
+# times of change, it is taken from the note of then. A change so young that another could have the same time is not noted.
+digest_sources() {
+  local name part places=() look was
+  read_needed
+  for name in "${needed[@]}"; do
+    for part in src specs proofs; do
+      [[ -d $here/crates/$name/$part ]] && places+=("crates/$name/$part")
+    done
+  done
+  [[ ${places[*]} ]] || return 1
+  look=$(cd -- "$here" && find crates.txt HANDLES "${places[@]}" -printf '%p %s %i %C@\n' | sha256sum) || return 1
+  if [[ -f $seen ]] && { read -r was && read -r sources; } <"$seen" && [[ $was == "$look" && $sources ]]; then
+    return 0
+  fi
+  sources=$(cd -- "$here" && digest_of "${places[@]}") || return 1
+  sources=${sources%% *}
+  if [[ -z $(cd -- "$here" && find crates.txt HANDLES "${places[@]}" -newerct '2 seconds ago' -print -quit) ]]; then
+    { mkdir -p "$built" && printf '%s\n' "$look" "$sources" >"$seen.$$" && mv -f -- "$seen.$$" "$seen"; } 2>/dev/null
+  fi
+  return 0
+}
+
+# Sets `kit` to the line by which the kit on the path names itself, or to nothing.
+know_kit() {
   local rt
-  if ! hash rt 2>/dev/null || ! rt=$(readlink -f -- "${BASH_CMDS[rt]}"); then
+  kit=
+  hash rt 2>/dev/null && rt=$(readlink -f -- "${BASH_CMDS[rt]}") && read -r kit <"${rt%/*}/../KIT-ID"
+}
+
+# What a program that is built of these sources by this kit has beside it.
+write_built_from() {
+  printf '%s\n' "$kit" "sources sha256 $sources" >"$1"
+}
+
+# FOLDER: sets `its_kit` and `its_sources` to what the program in it was built from. Fails where none stands there.
+read_built_from() {
+  [[ -x $1/interop && -f $1/built-from ]] && { read -r its_kit && read -r _ _ its_sources; } <"$1/built-from"
+}
+
+# Sets `program` to one that is built of the sources as they stand: the carried one, which needs no kit, or one that was built here,
+# by the kit on the path if there is one. Fails where there is none.
+find_program() {
+  digest_sources || return 1
+  # shellcheck disable=SC2034 # (./interop runs it)
+  program=$carried/interop
+  read_built_from "$carried" && [[ $its_sources == "$sources" ]] && return 0
+  # shellcheck disable=SC2034
+  program=$built/interop
+  read_built_from "$built" && [[ $its_sources == "$sources" ]] || return 1
+  know_kit
+  [[ ! $kit || $its_kit == "$kit" ]]
+}
+
+# ROOM: copies into it, as a repository of its own, the crates that the program is built from, without the edits that must fail.
+copy_needed() {
+  local name part
+  read_needed
+  for name in "${needed[@]}"; do
+    mkdir -p "$1/crates/$name" || return 1
+    for part in src specs proofs stdin stdout args status data; do
+      [[ ! -e $here/crates/$name/$part ]] || cp -r -- "$here/crates/$name/$part" "$1/crates/$name/" || return 1
+    done
+  done
+  printf '%s' "$listed" >"$1/crates.txt" && cp -- "$here/HANDLES" "$1/"
+}
+
+# ROOM FOLDER: proves and builds the program on a copy in ROOM, as the gate does: `rt ci` has as many crates at work as there are
+# processors, and keeps each that passes. Puts the program and what it was built from into FOLDER. A line for each crate goes to
+# standard error, and all that rt said where it fails.
+build_into() {
+  local room=$1 folder=$2 start=$SECONDS
+  know_kit
+  if [[ ! $kit ]]; then
     echo "${0##*/}: there is no rt on the path: it is the command of the Rattle kit, in the folder bin of the kit" >&2
     return 1
   fi
-  read_needed
-  printf '%s\n' "$rt" "${rt%/*}/../KIT-ID" "$(<"${rt%/*}/../KIT-ID")" "$listed" >"$1"
-}
-
-# The same kit built the program, and nothing that it is built from has changed since.
-is_fresh() {
-  local rt kit_file kit now was name places=()
-  [[ -x $program && -f $stamp ]] || return 1
-  { read -r rt && read -r kit_file && read -r kit && IFS= read -rd '' was; } <"$stamp"
-  hash rt 2>/dev/null && [[ ${BASH_CMDS[rt]} -ef $rt ]] && read -r now <"$kit_file" && [[ $now == "$kit" ]] || return 1
-  read_needed
-  [[ $was == "$listed"$'\n' ]] || return 1
-  for name in "${needed[@]}"; do
-    places+=("$here/crates/$name"/{src,specs,proofs})
-  done
-  [[ -z $(find "${places[@]}" -newer "$stamp" -print -quit 2>/dev/null) ]]
+  if ! copy_needed "$room/copy" || ! here=$room/copy built=$room seen=$room/seen digest_sources; then
+    echo "${0##*/}: the sources could not be copied" >&2
+    return 1
+  fi
+  if (set -o pipefail && cd -- "$room/copy" && rt ci 2>&1 | tee "$room/log" | sed -un 's/^rt: \([a-z0-9_]* proved\)$/\1/p' >&2); then
+    mkdir -p "$folder" && rm -f -- "$folder/built-from" && cp -- "$room/copy/crates/interop/out/interop" "$folder/interop.new" &&
+      mv -f -- "$folder/interop.new" "$folder/interop" && write_built_from "$folder/built-from" &&
+      echo "built interop in $((SECONDS - start)) s" >&2 && return 0
+  else
+    cat -- "$room/log" >&2
+  fi
+  echo "${0##*/}: the build failed after $((SECONDS - start)) s" >&2
+  return 1
 }

@@ -1,5 +1,5 @@
 #!/usr/bin/env python3
-"""times.py PID: where the time of a run goes, by crate: proofs, tests and must-fail edits.
+"""times.py PID: where the time of a run goes, by crate: proofs, tests and must-fail edits; and whether it is within its bound.
 
 Twice a second this looks at the provers (`rattle check`, `rattle build`) that descend from the process PID, and tells by
 their words and their folder what each works at. `rt ci` works at several crates side by side and prints each when it has
@@ -15,6 +15,10 @@ PERIOD = 0.5
 TICKS = os.sysconf("SC_CLK_TCK")
 WORK = ("proof", "tests", "edits")
 NAMES = {"proof": "proofs", "tests": "tests", "edits": "must-fail edits"}
+# The bound on a run from nothing, in processor seconds: all crates together, and the dearest with its tests and edits. It is that of a
+# machine on which the proof of the crate REFERENCE takes as many as here; on another it is in proportion.
+BOUND_OF_ALL, BOUND_OF_ONE = 9_000, 900
+REFERENCE, REFERENCE_SECONDS = "hpack_codec", 77
 
 
 class Prover:
@@ -79,6 +83,19 @@ def look(root, seen, now):
             left += children.get(pid, [])
 
 
+def bound(provers, used):
+    """The lines that hold what the run proved to the bound, where the proof that tells the machine's speed is among it."""
+    of = {name: used([it for it in provers if it.crate == name]) for name in {it.crate for it in provers}}
+    reference = used([it for it in provers if (it.crate, it.work) == (REFERENCE, "proof")])
+    if not reference:
+        yield f"the bound: nothing is said, since the proof of {REFERENCE}, which tells this machine's speed, was kept from an earlier run"
+        return
+    speed, dearest = reference / REFERENCE_SECONDS, max(of, key=of.get)
+    yield f"the bound: the proof of {REFERENCE} took {reference:.0f} s of a processor, {speed:.2f} of the {REFERENCE_SECONDS} s that the bound is for"
+    for what, much, most in (("in all", sum(of.values()), BOUND_OF_ALL), (f"{dearest}, the dearest crate,", of[dearest], BOUND_OF_ONE)):
+        yield f"the bound: {what} {much:.0f} s of {most * speed:.0f} s: {'within' if much <= most * speed else 'PAST IT'}, {much / most / speed:.2f} of it"
+
+
 def table(provers, began, ended):
     """The lines of each crate, the dearest first, and of each kind of work."""
     began = min([began, *(it.start for it in provers)])
@@ -99,6 +116,7 @@ def table(provers, began, ended):
         if some:
             at = (min(it.start for it in some) - began) / TICKS
             yield f"{NAMES[work]}: {wall(some):.0f} s, from {at:.0f} s to {at + wall(some):.0f} s, {used(some):.0f} s of a processor"
+    yield from bound(provers, used)
     last = max((it.end for it in provers), default=began)
     yield f"what follows the last of them (programs and tests run): {(ended - last) / TICKS:.0f} s"
     share = used(provers) / max((ended - began) / TICKS, 1)
