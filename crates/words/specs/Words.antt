@@ -1,5 +1,5 @@
 -- What the words of a command line mean: `clap`'s meaning of a simple command, at the command line of this program.
-use Rattle.std.specs.Prelude.{◌≤◌, ⊤, ⊥, ℕ, true, List, [], ◌∷◌, Option, Some, None, if◌then◌else◌, codes, option_map, option_and_then}
+use Rattle.std.specs.Prelude.{◌≤◌, ⊤, ℕ, true, List, [], ◌∷◌, Option, Some, None, if◌then◌else◌, codes, option_map, option_and_then}
 use Rattle.std.specs.Str.{bytes_eq}
 use Rattle.clap.specs.Walk.{Row, Text}
 use Rattle.clap.specs.Simple.{App, new_app, on_top, subcommand_of, with_subcommand}

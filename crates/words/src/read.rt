@@ -45,7 +45,7 @@ ghost use Rattle.words.specs.Words.{IsBad, IsInRange, bare_line, code_of, comman
 impl<'a> WordsFault<'a> {
     /// The fault's number.
     pub fn code(self) -> u32
-        ensures { result ≡ code_of self }
+        ensures { result ≡ code_of self.entry }
     {
         match self {
             WordsFault::BadWords(_) => 1,
@@ -92,11 +92,11 @@ fn command_of<'a>(name: &str, options: &ArgMatches<'a>) -> Option<Words<'a>>
     ensures in_range { IfSome result IsInRange }
 {
     match name {
-        "body" => cut_of(options).map(Words::Body),
+        "body" => Some(Words::Body(cut_of(options)?)),
         "parts" => Some(Words::Parts),
-        "serve" => serving_of(options).map(Words::Serve),
-        "case" => trial_of(options).map(Words::Case),
-        "self" => own_port_of(options).map(Words::SelfTest),
+        "serve" => Some(Words::Serve(serving_of(options)?)),
+        "case" => Some(Words::Case(trial_of(options)?)),
+        "self" => Some(Words::SelfTest(own_port_of(options)?)),
         _ => None,
     }
 }
