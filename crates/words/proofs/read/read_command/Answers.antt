@@ -10,3 +10,10 @@ returns-in-Ok-clause-value c =
     c.command_in.ensures.value
     ∙ sym (meant_at_ok (app_of c.in_ok-command_line.field-0) _ (rows_of (found_of c.in-Ok.matches)) (subcommand_rows_of c.in-Ok.matches)
     c.in_ok-command_line.ensures c.in-Ok.ensures.kinds c.in-Ok.ensures.matches)
+
+pub returns : goal.returns
+returns c = record {
+  value = sym (meant_at_err (app_of c.in_ok-command_line.field-0) _ c.in-Err.error.kind
+      c.in_ok-command_line.ensures c.in-Err.ensures.kinds (λ same. c.in_default.not-OutOfMemory (c.kind.ensures ∙ same)));
+  in_range = tt;
+}
