@@ -1,7 +1,6 @@
 //! A call doesn't wait for another: three calls of one connection, of which a gate holds the first back until the second was answered.
 
-use crate::memory::{MemoryInput, MemoryOutput};
-use crate::parts::run_parts;
+use commands::{MemoryInput, MemoryOutput, run_parts};
 use connection::Gate;
 use device::Marked;
 use h2frame::StreamId;

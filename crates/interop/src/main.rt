@@ -2,7 +2,7 @@
 //!
 //! It has five commands:
 //!
-//! - `interop serve --port P` serves `grpc.testing.TestService` on a port of 127.0.0.1.
+//! - `interop serve --port P` serves `grpc.testing.TestService` on a port of this machine.
 //! - `interop case NAME --port P` runs test cases as a client, against whatever server listens there.
 //! - `interop self` runs them against a server of its own.
 //! - `interop parts` serves the bytes of one connection, read as hexadecimal text, and prints what they are answered with.
@@ -10,47 +10,27 @@
 //!   prints the messages that they spell (gRPC over HTTP/2, "Length-Prefixed-Message"), then the end or the fault. It reads all of
 //!   its input before it prints anything, and its text is a function of that input, in whatever pieces.
 //!
-//! Read in this order:
-//!
-//! - `server` and `port`: `interop serve` and `interop self`; `served`: what `serve --report` tells.
-//! - `client` and `target`: `interop case`.
-//! - `parts`, `memory` and `streams`: `interop parts`.
-//! - `words`: what the words of `interop body` mean, by `clap`.
-//! - `body`: the command, over any device (the crate `device`); `specs/Body.antt` says what it prints.
-//! - `text`: hexadecimal text into bytes.
-//! - `call`: the events of a call whose bytes come in pieces.
-//! - `report`: the lines that tell messages, the end and faults.
+//! The crate `words` reads its words, and the crate `commands` does what they say. Here is what reaches for the process: its
+//! words, its standard input and output, and its exit status.
 #![tactic(auto)]
 
 ghost use Rattle.std.specs.Prelude.{◌<◌};
+ghost use Rattle.words.specs.Words.{IsInRange};
 
-mod body;
-mod call;
-mod client;
 #[cfg(test)]
 mod gates;
-mod memory;
-mod parts;
-mod port;
-mod report;
-mod served;
-mod server;
-mod streams;
-mod target;
-mod text;
-mod words;
 
-use body::{RunFault, run_body};
-use client::run_cases;
+use commands::{
+    CaseWords, Reason, RunFault, ServeWords, Words, WordsFault, listen, read_words, run_body,
+    run_case, run_parts, run_self, serve,
+};
 use connection::OpenGate;
 use device::Marked;
 use handlers::{
     CacheableUnaryCall, EmptyCall, FullDuplexCall, HalfDuplexCall, Method, Methods,
     StreamingInputCall, StreamingOutputCall, UnaryCall,
 };
-use parts::run_parts;
-use server::{ServerCommand, listen, read_server_words, run_self, serve};
-use std::alloc::AllocError;
+use std::alloc::{AllocError, Global};
 use std::io::ErrorKind;
 use std::net::{Net, TcpListener, TcpStream};
 use std::process::ExitCode;
@@ -59,8 +39,7 @@ use std::sync::{Arc, Wait};
 use std::thread::Threads;
 use std::time::Clock;
 use std::{env, io};
-use target::read_case_words;
-use words::{Words, WordsFault};
+use words::{COMMANDS, LOOPBACK, Port};
 
 const CASE_FAILED: u8 = 1;
 
@@ -74,26 +53,32 @@ const HELP: &str = "\
 The gRPC interop test server's program.
 
 Usage: interop [body --cut N]
-       interop case NAME --port P [--host H]
+       interop case NAME --port P [--host H] [--times N] [--timeout S]
        interop parts
        interop self [--port P]
-       interop serve --port P [--conns N] [--report]
+       interop serve (--port P | --any-port) [--host H] [--conns N] [--report]
 
   body --cut N   read the joined DATA bytes of one call as hexadecimal text, in pieces
                  of N bytes (1 to 65536), and print its messages; this with N = 3 is
                  what no words at all mean
-  case NAME      run the test case of this name as a client against the server at
-                 H:P (127.0.0.1 if no host is given), or all of them where NAME is
-                 all, and print a line of each; what differed is told on standard error
+  case NAME      run the test case of this name as a client against the server at port P of
+                 H (127.0.0.1 if no host is given), or all of them where NAME is all, and
+                 print a line of each; what differed is told on standard error. With --times
+                 each is run N times, and its line tells how many of the runs passed. A read or
+                 a write that takes S seconds (10 if not given) fails. The flags of gRPC's own
+                 clients do too: --test_case=NAME --server_host=H --server_port=P --use_tls=false
   parts          read the bytes of a connection as hexadecimal text, serve it, and print what
                  it is answered with, stream by stream, and how it ended
   self           serve on port P of 127.0.0.1 (50051 if none is given), run all test cases
                  against this server, and print a line of each
-  serve --port P serve grpc.testing.TestService on port P of 127.0.0.1, until it is
-                 interrupted, or N connections were served; with --report print a line of
-                 each connection that ends, and of each call on it
+  serve          serve grpc.testing.TestService on port P of H (127.0.0.1 if no host is given),
+                 or on a port that the system chooses, until it is interrupted, or N connections
+                 were served; the line listening HOST:PORT tells where; with --report print a
+                 line of each connection that ends, and of each call on it
   -h, --help     print this text, also behind a command
   --version      print the version
+
+H is an IPv4 or IPv6 address, or a name. Options come in any order, as --port P or --port=P.
 
 The cases, in the order in which case all runs them: empty_unary, large_unary,
 client_streaming, server_streaming, ping_pong, empty_stream, custom_metadata,
@@ -102,7 +87,7 @@ unimplemented_service, cancel_after_begin, cancel_after_first_response,
 timeout_on_sleeping_server.
 
 Exit status: 0 done, 1 a case failed, 2 bad arguments or input, 3 input, output, memory or
-the port failed; why a port can't be had is told on standard error.";
+the port failed; why a port can't be had, and which argument is bad, is told on standard error.";
 
 // What is said to words that ask about the program itself: one of them alone, or the one for help behind a command.
 fn self_description(words: &[String]) -> Option<&'static str> {
@@ -119,7 +104,7 @@ fn is_help(word: &str) -> bool {
 }
 
 fn is_command(word: &str) -> bool {
-    matches!(word, "body" | "case" | "parts" | "self" | "serve")
+    COMMANDS.iter().any(|command| *command == word)
 }
 
 // Reports on standard output on the call in standard input, and answers the exit status.
@@ -135,26 +120,18 @@ fn print_body<R: Input + Print + Eprint + AllocGlobal>(rt: &R, cut: usize) -> u8
     }
 }
 
-// Runs the cases that the words behind `case` name, and answers the exit status.
-fn obey_case<R: Net + Print + Eprint + AllocGlobal>(rt: &R, words: &[String]) -> u8 {
-    let Some(words) = read_case_words(words) else {
-        return complain(rt, "bad arguments");
-    };
+// Runs the cases that the words name, and answers the exit status.
+fn try_server<R: Net + Print + Eprint + AllocGlobal>(rt: &R, words: CaseWords<'_>) -> u8 {
     let mut output = Marked::new(io::writer(rt));
-    match run_cases(rt, words, &mut output) {
+    match run_case(rt, words, &mut output) {
         Ok(true) => 0,
         Ok(false) => CASE_FAILED,
         Err(_) => FAILED,
     }
 }
 
-// Serves `grpc.testing.TestService`, and answers the exit status.
-fn obey_server<R>(rt: R, command: ServerCommand) -> Result<u8, AllocError>
-where
-    R: Net<Stream = TcpStream, Listener = TcpListener> + Input + Print + Eprint + AllocGlobal,
-    R: Threads + Wait + Clock + Copy + Send + Sync + Drop + 'static,
-{
-    let alloc = rt.alloc();
+// The methods of `grpc.testing.TestService`.
+fn all_methods(alloc: Global) -> Result<Arc<Methods>, AllocError> {
     let mut methods: Vec<Box<dyn Method>> = Vec::new(alloc);
     methods.push(Box::new(alloc, EmptyCall)?)?;
     methods.push(Box::new(alloc, UnaryCall)?)?;
@@ -163,15 +140,19 @@ where
     methods.push(Box::new(alloc, StreamingOutputCall)?)?;
     methods.push(Box::new(alloc, FullDuplexCall)?)?;
     methods.push(Box::new(alloc, HalfDuplexCall)?)?;
-    let methods = Arc::new(alloc, Methods::new(methods))?;
-    Ok(match command {
-        ServerCommand::Parts => print_parts(rt, methods),
-        ServerCommand::Serve(words) => match serve(rt, &methods, words) {
-            Ok(()) => 0,
-            Err(_) => FAILED,
-        },
-        ServerCommand::Cases(port) => try_cases(rt, methods, port),
-    })
+    Ok(Arc::new(alloc, Methods::new(methods))?)
+}
+
+// Serves `grpc.testing.TestService`, and answers the exit status.
+fn serve_all<R>(rt: R, methods: &Arc<Methods>, words: ServeWords<'_>) -> u8
+where
+    R: Net<Stream = TcpStream, Listener = TcpListener> + Print + Eprint + AllocGlobal,
+    R: Threads + Wait + Clock + Copy + Send + Sync + Drop + 'static,
+{
+    match serve(rt, methods, words) {
+        Ok(()) => 0,
+        Err(_) => FAILED,
+    }
 }
 
 // Runs the test cases against a server of its own, and answers the exit status.
@@ -180,7 +161,7 @@ where
     R: Net<Stream = TcpStream, Listener = TcpListener> + Print + Eprint + AllocGlobal,
     R: Threads + Wait + Clock + Copy + Send + Sync + Drop + 'static,
 {
-    let Ok(listener) = listen(&rt, rt.alloc(), port) else {
+    let Ok(listener) = listen(&rt, LOOPBACK, Port::Number(port)) else {
         return FAILED;
     };
     let mut output = Marked::new(io::writer(&rt));
@@ -231,23 +212,34 @@ where
             Err(_) => FAILED,
         };
     }
-    if let Some((command, behind)) = words.split_first() {
-        match command.as_str() {
-            "case" => return obey_case(rt, behind),
-            "parts" | "self" | "serve" => {
-                return match read_server_words(command.as_str(), behind) {
-                    Some(command) => obey_server(*rt, command).unwrap_or(FAILED),
-                    None => complain(rt, "bad arguments"),
-                };
-            }
-            _ => {}
-        }
-    }
-    match words::read_words(rt.alloc(), words) {
-        Ok(Words::Body(cut)) => print_body(rt, cut),
-        Err(WordsFault::BadWords) => complain(rt, "bad arguments"),
+    match read_words(rt.alloc(), words) {
+        Ok(words) => obey_words(rt, words).unwrap_or(FAILED),
+        Err(WordsFault::BadWords(reason)) => explain(rt, reason),
         Err(WordsFault::OutOfMemory) => FAILED,
     }
+}
+
+// Does what the words mean, and answers the exit status.
+fn obey_words<R>(rt: &R, words: Words<'_>) -> Result<u8, AllocError>
+where
+    R: Net<Stream = TcpStream, Listener = TcpListener> + Input + Print + Eprint + AllocGlobal,
+    R: Threads + Wait + Clock + Copy + Send + Sync + Drop + 'static,
+    requires { IsInRange words }
+{
+    Ok(match words {
+        Words::Body(cut) => print_body(rt, cut),
+        Words::Parts => print_parts(*rt, all_methods(rt.alloc())?),
+        Words::Serve(words) => serve_all(*rt, &all_methods(rt.alloc())?, words),
+        Words::Case(words) => try_server(rt, words),
+        Words::SelfTest(port) => try_cases(*rt, all_methods(rt.alloc())?, port),
+    })
+}
+
+// Says on standard error that the arguments are bad, which of them is, and what would be right.
+fn explain(rt: &impl Eprint, reason: Reason<'_>) -> u8 {
+    let status = complain(rt, "bad arguments");
+    let _ = eprintln!(rt; "interop: {reason}");
+    status
 }
 
 // Says on standard error what was wrong with the words or the input.
@@ -265,7 +257,10 @@ fn arguments<R: Env + AllocGlobal>(rt: &R) -> io::Result<Vec<String>> {
 fn main(rt: HostRuntime) -> ExitCode {
     ExitCode::from(match arguments(&rt) {
         Ok(words) => obey(&rt, words.as_slice()),
-        Err(error) if error.kind() == ErrorKind::InvalidData => complain(&rt, "bad arguments"),
+        Err(error) if error.kind() == ErrorKind::InvalidData => {
+            complain(&rt, "bad arguments");
+            complain(&rt, "an argument is not UTF-8")
+        }
         Err(_) => FAILED,
     })
 }

@@ -1,0 +1,35 @@
+//! The commands of the program `interop`, for it and for whoever runs them otherwise: each over devices that its caller gives.
+//!
+//! - `run_body` prints the messages of one call, and `run_parts` what a connection is answered with (`body`, `parts`). Their
+//!   input is hexadecimal text. The program hands them its standard input and output.
+//! - `run_case` runs test cases against a server, and `run_self` against a server of its own (`client`, `server`).
+//! - `serve` serves connections to a port (`server`, `port`); `served` is its report.
+//! - `read_words`, of the crate `words`, reads which of them a command line means.
+//!
+//! Below them:
+//!
+//! - `text`: hexadecimal text into bytes.
+//! - `call`: the events of a call whose bytes come in pieces; `report`: the lines that tell messages, the end and faults.
+//! - `memory` and `streams`: a connection over memory, and what was written on it, stream by stream.
+//! - `tally`: the line of a case that was run several times.
+#![tactic(auto)]
+
+mod body;
+mod call;
+mod client;
+mod memory;
+mod parts;
+mod port;
+mod report;
+mod served;
+mod server;
+mod streams;
+mod tally;
+mod text;
+
+pub use body::{RunFault, run_body};
+pub use client::{PATIENCE, Target, run_all_cases, run_case};
+pub use memory::{MemoryInput, MemoryOutput};
+pub use parts::run_parts;
+pub use server::{listen, run_self, serve};
+pub use words::{CaseWords, Port, Reason, ServeWords, Words, WordsFault, read_words};

@@ -1,0 +1,83 @@
+//! A case that is run several times: a line tells how often it passed.
+
+ghost use Rattle.std.specs.Prelude.{◌≡◌, ◌++◌, OnOk, IsErrOf, true};
+ghost use Rattle.std.specs.Io.KnownBytes.{Appends};
+ghost use Rattle.cases.specs.declared.report.ReportFault.TheVariants.{WriteFailed};
+ghost use Rattle.commands.specs.Tally.{Counts, has_passed, no_run, tally_line};
+
+use cases::{CaseFault, ReportFault};
+use device::{ConnWrite, write_all};
+use std::alloc::{AllocError, Global};
+use std::io::Write;
+
+/// What came of the runs of a case.
+#[derive(Clone, Copy, Debug, PartialEq, Eq)]
+pub struct Tally {
+    /// How many passed.
+    pub passed: u16,
+    /// Why the first failed that did.
+    pub fault: Option<CaseFault>,
+}
+
+impl Tally {
+    /// Of no run.
+    pub fn new() -> Tally
+        ensures { result ≡ no_run }
+    {
+        Tally {
+            passed: 0,
+            fault: None,
+        }
+    }
+
+    /// Tells what came of one more run.
+    pub fn count(&mut self, answer: Result<(), CaseFault>)
+        ensures { Counts self.old answer self.new }
+    {
+        match answer {
+            Ok(()) => self.passed = self.passed.saturating_add(1),
+            Err(fault) => self.fault = self.fault.or(Some(fault)),
+        }
+    }
+
+    /// Whether no run failed.
+    pub fn has_passed(&self) -> bool
+        ensures { result ≡ has_passed self.now }
+    {
+        self.fault.is_none()
+    }
+}
+
+/// Appends the line of a case that was run so many times.
+fn push_tally(text: &mut Vec<u8>, name: &str, tally: Tally, times: u16) -> Result<(), AllocError>
+    ensures { OnOk result (text.new.items ≡ text.old.items ++ tally_line name.now tally times) }
+{
+    let passed = tally.passed;
+    match tally.fault {
+        None => writeln!(text, "case {name} ok ({passed} of {times})").map_err(|_| AllocError),
+        Some(fault) => {
+            let code = fault.code();
+            writeln!(text, "case {name} failed {code} ({passed} of {times})").map_err(
+                |_| AllocError,
+            )
+        }
+    }
+}
+
+/// Prints the line of a case that was run so many times: how many of the runs passed, and the fault of the first that failed.
+pub fn print_tally<W: ConnWrite>(
+    alloc: Global,
+    name: &str,
+    tally: Tally,
+    times: u16,
+    output: &mut W,
+) -> Result<(), ReportFault>
+    ensures line { OnOk result
+        (Appends (W.contents output.old) (W.contents output.new) (tally_line name.now tally times)) }
+    ensures write_failed { IsErrOf result WriteFailed → W.failed output.new ≡ true }
+{
+    let mut text = Vec::new(alloc);
+    push_tally(&mut text, name, tally, times)?;
+    write_all(output, text.as_slice())?;
+    Ok(())
+}

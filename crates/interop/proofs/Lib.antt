@@ -1,3 +1,0 @@
-pub mod CallLemmas
-pub mod NumberLemmas
-pub mod WordsLemmas

@@ -1,8 +1,0 @@
-pub mod Body
-pub mod BodyExamples
-pub mod Call
-pub mod Hex
-pub mod HexExamples
-pub mod Report
-pub mod Words
-pub mod WordsExamples

@@ -1,0 +1,13 @@
+use Rattle.std.proofs.lemmas.Result.{IfOk-weaker}
+use Rattle.words.proofs.CommandLemmas.{is_command, is_option, with_option}
+use Rattle.words.proofs.serve.serve_command.Goals as goal
+
+pub returns : goal.returns
+returns c =
+    let bare = is_command _ _ c.new.ensures.app c.new.ensures.local in
+    let port = with_option _ _ _ _ _ c.in_ok-arg.ensures bare (is_option c.number_option-port.result _ c.number_option-port.ensures.rule c.number_option-port.ensures.local) in
+    let any = with_option _ _ _ _ _ c.in_ok-arg-2.ensures port (is_option c.flag-any_port.result _ c.flag-any_port.ensures.rule c.flag-any_port.ensures.local) in
+    let host = with_option _ _ _ _ _ c.in_ok-arg-3.ensures any c.host_option.ensures in
+    let connections = with_option _ _ _ _ _ c.in_ok-arg-4.ensures host (is_option c.number_option-connections.result _ c.number_option-connections.ensures.rule c.number_option-connections.ensures.local) in
+    IfOk-weaker c.arg-5.result _ _ (λ command added.
+    with_option _ _ _ _ _ added connections (is_option c.flag-report.result _ c.flag-report.ensures.rule c.flag-report.ensures.local)) c.arg-5.ensures

@@ -1,0 +1,7 @@
+pub mod Body
+pub mod Case
+pub mod Options
+pub mod SelfTest
+pub mod Serve
+pub mod Words
+pub mod WordsExamples

@@ -1,0 +1,48 @@
+-- Command lines and what they mean.
+use Rattle.std.specs.Prelude.{◌≡◌, [], ◌∷◌, false, true, Some, None, codes, refl}
+use Rattle.clap.proofs.OnLiterals.{clap_on_literals}
+use Rattle.words.specs.Words.{command_meant, meaning_of, print_body, serve, try_case}
+use Rattle.words.specs.declared.serve.Port.TheVariants.{Any}
+
+pub no_words : meaning_of [] ≡ Some (print_body 3)
+no_words = refl
+
+pub cut : meaning_of (codes "body" ∷ codes "--cut" ∷ codes "65536" ∷ []) ≡ Some (print_body 65536)
+unfolding clap_on_literals command_meant
+cut = refl
+
+pub cut_of_zero : meaning_of (codes "body" ∷ codes "--cut=0" ∷ []) ≡ None
+unfolding clap_on_literals command_meant
+cut_of_zero = refl
+
+pub no_cut : meaning_of (codes "body" ∷ []) ≡ None
+unfolding clap_on_literals command_meant
+no_cut = refl
+
+pub any_port : meaning_of (codes "serve" ∷ codes "--any-port" ∷ codes "--host=::1" ∷ []) ≡ Some (serve (record {
+  host = codes "::1";
+  port = Any;
+  connections = None;
+  has_report = false;
+}))
+unfolding clap_on_literals command_meant
+any_port = refl
+
+pub two_ports : meaning_of (codes "serve" ∷ codes "--port" ∷ codes "5" ∷ codes "--any-port" ∷ []) ≡ None
+unfolding clap_on_literals command_meant
+two_ports = refl
+
+pub flags_of_grpc : meaning_of (codes "case" ∷ codes "--server_host=localhost" ∷ codes "--server_port=5"
+    ∷ codes "--test_case=large_unary" ∷ []) ≡ Some (try_case (record {
+      name = codes "large_unary";
+      host = codes "localhost";
+      port = 5;
+      times = 1;
+      patience = 10;
+    }))
+unfolding clap_on_literals command_meant
+flags_of_grpc = refl
+
+pub port_twice : meaning_of (codes "self" ∷ codes "--port=5" ∷ codes "--port=6" ∷ []) ≡ None
+unfolding clap_on_literals command_meant
+port_twice = refl

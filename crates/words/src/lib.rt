@@ -1,0 +1,25 @@
+//! The words of the program `interop`: which command they mean, or which of them is wrong and what would be right.
+//!
+//! `read_words` reads them by `clap`; its contract is `clap`'s meaning of the command line that `specs/Words.antt` defines.
+//!
+//! - `body`, `serve`, `case`, `self_test`: a file for each command that has options: the options, and what is read of them.
+//! - `read`: all commands, and `read_words`. A further command has a file of its own, a variant of `Words`, and a line each
+//!   in `COMMANDS`, `command_line` and `command_of`.
+//! - `options`: the kinds of option.
+//! - `reason`: why words mean no command.
+#![tactic(auto)]
+
+mod body;
+mod case;
+mod options;
+mod read;
+mod reason;
+mod self_test;
+mod serve;
+
+pub use body::MAX_CUT;
+pub use case::CaseWords;
+pub use options::LOOPBACK;
+pub use read::{COMMANDS, Words, WordsFault, read_words};
+pub use reason::Reason;
+pub use serve::{Port, ServeWords};

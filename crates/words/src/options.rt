@@ -1,0 +1,88 @@
+//! The kinds of option that commands have, and what is read of their values.
+//!
+//! A number is read by `get_one::<usize>`; where it gave none, or one out of the range, there is none. `clap`'s parser has
+//! the same range, so this never decides.
+
+ghost use Rattle.std.specs.Prelude.{◌≡◌, ◌≢◌, ◌≤◌, false, IfOk, IfSome, option_map};
+ghost use Rattle.clap.specs.Words.{found_of, rows_of, rule_of};
+ghost use Rattle.words.specs.Options.{also_named, flag, has_flag, number_of, number_option, text_of, text_option};
+
+use clap::builder::ValueParser;
+use clap::{Arg, ArgAction, ArgMatches, value_parser};
+use std::alloc::{AllocError, Global};
+
+/// The host of servers of which none is named.
+pub const LOOPBACK: &str = "127.0.0.1";
+
+/// The greatest number that an option takes, but for `--cut`.
+pub(crate) const MAX_NUMBER: usize = 65_535;
+
+// `--NAME N`, with N from 1 to 65,535. `right` says what N is.
+pub(crate) fn number_option<'a>(alloc: Global, name: &'a str, right: &'a str) -> Arg<'a>
+    ensures rule { rule_of result ≡ number_option name.now 65535 }
+    ensures local { result.global ≡ false }
+{
+    let numbers = value_parser!(usize).range(1..=65_535);
+    Arg::new(alloc, name)
+        .long(name)
+        .value_parser(numbers)
+        .help(right)
+}
+
+// `--NAME TEXT`, where the text isn't empty. `right` says what the text is.
+pub(crate) fn text_option<'a>(alloc: Global, name: &'a str, right: &'a str) -> Arg<'a>
+    ensures rule { rule_of result ≡ text_option name.now }
+    ensures local { result.global ≡ false }
+{
+    Arg::new(alloc, name)
+        .long(name)
+        .value_parser(ValueParser::NonEmptyString)
+        .help(right)
+}
+
+// `--NAME`.
+pub(crate) fn flag<'a>(alloc: Global, name: &'a str) -> Arg<'a>
+    ensures rule { rule_of result ≡ flag name.now }
+    ensures local { result.global ≡ false }
+{
+    Arg::new(alloc, name).long(name).action(ArgAction::SetTrue)
+}
+
+// The number of an option, if it has one from 1 to `high`.
+pub(crate) fn number_of(options: &ArgMatches<'_>, name: &str, high: usize) -> Option<usize>
+    ensures value { result ≡ number_of name.now high (rows_of (found_of options.now)) }
+    ensures within { IfSome result (λ number. (1 ≤ number) × (number ≤ high)) }
+{
+    let number = options.get_one::<usize>(name)?;
+    if 1 <= number && number <= high {
+        Some(number)
+    } else {
+        None
+    }
+}
+
+// The number of an option, if it has one from 1 to 65,535.
+pub(crate) fn small_number_of(options: &ArgMatches<'_>, name: &str) -> Option<u16>
+    ensures value { result ≡ number_of name.now 65535 (rows_of (found_of options.now)) }
+    ensures within { IfSome result (λ number. 1 ≤ number) }
+{
+    let number = number_of(options, name, MAX_NUMBER)?;
+    Some(number as u16)
+}
+
+// The text of an option, or of the word at a place.
+pub(crate) fn text_of<'a>(options: &ArgMatches<'a>, name: &str) -> Option<&'a str>
+    ensures { option_map (λ text. text.now) result ≡ text_of name.now (rows_of (found_of options.now)) }
+{
+    options.get_str(name)
+}
+
+// Whether a flag was given.
+pub(crate) fn has_flag(options: &ArgMatches<'_>, name: &str) -> bool
+    ensures { result ≡ has_flag name.now (rows_of (found_of options.now)) }
+{
+    match text_of(options, name) {
+        Some(text) => text == "true",
+        None => false,
+    }
+}

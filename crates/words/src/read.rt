@@ -1,0 +1,141 @@
+//! All commands, and what the words of a command line mean.
+
+ghost use Rattle.std.specs.Prelude.{◌≡◌, ◌≢◌, ⊤, None, Some, IfErr, IfOk, IfSome, map, option_and_then, option_map, string_bytes};
+ghost use Rattle.clap.specs.Words.{app_of, found_of, rows_of, subcommand_rows_of};
+ghost use Rattle.words.specs.declared.read.WordsFault.TheVariants.{OutOfMemory};
+
+use crate::body::{body_command, cut_of};
+use crate::case::{CaseWords, case_command, trial_of};
+use crate::reason::{Reason, reason_of};
+use crate::self_test::{own_port_of, self_command};
+use crate::serve::{ServeWords, serve_command, serving_of};
+use clap::error::ErrorKind;
+use clap::{ArgMatches, Command};
+use std::alloc::{AllocError, Global};
+
+/// The names of the commands.
+pub const COMMANDS: [&str; 5] = ["body", "case", "parts", "self", "serve"];
+
+/// What the program is told to do.
+#[derive(Clone, Copy, Debug, PartialEq, Eq)]
+pub enum Words<'a> {
+    /// Print the messages of one call, whose bytes are taken in pieces of so many, 1 to `MAX_CUT`.
+    Body(usize),
+    /// Serve the connection in standard input, and print what it was answered with.
+    Parts,
+    /// Serve connections.
+    Serve(ServeWords<'a>),
+    /// Run test cases against a server.
+    Case(CaseWords<'a>),
+    /// Run all test cases against a server of its own, on this port.
+    SelfTest(u16),
+}
+
+/// Why words are not obeyed.
+#[derive(Clone, Copy, Debug, PartialEq, Eq)]
+pub enum WordsFault<'a> {
+    /// They mean no command.
+    BadWords(Reason<'a>),
+    /// No memory was to be had.
+    OutOfMemory,
+}
+
+ghost use Rattle.words.specs.Words.{IsBad, IsInRange, bare_line, code_of, command_line, command_meant, command_of, meaning, meaning_of};
+
+impl<'a> WordsFault<'a> {
+    /// The fault's number.
+    pub fn code(self) -> u32
+        ensures { result ≡ code_of self.entry }
+    {
+        match self {
+            WordsFault::BadWords(_) => 1,
+            WordsFault::OutOfMemory => 2,
+        }
+    }
+}
+
+impl<'a> From<AllocError> for WordsFault<'a> {
+    ghost from_gives = { λ _ fault. fault ≡ OutOfMemory };
+
+    fn from(_error: AllocError) -> WordsFault<'a> {
+        WordsFault::OutOfMemory
+    }
+}
+
+// The program without its commands. Help and version are the program's own.
+fn bare_line<'a>(alloc: Global) -> Command<'a>
+    ensures { app_of result ≡ bare_line }
+{
+    Command::new(alloc, "interop")
+        .no_binary_name(true)
+        .disable_help_flag(true)
+        .disable_help_subcommand(true)
+        .disable_version_flag(true)
+        .subcommand_required(true)
+}
+
+// The commands and their options.
+pub(crate) fn command_line<'a>(alloc: Global) -> Result<Command<'a>, AllocError>
+    ensures { IfOk result (λ command. app_of command ≡ command_line) }
+{
+    bare_line(alloc)
+        .subcommand(body_command(alloc)?)?
+        .subcommand(Command::new(alloc, "parts"))?
+        .subcommand(serve_command(alloc)?)?
+        .subcommand(case_command(alloc)?)?
+        .subcommand(self_command(alloc)?)
+}
+
+// A command with the values of its options.
+fn command_of<'a>(name: &str, options: &ArgMatches<'a>) -> Option<Words<'a>>
+    ensures value { option_map meaning result ≡ command_of (name.now, rows_of (found_of options.now)) }
+    ensures in_range { IfSome result IsInRange }
+{
+    match name {
+        "body" => Some(Words::Body(cut_of(options)?)),
+        "parts" => Some(Words::Parts),
+        "serve" => Some(Words::Serve(serving_of(options)?)),
+        "case" => Some(Words::Case(trial_of(options)?)),
+        "self" => Some(Words::SelfTest(own_port_of(options)?)),
+        _ => None,
+    }
+}
+
+// The command that a parse met.
+fn command_in<'a>(matches: &ArgMatches<'a>) -> Option<Words<'a>>
+    ensures value { option_map meaning result ≡ option_and_then command_of (subcommand_rows_of matches.now) }
+    ensures in_range { IfSome result IsInRange }
+{
+    let (name, options) = matches.subcommand()?;
+    command_of(name, options)
+}
+
+// The command that the words mean to `clap`, if they mean any.
+fn read_command<'a>(alloc: Global, words: &'a [String]) -> Result<Option<Words<'a>>, AllocError>
+    ensures value { IfOk result (λ told. option_map meaning told ≡ command_meant (map string_bytes words.now)) }
+    ensures in_range { IfOk result (λ told. IfSome told IsInRange) }
+{
+    match command_line(alloc)?.try_get_matches_from(words) {
+        Ok(matches) => Ok(command_in(&matches)),
+        Err(error) => match error.kind() {
+            ErrorKind::OutOfMemory => Err(AllocError),
+            _ => Ok(None),
+        },
+    }
+}
+
+/// Reads the words after the program's name. No words at all are `body --cut 3`. They are read by `clap`'s rules: options come
+/// in any order, `--cut=3`, `--cut 3`, `--cut +3` and `--cut 003` are the same, and none is given twice.
+pub fn read_words<'a>(alloc: Global, words: &'a [String]) -> Result<Words<'a>, WordsFault<'a>>
+    ensures ok { IfOk result (λ told. meaning_of (map string_bytes words.now) ≡ Some (meaning told)) }
+    ensures in_range { IfOk result IsInRange }
+    ensures bad { IfErr result (λ fault. IsBad fault → meaning_of (map string_bytes words.now) ≡ None) }
+{
+    if words.is_empty() {
+        return Ok(Words::Body(3));
+    }
+    match read_command(alloc, words)? {
+        Some(told) => Ok(told),
+        None => Err(WordsFault::BadWords(reason_of(alloc, words)?)),
+    }
+}

@@ -1,0 +1,286 @@
+//! Why words mean no command: which of them is wrong, and what would be right.
+//!
+//! That the words mean none was found by `clap`. Here the words are walked over once more, in `clap`'s order, for the first
+//! of them that the command does not take; where each is taken, something is missing, or two things exclude each other.
+
+use crate::read::{COMMANDS, command_line};
+use crate::{body, case, self_test, serve};
+use clap::builder::ValueParser;
+use clap::{Arg, ArgAction, Command};
+use std::alloc::{AllocError, Global};
+use std::fmt;
+
+/// Why words mean no command. An `option` is as it was written, without its value.
+#[derive(Clone, Copy, Debug, PartialEq, Eq)]
+pub enum Reason<'a> {
+    /// The first word is no command.
+    NoCommand {
+        word: &'a str,
+    },
+    /// The command has no such option.
+    NoOption {
+        command: &'a str,
+        option: &'a str,
+    },
+    /// The command takes no such word.
+    NoPlace {
+        command: &'a str,
+        word: &'a str,
+    },
+    /// An option has no value; `right` says what it would be.
+    NoValue {
+        option: &'a str,
+        right: &'a str,
+    },
+    /// An option can't have this value; `right` says what it would be.
+    WrongValue {
+        option: &'a str,
+        value: &'a str,
+        right: &'a str,
+    },
+    /// The option takes no value.
+    NeedlessValue {
+        option: &'a str,
+    },
+    /// The option was given before, as `other`.
+    Repeated {
+        option: &'a str,
+        other: &'a str,
+    },
+    /// This is missing.
+    Missing {
+        command: &'a str,
+        what: &'static str,
+    },
+    /// These exclude each other.
+    Excluding {
+        both: &'static str,
+    },
+}
+
+/// The words that a command takes.
+fn takes(command: &str) -> &'static str {
+    match command {
+        "body" => body::TAKES,
+        "case" => case::TAKES,
+        "self" => self_test::TAKES,
+        "serve" => serve::TAKES,
+        _ => "no words",
+    }
+}
+
+impl<'a> fmt::Display for Reason<'a> {
+    fn fmt<W: fmt::Write>(&self, f: &mut fmt::Formatter<W>) -> fmt::Result {
+        match *self {
+            Reason::NoCommand { word } => {
+                write!(f, "{word} is no command:")?;
+                for (number, command) in COMMANDS.iter().enumerate() {
+                    let between = if number == 0 { " " } else { ", " };
+                    write!(f, "{between}{command}")?;
+                }
+                Ok(())
+            }
+            Reason::NoOption { command, option } => {
+                let takes = takes(command);
+                write!(f, "{option} is no option of {command}, which takes {takes}")
+            }
+            Reason::NoPlace { command, word } => {
+                let takes = takes(command);
+                write!(
+                    f,
+                    "{word} has no place behind {command}, which takes {takes}"
+                )
+            }
+            Reason::NoValue { option, right } => write!(f, "{option} needs a value: {right}"),
+            Reason::WrongValue {
+                option,
+                value,
+                right,
+            } => { write!(f, "{option} can't be {value}: {right}") }
+            Reason::NeedlessValue { option } => write!(f, "{option} takes no value"),
+            Reason::Repeated { option, other } if option == other => {
+                write!(f, "{option} is given twice")
+            }
+            Reason::Repeated { option, other } => write!(
+                f,
+                "{other} and {option} are the same option"
+            ),
+            Reason::Missing { command, what } => write!(f, "{command} needs {what}"),
+            Reason::Excluding { both } => write!(f, "{both} exclude each other"),
+        }
+    }
+}
+
+/// Why these words mean no command, where that is so.
+pub(crate) fn reason_of<'a>(alloc: Global, words: &'a [String]) -> Result<Reason<'a>, AllocError> {
+    let Some((first, behind)) = words.split_first() else {
+        return Ok(Reason::NoCommand { word: "" });
+    };
+    let name = first.as_str();
+    let line = command_line(alloc)?;
+    Ok(match line.find_subcommand(name) {
+        Some(command) => reason_behind(name, command, behind),
+        None => Reason::NoCommand { word: name },
+    })
+}
+
+/// Why the words behind a command are not those that it takes.
+fn reason_behind<'a>(name: &'a str, command: &Command<'a>, words: &'a [String]) -> Reason<'a> {
+    let mut waiting: Option<Given<'_, 'a>> = None;
+    let has_place = command
+        .get_arguments()
+        .iter()
+        .any(|arg| arg.is_positional());
+    let mut is_placed = false;
+    for (at, word) in words.iter().enumerate() {
+        let word = word.as_str();
+        if let Some(given) = waiting {
+            waiting = None;
+            if let Some(reason) = given.reason_against(word) {
+                return reason;
+            }
+            continue;
+        }
+        if !is_option(word) {
+            if is_placed || !has_place {
+                return Reason::NoPlace {
+                    command: name,
+                    word,
+                };
+            }
+            is_placed = true;
+            continue;
+        }
+        match given_by(name, command, &words[..at], word) {
+            Ok(given) => waiting = given,
+            Err(reason) => return reason,
+        }
+    }
+    match waiting {
+        Some(given) => given.no_value(),
+        None => reason_of_whole(name, words, is_placed),
+    }
+}
+
+/// An option that was given, as it was written.
+#[derive(Clone, Copy)]
+struct Given<'c, 'a> {
+    option: &'a str,
+    arg: &'c Arg<'a>,
+}
+
+impl<'c, 'a> Given<'c, 'a> {
+    fn no_value(self) -> Reason<'a> {
+        Reason::NoValue {
+            option: self.option,
+            right: self.arg.get_help().unwrap_or("a value"),
+        }
+    }
+
+    /// Why its value can't be this word, if so.
+    fn reason_against(self, value: &'a str) -> Option<Reason<'a>> {
+        if value.is_empty() || is_option(value) {
+            return Some(self.no_value());
+        }
+        let is_right = match self.arg.get_value_parser() {
+            ValueParser::Unsigned(low, high) => match value.parse::<u64>() {
+                Ok(number) => low <= number && number <= high,
+                Err(_) => false,
+            },
+            _ => self.arg.get_id() != "use_tls" || value == "false",
+        };
+        if is_right {
+            return None;
+        }
+        Some(Reason::WrongValue {
+            option: self.option,
+            value,
+            right: self.arg.get_help().unwrap_or("another value"),
+        })
+    }
+}
+
+/// A word that stands for an option, and not for itself.
+fn is_option(word: &str) -> bool {
+    word.len() > 1 && word.starts_with('-')
+}
+
+/// The option without its value, and its value where that is attached.
+fn parts_of(word: &str) -> (&str, Option<&str>) {
+    match word.split_once('=') {
+        Some((option, value)) => (option, Some(value)),
+        None => (word, None),
+    }
+}
+
+/// The argument of the command that an option names.
+fn arg_of<'c, 'a>(name: &str, command: &'c Command<'a>, option: &str) -> Option<&'c Arg<'a>> {
+    let long = match option.strip_prefix("--")? {
+        "server_host" if name == "case" => "host",
+        "server_port" if name == "case" => "port",
+        long => long,
+    };
+    command
+        .get_arguments()
+        .iter()
+        .find(|arg| arg.get_long().is_some_and(|known| known == long))
+}
+
+/// The option of a word, where its value is the next word, or why it is wrong behind the words before it.
+fn given_by<'c, 'a>(
+    name: &'a str,
+    command: &'c Command<'a>,
+    before: &'a [String],
+    word: &'a str,
+) -> Result<Option<Given<'c, 'a>>, Reason<'a>> {
+    let (option, value) = parts_of(word);
+    let Some(arg) = arg_of(name, command, option) else {
+        return Err(Reason::NoOption {
+            command: name,
+            option,
+        });
+    };
+    let known = before.iter().map(|other| parts_of(other.as_str()).0).find(|other| {
+        arg_of(name, command, other).is_some_and(|same| same.get_id() == arg.get_id())
+    });
+    if let Some(other) = known {
+        return Err(Reason::Repeated { option, other });
+    }
+    let given = Given { option, arg };
+    let is_flag = matches!(arg.get_action(), ArgAction::SetTrue);
+    match value {
+        None if is_flag => Ok(None),
+        None => Ok(Some(given)),
+        Some(_) if is_flag => Err(Reason::NeedlessValue { option }),
+        Some(value) => match given.reason_against(value) {
+            Some(reason) => Err(reason),
+            None => Ok(None),
+        },
+    }
+}
+
+/// Why the words behind a command are not enough, or too many, where it takes each of them. `is_placed` tells whether one
+/// of them stands for itself.
+fn reason_of_whole<'a>(command: &'a str, words: &[String], is_placed: bool) -> Reason<'a> {
+    let what = match command {
+        "serve" if has_option(words, "--any-port") => {
+            return Reason::Excluding {
+                both: "--port and --any-port",
+            };
+        }
+        "case" if is_placed && has_option(words, "--test_case") => {
+            return Reason::Excluding {
+                both: "NAME and --test_case",
+            };
+        }
+        "serve" => "--port P or --any-port",
+        "case" if is_placed || has_option(words, "--test_case") => "--port P",
+        "case" => "NAME or --test_case NAME",
+        _ => takes(command),
+    };
+    Reason::Missing { command, what }
+}
+
+fn has_option(words: &[String], option: &str) -> bool {
+    words.iter().any(|word| parts_of(word.as_str()).0 == option)
+}

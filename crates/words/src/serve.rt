@@ -1,0 +1,84 @@
+//! `serve --port P`, or `serve --any-port`, with `--host H`, `--conns N` and `--report`.
+
+ghost use Rattle.std.specs.Prelude.{◌≡◌, ◌≤◌, false, IfOk, IfSome, option_map};
+ghost use Rattle.clap.specs.Words.{app_of, found_of, rows_of};
+ghost use Rattle.words.specs.Options.{IsCommand, IsOption};
+ghost use Rattle.words.specs.Serve.{IsPort, host_option, port_of, serve_command, serving, serving_of};
+
+use crate::options::{
+    LOOPBACK, flag, has_flag, number_option, small_number_of, text_of, text_option,
+};
+use clap::{Arg, ArgMatches, Command};
+use std::alloc::{AllocError, Global};
+
+/// The port that a server listens on.
+#[derive(Clone, Copy, Debug, PartialEq, Eq)]
+pub enum Port {
+    /// This one, 1 to 65,535.
+    Number(u16),
+    /// One that the system chooses.
+    Any,
+}
+
+/// What `serve` is told.
+#[derive(Clone, Copy, Debug, PartialEq, Eq)]
+pub struct ServeWords<'a> {
+    /// The address that it listens on, or a name for it.
+    pub host: &'a str,
+    pub port: Port,
+    /// How many connections it serves before it ends, where it ends.
+    pub connections: Option<u16>,
+    /// Whether it prints the report on each.
+    pub has_report: bool,
+}
+
+/// The words that it takes.
+pub(crate) const TAKES: &str = "--port P or --any-port, --host H, --conns N, --report";
+
+// `--host H`.
+fn host_option<'a>(alloc: Global) -> Arg<'a>
+    ensures { IsOption host_option result }
+{
+    text_option(alloc, "host", "an address, or a host's name").default_value(LOOPBACK)
+}
+
+pub(crate) fn serve_command<'a>(alloc: Global) -> Result<Command<'a>, AllocError>
+    ensures { IfOk result (IsCommand serve_command) }
+{
+    let port = number_option(alloc, "port", "a port, 1 to 65535");
+    let any_port = flag(alloc, "any-port");
+    let connections = number_option(alloc, "conns", "a number of connections, 1 to 65535");
+    let report = flag(alloc, "report");
+    Command::new(alloc, "serve")
+        .arg(port)?
+        .arg(any_port)?
+        .arg(host_option(alloc))?
+        .arg(connections)?
+        .arg(report)
+}
+
+// The port that is given, or any: one of the two has to be said, and not both.
+fn port_of(options: &ArgMatches<'_>) -> Option<Port>
+    ensures value { result ≡ port_of (rows_of (found_of options.now)) }
+    ensures within { IfSome result IsPort }
+{
+    let any = has_flag(options, "any-port").then_some(Port::Any);
+    match small_number_of(options, "port") {
+        Some(number) => Some(Port::Number(number)).xor(any),
+        None => any,
+    }
+}
+
+pub(crate) fn serving_of<'a>(options: &ArgMatches<'a>) -> Option<ServeWords<'a>>
+    ensures value { option_map serving result ≡ serving_of (rows_of (found_of options.now)) }
+    ensures within { IfSome result (λ told. IsPort told.port) }
+{
+    let port = port_of(options)?;
+    let host = text_of(options, "host")?;
+    Some(ServeWords {
+        host,
+        port,
+        connections: small_number_of(options, "conns"),
+        has_report: has_flag(options, "report"),
+    })
+}
