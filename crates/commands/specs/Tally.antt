@@ -22,7 +22,14 @@ abbrev pub ending_of : Option CaseFault → List ℕ
 ending_of None = codes " ok"
 ending_of (Some fault) = codes " failed " ++ decimal (code_of fault)
 
+-- `case NAME ok`, or `case NAME failed CODE`
+abbrev pub outcome_of : List ℕ → Option CaseFault → List ℕ
+outcome_of name fault = codes "case " ++ name ++ ending_of fault
+
+-- ` (PASSED of TIMES)`, and the line's end
+abbrev pub count_of : ℕ → ℕ → List ℕ
+count_of passed times = codes " (" ++ decimal passed ++ codes " of " ++ decimal times ++ codes ")" ++ 10 ∷ []
+
 -- `case NAME ok (PASSED of TIMES)`, or `case NAME failed CODE (PASSED of TIMES)`
 abbrev pub tally_line : List ℕ → Tally → ℕ → List ℕ
-tally_line name tally times = codes "case " ++ name ++ ending_of tally.fault
-    ++ codes " (" ++ decimal tally.passed ++ codes " of " ++ decimal times ++ codes ")" ++ 10 ∷ []
+tally_line name tally times = outcome_of name tally.fault ++ count_of tally.passed times

@@ -35,11 +35,7 @@ pub fn run_case<R: Net + Eprint + AllocGlobal, W: ConnWrite>(
     rt: &R,
     words: CaseWords<'_>,
     output: &mut W,
-) -> Result<bool, ReportFault>
-    ensures unknown { IsNoName words.name.now → words.name.now ≢ codes "all" → words.times ≡ 1
-        → IfOk result (λ passed. (passed ≡ false) × Appends (W.contents output.old) (W.contents output.new)
-        (line_of words.name.now (Err UnknownCase))) }
-{
+) -> Result<bool, ReportFault> {
     let CaseWords {
         name,
         host,

@@ -3,7 +3,7 @@
 ghost use Rattle.std.specs.Prelude.{◌≡◌, ◌++◌, OnOk, IsErrOf, true};
 ghost use Rattle.std.specs.Io.KnownBytes.{Appends};
 ghost use Rattle.cases.specs.declared.report.ReportFault.TheVariants.{WriteFailed};
-ghost use Rattle.commands.specs.Tally.{Counts, has_passed, no_run, tally_line};
+ghost use Rattle.commands.specs.Tally.{Counts, count_of, has_passed, no_run, outcome_of, tally_line};
 
 use cases::{CaseFault, ReportFault};
 use device::{ConnWrite, write_all};
@@ -52,16 +52,28 @@ impl Tally {
 fn push_tally(text: &mut Vec<u8>, name: &str, tally: Tally, times: u16) -> Result<(), AllocError>
     ensures { OnOk result (text.new.items ≡ text.old.items ++ tally_line name.now tally times) }
 {
-    let passed = tally.passed;
-    match tally.fault {
-        None => writeln!(text, "case {name} ok ({passed} of {times})").map_err(|_| AllocError),
+    push_outcome(text, name, tally.fault)?;
+    push_count(text, tally.passed, times)
+}
+
+/// Appends the case's name, and whether it failed.
+fn push_outcome(text: &mut Vec<u8>, name: &str, fault: Option<CaseFault>) -> Result<(), AllocError>
+    ensures { OnOk result (text.new.items ≡ text.old.items ++ outcome_of name.now fault) }
+{
+    match fault {
+        None => write!(text, "case {name} ok").map_err(|_| AllocError),
         Some(fault) => {
             let code = fault.code();
-            writeln!(text, "case {name} failed {code} ({passed} of {times})").map_err(
-                |_| AllocError,
-            )
+            write!(text, "case {name} failed {code}").map_err(|_| AllocError)
         }
     }
+}
+
+/// Appends how many of its runs passed.
+fn push_count(text: &mut Vec<u8>, passed: u16, times: u16) -> Result<(), AllocError>
+    ensures { OnOk result (text.new.items ≡ text.old.items ++ count_of passed times) }
+{
+    writeln!(text, " ({passed} of {times})").map_err(|_| AllocError)
 }
 
 /// Prints the line of a case that was run so many times: how many of the runs passed, and the fault of the first that failed.
