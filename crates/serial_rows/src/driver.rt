@@ -4,12 +4,15 @@
 //! `slotwriter`; the credit book is asked as the server's threads ask it.
 
 ghost use Rattle.std.specs.Prelude.{◌≡◌, ◌<◌};
+ghost use Rattle.lane.specs.Ring as ring;
+ghost use Rattle.lane.specs.RingLane.{out_name, ring_of};
 
 use crate::credit::Credit;
 use crate::outbox::{Outbox, Put};
 use crate::pipe::Pipe;
 use crate::running::Moment;
 use crate::seats::open_seat;
+use crate::work::Came;
 use crate::worker::SerialWorker;
 use crate::writing::Writing;
 use anyhow::{Result, bail};
@@ -451,10 +454,11 @@ impl<'a> Serial<'a> {
             lacks: self.lacks,
         };
         let shared: &ConnBook<A, B, C> = book;
-        let Some(came) = self
-            .reading
-            .visit(place, |worker| worker.turn(moment, shared))
-        else {
+        let visit = |worker: &mut SerialWorker| -> Came
+            ensures lane { ring_of (out_name worker.new.first.value.rx) ≡ ring_of (out_name worker.old.first.value.rx) }
+            ensures jobs { ring.out_name worker.new.jobs ≡ ring.out_name worker.old.jobs }
+        { worker.turn(moment, shared) };
+        let Some(came) = self.reading.visit(place, visit) else {
             return Ok(false);
         };
         self.call_ran_out = self.call_ran_out || came.ran_out;

@@ -119,14 +119,12 @@ impl Work {
     {
         match mem::replace(self, Work::Moving) {
             Work::Rests(taker, end) => {
-                let mut taker = taker;
-                if gets_all(alloc, &mut taker) {
+                let (work, is_idle) = rested(alloc, taker, end);
+                *self = work;
+                if is_idle {
                     slot.rest();
-                    *self = Work::Free(taker, end);
-                    return true;
                 }
-                *self = Work::Rests(taker, end);
-                false
+                is_idle
             }
             other => {
                 *self = other;
@@ -218,6 +216,18 @@ fn shut_of(end: Giving) -> GivenShut<OutLane> {
         End::Open(giver) => giver.leave(),
         End::Shut(shut) => shut,
     }
+}
+
+/// What its worker is at that gets what there is of a call that was answered: free for the next one where that is all of it.
+fn rested(alloc: Global, taker: Taker<InLane>, end: Giving) -> (Work, bool)
+    ensures ring { ring_in result.0 ≡ Some (ring_of (out_name taker.rx)) }
+{
+    let mut taker = taker;
+    let is_idle = gets_all(alloc, &mut taker);
+    if is_idle {
+        return (Work::Free(taker, end), true);
+    }
+    (Work::Rests(taker, end), false)
 }
 
 /// Gets what there is of a call that was answered, and goes on to the next one where that is all of it.

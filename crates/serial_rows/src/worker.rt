@@ -24,12 +24,12 @@ pub struct SerialWorker {
     alloc: Global,
     slot: Arc<Slot>,
     /// Where its calls come from.
-    jobs: RingOut<Job>,
+    pub(crate) jobs: RingOut<Job>,
     /// A call that waits until the last one was sent.
     next: Option<Job>,
     work: Work,
     /// The end that it began with.
-    first: Snapshot<Taker<InLane>>,
+    pub(crate) first: Snapshot<Taker<InLane>>,
     ghost one_ring: { IsSomeAnd (ring_in work) (λ ring. ring ≡ ring_of (out_name first.value.rx)) } by { IsSomeAnd-prop (ring_in work) (λ ring. ring ≡ ring_of (out_name first.value.rx)) (λ ring. LaneName_set ring (ring_of (out_name first.value.rx))) },
 }
 
