@@ -130,8 +130,20 @@ fn try_server<R: Net + Print + Eprint + AllocGlobal>(rt: &R, words: CaseWords<'_
     }
 }
 
-// The methods of `grpc.testing.TestService`.
-fn all_methods(alloc: Global) -> Result<Arc<Methods>, AllocError> {
+// A command that answers calls.
+enum Server<'a> {
+    Parts,
+    Serve(ServeWords<'a>),
+    SelfTest(u16),
+}
+
+// Does what a command says over the methods of `grpc.testing.TestService`, and answers the exit status.
+fn obey_server<R>(rt: R, server: Server<'_>) -> Result<u8, AllocError>
+where
+    R: Net<Stream = TcpStream, Listener = TcpListener> + Input + Print + Eprint + AllocGlobal,
+    R: Threads + Wait + Clock + Copy + Send + Sync + Drop + 'static,
+{
+    let alloc = rt.alloc();
     let mut methods: Vec<Box<dyn Method>> = Vec::new(alloc);
     methods.push(Box::new(alloc, EmptyCall)?)?;
     methods.push(Box::new(alloc, UnaryCall)?)?;
@@ -140,7 +152,12 @@ fn all_methods(alloc: Global) -> Result<Arc<Methods>, AllocError> {
     methods.push(Box::new(alloc, StreamingOutputCall)?)?;
     methods.push(Box::new(alloc, FullDuplexCall)?)?;
     methods.push(Box::new(alloc, HalfDuplexCall)?)?;
-    Ok(Arc::new(alloc, Methods::new(methods))?)
+    let methods = Arc::new(alloc, Methods::new(methods))?;
+    Ok(match server {
+        Server::Parts => print_parts(rt, methods),
+        Server::Serve(words) => serve_all(rt, &methods, words),
+        Server::SelfTest(port) => try_cases(rt, methods, port),
+    })
 }
 
 // Serves `grpc.testing.TestService`, and answers the exit status.
@@ -226,13 +243,13 @@ where
     R: Threads + Wait + Clock + Copy + Send + Sync + Drop + 'static,
     requires { IsInRange words }
 {
-    Ok(match words {
-        Words::Body(cut) => print_body(rt, cut),
-        Words::Parts => print_parts(*rt, all_methods(rt.alloc())?),
-        Words::Serve(words) => serve_all(*rt, &all_methods(rt.alloc())?, words),
-        Words::Case(words) => try_server(rt, words),
-        Words::SelfTest(port) => try_cases(*rt, all_methods(rt.alloc())?, port),
-    })
+    match words {
+        Words::Body(cut) => Ok(print_body(rt, cut)),
+        Words::Case(words) => Ok(try_server(rt, words)),
+        Words::Parts => obey_server(*rt, Server::Parts),
+        Words::Serve(words) => obey_server(*rt, Server::Serve(words)),
+        Words::SelfTest(port) => obey_server(*rt, Server::SelfTest(port)),
+    }
 }
 
 // Says on standard error that the arguments are bad, which of them is, and what would be right.
