@@ -131,6 +131,7 @@ fn try_server<R: Net + Print + Eprint + AllocGlobal>(rt: &R, words: CaseWords<'_
 }
 
 // A command that answers calls.
+#[derive(Clone, Copy, Debug)]
 enum Server<'a> {
     Parts,
     Serve(ServeWords<'a>),
