@@ -4,7 +4,7 @@
 //! A client that gives credit for each DATA frame at once can't see that a server goes past its windows. So this one lets
 //! the windows run low, and then asks by PING whether the server stops: once the acknowledgement came with no DATA
 //! before it, or nothing of the window is left, the server has. Of the two windows one is opened then, and the other only
-//! once the server has stopped again: so each of them is seen to hold by itself, the stream's and the connection's by
+//! once the server is seen to stop still: so each of them is seen to hold by itself, the stream's and the connection's by
 //! turns.
 
 ghost use Rattle.std.specs.Prelude.{◌≡◌, ◌<◌, ◌≤◌, IsSome, OnOk, IfErr};
@@ -63,6 +63,8 @@ struct Question {
     has_gone_on: bool,
     /// Whether one of the windows was opened already.
     is_half_open: bool,
+    /// Whether it was asked twice since.
+    is_asked_twice: bool,
 }
 
 /// The windows of what is received.
@@ -158,6 +160,7 @@ impl Credit {
             stream,
             has_gone_on: false,
             is_half_open: false,
+            is_asked_twice: false,
         });
         true
     }
@@ -175,6 +178,15 @@ impl Credit {
             });
             return Step::Ask;
         }
+        // The acknowledgement of a PING may overtake DATA (RFC 9113, section 6.7): a second one then comes behind it.
+        if question.is_half_open && !question.is_asked_twice {
+            self.question = Some(Question {
+                has_gone_on: false,
+                is_asked_twice: true,
+                ..question
+            });
+            return Step::Ask;
+        }
         if question.is_half_open || self.book.due(0) == 0 || self.book.due(stream) == 0 {
             return Step::OpenBoth(stream);
         }
@@ -182,6 +194,7 @@ impl Credit {
             stream,
             has_gone_on: false,
             is_half_open: true,
+            is_asked_twice: false,
         });
         let first = if self.stream_first { stream } else { 0 };
         self.stream_first = !self.stream_first;
