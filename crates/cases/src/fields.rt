@@ -113,8 +113,8 @@ fn is_grpc(fields: &[Field]) -> bool
 fn is_malformed_head(fields: &[Field]) -> bool
     ensures { result ≡ is_malformed_head fields.now }
 {
-    fields.iter().any(|field| is_malformed_field(field))
-        || fields.iter().any(|field| is_unknown(field))
+    has_malformed_field(fields)
+        || has_unknown(fields)
         || has_late_pseudo_header(fields)
         || !has_one_status(fields)
 }
@@ -130,8 +130,25 @@ fn has_one_status(fields: &[Field]) -> bool
 fn are_malformed_trailers(fields: &[Field]) -> bool
     ensures { result ≡ are_malformed_trailers fields.now }
 {
+    has_malformed_field(fields) || has_pseudo_header(fields)
+}
+
+fn has_malformed_field(fields: &[Field]) -> bool
+    ensures { result ≡ list_any is_malformed_field fields.now }
+{
     fields.iter().any(|field| is_malformed_field(field))
-        || fields.iter().any(|field| is_pseudo_header(field))
+}
+
+fn has_unknown(fields: &[Field]) -> bool
+    ensures { result ≡ list_any is_unknown fields.now }
+{
+    fields.iter().any(|field| is_unknown(field))
+}
+
+fn has_pseudo_header(fields: &[Field]) -> bool
+    ensures { result ≡ list_any is_pseudo_header fields.now }
+{
+    fields.iter().any(|field| is_pseudo_header(field))
 }
 
 /// Whether one field alone makes a response malformed.
