@@ -355,13 +355,12 @@ fn take_data(call: &mut Call, last: bool, len: u32, bytes: &[u8]) -> Result<(), 
 /// The SETTINGS_MAX_FRAME_SIZE among parameters, if it is there.
 fn longest_of(content: &[u8]) -> Option<u32> {
     let mut longest = None;
-    let mut rest = content;
-    while rest.len() >= 6 {
-        let (text, behind) = rest.split_at(6);
-        if u16::from_be_bytes([text[0], text[1]]) == MAX_FRAME_SIZE {
-            longest = Some(u32::from_be_bytes([text[2], text[3], text[4], text[5]]));
+    for at in 0..content.len() / 6 {
+        if let Some([high, low, a, b, c, d]) = content.get(at * 6..at * 6 + 6) {
+            if u16::from_be_bytes([*high, *low]) == MAX_FRAME_SIZE {
+                longest = Some(u32::from_be_bytes([*a, *b, *c, *d]));
+            }
         }
-        rest = behind;
     }
     longest
 }

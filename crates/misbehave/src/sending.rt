@@ -11,7 +11,7 @@ use crate::frame_text::{
 use crate::line::Line;
 use crate::responses::{HEAD, OK};
 use crate::step::{Last, Pair, Part, Step};
-use h2frame::{MAX_PAYLOAD, StreamId};
+use h2frame::StreamId;
 use std::alloc::AllocError;
 
 /// How many padded frames there are, each with this much padding: 1 MiB together.
@@ -331,13 +331,10 @@ fn too_long<L: Line>(connection: &mut Connection<L>, stream: StreamId) -> Result
 
 /// Appends so many zero bytes.
 fn push_zeros(out: &mut Vec<u8>, count: u32) -> Result<(), AllocError> {
-    let mut left = count as usize;
-    while left > 0 {
-        let len = left.min(ZEROS.len());
-        out.extend_from_slice(&ZEROS[..len])?;
-        left -= len;
+    for _ in 0..count / 16_384 {
+        out.extend_from_slice(&ZEROS)?;
     }
-    Ok(())
+    out.extend_from_slice(&ZEROS[..(count % 16_384) as usize])
 }
 
 /// Sends DATA past the client's windows: the beginning of a message that is as long.
@@ -355,12 +352,10 @@ fn past_window<L: Line>(connection: &mut Connection<L>, stream: StreamId) -> Res
         stream,
         &[0, a, b, c, d],
     )?;
-    let mut left = count;
-    while left > 0 {
-        let len = left.min(MAX_PAYLOAD);
-        push_frame_head(&mut connection.out, DATA, NO_FLAGS, stream, len)?;
-        push_zeros(&mut connection.out, len)?;
-        left -= len;
+    for _ in 0..count / 16_384 {
+        push_frame(&mut connection.out, DATA, NO_FLAGS, stream, &ZEROS)?;
     }
+    let rest = (count % 16_384) as usize;
+    push_frame(&mut connection.out, DATA, NO_FLAGS, stream, &ZEROS[..rest])?;
     Ok(())
 }
