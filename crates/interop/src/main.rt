@@ -1,10 +1,11 @@
 //! The program `interop`: the gRPC interop test server, and the client that tries such a server.
 //!
-//! It has five commands:
+//! It has six commands:
 //!
 //! - `interop serve --port P` serves `grpc.testing.TestService` on a port of 127.0.0.1.
 //! - `interop case NAME --port P` runs test cases as a client, against whatever server listens there.
 //! - `interop self` runs them against a server of its own.
+//! - `interop misbehave NAME --port P` misbehaves as a server, and says whether the client does right (the crate `misbehave`).
 //! - `interop parts` serves the bytes of one connection, read as hexadecimal text, and prints what they are answered with.
 //! - `interop body --cut N` reads the joined DATA bytes of one call as hexadecimal text, takes them in pieces of N bytes, and
 //!   prints the messages that they spell (gRPC over HTTP/2, "Length-Prefixed-Message"), then the end or the fault. It reads all of
@@ -48,6 +49,7 @@ use handlers::{
     CacheableUnaryCall, EmptyCall, FullDuplexCall, HalfDuplexCall, Method, Methods,
     StreamingInputCall, StreamingOutputCall, UnaryCall,
 };
+use misbehave::RunFault as MisbehaveFault;
 use parts::run_parts;
 use server::{ServerCommand, listen, read_server_words, run_self, serve};
 use std::alloc::AllocError;
@@ -59,7 +61,7 @@ use std::sync::{Arc, Wait};
 use std::thread::Threads;
 use std::time::Clock;
 use std::{env, io};
-use target::read_case_words;
+use target::{read_case_words, read_number};
 use words::{Words, WordsFault};
 
 const CASE_FAILED: u8 = 1;
@@ -75,6 +77,8 @@ The gRPC interop test server's program.
 
 Usage: interop [body --cut N]
        interop case NAME --port P [--host H]
+       interop misbehave NAME --port P [--timeout S]
+       interop misbehave --list
        interop parts
        interop self [--port P]
        interop serve --port P [--conns N] [--report]
@@ -85,6 +89,9 @@ Usage: interop [body --cut N]
   case NAME      run the test case of this name as a client against the server at
                  H:P (127.0.0.1 if no host is given), or all of them where NAME is
                  all, and print a line of each; what differed is told on standard error
+  misbehave NAME listen on port P of 127.0.0.1, misbehave as a server in the way of this name, or
+                 in all ways, each on the next port, where NAME is all, and say whether the client
+                 does right; it ends when the client has gone, or after S seconds (30)
   parts          read the bytes of a connection as hexadecimal text, serve it, and print what
                  it is answered with, stream by stream, and how it ended
   self           serve on port P of 127.0.0.1 (50051 if none is given), run all test cases
@@ -119,7 +126,10 @@ fn is_help(word: &str) -> bool {
 }
 
 fn is_command(word: &str) -> bool {
-    matches!(word, "body" | "case" | "parts" | "self" | "serve")
+    matches!(
+        word,
+        "body" | "case" | "misbehave" | "parts" | "self" | "serve"
+    )
 }
 
 // Reports on standard output on the call in standard input, and answers the exit status.
@@ -144,6 +154,59 @@ fn obey_case<R: Net + Print + Eprint + AllocGlobal>(rt: &R, words: &[String]) ->
     match run_cases(rt, words, &mut output) {
         Ok(true) => 0,
         Ok(false) => CASE_FAILED,
+        Err(_) => FAILED,
+    }
+}
+
+// For how many seconds a misbehaviour is run at most, where nothing is said.
+const PATIENCE: u16 = 30;
+
+// The words behind `misbehave`: a name, and then `--port` and `--timeout` with their values, in any order. The port has to be
+// there.
+fn read_misbehave_words(words: &[String]) -> Option<(&str, u16, u16)> {
+    let (name, options) = words.split_first()?;
+    let mut port = None;
+    let mut seconds = PATIENCE;
+    let mut rest = options;
+    while !rest.is_empty() {
+        let (option, behind) = rest.split_first()?;
+        let (value, behind) = behind.split_first()?;
+        match option.as_str() {
+            "--port" => port = Some(read_number(value.as_str())?),
+            "--timeout" => seconds = read_number(value.as_str())?,
+            _ => return None,
+        }
+        rest = behind;
+    }
+    Some((name.as_str(), port?, seconds))
+}
+
+// Misbehaves as the words behind `misbehave` say, or lists the ways, and answers the exit status.
+fn obey_misbehave<R>(rt: R, words: &[String]) -> u8
+where
+    R: Net + Print + Eprint + AllocGlobal + Clock + Copy + Drop,
+{
+    let mut output = Marked::new(io::writer(&rt));
+    let ran = match words {
+        [word] if word.as_str() == "--list" => {
+            misbehave::list(rt.alloc(), &mut output).map(|()| true)
+        }
+        _ => match read_misbehave_words(words) {
+            Some((name, port, seconds)) => {
+                let seconds = u32::from(seconds);
+                misbehave::run(rt, rt.alloc(), name, port, seconds, &mut output)
+            }
+            None => Err(MisbehaveFault::UnknownName),
+        },
+    };
+    match ran {
+        Ok(true) => 0,
+        Ok(false) => CASE_FAILED,
+        Err(MisbehaveFault::UnknownName) => complain(&rt, "bad arguments"),
+        Err(MisbehaveFault::Port(port, error)) => {
+            let _said = eprintln!(rt; "interop: port {port} can't be had: {error}");
+            FAILED
+        }
         Err(_) => FAILED,
     }
 }
@@ -234,6 +297,7 @@ where
     if let Some((command, behind)) = words.split_first() {
         match command.as_str() {
             "case" => return obey_case(rt, behind),
+            "misbehave" => return obey_misbehave(*rt, behind),
             "parts" | "self" | "serve" => {
                 return match read_server_words(command.as_str(), behind) {
                     Some(command) => obey_server(*rt, command).unwrap_or(FAILED),
