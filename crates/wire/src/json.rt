@@ -1,0 +1,52 @@
+//! The outcomes as JSON (RFC 8259): an array of objects.
+
+use crate::outcome::Outcome;
+use std::alloc::AllocError;
+
+/// Adds the outcomes as a JSON array of objects with `case`, `title`, `level`, `section`, `passed`, `wanted`, `came` and
+/// `sent`, which are the bytes in hexadecimal.
+pub fn push_json(text: &mut String, outcomes: &[Outcome]) -> Result<(), AllocError> {
+    text.push_str("[")?;
+    for (place, outcome) in outcomes.iter().enumerate() {
+        if place > 0 {
+            text.push_str(",")?;
+        }
+        push_object(text, outcome)?;
+    }
+    text.push_str("\n]\n")
+}
+
+fn push_object(text: &mut String, outcome: &Outcome) -> Result<(), AllocError> {
+    let case = outcome.case;
+    let group = case.group.name();
+    let number = case.number;
+    let level = case.level.name();
+    let passed = outcome.passed;
+    write!(
+        text,
+        "\n{{\"case\":\"{group}/{number}\",\"level\":\"{level}\",\"passed\":{passed}"
+    )?;
+    push_member(text, "title", case.title)?;
+    push_member(text, "section", case.section)?;
+    push_member(text, "wanted", outcome.wanted.as_str())?;
+    push_member(text, "came", outcome.came.as_str())?;
+    text.push_str(",\"sent\":\"")?;
+    for byte in outcome.sent.as_slice() {
+        write!(text, "{byte:02x}")?;
+    }
+    text.push_str("\"}")
+}
+
+/// Adds a member whose value is a text.
+fn push_member(text: &mut String, name: &str, value: &str) -> Result<(), AllocError> {
+    write!(text, ",\"{name}\":\"")?;
+    for character in value.chars() {
+        match character {
+            '"' => text.push_str("\\\"")?,
+            '\\' => text.push_str("\\\\")?,
+            '\u{0}'..='\u{1f}' => text.push(' ')?,
+            _ => text.push(character)?,
+        }
+    }
+    text.push_str("\"")
+}
