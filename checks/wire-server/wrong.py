@@ -90,7 +90,7 @@ class FindsErrors(Wrong):
         ends = kind in (wire.HEADERS, wire.DATA) and flags & wire.END_STREAM
         if ends or kind == wire.PING and flags & wire.ACK:
             return [(wire.GOAWAY, 0, 0, struct.pack(">II", 0, 2))]
-        return [frame]
+        return [self.spelled(frame, self.fields(frame)) if kind == wire.HEADERS else frame]
 
 
 class SaysAnotherStatus(Wrong):
@@ -147,10 +147,11 @@ class EndsEarly(Wrong):
         kind, flags, stream, content = frame
         if kind not in (wire.HEADERS, wire.DATA):
             return [frame]
+        fields = self.fields(frame) if kind == wire.HEADERS else []
         if stream in self.ended:
             return []
         self.ended.add(stream)
-        return [(kind, flags | wire.END_STREAM, stream, content)]
+        return [self.spelled((kind, wire.END_STREAM, stream, content), fields)]
 
 
 class LosesFields(Wrong):
@@ -209,6 +210,36 @@ class AcknowledgesTwice(Wrong):
 
     def from_server(self, frame):
         return [frame, frame] if frame[0] == wire.SETTINGS and frame[1] else [frame]
+
+
+class SpeaksOn(Wrong):
+    """Behind RST_STREAM and behind END_STREAM come trailers."""
+
+    def from_server(self, frame):
+        kind, flags, stream, _ = frame
+        if kind == wire.HEADERS:
+            frame = self.spelled(frame, self.fields(frame))
+        if kind == wire.RST_STREAM or kind in (wire.HEADERS, wire.DATA) and flags & wire.END_STREAM:
+            trailers = (wire.HEADERS, wire.END_STREAM, stream, b"")
+            return [frame, self.spelled(trailers, [("grpc-status", "0")])]
+        return [frame]
+
+
+class RepliesAtOnce(Wrong):
+    """Each DATA frame of a call is answered by a reply at once."""
+
+    HEAD = [(":status", "200"), ("content-type", "application/grpc")]
+
+    def __init__(self, client):
+        super().__init__(client)
+        self.begun = set()
+
+    def from_client(self, frame):
+        kind, flags, stream, content = frame
+        if kind == wire.DATA and stream and content and not flags & wire.END_STREAM:
+            head = wire.frame(*self.spelled((wire.HEADERS, 0, stream, b""), self.HEAD))
+            self.write(*([] if stream in self.begun else [head]), wire.data(stream, wire.message()))
+            self.begun.add(stream)
 
 
 class StaysOpen(Wrong):

@@ -1,22 +1,22 @@
 //! The outcomes as JSON (RFC 8259): an array of objects.
 
 use crate::outcome::Outcome;
-use std::alloc::AllocError;
+use std::alloc::{AllocError, Global};
 
 /// Adds the outcomes as a JSON array of objects with `case`, `title`, `level`, `section`, `passed`, `wanted`, `came` and
 /// `sent`, which are the bytes in hexadecimal.
-pub fn push_json(text: &mut String, outcomes: &[Outcome]) -> Result<(), AllocError> {
+pub fn push_json(alloc: Global, text: &mut String, outcomes: &[Outcome]) -> Result<(), AllocError> {
     text.push_str("[")?;
     for (place, outcome) in outcomes.iter().enumerate() {
         if place > 0 {
             text.push_str(",")?;
         }
-        push_object(text, outcome)?;
+        push_object(alloc, text, outcome)?;
     }
     text.push_str("\n]\n")
 }
 
-fn push_object(text: &mut String, outcome: &Outcome) -> Result<(), AllocError> {
+fn push_object(alloc: Global, text: &mut String, outcome: &Outcome) -> Result<(), AllocError> {
     let case = outcome.case;
     let group = case.group.name();
     let number = case.number;
@@ -31,9 +31,8 @@ fn push_object(text: &mut String, outcome: &Outcome) -> Result<(), AllocError> {
     push_member(text, "wanted", outcome.wanted.as_str())?;
     push_member(text, "came", outcome.came.as_str())?;
     text.push_str(",\"sent\":\"")?;
-    for byte in outcome.sent.as_slice() {
-        write!(text, "{byte:02x}")?;
-    }
+    let sent = hex::encode(alloc, outcome.sent.as_slice())?;
+    text.push_str(sent.as_str())?;
     text.push_str("\"}")
 }
 
