@@ -87,10 +87,12 @@ class FindsErrors(Wrong):
 
     def from_server(self, frame):
         kind, flags = frame[:2]
+        if kind == wire.HEADERS:
+            frame = self.spelled(frame, self.fields(frame))
         ends = kind in (wire.HEADERS, wire.DATA) and flags & wire.END_STREAM
         if ends or kind == wire.PING and flags & wire.ACK:
             return [(wire.GOAWAY, 0, 0, struct.pack(">II", 0, 2))]
-        return [self.spelled(frame, self.fields(frame)) if kind == wire.HEADERS else frame]
+        return [frame]
 
 
 class SaysAnotherStatus(Wrong):
@@ -210,6 +212,14 @@ class AcknowledgesTwice(Wrong):
 
     def from_server(self, frame):
         return [frame, frame] if frame[0] == wire.SETTINGS and frame[1] else [frame]
+
+
+class AcknowledgesOnce(Wrong):
+    """Only its first SETTINGS are acknowledged."""
+
+    def from_server(self, frame):
+        self.settings += frame[0] == wire.SETTINGS and frame[1]
+        return [frame] if frame[0] != wire.SETTINGS or not frame[1] or self.settings == 1 else []
 
 
 class SpeaksOn(Wrong):

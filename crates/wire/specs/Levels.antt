@@ -1,5 +1,5 @@
 -- Which outcomes fail the whole: cases of level must that did not pass.
-use Rattle.std.specs.Prelude.{ℕ, Bool, true, false, List, count_by}
+use Rattle.std.specs.Prelude.{ℕ, Bool, true, false, List, count_by, if◌then◌else◌}
 use Rattle.wire.specs.declared.level.Level.{Level}
 use Rattle.wire.specs.declared.outcome.Outcome.{Outcome}
 

@@ -36,4 +36,4 @@ pub use fault::WireFault;
 pub use group::Group;
 pub use json::push_json;
 pub use level::Level;
-pub use outcome::{Outcome, hex_of, must_failures};
+pub use outcome::{Outcome, hex_name, hex_of, must_failures};

@@ -40,6 +40,13 @@ pub fn must_failures(outcomes: &[Outcome]) -> usize
         .count()
 }
 
+/// The name of the file with the bytes of a case, beside one with this name.
+pub fn hex_name(alloc: Global, file: &str, case: &Case) -> Result<String, AllocError> {
+    let group = case.group.name();
+    let number = case.number;
+    format!(in alloc; "{file}.{group}-{number}.hex")
+}
+
 /// The bytes of a case as hexadecimal text, with a line end, for `interop parts`.
 pub fn hex_of(alloc: Global, sent: &[u8]) -> Result<String, AllocError> {
     let mut text = hex::encode(alloc, sent)?;
