@@ -17,8 +17,8 @@ const MANY_FRAMES: usize = 1_000_000;
 /// The connection's window while the server granted nothing (RFC 9113, section 6.9.2).
 const FIRST_WINDOW: u64 = 65_535;
 
-/// Bytes of DATA that the steps before `upload` may have written on its connection, at most.
-const BEFORE_UPLOAD: u64 = 64;
+/// Bytes of DATA that a stream carries before those of `upload`, at most.
+const MOST_OF_PREFIX: u64 = 64;
 
 /// A frame of `padded`: the length of the padding, one byte, and the padding.
 const PADDED_LEN: u64 = 257;
@@ -93,8 +93,9 @@ fn take<S: Read + Write>(
         Step::Upload {
             stream,
             count,
+            before,
             padded,
-        } => upload(alloc, talk, *stream, *count, *padded),
+        } => upload(alloc, talk, *stream, *count, *before, *padded),
         Step::Crowd(method) => match talk.seen.few_streams() {
             Some(limit) => open_many(alloc, talk, u64::from(limit) + 1, method),
             None => Ok(()),
@@ -157,6 +158,7 @@ fn upload<S: Read + Write>(
     talk: &mut Talk<S>,
     stream: u32,
     count: u64,
+    before: u64,
     padded: bool,
 ) -> Result<(), WireFault> {
     let zeros = [0u8; 16384];
@@ -164,12 +166,12 @@ fn upload<S: Read + Write>(
     padding.push(255)?;
     padding.resize(PADDED_LEN as usize, 0)?;
     let mut rest = count;
-    let mut spent = BEFORE_UPLOAD;
+    let mut spent = 0u64;
     for _ in 0..MANY_FRAMES {
         if rest == 0 {
             return Ok(());
         }
-        let room = room(talk, stream).saturating_sub(spent);
+        let room = room(talk, stream, before).saturating_sub(spent);
         if padded && room >= PADDED_LEN {
             talk.say_frame(DATA, PADDED, stream, padding.as_slice())?;
             spent = spent.saturating_add(PADDED_LEN);
@@ -186,14 +188,18 @@ fn upload<S: Read + Write>(
     Ok(())
 }
 
-/// What was granted of a stream's DATA, on the connection and on the stream.
-fn room<S: Read + Write>(talk: &Talk<S>, stream: u32) -> u64 {
+/// How many bytes of a stream's DATA were granted, where so many were spent on the connection.
+fn room<S: Read + Write>(talk: &Talk<S>, stream: u32, before: u64) -> u64 {
     let granted = match talk.seen.streams.get(&stream) {
         Some(seen) => seen.credit,
         None => 0,
     };
     let of_connection = talk.seen.credit.saturating_add(FIRST_WINDOW);
-    of_connection.min(talk.seen.window.saturating_add(granted))
+    let of_stream = talk.seen.window.saturating_add(granted);
+    let spent_on_stream = before.min(MOST_OF_PREFIX);
+    of_connection
+        .saturating_sub(before)
+        .min(of_stream.saturating_sub(spent_on_stream))
 }
 
 /// Waits for a lawful reaction, and answers whether there was one.

@@ -7,8 +7,8 @@
 //! - `bare`, first: the preface and SETTINGS are the case's own; nothing is written for it.
 //! - `raw BYTES`: these bytes. `drip BYTES`: each by a write of its own. `preface`: the 24 bytes of the preface.
 //! - `request S`: a call of EmptyCall. `fetch S`: a call of UnaryCall for a reply with a body of 100,000 bytes.
-//! - `upload S N`: so many zero bytes as DATA, as the server's windows let them through. `padded S N`: in frames of 256 bytes of
-//!   which 255 are padding.
+//! - `upload S N M`: N zero bytes as DATA, as the server's windows let them through, of which at most M were spent before.
+//!   `padded S N M`: each in a frame with 255 bytes of padding.
 //! - `await REACTION`: waits for it (`reaction`). `sync`: a PING, and waits for its acknowledgement.
 //! - `quiet`: waits until nothing comes any more.
 //! - `crowd METHOD`: opens one call of the method more than the server's SETTINGS allow, if that is below 1,001.
@@ -30,6 +30,8 @@ pub enum Step {
     Upload {
         stream: u32,
         count: u64,
+        /// Bytes of DATA that were written on the connection before, at most.
+        before: u64,
         padded: bool,
     },
     Await(Reaction),
@@ -85,10 +87,12 @@ fn read_step(alloc: Global, word: &'static str, rest: &'static str) -> Result<St
             })
         }
         "upload" | "padded" => {
-            let (stream, count) = first_word(rest);
+            let (stream, rest) = first_word(rest);
+            let (count, before) = first_word(rest);
             Ok(Step::Upload {
                 stream: read_stream(stream)?,
                 count: read_count(count)?,
+                before: read_count(before)?,
                 padded: word == "padded",
             })
         }

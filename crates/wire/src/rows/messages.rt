@@ -180,7 +180,7 @@ a message of 4,194,304 bytes
   ours it is taken
   headers 1 04 call:StreamingInputCall
   data 1 00 0000400000 0afbffff01 12f6ffff01
-  upload 1 4194294
+  upload 1 4194294 64
   data 1 01
   await answered 1
   want status 1 0 and replies 1 1

@@ -300,7 +300,7 @@ the server gives credit of a stream and of the connection
   should RFC 9113, 5.2, 6.9.1: without it an upload of 200,000 bytes stands still
   headers 1 04 call:StreamingInputCall
   data 1 00 00 00030d48 0ac49a0c12c09a0c
-  upload 1 200000
+  upload 1 200000 64
   data 1 01
   want answered 1
 
@@ -308,7 +308,7 @@ the server gives credit of padding
   should RFC 9113, 6.1, 6.9.1: padding counts
   headers 1 04 call:StreamingInputCall
   data 1 00 00 0000025e 0adb0412d804
-  padded 1 600
+  padded 1 600 64
   data 1 01
   want answered 1
 
@@ -321,7 +321,7 @@ the server gives credit of DATA of a call that it doesn't take
   data 1 00 00*16384
   headers 3 04 call:StreamingInputCall
   data 3 00 00 00030d48 0ac49a0c12c09a0c
-  upload 3 200000
+  upload 3 200000 49216
   data 3 01
   want answered 3
   want connection 5
