@@ -252,6 +252,16 @@ class RepliesAtOnce(Wrong):
             self.begun.add(stream)
 
 
+class AnswersOn(Wrong):
+    """Behind GOAWAY with an error stream 1 is answered."""
+
+    def from_server(self, frame):
+        if frame[0] != wire.GOAWAY:
+            return [frame]
+        head = (wire.HEADERS, wire.END_STREAM, 1, b"")
+        return [frame, self.spelled(head, [(":status", "200"), ("grpc-status", "0")])]
+
+
 class StaysOpen(Wrong):
     """It says GOAWAY, and leaves the connection open."""
 

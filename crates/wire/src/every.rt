@@ -1,7 +1,5 @@
 //! Running cases one after another.
 
-ghost use Rattle.std.specs.Prelude.{◌≡◌};
-
 use crate::case::{Case, cases_of};
 use crate::choice::Choice;
 use crate::engine::run_case;

@@ -3,8 +3,8 @@
 use crate::outcome::Outcome;
 use std::alloc::{AllocError, Global};
 
-/// Adds the outcomes as a JSON array of objects with `case`, `title`, `level`, `section`, `passed`, `wanted`, `came` and
-/// `sent`, which are the bytes in hexadecimal.
+/// Adds the outcomes as a JSON array of objects with `case`, `title`, `level`, `section`, `passed`, `wanted`, `came` and,
+/// of a case that failed, `sent`: the bytes in hexadecimal.
 pub fn push_json(alloc: Global, text: &mut String, outcomes: &[Outcome]) -> Result<(), AllocError> {
     text.push_str("[")?;
     for (place, outcome) in outcomes.iter().enumerate() {
@@ -30,10 +30,11 @@ fn push_object(alloc: Global, text: &mut String, outcome: &Outcome) -> Result<()
     push_member(text, "section", case.section)?;
     push_member(text, "wanted", outcome.wanted.as_str())?;
     push_member(text, "came", outcome.came.as_str())?;
-    text.push_str(",\"sent\":\"")?;
-    let sent = hex::encode(alloc, outcome.sent.as_slice())?;
-    text.push_str(sent.as_str())?;
-    text.push_str("\"}")
+    if !passed {
+        let sent = hex::encode(alloc, outcome.sent.as_slice())?;
+        push_member(text, "sent", sent.as_str())?;
+    }
+    text.push_str("}")
 }
 
 /// Adds a member whose value is a text.

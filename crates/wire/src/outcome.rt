@@ -1,6 +1,6 @@
 //! What came of a case.
 
-ghost use Rattle.std.specs.Prelude.{◌≡◌, IfOk};
+ghost use Rattle.std.specs.Prelude.{◌≡◌};
 ghost use Rattle.wire.specs.Levels.{must_failures};
 
 use crate::case::Case;
