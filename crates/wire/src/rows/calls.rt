@@ -263,7 +263,7 @@ a call is cancelled before its first message
   want status 3 0 and nothing 1
 
 a call is cancelled inside a message
-  must gRPC over HTTP/2, Errors
+  must gRPC over HTTP/2, Errors; RFC 9113, 5.4.2: RST_STREAM isn't answered by RST_STREAM
   headers 1 04 call:StreamingInputCall
   data 1 00 00 00000010 0a0e
   reset 1 00 00000008
