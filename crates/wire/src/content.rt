@@ -22,6 +22,9 @@ const LITERAL: u8 = 0;
 /// The greatest length that stands in the first byte of a string (RFC 7541, section 5.1).
 const FIRST_BYTE: usize = 127;
 
+/// A length has no more groups of seven bits than this.
+const MOST_SEPTETS: u32 = 10;
+
 /// The bytes that a content's words spell.
 pub fn read_content(alloc: Global, text: &str) -> Result<Vec<u8>, WireFault> {
     let mut bytes = Vec::new(alloc);
@@ -103,19 +106,25 @@ fn push_length(bytes: &mut Vec<u8>, length: usize) -> Result<(), WireFault> {
     }
     bytes.push(0x7f)?;
     let mut rest = length - FIRST_BYTE;
-    while rest >= 128 {
+    for _ in 0..MOST_SEPTETS {
+        if rest < 128 {
+            bytes.push(rest as u8)?;
+            return Ok(());
+        }
         bytes.push((rest % 128) as u8 | 0x80)?;
         rest /= 128;
     }
-    bytes.push(rest as u8)?;
-    Ok(())
+    Err(WireFault::BadRow)
 }
 
 /// The bytes of a text in which `%` and two digits stand for a byte.
 fn unescaped(alloc: Global, text: &str) -> Result<Vec<u8>, WireFault> {
     let mut bytes = Vec::new(alloc);
     let mut rest = text.as_bytes();
-    while let Some((first, behind)) = rest.split_first() {
+    for _ in 0..u64::MAX {
+        let Some((first, behind)) = rest.split_first() else {
+            break;
+        };
         if *first == b'%' {
             let (high, behind) = behind.split_first().ok_or(WireFault::BadRow)?;
             let (low, behind) = behind.split_first().ok_or(WireFault::BadRow)?;
