@@ -1,5 +1,5 @@
 -- On what the row of a call stands.
-use Rattle.std.specs.Prelude.{◌≡◌, ◌⊎◌, ℕ, Bool, List, [], ◌∷◌, ◌++◌, Option, None, IsSomeAnd, slice_get}
+use Rattle.std.specs.Prelude.{◌≡◌, ◌⊎◌, ℕ, Bool, List, [], ◌∷◌, ◌++◌, true, Option, None, IsSome, IsSomeAnd, slice_get}
 use Rattle.lane.specs.Lawful.{count_of}
 use Rattle.account.specs.declared.call.Account.{Account}
 use Rattle.account.specs.declared.call.OutItem.{OutItem}
@@ -26,9 +26,10 @@ abbrev pub IsGivenAs : List OutItem → List OutItem → Type 0
 IsGivenAs items given = (given ≡ items) ⊎ (given ≡ items ++ Left ∷ [])
 
 -- Of a call with this head these messages were taken, this was told behind them, and this was given: an outcome of what the method of the row's
--- index answers to what was taken, whatever that is. The row's numbers are those of it.
+-- index answers to what was taken, whatever that is. A call ends by its deadline only where it has a timeout. The row's numbers are those of it.
 pub record IsAnswered (answers : ℕ → List (List ℕ) → Bool → Step → Type 0) (head : CallHead) (messages : List (List ℕ)) (said : Option Told) (given : List OutItem) (row : CallReport) : Type 0 where
   pub overdue : Bool
+  pub timed : overdue ≡ true → IsSome head.timeout
   pub items : List OutItem
   pub outcome : (answer : Step) → answers row.method messages (is_end said) answer → IsOutcome head overdue said answer items row.status
   pub ends : IsGivenAs items given

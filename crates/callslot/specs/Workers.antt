@@ -1,6 +1,9 @@
 -- What a worker did with the calls of its slot.
-use Rattle.std.specs.Prelude.{◌≡◌, ◌≤◌, ℕ, Bool, List, [], length, Option, None, IfSome, IsSomeAnd, slice_get}
+use Rattle.std.specs.Prelude.{◌≡◌, ◌≤◌, ℕ, Bool, List, [], ◌∷◌, ◌++◌, length, Option, None, IfSome, IsSomeAnd, slice_get}
 use Rattle.lane.specs.Cuts.{segment}
+use Rattle.lane.specs.End.{of_end}
+use Rattle.lane.specs.Ring.{taken}
+use Rattle.lane.specs.RingLane.{got, past_in, past_out, past_shut, put_in, put_shut}
 use Rattle.account.specs.declared.call.OutItem.{OutItem}
 use Rattle.account.specs.declared.call.Told.{Told}
 use Rattle.callbox.specs.declared.piece.InPiece.{InPiece}
@@ -9,6 +12,7 @@ use Rattle.callbox.specs.InSides.{Took}
 use Rattle.callbox.specs.Slots.{TookOf}
 use Rattle.handlers.specs.declared.step.Step.{Step}
 use Rattle.callslot.specs.declared.report.CallReport.{CallReport}
+use Rattle.callslot.specs.declared.seen.Seen.{Seen}
 use Rattle.callslot.specs.declared.slot.Job.{Job}
 use Rattle.callslot.specs.Accounts.{IsAnswered}
 
@@ -32,3 +36,18 @@ module _ (answers : ℕ → List (List ℕ) → Bool → Step → Type 0) where
 -- nothing was got of a call yet, nothing taken, and nothing told
 abbrev pub IsFresh : List InPiece → Progress → Type 0
 IsFresh got progress = (got ≡ []) × Took [] progress [] × (progress.told ≡ None)
+
+-- ---- a worker's ends at its end
+
+-- what it got of its calls, call by call, and what it gave
+abbrev pub got_by : Seen → List (List InPiece)
+got_by seen = past_out seen.taker.rx ++ got seen.taker.rx ∷ []
+
+abbrev pub given_by : Seen → List (List OutItem)
+given_by seen = of_end (λ g. past_in g.tx) (λ s. past_shut s.shut) seen.end
+    ++ of_end (λ g. put_in g.tx) (λ s. put_shut s.shut) seen.end ∷ []
+
+-- where there was memory for its rows, each job that it took has one
+abbrev pub HasRows : (ℕ → List (List ℕ) → Bool → Step → Type 0) → Seen → Type 0
+HasRows answers seen =
+    IfSome seen.calls (λ rows. HaveRows answers (got_by seen) (given_by seen) (taken seen.jobs) rows.items)

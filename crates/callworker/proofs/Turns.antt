@@ -1,6 +1,7 @@
 -- The turns of a call, and what stands at its end.
-use Rattle.std.proofs.Common.{◌≡◌, ◌∙◌, ◌⊎◌, inl, inr, ap, refl, subst, sym, ℕ, Bool, true, false, List, [], ◌∷◌, ◌++◌, Option, None, Some, append-nil, append_assoc}
-use Rattle.std.specs.Prelude.{IfSome, IsSomeAnd, MatchBool, slice_get}
+use Rattle.std.proofs.Common.{◌≡◌, ◌∙◌, ◌⊎◌, inl, inr, ap, refl, subst, sym, ℕ, ◌≤◌, Bool, true, false, List, [], ◌∷◌, ◌++◌, Option, None, Some, append-nil, append_assoc}
+use Rattle.std.specs.Prelude.{IfSome, IsSome, IsSomeAnd, slice_get}
+use Rattle.lane.specs.RingLane.{got, out_name, past_out, put_in, put_shut}
 use Rattle.account.specs.declared.call.OutItem.{OutItem}
 use Rattle.account.specs.declared.call.OutItem.TheVariants.{Left}
 use Rattle.account.specs.declared.call.Told.{Told}
@@ -14,21 +15,15 @@ use Rattle.handlers.specs.declared.step.Step.{Step}
 use Rattle.callrun.specs.declared.call.Call.{Call}
 use Rattle.callrun.specs.declared.response.Response.{Response}
 use Rattle.callrun.specs.Outcomes.{IsOutcome, is_end}
-use Rattle.callrun.specs.Runs.{GivesOf, HasCome, HasRun}
-use Rattle.callrun.specs.Sides.{Shown, is_open, shown}
+use Rattle.callrun.specs.Runs.{GivesOf, HasCome, HasRun, SameCall, deadline_of}
+use Rattle.callrun.specs.Sides.{is_open}
 use Rattle.callrun.proofs.Ahead.{with_none}
 use Rattle.callrun.proofs.Listing.{closed_run}
-use Rattle.connection.specs.declared.report.CallReport.{CallReport}
-use Rattle.connection.specs.declared.slot.Job.{Job}
-use Rattle.connection.specs.Accounts.{IsGivenAs, answers_by, unanswered}
-use Rattle.connection.specs.Workers.{Answers}
-
--- what leads to the first leads to the second, with more messages
-abbrev pub Goes : (List (List ℕ) → Bool → Step → Type 0) → (MethodState → List (List ℕ) → Step → Type 0)
-    → List InPiece → Progress → Call → Option Taken → Shown → List InPiece → Progress → Call → Option Taken → Shown → Type 0
-Goes answers stands got0 p0 call0 hand0 shown0 got1 p1 call1 hand1 shown1 = (messages : List (List ℕ)) → Took got0 p0 messages
-    → HasCome answers stands p0.told messages call0 hand0 shown0
-    → (more : List (List ℕ)) × Took got1 p1 (messages ++ more) × HasCome answers stands p1.told (messages ++ more) call1 hand1 shown1
+use Rattle.callslot.specs.declared.report.CallReport.{CallReport}
+use Rattle.callslot.specs.declared.slot.Job.{Job}
+use Rattle.callslot.specs.Accounts.{IsGivenAs, answers_by, unanswered}
+use Rattle.callslot.specs.Workers.{Answers}
+use Rattle.callworker.specs.Runs.{EndsAs, GoesOn, IsOneCall, IsRowOf, LeadsOn, SlotGiven, SlotGiver, SlotRun, given_past, giver_name, shown_by, shows}
 
 owes_less : (items : List InPiece) (p q : Progress) (messages : List (List ℕ)) → q ≡ record p { owed = 0 } → Took items p messages → Took items q messages
 owes_less items p q messages less took = subst (λ (r : Progress). Took items r messages) (sym less) (record {
@@ -41,116 +36,220 @@ owes_less items p q messages less took = subst (λ (r : Progress). Took items r 
   count = took.count;
 })
 
-module _ {A : Type 0} (answers : A → List (List ℕ) → Bool → Step → Type 0) (stands : A → MethodState → List (List ℕ) → Step → Type 0) where
-  pub goes_none : (found : Option A) (got : List InPiece) (p : Progress) (call : Call) (hand : Option Taken) (shows : Shown)
-      → IfSome found (λ m. Goes (answers m) (stands m) got p call hand shows got p call hand shows)
-  goes_none None got p call hand shows = tt
-  goes_none (Some m) got p call hand shows = λ messages took come. (
+-- ---- one call
+
+some_of : {A : Type 0} (P : A → Type 0) (found : Option A) → IsSomeAnd found P → IsSome found
+some_of P None has = absurd has
+some_of P (Some a) has = refl
+
+pub one_call_none : (a : SlotRun) → IsOneCall a a
+one_call_none a = (refl, refl, refl, refl, refl, refl, refl, λ late. inl late)
+
+pub one_call_then : (a b c : SlotRun) → IsOneCall a b → IsOneCall b c → IsOneCall a c
+one_call_then a b c first second = (
+  second.0 ∙ first.0,
+  second.1 ∙ first.1,
+  second.2 ∙ first.2,
+  second.3 ∙ first.3,
+  second.4 ∙ first.4,
+  second.5 ∙ first.5,
+  second.6 ∙ first.6,
+  λ late. elim (second.7 late) [
+    | inl before ↦ first.7 before
+    | inr timed ↦ inr (subst (λ (d : Option ℕ). IsSome d) first.6 timed)
+  ],
+)
+
+-- a turn
+pub one_call_turned : (a b : SlotRun) (now : ℕ) → out_name b.taker.rx ≡ out_name a.taker.rx → past_out b.taker.rx ≡ past_out a.taker.rx → giver_name b.response ≡ giver_name a.response → given_past b.response ≡ given_past a.response
+    → (b.index ≡ a.index) × (b.call.head ≡ a.call.head) × (b.call.deadline ≡ a.call.deadline)
+    → (b.call.overdue ≡ true → (a.call.overdue ≡ true) ⊎ IsSomeAnd a.call.deadline (λ deadline. deadline ≤ now)) → IsOneCall a b
+one_call_turned a b now in_name in_past name past same overdue = (
+  in_name,
+  in_past,
+  name,
+  past,
+  same.0,
+  same.1,
+  same.2,
+  λ late. elim (overdue late) [
+    | inl before ↦ inl before
+    | inr timed ↦ inr (some_of (λ deadline. deadline ≤ now) a.call.deadline timed)
+  ],
+)
+
+-- what came was returned
+pub one_call_credited : (a b : SlotRun) → b.taker.rx ≡ a.taker.rx → (b.index ≡ a.index) × (b.call ≡ a.call) × (b.in_hand ≡ a.in_hand) × (b.response ≡ a.response) → IsOneCall a b
+one_call_credited a b rx same = (
+  ap out_name rx,
+  ap past_out rx,
+  ap giver_name same.3,
+  ap given_past same.3,
+  same.0,
+  ap (λ (call : Call). call.head) same.1,
+  ap (λ (call : Call). call.deadline) same.1,
+  λ late. inl (sym (ap (λ (call : Call). call.overdue) same.1) ∙ late),
+)
+
+-- it was left
+pub one_call_left : (a b : SlotRun) → giver_name b.response ≡ giver_name a.response → given_past b.response ≡ given_past a.response → (b.index ≡ a.index) × (b.taker ≡ a.taker) × SameCall a.call b.call → IsOneCall a b
+one_call_left a b name past same = (
+  ap (λ t. out_name t.rx) same.1,
+  ap (λ t. past_out t.rx) same.1,
+  name,
+  past,
+  same.0,
+  same.2.0,
+  same.2.1,
+  λ late. inl (sym same.2.2 ∙ late),
+)
+
+-- ---- what leads to it
+
+module _ {A : Type 0} (answers : A → List (List ℕ) → Bool → Step → Type 0) (stands : A → MethodState → List (List ℕ) → Step → Type 0) (methods : List A) where
+  stays : (found : Option A) (a : SlotRun) → IfSome found (λ m. LeadsOn (answers m) (stands m) a a)
+  stays None a = tt
+  stays (Some m) a = λ messages took come. (
     [],
-    subst (λ (ms : List (List ℕ)). Took got p ms) (sym (append-nil messages)) took,
-    subst (λ (ms : List (List ℕ)). HasCome (answers m) (stands m) p.told ms call hand shows) (sym (append-nil messages)) come,
+    subst (λ (ms : List (List ℕ)). Took (got a.taker.rx) a.taker.progress ms) (sym (append-nil messages)) took,
+    subst (λ (ms : List (List ℕ)). HasCome (answers m) (stands m) a.taker.progress.told ms a.call a.in_hand (shows a)) (sym (append-nil messages)) come,
   )
 
-  pub goes_then : (found found_then : Option A) (got0 got1 got2 : List InPiece) (p0 p1 p2 : Progress) (call0 call1 call2 : Call) (hand0 hand1 hand2 : Option Taken) (shown0 shown1 shown2 : Shown)
-      → found_then ≡ found
-      → IfSome found (λ m. Goes (answers m) (stands m) got0 p0 call0 hand0 shown0 got1 p1 call1 hand1 shown1)
-      → IfSome found_then (λ m. Goes (answers m) (stands m) got1 p1 call1 hand1 shown1 got2 p2 call2 hand2 shown2)
-      → IfSome found (λ m. Goes (answers m) (stands m) got0 p0 call0 hand0 shown0 got2 p2 call2 hand2 shown2)
-  goes_then None found_then got0 got1 got2 p0 p1 p2 call0 call1 call2 hand0 hand1 hand2 shown0 shown1 shown2 same first second = tt
-  goes_then (Some m) found_then got0 got1 got2 p0 p1 p2 call0 call1 call2 hand0 hand1 hand2 shown0 shown1 shown2 same first second = λ messages took come.
+  pub goes_none : (a : SlotRun) → GoesOn answers stands methods a a
+  goes_none a = stays (slice_get methods a.index) a
+
+  follows : (found after : Option A) (a b c : SlotRun) → after ≡ found → IfSome found (λ m. LeadsOn (answers m) (stands m) a b) → IfSome after (λ m. LeadsOn (answers m) (stands m) b c)
+      → IfSome found (λ m. LeadsOn (answers m) (stands m) a c)
+  follows None after a b c same first second = tt
+  follows (Some m) after a b c same first second = λ messages took come.
       let one = first messages took come in
-      let follows = subst (λ (found : Option A). IfSome found (λ n. Goes (answers n) (stands n) got1 p1 call1 hand1 shown1 got2 p2 call2 hand2 shown2)) same second in
-      let two = follows (messages ++ one.0) one.1 one.2 in (
+      let then_so = subst (λ (found : Option A). IfSome found (λ n. LeadsOn (answers n) (stands n) b c)) same second in
+      let two = then_so (messages ++ one.0) one.1 one.2 in (
         one.0 ++ two.0,
-        subst (λ (ms : List (List ℕ)). Took got2 p2 ms) (append_assoc messages one.0 two.0) two.1,
-        subst (λ (ms : List (List ℕ)). HasCome (answers m) (stands m) p2.told ms call2 hand2 shown2) (append_assoc messages one.0 two.0) two.2,
+        subst (λ (ms : List (List ℕ)). Took (got c.taker.rx) c.taker.progress ms) (append_assoc messages one.0 two.0) two.1,
+        subst (λ (ms : List (List ℕ)). HasCome (answers m) (stands m) c.taker.progress.told ms c.call c.in_hand (shows c)) (append_assoc messages one.0 two.0) two.2,
       )
+
+  pub goes_then : (a b c : SlotRun) → b.index ≡ a.index → GoesOn answers stands methods a b → GoesOn answers stands methods b c → GoesOn answers stands methods a c
+  goes_then a b c same first second = follows (slice_get methods a.index) (slice_get methods b.index) a b c (ap (λ (i : ℕ). slice_get methods i) same) first second
+
+  credited : (found : Option A) (a b : SlotRun) → b.taker.rx ≡ a.taker.rx → b.taker.progress ≡ record a.taker.progress { owed = 0 }
+      → (b.index ≡ a.index) × (b.call ≡ a.call) × (b.in_hand ≡ a.in_hand) × (b.response ≡ a.response) → IfSome found (λ m. LeadsOn (answers m) (stands m) a b)
+  credited None a b rx less same = tt
+  credited (Some m) a b rx less same = λ messages took come. (
+    [],
+    subst (λ (ms : List (List ℕ)). Took (got b.taker.rx) b.taker.progress ms) (sym (append-nil messages))
+        (subst (λ (items : List InPiece). Took items b.taker.progress messages) (sym (ap got rx)) (owes_less (got a.taker.rx) a.taker.progress b.taker.progress messages less took)),
+    subst (λ (ms : List (List ℕ)). HasCome (answers m) (stands m) b.taker.progress.told ms b.call b.in_hand (shows b)) (sym (append-nil messages))
+        (subst (λ (t : Option Told). HasCome (answers m) (stands m) t messages b.call b.in_hand (shows b)) (sym (ap (λ (p : Progress). p.told) less))
+        (subst (λ (call : Call). HasCome (answers m) (stands m) a.taker.progress.told messages call b.in_hand (shows b)) (sym same.1)
+        (subst (λ (hand : Option Taken). HasCome (answers m) (stands m) a.taker.progress.told messages a.call hand (shows b)) (sym same.2)
+        (subst (λ (r : Response SlotGiver SlotGiven). HasCome (answers m) (stands m) a.taker.progress.told messages a.call a.in_hand (shown_by r)) (sym same.3) come)))),
+  )
 
   -- what came was returned
-  pub goes_credited : (found found_then : Option A) (got0 got1 got2 : List InPiece) (p0 p1 p2 : Progress) (call0 call1 call2 : Call) (hand0 hand1 hand2 : Option Taken) (shown0 shown1 shown2 : Shown)
-      → found_then ≡ found → got2 ≡ got1 → p2 ≡ record p1 { owed = 0 } → call2 ≡ call1 → hand2 ≡ hand1 → shown2 ≡ shown1
-      → IfSome found (λ m. Goes (answers m) (stands m) got0 p0 call0 hand0 shown0 got1 p1 call1 hand1 shown1)
-      → IfSome found (λ m. Goes (answers m) (stands m) got0 p0 call0 hand0 shown0 got2 p2 call2 hand2 shown2)
-  goes_credited None found_then got0 got1 got2 p0 p1 p2 call0 call1 call2 hand0 hand1 hand2 shown0 shown1 shown2 same e_got e_p e_call e_hand e_shown first = tt
-  goes_credited (Some m) found_then got0 got1 got2 p0 p1 p2 call0 call1 call2 hand0 hand1 hand2 shown0 shown1 shown2 same e_got e_p e_call e_hand e_shown first = λ messages took come.
-      let one = first messages took come in
-      let told : p2.told ≡ p1.told = ap (λ (p : Progress). p.told) e_p in (
-        one.0,
-        subst (λ (got : List InPiece). Took got p2 (messages ++ one.0)) (sym e_got) (owes_less got1 p1 p2 (messages ++ one.0) e_p one.1),
-        subst (λ (t : Option Told). HasCome (answers m) (stands m) t (messages ++ one.0) call2 hand2 shown2) (sym told)
-            (subst (λ (c : Call). HasCome (answers m) (stands m) p1.told (messages ++ one.0) c hand2 shown2) (sym e_call)
-            (subst (λ (h : Option Taken). HasCome (answers m) (stands m) p1.told (messages ++ one.0) call1 h shown2) (sym e_hand)
-            (subst (λ (s : Shown). HasCome (answers m) (stands m) p1.told (messages ++ one.0) call1 hand1 s) (sym e_shown) one.2))),
-      )
+  pub goes_credited : (a b : SlotRun) → b.taker.rx ≡ a.taker.rx → b.taker.progress ≡ record a.taker.progress { owed = 0 }
+      → (b.index ≡ a.index) × (b.call ≡ a.call) × (b.in_hand ≡ a.in_hand) × (b.response ≡ a.response) → GoesOn answers stands methods a b
+  goes_credited a b rx less same = credited (slice_get methods a.index) a b rx less same
+
+  leaves : (found : Option A) (a b : SlotRun) → b.taker ≡ a.taker
+      → IfSome found (λ m. (messages : List (List ℕ)) → HasCome (answers m) (stands m) a.taker.progress.told messages a.call a.in_hand (shows a) → HasCome (answers m) (stands m) b.taker.progress.told messages b.call b.in_hand (shows b))
+      → IfSome found (λ m. LeadsOn (answers m) (stands m) a b)
+  leaves None a b same left = tt
+  leaves (Some m) a b same left = λ messages took come. (
+    [],
+    subst (λ (ms : List (List ℕ)). Took (got b.taker.rx) b.taker.progress ms) (sym (append-nil messages)) (subst (λ t. Took (got t.rx) t.progress messages) (sym same) took),
+    subst (λ (ms : List (List ℕ)). HasCome (answers m) (stands m) b.taker.progress.told ms b.call b.in_hand (shows b)) (sym (append-nil messages)) (left messages come),
+  )
 
   -- it was left
-  pub goes_left : (found found_then : Option A) (got0 got1 got2 : List InPiece) (p0 p1 p2 : Progress) (call0 call1 call2 : Call) (hand0 hand1 hand2 : Option Taken) (shown0 shown1 shown2 : Shown)
-      → found_then ≡ found → got2 ≡ got1 → p2 ≡ p1
-      → IfSome found (λ m. Goes (answers m) (stands m) got0 p0 call0 hand0 shown0 got1 p1 call1 hand1 shown1)
-      → IfSome found_then (λ m. (messages : List (List ℕ)) → HasCome (answers m) (stands m) p1.told messages call1 hand1 shown1 → HasCome (answers m) (stands m) p2.told messages call2 hand2 shown2)
-      → IfSome found (λ m. Goes (answers m) (stands m) got0 p0 call0 hand0 shown0 got2 p2 call2 hand2 shown2)
-  goes_left None found_then got0 got1 got2 p0 p1 p2 call0 call1 call2 hand0 hand1 hand2 shown0 shown1 shown2 same e_got e_p first second = tt
-  goes_left (Some m) found_then got0 got1 got2 p0 p1 p2 call0 call1 call2 hand0 hand1 hand2 shown0 shown1 shown2 same e_got e_p first second = λ messages took come.
-      let one = first messages took come in
-      let follows = subst (λ (found : Option A). IfSome found (λ n. (ms : List (List ℕ)) → HasCome (answers n) (stands n) p1.told ms call1 hand1 shown1 → HasCome (answers n) (stands n) p2.told ms call2 hand2 shown2)) same second in (
-        one.0,
-        subst (λ (got : List InPiece). Took got p2 (messages ++ one.0)) (sym e_got) (subst (λ (p : Progress). Took got1 p (messages ++ one.0)) (sym e_p) one.1),
-        follows (messages ++ one.0) one.2,
-      )
+  pub goes_left : (a b : SlotRun) → b.taker ≡ a.taker
+      → IfSome (slice_get methods a.index) (λ m. (messages : List (List ℕ)) → HasCome (answers m) (stands m) a.taker.progress.told messages a.call a.in_hand (shows a) → HasCome (answers m) (stands m) b.taker.progress.told messages b.call b.in_hand (shows b))
+      → GoesOn answers stands methods a b
+  goes_left a b same left = leaves (slice_get methods a.index) a b same left
+
+  -- ---- all of it
+
+  all_of : (found after : Option A) (a b : SlotRun) (said : Option Told) (put : List OutItem) → after ≡ found → Took (got a.taker.rx) a.taker.progress [] → a.taker.progress.told ≡ None
+      → said ≡ None → put ≡ [] → a.in_hand ≡ None → is_open b.response ≡ false
+      → IfSome found (λ m. said ≡ None → put ≡ [] → HasRun (answers m) (stands m) None [] a.call (shows a))
+      → IfSome after (λ m. LeadsOn (answers m) (stands m) a b)
+      → IfSome found (λ m. (messages : List (List ℕ)) × Took (got b.taker.rx) b.taker.progress messages × HasRun (answers m) (stands m) b.taker.progress.told messages b.call (shows b))
+  all_of None after a b said put same took untold unsaid unput empty closed fresh goes = tt
+  all_of (Some m) after a b said put same took untold unsaid unput empty closed fresh goes =
+      let begun = subst (λ (t : Option Told). HasRun (answers m) (stands m) t [] a.call (shows a)) (sym untold) (fresh unsaid unput) in
+      let come = with_none a.taker.progress.told [] a.call a.in_hand (shows a) empty begun in
+      let leads = subst (λ (found : Option A). IfSome found (λ n. LeadsOn (answers n) (stands n) a b)) same goes in
+      let all = leads [] took come in
+      ([] ++ all.0, all.1, closed_run (λ g. put_in g.tx) (λ s. put_shut s.shut) (λ s. true) b.response b.taker.progress.told ([] ++ all.0) b.call b.in_hand closed all.2)
 
   -- from a call of which nothing was taken yet to one that gives nothing more: the messages that were taken, and what stands of them
-  pub run_all : {G S : Type 0} (found found_then : Option A) (of_open : G → List OutItem) (of_shut : S → List OutItem) (was_placed : S → Bool)
-      (got0 got1 : List InPiece) (p0 p1 : Progress) (said : Option Told) (put : List OutItem) (call0 call1 : Call) (hand0 hand1 : Option Taken) (r0 r1 : Response G S)
-      → found_then ≡ found → Took got0 p0 [] → p0.told ≡ None → said ≡ None → put ≡ [] → hand0 ≡ None → is_open r1 ≡ false
-      → IfSome found (λ m. said ≡ None → put ≡ [] → HasRun (answers m) (stands m) None [] call0 (shown of_open of_shut was_placed r0))
-      → IfSome found_then (λ m. Goes (answers m) (stands m) got0 p0 call0 hand0 (shown of_open of_shut was_placed r0) got1 p1 call1 hand1 (shown of_open of_shut was_placed r1))
-      → IfSome found (λ m. (messages : List (List ℕ)) × Took got1 p1 messages × HasRun (answers m) (stands m) p1.told messages call1 (shown of_open of_shut was_placed r1))
-  run_all None found_then of_open of_shut was_placed got0 got1 p0 p1 said put call0 call1 hand0 hand1 r0 r1 same took untold unsaid unput empty closed fresh goes = tt
-  run_all (Some m) found_then of_open of_shut was_placed got0 got1 p0 p1 said put call0 call1 hand0 hand1 r0 r1 same took untold unsaid unput empty closed fresh goes =
-      let begun = subst (λ (t : Option Told). HasRun (answers m) (stands m) t [] call0 (shown of_open of_shut was_placed r0)) (sym untold) (fresh unsaid unput) in
-      let came = with_none p0.told [] call0 hand0 (shown of_open of_shut was_placed r0) empty begun in
-      let follows = subst (λ (found : Option A). IfSome found (λ n. Goes (answers n) (stands n) got0 p0 call0 hand0 (shown of_open of_shut was_placed r0) got1 p1 call1 hand1 (shown of_open of_shut was_placed r1))) same goes in
-      let all = follows [] took came in
-      ([] ++ all.0, all.1, closed_run of_open of_shut was_placed r1 p1.told ([] ++ all.0) call1 hand1 closed all.2)
+  pub run_all : (index : ℕ) (a b : SlotRun) (said : Option Told) (put : List OutItem) → a.index ≡ index → Took (got a.taker.rx) a.taker.progress [] → a.taker.progress.told ≡ None
+      → said ≡ None → put ≡ [] → a.in_hand ≡ None → is_open b.response ≡ false
+      → IfSome (slice_get methods index) (λ m. said ≡ None → put ≡ [] → HasRun (answers m) (stands m) None [] a.call (shows a))
+      → GoesOn answers stands methods a b
+      → IfSome (slice_get methods index) (λ m. (messages : List (List ℕ)) × Took (got b.taker.rx) b.taker.progress messages × HasRun (answers m) (stands m) b.taker.progress.told messages b.call (shows b))
+  run_all index a b said put same took untold unsaid unput empty closed fresh goes =
+      all_of (slice_get methods index) (slice_get methods a.index) a b said put (ap (λ (i : ℕ). slice_get methods i) same) took untold unsaid unput empty closed fresh goes
+
+-- ---- the deadline
+
+timed_head : (timeout : Option ℕ) (opened : ℕ) → IsSome (deadline_of timeout opened) → IsSome timeout
+timed_head None opened some = some
+timed_head (Some timeout) opened some = refl
+
+true_of : {X : Type 0} (b : Bool) → b ≡ false → b ≡ true → X
+true_of true is other = absurd (cc)
+true_of false is other = absurd (cc)
+
+-- a call that ends by its deadline has a timeout
+pub overdue_timed : (a b : SlotRun) (head : CallHead) (opened : ℕ) → a.call.overdue ≡ false → a.call.deadline ≡ deadline_of head.timeout opened → IsOneCall a b → b.call.overdue ≡ true → IsSome head.timeout
+overdue_timed a b head opened early due one late = elim (one.7 late) [
+  | inl before ↦ true_of a.call.overdue early before
+  | inr timed ↦ timed_head head.timeout opened (subst (λ (d : Option ℕ). IsSome d) due timed)
+]
+
+-- ---- its row
 
 -- what stands of a call whose method is there, as its row says
 pub row_answers : {A : Type 0} (answers : A → List (List ℕ) → Bool → Step → Type 0) (stands : A → MethodState → List (List ℕ) → Step → Type 0)
-    (methods : List A) (found : Option A) (job : Job) (got1 got : List InPiece) (p1 p : Progress) (call : Call) (shows : Shown) (given : List OutItem) (row : CallReport)
-    → found ≡ slice_get methods job.index → (found ≡ None → ⊥) → call.head ≡ job.head → got ≡ got1
-    → IfSome found (λ m. (messages : List (List ℕ)) × Took got1 p1 messages × HasRun (answers m) (stands m) p1.told messages call shows)
-    → (items : List OutItem) × IsGivenAs items given × ((answer : Step) → GivesOf p1.told answer call shows → IsOutcome call.head call.overdue p1.told answer items row.status)
-    → (row.id ≡ job.id) × (row.method ≡ job.index) × (row.messages ≡ p1.taken) × (row.told ≡ p1.told)
-    → Answers (answers_by answers methods) got given job row
-row_answers answers stands methods None job got1 got p1 p call shows given row is some same_head same_got run gives says = absurd (some refl)
-row_answers {A} answers stands methods (Some m) job got1 got p1 p call shows given row is some same_head same_got run gives says = record {
-  messages = run.0;
-  said = p1.told;
-  took = record { front = got1; progress = p1; begins = ([], append-nil got1 ∙ sym same_got); took = run.1; told = refl };
+    (methods : List A) (found : Option A) (job : Job) (run : SlotRun) (items : List InPiece) (given : List OutItem) (row : CallReport)
+    → found ≡ slice_get methods job.index → (found ≡ None → ⊥) → run.call.head ≡ job.head → items ≡ got run.taker.rx → (run.call.overdue ≡ true → IsSome job.head.timeout)
+    → IfSome found (λ m. (messages : List (List ℕ)) × Took (got run.taker.rx) run.taker.progress messages × HasRun (answers m) (stands m) run.taker.progress.told messages run.call (shows run))
+    → EndsAs run given row.status → IsRowOf job.id job.index run.taker.progress row
+    → Answers (answers_by answers methods) items given job row
+row_answers answers stands methods None job run items given row is some same_head same_got timed has ends says = absurd (some refl)
+row_answers {A} answers stands methods (Some m) job run items given row is some same_head same_got timed has ends says = record {
+  messages = has.0;
+  said = run.taker.progress.told;
+  took = record { front = got run.taker.rx; progress = run.taker.progress; begins = ([], append-nil (got run.taker.rx) ∙ sym same_got); took = has.1; told = refl };
   id = says.0;
   method = says.1;
   answered = record {
-    overdue = call.overdue;
-    items = gives.0;
-    outcome = λ answer answered. subst (λ (head : CallHead). IsOutcome head call.overdue p1.told answer gives.0 row.status) same_head (gives.2 answer (run.2.each answer
-        (subst (λ (o : Option A). IsSomeAnd o (λ n. answers n run.0 (is_end p1.told) answer)) (ap (λ (i : ℕ). slice_get methods i) says.1 ∙ sym is) answered)));
-    ends = gives.1;
-    taken = says.2 ∙ run.1.count;
+    overdue = run.call.overdue;
+    timed = timed;
+    items = ends.0;
+    outcome = λ answer answered. subst (λ (head : CallHead). IsOutcome head run.call.overdue run.taker.progress.told answer ends.0 row.status) same_head (ends.2 answer (has.2.each answer
+        (subst (λ (o : Option A). IsSomeAnd o (λ n. answers n has.0 (is_end run.taker.progress.told) answer)) (ap (λ (i : ℕ). slice_get methods i) says.1 ∙ sym is) answered)));
+    ends = ends.1;
+    taken = says.2 ∙ has.1.count;
     told = says.3;
   };
 }
 
 -- the row of a call whose method isn't there
-pub row_without : {A : Type 0} (answers : A → List (List ℕ) → Bool → Step → Type 0) (methods : List A) (job : Job) (got : List InPiece) (p : Progress) (given : List OutItem) (row : CallReport)
-    → slice_get methods job.index ≡ None → Took got p [] → p.told ≡ None → row ≡ unanswered job.id job.index
-    → Answers (answers_by answers methods) got given job row
-row_without {A} answers methods job got p given row none took untold is = subst (λ (r : CallReport). Answers (answers_by answers methods) got given job r) (sym is) (record {
+pub row_without : {A : Type 0} (answers : A → List (List ℕ) → Bool → Step → Type 0) (methods : List A) (job : Job) (items : List InPiece) (p : Progress) (given : List OutItem) (row : CallReport)
+    → slice_get methods job.index ≡ None → Took items p [] → p.told ≡ None → row ≡ unanswered job.id job.index
+    → Answers (answers_by answers methods) items given job row
+row_without {A} answers methods job items p given row none took untold is = subst (λ (r : CallReport). Answers (answers_by answers methods) items given job r) (sym is) (record {
   messages = [];
   said = None;
-  took = record { front = got; progress = p; begins = ([], append-nil got); took = took; told = untold };
+  took = record { front = items; progress = p; begins = ([], append-nil items); took = took; told = untold };
   id = refl;
   method = refl;
   answered = record {
     overdue = false;
+    timed = λ late. absurd (cc);
     items = given;
     outcome = λ answer answered. absurd (subst (λ (o : Option A). IsSomeAnd o (λ n. answers n [] false answer)) none answered);
     ends = inl refl;
@@ -159,16 +258,19 @@ row_without {A} answers methods job got p given row none took untold is = subst 
   };
 })
 
--- what stands of a call stands of the same
-pub same_outcome : (said0 said1 : Option Told) (call0 call1 : Call) (shown0 shown1 : Shown) (items : List OutItem) (status : Option ℕ) → said1 ≡ said0 → call1 ≡ call0 → shown1 ≡ shown0
-    → ((answer : Step) → GivesOf said1 answer call1 shown1 → IsOutcome call1.head call1.overdue said1 answer items status)
-    → (answer : Step) → GivesOf said0 answer call0 shown0 → IsOutcome call0.head call0.overdue said0 answer items status
-same_outcome said0 said1 call0 call1 shown0 shown1 items status e_said e_call e_shown outcome =
-    subst (λ (t : Option Told). (answer : Step) → GivesOf t answer call0 shown0 → IsOutcome call0.head call0.overdue t answer items status) e_said
-    (subst (λ (c : Call). (answer : Step) → GivesOf said1 answer c shown0 → IsOutcome c.head c.overdue said1 answer items status) e_call
-    (subst (λ (s : Shown). (answer : Step) → GivesOf said1 answer call1 s → IsOutcome call1.head call1.overdue said1 answer items status) e_shown outcome))
+-- what stands of a call stands of the same, of which what came was returned
+pub same_ends : (a b : SlotRun) (items given : List OutItem) (status : Option ℕ) → b.taker.progress ≡ record a.taker.progress { owed = 0 } → (b.index ≡ a.index) × (b.call ≡ a.call) × (b.in_hand ≡ a.in_hand) × (b.response ≡ a.response)
+    → IsGivenAs items given
+    → ((answer : Step) → GivesOf b.taker.progress.told answer b.call (shows b) → IsOutcome b.call.head b.call.overdue b.taker.progress.told answer items status)
+    → EndsAs a given status
+same_ends a b items given status less same ends outcome = (
+  items,
+  ends,
+  subst (λ (t : Option Told). (answer : Step) → GivesOf t answer a.call (shows a) → IsOutcome a.call.head a.call.overdue t answer items status) (ap (λ (p : Progress). p.told) less)
+      (subst (λ (c : Call). (answer : Step) → GivesOf b.taker.progress.told answer c (shows a) → IsOutcome c.head c.overdue b.taker.progress.told answer items status) same.1
+      (subst (λ (r : Response SlotGiver SlotGiven). (answer : Step) → GivesOf b.taker.progress.told answer b.call (shown_by r) → IsOutcome b.call.head b.call.overdue b.taker.progress.told answer items status) same.3 outcome)),
+)
 
 -- the item of a call that is left, where it was placed
-pub left_as : (placed : Bool) (items given : List OutItem) → MatchBool placed (given ≡ items ++ Left ∷ []) (given ≡ items) → IsGivenAs items given
-left_as true items given is = inr is
-left_as false items given is = inl is
+pub left_as : (items given : List OutItem) → given ≡ items ++ Left ∷ [] → IsGivenAs items given
+left_as items given is = inr is

@@ -2,8 +2,8 @@
 
 use std::marker::Brand;
 
-/// What is known of a connection's methods, by their index.
-pub(crate) trait Answering {
+/// What is known of a connection's methods, by their index. It has no values: a clause names a type of this bound.
+pub trait Answering {
     ghost use Rattle.std.specs.Prelude.{ℕ, List, Bool};
     ghost use Rattle.handlers.specs.declared.step.Step.{Step};
 

@@ -3,31 +3,28 @@
 use connbook::ConnBook;
 use lane::Bell;
 use std::alloc::{AllocError, Global};
-use std::sync::atomic::{AtomicBool, AtomicU32, Ordering};
+use std::sync::atomic::{AtomicBool, Ordering};
 use std::sync::ledger::Ledger;
 use std::sync::{Arc, Mutex};
 
 /// The lock of a connection, and the bells at which its threads wait.
 #[derive(Drop)]
-pub(crate) struct Shared<A: Ledger, B: Ledger, C: Ledger> {
-    pub(crate) book: Mutex<ConnBook<A, B, C>>,
+pub struct Shared<A: Ledger, B: Ledger, C: Ledger> {
+    /// The credit of the connection and of its calls, and which calls are live.
+    pub book: Mutex<ConnBook<A, B, C>>,
     /// Rung after each change that the writer is to look at.
-    pub(crate) writer: Bell,
+    pub writer: Bell,
     /// Rung where the reader may wait for room, or for a worker.
-    pub(crate) reader: Bell,
+    pub reader: Bell,
     /// Rung where calls may wait for room for what they give.
-    pub(crate) room: Bell,
-    /// The greatest stream that was looked at: what a GOAWAY tells.
-    last: AtomicU32,
+    pub room: Bell,
     /// Whether the writer writes nothing more.
     stopped: AtomicBool,
 }
 
 impl<A: Ledger, B: Ledger, C: Ledger> Shared<A, B, C> {
-    pub(crate) fn new(
-        alloc: Global,
-        book: ConnBook<A, B, C>,
-    ) -> Result<Arc<Shared<A, B, C>>, AllocError> {
+    /// What the threads of a connection with this book share.
+    pub fn new(alloc: Global, book: ConnBook<A, B, C>) -> Result<Arc<Shared<A, B, C>>, AllocError> {
         Ok(Arc::new(
             alloc,
             Shared {
@@ -35,27 +32,18 @@ impl<A: Ledger, B: Ledger, C: Ledger> Shared<A, B, C> {
                 writer: Bell::new(),
                 reader: Bell::new(),
                 room: Bell::new(),
-                last: AtomicU32::new(0),
                 stopped: AtomicBool::new(false),
             },
         )?)
     }
 
-    /// The greatest stream that was looked at.
-    pub(crate) fn last(&self) -> u32 {
-        self.last.load(Ordering::SeqCst)
-    }
-
-    pub(crate) fn set_last(&self, id: u32) {
-        self.last.store(id, Ordering::SeqCst);
-    }
-
     /// Whether the writer writes nothing more.
-    pub(crate) fn has_stopped(&self) -> bool {
+    pub fn has_stopped(&self) -> bool {
         self.stopped.load(Ordering::SeqCst)
     }
 
-    pub(crate) fn stop(&self) {
+    /// The writer writes nothing more.
+    pub fn stop(&self) {
         self.stopped.store(true, Ordering::SeqCst);
     }
 }

@@ -1,6 +1,6 @@
 use Rattle.std.proofs.Common.{◌≡◌}
 use Rattle.lane.specs.Ring.{out_name, taken}
-use Rattle.connection.proofs.slot.Slot.next.Given as goal
+use Rattle.callworker.proofs.jobs.next_call.Given as goal
 
 -- nothing was taken yet
 abbrev pub invariant-looks : goal.invariant-looks

@@ -1,8 +1,9 @@
 use Rattle.std.proofs.Common.{◌≡◌}
-use Rattle.connection.proofs.worker.Worker.begin_again.Given as goal
+use Rattle.lane.specs.RingLane.{past_shut, put_shut, shut_name}
+use Rattle.callworker.proofs.worker.Worker.begin_again.Given as goal
 
 -- the end stays where it is
 abbrev pub invariant-looks : goal.invariant-looks
-invariant-looks g l = (g.O.Lane.shut_name l.end.shut ≡ g.O.Lane.shut_name l.fn.shut.shut)
-    × (g.O.Lane.past_shut l.end.shut ≡ g.O.Lane.past_shut l.fn.shut.shut)
-    × (g.O.Lane.put_shut l.end.shut ≡ g.O.Lane.put_shut l.fn.shut.shut)
+invariant-looks g l = (shut_name l.end.shut ≡ shut_name l.fn.shut.shut)
+    × (past_shut l.end.shut ≡ past_shut l.fn.shut.shut)
+    × (put_shut l.end.shut ≡ put_shut l.fn.shut.shut)

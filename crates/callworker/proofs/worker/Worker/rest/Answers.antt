@@ -1,7 +1,8 @@
 use Rattle.std.proofs.Common.{ap, refl, ◌∙◌, ◌++◌, ◌∷◌, [], List, append-nil}
+use Rattle.lane.specs.RingLane.{next_name, ring_of}
 use Rattle.lane.proofs.Prefixes.{IsPrefix-trans}
 use Rattle.callbox.specs.declared.piece.InPiece.{InPiece}
-use Rattle.connection.proofs.worker.Worker.rest.Goals as goal
+use Rattle.callworker.proofs.worker.Worker.rest.Goals as goal
 
 pub rests-init : goal.rests-init
 rests-init g c = (refl, refl, ([], append-nil _))
@@ -13,7 +14,7 @@ rests-preserved g c =
 
 pub returns-then-gets_all-clause-ring : goal.returns-then-gets_all-clause-ring
 returns-then-gets_all-clause-ring g c =
-    ap g.I.Lane.ring_of (c.gets_all.ensures.name c.if-gets_all.true) ∙ (c.requires.ring_in _ ∙ ap g.I.Lane.ring_of c.rests.invariant.0)
+    ap ring_of (c.gets_all.ensures.name c.if-gets_all.true) ∙ ap (λ name. ring_of (next_name name)) c.rests.invariant.0
 
 pub returns-then-gets_all-clause-past : goal.returns-then-gets_all-clause-past
 returns-then-gets_all-clause-past g c = λ is.

@@ -1,22 +1,19 @@
-use Rattle.std.proofs.Common.{ℕ, ap, refl, rules, slice_get}
 use Rattle.handlers.specs.Listed.{listed}
-use Rattle.connection.proofs.Turns.{goes_none, goes_then}
-use Rattle.connection.proofs.worker.Worker.run.Goals as goal
+use Rattle.callworker.proofs.Turns.{goes_none, goes_then, one_call_none, one_call_then}
+use Rattle.callworker.proofs.worker.Worker.run.Goals as goal
 
 pub turns-init : goal.turns-init
-turns-init g c = record { run = goes_none _ _ _ _ _ _ _ _; in_name = refl; in_past = refl; name = refl; past = refl; index = refl; head = refl }
+turns-init g c = record { goes_on = goes_none _ _ (listed c.args.methods.now) c.args.run.now; same = one_call_none c.args.run.now }
 
 pub turns-preserved : goal.turns-preserved
 turns-preserved g c = record {
-  run = goes_then _ _ _ _ _ _ _ _ _ _ _ _ _ _ _ _ _ _ _ (ap (λ (i : ℕ). slice_get (listed c.args.methods.now) i) c.turns.invariant.index) c.turns.invariant.run c.step.ensures.run;
-  in_name = search rules;
-  in_past = search rules;
-  name = search rules;
-  past = search rules;
-  index = search rules;
-  head = search rules;
+  goes_on = goes_then _ _ (listed c.args.methods.now) c.args.run.now c.turns.run c.step.new.run c.turns.invariant.same.4 c.turns.invariant.goes_on c.step.ensures.goes_on;
+  same = one_call_then c.args.run.now c.turns.run c.step.new.run c.turns.invariant.same c.step.ensures.same;
 }
 
-pub returns-then-not-step-clause-run : goal.returns-then-not-step-clause-run
-returns-then-not-step-clause-run g c =
-    goes_then _ _ _ _ _ _ _ _ _ _ _ _ _ _ _ _ _ _ _ (ap (λ (i : ℕ). slice_get (listed c.args.methods.now) i) c.turns.invariant.index) c.turns.invariant.run c.step.ensures.run
+pub returns-then-not-step-clause-goes_on : goal.returns-then-not-step-clause-goes_on
+returns-then-not-step-clause-goes_on g c =
+    goes_then _ _ (listed c.args.methods.now) c.args.run.now c.turns.run c.step.new.run c.turns.invariant.same.4 c.turns.invariant.goes_on c.step.ensures.goes_on
+
+pub returns-then-not-step-clause-same : goal.returns-then-not-step-clause-same
+returns-then-not-step-clause-same g c = one_call_then c.args.run.now c.turns.run c.step.new.run c.turns.invariant.same c.step.ensures.same

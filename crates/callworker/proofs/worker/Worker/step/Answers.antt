@@ -1,17 +1,36 @@
-use Rattle.std.proofs.Common.{ℕ, ap, refl, slice_get, ◌∙◌}
 use Rattle.handlers.specs.Listed.{listed}
-use Rattle.callrun.specs.Sides.{shown}
-use Rattle.connection.proofs.Turns.{goes_credited, goes_then}
-use Rattle.connection.proofs.worker.Worker.step.Goals as goal
+use Rattle.callworker.proofs.Turns.{goes_credited, goes_then, one_call_credited, one_call_then, one_call_turned}
+use Rattle.callworker.proofs.worker.Worker.step.Goals as goal
 
-pub returns-else-not-is_live-clause-run : goal.returns-else-not-is_live-clause-run
-returns-else-not-is_live-clause-run g c =
-    goes_credited _ _ _ _ _ _ _ _ _ _ _ _ _ _ _ _ _ _ _ refl (ap g.I.Lane.got c.is_live.ensures.rx) c.is_live.ensures.none c.is_live.ensures.same.1 c.is_live.ensures.same.2 (ap (shown (λ giver. g.O.Lane.put_in giver.tx) (λ s. g.O.Lane.put_shut s.shut) (λ s. g.O.Lane.was_placed s.shut)) c.is_live.ensures.same.3)
-    c.turn-turn.ensures.run
+pub returns-in-Over-clause-same : goal.returns-in-Over-clause-same
+returns-in-Over-clause-same g c = one_call_turned c.args.run.now c.turn-turn.new.self _ c.turn-turn.ensures.in_name c.turn-turn.ensures.in_past c.turn-turn.ensures.name c.turn-turn.ensures.past c.turn-turn.ensures.same c.turn-turn.ensures.overdue
 
-pub returns-then-not-is_live-clause-run : goal.returns-then-not-is_live-clause-run
-returns-then-not-is_live-clause-run g c =
-    goes_then _ _ _ _ _ _ _ _ _ _ _ _ _ _ _ _ _ _ _ (ap (λ (i : ℕ). slice_get (listed c.args.methods.now) i) (c.is_live.ensures.same.0 ∙ c.turn-turn.ensures.same.0))
-    (goes_credited _ _ _ _ _ _ _ _ _ _ _ _ _ _ _ _ _ _ _ refl (ap g.I.Lane.got c.is_live.ensures.rx) c.is_live.ensures.none c.is_live.ensures.same.1 c.is_live.ensures.same.2 (ap (shown (λ giver. g.O.Lane.put_in giver.tx) (λ s. g.O.Lane.put_shut s.shut) (λ s. g.O.Lane.was_placed s.shut)) c.is_live.ensures.same.3)
-    c.turn-turn.ensures.run)
-    c.give_up.ensures.run
+pub returns-then-went-clause-same : goal.returns-then-went-clause-same
+returns-then-went-clause-same g c = one_call_turned c.args.run.now c.turn-turn.new.self _ c.turn-turn.ensures.in_name c.turn-turn.ensures.in_past c.turn-turn.ensures.name c.turn-turn.ensures.past c.turn-turn.ensures.same c.turn-turn.ensures.overdue
+
+pub returns-else-went-clause-same : goal.returns-else-went-clause-same
+returns-else-went-clause-same g c = one_call_turned c.args.run.now c.turn-turn.new.self _ c.turn-turn.ensures.in_name c.turn-turn.ensures.in_past c.turn-turn.ensures.name c.turn-turn.ensures.past c.turn-turn.ensures.same c.turn-turn.ensures.overdue
+
+pub returns-else-not-is_live-clause-goes_on : goal.returns-else-not-is_live-clause-goes_on
+returns-else-not-is_live-clause-goes_on g c =
+    goes_then _ _ (listed c.args.methods.now) c.args.run.now c.turn-turn.new.self c.is_live.new.run c.turn-turn.ensures.same.0 c.turn-turn.ensures.run
+    (goes_credited _ _ (listed c.args.methods.now) c.turn-turn.new.self c.is_live.new.run c.is_live.ensures.rx c.is_live.ensures.none c.is_live.ensures.same)
+
+pub returns-else-not-is_live-clause-same : goal.returns-else-not-is_live-clause-same
+returns-else-not-is_live-clause-same g c =
+    one_call_then c.args.run.now c.turn-turn.new.self c.is_live.new.run (one_call_turned c.args.run.now c.turn-turn.new.self _ c.turn-turn.ensures.in_name c.turn-turn.ensures.in_past c.turn-turn.ensures.name c.turn-turn.ensures.past c.turn-turn.ensures.same c.turn-turn.ensures.overdue)
+    (one_call_credited c.turn-turn.new.self c.is_live.new.run c.is_live.ensures.rx c.is_live.ensures.same)
+
+pub returns-then-not-is_live-clause-goes_on : goal.returns-then-not-is_live-clause-goes_on
+returns-then-not-is_live-clause-goes_on g c =
+    goes_then _ _ (listed c.args.methods.now) c.args.run.now c.turn-turn.new.self c.give_up.new.run c.turn-turn.ensures.same.0 c.turn-turn.ensures.run
+    (goes_then _ _ (listed c.args.methods.now) c.turn-turn.new.self c.is_live.new.run c.give_up.new.run c.is_live.ensures.same.0
+    (goes_credited _ _ (listed c.args.methods.now) c.turn-turn.new.self c.is_live.new.run c.is_live.ensures.rx c.is_live.ensures.none c.is_live.ensures.same)
+    c.give_up.ensures.goes_on)
+
+pub returns-then-not-is_live-clause-same : goal.returns-then-not-is_live-clause-same
+returns-then-not-is_live-clause-same g c =
+    one_call_then c.args.run.now c.turn-turn.new.self c.give_up.new.run (one_call_turned c.args.run.now c.turn-turn.new.self _ c.turn-turn.ensures.in_name c.turn-turn.ensures.in_past c.turn-turn.ensures.name c.turn-turn.ensures.past c.turn-turn.ensures.same c.turn-turn.ensures.overdue)
+    (one_call_then c.turn-turn.new.self c.is_live.new.run c.give_up.new.run
+    (one_call_credited c.turn-turn.new.self c.is_live.new.run c.is_live.ensures.rx c.is_live.ensures.same)
+    c.give_up.ensures.same)

@@ -1,9 +1,8 @@
 -- The rows of a slot's calls.
-use Rattle.std.proofs.Common.{◌≡◌, ◌∙◌, inl, inr, ap, arith, refl, subst, sym, ℕ, ◌+◌, ◌<◌, ◌≤◌, zero, suc, Bool, true, false, List, [], ◌∷◌, ◌++◌, Option, None, Some, length, length-append, slice_get}
+use Rattle.std.proofs.Common.{◌≡◌, ◌∙◌, inl, ap, arith, refl, subst, sym, ℕ, ◌+◌, ◌<◌, ◌≤◌, zero, suc, Bool, false, List, [], ◌∷◌, ◌++◌, Option, None, Some, length, length-append, slice_get}
 use Rattle.std.proofs.Math.ListN.{get_or-append}
 use Rattle.std.proofs.lemmas.List.{get_or_past, get_or_push}
-use Rattle.std.proofs.lemmas.List.Elements.{All-append, All-cons, All-nil}
-use Rattle.std.specs.Prelude.{IfSome, IsSomeAnd, is_some}
+use Rattle.std.specs.Prelude.{IfSome, IsSomeAnd}
 use mathlib.Core.List.{IsPrefix}
 use Rattle.lane.specs.Cuts.{segment}
 use Rattle.lane.specs.End.{of_end}
@@ -16,10 +15,10 @@ use Rattle.callbox.specs.declared.taker.Progress.{Progress}
 use Rattle.callbox.specs.InSides.{Took}
 use Rattle.handlers.specs.declared.step.Step.{Step}
 use Rattle.callrun.specs.Outcomes.{Unended}
-use Rattle.connection.specs.declared.report.CallReport.{CallReport}
-use Rattle.connection.specs.declared.slot.Job.{Job}
-use Rattle.connection.specs.Accounts.{IsWithin, unanswered}
-use Rattle.connection.specs.Workers.{Answers, HaveRows}
+use Rattle.callslot.specs.declared.report.CallReport.{CallReport}
+use Rattle.callslot.specs.declared.slot.Job.{Job}
+use Rattle.callslot.specs.Accounts.{IsWithin, unanswered}
+use Rattle.callslot.specs.Workers.{Answers, HaveRows}
 
 -- ---- two lists, place by place
 
@@ -52,6 +51,11 @@ get-left P (x ∷ xs) ys (suc n) has = get-left P xs ys n has
 get-last : {A : Type 0} (P : A → Type 0) (xs : List A) (x : A) → P x → IsSomeAnd (slice_get (xs ++ x ∷ []) (length xs)) P
 get-last P [] x has = has
 get-last P (y ∷ xs) x has = get-last P xs x has
+
+-- both lists have one more
+pub one_longer : {X Y : Type 0} (xs new_xs : List X) (ys new_ys : List Y) (x : X) (y : Y) → new_xs ≡ xs ++ x ∷ [] → new_ys ≡ ys ++ y ∷ [] → length xs ≡ length ys → length new_xs ≡ length new_ys
+one_longer xs new_xs ys new_ys x y is_xs is_ys same =
+    ap length is_xs ∙ length-append xs (x ∷ []) ∙ (ap (λ (n : ℕ). n + 1) same ∙ sym (ap length is_ys ∙ length-append ys (y ∷ [])))
 
 -- ---- segments
 
@@ -91,6 +95,7 @@ of_fewer wide narrow got given job row within has = record {
   method = has.method;
   answered = record {
     overdue = has.answered.overdue;
+    timed = has.answered.timed;
     items = has.answered.items;
     outcome = λ answer is. has.answered.outcome answer (within row.method has.messages _ answer is);
     ends = has.answered.ends;
@@ -117,6 +122,7 @@ module _ (answers : ℕ → List (List ℕ) → Bool → Step → Type 0) where
     method = refl;
     answered = record {
       overdue = false;
+      timed = λ late. absurd (cc);
       items = [];
       outcome = λ answer is. Unended [] (answer.replies, refl) (inl (refl, refl)) refl;
       ends = inl none;

@@ -1,0 +1,2 @@
+pub mod SlotRows
+pub mod Turns

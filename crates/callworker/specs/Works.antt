@@ -1,0 +1,66 @@
+-- What a worker has between two calls, and at its end.
+use Rattle.std.specs.Prelude.{◌≡◌, ℕ, Bool, List, [], ◌∷◌, ◌++◌, length, IfSome}
+use Rattle.lane.specs.End.{of_end}
+use Rattle.lane.specs.declared.lane.End.{End}
+use Rattle.lane.specs.Ring as ring
+use Rattle.lane.specs.RingLane.{LaneName, got, in_name, out_name, past_in, past_out, past_shut, put_in, put_shut, ring_of, shut_name}
+use Rattle.account.specs.declared.call.OutItem.{OutItem}
+use Rattle.handlers.specs.declared.step.Step.{Step}
+use Rattle.callslot.specs.declared.seen.Seen.{Seen}
+use Rattle.callslot.specs.Accounts.{IsWithin, answers_by}
+use Rattle.callslot.specs.Workers.{HasRows, HaveRows, IsFresh}
+use Rattle.callworker.specs.declared.ends.Ends.{Ends}
+use Rattle.callworker.specs.Runs.{SlotGiven, SlotGiver}
+
+-- what each of these methods answers is known
+abbrev pub IsKnown : {A : Type 0} → (ℕ → List (List ℕ) → Bool → Step → Type 0)
+    → (A → List (List ℕ) → Bool → Step → Type 0) → List A → Type 0
+IsKnown known of_method methods = IsWithin known (answers_by of_method methods)
+
+-- ---- the giving end of a slot, at a call or behind one
+
+abbrev pub GivingEnd : Type 0
+GivingEnd = End SlotGiver SlotGiven
+
+abbrev pub giving_ring : GivingEnd → LaneName
+giving_ring end = ring_of (of_end (λ g. in_name g.tx) (λ s. shut_name s.shut) end)
+
+-- what was given for the calls before the next
+abbrev pub given_before : GivingEnd → List (List OutItem)
+given_before end = of_end (λ g. past_in g.tx) (λ s. past_shut s.shut ++ put_shut s.shut ∷ []) end
+
+-- and for the next
+abbrev pub given_now : GivingEnd → List OutItem
+given_now end = of_end (λ g. put_in g.tx) (λ s. []) end
+
+-- ---- a worker's ends
+
+-- nothing was made use of
+abbrev pub IsUnused : Ends → Type 0
+IsUnused ends = IsFresh (got ends.taker.rx) ends.taker.progress × (past_out ends.taker.rx ≡ [])
+    × (past_in ends.giver.tx ≡ []) × (put_in ends.giver.tx ≡ []) × (ring.taken ends.jobs ≡ [])
+
+-- they are ends of the lanes and of the ring that it was given
+abbrev pub AreEndsOf : Ends → Seen → Type 0
+AreEndsOf ends seen = (ring_of (out_name seen.taker.rx) ≡ ring_of (out_name ends.taker.rx))
+    × (giving_ring seen.end ≡ ring_of (in_name ends.giver.tx))
+    × (ring.out_name seen.jobs ≡ ring.out_name ends.jobs)
+
+-- they are ends of the same
+abbrev pub AreSameEnds : Seen → Seen → Type 0
+AreSameEnds before after = (ring_of (out_name after.taker.rx) ≡ ring_of (out_name before.taker.rx))
+    × (giving_ring after.end ≡ giving_ring before.end)
+    × (ring.out_name after.jobs ≡ ring.out_name before.jobs)
+
+-- Between two calls: each call has its row, and of the next one nothing was got or given yet.
+pub record IsIdle (answers : ℕ → List (List ℕ) → Bool → Step → Type 0) (seen : Seen) : Type 0 where
+  pub fresh : IsFresh (got seen.taker.rx) seen.taker.progress
+  pub ungiven : given_now seen.end ≡ []
+  pub got_each : length (past_out seen.taker.rx) ≡ length (ring.taken seen.jobs)
+  pub gave_each : length (given_before seen.end) ≡ length (ring.taken seen.jobs)
+  pub rows : IfSome seen.calls
+      (λ rows. HaveRows answers (past_out seen.taker.rx) (given_before seen.end) (ring.taken seen.jobs) rows.items)
+
+-- what a worker comes to that was given these ends
+abbrev pub HasWorked : (ℕ → List (List ℕ) → Bool → Step → Type 0) → Ends → Seen → Type 0
+HasWorked answers ends seen = AreEndsOf ends seen × HasRows answers seen

@@ -1,0 +1,43 @@
+//! What stays of a call that was answered: a worker's ends of the lanes, and the row of the call.
+
+ghost use Rattle.std.specs.Prelude.{◌≡◌, [], ◌∷◌, ◌++◌, IfSome, IsSomeAnd};
+ghost use Rattle.lane.specs.End.{of_end};
+ghost use Rattle.lane.specs.RingLane.{in_name, past_in, past_shut, put_in, put_shut, shut_name};
+ghost use Rattle.callslot.specs.Accounts.{IsGivenAs};
+
+use callbox::{GivenShut, Giver, Taker};
+use callslot::{CallReport, InLane, OutLane};
+use lane::End;
+
+/// What is left of a call that was answered.
+#[derive(Drop)]
+pub(crate) struct Finished {
+    pub(crate) taker: Taker<InLane>,
+    pub(crate) shut: GivenShut<OutLane>,
+    pub(crate) row: CallReport,
+}
+
+/// The giving end once the call is left, where it wasn't answered.
+pub(crate) fn shut_of(end: End<Giver<OutLane>, GivenShut<OutLane>>) -> GivenShut<OutLane>
+    ensures name { shut_name result.shut ≡ of_end (λ g. in_name g.tx) (λ s. shut_name s.shut) end }
+    ensures past { past_shut result.shut ≡ of_end (λ g. past_in g.tx) (λ s. past_shut s.shut) end }
+    ensures given { IsGivenAs (of_end (λ g. put_in g.tx) (λ s. put_shut s.shut) end)
+        (put_shut result.shut) }
+{
+    match end {
+        End::Open(giver) => giver.leave(),
+        End::Shut(shut) => shut,
+    }
+}
+
+/// The rows with one more, if there is memory for it.
+pub(crate) fn with_row(calls: Option<Vec<CallReport>>, row: CallReport) -> Option<Vec<CallReport>>
+    ensures { IfSome result (λ rows. IsSomeAnd calls
+        (λ before. rows.items ≡ before.items ++ row ∷ [])) }
+{
+    let mut rows = calls?;
+    match rows.push(row) {
+        Ok(()) => Some(rows),
+        Err(_e) => None,
+    }
+}
