@@ -17,7 +17,7 @@ ghost use Rattle.callrun.specs.Sides.{IsOpenTo, is_gone, is_left, is_open, is_sh
 use crate::call::{Call, Turn};
 use crate::handling::Handling;
 use crate::response::Response;
-use account::OutItem;
+use account::{OutItem, Told};
 use callbox::{GivenShut, Giver, InPiece, Taken, Taker};
 use callhead::CallHead;
 use handlers::{Method, Methods};
@@ -222,6 +222,20 @@ impl<I: Lane<Item = InPiece>, O: Lane<Item = OutItem>> CallRun<I, O> {
         ensures { result ≡ lacks_memory self.now.call.handling.ending }
     {
         self.call.handling.lacks_memory()
+    }
+
+    /// What the method was told behind the messages that were taken. None where it was told nothing yet.
+    pub fn told(&self) -> Option<Told>
+        ensures { result ≡ self.now.taker.progress.told }
+    {
+        self.taker.told()
+    }
+
+    /// Whether no reply waits to be given.
+    pub fn has_given_all(&self) -> bool
+        ensures { IsTrue result ↔ (self.now.call.handling.waiting ≡ []) }
+    {
+        self.call.handling.waiting.is_empty()
     }
 
     /// How many messages were given, and how many bytes they had without their prefixes. A number over the greatest `u64` counts

@@ -2,7 +2,8 @@
 //! two lanes.
 //!
 //! - `worker`: the loops, which wait: from call to call, and from turn to turn of a call.
-//! - `pace`: how long a call waits, and when the writer is rung for it; `rows`: the row that stays of a call.
+//! - `pace`: how long a call waits, and when the writer is rung for it; `leaving`: how a call ends that is no longer live; `rows`: the row
+//!   that stays of a call.
 //! - `ends`: what a worker is given of its slot; `hired`: a worker in a thread of its own, and its promise.
 //! - `jobs`: where a worker waits for its next call.
 //! - `shared`: the connection's lock and bells; `gate`: who says when a call goes on.
@@ -17,6 +18,7 @@ pub mod ends;
 pub mod gate;
 pub mod hired;
 pub mod jobs;
+mod leaving;
 mod pace;
 mod rows;
 pub mod shared;

@@ -18,6 +18,7 @@ use crate::answering::Answering;
 use crate::ends::Ends;
 use crate::gate::Gate;
 use crate::jobs::next_call;
+use crate::leaving::give_up;
 use crate::pace::{IDLE, Pace, STEP};
 use crate::rows::{Finished, shut_of, with_row};
 use crate::shared::Shared;
@@ -241,28 +242,33 @@ impl<A: Ledger, B: Ledger, C: Ledger, G: Gate + Drop> Worker<A, B, C, G> {
         ensures over { is_open run.new.response ≡ false }
     {
         'turns: for _ in rt.forever() {
-            self.pass_gate(rt, id, pace);
+            if !self.pass_gate(rt, id, pace) {
+                let now = self.now(rt, run);
+                give_up(run, methods, now);
+                return;
+            }
             if !self.step(rt, methods, id, run, pace) {
                 return;
             }
         }
     }
 
-    /// Waits until the gate lets the call go on, or the call is no longer live.
-    fn pass_gate(&self, rt: &impl Wait, id: StreamId, pace: &mut Pace) {
+    /// Waits until the gate lets the call go on. No, where the call is no longer live.
+    fn pass_gate(&self, rt: &impl Wait, id: StreamId, pace: &mut Pace) -> bool {
         'refusals: for _ in 0..pace.refusals() {
             let mark = self.slot.bell.mark();
             if self.gate.may_go(id) {
-                return;
+                return true;
             }
             pace.refused();
             self.slot
                 .bell
                 .wait_past(rt, mark, Duration::from_millis(STEP));
             if !self.shared.book.lock(rt).is_live(id) {
-                return;
+                return false;
             }
         }
+        true
     }
 
     /// Gives the call a turn, and waits where there was nothing to do; a call that is no longer live ends. Answers whether it goes on.
@@ -295,7 +301,7 @@ impl<A: Ledger, B: Ledger, C: Ledger, G: Gate + Drop> Worker<A, B, C, G> {
             Turn::Over => false,
             Turn::Nothing | Turn::Full => {
                 if !self.is_live(rt, id, run, pace) {
-                    self.give_up(rt, methods, run);
+                    give_up(run, methods, now);
                     return false;
                 }
                 let limit = pace.limit(turn, run.time_left(now));
@@ -343,33 +349,6 @@ impl<A: Ledger, B: Ledger, C: Ledger, G: Gate + Drop> Worker<A, B, C, G> {
             self.shared.writer.ring();
         }
         is_live
-    }
-
-    /// Leaves a call that is no longer live, unless it was reset: then that is what it is told last.
-    fn give_up<R: Wait + Clock>(
-        &self,
-        rt: &R,
-        methods: &Methods,
-        run: &mut CallRun<InLane, OutLane>,
-    )
-        requires index { run.old.index < length (listed methods.now) }
-        ensures goes_on { GoesOn
-            (λ m. answers (m.vtable, m.value)) (λ m. stands (m.vtable, m.value))
-            (listed methods.now) run.old run.new }
-        ensures same { IsOneCall run.old run.new }
-        ensures over { is_open run.new.response ≡ false }
-    {
-        'turns: for _ in rt.forever() {
-            let now = self.now(rt, run);
-            match run.turn(methods, now) {
-                Turn::Went => {}
-                Turn::Over => return,
-                Turn::Nothing | Turn::Full => {
-                    run.leave(methods);
-                    return;
-                }
-            }
-        }
     }
 
     /// Ends a call that is over, by its last item, and hands back its ends.

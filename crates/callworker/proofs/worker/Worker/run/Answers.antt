@@ -17,3 +17,10 @@ returns-then-not-step-clause-goes_on g c =
 
 pub returns-then-not-step-clause-same : goal.returns-then-not-step-clause-same
 returns-then-not-step-clause-same g c = one_call_then c.args.run.now c.turns.run c.step.new.run c.turns.invariant.same c.step.ensures.same
+
+pub returns-then-not-pass_gate-clause-goes_on : goal.returns-then-not-pass_gate-clause-goes_on
+returns-then-not-pass_gate-clause-goes_on g c =
+    goes_then _ _ (listed c.args.methods.now) c.args.run.now c.turns.run c.give_up.new.run c.turns.invariant.same.4 c.turns.invariant.goes_on c.give_up.ensures.goes_on
+
+pub returns-then-not-pass_gate-clause-same : goal.returns-then-not-pass_gate-clause-same
+returns-then-not-pass_gate-clause-same g c = one_call_then c.args.run.now c.turns.run c.give_up.new.run c.turns.invariant.same c.give_up.ensures.same
