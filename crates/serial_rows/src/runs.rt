@@ -61,7 +61,7 @@ pub struct Ran {
     pub rows: Vec<CallReport>,
     /// The kinds of the orders that were put, one behind the other.
     pub orders: Vec<&'static str>,
-    /// Whether there is one row for each call that was admitted, and no other.
+    /// Whether there is one row for each call that was admitted, memory aside, and no other.
     pub is_accounted: bool,
     /// Whether there was no memory for the connection or for one of its calls.
     pub ran_out: bool,
@@ -165,13 +165,15 @@ impl Run<'_> {
             orders,
         } = serial.into_outcome();
         let Pipe { bytes, calls, .. } = output;
+        let ran_out = call_ran_out || ending == Ending::OutOfMemory;
+        let has_all = rows.len() as u64 == admitted;
         Ran {
             written: bytes,
             ending,
-            is_accounted: are_rising(rows.as_slice()) && rows.len() as u64 == admitted,
+            is_accounted: are_rising(rows.as_slice()) && (ran_out || has_all),
             rows,
             orders,
-            ran_out: call_ran_out || ending == Ending::OutOfMemory,
+            ran_out,
             turns,
             writes: calls,
         }
