@@ -160,7 +160,7 @@ class Connection:
             size -= 1
         reply = bytearray(wire.response(size))
         if self.fault == "body that is not zero":
-            reply[-1] = 1
+            reply[len(reply) - size + 17] = 1
         self.reply(bytes(reply))
         if self.fault == "reset for trailers":
             self.call.waiting.append((wire.RST_STREAM, 0, (2).to_bytes(4, "big")))

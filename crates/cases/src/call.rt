@@ -3,13 +3,14 @@
 ghost use Rattle.std.specs.Prelude.{◌<◌, ◌^◌};
 
 use crate::connection::{Arrival, Connection, Content};
-use crate::fault::CaseFault;
+use crate::fault::Fault;
 use crate::method::{Asked, Method};
+use crate::mismatch::ReplyFault;
 use bytes::Bytes;
 use device::{ConnRead, ConnWrite};
 use h2frame::StreamId;
 use lists::Field;
-use lpm::{Split, Splitter, write_message};
+use lpm::{LpmFault, Split, Splitter, write_message};
 use std::alloc::Global;
 
 /// CANCEL (RFC 9113, section 7).
@@ -18,11 +19,20 @@ pub const CANCEL: u32 = 8;
 /// More replies than any case asks for.
 const TOO_MANY: usize = 100;
 
+/// The bytes before a message.
+const PREFIX_LEN: usize = 5;
+
 /// A call that was begun.
 #[derive(Drop)]
 pub struct Call {
     stream: StreamId,
     splitter: Splitter,
+    /// The last piece that the splitter was given.
+    piece: Bytes,
+    /// How many bytes it was given of messages that aren't answered yet.
+    waiting: usize,
+    /// How many replies were answered.
+    pub count: usize,
     /// The fields that begin the response, none where they didn't come.
     pub head: Vec<Field>,
     /// The fields that end the response, none where they didn't come.
@@ -41,7 +51,7 @@ impl Call {
         stream: StreamId,
         method: Method,
         asked: Asked,
-    ) -> Result<Call, CaseFault>
+    ) -> Result<Call, Fault>
         requires some { 0 < stream }
         requires within { stream < 2 ^ 31 }
     {
@@ -51,6 +61,9 @@ impl Call {
         Ok(Call {
             stream,
             splitter: Splitter::new(alloc),
+            piece: Bytes::new(),
+            waiting: 0,
+            count: 0,
             head: Vec::new(alloc),
             trailers: Vec::new(alloc),
             ended: false,
@@ -64,9 +77,11 @@ impl Call {
         connection: &mut Connection<S>,
         message: &[u8],
         last: bool,
-    ) -> Result<(), CaseFault> {
+    ) -> Result<(), Fault> {
         let mut bytes = Vec::new(connection.alloc);
-        write_message(message, &mut bytes)?;
+        if write_message(message, &mut bytes).is_err() {
+            return Err(Fault::OutOfMemory);
+        }
         connection.send(self.stream, bytes.as_slice(), last)
     }
 
@@ -74,7 +89,7 @@ impl Call {
     pub fn half_close<S: ConnRead + ConnWrite>(
         &self,
         connection: &mut Connection<S>,
-    ) -> Result<(), CaseFault> {
+    ) -> Result<(), Fault> {
         connection.half_close(self.stream)
     }
 
@@ -82,37 +97,66 @@ impl Call {
     pub fn cancel<S: ConnRead + ConnWrite>(
         &self,
         connection: &mut Connection<S>,
-    ) -> Result<(), CaseFault> {
+    ) -> Result<(), Fault> {
         connection.reset(self.stream, CANCEL)?;
         connection.ping()
+    }
+
+    /// Leaves a call whose response has ended, and in which the client may send still: it resets the stream, unless the
+    /// server did. What still comes on it was on its way.
+    pub fn leave<S: ConnRead + ConnWrite>(
+        &self,
+        connection: &mut Connection<S>,
+    ) -> Result<(), Fault> {
+        if self.reset.is_some() {
+            return Ok(());
+        }
+        connection.reset(self.stream, CANCEL)
     }
 
     /// The next reply, or none where the call has ended.
     pub fn reply<S: ConnRead + ConnWrite>(
         &mut self,
         connection: &mut Connection<S>,
-    ) -> Result<Option<Bytes>, CaseFault> {
+    ) -> Result<Option<Bytes>, Fault> {
         for _ in 0..u64::MAX {
             match self.splitter.next() {
-                Split::Message(message) => return Ok(Some(message)),
-                Split::Fault(fault) => return Err(CaseFault::from(fault)),
+                Split::Message(message) => {
+                    let taken = message.len().saturating_add(PREFIX_LEN);
+                    self.waiting = self.waiting.saturating_sub(taken);
+                    self.count = self.count.saturating_add(1);
+                    return Ok(Some(message));
+                }
+                Split::Fault(fault) => return Err(self.framing(fault)),
                 Split::More => {}
             }
             if self.ended {
-                self.splitter.end()?;
-                return Ok(None);
+                return match self.splitter.end() {
+                    Err(fault) if self.reset.is_none() => Err(self.framing(fault)),
+                    _ => Ok(None),
+                };
             }
             let arrival = connection.receive(self.stream)?;
             self.take(arrival)?;
         }
-        Err(CaseFault::StreamFailed)
+        Ok(None)
+    }
+
+    /// What is wrong with the next reply's prefix, or with where the stream ended. A flag stands in the last piece.
+    fn framing(&self, fault: LpmFault) -> Fault {
+        let at = self.piece.len().saturating_sub(self.waiting);
+        let flag = self.piece.as_slice().get(at).copied().unwrap_or(0);
+        match ReplyFault::of(fault, self.count.saturating_add(1), flag, self.waiting) {
+            Some(fault) => Fault::Reply(fault),
+            None => Fault::OutOfMemory,
+        }
     }
 
     /// The replies that are still to come.
     pub fn replies<S: ConnRead + ConnWrite>(
         &mut self,
         connection: &mut Connection<S>,
-    ) -> Result<Vec<Bytes>, CaseFault> {
+    ) -> Result<Vec<Bytes>, Fault> {
         let mut replies = Vec::new(connection.alloc);
         for _ in 0..TOO_MANY {
             let Some(reply) = self.reply(connection)? else {
@@ -120,11 +164,11 @@ impl Call {
             };
             replies.push(reply)?;
         }
-        Err(CaseFault::WrongReply)
+        Err(Fault::Reply(ReplyFault::TooMany { most: TOO_MANY }))
     }
 
     /// Takes what came on the stream.
-    fn take(&mut self, arrival: Arrival) -> Result<(), CaseFault> {
+    fn take(&mut self, arrival: Arrival) -> Result<(), Fault> {
         let Arrival {
             stream: _,
             content,
@@ -139,7 +183,13 @@ impl Call {
                     self.head = fields;
                 }
             }
-            Content::Data(piece) => self.splitter.push_shared(piece)?,
+            Content::Data(piece) => {
+                self.waiting = self.waiting.saturating_add(piece.len());
+                self.piece = piece.clone()?;
+                if self.splitter.push_shared(piece).is_err() {
+                    return Err(Fault::OutOfMemory);
+                }
+            }
             Content::Reset(code) => self.reset = Some(code),
         }
         Ok(())

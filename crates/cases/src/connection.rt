@@ -1,30 +1,33 @@
-//! The client's side of a connection (RFC 9113).
+//! The client's side of a connection: what it writes, and what it waits for (RFC 9113).
 //!
 //! The device's reads are given up by the device, after a time of its own: so what is wanted of a silent server ends.
+//! What the server's frames come to stands in `incoming`.
 
 ghost use Rattle.std.specs.Prelude.{◌≡◌, ◌<◌, ◌≤◌, ◌^◌, length, IfOk};
-ghost use Rattle.h2frame.specs.declared.kind.FrameKind.TheVariants.{Headers};
 
-use crate::fault::CaseFault;
+use crate::credit::Credit;
+use crate::fault::Fault;
+use crate::input::{FrameInput, InputFault, Progress};
 use crate::outgoing::Outgoing;
+use crate::pings::Pings;
+use crate::response::Phase;
+use crate::silence::{Awaited, Silence, SilenceFault};
+use crate::streams::Streams;
+use crate::violation::Violation;
 use bytes::Bytes;
 use device::{ConnRead, ConnWrite, write_all};
-use flow::{SendWindows, WindowFault};
-use h2frame::{
-    Flags, Frame, FrameKind, FrameReader, MAX_PAYLOAD, PeerSetting, StreamId, increment,
-    write_frame,
-};
+use flow::SendWindows;
+use h2frame::{Frame, MAX_PAYLOAD, StreamId, write_frame};
 use hpack_codec::{Decoder, Encoder};
 use lists::Field;
-use session::{HeaderBlock, read_settings};
 use std::alloc::Global;
 use std::collections::VecDeque;
 
 /// The text with which a client begins (section 3.4).
 const PREFACE: &[u8] = b"PRI * HTTP/2.0\r\n\r\nSM\r\n\r\n";
 
-/// The contents of the client's PING.
-const PING: &[u8] = b"finished";
+/// SETTINGS_ENABLE_PUSH is 0 (section 6.5.2).
+const NO_PUSHES: &[u8] = b"\0\x02\0\0\0\0";
 
 /// What came on a stream.
 #[derive(Drop)]
@@ -48,17 +51,26 @@ pub enum Content {
 #[derive(Drop)]
 pub struct Connection<S> {
     pub alloc: Global,
-    device: S,
-    reader: FrameReader,
-    decoder: Decoder,
-    encoder: Encoder,
-    windows: SendWindows,
+    pub(crate) device: S,
+    pub(crate) input: FrameInput,
+    pub(crate) decoder: Decoder,
+    pub(crate) encoder: Encoder,
+    /// What may be sent.
+    pub(crate) windows: SendWindows,
+    /// What the server may send.
+    pub(crate) credit: Credit,
+    pub(crate) streams: Streams,
+    pub(crate) pings: Pings,
     /// What came on streams and wasn't received yet, in order.
-    arrived: VecDeque<Arrival>,
-    /// Whether the client's PING was answered.
-    answered: bool,
-    /// The error with which the server ended the connection, if it said one.
-    pub goaway: Option<u32>,
+    pub(crate) arrived: VecDeque<Arrival>,
+    /// Whether the server's first frame came.
+    pub(crate) has_begun: bool,
+    /// Whether the client's SETTINGS were acknowledged.
+    pub(crate) is_acknowledged: bool,
+    /// The last stream of the latest GOAWAY without an error.
+    pub(crate) goaway: Option<StreamId>,
+    /// What is waited for.
+    awaited: Awaited,
 }
 
 impl<S: ConnRead + ConnWrite> Connection<S> {
@@ -67,106 +79,150 @@ impl<S: ConnRead + ConnWrite> Connection<S> {
         Connection {
             alloc,
             device,
-            reader: FrameReader::new(alloc),
+            input: FrameInput::new(alloc),
             decoder: Decoder::new(alloc),
             encoder: Encoder::new(alloc),
             windows: SendWindows::new(alloc),
+            credit: Credit::new(alloc),
+            streams: Streams::new(alloc),
+            pings: Pings::new(),
             arrived: VecDeque::new(alloc),
-            answered: false,
+            has_begun: false,
+            is_acknowledged: false,
             goaway: None,
+            awaited: Awaited::Settings,
         }
     }
 
-    /// Writes the preface and an empty SETTINGS frame.
-    pub fn greet(&mut self) -> Result<(), CaseFault> {
-        write_all(&mut self.device, PREFACE)?;
-        self.write(Outgoing::Settings, 0, Bytes::new())
+    /// Writes the preface and SETTINGS, which turn pushes off.
+    pub fn greet(&mut self) -> Result<(), Fault> {
+        if write_all(&mut self.device, PREFACE).is_err() {
+            return Err(self.unwritten());
+        }
+        let content = Bytes::copy_from_slice(self.alloc, NO_PUSHES)?;
+        self.write(Outgoing::Settings, 0, content)
     }
 
     /// Writes a frame.
-    fn write(
+    pub(crate) fn write(
         &mut self,
         outgoing: Outgoing,
         stream: StreamId,
         content: Bytes,
-    ) -> Result<(), CaseFault>
+    ) -> Result<(), Fault>
         requires { stream < 2 ^ 31 }
     {
         if content.len() > MAX_PAYLOAD as usize {
-            return Err(CaseFault::Connection);
+            return Err(Fault::Unwritable);
         }
         let (kind, flags) = outgoing.shape();
         let frame = Frame::new(kind, flags, stream, content);
         let mut bytes = Vec::new(self.alloc);
-        write_frame(&frame, &mut bytes)?;
-        write_all(&mut self.device, bytes.as_slice())?;
+        if write_frame(&frame, &mut bytes).is_err() {
+            return Err(Fault::OutOfMemory);
+        }
+        if write_all(&mut self.device, bytes.as_slice()).is_err() {
+            return Err(self.unwritten());
+        }
         Ok(())
     }
 
     /// Opens a stream with these fields.
-    pub fn open(&mut self, stream: StreamId, fields: &[Field]) -> Result<(), CaseFault>
+    pub fn open(&mut self, stream: StreamId, fields: &[Field]) -> Result<(), Fault>
         requires some { 0 < stream }
         requires within { stream < 2 ^ 31 }
     {
         if self.windows.has(stream) {
-            return Err(CaseFault::Connection);
+            return Err(Fault::Unwritable);
         }
-        self.windows.open(stream)?;
-        let block = self.encoder.block(fields)?;
+        match self.credit.open(stream) {
+            Ok(true) => {}
+            Ok(false) => return Err(Fault::Unwritable),
+            Err(_) => return Err(Fault::OutOfMemory),
+        }
+        if self.windows.open(stream).is_err() {
+            return Err(Fault::OutOfMemory);
+        }
+        self.streams.open(stream)?;
+        let Ok(block) = self.encoder.block(fields) else {
+            return Err(Fault::OutOfMemory);
+        };
         self.write(Outgoing::Headers, stream, Bytes::from_vec(block)?)
     }
 
     /// Writes bytes as DATA, as the windows let them through; nothing is said behind the last ones.
-    pub fn send(&mut self, stream: StreamId, bytes: &[u8], last: bool) -> Result<(), CaseFault>
+    pub fn send(&mut self, stream: StreamId, bytes: &[u8], last: bool) -> Result<(), Fault>
         requires { stream < 2 ^ 31 }
     {
         let mut rest = bytes;
         while !rest.is_empty() {
+            let sent = bytes.len().saturating_sub(rest.len());
+            self.awaited = Awaited::Window {
+                sent,
+                of: bytes.len(),
+            };
             let room = self.room(stream)?;
             let (piece, behind) = rest.split_at(room.min(rest.len()));
             rest = behind;
             let content = Bytes::copy_from_slice(self.alloc, piece)?;
-            self.windows.spend(stream, piece.len() as u32)?;
-            if last && rest.is_empty() {
-                self.write(Outgoing::LastData, stream, content)?;
-            } else {
-                self.write(Outgoing::Data, stream, content)?;
+            if self.windows.spend(stream, piece.len() as u32).is_err() {
+                return Err(Fault::Unwritable);
             }
+            let outgoing = if last && rest.is_empty() {
+                Outgoing::LastData
+            } else {
+                Outgoing::Data
+            };
+            self.write(outgoing, stream, content)?;
         }
         Ok(())
     }
 
     /// Says that nothing more comes on a stream.
-    pub fn half_close(&mut self, stream: StreamId) -> Result<(), CaseFault>
+    pub fn half_close(&mut self, stream: StreamId) -> Result<(), Fault>
         requires { stream < 2 ^ 31 }
     {
         self.write(Outgoing::LastData, stream, Bytes::new())
     }
 
     /// Resets a stream.
-    pub fn reset(&mut self, stream: StreamId, code: u32) -> Result<(), CaseFault>
+    pub fn reset(&mut self, stream: StreamId, code: u32) -> Result<(), Fault>
         requires { stream < 2 ^ 31 }
     {
+        self.streams.cancel(stream);
+        self.credit.cut(stream);
         let content = Bytes::copy_from_slice(self.alloc, &code.to_be_bytes())?;
         self.write(Outgoing::Reset, stream, content)
     }
 
-    /// Waits until a PING was answered: until then the server has read all that was written.
-    pub fn ping(&mut self) -> Result<(), CaseFault> {
-        self.answered = false;
-        let content = Bytes::copy_from_slice(self.alloc, PING)?;
-        self.write(Outgoing::Ping, 0, content)?;
+    /// Waits until a PING was answered that is sent now: until then the server has read all that was written.
+    pub fn ping(&mut self) -> Result<(), Fault> {
+        self.wait_for_answer()?;
+        self.ask()?;
+        self.wait_for_answer()
+    }
+
+    /// Waits until no PING is unanswered.
+    fn wait_for_answer(&mut self) -> Result<(), Fault> {
+        self.awaited = Awaited::Ping;
         for _ in 0..u64::MAX {
-            if self.answered {
+            if !self.pings.is_open() {
                 return Ok(());
             }
             self.read_frame()?;
         }
-        Err(CaseFault::StreamFailed)
+        Err(self.silence(Silence::Stalled, Progress::NONE))
+    }
+
+    /// Sends a PING.
+    pub(crate) fn ask(&mut self) -> Result<(), Fault> {
+        let bytes = self.pings.begin();
+        let content = Bytes::copy_from_slice(self.alloc, &bytes)?;
+        self.write(Outgoing::Ping, 0, content)
     }
 
     /// What comes next on a stream.
-    pub fn receive(&mut self, stream: StreamId) -> Result<Arrival, CaseFault> {
+    pub fn receive(&mut self, stream: StreamId) -> Result<Arrival, Fault> {
         for _ in 0..u64::MAX {
             match self.arrived.pop_front() {
                 Some(arrival) => {
@@ -174,14 +230,25 @@ impl<S: ConnRead + ConnWrite> Connection<S> {
                         return Ok(arrival);
                     }
                 }
-                None => self.read_frame()?,
+                None => {
+                    self.awaited = self.awaited_on(stream);
+                    self.read_frame()?;
+                }
             }
         }
-        Err(CaseFault::StreamFailed)
+        Err(self.silence(Silence::Stalled, Progress::NONE))
+    }
+
+    /// What a stream's response lacks.
+    fn awaited_on(&self, stream: StreamId) -> Awaited {
+        match self.streams.find(stream) {
+            Some((Phase::Answering, bytes)) => Awaited::Trailers(stream, bytes),
+            _ => Awaited::Head(stream),
+        }
     }
 
     /// How many bytes of DATA may be written in one frame, once some may.
-    fn room(&mut self, stream: StreamId) -> Result<usize, CaseFault>
+    fn room(&mut self, stream: StreamId) -> Result<usize, Fault>
         ensures some { IfOk result (λ room. 0 < room) }
         ensures few { IfOk result (λ room. room ≤ 16384) }
     {
@@ -192,157 +259,100 @@ impl<S: ConnRead + ConnWrite> Connection<S> {
             }
             self.read_frame()?;
         }
-        Err(CaseFault::StreamFailed)
+        Err(self.silence(Silence::Stalled, Progress::NONE))
     }
 
-    /// Reads a frame, and keeps what it brings on a stream.
-    fn read_frame(&mut self) -> Result<(), CaseFault> {
-        let frame = self.next_frame()?;
-        if let Some(arrival) = self.take(frame)? {
-            self.arrived.push_back(arrival)?;
+    /// Reads on for a short while, until two PINGs at most were answered: nothing more may come on the streams that
+    /// have ended, and the client's SETTINGS have to be acknowledged by then. The server may end the connection
+    /// meanwhile.
+    pub fn finish(&mut self) -> Result<(), Fault> {
+        match self.settle() {
+            Err(Fault::Silence(silence)) if silence.is_end() => match self.cause_of(silence) {
+                Fault::Violation(violation) => Err(Fault::Violation(violation)),
+                _ => Ok(()),
+            },
+            answer => answer,
         }
-        Ok(())
+    }
+
+    fn settle(&mut self) -> Result<(), Fault> {
+        self.ping()?;
+        if !self.is_acknowledged {
+            self.ping()?;
+        }
+        if self.is_acknowledged {
+            Ok(())
+        } else {
+            Err(Fault::Violation(Violation::SettingsUnacknowledged))
+        }
+    }
+
+    /// What the server said before a write failed, where that is why: GOAWAY with an error, or what broke a rule.
+    pub fn cause_of(&mut self, unwritten: SilenceFault) -> Fault {
+        for _ in 0..u64::MAX {
+            match self.read_frame() {
+                Ok(()) => {}
+                Err(Fault::Violation(violation)) => return Fault::Violation(violation),
+                Err(_) => return Fault::Silence(unwritten),
+            }
+        }
+        Fault::Silence(unwritten)
     }
 
     /// The next frame.
-    fn next_frame(&mut self) -> Result<Frame, CaseFault> {
-        let mut piece = [0u8; 16384];
-        for _ in 0..u64::MAX {
-            if let Some(answer) = self.reader.next() {
-                return Ok(answer?);
+    pub(crate) fn next_frame(&mut self) -> Result<Frame, Fault> {
+        match self.input.next(&mut self.device) {
+            Ok(frame) => Ok(frame),
+            Err(InputFault::Ended(progress)) => Err(self.silence(Silence::Closed, progress)),
+            Err(InputFault::Failed(progress)) => {
+                let how = self.how_it_fell_silent();
+                Err(self.silence(how, progress))
             }
-            let count = self.device.read(&mut piece)?;
-            if count == 0 {
-                return Err(CaseFault::StreamFailed);
-            }
-            self.reader.feed(&piece[..count])?;
-        }
-        Err(CaseFault::StreamFailed)
-    }
-
-    /// What a frame brings on a stream.
-    fn take(&mut self, frame: Frame) -> Result<Option<Arrival>, CaseFault> {
-        match frame.head.kind {
-            FrameKind::Data => Ok(Some(self.data(frame)?)),
-            FrameKind::Headers => Ok(Some(self.headers(&frame)?)),
-            FrameKind::RstStream => Ok(Some(Arrival {
-                stream: frame.head.stream,
-                content: Content::Reset(number_at(frame.content.as_slice(), 0)),
-                last: true,
-            })),
-            FrameKind::Settings => self.settings(&frame),
-            FrameKind::Ping => self.pinged(frame),
-            FrameKind::GoAway => match number_at(frame.content.as_slice(), 4) {
-                0 => Ok(None),
-                code => {
-                    self.goaway = Some(code);
-                    Err(CaseFault::Connection)
-                }
-            },
-            FrameKind::WindowUpdate => self.credited(&frame),
-            FrameKind::PushPromise | FrameKind::Continuation => Err(CaseFault::Connection),
-            FrameKind::Priority | FrameKind::Unknown(_) => Ok(None),
+            Err(InputFault::Rule(violation)) => Err(Fault::from(violation)),
+            Err(InputFault::OutOfMemory) => Err(Fault::OutOfMemory),
         }
     }
 
-    /// DATA, whose bytes are given back at once.
-    fn data(&mut self, frame: Frame) -> Result<Arrival, CaseFault> {
-        let Frame { head, content } = frame;
-        let last = head.flags.contains(Flags::END_STREAM);
-        self.give_back(0, head.length)?;
-        if !last && head.stream < 0x8000_0000 {
-            self.give_back(head.stream, head.length)?;
+    /// Why a read failed. A connection that stands takes a PING still.
+    fn how_it_fell_silent(&mut self) -> Silence {
+        let Ok(content) = Bytes::copy_from_slice(self.alloc, &[0; 8]) else {
+            return Silence::Broken;
+        };
+        if self.write(Outgoing::Ping, 0, content).is_ok() {
+            Silence::Stalled
+        } else {
+            Silence::Broken
         }
-        Ok(Arrival {
-            stream: head.stream,
-            content: Content::Data(content),
-            last,
+    }
+
+    /// That nothing more comes, with what was waited for.
+    pub(crate) fn silence(&self, how: Silence, progress: Progress) -> Fault {
+        Fault::Silence(SilenceFault {
+            how,
+            awaited: self.missing(how),
+            progress,
+            goaway: self.goaway,
         })
     }
 
-    /// Gives credit for bytes that came.
-    fn give_back(&mut self, stream: StreamId, count: u32) -> Result<(), CaseFault>
-        requires { stream < 2 ^ 31 }
-    {
-        if count == 0 {
-            return Ok(());
-        }
-        let content = Bytes::copy_from_slice(self.alloc, &count.to_be_bytes())?;
-        self.write(Outgoing::Credit, stream, content)
-    }
-
-    /// A header block, with the frames that go on with it.
-    fn headers(&mut self, frame: &Frame) -> Result<Arrival, CaseFault>
-        requires { frame.now.head.kind ≡ Headers }
-    {
-        if frame.content.len() > MAX_PAYLOAD as usize {
-            return Err(CaseFault::Connection);
-        }
-        let mut block = HeaderBlock::begin(self.alloc, frame)?;
-        for _ in 0..u64::MAX {
-            if block.is_whole() {
-                let fields = self.decoder.block(block.as_slice())?;
-                return Ok(Arrival {
-                    stream: frame.head.stream,
-                    content: Content::Fields(fields),
-                    last: frame.head.flags.contains(Flags::END_STREAM),
-                });
+    /// What is missing. That SETTINGS never came, or that a PING isn't acknowledged, goes before what a response lacks.
+    fn missing(&self, how: Silence) -> Awaited {
+        match self.awaited {
+            Awaited::Head(_) | Awaited::Trailers(_, _) | Awaited::Ping if !self.has_begun => {
+                Awaited::Settings
             }
-            let next = self.next_frame()?;
-            block.add(&next)?;
+            Awaited::Head(_) | Awaited::Trailers(_, _)
+                if how == Silence::Stalled && self.pings.is_open() => { Awaited::Ping }
+            awaited => awaited,
         }
-        Err(CaseFault::Connection)
     }
 
-    /// The server's SETTINGS hold from now on, and are acknowledged.
-    fn settings(&mut self, frame: &Frame) -> Result<Option<Arrival>, CaseFault> {
-        if frame.head.flags.contains(Flags::ACK) {
-            return Ok(None);
-        }
-        if frame.content.len() % 6 != 0 {
-            return Err(CaseFault::Connection);
-        }
-        let settings = read_settings(self.alloc, frame.content.as_slice())?;
-        for setting in settings.as_slice() {
-            match *setting {
-                PeerSetting::TableSize(size) => self.encoder.limit(size),
-                PeerSetting::WindowSize(size) => self.windows.initial(size)?,
-            }
-        }
-        self.write(Outgoing::SettingsAck, 0, Bytes::new())?;
-        Ok(None)
+    fn unwritten(&self) -> Fault {
+        self.silence(Silence::Unwritten, Progress::NONE)
     }
 
-    /// PING is answered; what answers the client's own is noted.
-    fn pinged(&mut self, frame: Frame) -> Result<Option<Arrival>, CaseFault> {
-        let Frame { head, content } = frame;
-        if head.flags.contains(Flags::ACK) {
-            self.answered = true;
-        } else {
-            self.write(Outgoing::PingAck, 0, content)?;
-        }
-        Ok(None)
+    /// Sets what is waited for.
+    pub(crate) fn await_next(&mut self, awaited: Awaited) {
+        self.awaited = awaited;
     }
-
-    /// More may be written.
-    fn credited(&mut self, frame: &Frame) -> Result<Option<Arrival>, CaseFault> {
-        let content = frame.content.as_slice();
-        if content.len() != 4 {
-            return Err(CaseFault::Connection);
-        }
-        match self.windows.credit(frame.head.stream, increment(content)) {
-            Ok(()) | Err(WindowFault::Unknown) => Ok(None),
-            Err(fault) => Err(CaseFault::from(fault)),
-        }
-    }
-}
-
-/// The number of four bytes that begins there, or 0 where there are none.
-fn number_at(bytes: &[u8], at: usize) -> u32
-    requires { at < 16 }
-{
-    if bytes.len() < at + 4 {
-        return 0;
-    }
-    u32::from_be_bytes([bytes[at], bytes[at + 1], bytes[at + 2], bytes[at + 3]])
 }

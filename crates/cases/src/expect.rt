@@ -1,74 +1,37 @@
-//! What came of a call, compared with what was wanted. Where they differ, a line of the notes says both.
+//! What came of a call, compared with what was wanted.
 
 use crate::call::Call;
-use crate::fault::CaseFault;
+use crate::fault::Fault;
+use crate::fields::first_value;
+use crate::figures::shown;
 use crate::method::{INITIAL_VALUE, TRAILING_VALUE};
+use crate::mismatch::{EchoFault, ReplyFault, StatusFault, Wanted};
 use bytes::Bytes;
 use callhead::{read_bin_values, read_status};
 use lists::Field;
 use std::alloc::{AllocError, Global};
-use testproto::{Message, SimpleResponse, StreamingInputCallResponse};
+use testproto::{Message, ProtoFault, SimpleResponse, StreamingInputCallResponse};
 
-/// Says what was wanted and what came.
-pub fn note(notes: &mut String, wanted: &str, came: &str) -> Result<(), AllocError> {
-    notes.push_str("wanted ")?;
-    notes.push_str(wanted)?;
-    notes.push_str(", came ")?;
-    notes.push_str(came)?;
-    notes.push_str("\n")
-}
-
-/// Says what came where a case was ended before it could be compared: by the connection, or by what is no message.
-pub fn note_end(
-    alloc: Global,
-    fault: CaseFault,
-    goaway: Option<u32>,
-    notes: &mut String,
-) -> Result<(), AllocError> {
-    match (fault, goaway) {
-        (CaseFault::Connection, Some(code)) => {
-            let came = format!(in alloc; "GOAWAY {code}")?;
-            note(notes, "an answer", came.as_str())
-        }
-        (CaseFault::Connection, None) => note(
-            notes,
-            "frames and header blocks",
-            "what is none, or is out of place",
-        ),
-        (CaseFault::StreamFailed, _) => note(
-            notes,
-            "an answer",
-            "the end of the connection, or nothing in time",
-        ),
-        (CaseFault::WrongReply, _) => note(notes, "a message", "what is none, or too many"),
-        _ => Ok(()),
-    }
-}
-
-/// The call ended with this status. No text is wanted where none is given.
-pub fn expect_status(
-    alloc: Global,
-    call: &Call,
-    code: u32,
-    text: Option<&str>,
-    notes: &mut String,
-) -> Result<(), CaseFault> {
-    let wanted = status_text(alloc, code, text.unwrap_or(""))?;
+/// The call ended with this status.
+pub fn expect_status(alloc: Global, call: &Call, wanted: Wanted) -> Result<(), Fault> {
     if let Some(reset) = call.reset {
-        let came = format!(in alloc; "RST_STREAM {reset}")?;
-        note(notes, wanted.as_str(), came.as_str())?;
-        return Err(CaseFault::WrongStatus);
+        return Err(Fault::Status(StatusFault::Reset(reset, wanted)));
     }
-    let Some((came, said)) = read_status(alloc, call.trailers.as_slice())? else {
-        note(notes, wanted.as_str(), "no status")?;
-        return Err(CaseFault::WrongStatus);
+    let trailers = call.trailers.as_slice();
+    if trailers.is_empty() {
+        return Err(Fault::Status(StatusFault::NoTrailers(wanted)));
+    }
+    let Some(value) = first_value(trailers, b"grpc-status") else {
+        return Err(Fault::Status(StatusFault::NoStatus(wanted)));
     };
-    if came == code && is_wanted(said.as_str(), text) {
+    let Some((code, text)) = read_status(alloc, trailers)? else {
+        let value = shown(alloc, value)?;
+        return Err(Fault::Status(StatusFault::NotStatus(value, wanted)));
+    };
+    if code == wanted.code && is_wanted(text.as_str(), wanted.text) {
         return Ok(());
     }
-    let came = status_text(alloc, came, said.as_str())?;
-    note(notes, wanted.as_str(), came.as_str())?;
-    Err(CaseFault::WrongStatus)
+    Err(Fault::Status(StatusFault::Other(code, text, wanted)))
 }
 
 /// Whether a text is the one that is wanted, if one is.
@@ -79,133 +42,134 @@ fn is_wanted(said: &str, text: Option<&str>) -> bool {
     }
 }
 
-fn status_text(alloc: Global, code: u32, text: &str) -> Result<String, AllocError> {
-    format!(in alloc; "status {code} {text:?}")
-}
-
 /// The replies are as many as these lengths, and the body of each has its length and zero bytes alone.
-pub fn expect_bodies(
-    alloc: Global,
-    replies: &[Bytes],
-    lengths: &[usize],
-    notes: &mut String,
-) -> Result<(), CaseFault> {
-    expect_count(alloc, replies, lengths.len(), notes)?;
-    for (reply, wanted) in replies.iter().zip(lengths) {
-        expect_body(alloc, reply, *wanted, notes)?;
+pub fn expect_bodies(alloc: Global, replies: &[Bytes], lengths: &[usize]) -> Result<(), Fault> {
+    expect_count(replies, lengths.len())?;
+    for (place, (reply, wanted)) in replies.iter().zip(lengths).enumerate() {
+        expect_body(alloc, place.saturating_add(1), reply, *wanted)?;
     }
     Ok(())
 }
 
 /// The body of a reply has this length, and zero bytes alone.
-pub fn expect_body(
-    alloc: Global,
-    reply: &Bytes,
-    wanted: usize,
-    notes: &mut String,
-) -> Result<(), CaseFault> {
-    let response = SimpleResponse::decode(alloc, reply.as_slice())?;
+pub fn expect_body(alloc: Global, reply: usize, bytes: &Bytes, wanted: usize) -> Result<(), Fault> {
+    let length = bytes.len();
+    let response = match SimpleResponse::decode(alloc, bytes.as_slice()) {
+        Ok(response) => response,
+        Err(ProtoFault::OutOfMemory) => return Err(Fault::OutOfMemory),
+        Err(fault) => return Err(Fault::Reply(ReplyFault::NoMessage {
+            reply,
+            length,
+            fault,
+        })),
+    };
     match &response.payload {
-        Some(payload) => expect_zeros(alloc, payload.body.as_slice(), wanted, notes),
-        None => expect_zeros(alloc, &[], wanted, notes),
+        Some(payload) => expect_zeros(reply, payload.body.as_slice(), wanted),
+        None => expect_zeros(reply, &[], wanted),
     }
 }
 
 /// A body has this length, and zero bytes alone.
-fn expect_zeros(
-    alloc: Global,
-    body: &[u8],
-    wanted: usize,
-    notes: &mut String,
-) -> Result<(), CaseFault> {
-    if body.len() == wanted && body.iter().all(|byte| *byte == 0) {
-        return Ok(());
-    }
+fn expect_zeros(reply: usize, body: &[u8], wanted: usize) -> Result<(), Fault> {
     let came = body.len();
-    let wanted = format!(in alloc; "a body of {wanted} zero bytes")?;
-    let came = format!(in alloc; "one of {came} bytes")?;
-    note(notes, wanted.as_str(), came.as_str())?;
-    Err(CaseFault::WrongReply)
+    if came != wanted {
+        return Err(Fault::Reply(ReplyFault::Length {
+            reply,
+            came,
+            wanted,
+        }));
+    }
+    match body
+        .iter()
+        .copied()
+        .enumerate()
+        .find(|(_, byte)| *byte != 0)
+    {
+        Some((at, byte)) => Err(Fault::Reply(ReplyFault::Byte { reply, at, byte })),
+        None => Ok(()),
+    }
 }
 
 /// There are so many replies.
-pub fn expect_count(
-    alloc: Global,
-    replies: &[Bytes],
-    wanted: usize,
-    notes: &mut String,
-) -> Result<(), CaseFault> {
+pub fn expect_count(replies: &[Bytes], wanted: usize) -> Result<(), Fault> {
     let came = replies.len();
     if came == wanted {
         return Ok(());
     }
-    let wanted = format!(in alloc; "{wanted} replies")?;
-    let came = format!(in alloc; "{came}")?;
-    note(notes, wanted.as_str(), came.as_str())?;
-    Err(CaseFault::WrongReply)
+    Err(Fault::Reply(ReplyFault::Count { came, wanted }))
 }
 
 /// There is one reply, and it is empty.
-pub fn expect_empty(alloc: Global, replies: &[Bytes], notes: &mut String) -> Result<(), CaseFault> {
-    expect_count(alloc, replies, 1, notes)?;
+pub fn expect_empty(replies: &[Bytes]) -> Result<(), Fault> {
+    expect_count(replies, 1)?;
     for reply in replies {
         let came = reply.len();
         if came != 0 {
-            let came = format!(in alloc; "one of {came} bytes")?;
-            note(notes, "an empty reply", came.as_str())?;
-            return Err(CaseFault::WrongReply);
+            return Err(Fault::Reply(ReplyFault::NotEmpty { came }));
         }
     }
     Ok(())
 }
 
 /// There is one reply, and its sum is this.
-pub fn expect_sum(
-    alloc: Global,
-    replies: &[Bytes],
-    wanted: i32,
-    notes: &mut String,
-) -> Result<(), CaseFault> {
-    expect_count(alloc, replies, 1, notes)?;
+pub fn expect_sum(alloc: Global, replies: &[Bytes], wanted: i32) -> Result<(), Fault> {
+    expect_count(replies, 1)?;
     for reply in replies {
-        let response = StreamingInputCallResponse::decode(alloc, reply.as_slice())?;
+        let response = match StreamingInputCallResponse::decode(alloc, reply.as_slice()) {
+            Ok(response) => response,
+            Err(ProtoFault::OutOfMemory) => return Err(Fault::OutOfMemory),
+            Err(fault) => {
+                let length = reply.len();
+                return Err(Fault::Reply(ReplyFault::NoMessage {
+                    reply: 1,
+                    length,
+                    fault,
+                }));
+            }
+        };
         let came = response.aggregated_payload_size;
         if came != wanted {
-            let wanted = format!(in alloc; "the sum {wanted}")?;
-            let came = format!(in alloc; "{came}")?;
-            note(notes, wanted.as_str(), came.as_str())?;
-            return Err(CaseFault::WrongReply);
+            return Err(Fault::Reply(ReplyFault::Sum { came, wanted }));
         }
     }
     Ok(())
 }
 
 /// Both values came back, the one in the head of the response, the other in its trailers.
-pub fn expect_echoes(alloc: Global, call: &Call, notes: &mut String) -> Result<(), CaseFault> {
-    if !call.head.iter().any(is_initial_echo) {
-        note(notes, "x-grpc-test-echo-initial in the head", "none")?;
-        return Err(CaseFault::WrongMetadata);
+pub fn expect_echoes(alloc: Global, call: &Call) -> Result<(), Fault> {
+    let head = call.head.as_slice();
+    if !head.iter().any(is_initial_echo) {
+        let came = shown_value(alloc, head, INITIAL)?;
+        return Err(Fault::Echo(EchoFault::Initial(came)));
     }
-    for field in call.trailers.as_slice() {
+    let trailers = call.trailers.as_slice();
+    for field in trailers {
         if is_trailing_echo(alloc, field)? {
             return Ok(());
         }
     }
-    note(
-        notes,
-        "x-grpc-test-echo-trailing-bin in the trailers",
-        "none",
-    )?;
-    Err(CaseFault::WrongMetadata)
+    let came = shown_value(alloc, trailers, TRAILING)?;
+    Err(Fault::Echo(EchoFault::Trailing(came)))
 }
 
+/// The front of the first value that fields have under a name.
+fn shown_value(alloc: Global, fields: &[Field], name: &[u8]) -> Result<Option<String>, AllocError> {
+    match first_value(fields, name) {
+        Some(value) => Ok(Some(shown(alloc, value)?)),
+        None => Ok(None),
+    }
+}
+
+const INITIAL: &[u8] = b"x-grpc-test-echo-initial";
+
+const TRAILING: &[u8] = b"x-grpc-test-echo-trailing-bin";
+
 fn is_initial_echo(field: &Field) -> bool {
-    field.name.as_slice() == b"x-grpc-test-echo-initial".as_slice()
-        && field.value.as_slice() == INITIAL_VALUE.as_bytes()
+    field.name.as_slice() == INITIAL && field.value.as_slice() == INITIAL_VALUE.as_bytes()
 }
 
 fn is_trailing_echo(alloc: Global, field: &Field) -> Result<bool, AllocError> {
-    if field.name.as_slice() != b"x-grpc-test-echo-trailing-bin".as_slice() {
+    if field.name.as_slice() != TRAILING {
         return Ok(false);
     }
     let Some(values) = read_bin_values(alloc, field.value.as_slice())? else {

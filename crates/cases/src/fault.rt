@@ -1,21 +1,24 @@
 //! Why a case fails.
 
 ghost use Rattle.std.specs.Prelude.{◌≡◌};
-ghost use Rattle.cases.specs.Faults.{code_of};
+ghost use Rattle.cases.specs.Faults.{code_of, number_of};
+ghost use Rattle.cases.specs.declared.fault.CaseFault.TheVariants.{OutOfMemory};
 
-use device::DeviceFault;
-use flow::WindowFault;
-use h2frame::FrameFault;
-use hpack_codec::HpackFault;
-use lpm::LpmFault;
-use session::{FragmentFault, SettingsFault};
+use crate::credit::WindowViolation;
+use crate::frame_rules::FrameViolation;
+use crate::mismatch::{EchoFault, ReplyFault, StatusFault};
+use crate::pings::PingViolation;
+use crate::response::StreamViolation;
+use crate::settings::SettingViolation;
+use crate::silence::SilenceFault;
+use crate::violation::{BlockViolation, Violation};
 use std::alloc::{AllocError, AllocFailed};
-use testproto::ProtoFault;
+use std::fmt;
 
-/// Why a case fails.
+/// Why a case fails, as programs tell it apart by its number.
 #[derive(Clone, Copy, Debug, PartialEq, Eq)]
 pub enum CaseFault {
-    /// The server ended the connection with an error, or sent what is no frame or no header block.
+    /// The server ended the connection with an error, or broke a rule of HTTP/2 or of gRPC over HTTP/2.
     Connection,
     /// A call ended with another status, or with none.
     WrongStatus,
@@ -25,7 +28,7 @@ pub enum CaseFault {
     WrongMetadata,
     /// No case has this name.
     UnknownCase,
-    /// The connection could not be made, or a read or a write of it failed.
+    /// The connection could not be made, or it failed, or nothing came in time.
     StreamFailed,
     /// No memory was to be had.
     OutOfMemory,
@@ -60,71 +63,121 @@ impl<T: Drop> From<AllocFailed<T>> for CaseFault {
     }
 }
 
-impl From<DeviceFault> for CaseFault {
-    fn from(_fault: DeviceFault) -> CaseFault {
-        CaseFault::StreamFailed
-    }
+/// Why a case fails, with what came and what was wanted.
+#[derive(Drop)]
+pub enum Fault {
+    Violation(Violation),
+    Status(StatusFault),
+    Reply(ReplyFault),
+    Echo(EchoFault),
+    UnknownCase,
+    Silence(SilenceFault),
+    /// A frame of the client's own can't be written: it is over 16,384 bytes, or its stream was opened before.
+    Unwritable,
+    OutOfMemory,
 }
 
-impl From<FrameFault> for CaseFault {
-    fn from(fault: FrameFault) -> CaseFault {
-        match fault {
-            FrameFault::OutOfMemory => CaseFault::OutOfMemory,
-            _ => CaseFault::Connection,
+impl Fault {
+    /// The fault as programs tell it apart.
+    pub fn case_fault(&self) -> CaseFault
+        ensures { result ≡ number_of self.now }
+    {
+        match self {
+            Fault::Violation(_) => CaseFault::Connection,
+            Fault::Status(_) => CaseFault::WrongStatus,
+            Fault::Reply(_) => CaseFault::WrongReply,
+            Fault::Echo(_) => CaseFault::WrongMetadata,
+            Fault::UnknownCase => CaseFault::UnknownCase,
+            Fault::Silence(_) => CaseFault::StreamFailed,
+            Fault::Unwritable => CaseFault::Connection,
+            Fault::OutOfMemory => CaseFault::OutOfMemory,
         }
     }
 }
 
-impl From<FragmentFault> for CaseFault {
-    fn from(fault: FragmentFault) -> CaseFault {
-        match fault {
-            FragmentFault::OutOfMemory => CaseFault::OutOfMemory,
-            _ => CaseFault::Connection,
+impl fmt::Display for Fault {
+    fn fmt<W: fmt::Write>(&self, f: &mut fmt::Formatter<W>) -> fmt::Result {
+        match self {
+            Fault::Violation(violation) => write!(f, "{violation}"),
+            Fault::Status(fault) => write!(f, "{fault}"),
+            Fault::Reply(fault) => write!(f, "{fault}"),
+            Fault::Echo(fault) => write!(f, "{fault}"),
+            Fault::UnknownCase => write!(f, "no case has this name"),
+            Fault::Silence(fault) => write!(f, "{fault}"),
+            Fault::Unwritable => write!(f, "the client has a frame that it can't write"),
+            Fault::OutOfMemory => write!(f, "out of memory"),
         }
     }
 }
 
-impl From<SettingsFault> for CaseFault {
-    fn from(fault: SettingsFault) -> CaseFault {
-        match fault {
-            SettingsFault::OutOfMemory => CaseFault::OutOfMemory,
-            _ => CaseFault::Connection,
-        }
+impl From<AllocError> for Fault {
+    fn from(_error: AllocError) -> Fault {
+        Fault::OutOfMemory
     }
 }
 
-impl From<HpackFault> for CaseFault {
-    fn from(fault: HpackFault) -> CaseFault {
-        match fault {
-            HpackFault::OutOfMemory => CaseFault::OutOfMemory,
-            _ => CaseFault::Connection,
-        }
+impl<T: Drop> From<AllocFailed<T>> for Fault {
+    fn from(_error: AllocFailed<T>) -> Fault {
+        Fault::OutOfMemory
     }
 }
 
-impl From<WindowFault> for CaseFault {
-    fn from(fault: WindowFault) -> CaseFault {
-        match fault {
-            WindowFault::OutOfMemory => CaseFault::OutOfMemory,
-            _ => CaseFault::Connection,
-        }
+impl From<Violation> for Fault {
+    fn from(violation: Violation) -> Fault {
+        Fault::Violation(violation)
     }
 }
 
-impl From<LpmFault> for CaseFault {
-    fn from(fault: LpmFault) -> CaseFault {
-        match fault {
-            LpmFault::OutOfMemory => CaseFault::OutOfMemory,
-            _ => CaseFault::WrongReply,
-        }
+impl From<FrameViolation> for Fault {
+    fn from(violation: FrameViolation) -> Fault {
+        Fault::Violation(Violation::Frame(violation))
     }
 }
 
-impl From<ProtoFault> for CaseFault {
-    fn from(fault: ProtoFault) -> CaseFault {
-        match fault {
-            ProtoFault::OutOfMemory => CaseFault::OutOfMemory,
-            _ => CaseFault::WrongReply,
-        }
+impl From<StreamViolation> for Fault {
+    fn from(violation: StreamViolation) -> Fault {
+        Fault::Violation(Violation::Stream(violation))
+    }
+}
+
+impl From<WindowViolation> for Fault {
+    fn from(violation: WindowViolation) -> Fault {
+        Fault::Violation(Violation::Window(violation))
+    }
+}
+
+impl From<SettingViolation> for Fault {
+    fn from(violation: SettingViolation) -> Fault {
+        Fault::Violation(Violation::Setting(violation))
+    }
+}
+
+impl From<PingViolation> for Fault {
+    fn from(violation: PingViolation) -> Fault {
+        Fault::Violation(Violation::Ping(violation))
+    }
+}
+
+impl From<BlockViolation> for Fault {
+    fn from(violation: BlockViolation) -> Fault {
+        Fault::Violation(Violation::Block(violation))
+    }
+}
+
+impl From<StatusFault> for Fault {
+    fn from(fault: StatusFault) -> Fault {
+        Fault::Status(fault)
+    }
+}
+
+impl From<ReplyFault> for Fault {
+    fn from(fault: ReplyFault) -> Fault {
+        Fault::Reply(fault)
+    }
+}
+
+impl From<EchoFault> for Fault {
+    fn from(fault: EchoFault) -> Fault {
+        Fault::Echo(fault)
     }
 }

@@ -1,24 +1,43 @@
 //! The test cases of gRPC's interop tests, as a client (gRPC, "Interoperability Test Case Descriptions").
 //!
 //! `run_case` runs one of fourteen over a connection that was just made: it calls the methods of
-//! `grpc.testing.TestService`, and compares what comes back. Where a case fails, its notes say what was wanted and what
-//! came.
+//! `grpc.testing.TestService`, and compares what comes back. It is strict: a case fails too where the server's side of
+//! the connection breaks a rule of HTTP/2 (RFC 9113, RFC 7541) or of gRPC over HTTP/2 that a client can see. Its notes
+//! then have one line: the case, what came with its figures, what was wanted, and the section of the standard.
 //!
-//! Read `fault`, `method` and `request` for what is asked; `outgoing` and `connection` for the client's side of HTTP/2;
-//! `call` for what comes back of one call; `expect` for what it is compared with; `case` and `runs` for the cases; `report`
-//! for all of them and what is printed.
+//! Read `fault` for the numbers of faults, and what stands behind each; `method` and `request` for what is asked. The
+//! client's side of HTTP/2, each rule with its enum and its text: `input` and `frame_rules` for frames by themselves,
+//! `response` and `streams` for their order on a stream, `fields` and `field_rules` for header fields, `settings`, `credit` for the windows
+//! of what is received, `pings`, and `violation` for the rest; `outgoing` for what is written; `connection` and `incoming`
+//! put them together; `silence` is for a server that says nothing more. Then `call` for what comes back of one call;
+//! `expect` for what it is compared with, and `mismatch` for how it differs; `case` and `runs` for the cases; `report` for all of them and what is printed;
+//! `figures` for how numbers and names are written.
 #![tactic(auto)]
 
 mod call;
 mod case;
 mod connection;
+mod credit;
 mod expect;
 mod fault;
+mod field_rules;
+mod fields;
+mod figures;
+mod frame_rules;
+mod incoming;
+mod input;
 mod method;
+mod mismatch;
 mod outgoing;
+mod pings;
 mod report;
 mod request;
+mod response;
 mod runs;
+mod settings;
+mod silence;
+mod streams;
+mod violation;
 
 pub use case::Case;
 pub use fault::CaseFault;

@@ -1,6 +1,7 @@
 //! The messages that are sent. All bodies are zero bytes.
 
-use crate::fault::CaseFault;
+use crate::fault::Fault;
+use crate::mismatch::Wanted;
 use std::alloc::{AllocError, Global};
 use testproto::{
     ByteList, EchoStatus, Message, ParameterList, Payload, ResponseParameters, SimpleRequest,
@@ -12,6 +13,16 @@ use testproto::{
 pub struct AskedStatus {
     pub code: i32,
     pub text: &'static str,
+}
+
+impl AskedStatus {
+    /// The status that the call has to end with: a code below 0 is none.
+    pub fn wanted(self) -> Wanted {
+        Wanted {
+            code: self.code.unsigned_abs(),
+            text: Some(self.text),
+        }
+    }
 }
 
 /// So many zero bytes.
@@ -44,7 +55,7 @@ pub fn simple_request(
     response_size: i32,
     body_len: usize,
     status: Option<AskedStatus>,
-) -> Result<Vec<u8>, CaseFault> {
+) -> Result<Vec<u8>, Fault> {
     let body = zeros(alloc, body_len)?;
     let request = SimpleRequest {
         response_type: 0,
@@ -56,7 +67,10 @@ pub fn simple_request(
         response_status: echo_status(status),
         expect_compressed: None,
     };
-    Ok(request.encode(alloc)?)
+    let Ok(bytes) = request.encode(alloc) else {
+        return Err(Fault::OutOfMemory);
+    };
+    Ok(bytes)
 }
 
 /// A request for a response of each of these sizes.
@@ -65,7 +79,7 @@ pub fn output_request(
     sizes: &[i32],
     body_len: usize,
     status: Option<AskedStatus>,
-) -> Result<Vec<u8>, CaseFault> {
+) -> Result<Vec<u8>, Fault> {
     let mut response_parameters = ParameterList::new(alloc);
     for size in sizes {
         response_parameters.push(ResponseParameters {
@@ -81,15 +95,21 @@ pub fn output_request(
         payload: payload(&body),
         response_status: echo_status(status),
     };
-    Ok(request.encode(alloc)?)
+    let Ok(bytes) = request.encode(alloc) else {
+        return Err(Fault::OutOfMemory);
+    };
+    Ok(bytes)
 }
 
 /// A part of what is summed up.
-pub fn input_request(alloc: Global, body_len: usize) -> Result<Vec<u8>, CaseFault> {
+pub fn input_request(alloc: Global, body_len: usize) -> Result<Vec<u8>, Fault> {
     let body = zeros(alloc, body_len)?;
     let request = StreamingInputCallRequest {
         payload: payload(&body),
         expect_compressed: None,
     };
-    Ok(request.encode(alloc)?)
+    let Ok(bytes) = request.encode(alloc) else {
+        return Err(Fault::OutOfMemory);
+    };
+    Ok(bytes)
 }

@@ -9,11 +9,13 @@ use crate::case::Case;
 use crate::connection::Connection;
 use crate::expect::{
     expect_bodies, expect_body, expect_count, expect_echoes, expect_empty, expect_status,
-    expect_sum, note, note_end,
+    expect_sum,
 };
-use crate::fault::CaseFault;
+use crate::fault::{CaseFault, Fault};
 use crate::method::{Asked, Method};
+use crate::mismatch::{ReplyFault, Wanted};
 use crate::request::{AskedStatus, input_request, output_request, simple_request};
+use crate::silence::Silence;
 use bytes::Bytes;
 use device::{ConnRead, ConnWrite};
 use h2frame::StreamId;
@@ -31,14 +33,21 @@ const LARGE_SIZE: i32 = 314_159;
 
 const LARGE_REPLY: usize = 314_159;
 
-/// Codes of statuses (gRPC, "Status codes and their use in gRPC").
-const OK: u32 = 0;
+/// The statuses that calls end with (gRPC, "Status codes and their use in gRPC").
+const OK: Wanted = Wanted {
+    code: 0,
+    text: None,
+};
 
-const UNKNOWN: u32 = 2;
+const DEADLINE_EXCEEDED: Wanted = Wanted {
+    code: 4,
+    text: None,
+};
 
-const DEADLINE_EXCEEDED: u32 = 4;
-
-const UNIMPLEMENTED: u32 = 12;
+const UNIMPLEMENTED: Wanted = Wanted {
+    code: 12,
+    text: None,
+};
 
 const PLAIN: AskedStatus = AskedStatus {
     code: 2,
@@ -51,7 +60,8 @@ const SPECIAL: AskedStatus = AskedStatus {
 };
 
 /// Runs the case with this name over a connection on which nothing was said. Where it fails, `notes` has a line that
-/// says what was wanted and what came. That a silent server is given up is the device's part: its reads fail then.
+/// names the case, and says what came and what was wanted. That a silent server is given up is the device's part: its
+/// reads fail then.
 pub fn run_case<S: ConnRead + ConnWrite + Drop>(
     alloc: Global,
     name: &str,
@@ -60,42 +70,61 @@ pub fn run_case<S: ConnRead + ConnWrite + Drop>(
 ) -> Result<(), CaseFault>
     ensures unknown { IsNoName name.now → result ≡ Err UnknownCase }
 {
-    let Some(case) = Case::named(name) else {
-        return Err(CaseFault::UnknownCase);
+    let Err(fault) = try_named(alloc, name, device) else {
+        return Ok(());
     };
-    let mut connection = Connection::new(alloc, device);
-    let ran = run(&mut connection, case, notes);
-    if let Err(fault) = ran {
-        if notes.is_empty() {
-            note_end(alloc, fault, connection.goaway, notes)?;
-        }
-    }
-    ran
+    let answer = Err(fault.case_fault());
+    // The number tells of the fault even where there is no memory for its line.
+    let _written = writeln!(notes, "{name}: {fault}");
+    answer
 }
 
-fn run<S: ConnRead + ConnWrite>(
+/// Runs the case with this name, if there is one.
+fn try_named<S: ConnRead + ConnWrite + Drop>(
+    alloc: Global,
+    name: &str,
+    device: S,
+) -> Result<(), Fault>
+    ensures unknown { IsNoName name.now → result ≡ Err Fault.UnknownCase }
+{
+    let Some(case) = Case::named(name) else {
+        return Err(Fault::UnknownCase);
+    };
+    let mut connection = Connection::new(alloc, device);
+    match run(&mut connection, case) {
+        Err(Fault::Silence(silence)) if silence.how == Silence::Unwritten => {
+            Err(connection.cause_of(silence))
+        }
+        answer => answer,
+    }
+}
+
+/// Runs a case, and reads on for a short while behind it.
+fn run<S: ConnRead + ConnWrite>(connection: &mut Connection<S>, case: Case) -> Result<(), Fault> {
+    connection.greet()?;
+    run_calls(connection, case)?;
+    connection.finish()
+}
+
+fn run_calls<S: ConnRead + ConnWrite>(
     connection: &mut Connection<S>,
     case: Case,
-    notes: &mut String,
-) -> Result<(), CaseFault> {
-    connection.greet()?;
+) -> Result<(), Fault> {
     match case {
-        Case::EmptyUnary => empty_unary(connection, notes),
-        Case::LargeUnary => large_unary(connection, notes),
-        Case::ClientStreaming => client_streaming(connection, notes),
-        Case::ServerStreaming => server_streaming(connection, notes),
-        Case::PingPong => ping_pong(connection, notes),
-        Case::EmptyStream => empty_stream(connection, notes),
-        Case::CustomMetadata => custom_metadata(connection, notes),
-        Case::StatusCodeAndMessage => status_code_and_message(connection, notes),
-        Case::SpecialStatusMessage => ask_status(connection, FIRST, SPECIAL, notes),
-        Case::UnimplementedMethod => unimplemented(connection, Method::UnimplementedCall, notes),
-        Case::UnimplementedService => {
-            unimplemented(connection, Method::UnimplementedService, notes)
-        }
+        Case::EmptyUnary => empty_unary(connection),
+        Case::LargeUnary => large_unary(connection),
+        Case::ClientStreaming => client_streaming(connection),
+        Case::ServerStreaming => server_streaming(connection),
+        Case::PingPong => ping_pong(connection),
+        Case::EmptyStream => empty_stream(connection),
+        Case::CustomMetadata => custom_metadata(connection),
+        Case::StatusCodeAndMessage => status_code_and_message(connection),
+        Case::SpecialStatusMessage => ask_status(connection, FIRST, SPECIAL),
+        Case::UnimplementedMethod => unimplemented(connection, Method::UnimplementedCall),
+        Case::UnimplementedService => unimplemented(connection, Method::UnimplementedService),
         Case::CancelAfterBegin => cancel_after_begin(connection),
-        Case::CancelAfterFirstResponse => cancel_after_first_response(connection, notes),
-        Case::TimeoutOnSleepingServer => timeout_on_sleeping_server(connection, notes),
+        Case::CancelAfterFirstResponse => cancel_after_first_response(connection),
+        Case::TimeoutOnSleepingServer => timeout_on_sleeping_server(connection),
     }
 }
 
@@ -104,38 +133,29 @@ fn ask<S: ConnRead + ConnWrite>(
     connection: &mut Connection<S>,
     method: Method,
     request: &[u8],
-) -> Result<(Call, Vec<Bytes>), CaseFault> {
+) -> Result<(Call, Vec<Bytes>), Fault> {
     let mut call = Call::begin(connection, FIRST, method, Asked::Nothing)?;
     call.send(connection, request, true)?;
     let replies = call.replies(connection)?;
     Ok((call, replies))
 }
 
-fn empty_unary<S: ConnRead + ConnWrite>(
-    connection: &mut Connection<S>,
-    notes: &mut String,
-) -> Result<(), CaseFault> {
+fn empty_unary<S: ConnRead + ConnWrite>(connection: &mut Connection<S>) -> Result<(), Fault> {
     let alloc = connection.alloc;
     let (call, replies) = ask(connection, Method::EmptyCall, &[])?;
-    expect_status(alloc, &call, OK, None, notes)?;
-    expect_empty(alloc, replies.as_slice(), notes)
+    expect_status(alloc, &call, OK)?;
+    expect_empty(replies.as_slice())
 }
 
-fn large_unary<S: ConnRead + ConnWrite>(
-    connection: &mut Connection<S>,
-    notes: &mut String,
-) -> Result<(), CaseFault> {
+fn large_unary<S: ConnRead + ConnWrite>(connection: &mut Connection<S>) -> Result<(), Fault> {
     let alloc = connection.alloc;
     let request = simple_request(alloc, LARGE_SIZE, LARGE_BODY, None)?;
     let (call, replies) = ask(connection, Method::UnaryCall, request.as_slice())?;
-    expect_status(alloc, &call, OK, None, notes)?;
-    expect_bodies(alloc, replies.as_slice(), &[LARGE_REPLY], notes)
+    expect_status(alloc, &call, OK)?;
+    expect_bodies(alloc, replies.as_slice(), &[LARGE_REPLY])
 }
 
-fn client_streaming<S: ConnRead + ConnWrite>(
-    connection: &mut Connection<S>,
-    notes: &mut String,
-) -> Result<(), CaseFault> {
+fn client_streaming<S: ConnRead + ConnWrite>(connection: &mut Connection<S>) -> Result<(), Fault> {
     let alloc = connection.alloc;
     let mut call = Call::begin(
         connection,
@@ -149,24 +169,16 @@ fn client_streaming<S: ConnRead + ConnWrite>(
     }
     call.half_close(connection)?;
     let replies = call.replies(connection)?;
-    expect_status(alloc, &call, OK, None, notes)?;
-    expect_sum(alloc, replies.as_slice(), 74_922, notes)
+    expect_status(alloc, &call, OK)?;
+    expect_sum(alloc, replies.as_slice(), 74_922)
 }
 
-fn server_streaming<S: ConnRead + ConnWrite>(
-    connection: &mut Connection<S>,
-    notes: &mut String,
-) -> Result<(), CaseFault> {
+fn server_streaming<S: ConnRead + ConnWrite>(connection: &mut Connection<S>) -> Result<(), Fault> {
     let alloc = connection.alloc;
     let request = output_request(alloc, &[31_415, 9, 2_653, 58_979], 0, None)?;
     let (call, replies) = ask(connection, Method::StreamingOutputCall, request.as_slice())?;
-    expect_status(alloc, &call, OK, None, notes)?;
-    expect_bodies(
-        alloc,
-        replies.as_slice(),
-        &[31_415, 9, 2_653, 58_979],
-        notes,
-    )
+    expect_status(alloc, &call, OK)?;
+    expect_bodies(alloc, replies.as_slice(), &[31_415, 9, 2_653, 58_979])
 }
 
 /// Sends a request for one reply of this size, and reads the reply.
@@ -176,83 +188,63 @@ fn exchange<S: ConnRead + ConnWrite>(
     size: i32,
     reply_len: usize,
     body_len: usize,
-    notes: &mut String,
-) -> Result<(), CaseFault> {
+) -> Result<(), Fault> {
     let alloc = connection.alloc;
     let request = output_request(alloc, &[size], body_len, None)?;
     call.send(connection, request.as_slice(), false)?;
     let Some(reply) = call.reply(connection)? else {
-        note(notes, "a reply", "none")?;
-        return Err(CaseFault::WrongReply);
+        return Err(Fault::Reply(ReplyFault::Ended {
+            reply: call.count.saturating_add(1),
+        }));
     };
-    expect_body(alloc, &reply, reply_len, notes)
+    expect_body(alloc, call.count, &reply, reply_len)
 }
 
 /// Half-closes, and expects no further reply.
 fn finish<S: ConnRead + ConnWrite>(
     connection: &mut Connection<S>,
     call: &mut Call,
-    notes: &mut String,
-) -> Result<(), CaseFault> {
+) -> Result<(), Fault> {
     let alloc = connection.alloc;
     call.half_close(connection)?;
     let replies = call.replies(connection)?;
-    expect_status(alloc, call, OK, None, notes)?;
-    expect_count(alloc, replies.as_slice(), 0, notes)
+    expect_status(alloc, call, OK)?;
+    expect_count(replies.as_slice(), 0)
 }
 
-fn ping_pong<S: ConnRead + ConnWrite>(
-    connection: &mut Connection<S>,
-    notes: &mut String,
-) -> Result<(), CaseFault> {
+fn ping_pong<S: ConnRead + ConnWrite>(connection: &mut Connection<S>) -> Result<(), Fault> {
     let mut call = Call::begin(connection, FIRST, Method::FullDuplexCall, Asked::Nothing)?;
-    exchange(connection, &mut call, 31_415, 31_415, 27_182, notes)?;
-    exchange(connection, &mut call, 9, 9, 8, notes)?;
-    exchange(connection, &mut call, 2_653, 2_653, 1_828, notes)?;
-    exchange(connection, &mut call, 58_979, 58_979, 45_904, notes)?;
-    finish(connection, &mut call, notes)
+    exchange(connection, &mut call, 31_415, 31_415, 27_182)?;
+    exchange(connection, &mut call, 9, 9, 8)?;
+    exchange(connection, &mut call, 2_653, 2_653, 1_828)?;
+    exchange(connection, &mut call, 58_979, 58_979, 45_904)?;
+    finish(connection, &mut call)
 }
 
-fn empty_stream<S: ConnRead + ConnWrite>(
-    connection: &mut Connection<S>,
-    notes: &mut String,
-) -> Result<(), CaseFault> {
+fn empty_stream<S: ConnRead + ConnWrite>(connection: &mut Connection<S>) -> Result<(), Fault> {
     let mut call = Call::begin(connection, FIRST, Method::FullDuplexCall, Asked::Nothing)?;
-    finish(connection, &mut call, notes)
+    finish(connection, &mut call)
 }
 
-fn custom_metadata<S: ConnRead + ConnWrite>(
-    connection: &mut Connection<S>,
-    notes: &mut String,
-) -> Result<(), CaseFault> {
+fn custom_metadata<S: ConnRead + ConnWrite>(connection: &mut Connection<S>) -> Result<(), Fault> {
     let alloc = connection.alloc;
     let mut unary = Call::begin(connection, FIRST, Method::UnaryCall, Asked::Echoes)?;
     let request = simple_request(alloc, LARGE_SIZE, LARGE_BODY, None)?;
     unary.send(connection, request.as_slice(), true)?;
     let replies = unary.replies(connection)?;
-    expect_status(alloc, &unary, OK, None, notes)?;
-    expect_bodies(alloc, replies.as_slice(), &[LARGE_REPLY], notes)?;
-    expect_echoes(alloc, &unary, notes)?;
-    duplex_metadata(connection, notes)
+    expect_status(alloc, &unary, OK)?;
+    expect_bodies(alloc, replies.as_slice(), &[LARGE_REPLY])?;
+    expect_echoes(alloc, &unary)?;
+    duplex_metadata(connection)
 }
 
 /// The second call of custom_metadata.
-fn duplex_metadata<S: ConnRead + ConnWrite>(
-    connection: &mut Connection<S>,
-    notes: &mut String,
-) -> Result<(), CaseFault> {
+fn duplex_metadata<S: ConnRead + ConnWrite>(connection: &mut Connection<S>) -> Result<(), Fault> {
     let alloc = connection.alloc;
     let mut call = Call::begin(connection, SECOND, Method::FullDuplexCall, Asked::Echoes)?;
-    exchange(
-        connection,
-        &mut call,
-        LARGE_SIZE,
-        LARGE_REPLY,
-        LARGE_BODY,
-        notes,
-    )?;
-    finish(connection, &mut call, notes)?;
-    expect_echoes(alloc, &call, notes)
+    exchange(connection, &mut call, LARGE_SIZE, LARGE_REPLY, LARGE_BODY)?;
+    finish(connection, &mut call)?;
+    expect_echoes(alloc, &call)
 }
 
 /// UnaryCall ends with the status that it was asked for.
@@ -260,8 +252,7 @@ fn ask_status<S: ConnRead + ConnWrite>(
     connection: &mut Connection<S>,
     stream: StreamId,
     status: AskedStatus,
-    notes: &mut String,
-) -> Result<(), CaseFault>
+) -> Result<(), Fault>
     requires some { 0 < stream }
     requires within { stream < 2 ^ 31 }
 {
@@ -270,36 +261,34 @@ fn ask_status<S: ConnRead + ConnWrite>(
     let request = simple_request(alloc, 0, 0, Some(status))?;
     call.send(connection, request.as_slice(), true)?;
     let _replies = call.replies(connection)?;
-    expect_status(alloc, &call, UNKNOWN, Some(status.text), notes)
+    expect_status(alloc, &call, status.wanted())
 }
 
 fn status_code_and_message<S: ConnRead + ConnWrite>(
     connection: &mut Connection<S>,
-    notes: &mut String,
-) -> Result<(), CaseFault> {
-    ask_status(connection, FIRST, PLAIN, notes)?;
+) -> Result<(), Fault> {
+    ask_status(connection, FIRST, PLAIN)?;
     let alloc = connection.alloc;
     let mut call = Call::begin(connection, SECOND, Method::FullDuplexCall, Asked::Nothing)?;
     let request = output_request(alloc, &[], 0, Some(PLAIN))?;
     call.send(connection, request.as_slice(), true)?;
     let _replies = call.replies(connection)?;
-    expect_status(alloc, &call, UNKNOWN, Some(PLAIN.text), notes)
+    expect_status(alloc, &call, PLAIN.wanted())
 }
 
 fn unimplemented<S: ConnRead + ConnWrite>(
     connection: &mut Connection<S>,
     method: Method,
-    notes: &mut String,
-) -> Result<(), CaseFault> {
+) -> Result<(), Fault> {
     let alloc = connection.alloc;
     let (call, _replies) = ask(connection, method, &[])?;
-    expect_status(alloc, &call, UNIMPLEMENTED, None, notes)
+    expect_status(alloc, &call, UNIMPLEMENTED)
 }
 
 /// The client's own status of what it cancelled is CANCELLED: what is to be seen is that the server goes on.
 fn cancel_after_begin<S: ConnRead + ConnWrite>(
     connection: &mut Connection<S>,
-) -> Result<(), CaseFault> {
+) -> Result<(), Fault> {
     let call = Call::begin(
         connection,
         FIRST,
@@ -311,18 +300,16 @@ fn cancel_after_begin<S: ConnRead + ConnWrite>(
 
 fn cancel_after_first_response<S: ConnRead + ConnWrite>(
     connection: &mut Connection<S>,
-    notes: &mut String,
-) -> Result<(), CaseFault> {
+) -> Result<(), Fault> {
     let mut call = Call::begin(connection, FIRST, Method::FullDuplexCall, Asked::Nothing)?;
-    exchange(connection, &mut call, 31_415, 31_415, 27_182, notes)?;
+    exchange(connection, &mut call, 31_415, 31_415, 27_182)?;
     call.cancel(connection)
 }
 
 /// A server may end such a call by a status or by cancelling it, and either means that its time is over.
 fn timeout_on_sleeping_server<S: ConnRead + ConnWrite>(
     connection: &mut Connection<S>,
-    notes: &mut String,
-) -> Result<(), CaseFault> {
+) -> Result<(), Fault> {
     let alloc = connection.alloc;
     let mut call = Call::begin(
         connection,
@@ -333,9 +320,10 @@ fn timeout_on_sleeping_server<S: ConnRead + ConnWrite>(
     let request = output_request(alloc, &[], 27_182, None)?;
     call.send(connection, request.as_slice(), false)?;
     let replies = call.replies(connection)?;
-    expect_count(alloc, replies.as_slice(), 0, notes)?;
+    expect_count(replies.as_slice(), 0)?;
     if call.reset == Some(CANCEL) {
         return Ok(());
     }
-    expect_status(alloc, &call, DEADLINE_EXCEEDED, None, notes)
+    expect_status(alloc, &call, DEADLINE_EXCEEDED)?;
+    call.leave(connection)
 }

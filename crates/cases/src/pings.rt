@@ -1,0 +1,76 @@
+//! The client's PINGs, each with bytes of its own, and what acknowledges them (RFC 9113, section 6.7).
+
+use std::fmt;
+
+/// A rule on PING that the server broke. The eight bytes are shown as hexadecimal text.
+#[derive(Clone, Copy)]
+pub enum PingViolation {
+    /// An acknowledgement has other bytes than the PING.
+    OtherBytes { came: u64, wanted: u64 },
+    /// An acknowledgement of no PING.
+    NotAsked { came: u64 },
+}
+
+/// The PINGs of a connection, one at a time.
+#[derive(Drop)]
+pub struct Pings {
+    last: u64,
+    is_open: bool,
+}
+
+impl Pings {
+    /// None was sent.
+    pub fn new() -> Pings {
+        Pings {
+            last: 0,
+            is_open: false,
+        }
+    }
+
+    /// Whether one isn't acknowledged yet.
+    pub fn is_open(&self) -> bool {
+        self.is_open
+    }
+
+    /// The eight bytes of the next one, which is sent now.
+    pub fn begin(&mut self) -> [u8; 8] {
+        self.last = self.last.wrapping_add(1);
+        self.is_open = true;
+        self.last.to_be_bytes()
+    }
+
+    /// An acknowledgement with these bytes came.
+    pub fn end(&mut self, bytes: [u8; 8]) -> Result<(), PingViolation> {
+        let came = u64::from_be_bytes(bytes);
+        if !self.is_open {
+            return Err(PingViolation::NotAsked { came });
+        }
+        if came != self.last {
+            return Err(PingViolation::OtherBytes {
+                came,
+                wanted: self.last,
+            });
+        }
+        self.is_open = false;
+        Ok(())
+    }
+}
+
+impl fmt::Display for PingViolation {
+    fn fmt<W: fmt::Write>(&self, f: &mut fmt::Formatter<W>) -> fmt::Result {
+        match *self {
+            PingViolation::OtherBytes { came, wanted } => {
+                write!(
+                    f,
+                    "PING with ACK has {came:016x}, wanted {wanted:016x} (RFC 9113, 6.7)"
+                )
+            }
+            PingViolation::NotAsked { came } => {
+                write!(
+                    f,
+                    "PING with ACK has {came:016x}, and none was sent (RFC 9113, 6.7)"
+                )
+            }
+        }
+    }
+}
