@@ -82,9 +82,12 @@ pub fn judge_trailers(alloc: Global, fields: &[Field]) -> Result<(), FieldFault>
     Ok(())
 }
 
-/// Whether a `:status` is one of 100 to 199.
+/// Whether a `:status` is one of 100 to 199 that HTTP/2 has: 101 is none (RFC 9113, section 8.6).
 fn is_informational(status: &[u8]) -> bool {
-    status.len() == 3 && status.first() == Some(&b'1')
+    status.len() == 3
+        && status.first() == Some(&b'1')
+        && status.iter().all(|byte| byte.is_ascii_digit())
+        && status != b"101".as_slice()
 }
 
 fn has_status_200(fields: &[Field]) -> bool

@@ -127,7 +127,7 @@ fn run_often<R: Net + Eprint + AllocGlobal, W: ConnWrite>(
     Ok(tally.has_passed())
 }
 
-/// Runs a case over a connection of its own. What was wanted and what came goes to standard error where they differ.
+/// Runs a case over a connection of its own. Where it fails, a line on standard error says why.
 fn try_case<R: Net + Eprint + AllocGlobal>(
     rt: &R,
     name: &str,
@@ -154,11 +154,18 @@ fn connect_and_run<R: Net + AllocGlobal>(
     target: Target<'_>,
     notes: &mut String,
 ) -> Result<(), CaseFault> {
-    let Ok(stream) = TcpStream::connect(rt, (target.host, target.port)) else {
-        notes.push_str("wanted a connection, came none\n")?;
+    let Target {
+        host,
+        port,
+        patience,
+    } = target;
+    let Ok(stream) = TcpStream::connect(rt, (host, port)) else {
+        // The number tells of the fault even where there is no memory for its line.
+        let _written = writeln!(notes, "{name}: no connection to {host}:{port}");
         return Err(CaseFault::StreamFailed);
     };
-    if set_patience(&stream, target.patience).is_err() {
+    if set_patience(&stream, patience).is_err() {
+        let _written = writeln!(notes, "{name}: the connection to {host}:{port} broke");
         return Err(CaseFault::StreamFailed);
     }
     cases::run_case(rt.alloc(), name, Marked::new(stream), notes)
