@@ -1,10 +1,11 @@
 //! The program `interop`: the gRPC interop test server, and the client that tries such a server.
 //!
-//! It has five commands:
+//! It has six commands:
 //!
 //! - `interop serve --port P` serves `grpc.testing.TestService` on a port of this machine.
 //! - `interop case NAME --port P` runs test cases as a client, against whatever server listens there.
 //! - `interop self` runs them against a server of its own.
+//! - `interop misbehave NAME --port P` misbehaves as a server, and says whether the client does right.
 //! - `interop parts` serves the bytes of one connection, read as hexadecimal text, and prints what they are answered with.
 //! - `interop body --cut N` reads the joined DATA bytes of one call as hexadecimal text, takes them in pieces of N bytes, and
 //!   prints the messages that they spell (gRPC over HTTP/2, "Length-Prefixed-Message"), then the end or the fault. It reads all of
@@ -19,6 +20,7 @@ ghost use Rattle.words.specs.Words.{IsInRange};
 
 #[cfg(test)]
 mod gates;
+mod misbehaving;
 
 use commands::{
     CaseWords, Reason, RunFault, ServeWords, Words, WordsFault, listen, read_words, run_body,
@@ -54,6 +56,7 @@ The gRPC interop test server's program.
 
 Usage: interop [body --cut N]
        interop case NAME --port P [--host H] [--times N] [--timeout S]
+       interop misbehave (NAME --port P [--timeout S] | --list)
        interop parts
        interop self [--port P]
        interop serve (--port P | --any-port) [--host H] [--conns N] [--report]
@@ -67,6 +70,10 @@ Usage: interop [body --cut N]
                  each is run N times, and its line tells how many of the runs passed. A read or
                  a write that takes S seconds (10 if not given) fails. The flags of gRPC's own
                  clients do too: --test_case=NAME --server_host=H --server_port=P --use_tls=false
+  misbehave NAME misbehave as a server on port P of 127.0.0.1 in the way of this name, or in all ways,
+                 each on the next port, where NAME is all, and print whether the client does right;
+                 it ends when the client has gone, or after S seconds (30 if not given); with --list
+                 print the names
   parts          read the bytes of a connection as hexadecimal text, serve it, and print what
                  it is answered with, stream by stream, and how it ended
   self           serve on port P of 127.0.0.1 (50051 if none is given), run all test cases
@@ -86,7 +93,7 @@ status_code_and_message, special_status_message, unimplemented_method,
 unimplemented_service, cancel_after_begin, cancel_after_first_response,
 timeout_on_sleeping_server.
 
-Exit status: 0 done, 1 a case failed, 2 bad arguments or input, 3 input, output, memory or
+Exit status: 0 done, 1 a case failed, or a client, 2 bad arguments or input, 3 input, output, memory or
 the port failed; why a port can't be had, and which argument is bad, is told on standard error.";
 
 // What is said to words that ask about the program itself: one of them alone, or the one for help behind a command.
@@ -250,6 +257,7 @@ where
         Words::Parts => obey_server(*rt, Server::Parts),
         Words::Serve(words) => obey_server(*rt, Server::Serve(words)),
         Words::SelfTest(port) => obey_server(*rt, Server::SelfTest(port)),
+        Words::Misbehave(words) => Ok(misbehaving::obey_misbehave(*rt, words)),
     }
 }
 

@@ -1,5 +1,6 @@
 pub mod Body
 pub mod Case
+pub mod Misbehave
 pub mod Options
 pub mod SelfTest
 pub mod Serve

@@ -6,6 +6,7 @@ ghost use Rattle.words.specs.declared.read.WordsFault.TheVariants.{OutOfMemory};
 
 use crate::body::{body_command, cut_of};
 use crate::case::{CaseWords, case_command, trial_of};
+use crate::misbehave::{MisbehaveWords, misbehave_command, misbehaving_of};
 use crate::reason::{Reason, reason_of};
 use crate::self_test::{own_port_of, self_command};
 use crate::serve::{ServeWords, serve_command, serving_of};
@@ -14,7 +15,7 @@ use clap::{ArgMatches, Command};
 use std::alloc::{AllocError, Global};
 
 /// The names of the commands.
-pub const COMMANDS: [&str; 5] = ["body", "case", "parts", "self", "serve"];
+pub const COMMANDS: [&str; 6] = ["body", "case", "misbehave", "parts", "self", "serve"];
 
 /// What the program is told to do.
 #[derive(Clone, Copy, Debug, PartialEq, Eq)]
@@ -29,6 +30,8 @@ pub enum Words<'a> {
     Case(CaseWords<'a>),
     /// Run all test cases against a server of its own, on this port.
     SelfTest(u16),
+    /// Misbehave as a server.
+    Misbehave(MisbehaveWords<'a>),
 }
 
 /// Why words are not obeyed.
@@ -83,7 +86,8 @@ pub(crate) fn command_line<'a>(alloc: Global) -> Result<Command<'a>, AllocError>
         .subcommand(Command::new(alloc, "parts"))?
         .subcommand(serve_command(alloc)?)?
         .subcommand(case_command(alloc)?)?
-        .subcommand(self_command(alloc)?)
+        .subcommand(self_command(alloc)?)?
+        .subcommand(misbehave_command(alloc)?)
 }
 
 // A command with the values of its options.
@@ -97,6 +101,7 @@ fn command_of<'a>(name: &str, options: &ArgMatches<'a>) -> Option<Words<'a>>
         "serve" => Some(Words::Serve(serving_of(options)?)),
         "case" => Some(Words::Case(trial_of(options)?)),
         "self" => Some(Words::SelfTest(own_port_of(options)?)),
+        "misbehave" => Some(Words::Misbehave(misbehaving_of(options)?)),
         _ => None,
     }
 }

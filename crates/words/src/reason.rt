@@ -4,7 +4,7 @@
 //! of them that the command does not take; where each is taken, something is missing, or two things exclude each other.
 
 use crate::read::{COMMANDS, command_line};
-use crate::{body, case, self_test, serve};
+use crate::{body, case, misbehave, self_test, serve};
 use clap::builder::ValueParser;
 use clap::{Arg, ArgAction, Command};
 use std::alloc::{AllocError, Global};
@@ -63,6 +63,7 @@ fn takes(command: &str) -> &'static str {
     match command {
         "body" => body::TAKES,
         "case" => case::TAKES,
+        "misbehave" => misbehave::TAKES,
         "self" => self_test::TAKES,
         "serve" => serve::TAKES,
         _ => "no words",
@@ -273,6 +274,13 @@ fn reason_of_whole<'a>(command: &'a str, words: &[String], is_placed: bool) -> R
                 both: "NAME and --test_case",
             };
         }
+        "misbehave" if has_option(words, "--list") => {
+            return Reason::Excluding {
+                both: "--list and NAME or --port",
+            };
+        }
+        "misbehave" if is_placed => "--port P",
+        "misbehave" => "NAME, or --list",
         "serve" => "--port P or --any-port",
         "case" if is_placed || has_option(words, "--test_case") => "--port P",
         "case" => "NAME or --test_case NAME",

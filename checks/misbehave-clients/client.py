@@ -1,0 +1,48 @@
+#!/usr/bin/python3
+"""client PORT [COUNT]: calls on grpcio against the server on this port of 127.0.0.1, whatever comes of them.
+
+A call of UnaryCall as in large_unary, then as many more at once (one, if nothing is said). Prints the status of each.
+"""
+import sys
+import time
+
+import grpc
+
+LIMIT = 25
+
+
+def varint(value):
+    text = bytearray()
+    while value > 127:
+        text.append(value & 127 | 128)
+        value >>= 7
+    return bytes(text) + bytes([value])
+
+
+def block(field, content):
+    return varint(field << 3 | 2) + varint(len(content)) + content
+
+
+REQUEST = varint(2 << 3) + varint(314159) + block(3, block(2, bytes(271828)))
+REPLY = block(1, block(2, bytes(314159)))
+
+
+def main():
+    port, count = sys.argv[1], int(sys.argv[2]) if len(sys.argv) > 2 else 1
+    options = [("grpc.enable_http_proxy", 0), ("grpc.use_local_subchannel_pool", 1)]
+
+    def say(call):
+        try:
+            print("OK" if call.result() == REPLY else "OK with another reply", flush=True)
+        except grpc.RpcError as error:
+            print(error.code().name, error.details(), flush=True)
+
+    with grpc.insecure_channel(f"127.0.0.1:{port}", options=options) as channel:
+        method = channel.unary_unary("/grpc.testing.TestService/UnaryCall")
+        say(method.future(REQUEST, timeout=LIMIT))
+        time.sleep(0.1)
+        for call in [method.future(REQUEST, timeout=LIMIT) for _ in range(count)]:
+            say(call)
+
+
+main()

@@ -1,0 +1,108 @@
+//! The steps of a misbehaviour. Each is about the call that was waited for last, on the connection of that call.
+
+/// The name and the value of a header field.
+pub type Pair = (&'static str, &'static str);
+
+/// The number and the value of a parameter of SETTINGS (RFC 9113, section 6.5.2).
+pub type Setting = (u16, u32);
+
+/// Which bytes of a call's right reply are sent, and how. A reply is the length-prefixed message that the request asks for.
+#[derive(Clone, Copy)]
+pub enum Part {
+    /// The first half.
+    Half,
+    /// What wasn't sent yet.
+    Rest,
+    /// What wasn't sent yet, with a PING before each frame.
+    Pinged,
+    /// The first thousand bytes: a DATA frame each, whose bytes are written one at a time.
+    Bytewise,
+    /// All of it, in frames whose padding is 1 MiB together.
+    Padded,
+}
+
+/// Which stream a GOAWAY names as the last.
+#[derive(Clone, Copy)]
+pub enum Last {
+    /// The call's: later ones are not answered.
+    ThisCall,
+    /// None: no call is answered.
+    None,
+}
+
+/// A step. A pause is told in ticks, hundredths of a second in which nothing comes.
+#[derive(Clone, Copy)]
+pub enum Step {
+    /// Waits for the head of the next call.
+    AwaitCall,
+    /// The same, of a call that is made after the last SETTINGS were acknowledged. Its header block has to begin with the
+    /// change of the table's size to 0.
+    AwaitUpdatedCall,
+    /// Waits until the call's request is whole.
+    AwaitRequest,
+    /// Waits until so many bytes of DATA came of the call, which has to be as long.
+    AwaitBytes(usize),
+    /// Waits until all SETTINGS that were sent are acknowledged.
+    AwaitAcks,
+    /// Waits until all PINGs that were sent are answered.
+    AwaitPongs,
+    /// Waits until so many calls were answered, each after a pause.
+    AnswerSlowly(usize),
+    /// Waits for so many ticks.
+    Pause(u32),
+    /// Sends SETTINGS.
+    Settings(&'static [Setting]),
+    /// Sends credit for so many bytes of the call.
+    Credit(u32),
+    /// From here on the bytes of all calls are given back as they come.
+    GiveBack,
+    /// Sends PING.
+    Ping,
+    /// Sends GOAWAY with NO_ERROR.
+    GoAway(Last),
+    /// Sends RST_STREAM with this code.
+    Reset(u32),
+    /// Sends a header block.
+    Head(&'static [Pair]),
+    /// Sends a header block with END_STREAM.
+    Trailers(&'static [Pair]),
+    /// Sends a header block in HEADERS and twenty CONTINUATIONs.
+    Continued(&'static [Pair]),
+    /// Sends a part of the right reply, as the client's windows let it through.
+    Reply(Part),
+    /// Sends these bytes as DATA.
+    Data(&'static [u8]),
+    /// Sends a frame of the call's stream with this type, these flags and this payload.
+    Frame(u8, u8, &'static [u8]),
+    /// Sends a DATA frame that is one byte longer than the client allows.
+    TooLong,
+    /// Sends more DATA at once than the client's windows let through.
+    PastWindow,
+    /// Sends half of a DATA frame.
+    HalfFrame,
+    /// Ends the server's side of the connection.
+    Close,
+}
+
+impl Step {
+    /// What the step sends, in a word, or nothing where it waits.
+    pub fn word(&self) -> &'static str {
+        match self {
+            Step::Settings(_) => "SETTINGS",
+            Step::Credit(_) => "WINDOW_UPDATE",
+            Step::Ping => "PING",
+            Step::GoAway(_) => "GOAWAY",
+            Step::Reset(_) => "RST_STREAM",
+            Step::Head(_) => "HEADERS",
+            Step::Trailers(_) => "HEADERS with END_STREAM",
+            Step::Continued(_) => "HEADERS and 20 CONTINUATIONs",
+            Step::Reply(_) | Step::Data(_) | Step::PastWindow => "DATA",
+            Step::Frame(_, _, _) => "a frame",
+            Step::TooLong => "too long a frame",
+            Step::HalfFrame => "half of a DATA frame",
+            Step::Close => "the end of the connection",
+            Step::AnswerSlowly(_) => "replies",
+            _ => "",
+        }
+    }
+}
