@@ -9,6 +9,8 @@ use Rattle.words.specs.Body.{body_command, cut_of}
 use Rattle.words.specs.Case.{Trial, case_command, trial, trial_of}
 use Rattle.words.specs.SelfTest.{own_port_of, self_command}
 use Rattle.words.specs.Serve.{Serving, IsPort, serve_command, serving, serving_of}
+use Rattle.words.specs.Wire.{Told, told, told_of, wire_command}
+use Rattle.words.specs.Wire as wire
 use Rattle.words.specs.declared.read.Words.{Words}
 use Rattle.words.specs.declared.read.Words.TheVariants as words
 use Rattle.words.specs.declared.read.WordsFault.{WordsFault}
@@ -25,8 +27,14 @@ bare_line = on_top (λ top. record top {
 }) (new_app (codes "interop"))
 
 abbrev pub command_line : App
-command_line = with_subcommand (with_subcommand (with_subcommand (with_subcommand (with_subcommand bare_line
-    body_command.top) (new_app (codes "parts")).top) serve_command.top) case_command.top) self_command.top
+command_line =
+    with_subcommand (with_subcommand (with_subcommand (with_subcommand (with_subcommand (with_subcommand bare_line
+    body_command.top)
+    (new_app (codes "parts")).top)
+    serve_command.top)
+    case_command.top)
+    self_command.top)
+    wire_command.top
 
 -- what the program is told to do
 pub data Meaning : Type 0 where
@@ -35,6 +43,7 @@ pub data Meaning : Type 0 where
   serve : Serving → Meaning
   try_case : Trial → Meaning
   try_itself : ℕ → Meaning
+  try_wire : Told → Meaning
 
 abbrev pub meaning : Words → Meaning
 meaning (words.Body cut) = print_body cut
@@ -42,6 +51,7 @@ meaning words.Parts = print_parts
 meaning (words.Serve told) = serve (serving told)
 meaning (words.Case told) = try_case (trial told)
 meaning (words.SelfTest port) = try_itself port
+meaning (words.Wire words) = try_wire (told words)
 
 -- the command of a name and of the values of its options
 abbrev pub command_of : Text × List Row → Option Meaning
@@ -51,6 +61,7 @@ command_of p =
     else if bytes_eq p.0 (codes "serve") then option_map serve (serving_of p.1)
     else if bytes_eq p.0 (codes "case") then option_map try_case (trial_of p.1)
     else if bytes_eq p.0 (codes "self") then option_map try_itself (own_port_of p.1)
+    else if bytes_eq p.0 (codes "wire") then option_map try_wire (told_of p.1)
     else None
 
 -- nothing, where `clap` refuses the words for any of these kinds of error
@@ -75,6 +86,7 @@ IsInRange words.Parts = ⊤
 IsInRange (words.Serve told) = IsPort told.port
 IsInRange (words.Case told) = (1 ≤ told.port) × (1 ≤ told.times) × (1 ≤ told.patience)
 IsInRange (words.SelfTest port) = 1 ≤ port
+IsInRange (words.Wire words) = wire.IsInRange words
 
 -- the words mean no command
 abbrev pub IsBad : WordsFault → Type 0

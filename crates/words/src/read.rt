@@ -9,12 +9,13 @@ use crate::case::{CaseWords, case_command, trial_of};
 use crate::reason::{Reason, reason_of};
 use crate::self_test::{own_port_of, self_command};
 use crate::serve::{ServeWords, serve_command, serving_of};
+use crate::wire::{WireWords, wire_command, wire_of};
 use clap::error::ErrorKind;
 use clap::{ArgMatches, Command};
 use std::alloc::{AllocError, Global};
 
 /// The names of the commands.
-pub const COMMANDS: [&str; 5] = ["body", "case", "parts", "self", "serve"];
+pub const COMMANDS: [&str; 6] = ["body", "case", "parts", "self", "serve", "wire"];
 
 /// What the program is told to do.
 #[derive(Clone, Copy, Debug, PartialEq, Eq)]
@@ -29,6 +30,8 @@ pub enum Words<'a> {
     Case(CaseWords<'a>),
     /// Run all test cases against a server of its own, on this port.
     SelfTest(u16),
+    /// Run wire cases against a server, or list them.
+    Wire(WireWords<'a>),
 }
 
 /// Why words are not obeyed.
@@ -83,7 +86,8 @@ pub(crate) fn command_line<'a>(alloc: Global) -> Result<Command<'a>, AllocError>
         .subcommand(Command::new(alloc, "parts"))?
         .subcommand(serve_command(alloc)?)?
         .subcommand(case_command(alloc)?)?
-        .subcommand(self_command(alloc)?)
+        .subcommand(self_command(alloc)?)?
+        .subcommand(wire_command(alloc)?)
 }
 
 // A command with the values of its options.
@@ -97,6 +101,7 @@ fn command_of<'a>(name: &str, options: &ArgMatches<'a>) -> Option<Words<'a>>
         "serve" => Some(Words::Serve(serving_of(options)?)),
         "case" => Some(Words::Case(trial_of(options)?)),
         "self" => Some(Words::SelfTest(own_port_of(options)?)),
+        "wire" => Some(Words::Wire(wire_of(options)?)),
         _ => None,
     }
 }

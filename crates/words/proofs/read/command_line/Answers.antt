@@ -8,5 +8,6 @@ returns c =
     let parts = with_command _ _ _ _ _ c.in_ok-subcommand-2.ensures body (is_command _ _ c.new.ensures.app c.new.ensures.local) in
     let serve = with_command _ _ _ _ _ c.in_ok-subcommand-3.ensures parts c.in_ok-serve_command.ensures in
     let case = with_command _ _ _ _ _ c.in_ok-subcommand-4.ensures serve c.in_ok-case_command.ensures in
-    IfOk-weaker c.subcommand-5.result _ _ (λ command added.
-    with_command _ _ _ _ _ added case c.in_ok-self_command.ensures) c.subcommand-5.ensures
+    let itself = with_command _ _ _ _ _ c.in_ok-subcommand-5.ensures case c.in_ok-self_command.ensures in
+    IfOk-weaker c.subcommand-6.result _ _ (λ command added.
+    with_command _ _ _ _ _ added itself c.in_ok-wire_command.ensures) c.subcommand-6.ensures

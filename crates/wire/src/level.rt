@@ -1,0 +1,33 @@
+//! How binding a case is.
+
+/// How binding a case is.
+#[derive(Clone, Copy, Debug, PartialEq, Eq)]
+pub enum Level {
+    /// The standard says MUST, or leaves no other reaction.
+    Must,
+    /// The standard says SHOULD, or gRPC's servers agree where it is silent.
+    Should,
+    /// What the profile of this project's own server has beyond the standards.
+    Ours,
+}
+
+impl Level {
+    /// Its word.
+    pub fn name(self) -> &'static str {
+        match self {
+            Level::Must => "must",
+            Level::Should => "should",
+            Level::Ours => "ours",
+        }
+    }
+
+    /// The level of a word.
+    pub fn named(word: &str) -> Option<Level> {
+        match word {
+            "must" => Some(Level::Must),
+            "should" => Some(Level::Should),
+            "ours" => Some(Level::Ours),
+            _ => None,
+        }
+    }
+}
