@@ -1,7 +1,13 @@
--- Which outcomes fail the whole: cases of level must that did not pass.
-use Rattle.std.specs.Prelude.{ℕ, Bool, true, false, List, count_by, if◌then◌else◌}
+-- The names of levels, and which outcomes fail the whole: cases of level must that did not pass.
+use Rattle.std.specs.Prelude.{ℕ, Bool, true, false, List, count_by, if◌then◌else◌, codes}
 use Rattle.wire.specs.declared.level.Level.{Level}
 use Rattle.wire.specs.declared.outcome.Outcome.{Outcome}
+
+-- the word of a level
+pub word_of : Level → List ℕ
+word_of Level.Must = codes "must"
+word_of Level.Should = codes "should"
+word_of Level.Ours = codes "ours"
 
 pub is_must : Level → Bool
 is_must Level.Must = true

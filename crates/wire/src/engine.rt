@@ -1,5 +1,9 @@
 //! One case over one connection: its steps in order, and then a wait for a lawful reaction.
 
+ghost use Rattle.std.specs.Prelude.{IfOk, IsTrue};
+ghost use Rattle.std.specs.List.{Any};
+ghost use Rattle.wire.specs.Reactions.{IsLawful};
+
 use crate::case::Case;
 use crate::fault::WireFault;
 use crate::frame::{DATA, END_STREAM, PADDED, PING};
@@ -203,21 +207,16 @@ fn room<S: Read + Write>(talk: &Talk<S>, stream: u32, before: u64) -> u64 {
 }
 
 /// Waits for a lawful reaction, and answers whether there was one.
-fn judge<S: Read + Write>(talk: &mut Talk<S>, lawful: &[Lawful]) -> Result<bool, WireFault> {
+fn judge<S: Read + Write>(talk: &mut Talk<S>, lawful: &[Lawful]) -> Result<bool, WireFault>
+    ensures { IfOk result (λ passed. IsTrue passed → Any (IsLawful talk.new.seen) lawful.now) }
+{
     for _ in 0..MANY_FRAMES {
-        for each in lawful {
-            if talk.seen.is_lawful(each)? {
-                return Ok(true);
-            }
+        if talk.seen.is_one_lawful(lawful)? {
+            return Ok(true);
         }
         if talk.hear()? != Heard::Frame {
             break;
         }
     }
-    for each in lawful {
-        if talk.seen.is_lawful(each)? {
-            return Ok(true);
-        }
-    }
-    Ok(false)
+    talk.seen.is_one_lawful(lawful)
 }

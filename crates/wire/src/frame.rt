@@ -1,5 +1,8 @@
 //! Frames of any kind, lawful or not (RFC 9113, section 4.1).
 
+ghost use Rattle.std.specs.Prelude.{◌≡◌, ◌++◌, OnOk};
+ghost use Rattle.wire.specs.Frames.{frame_text};
+
 use crate::fault::WireFault;
 
 /// The text with which a client begins (RFC 9113, section 3.4).
@@ -49,16 +52,16 @@ pub fn push_frame(
     flags: u8,
     stream: u32,
     payload: &[u8],
-) -> Result<(), WireFault> {
+) -> Result<(), WireFault>
+    ensures { OnOk result (bytes.new.items ≡ bytes.old.items ++ frame_text kind flags stream payload.now) }
+{
     let length = payload.len();
     if length > MOST {
         return Err(WireFault::BadRow);
     }
-    let length = (length as u32).to_be_bytes();
-    bytes.extend_from_slice(&length[1..])?;
-    bytes.push(kind)?;
-    bytes.push(flags)?;
-    bytes.extend_from_slice(&stream.to_be_bytes())?;
+    let [_, a, b, c] = (length as u32).to_be_bytes();
+    let [s, t, u, v] = stream.to_be_bytes();
+    bytes.extend_from_slice(&[a, b, c, kind, flags, s, t, u, v])?;
     bytes.extend_from_slice(payload)?;
     Ok(())
 }

@@ -1,5 +1,7 @@
 //! How binding a case is.
 
+ghost use Rattle.std.specs.Prelude.{◌≡◌, IfSome};
+
 /// How binding a case is.
 #[derive(Clone, Copy, Debug, PartialEq, Eq)]
 pub enum Level {
@@ -12,8 +14,12 @@ pub enum Level {
 }
 
 impl Level {
+    ghost use Rattle.wire.specs.Levels.{word_of};
+
     /// Its word.
-    pub fn name(self) -> &'static str {
+    pub fn name(self) -> &'static str
+        ensures { result.now ≡ word_of self }
+    {
         match self {
             Level::Must => "must",
             Level::Should => "should",
@@ -22,7 +28,9 @@ impl Level {
     }
 
     /// The level of a word.
-    pub fn named(word: &str) -> Option<Level> {
+    pub fn named(word: &str) -> Option<Level>
+        ensures { IfSome result (λ level. word_of level ≡ word.now) }
+    {
         match word {
             "must" => Some(Level::Must),
             "should" => Some(Level::Should),

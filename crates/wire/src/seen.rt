@@ -1,5 +1,10 @@
 //! What came on a connection, and whether a reaction is among it.
 
+ghost use Rattle.std.specs.Prelude.{◌≡◌, IfOk, IsTrue};
+ghost use Rattle.std.specs.BTreeMap.{get};
+ghost use Rattle.std.specs.List.{Any};
+ghost use Rattle.std.specs.Ordering.{nat_cmp};
+
 use crate::fault::WireFault;
 use crate::reaction::{Lawful, Reaction};
 use crate::stream_seen::{StreamSeen, has_field, value_of};
@@ -49,6 +54,8 @@ pub struct Seen {
 }
 
 impl Seen {
+    ghost use Rattle.wire.specs.Reactions.{IsLawful, Judges, has_ended, was_reset};
+
     pub fn new(alloc: Global) -> Seen {
         Seen {
             alloc,
@@ -94,8 +101,22 @@ impl Seen {
         }
     }
 
-    /// Whether it is so that all of these reactions hold.
-    pub fn is_lawful(&self, lawful: &Lawful) -> Result<bool, WireFault> {
+    /// Whether one of these ways to pass is what came.
+    pub fn is_one_lawful(&self, ways: &[Lawful]) -> Result<bool, WireFault>
+        ensures { IfOk result (λ passed. IsTrue passed → Any (IsLawful self.now) ways.now) }
+    {
+        for lawful in ways {
+            if self.is_lawful(lawful)? {
+                return Ok(true);
+            }
+        }
+        Ok(false)
+    }
+
+    /// Whether all of these reactions hold, and the server did nothing that no server may.
+    pub fn is_lawful(&self, lawful: &Lawful) -> Result<bool, WireFault>
+        ensures { IfOk result (λ passed. IsTrue passed → IsLawful self.now lawful.now) }
+    {
         for reaction in lawful.all.as_slice() {
             if !self.holds(reaction)? {
                 return Ok(false);
@@ -105,11 +126,18 @@ impl Seen {
     }
 
     /// Whether this reaction is among what came.
-    pub fn holds(&self, reaction: &Reaction) -> Result<bool, WireFault> {
+    pub fn holds(&self, reaction: &Reaction) -> Result<bool, WireFault>
+        ensures { IfOk result (Judges self.now reaction.now) }
+    {
         Ok(match reaction {
             Reaction::Connection(codes) => self.has_ended(codes.as_slice()),
             Reaction::Goaway(codes) => is_one_of(self.goaway, codes.as_slice()),
             Reaction::Closed => self.closed,
+            Reaction::Reset { stream, codes } => self.was_reset(*stream, codes.as_slice()),
+            Reaction::Stream { stream, codes } => {
+                let codes = codes.as_slice();
+                self.has_ended(codes) || self.was_reset(*stream, codes)
+            }
             Reaction::Ping(content) => self.was_echoed(content.as_slice()),
             Reaction::Silent(content) => !self.was_echoed(content.as_slice()),
             Reaction::Acks(count) => self.acks == *count,
@@ -126,13 +154,9 @@ impl Seen {
         })
     }
 
+    /// Whether a reaction on a stream is among what came that isn't an error.
     fn holds_on_stream(&self, reaction: &Reaction) -> Result<bool, WireFault> {
         match reaction {
-            Reaction::Stream { stream, codes } => {
-                let codes = codes.as_slice();
-                Ok(self.has_ended(codes) || self.was_reset(*stream, codes))
-            }
-            Reaction::Reset { stream, codes } => Ok(self.was_reset(*stream, codes.as_slice())),
             Reaction::Nothing(stream) => Ok(match self.streams.get(stream) {
                 Some(seen) => seen.is_empty(),
                 None => true,
@@ -182,7 +206,9 @@ impl Seen {
     }
 
     /// Whether the connection ended by one of these errors, or without one being said.
-    fn has_ended(&self, codes: &[u32]) -> bool {
+    fn has_ended(&self, codes: &[u32]) -> bool
+        ensures { result ≡ has_ended self.now.goaway self.now.closed codes.now }
+    {
         match self.goaway {
             Some(code) if code != 0 => codes.contains(&code),
             _ => self.closed,
@@ -190,7 +216,9 @@ impl Seen {
     }
 
     /// Whether a stream was reset with one of these errors, or with any where none is named.
-    fn was_reset(&self, stream: u32, codes: &[u32]) -> bool {
+    fn was_reset(&self, stream: u32, codes: &[u32]) -> bool
+        ensures { result ≡ was_reset (get nat_cmp self.now.streams stream) codes.now }
+    {
         let Some(seen) = self.streams.get(&stream) else {
             return false;
         };
@@ -299,7 +327,11 @@ fn push_part(text: &mut String, start: usize, part: &str) -> Result<(), AllocErr
     text.push_str(part)
 }
 
-fn is_one_of(code: Option<u32>, codes: &[u32]) -> bool {
+ghost use Rattle.wire.specs.Reactions.{is_one_of};
+
+fn is_one_of(code: Option<u32>, codes: &[u32]) -> bool
+    ensures { result ≡ is_one_of code codes.now }
+{
     match code {
         Some(code) => codes.contains(&code),
         None => false,

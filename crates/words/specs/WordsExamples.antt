@@ -39,6 +39,7 @@ pub flags_of_grpc : meaning_of (codes "case" ∷ codes "--server_host=localhost"
       host = codes "localhost";
       port = 5;
       times = 1;
+      streams = None;
       patience = 10;
     }))
 unfolding clap_on_literals command_meant
