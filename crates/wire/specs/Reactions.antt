@@ -30,7 +30,7 @@ was_reset None codes = false
 was_reset (Some seen) codes = is_one_or_any seen.reset codes
 
 -- what was judged of an error, or of an end, is so
-pub Judges : Seen → Reaction → Bool → Type 0
+abbrev pub Judges : Seen → Reaction → Bool → Type 0
 Judges seen (reaction.Connection codes) held = held ≡ has_ended seen.goaway seen.closed codes.items
 Judges seen (reaction.Goaway codes) held = held ≡ is_one_of seen.goaway codes.items
 Judges seen reaction.Closed held = held ≡ seen.closed

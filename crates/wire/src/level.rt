@@ -16,6 +16,9 @@ pub enum Level {
 impl Level {
     ghost use Rattle.wire.specs.Levels.{word_of};
 
+    /// All levels, the most binding first.
+    pub const ALL: [Level; 3] = [Level::Must, Level::Should, Level::Ours];
+
     /// Its word.
     pub fn name(self) -> &'static str
         ensures { result.now ≡ word_of self }
@@ -31,11 +34,9 @@ impl Level {
     pub fn named(word: &str) -> Option<Level>
         ensures { IfSome result (λ level. word_of level ≡ word.now) }
     {
-        match word {
-            "must" => Some(Level::Must),
-            "should" => Some(Level::Should),
-            "ours" => Some(Level::Ours),
-            _ => None,
-        }
+        Level::ALL
+            .iter()
+            .find(|level| level.name() == word)
+            .copied()
     }
 }

@@ -66,7 +66,7 @@ pub fn push_counts(text: &mut String, outcomes: &[Outcome]) -> Result<(), AllocE
     let count = outcomes.len();
     let passed = outcomes.iter().filter(|outcome| outcome.passed).count();
     write!(text, "wire: {passed} of {count} cases passed")?;
-    for level in [Level::Must, Level::Should, Level::Ours] {
+    for level in Level::ALL {
         let name = level.name();
         let failed = failures(outcomes, level);
         write!(text, ", {failed} failed of level {name}")?;
