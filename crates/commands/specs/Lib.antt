@@ -5,3 +5,4 @@ pub mod Hex
 pub mod HexExamples
 pub mod Report
 pub mod Tally
+pub mod Times

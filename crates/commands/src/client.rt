@@ -42,6 +42,7 @@ pub fn run_case<R: Net + Eprint + AllocGlobal, W: ConnWrite>(
         port,
         times,
         patience,
+        ..
     } = words;
     let alloc = rt.alloc();
     let target = Target {
@@ -128,7 +129,7 @@ fn run_often<R: Net + Eprint + AllocGlobal, W: ConnWrite>(
 }
 
 /// Runs a case over a connection of its own. Where it fails, a line on standard error says why.
-fn try_case<R: Net + Eprint + AllocGlobal>(
+pub(crate) fn try_case<R: Net + Eprint + AllocGlobal>(
     rt: &R,
     name: &str,
     target: Target<'_>,

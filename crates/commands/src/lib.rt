@@ -2,7 +2,9 @@
 //!
 //! - `run_body` prints the messages of one call, and `run_parts` what a connection is answered with (`body`, `parts`). Their
 //!   input is hexadecimal text. The program hands them its standard input and output.
-//! - `run_case` runs test cases against a server, and `run_self` against a server of its own (`client`, `server`).
+//! - `run_case` runs test cases against a server, `run_load` several runs at a time, and `run_self` runs them against a server of
+//!   its own (`client`, `load`, `server`).
+//! - `run_wire` lists wire cases, or runs them against a server (`wire_cases`).
 //! - `serve` serves connections to a port (`server`, `port`); `served` is its report.
 //! - `read_words`, of the crate `words`, reads which of them a command line means.
 //!
@@ -17,6 +19,7 @@
 mod body;
 mod call;
 mod client;
+mod load;
 mod memory;
 mod parts;
 mod port;
@@ -26,10 +29,14 @@ mod server;
 mod streams;
 mod tally;
 mod text;
+mod wire_cases;
 
 pub use body::{RunFault, run_body};
 pub use client::{PATIENCE, Target, run_all_cases, run_case};
+pub use load::run_load;
 pub use memory::{MemoryInput, MemoryOutput};
 pub use parts::run_parts;
 pub use server::{listen, run_self, serve};
-pub use words::{CaseWords, Port, Reason, ServeWords, Words, WordsFault, read_words};
+pub use wire::WireFault;
+pub use wire_cases::run_wire;
+pub use words::{CaseWords, Port, Reason, ServeWords, WireWords, Words, WordsFault, read_words};

@@ -7,6 +7,7 @@
 //! - `interop self` runs them against a server of its own.
 //! - `interop misbehave NAME --port P` misbehaves as a server, and says whether the client does right.
 //! - `interop parts` serves the bytes of one connection, read as hexadecimal text, and prints what they are answered with.
+//! - `interop wire CASES --port P` sends a server what no client should, and judges what it answers.
 //! - `interop body --cut N` reads the joined DATA bytes of one call as hexadecimal text, takes them in pieces of N bytes, and
 //!   prints the messages that they spell (gRPC over HTTP/2, "Length-Prefixed-Message"), then the end or the fault. It reads all of
 //!   its input before it prints anything, and its text is a function of that input, in whatever pieces.
@@ -23,8 +24,8 @@ mod gates;
 mod misbehaving;
 
 use commands::{
-    CaseWords, Reason, RunFault, ServeWords, Words, WordsFault, listen, read_words, run_body,
-    run_case, run_parts, run_self, serve,
+    CaseWords, Reason, RunFault, ServeWords, WireFault, WireWords, Words, WordsFault, listen,
+    read_words, run_body, run_case, run_load, run_parts, run_self, run_wire, serve,
 };
 use connection::OpenGate;
 use device::Marked;
@@ -36,7 +37,7 @@ use std::alloc::{AllocError, Global};
 use std::io::ErrorKind;
 use std::net::{Net, TcpListener, TcpStream};
 use std::process::ExitCode;
-use std::rt::Env;
+use std::rt::{Env, Files};
 use std::sync::{Arc, Wait};
 use std::thread::Threads;
 use std::time::Clock;
@@ -55,11 +56,14 @@ const HELP: &str = "\
 The gRPC interop test server's program.
 
 Usage: interop [body --cut N]
-       interop case NAME --port P [--host H] [--times N] [--timeout S]
+       interop case NAME --port P [--host H] [--times N] [--streams K] [--timeout S]
        interop misbehave (NAME --port P [--timeout S] | --list)
        interop parts
        interop self [--port P]
        interop serve (--port P | --any-port) [--host H] [--conns N] [--report]
+       interop wire (all | GROUP | GROUP/N) --port P [--host H] [--silence S] [--verbose]
+                    [--json FILE]
+       interop wire --list
 
   body --cut N   read the joined DATA bytes of one call as hexadecimal text, in pieces
                  of N bytes (1 to 65536), and print its messages; this with N = 3 is
@@ -67,8 +71,10 @@ Usage: interop [body --cut N]
   case NAME      run the test case of this name as a client against the server at port P of
                  H (127.0.0.1 if no host is given), or all of them where NAME is all, and
                  print a line of each; what differed is told on standard error. With --times
-                 each is run N times, and its line tells how many of the runs passed. A read or
-                 a write that takes S seconds (10 if not given) fails. The flags of gRPC's own
+                 each is run N times, and its line tells how many of the runs passed; with
+                 --streams K runs go at a time, each over a connection of its own, and a line
+                 tells within which times 50 and 99 of 100 ended. A read or a write that takes S
+                 seconds (10 if not given) fails. The flags of gRPC's own
                  clients do too: --test_case=NAME --server_host=H --server_port=P --use_tls=false
   misbehave NAME misbehave as a server on port P of 127.0.0.1 in the way of this name, or in all ways,
                  each on the next port, where NAME is all, and print whether the client does right;
@@ -82,6 +88,12 @@ Usage: interop [body --cut N]
                  or on a port that the system chooses, until it is interrupted, or N connections
                  were served; the line listening HOST:PORT tells where; with --report print a
                  line of each connection that ends, and of each call on it
+  wire           send the server at port P of H what no real client would, judge what it answers
+                 by RFC 9113, RFC 7541 and gRPC, and print a line of each case: of all, of a
+                 group (start, conn, hpack, stream, flow, control, grpc), or of one, as grpc/4.
+                 Silence of S milliseconds (1000 if not given) ends a case. --verbose tells what
+                 was sent; --json writes the outcomes to FILE, and what a failed case sent to
+                 FILE.GROUP-N.hex, which parts takes; --list prints all cases
   -h, --help     print this text, also behind a command
   --version      print the version
 
@@ -93,8 +105,9 @@ status_code_and_message, special_status_message, unimplemented_method,
 unimplemented_service, cancel_after_begin, cancel_after_first_response,
 timeout_on_sleeping_server.
 
-Exit status: 0 done, 1 a case failed, or a client, 2 bad arguments or input, 3 input, output, memory or
-the port failed; why a port can't be had, and which argument is bad, is told on standard error.";
+Exit status: 0 done, 1 a case failed (of wire one of level must) or a client, 2 bad arguments or input,
+3 input, output, memory or the port failed; why a port can't be had, and which argument is bad,
+is told on standard error.";
 
 // What is said to words that ask about the program itself: one of them alone, or the one for help behind a command.
 fn self_description(words: &[String]) -> Option<&'static str> {
@@ -128,12 +141,33 @@ fn print_body<R: Input + Print + Eprint + AllocGlobal>(rt: &R, cut: usize) -> u8
 }
 
 // Runs the cases that the words name, and answers the exit status.
-fn try_server<R: Net + Print + Eprint + AllocGlobal>(rt: &R, words: CaseWords<'_>) -> u8 {
+fn try_server<R>(rt: &R, words: CaseWords<'_>) -> u8
+where
+    R: Net + Print + Eprint + AllocGlobal + Clock + Threads + Sync,
+{
     let mut output = Marked::new(io::writer(rt));
-    match run_case(rt, words, &mut output) {
+    let answer = match words.streams {
+        Some(streams) => run_load(rt, words, streams, &mut output),
+        None => run_case(rt, words, &mut output),
+    };
+    match answer {
         Ok(true) => 0,
         Ok(false) => CASE_FAILED,
         Err(_) => FAILED,
+    }
+}
+
+// Lists or runs the wire cases that the words choose, and answers the exit status.
+fn try_wire<R>(rt: &R, words: WireWords<'_>) -> u8
+where
+    R: Net + Files + Print + Eprint + AllocGlobal,
+{
+    let mut output = Marked::new(io::writer(rt));
+    match run_wire(rt, words, &mut output) {
+        Ok(true) => 0,
+        Ok(false) => CASE_FAILED,
+        Err(WireFault::UnknownCase) => complain(rt, "there is no such wire case"),
+        Err(WireFault::BadRow | WireFault::WriteFailed | WireFault::OutOfMemory) => FAILED,
     }
 }
 
@@ -230,6 +264,7 @@ fn obey<R>(rt: &R, words: &[String]) -> u8
 where
     R: Net<Stream = TcpStream, Listener = TcpListener> + Input + Print + Eprint + AllocGlobal,
     R: Threads + Wait + Clock + Copy + Send + Sync + Drop + 'static,
+    R: Files,
 {
     if let Some(text) = self_description(words) {
         return match println!(rt; "{text}") {
@@ -249,6 +284,7 @@ fn obey_words<R>(rt: &R, words: Words<'_>) -> Result<u8, AllocError>
 where
     R: Net<Stream = TcpStream, Listener = TcpListener> + Input + Print + Eprint + AllocGlobal,
     R: Threads + Wait + Clock + Copy + Send + Sync + Drop + 'static,
+    R: Files,
     requires { IsInRange words }
 {
     match words {
@@ -258,6 +294,7 @@ where
         Words::Serve(words) => obey_server(*rt, Server::Serve(words)),
         Words::SelfTest(port) => obey_server(*rt, Server::SelfTest(port)),
         Words::Misbehave(words) => Ok(misbehaving::obey_misbehave(*rt, words)),
+        Words::Wire(words) => Ok(try_wire(rt, words)),
     }
 }
 

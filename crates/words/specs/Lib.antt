@@ -4,5 +4,6 @@ pub mod Misbehave
 pub mod Options
 pub mod SelfTest
 pub mod Serve
+pub mod Wire
 pub mod Words
 pub mod WordsExamples

@@ -10,6 +10,8 @@ use Rattle.words.specs.Case.{Trial, case_command, trial, trial_of}
 use Rattle.words.specs.Misbehave.{IsPlayable, Misbehaving, misbehave_command, misbehaving, misbehaving_of}
 use Rattle.words.specs.SelfTest.{own_port_of, self_command}
 use Rattle.words.specs.Serve.{Serving, IsPort, serve_command, serving, serving_of}
+use Rattle.words.specs.Wire.{Told, told, told_of, wire_command}
+use Rattle.words.specs.Wire as wire
 use Rattle.words.specs.declared.read.Words.{Words}
 use Rattle.words.specs.declared.read.Words.TheVariants as words
 use Rattle.words.specs.declared.read.WordsFault.{WordsFault}
@@ -27,9 +29,14 @@ bare_line = on_top (λ top. record top {
 
 abbrev pub command_line : App
 command_line =
-    with_subcommand (with_subcommand (with_subcommand (with_subcommand (with_subcommand (with_subcommand bare_line
-    body_command.top) (new_app (codes "parts")).top) serve_command.top) case_command.top) self_command.top)
-    misbehave_command.top
+    with_subcommand (with_subcommand (with_subcommand (with_subcommand (with_subcommand (with_subcommand (with_subcommand bare_line
+    body_command.top)
+    (new_app (codes "parts")).top)
+    serve_command.top)
+    case_command.top)
+    self_command.top)
+    misbehave_command.top)
+    wire_command.top
 
 -- what the program is told to do
 pub data Meaning : Type 0 where
@@ -39,6 +46,7 @@ pub data Meaning : Type 0 where
   try_case : Trial → Meaning
   try_itself : ℕ → Meaning
   misbehave : Misbehaving → Meaning
+  try_wire : Told → Meaning
 
 abbrev pub meaning : Words → Meaning
 meaning (words.Body cut) = print_body cut
@@ -47,6 +55,7 @@ meaning (words.Serve told) = serve (serving told)
 meaning (words.Case told) = try_case (trial told)
 meaning (words.SelfTest port) = try_itself port
 meaning (words.Misbehave told) = misbehave (misbehaving told)
+meaning (words.Wire words) = try_wire (told words)
 
 -- the command of a name and of the values of its options
 abbrev pub command_of : Text × List Row → Option Meaning
@@ -57,6 +66,7 @@ command_of p =
     else if bytes_eq p.0 (codes "case") then option_map try_case (trial_of p.1)
     else if bytes_eq p.0 (codes "self") then option_map try_itself (own_port_of p.1)
     else if bytes_eq p.0 (codes "misbehave") then option_map misbehave (misbehaving_of p.1)
+    else if bytes_eq p.0 (codes "wire") then option_map try_wire (told_of p.1)
     else None
 
 -- nothing, where `clap` refuses the words for any of these kinds of error
@@ -82,6 +92,7 @@ IsInRange (words.Serve told) = IsPort told.port
 IsInRange (words.Case told) = (1 ≤ told.port) × (1 ≤ told.times) × (1 ≤ told.patience)
 IsInRange (words.SelfTest port) = 1 ≤ port
 IsInRange (words.Misbehave told) = IsPlayable told
+IsInRange (words.Wire words) = wire.IsInRange words
 
 -- the words mean no command
 abbrev pub IsBad : WordsFault → Type 0

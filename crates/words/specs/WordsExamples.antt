@@ -1,7 +1,8 @@
 -- Command lines and what they mean.
 use Rattle.std.specs.Prelude.{◌≡◌, [], ◌∷◌, false, true, Some, None, codes, refl}
 use Rattle.clap.proofs.OnLiterals.{clap_on_literals}
-use Rattle.words.specs.Words.{command_meant, meaning_of, print_body, serve, try_case}
+use Rattle.words.specs.Wire.{list, run}
+use Rattle.words.specs.Words.{command_meant, meaning_of, print_body, serve, try_case, try_wire}
 use Rattle.words.specs.declared.serve.Port.TheVariants.{Any}
 
 pub no_words : meaning_of [] ≡ Some (print_body 3)
@@ -38,6 +39,7 @@ pub flags_of_grpc : meaning_of (codes "case" ∷ codes "--server_host=localhost"
       host = codes "localhost";
       port = 5;
       times = 1;
+      streams = None;
       patience = 10;
     }))
 unfolding clap_on_literals command_meant
@@ -46,3 +48,23 @@ flags_of_grpc = refl
 pub port_twice : meaning_of (codes "self" ∷ codes "--port=5" ∷ codes "--port=6" ∷ []) ≡ None
 unfolding clap_on_literals command_meant
 port_twice = refl
+
+pub wire_list : meaning_of (codes "wire" ∷ codes "--list" ∷ []) ≡ Some (try_wire list)
+unfolding clap_on_literals command_meant
+wire_list = refl
+
+pub wire_cases : meaning_of (codes "wire" ∷ codes "grpc/4" ∷ codes "--port=5" ∷ codes "--json" ∷ codes "a" ∷ [])
+    ≡ Some (try_wire (run (record {
+      cases = codes "grpc/4";
+      host = codes "127.0.0.1";
+      port = 5;
+      silence = 1000;
+      is_verbose = false;
+      json = Some (codes "a");
+    })))
+unfolding clap_on_literals command_meant
+wire_cases = refl
+
+pub wire_list_of_cases : meaning_of (codes "wire" ∷ codes "all" ∷ codes "--list" ∷ codes "--port=5" ∷ []) ≡ None
+unfolding clap_on_literals command_meant
+wire_list_of_cases = refl

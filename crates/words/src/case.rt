@@ -1,10 +1,10 @@
-//! `case NAME --port P`, with `--host H`, `--times N` and `--timeout S`; or by the flags of gRPC's own interop clients (gRPC,
+//! `case NAME --port P`, with `--host H`, `--times N`, `--streams K` and `--timeout S`; or by the flags of gRPC's own interop clients (gRPC,
 //! "Interoperability Test Case Descriptions"): `case --test_case=NAME --server_port=P --server_host=H --use_tls=false`.
 
 ghost use Rattle.std.specs.Prelude.{◌≡◌, ◌≤◌, false, IfOk, IfSome, option_map};
 ghost use Rattle.clap.specs.Words.{app_of, found_of, rows_of};
 ghost use Rattle.words.specs.Options.{IsCommand, IsOption};
-ghost use Rattle.words.specs.Case.{case_command, host_option, is_cleartext, port_option, times_option, timeout_option, tls_option, name_of, trial, trial_of};
+ghost use Rattle.words.specs.Case.{case_command, host_option, is_cleartext, port_option, streams_option, times_option, timeout_option, tls_option, name_of, trial, trial_of};
 
 use crate::options::{LOOPBACK, number_option, small_number_of, text_of, text_option};
 use clap::{Arg, ArgMatches, Command};
@@ -20,13 +20,15 @@ pub struct CaseWords<'a> {
     pub port: u16,
     /// How often it is run.
     pub times: u16,
+    /// How many runs go at a time, where their times are asked for.
+    pub streams: Option<u16>,
     /// How many seconds a read or a write may take before its case is given up.
     pub patience: u16,
 }
 
 /// The words that it takes.
 pub(crate) const TAKES: &str =
-    "NAME or --test_case NAME, --port P, --host H, --times N, --timeout S";
+    "NAME or --test_case NAME, --port P, --host H, --times N, --streams K, --timeout S";
 
 // `--port P`, also as `--server_port P`.
 fn port_option<'a>(alloc: Global) -> Result<Arg<'a>, AllocError>
@@ -53,6 +55,13 @@ fn times_option<'a>(alloc: Global) -> Arg<'a>
     number_option(alloc, "times", "a number of runs, 1 to 65535").default_value("1")
 }
 
+// `--streams K`.
+fn streams_option<'a>(alloc: Global) -> Arg<'a>
+    ensures { IsOption streams_option result }
+{
+    number_option(alloc, "streams", "a number of runs at a time, 1 to 65535")
+}
+
 // `--timeout S`.
 fn timeout_option<'a>(alloc: Global) -> Arg<'a>
     ensures { IsOption timeout_option result }
@@ -76,6 +85,7 @@ pub(crate) fn case_command<'a>(alloc: Global) -> Result<Command<'a>, AllocError>
         .arg(port_option(alloc)?)?
         .arg(host_option(alloc)?)?
         .arg(times_option(alloc))?
+        .arg(streams_option(alloc))?
         .arg(timeout_option(alloc))?
         .arg(tls_option(alloc))
 }
@@ -111,6 +121,7 @@ pub(crate) fn trial_of<'a>(options: &ArgMatches<'a>) -> Option<CaseWords<'a>>
         host,
         port,
         times,
+        streams: small_number_of(options, "streams"),
         patience,
     };
     is_cleartext(options).then_some(told)

@@ -2,7 +2,8 @@
 //!
 //! `read_words` reads them by `clap`; its contract is `clap`'s meaning of the command line that `specs/Words.antt` defines.
 //!
-//! - `body`, `serve`, `case`, `self_test`, `misbehave`: a file for each command that has options: the options, and what is read of them.
+//! - `body`, `serve`, `case`, `self_test`, `misbehave`, `wire`: a file for each command that has options: the options, and what is
+//!   read of them.
 //! - `read`: all commands, and `read_words`. A further command has a file of its own, a variant of `Words`, and a line each
 //!   in `COMMANDS`, `command_line` and `command_of`.
 //! - `options`: the kinds of option.
@@ -17,6 +18,7 @@ mod read;
 mod reason;
 mod self_test;
 mod serve;
+mod wire;
 
 pub use body::MAX_CUT;
 pub use case::CaseWords;
@@ -25,3 +27,4 @@ pub use options::LOOPBACK;
 pub use read::{COMMANDS, Words, WordsFault, read_words};
 pub use reason::Reason;
 pub use serve::{Port, ServeWords};
+pub use wire::{WireRun, WireWords};

@@ -10,12 +10,13 @@ use crate::misbehave::{MisbehaveWords, misbehave_command, misbehaving_of};
 use crate::reason::{Reason, reason_of};
 use crate::self_test::{own_port_of, self_command};
 use crate::serve::{ServeWords, serve_command, serving_of};
+use crate::wire::{WireWords, wire_command, wire_of};
 use clap::error::ErrorKind;
 use clap::{ArgMatches, Command};
 use std::alloc::{AllocError, Global};
 
 /// The names of the commands.
-pub const COMMANDS: [&str; 6] = ["body", "case", "misbehave", "parts", "self", "serve"];
+pub const COMMANDS: [&str; 7] = ["body", "case", "misbehave", "parts", "self", "serve", "wire"];
 
 /// What the program is told to do.
 #[derive(Clone, Copy, Debug, PartialEq, Eq)]
@@ -32,6 +33,8 @@ pub enum Words<'a> {
     SelfTest(u16),
     /// Misbehave as a server.
     Misbehave(MisbehaveWords<'a>),
+    /// Run wire cases against a server, or list them.
+    Wire(WireWords<'a>),
 }
 
 /// Why words are not obeyed.
@@ -87,7 +90,8 @@ pub(crate) fn command_line<'a>(alloc: Global) -> Result<Command<'a>, AllocError>
         .subcommand(serve_command(alloc)?)?
         .subcommand(case_command(alloc)?)?
         .subcommand(self_command(alloc)?)?
-        .subcommand(misbehave_command(alloc)?)
+        .subcommand(misbehave_command(alloc)?)?
+        .subcommand(wire_command(alloc)?)
 }
 
 // A command with the values of its options.
@@ -102,6 +106,7 @@ fn command_of<'a>(name: &str, options: &ArgMatches<'a>) -> Option<Words<'a>>
         "case" => Some(Words::Case(trial_of(options)?)),
         "self" => Some(Words::SelfTest(own_port_of(options)?)),
         "misbehave" => Some(Words::Misbehave(misbehaving_of(options)?)),
+        "wire" => Some(Words::Wire(wire_of(options)?)),
         _ => None,
     }
 }

@@ -4,7 +4,7 @@
 //! of them that the command does not take; where each is taken, something is missing, or two things exclude each other.
 
 use crate::read::{COMMANDS, command_line};
-use crate::{body, case, misbehave, self_test, serve};
+use crate::{body, case, misbehave, self_test, serve, wire};
 use clap::builder::ValueParser;
 use clap::{Arg, ArgAction, Command};
 use std::alloc::{AllocError, Global};
@@ -66,6 +66,7 @@ fn takes(command: &str) -> &'static str {
         "misbehave" => misbehave::TAKES,
         "self" => self_test::TAKES,
         "serve" => serve::TAKES,
+        "wire" => wire::TAKES,
         _ => "no words",
     }
 }
@@ -281,9 +282,16 @@ fn reason_of_whole<'a>(command: &'a str, words: &[String], is_placed: bool) -> R
         }
         "misbehave" if is_placed => "--port P",
         "misbehave" => "NAME, or --list",
+        "wire" if is_placed && has_option(words, "--list") => {
+            return Reason::Excluding {
+                both: "CASES and --list",
+            };
+        }
         "serve" => "--port P or --any-port",
         "case" if is_placed || has_option(words, "--test_case") => "--port P",
         "case" => "NAME or --test_case NAME",
+        "wire" if is_placed => "--port P",
+        "wire" => "all, GROUP or GROUP/N, or --list",
         _ => takes(command),
     };
     Reason::Missing { command, what }

@@ -10,6 +10,7 @@ returns c =
     let port = with_option _ _ _ _ _ c.in_ok-arg-3.ensures test_case c.in_ok-port_option.ensures in
     let host = with_option _ _ _ _ _ c.in_ok-arg-4.ensures port c.in_ok-host_option.ensures in
     let times = with_option _ _ _ _ _ c.in_ok-arg-5.ensures host c.times_option.ensures in
-    let timeout = with_option _ _ _ _ _ c.in_ok-arg-6.ensures times c.timeout_option.ensures in
-    IfOk-weaker c.arg-7.result _ _ (λ command added.
-    with_option _ _ _ _ _ added timeout c.tls_option.ensures) c.arg-7.ensures
+    let streams = with_option _ _ _ _ _ c.in_ok-arg-6.ensures times c.streams_option.ensures in
+    let timeout = with_option _ _ _ _ _ c.in_ok-arg-7.ensures streams c.timeout_option.ensures in
+    IfOk-weaker c.arg-8.result _ _ (λ command added.
+    with_option _ _ _ _ _ added timeout c.tls_option.ensures) c.arg-8.ensures

@@ -9,5 +9,6 @@ returns c =
     let serve = with_command _ _ _ _ _ c.in_ok-subcommand-3.ensures parts c.in_ok-serve_command.ensures in
     let case = with_command _ _ _ _ _ c.in_ok-subcommand-4.ensures serve c.in_ok-case_command.ensures in
     let own = with_command _ _ _ _ _ c.in_ok-subcommand-5.ensures case c.in_ok-self_command.ensures in
-    IfOk-weaker c.subcommand-6.result _ _ (λ command added.
-    with_command _ _ _ _ _ added own c.in_ok-misbehave_command.ensures) c.subcommand-6.ensures
+    let misbehave = with_command _ _ _ _ _ c.in_ok-subcommand-6.ensures own c.in_ok-misbehave_command.ensures in
+    IfOk-weaker c.subcommand-7.result _ _ (λ command added.
+    with_command _ _ _ _ _ added misbehave c.in_ok-wire_command.ensures) c.subcommand-7.ensures

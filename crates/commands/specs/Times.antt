@@ -1,0 +1,6 @@
+-- How long runs of a case took.
+use Rattle.std.specs.Prelude.{ℕ, ◌+◌, ◌*◌, ◌-◌, ◌/◌}
+
+-- the index of the nearest rank: that of the least of so many times, in their order, within which so many of 100 are
+abbrev pub rank_of : ℕ → ℕ → ℕ
+rank_of count percent = (count * percent + 99) / 100 - 1

@@ -1,0 +1,129 @@
+//! `case` with `--streams K`: K runs at a time, each over a connection of its own, and how long they took.
+
+ghost use Rattle.std.specs.Prelude.{◌≡◌, ◌<◌, ◌≤◌, length, slice_get};
+ghost use Rattle.commands.specs.Times.{rank_of};
+
+use crate::client::{Target, try_case};
+use crate::tally::{Tally, print_tally};
+use cases::{Case, CaseFault, ReportFault};
+use device::{ConnWrite, write_all};
+use std::alloc::{AllocError, Global};
+use std::net::Net;
+use std::thread;
+use std::thread::Threads;
+use std::time::{Clock, Instant};
+use words::CaseWords;
+
+/// What came of a run.
+#[derive(Clone, Copy, Debug, PartialEq, Eq)]
+struct Run {
+    fault: Option<CaseFault>,
+    /// How long it took, in microseconds.
+    took: u64,
+}
+
+/// Runs the case that the words name, or each of them, as often as they say, so many at a time. It prints a line of each and one
+/// of its times: within which half of the runs ended, and 99 of 100. It answers whether no run failed.
+pub fn run_load<R, W>(
+    rt: &R,
+    words: CaseWords<'_>,
+    streams: u16,
+    output: &mut W,
+) -> Result<bool, ReportFault>
+where
+    R: Net + Eprint + AllocGlobal + Clock + Threads + Sync,
+    W: ConnWrite,
+{
+    if words.name != "all" {
+        return load_case(rt, words.name, words, streams, output);
+    }
+    let mut have_passed = true;
+    for case in Case::ALL {
+        let has_passed = load_case(rt, case.name(), words, streams, output)?;
+        have_passed = have_passed && has_passed;
+    }
+    Ok(have_passed)
+}
+
+/// Runs a case as often as the words say, prints its lines, and answers whether no run failed.
+fn load_case<R, W>(
+    rt: &R,
+    name: &str,
+    words: CaseWords<'_>,
+    streams: u16,
+    output: &mut W,
+) -> Result<bool, ReportFault>
+where
+    R: Net + Eprint + AllocGlobal + Clock + Threads + Sync,
+    W: ConnWrite,
+{
+    let alloc = rt.alloc();
+    let target = Target {
+        host: words.host,
+        port: words.port,
+        patience: words.patience,
+    };
+    let none = Run {
+        fault: None,
+        took: 0,
+    };
+    let mut runs = Vec::new(alloc);
+    runs.resize(usize::from(words.times), none)?;
+    let streams = usize::from(streams);
+    thread::for_each_mut(
+        rt,
+        runs.as_mut_slice(),
+        streams,
+        &|_, run| *run = try_once(rt, name, target),
+    );
+    let mut tally = Tally::new();
+    for run in runs.as_slice() {
+        tally.count(match run.fault {
+            None => Ok(()),
+            Some(fault) => Err(fault),
+        });
+    }
+    print_tally(alloc, name, tally, words.times, output)?;
+    print_times(alloc, runs.as_slice(), output)?;
+    Ok(tally.has_passed())
+}
+
+/// Runs a case, and looks at the clock.
+fn try_once<R: Net + Eprint + AllocGlobal + Clock>(rt: &R, name: &str, target: Target<'_>) -> Run {
+    let begun = Instant::now(rt);
+    let fault = try_case(rt, name, target).err();
+    let took = match begun.and_then(|begun| begun.elapsed(rt)) {
+        Ok(took) => u64::try_from(took.as_micros()).unwrap_or(u64::MAX),
+        Err(_) => 0,
+    };
+    Run { fault, took }
+}
+
+/// Prints within which time half of the runs ended, and 99 of 100.
+fn print_times<W: ConnWrite>(
+    alloc: Global,
+    runs: &[Run],
+    output: &mut W,
+) -> Result<(), ReportFault> {
+    let mut times = Vec::new(alloc);
+    for run in runs {
+        times.push(run.took)?;
+    }
+    times.sort()?;
+    let times = times.as_slice();
+    let median = percentile(times, 50).unwrap_or(0);
+    let most = percentile(times, 99).unwrap_or(0);
+    let text = format!(in alloc; "  p50 {median} us, p99 {most} us\n")?;
+    write_all(output, text.as_bytes())?;
+    Ok(())
+}
+
+/// The least of these times, which stand in their order, within which so many of 100 are.
+fn percentile(times: &[u64], percent: usize) -> Option<u64>
+    requires { length times.now < 2 ^ 32 }
+    requires { percent ≤ 100 }
+    ensures { result ≡ slice_get times.now (rank_of (length times.now) percent) }
+{
+    let rank = (times.len() * percent).div_ceil(100);
+    times.get(rank.saturating_sub(1)).copied()
+}

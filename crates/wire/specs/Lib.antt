@@ -1,0 +1,3 @@
+pub mod Frames
+pub mod Levels
+pub mod Reactions

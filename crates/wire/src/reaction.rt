@@ -1,0 +1,257 @@
+//! What a server under test may do, as the rows have it.
+//!
+//! A row's lawful reactions are lines of `want`, any of which suffices; in a line several that all hold stand with `and`
+//! between them. Each is a word, the stream where there is one, and numbers or a text:
+//!
+//! - `connection 1 6`: GOAWAY with one of these errors, or the end of the connection without one that says an error.
+//! - `goaway 1`: GOAWAY with one of these errors. `closed`: the end of the connection.
+//! - `reset 3 5`: RST_STREAM of stream 3 with one of the errors behind it; any error where none is named.
+//! - `stream 3 5`: that, or `connection` with one of these errors: an endpoint may end the connection in place of a stream
+//!   (RFC 9113, section 5.4.1).
+//! - `status 1 13`: stream 1 ended with one of these statuses of gRPC, its response being `:status` 200.
+//! - `http 1 415`: the response on stream 1 has one of these `:status`.
+//! - `answered 1`: stream 1 ended with END_STREAM. `open 1`: it neither ended nor was reset. `nothing 1`: nothing came on it.
+//! - `failed 1`: it ended with a status other than 0 or an `:status` of 400 or more, or was reset.
+//! - `data 1 10`: so many bytes of DATA came on it. `begun 1`: some DATA. `total 65535`: so many on all streams.
+//! - `largest 16384`: no DATA frame had more bytes than that.
+//! - `replies 1 4`: so many whole messages came on it. `reply 1 0801`: the last one is this.
+//! - `head 1 NAME=VALUE`, `trailer 1 NAME=VALUE`: such a field came in the first, the last header block. `without 1 NAME`: no
+//!   field of this name came. `single 1`: one header block came, and no DATA.
+//! - `same 1 3`: both ended with the same `:status` and the same status of gRPC.
+//! - `block 1 20`: the first header block on it begins with these bytes.
+//! - `ping 0102..`: PING with ACK and these bytes came. `silent 0102..`: none did.
+//! - `acks 2`: so many SETTINGS were acknowledged. `first`: the server's first frame is SETTINGS. `settings`: all its SETTINGS
+//!   are lawful.
+//! - `orderly`: no DATA or HEADERS came on a stream behind the server's own END_STREAM or RST_STREAM.
+//! - `ignored`: the last PING was answered, and nothing was an error. `text`: what came are no frames, but text of HTTP/1.
+//! - `unlimited`: the server announced no limit of streams below 1,001. `crowded 1 7`: some stream was reset with such an error.
+
+use crate::content::read_content;
+use crate::fault::WireFault;
+use std::alloc::{AllocError, Global};
+
+/// Numbers of which one is lawful.
+pub type Codes = Vec<u32>;
+
+#[derive(Drop)]
+pub enum Reaction {
+    Connection(Codes),
+    Goaway(Codes),
+    Closed,
+    Reset {
+        stream: u32,
+        codes: Codes,
+    },
+    Stream {
+        stream: u32,
+        codes: Codes,
+    },
+    Status {
+        stream: u32,
+        codes: Codes,
+    },
+    Http {
+        stream: u32,
+        codes: Codes,
+    },
+    Answered(u32),
+    Failed(u32),
+    Open(u32),
+    Nothing(u32),
+    Data {
+        stream: u32,
+        count: u64,
+    },
+    Begun(u32),
+    Total(u64),
+    Largest(u64),
+    Replies {
+        stream: u32,
+        count: u64,
+    },
+    Reply {
+        stream: u32,
+        content: Vec<u8>,
+    },
+    Head {
+        stream: u32,
+        name: &'static str,
+        value: &'static str,
+    },
+    Trailer {
+        stream: u32,
+        name: &'static str,
+        value: &'static str,
+    },
+    Without {
+        stream: u32,
+        name: &'static str,
+    },
+    Single(u32),
+    Same {
+        stream: u32,
+        other: u32,
+    },
+    Block {
+        stream: u32,
+        front: Vec<u8>,
+    },
+    Ping(Vec<u8>),
+    Silent(Vec<u8>),
+    Acks(u64),
+    First,
+    Settings,
+    Ignored,
+    Orderly,
+    Text,
+    Unlimited,
+    Crowded(Codes),
+}
+
+/// A way in which a case is passed.
+#[derive(Drop)]
+pub struct Lawful {
+    /// What has to hold, all of it.
+    pub all: Vec<Reaction>,
+    /// Its line, as it is printed.
+    pub text: &'static str,
+}
+
+/// Reads a line of lawful reactions.
+pub fn read_lawful(alloc: Global, text: &'static str) -> Result<Lawful, WireFault> {
+    let mut all = Vec::new(alloc);
+    for part in text.split(" and ") {
+        all.push(read_reaction(alloc, part.trim())?)?;
+    }
+    Ok(Lawful { all, text })
+}
+
+/// The first word of a text, and what stands behind the blank.
+pub fn first_word(text: &'static str) -> (&'static str, &'static str) {
+    match text.split_once(' ') {
+        Some((word, rest)) => (word, rest.trim()),
+        None => (text, ""),
+    }
+}
+
+/// Reads a reaction.
+pub fn read_reaction(alloc: Global, text: &'static str) -> Result<Reaction, WireFault> {
+    let (word, rest) = first_word(text);
+    match word {
+        "closed" => Ok(Reaction::Closed),
+        "first" => Ok(Reaction::First),
+        "settings" => Ok(Reaction::Settings),
+        "ignored" => Ok(Reaction::Ignored),
+        "orderly" => Ok(Reaction::Orderly),
+        "text" => Ok(Reaction::Text),
+        "unlimited" => Ok(Reaction::Unlimited),
+        "connection" => Ok(Reaction::Connection(read_codes(alloc, rest)?)),
+        "goaway" => Ok(Reaction::Goaway(read_codes(alloc, rest)?)),
+        "crowded" => Ok(Reaction::Crowded(read_codes(alloc, rest)?)),
+        "ping" => Ok(Reaction::Ping(read_content(alloc, rest)?)),
+        "silent" => Ok(Reaction::Silent(read_content(alloc, rest)?)),
+        "acks" => Ok(Reaction::Acks(read_count(rest)?)),
+        "total" => Ok(Reaction::Total(read_count(rest)?)),
+        "largest" => Ok(Reaction::Largest(read_count(rest)?)),
+        _ => {
+            let (stream, rest) = first_word(rest);
+            read_on_stream(alloc, word, read_stream(stream)?, rest)
+        }
+    }
+}
+
+/// Reads a reaction on a stream: its word, and what stands behind the stream.
+fn read_on_stream(
+    alloc: Global,
+    word: &'static str,
+    stream: u32,
+    rest: &'static str,
+) -> Result<Reaction, WireFault> {
+    match word {
+        "answered" => Ok(Reaction::Answered(stream)),
+        "failed" => Ok(Reaction::Failed(stream)),
+        "open" => Ok(Reaction::Open(stream)),
+        "nothing" => Ok(Reaction::Nothing(stream)),
+        "begun" => Ok(Reaction::Begun(stream)),
+        "single" => Ok(Reaction::Single(stream)),
+        "without" => Ok(Reaction::Without { stream, name: rest }),
+        "head" | "trailer" => read_field(word, stream, rest),
+        "data" => Ok(Reaction::Data {
+            stream,
+            count: read_count(rest)?,
+        }),
+        "replies" => Ok(Reaction::Replies {
+            stream,
+            count: read_count(rest)?,
+        }),
+        "same" => Ok(Reaction::Same {
+            stream,
+            other: read_stream(rest)?,
+        }),
+        "reply" => Ok(Reaction::Reply {
+            stream,
+            content: read_content(alloc, rest)?,
+        }),
+        "block" => Ok(Reaction::Block {
+            stream,
+            front: read_content(alloc, rest)?,
+        }),
+        _ => read_codes_on_stream(word, stream, read_codes(alloc, rest)?),
+    }
+}
+
+fn read_codes_on_stream(word: &str, stream: u32, codes: Codes) -> Result<Reaction, WireFault> {
+    match word {
+        "reset" => Ok(Reaction::Reset { stream, codes }),
+        "stream" => Ok(Reaction::Stream { stream, codes }),
+        "status" => Ok(Reaction::Status { stream, codes }),
+        "http" => Ok(Reaction::Http { stream, codes }),
+        _ => Err(WireFault::BadRow),
+    }
+}
+
+fn read_field(word: &str, stream: u32, rest: &'static str) -> Result<Reaction, WireFault> {
+    let (name, value) = rest.split_once('=').ok_or(WireFault::BadRow)?;
+    Ok(match word {
+        "head" => Reaction::Head {
+            stream,
+            name,
+            value,
+        },
+        _ => Reaction::Trailer {
+            stream,
+            name,
+            value,
+        },
+    })
+}
+
+/// The number of a stream.
+pub fn read_stream(word: &str) -> Result<u32, WireFault> {
+    word.parse::<u32>().map_err(|_| WireFault::BadRow)
+}
+
+/// A number.
+pub fn read_count(word: &str) -> Result<u64, WireFault> {
+    word.parse::<u64>().map_err(|_| WireFault::BadRow)
+}
+
+/// Numbers with blanks between them.
+fn read_codes(alloc: Global, text: &str) -> Result<Codes, WireFault> {
+    let mut codes = Vec::new(alloc);
+    for word in text.split_whitespace() {
+        codes.push(read_stream(word)?)?;
+    }
+    Ok(codes)
+}
+
+/// Adds numbers with `or` between them.
+pub fn push_codes(text: &mut String, codes: &[u32]) -> Result<(), AllocError> {
+    for (place, code) in codes.iter().enumerate() {
+        if place > 0 {
+            text.push_str(" or ")?;
+        }
+        write!(text, "{code}")?;
+    }
+    Ok(())
+}

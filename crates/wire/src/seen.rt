@@ -1,0 +1,358 @@
+//! What came on a connection, and whether a reaction is among it.
+
+ghost use Rattle.std.specs.Prelude.{◌≡◌, IfOk, IsTrue};
+ghost use Rattle.std.specs.BTreeMap.{get};
+ghost use Rattle.std.specs.List.{Any};
+ghost use Rattle.std.specs.Ordering.{nat_cmp};
+
+use crate::fault::WireFault;
+use crate::reaction::{Lawful, Reaction};
+use crate::stream_seen::{StreamSeen, has_field, value_of};
+use h2frame::SettingId;
+use session::Parameter;
+use std::alloc::{AllocError, Global};
+use std::collections::BTreeMap;
+
+/// A server that allows more streams than this counts as one without a limit.
+const MANY_STREAMS: u32 = 1_000;
+
+/// The window of a stream while nothing else was said (RFC 9113, section 6.9.2).
+const FIRST_WINDOW: u64 = 65_535;
+
+/// Streams whose reactions are told of a case that failed.
+const TOLD: usize = 4;
+
+#[derive(Drop)]
+pub struct Seen {
+    alloc: Global,
+    pub streams: BTreeMap<u32, StreamSeen>,
+    /// The contents of the PINGs that were acknowledged.
+    pub pings: Vec<Vec<u8>>,
+    pub acks: u64,
+    /// Whether SETTINGS of the server came, whether they came first, and whether all are lawful.
+    pub greeted: bool,
+    pub first_settings: bool,
+    pub lawful_settings: bool,
+    pub any_frame: bool,
+    /// How many streams the server allows, if it says so.
+    pub limit: Option<u32>,
+    pub window: u64,
+    /// What the server granted to the connection.
+    pub credit: u64,
+    /// The most bytes of a DATA frame.
+    pub largest: u64,
+    pub goaway: Option<u32>,
+    pub closed: bool,
+    /// Whether the last PING of `sync` was answered.
+    pub synced: bool,
+    /// Whether DATA or HEADERS came on a stream behind the server's own end of it.
+    pub late: bool,
+    /// Whether text of HTTP/1 came in place of frames.
+    pub text: bool,
+    /// What the server did that no server may, whatever it was sent.
+    pub wrong: Option<&'static str>,
+}
+
+impl Seen {
+    ghost use Rattle.wire.specs.Reactions.{IsLawful, Judges, has_ended, was_reset};
+
+    pub fn new(alloc: Global) -> Seen {
+        Seen {
+            alloc,
+            streams: BTreeMap::new(alloc),
+            pings: Vec::new(alloc),
+            acks: 0,
+            greeted: false,
+            first_settings: false,
+            lawful_settings: true,
+            any_frame: false,
+            limit: None,
+            window: FIRST_WINDOW,
+            credit: 0,
+            largest: 0,
+            goaway: None,
+            closed: false,
+            synced: false,
+            late: false,
+            text: false,
+            wrong: None,
+        }
+    }
+
+    /// How many streams the server allows, if it isn't many.
+    pub fn few_streams(&self) -> Option<u32> {
+        match self.limit {
+            Some(limit) if limit <= MANY_STREAMS => Some(limit),
+            _ => None,
+        }
+    }
+
+    /// Takes a parameter of the server's SETTINGS.
+    pub fn parameter(&mut self, parameter: &Parameter) {
+        let value = parameter.value;
+        if parameter.fault().is_some() {
+            self.lawful_settings = false;
+        }
+        match parameter.id {
+            SettingId::MaxConcurrentStreams => self.limit = Some(value),
+            SettingId::InitialWindowSize => self.window = u64::from(value),
+            SettingId::EnablePush => self.lawful_settings = self.lawful_settings && value == 0,
+            _ => {}
+        }
+    }
+
+    /// Whether one of these ways to pass is what came.
+    pub fn is_one_lawful(&self, ways: &[Lawful]) -> Result<bool, WireFault>
+        ensures { IfOk result (λ passed. IsTrue passed → Any (IsLawful self.now) ways.now) }
+    {
+        for lawful in ways {
+            if self.is_lawful(lawful)? {
+                return Ok(true);
+            }
+        }
+        Ok(false)
+    }
+
+    /// Whether all of these reactions hold, and the server did nothing that no server may.
+    pub fn is_lawful(&self, lawful: &Lawful) -> Result<bool, WireFault>
+        ensures { IfOk result (λ passed. IsTrue passed → IsLawful self.now lawful.now) }
+    {
+        for reaction in lawful.all.as_slice() {
+            if !self.holds(reaction)? {
+                return Ok(false);
+            }
+        }
+        Ok(self.wrong.is_none())
+    }
+
+    /// Whether this reaction is among what came.
+    pub fn holds(&self, reaction: &Reaction) -> Result<bool, WireFault>
+        ensures { IfOk result (Judges self.now reaction.now) }
+    {
+        Ok(match reaction {
+            Reaction::Connection(codes) => self.has_ended(codes.as_slice()),
+            Reaction::Goaway(codes) => is_one_of(self.goaway, codes.as_slice()),
+            Reaction::Closed => self.closed,
+            Reaction::Reset { stream, codes } => self.was_reset(*stream, codes.as_slice()),
+            Reaction::Stream { stream, codes } => {
+                let codes = codes.as_slice();
+                self.has_ended(codes) || self.was_reset(*stream, codes)
+            }
+            Reaction::Ping(content) => self.was_echoed(content.as_slice()),
+            Reaction::Silent(content) => !self.was_echoed(content.as_slice()),
+            Reaction::Acks(count) => self.acks == *count,
+            Reaction::Total(count) => self.total() == *count,
+            Reaction::Largest(most) => self.largest <= *most,
+            Reaction::First => self.first_settings,
+            Reaction::Settings => self.greeted && self.lawful_settings,
+            Reaction::Ignored => self.is_well(),
+            Reaction::Orderly => !self.late,
+            Reaction::Text => self.text,
+            Reaction::Unlimited => self.few_streams().is_none() && self.is_well(),
+            Reaction::Crowded(codes) => self.is_crowded(codes.as_slice()),
+            _ => return self.holds_on_stream(reaction),
+        })
+    }
+
+    /// Whether a reaction on a stream is among what came that isn't an error.
+    fn holds_on_stream(&self, reaction: &Reaction) -> Result<bool, WireFault> {
+        match reaction {
+            Reaction::Nothing(stream) => Ok(match self.streams.get(stream) {
+                Some(seen) => seen.is_empty(),
+                None => true,
+            }),
+            Reaction::Data { stream, count } => Ok(self.count_on(*stream) == *count),
+            Reaction::Same { stream, other } => self.are_same(*stream, *other),
+            Reaction::Open(stream) => Ok(
+                !self.closed
+                    && match self.streams.get(stream) {
+                        Some(seen) => !seen.ended && seen.reset.is_none(),
+                        None => true,
+                    },
+            ),
+            _ => self.holds_on_begun(reaction),
+        }
+    }
+
+    /// Whether a reaction is among what came that takes something on a stream.
+    fn holds_on_begun(&self, reaction: &Reaction) -> Result<bool, WireFault> {
+        let Some(seen) = self.streams.get(&stream_of(reaction)) else {
+            return Ok(false);
+        };
+        Ok(match reaction {
+            Reaction::Status { codes, .. } => is_one_of(seen.status()?, codes.as_slice()),
+            Reaction::Http { codes, .. } => is_one_of(seen.http_status(), codes.as_slice()),
+            Reaction::Answered(_) => seen.ended && !seen.was_refused(),
+            Reaction::Failed(_) => seen.has_failed()?,
+            Reaction::Begun(_) => seen.count > 0,
+            Reaction::Replies { count, .. } => seen.messages == *count,
+            Reaction::Reply { content, .. } => {
+                seen.messages > 0 && seen.message.as_slice() == content.as_slice()
+            }
+            Reaction::Head { name, value, .. } => has_field(seen.head.as_slice(), name, value),
+            Reaction::Trailer { name, value, .. } => has_field(
+                seen.trailers.as_slice(),
+                name,
+                value,
+            ),
+            Reaction::Without { name, .. } => {
+                value_of(seen.head.as_slice(), name).is_none()
+                    && value_of(seen.trailers.as_slice(), name).is_none()
+            }
+            Reaction::Single(_) => seen.blocks == 1 && seen.count == 0,
+            Reaction::Block { front, .. } => seen.front.as_slice().starts_with(front.as_slice()),
+            _ => false,
+        })
+    }
+
+    /// Whether the connection ended by one of these errors, or without one being said.
+    fn has_ended(&self, codes: &[u32]) -> bool
+        ensures { result ≡ has_ended self.now.goaway self.now.closed codes.now }
+    {
+        match self.goaway {
+            Some(code) if code != 0 => codes.contains(&code),
+            _ => self.closed,
+        }
+    }
+
+    /// Whether a stream was reset with one of these errors, or with any where none is named.
+    fn was_reset(&self, stream: u32, codes: &[u32]) -> bool
+        ensures { result ≡ was_reset (get nat_cmp self.now.streams stream) codes.now }
+    {
+        let Some(seen) = self.streams.get(&stream) else {
+            return false;
+        };
+        match seen.reset {
+            Some(code) => codes.is_empty() || codes.contains(&code),
+            None => false,
+        }
+    }
+
+    /// Whether two streams ended with the same statuses.
+    fn are_same(&self, stream: u32, other: u32) -> Result<bool, WireFault> {
+        let Some(one) = self.streams.get(&stream) else {
+            return Ok(false);
+        };
+        let Some(two) = self.streams.get(&other) else {
+            return Ok(false);
+        };
+        Ok(
+            one.ended
+                && two.ended
+                && one.http_status() == two.http_status()
+                && one.status()? == two.status()?,
+        )
+    }
+
+    fn was_echoed(&self, content: &[u8]) -> bool {
+        self.pings.iter().any(|ping| ping.as_slice() == content)
+    }
+
+    fn count_on(&self, stream: u32) -> u64 {
+        match self.streams.get(&stream) {
+            Some(seen) => seen.count,
+            None => 0,
+        }
+    }
+
+    /// How many bytes of DATA came on all streams.
+    fn total(&self) -> u64 {
+        let mut total = 0u64;
+        for seen in self.streams.values() {
+            total = total.saturating_add(seen.count);
+        }
+        total
+    }
+
+    /// Whether the connection goes on, and nothing was an error.
+    fn is_well(&self) -> bool {
+        let ends = match self.goaway {
+            Some(code) => code != 0,
+            None => false,
+        };
+        self.synced
+            && !self.closed
+            && !ends
+            && !self.streams.values().any(|seen| seen.was_refused())
+    }
+
+    /// Whether some stream was reset with one of these errors.
+    fn is_crowded(&self, codes: &[u32]) -> bool {
+        self.streams
+            .values()
+            .any(|seen| is_one_of(seen.reset, codes))
+    }
+
+    /// Adds what came, in words.
+    pub fn describe(&self, text: &mut String) -> Result<(), AllocError> {
+        let start = text.len();
+        if let Some(wrong) = self.wrong {
+            push_part(text, start, wrong)?;
+        }
+        if let Some(code) = self.goaway {
+            push_part(text, start, "GOAWAY ")?;
+            write!(text, "{code}")?;
+        }
+        for (stream, seen) in self.streams.iter().take(TOLD) {
+            if !seen.is_empty() {
+                push_part(text, start, "")?;
+                seen.describe(text)?;
+                if *stream != 1 {
+                    write!(text, " on stream {stream}")?;
+                }
+            }
+        }
+        if self.late {
+            push_part(text, start, "frames behind the end of a stream")?;
+        }
+        if self.closed {
+            push_part(text, start, "the end of the connection")?;
+        }
+        if text.len() == start {
+            text.push_str(if self.synced {
+                "nothing but an answer to PING"
+            } else {
+                "nothing"
+            })?;
+        }
+        Ok(())
+    }
+}
+
+/// Adds a part of what is told, behind a comma where it isn't the first.
+fn push_part(text: &mut String, start: usize, part: &str) -> Result<(), AllocError> {
+    if text.len() != start {
+        text.push_str(", ")?;
+    }
+    text.push_str(part)
+}
+
+ghost use Rattle.wire.specs.Reactions.{is_one_of};
+
+fn is_one_of(code: Option<u32>, codes: &[u32]) -> bool
+    ensures { result ≡ is_one_of code codes.now }
+{
+    match code {
+        Some(code) => codes.contains(&code),
+        None => false,
+    }
+}
+
+/// The stream of a reaction that is told of one, else 0.
+fn stream_of(reaction: &Reaction) -> u32 {
+    match reaction {
+        Reaction::Status { stream, .. }
+        | Reaction::Http { stream, .. }
+        | Reaction::Replies { stream, .. }
+        | Reaction::Reply { stream, .. }
+        | Reaction::Head { stream, .. }
+        | Reaction::Trailer { stream, .. }
+        | Reaction::Without { stream, .. }
+        | Reaction::Block { stream, .. } => *stream,
+        Reaction::Answered(stream)
+        | Reaction::Failed(stream)
+        | Reaction::Begun(stream)
+        | Reaction::Single(stream) => *stream,
+        _ => 0,
+    }
+}

@@ -1,0 +1,174 @@
+//! What came on a stream.
+
+use crate::fault::WireFault;
+use callhead::read_status;
+use lists::Field;
+use lpm::{Split, Splitter};
+use std::alloc::{AllocError, Global};
+
+/// More messages than any case asks for at once.
+const TOO_MANY: usize = 100_000;
+
+/// What came on a stream.
+#[derive(Drop)]
+pub struct StreamSeen {
+    alloc: Global,
+    /// The bytes of the first header block.
+    pub front: Vec<u8>,
+    /// The fields of the first header block, and of the last.
+    pub head: Vec<Field>,
+    pub trailers: Vec<Field>,
+    pub blocks: u64,
+    /// How many bytes of DATA came, without padding.
+    pub count: u64,
+    splitter: Splitter,
+    /// How many whole messages came, and the last of them.
+    pub messages: u64,
+    pub message: Vec<u8>,
+    pub ended: bool,
+    pub reset: Option<u32>,
+    /// What the server granted by WINDOW_UPDATE.
+    pub credit: u64,
+}
+
+impl StreamSeen {
+    pub fn new(alloc: Global) -> StreamSeen {
+        StreamSeen {
+            alloc,
+            front: Vec::new(alloc),
+            head: Vec::new(alloc),
+            trailers: Vec::new(alloc),
+            blocks: 0,
+            count: 0,
+            splitter: Splitter::new(alloc),
+            messages: 0,
+            message: Vec::new(alloc),
+            ended: false,
+            reset: None,
+            credit: 0,
+        }
+    }
+
+    /// Whether the server ended or reset it.
+    pub fn is_over(&self) -> bool {
+        self.ended || self.reset.is_some()
+    }
+
+    /// Whether nothing came on it.
+    pub fn is_empty(&self) -> bool {
+        self.blocks == 0 && self.count == 0 && self.reset.is_none() && !self.ended
+    }
+
+    /// Takes DATA.
+    pub fn data(&mut self, content: &[u8], last: bool) -> Result<(), WireFault> {
+        self.count = self.count.saturating_add(content.len() as u64);
+        self.ended = self.ended || last;
+        if self.splitter.push(content).is_err() {
+            return Err(WireFault::OutOfMemory);
+        }
+        for _ in 0..TOO_MANY {
+            let Split::Message(message) = self.splitter.next() else {
+                return Ok(());
+            };
+            self.messages = self.messages.saturating_add(1);
+            self.message = Vec::from_slice(self.alloc, message.as_slice())?;
+        }
+        Ok(())
+    }
+
+    /// Takes a header block and its fields.
+    pub fn block(&mut self, block: &[u8], fields: Vec<Field>, last: bool) -> Result<(), WireFault> {
+        if self.blocks == 0 {
+            self.front = Vec::from_slice(self.alloc, block)?;
+            self.head = fields.clone()?;
+        }
+        self.trailers = fields;
+        self.blocks = self.blocks.saturating_add(1);
+        self.ended = self.ended || last;
+        Ok(())
+    }
+
+    /// The `:status` of the response, if it is a number.
+    pub fn http_status(&self) -> Option<u32> {
+        let value = value_of(self.head.as_slice(), ":status")?;
+        str::from_utf8(value).ok()?.parse::<u32>().ok()
+    }
+
+    /// The status of gRPC with which it ended, if its response is `:status` 200.
+    pub fn status(&self) -> Result<Option<u32>, AllocError> {
+        if !self.ended || self.http_status() != Some(200) {
+            return Ok(None);
+        }
+        match read_status(self.alloc, self.trailers.as_slice())? {
+            Some((code, _)) => Ok(Some(code)),
+            None => Ok(None),
+        }
+    }
+
+    /// Whether it was reset by an error.
+    pub fn was_refused(&self) -> bool {
+        match self.reset {
+            Some(code) => code != 0,
+            None => false,
+        }
+    }
+
+    /// Whether the server refused the call: by a status, an `:status`, or a reset.
+    pub fn has_failed(&self) -> Result<bool, AllocError> {
+        if self.reset.is_some() && !self.ended {
+            return Ok(true);
+        }
+        match self.http_status() {
+            Some(status) if status >= 400 => return Ok(true),
+            _ => {}
+        }
+        Ok(match self.status()? {
+            Some(code) => code != 0,
+            None => self.was_refused(),
+        })
+    }
+
+    /// Adds what came on it, in words.
+    pub fn describe(&self, text: &mut String) -> Result<(), AllocError> {
+        if let Some(code) = self.reset {
+            write!(text, "RST_STREAM {code}")?;
+            return Ok(());
+        }
+        if let Some(status) = self.status()? {
+            write!(text, "status {status}")?;
+            return self.describe_message(text);
+        }
+        match self.http_status() {
+            Some(status) => write!(text, ":status {status}")?,
+            None => text.push_str("no response")?,
+        }
+        self.describe_message(text)?;
+        if !self.ended {
+            text.push_str(" without an end")?;
+        }
+        Ok(())
+    }
+
+    fn describe_message(&self, text: &mut String) -> Result<(), AllocError> {
+        let count = self.count;
+        if count > 0 {
+            write!(text, " and {count} bytes of DATA")?;
+        }
+        Ok(())
+    }
+}
+
+/// The value of the first field with this name.
+pub fn value_of<'a>(fields: &'a [Field], name: &str) -> Option<&'a [u8]> {
+    let field = fields
+        .iter()
+        .find(|field| field.name.as_slice() == name.as_bytes())?;
+    Some(field.value.as_slice())
+}
+
+/// Whether there is a field with this name and value.
+pub fn has_field(fields: &[Field], name: &str, value: &str) -> bool {
+    fields.iter().any(|field| {
+        field.name.as_slice() == name.as_bytes() && field.value.as_slice() == value.as_bytes()
+    })
+}

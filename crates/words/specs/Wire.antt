@@ -1,0 +1,79 @@
+-- `wire CASES --port P`, with `--host H`, `--silence S`, `--verbose` and `--json FILE`; or `wire --list`
+use Rattle.std.specs.Prelude.{◌≤◌, ⊤, ℕ, Bool, List, Option, if◌then◌else◌, codes, is_none, option_map, option_and_then}
+use Rattle.std.specs.Bool.{then_some}
+use Rattle.clap.specs.Walk.{Row, Rule, Text}
+use Rattle.clap.specs.Simple.{App, new_app, new_rule, with_rule}
+use Rattle.words.specs.Options.{by_default, flag, has_flag, number_of, number_option, text_of, text_option}
+use Rattle.words.specs.declared.wire.WireRun.{WireRun}
+use Rattle.words.specs.declared.wire.WireWords.{WireWords}
+use Rattle.words.specs.declared.wire.WireWords.TheVariants as wire_words
+
+-- P and S are 1 to 65,535; H is 127.0.0.1 and S is 1,000 if they are not given
+abbrev pub host_option : Rule
+host_option = by_default (codes "127.0.0.1") (text_option (codes "host"))
+
+abbrev pub silence_option : Rule
+silence_option = by_default (codes "1000") (number_option (codes "silence") 65535)
+
+abbrev pub wire_command : App
+wire_command =
+    with_rule (with_rule (with_rule (with_rule (with_rule (with_rule (with_rule (new_app (codes "wire"))
+    (new_rule (codes "CASES")))
+    (flag (codes "list")))
+    (number_option (codes "port") 65535))
+    host_option)
+    silence_option)
+    (flag (codes "verbose")))
+    (text_option (codes "json"))
+
+-- what a run of wire cases is told
+pub record Run : Type 0 where
+  pub cases : Text
+  pub host : Text
+  pub port : ℕ
+  pub silence : ℕ
+  pub is_verbose : Bool
+  pub json : Option Text
+
+pub data Told : Type 0 where
+  list : Told
+  run : Run → Told
+
+abbrev pub run_told : WireRun → Run
+run_told words = record {
+  cases = words.cases.now;
+  host = words.host.now;
+  port = words.port;
+  silence = words.silence;
+  is_verbose = words.is_verbose;
+  json = option_map (λ file. file.now) words.json;
+}
+
+abbrev pub told : WireWords → Told
+told wire_words.List = list
+told (wire_words.Run words) = run (run_told words)
+
+abbrev pub run_of : List Row → Option Run
+run_of rows =
+    option_and_then (λ cases. option_and_then (λ port. option_and_then (λ host. option_map (λ silence. record {
+      cases = cases;
+      host = host;
+      port = port;
+      silence = silence;
+      is_verbose = has_flag (codes "verbose") rows;
+      json = text_of (codes "json") rows;
+    }) (number_of (codes "silence") 65535 rows))
+    (text_of (codes "host") rows))
+    (number_of (codes "port") 65535 rows))
+    (text_of (codes "CASES") rows)
+
+-- cases are listed or run, and not both
+abbrev pub told_of : List Row → Option Told
+told_of rows =
+    if has_flag (codes "list") rows then then_some (is_none (text_of (codes "CASES") rows)) list
+    else option_map run (run_of rows)
+
+-- the numbers are not 0
+abbrev pub IsInRange : WireWords → Type 0
+IsInRange wire_words.List = ⊤
+IsInRange (wire_words.Run words) = (1 ≤ words.port) × (1 ≤ words.silence)
