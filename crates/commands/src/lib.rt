@@ -3,7 +3,8 @@
 //! - `run_body` prints the messages of one call, and `run_parts` what a connection is answered with (`body`, `parts`). Their
 //!   input is hexadecimal text. The program hands them its standard input and output.
 //! - `run_case` runs test cases against a server, and `run_self` against a server of its own (`client`, `server`).
-//! - `serve` serves connections to a port (`server`, `port`); `served` is its report.
+//! - `serve` serves connections to a port (`server`): `listening` is the port, `port` has the threads, `stream` a connection, `served`
+//!   and `reporter` the report.
 //! - `read_words`, of the crate `words`, reads which of them a command line means.
 //!
 //! Below them:
@@ -17,19 +18,23 @@
 mod body;
 mod call;
 mod client;
+mod listening;
 mod memory;
 mod parts;
 mod port;
 mod report;
+mod reporter;
 mod served;
 mod server;
+mod stream;
 mod streams;
 mod tally;
 mod text;
 
 pub use body::{RunFault, run_body};
 pub use client::{PATIENCE, Target, run_all_cases, run_case};
+pub use listening::listen;
 pub use memory::{MemoryInput, MemoryOutput};
 pub use parts::run_parts;
-pub use server::{listen, run_self, serve};
+pub use server::{run_self, serve};
 pub use words::{CaseWords, Port, Reason, ServeWords, Words, WordsFault, read_words};
