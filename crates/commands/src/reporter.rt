@@ -1,5 +1,7 @@
 //! The reports that wait to be printed, which nobody may read.
 
+ghost use Rattle.std.specs.Prelude.{◌≡◌, ◌<◌, ◌≤◌, ◌+◌, ◌^◌, ◌++◌, IfOk, IfSome, IfNone, OnOk, OnErr, string_bytes};
+
 use crate::served::report_of;
 use crate::stream::Ended;
 use handlers::Methods;
@@ -62,19 +64,17 @@ impl Reporter {
         }
     }
 
-    /// Puts a report of so many lines behind those that wait, or counts it as dropped. Whether the caller is to print.
+    /// Puts a report of so many lines behind those that wait, or counts them. Whether the caller is to print.
     fn keep(&self, rt: &impl Wait, report: Result<String, AllocError>, lines: usize) -> bool {
         let mut waiting = self.waiting.lock(rt);
-        if waiting.add(report, lines).is_err() {
-            waiting.dropped = waiting.dropped.saturating_add(lines);
-        }
+        waiting.put(report, lines);
         !mem::replace(&mut waiting.is_printing, true)
     }
 
     /// Prints all that waits. What can't be printed is lost.
     fn print_all<R: Print + Wait>(&self, rt: &R, alloc: Global) {
         for _ in rt.forever() {
-            let Some((text, dropped)) = self.take(rt, alloc) else {
+            let Some((text, dropped)) = self.next(rt, alloc) else {
                 return;
             };
             let _printed = print!(rt; "{text}");
@@ -86,23 +86,36 @@ impl Reporter {
     }
 
     /// Takes what waits, and how many lines were dropped behind it. Where that is nothing, this thread prints no more.
-    fn take(&self, rt: &impl Wait, alloc: Global) -> Option<(String, usize)> {
+    fn next(&self, rt: &impl Wait, alloc: Global) -> Option<(String, usize)> {
         let mut waiting = self.waiting.lock(rt);
-        if waiting.lines == 0 && waiting.dropped == 0 {
+        let taken = waiting.take(alloc);
+        if taken.is_none() {
             waiting.is_printing = false;
-            return None;
         }
-        let text = mem::replace(&mut waiting.text, String::new(alloc));
-        let dropped = waiting.dropped;
-        waiting.lines = 0;
-        waiting.dropped = 0;
-        Some((text, dropped))
+        taken
     }
 }
 
 impl Waiting {
-    /// Adds a report, if there is room for it. Behind lines that were dropped there is none.
-    fn add(&mut self, report: Result<String, AllocError>, lines: usize) -> Result<(), AllocError> {
+    /// Adds a report of so many lines, or counts them as dropped.
+    fn put(&mut self, report: Result<String, AllocError>, lines: usize)
+        ensures counted { self.old.lines + self.old.dropped + lines < 2 ^ 64
+            → self.new.lines + self.new.dropped ≡ self.old.lines + self.old.dropped + lines }
+        ensures few { self.old.lines ≤ 16384 → self.new.lines ≤ 16384 }
+    {
+        if self.add(report, lines).is_err() {
+            self.dropped = self.dropped.saturating_add(lines);
+        }
+    }
+
+    /// Adds a report of so many lines, if there is room for it. Behind lines that were dropped there is none.
+    fn add(&mut self, report: Result<String, AllocError>, lines: usize) -> Result<(), AllocError>
+        ensures added { OnOk result ((self.new.lines ≡ self.old.lines + lines) × (self.new.dropped ≡ self.old.dropped)) }
+        ensures text { OnOk result (IfOk report (λ it. string_bytes self.new.text ≡ string_bytes self.old.text ++ string_bytes it)) }
+        ensures few { OnOk result (self.new.lines ≤ 16384) }
+        ensures order { OnOk result (self.old.dropped ≡ 0) }
+        ensures unchanged { OnErr result (self.new ≡ self.old) }
+    {
         let report = report?;
         let lines = self.lines.saturating_add(lines);
         if self.dropped > 0 || lines > MOST_LINES {
@@ -111,5 +124,20 @@ impl Waiting {
         self.text.push_str(report.as_str())?;
         self.lines = lines;
         Ok(())
+    }
+
+    /// Takes all of it, and how many lines were dropped behind it; None where that is nothing.
+    fn take(&mut self, alloc: Global) -> Option<(String, usize)>
+        ensures taken { IfSome result (λ it. (it.0 ≡ self.old.text) × (it.1 ≡ self.old.dropped)) }
+        ensures none { IfNone result ((self.old.lines ≡ 0) × (self.old.dropped ≡ 0)) }
+        ensures empty { (self.new.lines ≡ 0) × (self.new.dropped ≡ 0) }
+    {
+        if self.lines == 0 && self.dropped == 0 {
+            return None;
+        }
+        let text = mem::replace(&mut self.text, String::new(alloc));
+        let dropped = mem::replace(&mut self.dropped, 0);
+        self.lines = 0;
+        Some((text, dropped))
     }
 }
