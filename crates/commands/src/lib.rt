@@ -5,7 +5,8 @@
 //! - `run_case` runs test cases against a server, `run_load` several runs at a time, and `run_self` runs them against a server of
 //!   its own (`client`, `load`, `server`).
 //! - `run_wire` lists wire cases, or runs them against a server (`wire_cases`).
-//! - `serve` serves connections to a port (`server`, `port`); `served` is its report.
+//! - `serve` serves connections to a port (`server`): `listening` is the port, `port` has the threads, `stream` a connection, `served`
+//!   and `reporter` the report.
 //! - `read_words`, of the crate `words`, reads which of them a command line means.
 //!
 //! Below them:
@@ -19,13 +20,16 @@
 mod body;
 mod call;
 mod client;
+mod listening;
 mod load;
 mod memory;
 mod parts;
 mod port;
 mod report;
+mod reporter;
 mod served;
 mod server;
+mod stream;
 mod streams;
 mod tally;
 mod text;
@@ -33,10 +37,11 @@ mod wire_cases;
 
 pub use body::{RunFault, run_body};
 pub use client::{PATIENCE, Target, run_all_cases, run_case};
+pub use listening::listen;
 pub use load::run_load;
 pub use memory::{MemoryInput, MemoryOutput};
 pub use parts::run_parts;
-pub use server::{listen, run_self, serve};
+pub use server::{run_self, serve};
 pub use wire::WireFault;
 pub use wire_cases::run_wire;
 pub use words::{CaseWords, Port, Reason, ServeWords, WireWords, Words, WordsFault, read_words};

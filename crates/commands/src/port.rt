@@ -4,14 +4,12 @@
 //! that makes a connection a call waits for no thread to start. A connection that stays keeps its thread, and one more is started
 //! for those that come. Where only so many are served, each has a thread of its own.
 
-use crate::served::report_of;
-use connection::{Gate, Served, serve_connection};
-use device::Marked;
-use h2frame::StreamId;
+use crate::reporter::Reporter;
+use crate::stream::serve_stream;
 use handlers::Methods;
 use lane::Bell;
 use std::alloc::{AllocError, Global};
-use std::net::{Shutdown, SocketAddr, TcpListener, TcpStream};
+use std::net::{SocketAddr, TcpListener, TcpStream};
 use std::sync::atomic::{AtomicUsize, Ordering};
 use std::sync::{Arc, Wait};
 use std::thread::Threads;
@@ -30,23 +28,30 @@ const PAUSE: u64 = 10;
 /// How long a thread sleeps at most before it looks again at what it waits for, in seconds.
 const LOOK: u64 = 3600;
 
+/// What all connections to a port are served by.
+#[derive(Drop)]
+pub struct Service {
+    pub methods: Arc<Methods>,
+    /// Where each that has ended is reported on, if that is wanted.
+    pub reporter: Option<Reporter>,
+}
+
 /// A port, and how many threads wait for a connection to it, those too that pause before they try again.
 #[derive(Drop)]
 struct Port {
     listener: TcpListener,
-    has_report: bool,
+    service: Service,
     waiting: AtomicUsize,
     /// Rung where the last one that waited has taken a connection.
     wanted: Bell,
 }
 
-/// Serves all connections that come; with `has_report` the report on each is printed.
+/// Serves all connections that come.
 pub fn serve_all<R>(
     rt: R,
     alloc: Global,
     listener: TcpListener,
-    methods: &Arc<Methods>,
-    has_report: bool,
+    service: Service,
 ) -> Result<(), AllocError>
 where
     R: Print + Threads + Wait + Clock + Copy + Send + Sync + Drop + 'static,
@@ -55,7 +60,7 @@ where
         alloc,
         Port {
             listener,
-            has_report,
+            service,
             waiting: AtomicUsize::new(0),
             wanted: Bell::new(),
         },
@@ -64,7 +69,7 @@ where
         let mark = port.wanted.mark();
         if port.waiting.load(Ordering::SeqCst) >= WAITING {
             port.wanted.wait_past(&rt, mark, Duration::from_secs(LOOK));
-        } else if start(rt, alloc, &port, methods).is_err() {
+        } else if start(rt, alloc, &port).is_err() {
             pause(&rt);
         }
     }
@@ -77,20 +82,14 @@ fn pause(rt: &impl Clock) {
 }
 
 /// Starts one more thread. That none can be made counts as want of memory.
-fn start<R>(
-    rt: R,
-    alloc: Global,
-    port: &Arc<Port>,
-    methods: &Arc<Methods>,
-) -> Result<(), AllocError>
+fn start<R>(rt: R, alloc: Global, port: &Arc<Port>) -> Result<(), AllocError>
 where
     R: Print + Threads + Wait + Clock + Copy + Send + Sync + Drop + 'static,
 {
     let shared = Arc::try_clone(port)?;
-    let methods = Arc::try_clone(methods)?;
     port.waiting.fetch_add(1, Ordering::SeqCst);
     let serving = thread::spawn(&rt, move || {
-        take_connections(rt, alloc, &shared, &methods);
+        take_connections(rt, alloc, &shared);
     });
     if serving.is_err() {
         port.waiting.fetch_sub(1, Ordering::SeqCst);
@@ -100,7 +99,7 @@ where
 }
 
 /// Takes one connection after another, and serves each to its end. It ends where enough others wait.
-fn take_connections<R>(rt: R, alloc: Global, port: &Port, methods: &Arc<Methods>)
+fn take_connections<R>(rt: R, alloc: Global, port: &Port)
 where
     R: Print + Threads + Wait + Clock + Copy + Send + Sync + Drop + 'static,
 {
@@ -113,7 +112,7 @@ where
         if before <= 1 {
             port.wanted.ring();
         }
-        let served = serve_stream(rt, alloc, stream, peer, methods, port.has_report);
+        let served = serve_one(rt, alloc, &port.service, stream, peer);
         let waiting = port.waiting.fetch_add(1, Ordering::SeqCst);
         if waiting >= MOST_WAITING {
             port.waiting.fetch_sub(1, Ordering::SeqCst);
@@ -125,9 +124,10 @@ where
     }
 }
 
-/// How many connections are being served.
+/// How many connections are being served, and by what.
 #[derive(Drop)]
 struct Live {
+    service: Service,
     count: AtomicUsize,
     /// Rung where one has ended.
     ended: Bell,
@@ -138,9 +138,8 @@ pub fn serve_some<R>(
     rt: R,
     alloc: Global,
     listener: &TcpListener,
-    methods: &Arc<Methods>,
+    service: Service,
     count: u16,
-    has_report: bool,
 ) -> Result<(), AllocError>
 where
     R: Print + Threads + Wait + Clock + Copy + Send + Sync + Drop + 'static,
@@ -148,6 +147,7 @@ where
     let live = Arc::new(
         alloc,
         Live {
+            service,
             count: AtomicUsize::new(0),
             ended: Bell::new(),
         },
@@ -157,7 +157,7 @@ where
         if left == 0 {
             break;
         }
-        if serve_next(rt, alloc, listener, methods, has_report, &live).is_ok() {
+        if serve_next(rt, alloc, listener, &live).is_ok() {
             left -= 1;
         } else {
             pause(&rt);
@@ -168,23 +168,15 @@ where
 }
 
 /// Takes the next connection, and serves it in a thread of its own. One that no thread can be made for is ended.
-fn serve_next<R>(
-    rt: R,
-    alloc: Global,
-    listener: &TcpListener,
-    methods: &Arc<Methods>,
-    has_report: bool,
-    live: &Arc<Live>,
-) -> io::Result<()>
+fn serve_next<R>(rt: R, alloc: Global, listener: &TcpListener, live: &Arc<Live>) -> io::Result<()>
 where
     R: Print + Threads + Wait + Clock + Copy + Send + Sync + Drop + 'static,
 {
     let shared = Arc::try_clone(live)?;
-    let methods = Arc::try_clone(methods)?;
     let (stream, peer) = listener.accept()?;
     live.count.fetch_add(1, Ordering::SeqCst);
     let serving = thread::spawn(&rt, move || {
-        let _served = serve_stream(rt, alloc, stream, peer, &methods, has_report);
+        let _served = serve_one(rt, alloc, &shared.service, stream, peer);
         shared.count.fetch_sub(1, Ordering::SeqCst);
         shared.ended.ring();
     });
@@ -206,50 +198,20 @@ fn wait_for_ends<R: Wait>(rt: &R, live: &Live) {
     }
 }
 
-/// The gate of a connection to a port, with what is read of it. Each call goes on at once.
-#[derive(Drop)]
-struct ClosingGate {
-    stream: TcpStream,
-}
-
-impl Gate for ClosingGate {
-    fn may_go(&self, _id: StreamId) -> bool {
-        true
-    }
-
-    fn trailers_written(&self, _id: StreamId) {}
-
-    /// Shuts the connection down. Where its peer has ended it, that is refused, and nothing is left to do.
-    fn writing_ended(&self) {
-        let _ = self.stream.shutdown(Shutdown::Both);
-    }
-}
-
-/// Serves a connection to its end, and prints the report on it where there is to be one. It fails where nothing was read of it.
-fn serve_stream<R>(
+/// Serves a connection to its end, and then has it reported on where that is wanted. It fails where nothing was read of it.
+fn serve_one<R>(
     rt: R,
     alloc: Global,
+    service: &Service,
     stream: TcpStream,
     peer: SocketAddr,
-    methods: &Arc<Methods>,
-    has_report: bool,
 ) -> io::Result<()>
 where
     R: Print + Threads + Wait + Clock + Copy + Send + Sync + Drop + 'static,
 {
-    // So that a small frame leaves at once.
-    stream.set_nodelay(true)?;
-    let output = Marked::new(stream.try_clone()?);
-    let theirs = Arc::try_clone(methods)?;
-    let gate = Arc::new(alloc, ClosingGate { stream })?;
-    let closing = Arc::try_clone(&gate)?;
-    let mut input = Marked::new(&gate.stream);
-    let Served { ending, calls, .. } = serve_connection(
-        rt, alloc, &mut input, output, theirs, closing,
-    );
-    if has_report {
-        let report = report_of(alloc, peer, methods, ending, calls)?;
-        print!(rt; "{report}")?;
+    let ended = serve_stream(rt, alloc, stream, &service.methods)?;
+    if let Some(reporter) = &service.reporter {
+        reporter.tell(&rt, alloc, &service.methods, peer, ended);
     }
     Ok(())
 }

@@ -197,13 +197,13 @@ where
     let methods = Arc::new(alloc, Methods::new(methods))?;
     Ok(match server {
         Server::Parts => print_parts(rt, methods),
-        Server::Serve(words) => serve_all(rt, &methods, words),
+        Server::Serve(words) => serve_all(rt, methods, words),
         Server::SelfTest(port) => try_cases(rt, methods, port),
     })
 }
 
 // Serves `grpc.testing.TestService`, and answers the exit status.
-fn serve_all<R>(rt: R, methods: &Arc<Methods>, words: ServeWords<'_>) -> u8
+fn serve_all<R>(rt: R, methods: Arc<Methods>, words: ServeWords<'_>) -> u8
 where
     R: Net<Stream = TcpStream, Listener = TcpListener> + Print + Eprint + AllocGlobal,
     R: Threads + Wait + Clock + Copy + Send + Sync + Drop + 'static,
