@@ -277,7 +277,11 @@ fn reason_of_whole<'a>(command: &'a str, words: &[String], is_placed: bool) -> R
         }
         "misbehave" if has_option(words, "--list") => {
             return Reason::Excluding {
-                both: "--list and NAME or --port",
+                both: if is_placed {
+                    "--list and NAME"
+                } else {
+                    "--list and --port"
+                },
             };
         }
         "misbehave" if is_placed => "--port P",
