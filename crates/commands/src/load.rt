@@ -1,6 +1,6 @@
 //! `case` with `--streams K`: K runs at a time, each over a connection of its own, and how long they took.
 
-ghost use Rattle.std.specs.Prelude.{◌≡◌, ◌<◌, ◌≤◌, length, slice_get};
+ghost use Rattle.std.specs.Prelude.{◌≡◌, ◌≤◌};
 ghost use Rattle.commands.specs.Times.{rank_of};
 
 use crate::client::{Target, try_case};
@@ -84,7 +84,7 @@ where
         });
     }
     print_tally(alloc, name, tally, words.times, output)?;
-    print_times(alloc, runs.as_slice(), output)?;
+    print_times(alloc, runs.as_slice(), words.times, output)?;
     Ok(tally.has_passed())
 }
 
@@ -103,6 +103,7 @@ fn try_once<R: Net + Eprint + AllocGlobal + Clock>(rt: &R, name: &str, target: T
 fn print_times<W: ConnWrite>(
     alloc: Global,
     runs: &[Run],
+    count: u16,
     output: &mut W,
 ) -> Result<(), ReportFault> {
     let mut times = Vec::new(alloc);
@@ -110,20 +111,18 @@ fn print_times<W: ConnWrite>(
         times.push(run.took)?;
     }
     times.sort()?;
-    let times = times.as_slice();
-    let median = percentile(times, 50).unwrap_or(0);
-    let most = percentile(times, 99).unwrap_or(0);
+    let median = times.get(nearest_rank(count, 50)).copied().unwrap_or(0);
+    let most = times.get(nearest_rank(count, 99)).copied().unwrap_or(0);
     let text = format!(in alloc; "  p50 {median} us, p99 {most} us\n")?;
     write_all(output, text.as_bytes())?;
     Ok(())
 }
 
-/// The least of these times, which stand in their order, within which so many of 100 are.
-fn percentile(times: &[u64], percent: usize) -> Option<u64>
-    requires { length times.now < 2 ^ 32 }
+/// The index of the least of so many times, in their order, within which so many of 100 are.
+fn nearest_rank(count: u16, percent: u16) -> usize
     requires { percent ≤ 100 }
-    ensures { result ≡ slice_get times.now (rank_of (length times.now) percent) }
+    ensures { result ≡ rank_of count percent }
 {
-    let rank = (times.len() * percent).div_ceil(100);
-    times.get(rank.saturating_sub(1)).copied()
+    let rank = (u32::from(count) * u32::from(percent)).div_ceil(100);
+    rank.saturating_sub(1) as usize
 }
