@@ -29,5 +29,6 @@ pub mod OneRun
 pub mod OneEvents
 pub mod StreamFrames
 pub mod StreamOrder
+pub mod OpeningOrder
 pub mod SettingsExistence
 pub mod Existence

@@ -56,7 +56,7 @@ close_last (Refused frame error) now behind rest last (is, kind, judged, e) = in
 close_last (Broken frames block entry fault) now behind rest last (begun, partial, is, breaks, e) = inr (fragment_error fault, e)
 close_last (Ended group next error) now behind rest last (is, gives, e) = inr (error, e)
 
-unread_last : (bytes : List ℕ) (given : List InEvent) → IsUnread bytes given → IsLast given
+pub unread_last : (bytes : List ℕ) (given : List InEvent) → IsUnread bytes given → IsLast given
 unread_last bytes given (inl (due, e, silent)) = inl silent
 unread_last bytes given (inr (inl (departs, e))) = inr (ProtocolError, e)
 unread_last bytes given (inr (inr (text, entries, rest, e, joined, unsettled, g))) = inr (ProtocolError, g)

@@ -8,6 +8,7 @@ pub mod Events
 pub mod CoreStates
 pub mod StreamData
 pub mod Trailers
+pub mod Openings
 pub mod Examples
 pub mod EventExamples
 pub mod Framings

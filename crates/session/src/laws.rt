@@ -8,6 +8,7 @@ ghost use Rattle.session.specs.Events.{Events, Group, GroupGives, IsCalm, Passes
 ghost use Rattle.session.specs.Framings.{Framed};
 ghost use Rattle.session.specs.StreamData.{Unended, data_of, end_told, ending_told, is_opening, pieces};
 ghost use Rattle.session.specs.Trailers.{EndsAs};
+ghost use Rattle.session.specs.Openings.{AreRising, openings};
 ghost use Rattle.session.specs.CoreStates.{Core, Reached};
 
 /// What a core has answered are the events of the bytes that it was fed.
@@ -38,6 +39,11 @@ pub fn stream_data()
 pub fn stream_end()
     ensures { (bytes : List ℕ) (given : List InEventOf) (entries : List Entry) (id : ℕ) →
         Framed bytes given entries → list_any (is_opening id) given ≡ true → EndsAs id entries given }
+{}
+
+/// The numbers of the streams that are told to begin rise, also of those without the head of a call.
+pub fn openings_rise()
+    ensures { (bytes : List ℕ) (given : List InEventOf) → Events bytes given → AreRising (openings given) }
 {}
 
 /// Before a stream begins, unless its head is malformed, neither data nor an end of it are told.
