@@ -30,5 +30,6 @@ pub mod OneEvents
 pub mod StreamFrames
 pub mod StreamOrder
 pub mod OpeningOrder
+pub mod FlowTold
 pub mod SettingsExistence
 pub mod Existence

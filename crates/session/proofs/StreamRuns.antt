@@ -30,7 +30,7 @@ abbrev pub front_of : List Group → List Entry
 front_of [] = []
 front_of (group ∷ groups) = entries_of group ++ front_of groups
 
-front_is : (groups : List Group) → front_of groups ≡ flat_map entries_of groups
+pub front_is : (groups : List Group) → front_of groups ≡ flat_map entries_of groups
 front_is [] = refl
 front_is (group ∷ groups) = ap (λ (es : List Entry). entries_of group ++ es) (front_is groups) ∙ sym (flat_map-cons entries_of group groups)
 

@@ -9,6 +9,7 @@ pub mod CoreStates
 pub mod StreamData
 pub mod Trailers
 pub mod Openings
+pub mod FlowBytes
 pub mod Examples
 pub mod EventExamples
 pub mod Framings

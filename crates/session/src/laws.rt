@@ -1,6 +1,6 @@
 //! Laws of a connection's events, for the proofs of callers. None of them does anything.
 
-ghost use Rattle.std.specs.Prelude.{◌≡◌, ◌≢◌, ◌<◌, ℕ, List, [], ◌∷◌, All, ◌++◌, true};
+ghost use Rattle.std.specs.Prelude.{◌≡◌, ◌≢◌, ◌<◌, ◌≤◌, ℕ, List, [], ◌∷◌, All, ◌++◌, true};
 ghost use Rattle.std.specs.List.{list_any};
 ghost use Rattle.session.specs.declared.event.InEvent.{InEvent as InEventOf};
 ghost use Rattle.h2frame.specs.FrameList.{Entry, Joined};
@@ -9,6 +9,7 @@ ghost use Rattle.session.specs.Framings.{Framed};
 ghost use Rattle.session.specs.StreamData.{Unended, data_of, end_told, ending_told, is_opening, pieces};
 ghost use Rattle.session.specs.Trailers.{EndsAs};
 ghost use Rattle.session.specs.Openings.{AreRising, openings};
+ghost use Rattle.session.specs.FlowBytes.{counted_told, payloads};
 ghost use Rattle.session.specs.CoreStates.{Core, Reached};
 
 /// What a core has answered are the events of the bytes that it was fed.
@@ -44,6 +45,13 @@ pub fn stream_end()
 /// The numbers of the streams that are told to begin rise, also of those without the head of a call.
 pub fn openings_rise()
     ensures { (bytes : List ℕ) (given : List InEventOf) → Events bytes given → AreRising (openings given) }
+{}
+
+/// The bytes that are told for flow control, on streams and on the connection alone, are at most those of the payloads of the
+/// DATA frames that count.
+pub fn flow_bytes()
+    ensures { (bytes : List ℕ) (given : List InEventOf) (entries : List Entry) →
+        Framed bytes given entries → counted_told given ≤ payloads entries }
 {}
 
 /// Before a stream begins, unless its head is malformed, neither data nor an end of it are told.
