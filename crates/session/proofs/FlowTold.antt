@@ -15,7 +15,7 @@ use Rattle.lists.specs.declared.field.Field.{Field}
 use Rattle.hpack_codec.specs.Table.{Table}
 use Rattle.callhead.specs.MalformedHeads.{are_malformed_trailers}
 use Rattle.callhead.specs.declared.fault.HeadFault.{HeadFault}
-use Rattle.callhead.specs.declared.fault.HeadFault.TheVariants.{Malformed}
+use Rattle.callhead.specs.declared.fault.HeadFault.TheVariants.{BadTimeout, Malformed, NotGrpc, NotPost, OutOfMemory}
 use Rattle.flow.specs.declared.halves.HalfVerdict.{HalfVerdict}
 use Rattle.flow.specs.declared.halves.HalfVerdict.TheVariants.{Open, Accept, Discard, StreamError, ConnectionError}
 use Rattle.flow.specs.Halves.{Event, verdict}
@@ -128,7 +128,10 @@ trailers_none false head = end_none head
 
 bad_head_none : (fault : HeadFault) (head : FrameHead) → CountsNone (bad_head_events fault head)
 bad_head_none Malformed head = refl
-bad_head_none _ head = before_end _ head refl
+bad_head_none NotPost head = before_end (events.BadHead head.stream NotPost) head refl
+bad_head_none NotGrpc head = before_end (events.BadHead head.stream NotGrpc) head refl
+bad_head_none BadTimeout head = before_end (events.BadHead head.stream BadTimeout) head refl
+bad_head_none OutOfMemory head = before_end (events.BadHead head.stream OutOfMemory) head refl
 
 head_none : (head : FrameHead) (fields : List Field) (history next : List Event) (given : List InEvent) → HeadGives head fields history given next → CountsNone given
 head_none head fields history next given (inl (call, is, e, same)) = none_same given _ e (before_end (events.Open head.stream call) head refl)
