@@ -1,5 +1,5 @@
 -- Worked examples of the definitions.
-use Rattle.std.specs.Prelude.{◌≡◌, ◌<◌, true, Some, List, [], ◌∷◌, ◌++◌, codes, refl}
+use Rattle.std.specs.Prelude.{◌≡◌, ◌<◌, true, false, Some, List, [], ◌∷◌, ◌++◌, codes, refl}
 use Rattle.std.specs.Fmt.{digits}
 use Rattle.std.proofs.Common.{arith}
 use Rattle.base64.specs.Rfc4648.{encode_symbols}
@@ -10,7 +10,7 @@ use Rattle.lists.specs.declared.field.Field.{Field}
 use Rattle.callhead.specs.declared.head.CallHead.{CallHead}
 use Rattle.callhead.specs.declared.head.Encoding.TheVariants.{Identity}
 use Rattle.callhead.specs.Fields.{field_of}
-use Rattle.callhead.specs.MalformedHeads.{is_malformed}
+use Rattle.callhead.specs.MalformedHeads.{is_malformed, are_malformed_trailers}
 use Rattle.callhead.specs.declared.fault.HeadFault.{HeadFault}
 use Rattle.callhead.specs.declared.fault.HeadFault.TheVariants.{Malformed, NotPost, NotGrpc, BadTimeout, OutOfMemory}
 use Rattle.callhead.specs.Faults.{code_of}
@@ -85,6 +85,35 @@ is_malformed-late = refl
 pub is_malformed-upper_case : is_malformed (request ++ field_of (codes "X-a") (codes "1") ∷ []) ≡ true
 unfolding is_malformed
 is_malformed-upper_case = refl
+
+-- trailers: none, a field of the caller's own, a pseudo-header, an upper-case letter, a line feed, and a field of the connection
+pub are_malformed_trailers-none : are_malformed_trailers [] ≡ false
+unfolding are_malformed_trailers
+are_malformed_trailers-none = refl
+
+pub are_malformed_trailers-own : are_malformed_trailers (field_of (codes "x-sum") (codes "5") ∷ field_of (codes "te") (codes "trailers") ∷ []) ≡ false
+unfolding are_malformed_trailers
+are_malformed_trailers-own = refl
+
+pub are_malformed_trailers-pseudo_header : are_malformed_trailers (field_of (codes ":path") (codes "/a") ∷ []) ≡ true
+unfolding are_malformed_trailers
+are_malformed_trailers-pseudo_header = refl
+
+pub are_malformed_trailers-upper_case : are_malformed_trailers (field_of (codes "x-sum") (codes "5") ∷ field_of (codes "X-a") (codes "1") ∷ []) ≡ true
+unfolding are_malformed_trailers
+are_malformed_trailers-upper_case = refl
+
+pub are_malformed_trailers-line_feed : are_malformed_trailers (field_of (codes "x-sum") (codes "5\n6") ∷ []) ≡ true
+unfolding are_malformed_trailers
+are_malformed_trailers-line_feed = refl
+
+pub are_malformed_trailers-connection : are_malformed_trailers (field_of (codes "connection") (codes "close") ∷ []) ≡ true
+unfolding are_malformed_trailers
+are_malformed_trailers-connection = refl
+
+pub are_malformed_trailers-te : are_malformed_trailers (field_of (codes "te") (codes "gzip") ∷ []) ≡ true
+unfolding are_malformed_trailers
+are_malformed_trailers-te = refl
 
 -- the answer to a call of no method
 pub unknown_method-fields : unknown_method ≡ field_of (codes ":status") (codes "200") ∷ field_of (codes "content-type") (codes "application/grpc") ∷ field_of (codes "grpc-status") (codes "12") ∷ field_of (codes "grpc-message") (codes "unknown method") ∷ []

@@ -1,4 +1,4 @@
--- Which fields are no request: RFC 9113, sections 8.2, 8.2.1, 8.2.2, 8.3 and 8.3.1.
+-- Which fields are no request, and which no trailers of one: RFC 9113, sections 8.1, 8.2, 8.2.1, 8.2.2, 8.3 and 8.3.1.
 use Rattle.std.specs.Prelude.{ℕ, ◌-◌, ◌==◌, nat_lt, nat_le, Bool, false, not, ◌&&◌, ◌||◌, List, [], ◌∷◌, length, drop, count_by, Option, Some, None, is_none, slice_get, bytes_eq, codes}
 use Rattle.std.specs.List.{list_any, prefix_len}
 use Rattle.lists.specs.declared.field.Field.{Field}
@@ -84,3 +84,12 @@ is_malformed_field field =
 unfoldable pub is_malformed : List Field → Bool
 is_malformed fields =
     list_any is_malformed_field fields || has_late_pseudo_header fields || list_any (is_repeated fields) pseudo_headers || list_any (is_missing fields) required_headers
+
+-- ---- trailers (section 8.1): there are no pseudo-headers among them
+
+abbrev pub is_malformed_trailer : Field → Bool
+is_malformed_trailer field =
+    has_bad_name field || has_bad_value field || is_connection_specific field || is_other_te field || is_pseudo_header field
+
+unfoldable pub are_malformed_trailers : List Field → Bool
+are_malformed_trailers fields = list_any is_malformed_trailer fields

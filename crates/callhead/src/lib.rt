@@ -3,7 +3,7 @@
 //!
 //! `CallHead::read` answers the head of a call where the fields are one (`specs/Heads.antt`), else the first of the
 //! faults that stand in them; which fields are malformed says `specs/MalformedHeads.antt`; `laws` that there is one
-//! such answer. `response_fields`, `status_fields`, `trailers_only`, `unknown_method` and `HeadFault::refusal` make the
+//! such answer. `are_malformed_trailers` says the same of the trailers of a request. `response_fields`, `status_fields`, `trailers_only`, `unknown_method` and `HeadFault::refusal` make the
 //! fields that answer a call (`specs/StatusFields.antt`).
 //!
 //! For a client `request_fields` makes the fields that open a call, which are the head that asks for what it was given
@@ -36,6 +36,7 @@ pub mod values;
 pub use bin::{bin_value, read_bin_values};
 pub use fault::HeadFault;
 pub use head::{CallHead, Encoding};
+pub use malformed::are_malformed_trailers;
 pub use percent::{percent_text, read_percent_text};
 pub use request::request_fields;
 pub use response::{response_fields, status_fields, trailers_only, unknown_method};

@@ -1,10 +1,10 @@
-//! Which fields are no request (RFC 9113, sections 8.2 and 8.3).
+//! Which fields are no request, and which no trailers of one (RFC 9113, sections 8.1, 8.2 and 8.3).
 //!
 //! Each cause is a test of the whole list of fields, a word of its own. That a pseudo-header is late is said of what
 //! stands behind the longest run of pseudo-headers at the beginning.
 
 ghost use Rattle.std.specs.Prelude.{◌≡◌, ◌==◌, drop, option_copied};
-ghost use Rattle.callhead.specs.MalformedHeads.{is_forbidden_in_names, has_bad_name, is_blank, is_forbidden_in_values, has_bad_value, is_connection_specific, is_other_te, is_pseudo_header, is_unknown, is_empty_path, has_late_pseudo_header, is_repeated, is_missing, is_malformed_field, is_malformed, pseudo_headers, required_headers};
+ghost use Rattle.callhead.specs.MalformedHeads.{is_forbidden_in_names, has_bad_name, is_blank, is_forbidden_in_values, has_bad_value, is_connection_specific, is_other_te, is_pseudo_header, is_unknown, is_empty_path, has_late_pseudo_header, is_repeated, is_missing, is_malformed_field, is_malformed, is_malformed_trailer, are_malformed_trailers, pseudo_headers, required_headers};
 ghost use Rattle.std.specs.List.{list_any};
 
 use crate::fields::{count_named, first_value, is_named};
@@ -182,4 +182,23 @@ fn is_missing(fields: &[Field], name: &[u8]) -> bool
     ensures { result ≡ is_missing fields.now name.now }
 {
     first_value(fields, name).is_none()
+}
+
+/// Whether the fields are no trailers of a request (RFC 9113, section 8.1).
+#[tactic(auto, unfolding(crate::specs::MalformedHeads::are_malformed_trailers))]
+pub fn are_malformed_trailers(fields: &[Field]) -> bool
+    ensures { result ≡ are_malformed_trailers fields.now }
+{
+    fields.iter().any(|field| is_malformed_trailer(field))
+}
+
+/// Whether one field alone makes trailers malformed.
+fn is_malformed_trailer(field: &Field) -> bool
+    ensures { result ≡ is_malformed_trailer field.now }
+{
+    has_bad_name(field)
+        || has_bad_value(field)
+        || is_connection_specific(field)
+        || is_other_te(field)
+        || is_pseudo_header(field)
 }

@@ -21,6 +21,7 @@ use Rattle.h2frame.proofs.Existence.{each_has_list}
 use Rattle.lists.specs.declared.field.Field.{Field}
 use Rattle.hpack_codec.specs.Table.{Table}
 use Rattle.hpack_codec.proofs.Existence.{each_has_answer as each_block}
+use Rattle.callhead.specs.MalformedHeads.{are_malformed_trailers}
 use Rattle.callhead.proofs.Existence.{each_has_answer as each_head}
 use Rattle.flow.specs.declared.halves.HalfVerdict.{HalfVerdict}
 use Rattle.flow.specs.declared.halves.HalfVerdict.TheVariants.{Open, Accept, Discard, StreamError, ConnectionError}
@@ -34,7 +35,7 @@ use Rattle.session.specs.Prefaces.{preface, Departs}
 use Rattle.session.specs.Streams.{after_frame, end_of, refusal, data_events, reset_events, window_event, window_events, credit_head, credit_verdict}
 use Rattle.session.specs.Frames.{fatal, SettingsGive, ping_events, WindowGives, KindGives}
 use Rattle.session.specs.HeaderBlocks.{max_block, Pending, IsContinuation, Collects, fragment_error}
-use Rattle.session.specs.Blocks.{block_error, bad_head_events, after_bad_head, FieldsGive, BlockGives}
+use Rattle.session.specs.Blocks.{block_error, bad_head_events, after_bad_head, trailer_events, after_trailers, FieldsGive, BlockGives}
 use Rattle.session.specs.Events.{Situation, start, Group, Single, Credit, Block, entries_of, IsBegun, GroupGives, IsCalm, Runs, IsSettings, Opens, Passes, Close, Unfinished, Faulty, Refused, Broken, Ended, IsPartial, Breaks, Closes, Follows, Events, Greeted, Departed, Unsettled, Read}
 use Rattle.session.proofs.LawfulFrames.{settings_length, lawful_short}
 use Rattle.session.proofs.HeaderBlockSteps.{collects_first, collects_more}
@@ -107,7 +108,7 @@ fields_give Open head fields history =
       | inl call ↦ (events.Open head.stream call.0 ∷ end_of head, history, inl (call.0, call.1, refl, refl))
       | inr fault ↦ (bad_head_events fault.0 head, after_bad_head fault.0 head.stream history, inr (fault.0, fault.1, refl, refl))
     ]
-fields_give Accept head fields history = (end_of head, history, (refl, refl))
+fields_give Accept head fields history = (trailer_events (are_malformed_trailers fields) head, after_trailers (are_malformed_trailers fields) head.stream history, (refl, refl))
 fields_give Discard head fields history = (refusal Discard head.stream, history, (refl, refl))
 fields_give (StreamError error) head fields history = (refusal (StreamError error) head.stream, history, (refl, refl))
 fields_give (ConnectionError error) head fields history = (refusal (ConnectionError error) head.stream, history, (refl, refl))

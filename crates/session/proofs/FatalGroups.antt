@@ -2,6 +2,7 @@
 use Rattle.std.proofs.Common.{◌≡◌, ℕ, ◌⊎◌, inl, inr, Bool, true, false, List, [], ◌∷◌, refl, sym, subst}
 use Rattle.std.specs.Prelude.{Option, ◌==◌, if◌then◌else◌}
 use Rattle.h2frame.specs.declared.error_code.ErrorCode.{ErrorCode}
+use Rattle.h2frame.specs.declared.error_code.ErrorCode.TheVariants.{ProtocolError}
 use Rattle.h2frame.specs.declared.frame.Frame.{Frame}
 use Rattle.h2frame.specs.declared.frame.FrameHead.{FrameHead}
 use Rattle.h2frame.specs.declared.kind.FrameKind.{FrameKind}
@@ -11,6 +12,7 @@ use Rattle.lists.specs.declared.field.Field.{Field}
 use Rattle.hpack_codec.specs.Table.{Table}
 use Rattle.callhead.specs.declared.fault.HeadFault.{HeadFault}
 use Rattle.callhead.specs.declared.fault.HeadFault.TheVariants.{Malformed}
+use Rattle.callhead.specs.MalformedHeads.{are_malformed_trailers}
 use Rattle.flow.specs.declared.halves.HalfVerdict.{HalfVerdict}
 use Rattle.flow.specs.declared.halves.HalfVerdict.TheVariants.{Open, Accept, Discard, StreamError, ConnectionError}
 use Rattle.flow.specs.Halves.{Event, verdict}
@@ -18,7 +20,7 @@ use Rattle.session.specs.declared.event.InEvent.{InEvent}
 use Rattle.session.specs.declared.event.InEvent.TheVariants as events
 use Rattle.session.specs.Streams.{counted, end_of, refusal, data_events, reset_events, window_event, window_events, credit_verdict}
 use Rattle.session.specs.Frames.{fatal, SettingsGive, ping_events, WindowGives, KindGives}
-use Rattle.session.specs.Blocks.{bad_head_events, HeadGives, FieldsGive, BlockGives}
+use Rattle.session.specs.Blocks.{bad_head_events, trailer_events, HeadGives, FieldsGive, BlockGives}
 use Rattle.session.specs.Events.{Situation, Group, Single, Credit, Block, GroupGives, IsCalm}
 use Rattle.session.proofs.Groups.{calm_join}
 
@@ -104,9 +106,13 @@ head_calm : (head : FrameHead) (fields : List Field) (history next : List Event)
 head_calm head fields history next given (inl (call, is, e, same)) = rw e (end_calm head)
 head_calm head fields history next given (inr (fault, first, e, same)) = rw e (bad_head_calm fault head)
 
+trailers_or_end : (malformed : Bool) (head : FrameHead) → IsCalmOrEnd (trailer_events malformed head)
+trailers_or_end true head = refusal_or_end (StreamError ProtocolError) head.stream
+trailers_or_end false head = inl (end_calm head)
+
 fields_or_end : (judged : HalfVerdict) (head : FrameHead) (fields : List Field) (history next : List Event) (given : List InEvent) → FieldsGive judged head fields history given next → IsCalmOrEnd given
 fields_or_end Open head fields history next given gives = inl (head_calm head fields history next given gives)
-fields_or_end Accept head fields history next given (e, same) = same_events given _ e (inl (end_calm head))
+fields_or_end Accept head fields history next given (e, same) = same_events given _ e (trailers_or_end (are_malformed_trailers fields) head)
 fields_or_end Discard head fields history next given (e, same) = same_events given _ e (refusal_or_end Discard head.stream)
 fields_or_end (StreamError error) head fields history next given (e, same) = same_events given _ e (refusal_or_end (StreamError error) head.stream)
 fields_or_end (ConnectionError error) head fields history next given (e, same) = same_events given _ e (refusal_or_end (ConnectionError error) head.stream)

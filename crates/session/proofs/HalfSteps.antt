@@ -140,7 +140,7 @@ pub record Opens (history : List Event) (head : FrameHead) : Type 0 where
   pub verdict : verdict history head ≡ Open
 
 -- the verdict of HEADERS on a stream that wasn't begun, by whether its number is odd, and above those that were
-abbrev first_verdict : Bool → Bool → Bool → Bool → HalfVerdict
+abbrev pub first_verdict : Bool → Bool → Bool → Bool → HalfVerdict
 first_verdict headers odd above few = if odd && not above then ConnectionError ProtocolError else on_idle odd headers few
 
 first_opening : (headers odd above few : Bool) → headers ≡ true → few ≡ true → is_connection_error (first_verdict headers odd above few) ≡ false
@@ -156,7 +156,7 @@ judged_first : (skipped : Bool) (head : FrameHead) (count : ℕ)
 judged_first true head count = refl
 judged_first false head count = refl
 
-first_state : (history : List Event) (head : FrameHead) → half_at history head.stream ≡ None
+pub first_state : (history : List Event) (head : FrameHead) → half_at history head.stream ≡ None
     → verdict history head ≡ first_verdict (is_headers head.kind) (is_odd head.stream) (is_above (begun history) head.stream) (nat_lt (length (begun history)) MAX_STREAMS)
 first_state history head none = by (course head.stream history) refl
   where
@@ -217,7 +217,7 @@ ended_not_open Data e = cc
 ended_not_open Headers e = cc
 ended_not_open _ e = cc
 
-begun_not_open : (now : Half) (head : FrameHead) → on_begun now head ≢ Open
+pub begun_not_open : (now : Half) (head : FrameHead) → on_begun now head ≢ Open
 begun_not_open Opened head e = opened_not_open head.kind (has end_stream head.flags) e
 begun_not_open Ended head e = ended_not_open head.kind e
 begun_not_open Reset head e = cc

@@ -14,8 +14,8 @@ use Rattle.h2frame.specs.Faults.{max_payload, may_be_on, may_have_length, head_f
 use Rattle.h2frame.specs.FrameList.{IsLawful}
 use Rattle.flow.specs.declared.halves.HalfVerdict.{HalfVerdict}
 use Rattle.flow.specs.declared.halves.HalfVerdict.TheVariants.{Open, Accept, Discard, StreamError, ConnectionError}
-use Rattle.flow.specs.Halves.{is_connection_error}
-use Rattle.session.specs.Streams.{without_increment}
+use Rattle.flow.specs.Halves.{is_connection_error, may_be_unbegun}
+use Rattle.session.specs.Streams.{is_accepted, without_increment}
 
 no_fault_first : (a b : Option FrameFault) → option_or a b ≡ None → a ≡ None
 no_fault_first None b e = refl
@@ -79,3 +79,11 @@ not_fatal Accept error e = refl
 not_fatal Discard error e = refl
 not_fatal (StreamError other) error e = refl
 not_fatal (ConnectionError other) error e = absurd cc
+
+-- where a frame is accepted, its stream was begun
+pub accepted_begun : (judged : HalfVerdict) → is_accepted judged ≡ true → may_be_unbegun judged ≡ false
+accepted_begun Open is = refl
+accepted_begun Accept is = refl
+accepted_begun Discard is = absurd cc
+accepted_begun (StreamError error) is = absurd cc
+accepted_begun (ConnectionError error) is = absurd cc

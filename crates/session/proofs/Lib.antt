@@ -29,5 +29,7 @@ pub mod OneRun
 pub mod OneEvents
 pub mod StreamFrames
 pub mod StreamOrder
+pub mod OpeningOrder
+pub mod FlowTold
 pub mod SettingsExistence
 pub mod Existence

@@ -23,8 +23,8 @@ use Rattle.session.specs.Frames.{KindGives}
 use Rattle.session.specs.HeaderBlocks.{Pending}
 use Rattle.session.specs.Events.{Situation, Group, Single, Credit, Block, entries_of, GroupGives}
 use Rattle.session.specs.StreamData.{data_with, data_behind, pieces}
-use Rattle.session.proofs.HalfSteps.{half_at, IsClosed, step_begun, verdict_begun, closed_some, opened_data, opened_reset, opened_window}
-use Rattle.session.proofs.StreamPieces.{IsSilent, pieces_append, silent_same, end_silent, refusal_silent, data_silent, kind_silent, block_silent}
+use Rattle.session.proofs.HalfSteps.{half_at, IsClosed, closed_stays, step_begun, verdict_begun, closed_some, opened_data, opened_reset, opened_window}
+use Rattle.session.proofs.StreamPieces.{IsNextOf, IsSilent, pieces_append, silent_same, end_silent, refusal_silent, data_silent, kind_silent, block_silent}
 use Rattle.session.proofs.StreamGroups.{single_next, at_next, stream_at, group_elsewhere, data_or_not, data_gives, elsewhere_silent, block_behind, elsewhere_behind}
 
 -- ---- where the stream's half is closed
@@ -212,13 +212,17 @@ trailers_closed id head history kind on at =
       λ (e : verdict history head ≡ Open). let wrong : StreamError ProtocolError ≡ Open = sym judged ∙ e in cc,
     )
 
+closed_next : (id stream : ℕ) (next history : List Event) → IsNextOf stream history next → IsClosed (half_at history id) → IsClosed (half_at next id)
+closed_next id stream next history (inl e) closed = at_next id next history IsClosed e closed
+closed_next id stream next history (inr e) closed = at_next id next (Cut stream ∷ history) IsClosed e (closed_stays id (Cut stream) history closed)
+
 -- a header block closes it, and tells nothing of its data
 pub block_closed : (id : ℕ) (old new : Situation) (frames : List Frame) (block : Pending) (given : List InEvent) → GroupGives old (Block frames block) given new → nat_eq id block.head.stream ≡ true → half_at old.history id ≡ Some Opened
     → IsClosed (half_at new.history id) × IsSilent id given
 block_closed id old new frames block given (begun, whole, gives) on at =
     let closed = trailers_closed id block.head old.history begun.collects.kind on at in
     let told = block_silent id old.kept new.kept block.head (verdict old.history block.head) block.block _ new.history given closed.1 gives in
-    (at_next id new.history (after_frame (verdict old.history block.head) block.head old.history) IsClosed told.1 closed.0, told.0)
+    (closed_next id block.head.stream new.history (after_frame (verdict old.history block.head) block.head old.history) told.1 closed.0, told.0)
 
 block_open : (id : ℕ) (old new : Situation) (frames : List Frame) (block : Pending) (given : List InEvent) → GroupGives old (Block frames block) given new → nat_eq id block.head.stream ≡ true → half_at old.history id ≡ Some Opened → OpenNext id new (Block frames block) given
 block_open id old new frames block given (begun, whole, gives) on at =

@@ -1,7 +1,7 @@
 -- What a group comes to for the end of a stream that is open.
-use Rattle.std.proofs.Common.{◌≡◌, ℕ, ◌⊎◌, inl, inr, Bool, true, false, ◌&&◌, nat_eq, List, [], ◌∷◌, ◌++◌, map, refl, ap, subst, ◌∙◌}
+use Rattle.std.proofs.Common.{◌≡◌, ℕ, ◌⊎◌, inl, inr, Bool, true, false, ◌&&◌, ◌||◌, nat_eq, List, [], ◌∷◌, ◌++◌, map, refl, ap, subst, ◌∙◌}
 use Rattle.std.specs.Prelude.{Option, Some, ◌==◌, if◌then◌else◌}
-use Rattle.std.specs.List.{AllByRecursion}
+use Rattle.std.specs.List.{list_any, AllByRecursion}
 use Rattle.std.proofs.lemmas.Bool.{cases_Bool}
 use Rattle.h2frame.specs.declared.error_code.ErrorCode.TheVariants.{ProtocolError}
 use Rattle.h2frame.specs.declared.frame.Frame.{Frame}
@@ -10,7 +10,10 @@ use Rattle.h2frame.specs.declared.kind.FrameKind.{FrameKind}
 use Rattle.h2frame.specs.declared.kind.FrameKind.TheVariants.{Data, Headers, Priority, RstStream, Settings, PushPromise, Ping, GoAway, WindowUpdate, Continuation, Unknown}
 use Rattle.h2frame.specs.Flags.{has, ack, end_stream}
 use Rattle.h2frame.specs.FrameList.{Entry, Whole}
+use Rattle.lists.specs.declared.field.Field.{Field}
 use Rattle.hpack_codec.specs.Table.{Table}
+use Rattle.hpack_codec.specs.Codec.{Reads}
+use Rattle.callhead.specs.MalformedHeads.{are_malformed_trailers}
 use Rattle.flow.specs.declared.halves.Half.TheVariants.{Opened, Ended}
 use Rattle.flow.specs.declared.halves.HalfVerdict.{HalfVerdict}
 use Rattle.flow.specs.declared.halves.HalfVerdict.TheVariants.{Accept, StreamError}
@@ -20,9 +23,10 @@ use Rattle.session.specs.declared.event.InEvent.TheVariants as events
 use Rattle.session.specs.Streams.{after_frame, counted, end_of, refusal, data_events, reset_events, window_events, credit_head, credit_verdict, without_increment}
 use Rattle.session.specs.Frames.{WindowGives, KindGives}
 use Rattle.session.specs.HeaderBlocks.{Pending, Collects, IsContinuation}
-use Rattle.session.specs.Blocks.{FieldsGive, BlockGives}
+use Rattle.session.specs.Blocks.{trailer_events, FieldsGive}
 use Rattle.session.specs.Events.{Situation, Group, Single, Credit, Block, entries_of, GroupGives, IsCalm}
 use Rattle.session.specs.StreamData.{Ending, Unended, Finished, Aborted, ending_with, ending_behind, ending_of, end_told, first_end, ending_told}
+use Rattle.session.specs.Trailers.{is_stream_error}
 use Rattle.session.proofs.HalfSteps.{half_at, IsClosed, step_begun, verdict_begun, opened_data, opened_reset, opened_window}
 use Rattle.session.proofs.StreamGroups.{single_next, stream_at, group_elsewhere}
 use Rattle.session.proofs.OpenStreamData.{still_open, window_open, reset_closed, credit_closed, opened_headers, block_closed}
@@ -100,6 +104,22 @@ abbrev pub OpenEnd : ℕ → Situation → Group → List InEvent → Type 0
 OpenEnd id new group given =
     ((ending_told id given ≡ Unended) × (half_at new.history id ≡ Some Opened) × ((more : List Entry) → ending_behind id (entries_of group ++ more) ≡ ending_behind id more))
     ⊎ ((e : Ending) × IsLast e × (ending_told id given ≡ e) × IsClosed (half_at new.history id) × ((more : List Entry) → ending_behind id (entries_of group ++ more) ≡ e))
+
+-- the group is a header block of malformed trailers of the stream
+abbrev pub AreRefused : ℕ → Situation → Group → Type 0
+AreRefused id old (Single frame) = ⊥
+AreRefused id old (Credit stream) = ⊥
+AreRefused id old (Block frames block) =
+    (fields : List Field) × (next : Option Table) × Collects frames block × (block.whole ≡ true) × (nat_eq id block.head.stream ≡ true)
+    × (verdict old.history block.head ≡ Accept) × Reads old.kept block.block fields next × (are_malformed_trailers fields ≡ true)
+
+-- where it is, an error of the stream is told in place of its end, and it is closed
+pub record OpenRefused (id : ℕ) (old new : Situation) (group : Group) (given : List InEvent) : Type 0 where
+  pub refused : AreRefused id old group
+  pub aborted : ending_told id given ≡ Aborted
+  pub error : list_any (is_stream_error id) given ≡ true
+  pub closed : IsClosed (half_at new.history id)
+  pub due : (more : List Entry) → ending_behind id (entries_of group ++ more) ≡ Finished
 
 here_with : (id : ℕ) (frame : Frame) (more : List Entry) → nat_eq id frame.head.stream ≡ true → ending_behind id (Whole frame ∷ more) ≡ ending_with frame.head.kind frame (ending_behind id more)
 here_with id frame more on = ap (λ (b : Bool). if b then ending_with frame.head.kind frame (ending_behind id more) else ending_behind id more) on
@@ -179,40 +199,70 @@ credit_end id old new stream given (e, next, same) on at =
       λ more. ap (λ (b : Bool). if b then Aborted else ending_behind id more) on,
     )
 
--- trailers, or HEADERS that are an error of the stream
-trailers_told : (b : Bool) (id : ℕ) (kept kept_next : Option Table) (head : FrameHead) (judged : HalfVerdict) (block : List ℕ) (history next : List Event) (given : List InEvent) → has end_stream head.flags ≡ b → nat_eq id head.stream ≡ true
-    → judged ≡ (if b then Accept else StreamError ProtocolError) → IsCalm given → BlockGives kept head judged block history given next kept_next → ending_told id given ≡ (if b then Finished else Aborted)
-trailers_told b id kept kept_next head judged block history next given ended on is calm (inr (fault, first, memory, e, same)) = absurd (not_calm_end _ given e calm)
-trailers_told true id kept kept_next head judged block history next given ended on is calm (inl (fields, reads, gives)) =
-    let g : FieldsGive Accept head fields history given next = subst (λ (v : HalfVerdict). FieldsGive v head fields history given next) is gives in
-    ap (ending_told id) g.0 ∙ end_here id head on ∙ ap (λ (b : Bool). if b then Finished else Unended) ended
-trailers_told false id kept kept_next head judged block history next given ended on is calm (inl (fields, reads, gives)) =
-    let g : FieldsGive (StreamError ProtocolError) head fields history given next = subst (λ (v : HalfVerdict). FieldsGive v head fields history given next) is gives in
-    ap (ending_told id) g.0 ∙ ap (λ (b : Bool). first_end (if b then Aborted else Unended) Unended) on
+-- ---- trailers, or HEADERS that are an error of the stream
 
-ending_last : (b : Bool) → IsLast (if b then Finished else Aborted)
-ending_last true = λ behind. refl
-ending_last false = λ behind. refl
+due_block : (b : Bool) (id : ℕ) (frames : List Frame) (block : Pending) (more : List Entry) → has end_stream block.head.flags ≡ b → Collects frames block → nat_eq id block.head.stream ≡ true
+    → ending_behind id (map Whole frames ++ more) ≡ (if b then Finished else Aborted)
+due_block b id frames block more ended collects on =
+    block_behind id frames block more collects ∙ ap (λ (b : Bool). if b then (if has end_stream block.head.flags then Finished else Aborted) else ending_behind id more) on
+    ∙ ap (λ (b : Bool). if b then Finished else Aborted) ended
 
-block_end : (id : ℕ) (old new : Situation) (frames : List Frame) (block : Pending) (given : List InEvent) → GroupGives old (Block frames block) given new → IsCalm given → nat_eq id block.head.stream ≡ true → half_at old.history id ≡ Some Opened → OpenEnd id new (Block frames block) given
-block_end id old new frames block given (begun, whole, gives) calm on at =
-    inr (
-      if has end_stream block.head.flags then Finished else Aborted,
-      ending_last (has end_stream block.head.flags),
-      trailers_told (has end_stream block.head.flags) id old.kept new.kept block.head (verdict old.history block.head) block.block _ new.history given refl on
-          (verdict_begun id old.history block.head Opened on at ∙ (opened_headers block.head begun.collects.kind).0) calm gives,
-      (block_closed id old new frames block given (begun, whole, gives) on at).0,
-      λ more. block_behind id frames block more begun.collects ∙ ap (λ (b : Bool). if b then (if has end_stream block.head.flags then Finished else Aborted) else ending_behind id more) on,
-    )
+last_block : (b : Bool) (id : ℕ) (new : Situation) (frames : List Frame) (block : Pending) (given : List InEvent) → has end_stream block.head.flags ≡ b → Collects frames block → nat_eq id block.head.stream ≡ true
+    → IsClosed (half_at new.history id) → ending_told id given ≡ (if b then Finished else Aborted) → OpenEnd id new (Block frames block) given
+last_block b id new frames block given ended collects on closed told = inr (if b then Finished else Aborted, last b, told, closed, λ more. due_block b id frames block more ended collects on)
+  where
+    last : (b : Bool) → IsLast (if b then Finished else Aborted)
+    last true = λ behind. refl
+    last false = λ behind. refl
 
-end_open_here : (id : ℕ) (old new : Situation) (group : Group) (given : List InEvent) → GroupGives old group given new → IsCalm given → nat_eq id (stream_at group) ≡ true → half_at old.history id ≡ Some Opened → OpenEnd id new group given
-end_open_here id old new (Single frame) given gives calm on at = single_end frame.head.kind id old new frame given refl gives.0 on at
-end_open_here id old new (Credit stream) given gives calm on at = credit_end id old new stream given gives on at
+aborted_here : (id stream : ℕ) → nat_eq id stream ≡ true → ending_told id (refusal (StreamError ProtocolError) stream) ≡ Aborted
+aborted_here id stream on = ap (λ (b : Bool). first_end (if b then Aborted else Unended) Unended) on
+
+error_here : (id stream : ℕ) → nat_eq id stream ≡ true → list_any (is_stream_error id) (refusal (StreamError ProtocolError) stream) ≡ true
+error_here id stream on = ap (λ (b : Bool). b || false) on
+
+-- the fields of trailers
+trailers_end : (malformed : Bool) (id : ℕ) (old new : Situation) (frames : List Frame) (block : Pending) (given : List InEvent) (fields : List Field) → are_malformed_trailers fields ≡ malformed → has end_stream block.head.flags ≡ true
+    → Collects frames block → block.whole ≡ true → nat_eq id block.head.stream ≡ true → verdict old.history block.head ≡ Accept → Reads old.kept block.block fields new.kept → given ≡ trailer_events malformed block.head
+    → IsClosed (half_at new.history id) → OpenEnd id new (Block frames block) given ⊎ OpenRefused id old new (Block frames block) given
+trailers_end false id old new frames block given fields is ended collects whole on accepted reads e closed =
+    inl (last_block true id new frames block given ended collects on closed (ap (ending_told id) e ∙ end_here id block.head on ∙ ap (λ (b : Bool). if b then Finished else Unended) ended))
+trailers_end true id old new frames block given fields is ended collects whole on accepted reads e closed =
+    inr (record {
+      refused = (fields, new.kept, collects, whole, on, accepted, reads, is);
+      aborted = ap (ending_told id) e ∙ aborted_here id block.head.stream on;
+      error = ap (list_any (is_stream_error id)) e ∙ error_here id block.head.stream on;
+      closed = closed;
+      due = λ more. due_block true id frames block more ended collects on;
+    })
+
+fields_end : (b : Bool) (id : ℕ) (old new : Situation) (frames : List Frame) (block : Pending) (given : List InEvent) (fields : List Field) (history : List Event) → has end_stream block.head.flags ≡ b
+    → verdict old.history block.head ≡ (if b then Accept else StreamError ProtocolError) → Collects frames block → block.whole ≡ true → nat_eq id block.head.stream ≡ true → Reads old.kept block.block fields new.kept
+    → FieldsGive (if b then Accept else StreamError ProtocolError) block.head fields history given new.history → IsClosed (half_at new.history id)
+    → OpenEnd id new (Block frames block) given ⊎ OpenRefused id old new (Block frames block) given
+fields_end true id old new frames block given fields history ended accepted collects whole on reads gives closed =
+    trailers_end (are_malformed_trailers fields) id old new frames block given fields refl ended collects whole on accepted reads gives.0 closed
+fields_end false id old new frames block given fields history ended judged collects whole on reads gives closed =
+    inl (last_block false id new frames block given ended collects on closed (ap (ending_told id) gives.0 ∙ aborted_here id block.head.stream on))
+
+block_end : (id : ℕ) (old new : Situation) (frames : List Frame) (block : Pending) (given : List InEvent) → GroupGives old (Block frames block) given new → IsCalm given → nat_eq id block.head.stream ≡ true → half_at old.history id ≡ Some Opened
+    → OpenEnd id new (Block frames block) given ⊎ OpenRefused id old new (Block frames block) given
+block_end id old new frames block given (begun, whole, inr (fault, first, memory, e, same)) calm on at = absurd (not_calm_end _ given e calm)
+block_end id old new frames block given (begun, whole, inl (fields, reads, gives)) calm on at =
+    let judged : verdict old.history block.head ≡ (if has end_stream block.head.flags then Accept else StreamError ProtocolError) = verdict_begun id old.history block.head Opened on at ∙ (opened_headers block.head begun.collects.kind).0 in
+    fields_end (has end_stream block.head.flags) id old new frames block given fields (after_frame (verdict old.history block.head) block.head old.history) refl judged begun.collects whole on reads
+    (subst (λ (v : HalfVerdict). FieldsGive v block.head fields (after_frame (verdict old.history block.head) block.head old.history) given new.history) judged gives)
+    (block_closed id old new frames block given (begun, whole, inl (fields, reads, gives)) on at).0
+
+end_open_here : (id : ℕ) (old new : Situation) (group : Group) (given : List InEvent) → GroupGives old group given new → IsCalm given → nat_eq id (stream_at group) ≡ true → half_at old.history id ≡ Some Opened
+    → OpenEnd id new group given ⊎ OpenRefused id old new group given
+end_open_here id old new (Single frame) given gives calm on at = inl (single_end frame.head.kind id old new frame given refl gives.0 on at)
+end_open_here id old new (Credit stream) given gives calm on at = inl (credit_end id old new stream given gives on at)
 end_open_here id old new (Block frames block) given gives calm on at = block_end id old new frames block given gives calm on at
 
-pub group_open_end : (id : ℕ) (old new : Situation) (group : Group) (given : List InEvent) → GroupGives old group given new → IsCalm given → half_at old.history id ≡ Some Opened → OpenEnd id new group given
+pub group_open_end : (id : ℕ) (old new : Situation) (group : Group) (given : List InEvent) → GroupGives old group given new → IsCalm given → half_at old.history id ≡ Some Opened → OpenEnd id new group given ⊎ OpenRefused id old new group given
 group_open_end id old new group given gives calm at =
     elim (cases_Bool (nat_eq id (stream_at group))) [
       | inl on ↦ end_open_here id old new group given gives calm on at
-      | inr other ↦ inl (elsewhere_quiet id old new group given gives other, group_elsewhere id old new group given gives other ∙ at, λ more. elsewhere_behind id old new group given more gives other)
+      | inr other ↦ inl (inl (elsewhere_quiet id old new group given gives other, group_elsewhere id old new group given gives other ∙ at, λ more. elsewhere_behind id old new group given more gives other))
     ]

@@ -1,6 +1,7 @@
 -- How the events of groups tell the end of a stream: those of another stream tell none.
 use Rattle.std.proofs.Common.{◌≡◌, ℕ, inl, inr, Bool, true, false, nat_eq, List, [], ◌∷◌, ◌++◌, refl, sym, ap, ◌∙◌}
 use Rattle.std.specs.Prelude.{Option, ◌==◌, if◌then◌else◌}
+use Rattle.h2frame.specs.declared.error_code.ErrorCode.TheVariants.{ProtocolError}
 use Rattle.h2frame.specs.declared.frame.Frame.{Frame}
 use Rattle.h2frame.specs.declared.frame.FrameHead.{FrameHead}
 use Rattle.h2frame.specs.declared.kind.FrameKind.{FrameKind}
@@ -8,6 +9,7 @@ use Rattle.h2frame.specs.declared.kind.FrameKind.TheVariants.{Data, Headers, Pri
 use Rattle.h2frame.specs.Flags.{has, ack, end_stream}
 use Rattle.lists.specs.declared.field.Field.{Field}
 use Rattle.hpack_codec.specs.Table.{Table}
+use Rattle.callhead.specs.MalformedHeads.{are_malformed_trailers}
 use Rattle.callhead.specs.declared.fault.HeadFault.{HeadFault}
 use Rattle.callhead.specs.declared.fault.HeadFault.TheVariants.{Malformed}
 use Rattle.flow.specs.declared.halves.HalfVerdict.{HalfVerdict}
@@ -17,7 +19,7 @@ use Rattle.session.specs.declared.event.InEvent.{InEvent}
 use Rattle.session.specs.declared.event.InEvent.TheVariants as events
 use Rattle.session.specs.Streams.{counted, end_of, refusal, data_events, reset_events, window_events, credit_verdict}
 use Rattle.session.specs.Frames.{SettingsGive, ping_events, WindowGives, KindGives}
-use Rattle.session.specs.Blocks.{bad_head_events, HeadGives, FieldsGive, BlockGives}
+use Rattle.session.specs.Blocks.{bad_head_events, trailer_events, HeadGives, FieldsGive, BlockGives}
 use Rattle.session.specs.Events.{Situation, Group, Single, Credit, Block, GroupGives}
 use Rattle.session.specs.StreamData.{Ending, Unended, Finished, Aborted, end_told, first_end, ending_told}
 use Rattle.session.proofs.StreamGroups.{stream_at}
@@ -30,6 +32,11 @@ first_first Aborted b c = refl
 pub told_append : (id : ℕ) (xs ys : List InEvent) → ending_told id (xs ++ ys) ≡ first_end (ending_told id xs) (ending_told id ys)
 told_append id [] ys = refl
 told_append id (x ∷ xs) ys = ap (first_end (end_told id x)) (told_append id xs ys) ∙ sym (first_first (end_told id x) (ending_told id xs) (ending_told id ys))
+
+pub first_unended : (a b : Ending) → first_end a b ≡ Unended → (a ≡ Unended) × (b ≡ Unended)
+first_unended Unended b e = (refl, e)
+first_unended Finished b e = absurd cc
+first_unended Aborted b e = absurd cc
 
 abbrev pub IsQuiet : ℕ → List InEvent → Type 0
 IsQuiet id given = ending_told id given ≡ Unended
@@ -113,9 +120,13 @@ head_elsewhere : (id : ℕ) (head : FrameHead) (fields : List Field) (history ne
 head_elsewhere id head fields history next given other (inl (call, is, e, same)) = quiet_same id given _ e (end_elsewhere id head other)
 head_elsewhere id head fields history next given other (inr (fault, first, e, same)) = quiet_same id given _ e (bad_head_elsewhere id fault head other)
 
+trailers_elsewhere : (id : ℕ) (malformed : Bool) (head : FrameHead) → nat_eq id head.stream ≡ false → IsQuiet id (trailer_events malformed head)
+trailers_elsewhere id true head other = refusal_elsewhere id (StreamError ProtocolError) head.stream other
+trailers_elsewhere id false head other = end_elsewhere id head other
+
 fields_elsewhere : (id : ℕ) (judged : HalfVerdict) (head : FrameHead) (fields : List Field) (history next : List Event) (given : List InEvent) → nat_eq id head.stream ≡ false → FieldsGive judged head fields history given next → IsQuiet id given
 fields_elsewhere id Open head fields history next given other gives = head_elsewhere id head fields history next given other gives
-fields_elsewhere id Accept head fields history next given other (e, same) = quiet_same id given _ e (end_elsewhere id head other)
+fields_elsewhere id Accept head fields history next given other (e, same) = quiet_same id given _ e (trailers_elsewhere id (are_malformed_trailers fields) head other)
 fields_elsewhere id Discard head fields history next given other (e, same) = quiet_same id given _ e refl
 fields_elsewhere id (StreamError error) head fields history next given other (e, same) = quiet_same id given _ e (refusal_elsewhere id (StreamError error) head.stream other)
 fields_elsewhere id (ConnectionError error) head fields history next given other (e, same) = quiet_same id given _ e refl

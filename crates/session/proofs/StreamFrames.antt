@@ -1,6 +1,6 @@
 -- The frames that count, and what the events of a connection tell of its streams.
-use Rattle.std.proofs.Common.{◌≡◌, ℕ, inl, inr, Bool, true, false, ◌||◌, List, [], ◌++◌, refl, sym, ap, subst, ◌∙◌}
-use Rattle.std.specs.Prelude.{◌⊎◌, flat_map}
+use Rattle.std.proofs.Common.{◌≡◌, ℕ, inl, inr, Bool, true, false, nat_eq, ◌||◌, List, [], ◌∷◌, ◌++◌, refl, sym, ap, subst, ◌∙◌}
+use Rattle.std.specs.Prelude.{◌⊎◌, flat_map, if◌then◌else◌}
 use Rattle.std.specs.List.{list_any}
 use Rattle.std.proofs.lemmas.List.{append-nil, append_cancel_right}
 use Rattle.std.proofs.lemmas.List.Folds.{list_any-append}
@@ -9,13 +9,15 @@ use Rattle.h2frame.specs.declared.error_code.ErrorCode.TheVariants.{ProtocolErro
 use Rattle.h2frame.specs.Faults.{fault_error}
 use Rattle.h2frame.specs.FrameList.{Entry, Joined}
 use Rattle.session.specs.declared.event.InEvent.{InEvent}
+use Rattle.session.specs.declared.event.InEvent.TheVariants as events
 use Rattle.session.specs.Frames.{fatal}
 use Rattle.session.specs.HeaderBlocks.{fragment_error}
 use Rattle.session.specs.Events.{Situation, entries_of, Passes, Close, Unfinished, Faulty, Refused, Broken, Ended, Closes, Events, Greeted, Departed, Unsettled, Read}
 use Rattle.session.specs.Framings.{IsUnread, Framed}
-use Rattle.session.specs.StreamData.{Ending, Unended, Finished, Aborted, data_of, pieces, is_opening, ending_of, ending_told, first_end}
+use Rattle.session.specs.StreamData.{Ending, Unended, Finished, Aborted, data_of, pieces, is_opening, end_told, ending_told, first_end}
+use Rattle.session.specs.Trailers.{EndsAs, is_stream_error}
 use Rattle.session.proofs.StreamPieces.{IsSilent, pieces_append, silent_same}
-use Rattle.session.proofs.StreamEnds.{IsQuiet, told_append, quiet_same}
+use Rattle.session.proofs.StreamEnds.{first_unended, IsQuiet, told_append, quiet_same}
 use Rattle.session.proofs.StreamRuns.{data_told, end_told_of}
 
 -- ---- the list
@@ -54,7 +56,7 @@ close_last (Refused frame error) now behind rest last (is, kind, judged, e) = in
 close_last (Broken frames block entry fault) now behind rest last (begun, partial, is, breaks, e) = inr (fragment_error fault, e)
 close_last (Ended group next error) now behind rest last (is, gives, e) = inr (error, e)
 
-unread_last : (bytes : List ℕ) (given : List InEvent) → IsUnread bytes given → IsLast given
+pub unread_last : (bytes : List ℕ) (given : List InEvent) → IsUnread bytes given → IsLast given
 unread_last bytes given (inl (due, e, silent)) = inl silent
 unread_last bytes given (inr (inl (departs, e))) = inr (ProtocolError, e)
 unread_last bytes given (inr (inr (text, entries, rest, e, joined, unsettled, g))) = inr (ProtocolError, g)
@@ -101,11 +103,40 @@ end_unended Unended = refl
 end_unended Finished = refl
 end_unended Aborted = refl
 
-pub framed_end : (bytes : List ℕ) (given : List InEvent) (entries : List Entry) (id : ℕ) → Framed bytes given entries → list_any (is_opening id) given ≡ true → ending_told id given ≡ ending_of id entries
+-- events that tell no end of a stream are no errors of it either
+told_error : (id : ℕ) (event : InEvent) → end_told id event ≡ Unended → is_stream_error id event ≡ false
+told_error id (events.StreamError other error) quiet = by (nat_eq id other) quiet
+  where
+    by : (b : Bool) → (if b then Aborted else Unended) ≡ Unended → b ≡ false
+    by true quiet = absurd cc
+    by false quiet = refl
+told_error id _ quiet = refl
+
+pub quiet_no_error : (id : ℕ) (given : List InEvent) → IsQuiet id given → list_any (is_stream_error id) given ≡ false
+quiet_no_error id [] quiet = refl
+quiet_no_error id (event ∷ given) quiet =
+    let parts = first_unended (end_told id event) (ending_told id given) quiet in
+    ap (λ (b : Bool). b || list_any (is_stream_error id) given) (told_error id event parts.0) ∙ quiet_no_error id given parts.1
+
+-- the events of one stream's end, from others around them that tell none
+last_ends : (id : ℕ) (entries front : List Entry) (given before last : List InEvent) → entries ≡ front → given ≡ before ++ last → IsQuiet id last → EndsAs id front before → EndsAs id entries given
+last_ends id entries front given before last same all quiet ends =
+    let told : ending_told id given ≡ ending_told id before = ap (ending_told id) all ∙ told_append id before last ∙ ap (first_end (ending_told id before)) quiet ∙ end_unended (ending_told id before) in
+    subst (λ (es : List Entry). EndsAs id es given) (sym same) (by told ends)
+  where
+    by : ending_told id given ≡ ending_told id before → EndsAs id front before → EndsAs id front given
+    by told (inl is) = inl (told ∙ is)
+    by told (inr so) =
+        inr (record {
+          trailers = so.trailers;
+          ended = so.ended;
+          aborted = told ∙ so.aborted;
+          error = ap (list_any (is_stream_error id)) all ∙ list_any-append (is_stream_error id) before last ∙ ap (λ (b : Bool). b || list_any (is_stream_error id) last) so.error;
+        })
+
+pub framed_end : (bytes : List ℕ) (given : List InEvent) (entries : List Entry) (id : ℕ) → Framed bytes given entries → list_any (is_opening id) given ≡ true → EndsAs id entries given
 framed_end bytes given entries id (inl (unread, none)) opens = absurd (not_unread id bytes given unread opens)
 framed_end bytes given entries id (inr so) opens =
     let is : IsLast so.last = close_last so.close so.now so.behind so.rest so.last so.closes in
     let told = end_told_of (entries ++ so.behind) so.behind so.before so.now id so.passes (opens_before id given so.before so.last so.all is opens) in
-    let same : entries ≡ told.0 = append_cancel_right entries told.0 so.behind told.1 in
-    ap (ending_told id) so.all ∙ told_append id so.before so.last ∙ ap (first_end (ending_told id so.before)) (last_quiet id so.last is)
-    ∙ end_unended (ending_told id so.before) ∙ told.2 ∙ ap (ending_of id) (sym same)
+    last_ends id entries told.0 given so.before so.last (append_cancel_right entries told.0 so.behind told.1) so.all (last_quiet id so.last is) told.2

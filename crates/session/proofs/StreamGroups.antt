@@ -10,6 +10,7 @@ use Rattle.h2frame.specs.Flags.{has, end_stream}
 use Rattle.h2frame.specs.FrameList.{Entry, Whole}
 use Rattle.lists.specs.declared.field.Field.{Field}
 use Rattle.hpack_codec.specs.Table.{Table}
+use Rattle.callhead.specs.MalformedHeads.{are_malformed_trailers}
 use Rattle.callhead.specs.declared.fault.HeadFault.TheVariants.{Malformed}
 use Rattle.flow.specs.declared.halves.Half.{Half}
 use Rattle.flow.specs.declared.halves.HalfVerdict.{HalfVerdict}
@@ -23,7 +24,7 @@ use Rattle.session.specs.Blocks.{HeadGives, FieldsGive, BlockGives}
 use Rattle.session.specs.Events.{Situation, Group, Single, Credit, Block, entries_of, GroupGives}
 use Rattle.session.specs.StreamData.{data_with, data_behind, data_of, is_opening}
 use Rattle.session.proofs.HalfSteps.{half_at, IsClosed, closed_stays, closed_after, other_after, step_other, IsFull, full_stays, full_after, full_verdict}
-use Rattle.session.proofs.StreamPieces.{IsSilent, silent_same, end_silent, refusal_silent, data_untold, data_elsewhere, kind_silent, block_pieces, block_silent, bad_head_elsewhere}
+use Rattle.session.proofs.StreamPieces.{trailers_next, IsSilent, silent_same, end_silent, refusal_silent, data_untold, data_elsewhere, kind_silent, block_pieces, block_silent, bad_head_elsewhere}
 
 -- ---- the history behind a group
 
@@ -51,7 +52,7 @@ head_next head fields history next given (inr (_, first, e, same)) = inl same
 
 pub fields_next : (judged : HalfVerdict) (head : FrameHead) (fields : List Field) (history next : List Event) (given : List InEvent) → FieldsGive judged head fields history given next → (next ≡ history) ⊎ (next ≡ Cut head.stream ∷ history)
 fields_next Open head fields history next given gives = head_next head fields history next given gives
-fields_next Accept head fields history next given (e, same) = inl same
+fields_next Accept head fields history next given (e, same) = trailers_next (are_malformed_trailers fields) head.stream history next same
 fields_next Discard head fields history next given (e, same) = inl same
 fields_next (StreamError error) head fields history next given (e, same) = inl same
 fields_next (ConnectionError error) head fields history next given (e, same) = inl same

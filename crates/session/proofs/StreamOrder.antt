@@ -27,7 +27,7 @@ use Rattle.session.proofs.StreamPieces.{pieces_append, silent_same, end_silent, 
 use Rattle.session.proofs.StreamGroups.{stream_at, open_or_not, data_or_not, data_gives, elsewhere_silent}
 use Rattle.session.proofs.OpenStreamData.{block_closed}
 use Rattle.session.proofs.NewStreamData.{UnbegunNext, group_unbegun}
-use Rattle.session.proofs.StreamEnds.{IsQuiet, told_append, quiet_join, quiet_same, counted_quiet}
+use Rattle.session.proofs.StreamEnds.{first_unended, IsQuiet, told_append, quiet_join, quiet_same, counted_quiet}
 use Rattle.session.proofs.OpenStreamEnds.{group_open_end}
 use Rattle.session.proofs.NewStreamEnds.{Still, Begins, Ends, Untold, group_new_end}
 use Rattle.session.proofs.StreamRuns.{closed_runs, few_before, later, never}
@@ -77,11 +77,6 @@ or_true : (a b c : Bool) → b ≡ true → (a || (b || c)) ≡ true
 or_true true b c e = refl
 or_true false true c e = refl
 or_true false false c e = absurd cc
-
-first_unended : (a b : Ending) → first_end a b ≡ Unended → (a ≡ Unended) × (b ≡ Unended)
-first_unended Unended b e = (refl, e)
-first_unended Finished b e = absurd cc
-first_unended Aborted b e = absurd cc
 
 -- an opening among events is told of
 pub opening_told : (id : ℕ) (given before : List InEvent) (event : InEvent) (after : List InEvent) → given ≡ before ++ event ∷ after → is_opening id event ≡ true → list_any (is_opening id) given ≡ true
@@ -170,8 +165,9 @@ open_runs_untold id old new [] given (e, same) at = ap (list_any (is_opening id)
 open_runs_untold id old new (group ∷ groups) given (first, others, next, gives, calm, runs, e) at =
     joined_untold id given first others e (open_untold id old next group first gives at)
     (elim (group_open_end id old next group first gives calm at) [
-      | inl (quiet, half, due) ↦ open_runs_untold id next new groups others runs half
-      | inr (end, last, told, closed, due) ↦ (closed_runs id next new groups others runs closed).1
+      | inl (inl (quiet, half, due)) ↦ open_runs_untold id next new groups others runs half
+      | inl (inr (end, last, told, closed, due)) ↦ (closed_runs id next new groups others runs closed).1
+      | inr so ↦ (closed_runs id next new groups others runs so.closed).1
     ])
 
 abbrev TellsNothing : ℕ → List InEvent → Type 0
@@ -258,8 +254,9 @@ open_parted : (id : ℕ) (old new : Situation) (groups : List Group) (given : Li
 open_parted id old new [] given (e, same) at = without_data id given (ap (pieces id) e)
 open_parted id old new (group ∷ groups) given (first, others, next, gives, calm, runs, e) at =
     elim (group_open_end id old next group first gives calm at) [
-      | inl (quiet, half, due) ↦ parted_behind id given first others e quiet (open_parted id next new groups others runs half)
-      | inr (end, last, told, closed, due) ↦ parted_before id given first others e (group_parted id old next group first gives) (closed_runs id next new groups others runs closed).0
+      | inl (inl (quiet, half, due)) ↦ parted_behind id given first others e quiet (open_parted id next new groups others runs half)
+      | inl (inr (end, last, told, closed, due)) ↦ parted_before id given first others e (group_parted id old next group first gives) (closed_runs id next new groups others runs closed).0
+      | inr so ↦ parted_before id given first others e (group_parted id old next group first gives) (closed_runs id next new groups others runs so.closed).0
     ]
 
 new_parted : (id : ℕ) (old new : Situation) (groups : List Group) (given : List InEvent) → Runs old groups given new → half_at old.history id ≡ None → list_any (is_opening id) given ≡ true → IsParted id given

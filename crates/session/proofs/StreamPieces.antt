@@ -1,5 +1,5 @@
 -- The data that groups tell of a stream.
-use Rattle.std.proofs.Common.{◌≡◌, ◌≢◌, ℕ, inl, inr, Bool, true, false, ◌&&◌, ◌||◌, nat_eq, List, [], ◌∷◌, ◌++◌, refl, sym, ap, subst, ◌∙◌}
+use Rattle.std.proofs.Common.{◌≡◌, ◌≢◌, ℕ, ◌⊎◌, inl, inr, Bool, true, false, ◌&&◌, ◌||◌, nat_eq, List, [], ◌∷◌, ◌++◌, refl, sym, ap, subst, ◌∙◌}
 use Rattle.std.specs.Prelude.{Option, ◌==◌, if◌then◌else◌}
 use Rattle.std.specs.List.{list_any}
 use Rattle.std.proofs.lemmas.List.Folds.{list_any-append}
@@ -9,18 +9,20 @@ use Rattle.h2frame.specs.declared.frame.FrameHead.{FrameHead}
 use Rattle.h2frame.specs.declared.kind.FrameKind.{FrameKind}
 use Rattle.h2frame.specs.declared.kind.FrameKind.TheVariants.{Data, Headers, Priority, RstStream, Settings, PushPromise, Ping, GoAway, WindowUpdate, Continuation, Unknown}
 use Rattle.h2frame.specs.Flags.{has, ack, end_stream}
+use Rattle.h2frame.specs.declared.error_code.ErrorCode.TheVariants.{ProtocolError}
 use Rattle.lists.specs.declared.field.Field.{Field}
 use Rattle.hpack_codec.specs.Table.{Table}
+use Rattle.callhead.specs.MalformedHeads.{are_malformed_trailers}
 use Rattle.callhead.specs.declared.fault.HeadFault.{HeadFault}
 use Rattle.callhead.specs.declared.fault.HeadFault.TheVariants.{Malformed}
 use Rattle.flow.specs.declared.halves.HalfVerdict.{HalfVerdict}
 use Rattle.flow.specs.declared.halves.HalfVerdict.TheVariants.{Open, Accept, Discard, StreamError, ConnectionError}
-use Rattle.flow.specs.Halves.{Event, verdict}
+use Rattle.flow.specs.Halves.{Event, Cut, verdict}
 use Rattle.session.specs.declared.event.InEvent.{InEvent}
 use Rattle.session.specs.declared.event.InEvent.TheVariants as events
 use Rattle.session.specs.Streams.{counted, end_of, refusal, data_events, reset_events, window_events}
 use Rattle.session.specs.Frames.{SettingsGive, ping_events, WindowGives, KindGives}
-use Rattle.session.specs.Blocks.{bad_head_events, HeadGives, FieldsGive, BlockGives}
+use Rattle.session.specs.Blocks.{bad_head_events, trailer_events, after_trailers, HeadGives, FieldsGive, BlockGives}
 use Rattle.session.specs.StreamData.{piece_of, pieces, is_opening}
 
 -- ---- events that tell nothing of a stream's data
@@ -128,9 +130,21 @@ kind_silent id Headers history next frame given not gives = absurd gives
 
 -- ---- header blocks
 
+-- the history behind the fields of a block: a stream may be reset for them
+abbrev pub IsNextOf : ℕ → List Event → List Event → Type 0
+IsNextOf id history next = (next ≡ history) ⊎ (next ≡ Cut id ∷ history)
+
 bad_head_pieces : (id : ℕ) (fault : HeadFault) (head : FrameHead) → pieces id (bad_head_events fault head) ≡ []
 bad_head_pieces id Malformed head = refl
 bad_head_pieces id _ head = (end_silent id head).0
+
+trailers_silent : (id : ℕ) (malformed : Bool) (head : FrameHead) → IsSilent id (trailer_events malformed head)
+trailers_silent id true head = refusal_silent id (StreamError ProtocolError) head.stream
+trailers_silent id false head = end_silent id head
+
+pub trailers_next : (malformed : Bool) (id : ℕ) (history next : List Event) → next ≡ after_trailers malformed id history → IsNextOf id history next
+trailers_next true id history next same = inr same
+trailers_next false id history next same = inl same
 
 pub head_pieces : (id : ℕ) (head : FrameHead) (fields : List Field) (history next : List Event) (given : List InEvent) → HeadGives head fields history given next → pieces id given ≡ []
 head_pieces id head fields history next given (inl (call, is, e, same)) = ap (pieces id) e ∙ (end_silent id head).0
@@ -138,7 +152,7 @@ head_pieces id head fields history next given (inr (fault, first, e, same)) = ap
 
 fields_pieces : (id : ℕ) (judged : HalfVerdict) (head : FrameHead) (fields : List Field) (history next : List Event) (given : List InEvent) → FieldsGive judged head fields history given next → pieces id given ≡ []
 fields_pieces id Open head fields history next given gives = head_pieces id head fields history next given gives
-fields_pieces id Accept head fields history next given (e, same) = (silent_same id given _ e (end_silent id head)).0
+fields_pieces id Accept head fields history next given (e, same) = (silent_same id given _ e (trailers_silent id (are_malformed_trailers fields) head)).0
 fields_pieces id Discard head fields history next given (e, same) = (silent_same id given _ e (refusal_silent id Discard head.stream)).0
 fields_pieces id (StreamError error) head fields history next given (e, same) = (silent_same id given _ e (refusal_silent id (StreamError error) head.stream)).0
 fields_pieces id (ConnectionError error) head fields history next given (e, same) = (silent_same id given _ e (refusal_silent id (ConnectionError error) head.stream)).0
@@ -147,17 +161,17 @@ pub block_pieces : (id : ℕ) (kept kept_next : Option Table) (head : FrameHead)
 block_pieces id kept kept_next head judged block history next given (inl (fields, reads, gives)) = fields_pieces id judged head fields history next given gives
 block_pieces id kept kept_next head judged block history next given (inr (fault, first, memory, e, same)) = (silent_same id given _ e (refl, refl)).0
 
-fields_silent : (id : ℕ) (judged : HalfVerdict) (head : FrameHead) (fields : List Field) (history next : List Event) (given : List InEvent) → judged ≢ Open → FieldsGive judged head fields history given next → IsSilent id given × (next ≡ history)
+fields_silent : (id : ℕ) (judged : HalfVerdict) (head : FrameHead) (fields : List Field) (history next : List Event) (given : List InEvent) → judged ≢ Open → FieldsGive judged head fields history given next → IsSilent id given × IsNextOf head.stream history next
 fields_silent id Open head fields history next given not gives = absurd (not refl)
-fields_silent id Accept head fields history next given not (e, same) = (silent_same id given _ e (end_silent id head), same)
-fields_silent id Discard head fields history next given not (e, same) = (silent_same id given _ e (refusal_silent id Discard head.stream), same)
-fields_silent id (StreamError error) head fields history next given not (e, same) = (silent_same id given _ e (refusal_silent id (StreamError error) head.stream), same)
-fields_silent id (ConnectionError error) head fields history next given not (e, same) = (silent_same id given _ e (refusal_silent id (ConnectionError error) head.stream), same)
+fields_silent id Accept head fields history next given not (e, same) = (silent_same id given _ e (trailers_silent id (are_malformed_trailers fields) head), trailers_next (are_malformed_trailers fields) head.stream history next same)
+fields_silent id Discard head fields history next given not (e, same) = (silent_same id given _ e (refusal_silent id Discard head.stream), inl same)
+fields_silent id (StreamError error) head fields history next given not (e, same) = (silent_same id given _ e (refusal_silent id (StreamError error) head.stream), inl same)
+fields_silent id (ConnectionError error) head fields history next given not (e, same) = (silent_same id given _ e (refusal_silent id (ConnectionError error) head.stream), inl same)
 
 -- a block whose HEADERS don't open their stream
-pub block_silent : (id : ℕ) (kept kept_next : Option Table) (head : FrameHead) (judged : HalfVerdict) (block : List ℕ) (history next : List Event) (given : List InEvent) → judged ≢ Open → BlockGives kept head judged block history given next kept_next → IsSilent id given × (next ≡ history)
+pub block_silent : (id : ℕ) (kept kept_next : Option Table) (head : FrameHead) (judged : HalfVerdict) (block : List ℕ) (history next : List Event) (given : List InEvent) → judged ≢ Open → BlockGives kept head judged block history given next kept_next → IsSilent id given × IsNextOf head.stream history next
 block_silent id kept kept_next head judged block history next given not (inl (fields, reads, gives)) = fields_silent id judged head fields history next given not gives
-block_silent id kept kept_next head judged block history next given not (inr (fault, first, memory, e, same)) = (silent_same id given _ e (refl, refl), same)
+block_silent id kept kept_next head judged block history next given not (inr (fault, first, memory, e, same)) = (silent_same id given _ e (refl, refl), inl same)
 
 -- the head of another stream
 pub bad_head_elsewhere : (id : ℕ) (fault : HeadFault) (head : FrameHead) → nat_eq id head.stream ≡ false → list_any (is_opening id) (bad_head_events fault head) ≡ false

@@ -1,6 +1,6 @@
 -- The data that a run of groups tells of a stream, and those of its frames.
-use Rattle.std.proofs.Common.{◌≡◌, ◌≤◌, ℕ, inl, inr, Bool, true, false, ◌||◌, List, [], ◌∷◌, ◌++◌, length, refl, sym, ap, subst, ◌∙◌, arith}
-use Rattle.std.specs.Prelude.{Some, None, nat_lt, if◌then◌else◌, flat_map}
+use Rattle.std.proofs.Common.{◌≡◌, ◌≤◌, ◌⊎◌, ℕ, inl, inr, Bool, true, false, ◌||◌, List, [], ◌∷◌, ◌++◌, length, refl, sym, ap, subst, ◌∙◌, append_assoc, arith}
+use Rattle.std.specs.Prelude.{Some, None, nat_lt, if◌then◌else◌, flat_map, map}
 use Rattle.std.specs.List.{list_any, AllByRecursion}
 use Rattle.std.proofs.lemmas.Bool.{cases_Bool}
 use Rattle.std.proofs.lemmas.List.{append-nil, length-append}
@@ -14,22 +14,23 @@ use Rattle.flow.specs.declared.halves.Half.TheVariants.{Opened}
 use Rattle.flow.specs.Halves.{begun}
 use Rattle.flow.proofs.HalfLemmas.{kept-None}
 use Rattle.session.specs.declared.event.InEvent.{InEvent}
-use Rattle.session.specs.Events.{Situation, start, Group, entries_of, Runs, Passes}
-use Rattle.session.specs.StreamData.{data_behind, data_of, pieces, is_opening, Ending, first_end, ending_behind, ending_of, ending_told}
+use Rattle.session.specs.Events.{Situation, start, Group, Single, Credit, Block, entries_of, GroupGives, IsCalm, Runs, Opens, Passes}
+use Rattle.session.specs.StreamData.{data_behind, data_of, pieces, is_opening, Ending, Unended, Finished, Aborted, first_end, ending_behind, ending_of, ending_told}
+use Rattle.session.specs.Trailers.{HasMalformedTrailers, EndsAs, is_stream_error}
 use Rattle.session.proofs.HalfSteps.{half_at, IsClosed, IsFew, IsFull}
 use Rattle.session.proofs.StreamPieces.{IsSilent, pieces_append, silent_join, silent_same}
 use Rattle.session.proofs.StreamGroups.{group_closed, group_full, group_untold}
 use Rattle.session.proofs.OpenStreamData.{IsCounted, closed_silent, group_open}
 use Rattle.session.proofs.NewStreamData.{group_unbegun}
 use Rattle.session.proofs.StreamEnds.{told_append}
-use Rattle.session.proofs.OpenStreamEnds.{group_open_end}
+use Rattle.session.proofs.OpenStreamEnds.{AreRefused, group_open_end}
 use Rattle.session.proofs.NewStreamEnds.{Still, Begins, Ends, Untold, group_new_end}
 
 abbrev pub front_of : List Group → List Entry
 front_of [] = []
 front_of (group ∷ groups) = entries_of group ++ front_of groups
 
-front_is : (groups : List Group) → front_of groups ≡ flat_map entries_of groups
+pub front_is : (groups : List Group) → front_of groups ≡ flat_map entries_of groups
 front_is [] = refl
 front_is (group ∷ groups) = ap (λ (es : List Entry). entries_of group ++ es) (front_is groups) ∙ sym (flat_map-cons entries_of group groups)
 
@@ -121,30 +122,143 @@ data_told text entries behind rest given now id joined passes opens =
 
 -- ---- the end of a stream
 
-open_ends : (id : ℕ) (old new : Situation) (groups : List Group) (given : List InEvent) → Runs old groups given new → half_at old.history id ≡ Some Opened → ending_told id given ≡ ending_behind id (front_of groups)
-open_ends id old new [] given (e, same) at = ap (ending_told id) e
+-- malformed trailers of the stream came in a run
+pub record RunRefused (id : ℕ) (old : Situation) (groups : List Group) (given : List InEvent) : Type 0 where
+  pub before : List Group
+  pub group : Group
+  pub behind : List Group
+  pub told : List InEvent
+  pub now : Situation
+  pub parts : groups ≡ before ++ group ∷ behind
+  pub runs : Runs old before told now
+  pub refused : AreRefused id now group
+  pub aborted : ending_told id given ≡ Aborted
+  pub error : list_any (is_stream_error id) given ≡ true
+
+abbrev RunEnds : ℕ → Situation → List Group → List InEvent → Ending → Type 0
+RunEnds id old groups given due = (ending_told id given ≡ due) ⊎ (RunRefused id old groups given × (due ≡ Finished))
+
+or_right : (a b : Bool) → b ≡ true → (a || b) ≡ true
+or_right true b e = refl
+or_right false b e = e
+
+error_before : (id : ℕ) (first others given : List InEvent) → given ≡ first ++ others → list_any (is_stream_error id) first ≡ true → list_any (is_stream_error id) given ≡ true
+error_before id first others given e some =
+    ap (list_any (is_stream_error id)) e ∙ list_any-append (is_stream_error id) first others ∙ ap (λ (b : Bool). b || list_any (is_stream_error id) others) some
+
+error_behind : (id : ℕ) (first others given : List InEvent) → given ≡ first ++ others → list_any (is_stream_error id) others ≡ true → list_any (is_stream_error id) given ≡ true
+error_behind id first others given e some =
+    ap (list_any (is_stream_error id)) e ∙ list_any-append (is_stream_error id) first others ∙ or_right (list_any (is_stream_error id) first) (list_any (is_stream_error id) others) some
+
+told_behind : (id : ℕ) (first others given : List InEvent) → given ≡ first ++ others → ending_told id first ≡ Unended → ending_told id given ≡ ending_told id others
+told_behind id first others given e quiet = ap (ending_told id) e ∙ told_append id first others ∙ ap (λ (b : Ending). first_end b (ending_told id others)) quiet
+
+told_before : (id : ℕ) (first others given : List InEvent) (end : Ending) → given ≡ first ++ others → ending_told id first ≡ end → first_end end (ending_told id others) ≡ end → ending_told id given ≡ end
+told_before id first others given end e told last = ap (ending_told id) e ∙ told_append id first others ∙ ap (λ (b : Ending). first_end b (ending_told id others)) told ∙ last
+
+-- behind a group that tells no end of the stream
+ends_behind : (id : ℕ) (old next : Situation) (group : Group) (groups : List Group) (given first others : List InEvent) (due rest : Ending) → GroupGives old group first next → IsCalm first → given ≡ first ++ others
+    → ending_told id first ≡ Unended → due ≡ rest → RunEnds id next groups others rest → RunEnds id old (group ∷ groups) given due
+ends_behind id old next group groups given first others due rest gives calm e quiet same (inl told) = inl (told_behind id first others given e quiet ∙ told ∙ sym same)
+ends_behind id old next group groups given first others due rest gives calm e quiet same (inr (so, ended)) =
+    inr (
+      record {
+        before = group ∷ so.before;
+        group = so.group;
+        behind = so.behind;
+        told = first ++ so.told;
+        now = so.now;
+        parts = ap (λ (gs : List Group). group ∷ gs) so.parts;
+        runs = (first, so.told, next, gives, calm, so.runs, refl);
+        refused = so.refused;
+        aborted = told_behind id first others given e quiet ∙ so.aborted;
+        error = error_behind id first others given e so.error;
+      },
+      same ∙ ended,
+    )
+
+open_ends : (id : ℕ) (old new : Situation) (groups : List Group) (given : List InEvent) → Runs old groups given new → half_at old.history id ≡ Some Opened → RunEnds id old groups given (ending_behind id (front_of groups))
+open_ends id old new [] given (e, same) at = inl (ap (ending_told id) e)
 open_ends id old new (group ∷ groups) given (first, others, next, gives, calm, runs, e) at =
-    ap (ending_told id) e ∙ told_append id first others
-    ∙ elim (group_open_end id old next group first gives calm at) [
-      | inl (quiet, half, due) ↦ ap (λ (b : Ending). first_end b (ending_told id others)) quiet ∙ open_ends id next new groups others runs half ∙ sym (due (front_of groups))
-      | inr (end, last, told, closed, due) ↦ ap (λ (b : Ending). first_end b (ending_told id others)) told ∙ last (ending_told id others) ∙ sym (due (front_of groups))
+    elim (group_open_end id old next group first gives calm at) [
+      | inl (inl (quiet, half, due)) ↦
+          ends_behind id old next group groups given first others (ending_behind id (front_of (group ∷ groups))) (ending_behind id (front_of groups)) gives calm e quiet (due (front_of groups)) (open_ends id next new groups others runs half)
+      | inl (inr (end, last, told, closed, due)) ↦ inl (told_before id first others given end e told (last (ending_told id others)) ∙ sym (due (front_of groups)))
+      | inr so ↦ inr (
+        record {
+          before = [];
+          group = group;
+          behind = groups;
+          told = [];
+          now = old;
+          parts = refl;
+          runs = (refl, refl);
+          refused = so.refused;
+          aborted = told_before id first others given Aborted e so.aborted refl;
+          error = error_before id first others given e so.error;
+        },
+        so.due (front_of groups),
+      )
     ]
 
-new_ends : (id : ℕ) (old new : Situation) (groups : List Group) (given : List InEvent) → Runs old groups given new → half_at old.history id ≡ None → list_any (is_opening id) given ≡ true → ending_told id given ≡ ending_of id (front_of groups)
+new_ends : (id : ℕ) (old new : Situation) (groups : List Group) (given : List InEvent) → Runs old groups given new → half_at old.history id ≡ None → list_any (is_opening id) given ≡ true → RunEnds id old groups given (ending_of id (front_of groups))
 new_ends id old new [] given (e, same) none opens = absurd (never (list_any (is_opening id) given) opens (ap (list_any (is_opening id)) e))
 new_ends id old new (group ∷ groups) given (first, others, next, gives, calm, runs, e) none opens =
-    ap (ending_told id) e ∙ told_append id first others
-    ∙ elim (group_new_end id old next group first gives calm none (few_before id old new (group ∷ groups) given (first, others, next, gives, calm, runs, e) opens)) [
+    elim (group_new_end id old next group first gives calm none (few_before id old new (group ∷ groups) given (first, others, next, gives, calm, runs, e) opens)) [
       | Still still quiet untold due ↦
-          ap (λ (b : Ending). first_end b (ending_told id others)) quiet ∙ new_ends id next new groups others runs still (later id first others given e opens untold) ∙ sym (due (front_of groups))
-      | Begins half quiet due ↦ ap (λ (b : Ending). first_end b (ending_told id others)) quiet ∙ open_ends id next new groups others runs half ∙ sym (due (front_of groups))
-      | Ends closed told due ↦ ap (λ (b : Ending). first_end b (ending_told id others)) told ∙ sym (due (front_of groups))
+          ends_behind id old next group groups given first others (ending_of id (front_of (group ∷ groups))) (ending_of id (front_of groups)) gives calm e quiet (due (front_of groups))
+          (new_ends id next new groups others runs still (later id first others given e opens untold))
+      | Begins half quiet due ↦
+          ends_behind id old next group groups given first others (ending_of id (front_of (group ∷ groups))) (ending_behind id (front_of groups)) gives calm e quiet (due (front_of groups)) (open_ends id next new groups others runs half)
+      | Ends closed told due ↦ inl (ap (ending_told id) e ∙ told_append id first others ∙ ap (λ (b : Ending). first_end b (ending_told id others)) told ∙ sym (due (front_of groups)))
       | Untold closed untold ↦ absurd (never (list_any (is_opening id) others) (later id first others given e opens untold) (closed_runs id next new groups others runs closed).1)
     ]
 
+-- ---- malformed trailers by the frames
+
+front_append : (before behind : List Group) → front_of (before ++ behind) ≡ front_of before ++ front_of behind
+front_append [] behind = refl
+front_append (group ∷ before) behind = ap (λ (es : List Entry). entries_of group ++ es) (front_append before behind) ∙ sym (append_assoc (entries_of group) (front_of before) (front_of behind))
+
+opens_front : (front behind : List Entry) → Opens (front ++ behind) → Opens front
+opens_front [] behind opens = tt
+opens_front (entry ∷ front) behind opens = opens
+
+malformed_of : (id : ℕ) (groups before : List Group) (group : Group) (behind : List Group) (told : List InEvent) (now : Situation) → Opens (front_of groups) → groups ≡ before ++ group ∷ behind → Runs start before told now
+    → AreRefused id now group → HasMalformedTrailers id (front_of groups)
+malformed_of id groups before (Single frame) behind told now opens parts runs refused = absurd refused
+malformed_of id groups before (Credit stream) behind told now opens parts runs refused = absurd refused
+malformed_of id groups before (Block frames block) behind told now opens parts runs (fields, next, collects, whole, on, accepted, reads, malformed) =
+    record {
+      frames = frames;
+      block = block;
+      behind = front_of behind;
+      given = told;
+      now = now;
+      fields = fields;
+      next = next;
+      passes = record {
+        groups = before;
+        parts = ap front_of parts ∙ front_append before (Block frames block ∷ behind) ∙ ap (λ (es : List Entry). es ++ (map Whole frames ++ front_of behind)) (front_is before);
+        opens = opens;
+        runs = runs;
+      };
+      collects = collects;
+      whole = whole;
+      on = on;
+      accepted = accepted;
+      reads = reads;
+      malformed = malformed;
+    }
+
+ends_as : (id : ℕ) (groups : List Group) (given : List InEvent) → Opens (front_of groups) → RunEnds id start groups given (ending_of id (front_of groups)) → EndsAs id (front_of groups) given
+ends_as id groups given opens (inl told) = inl told
+ends_as id groups given opens (inr (so, ended)) =
+    inr (record { trailers = malformed_of id groups so.before so.group so.behind so.told so.now opens so.parts so.runs so.refused; ended = ended; aborted = so.aborted; error = so.error })
+
 pub end_told_of : (entries behind : List Entry) (given : List InEvent) (now : Situation) (id : ℕ) → Passes entries behind given now → list_any (is_opening id) given ≡ true
-    → (front : List Entry) × (entries ≡ front ++ behind) × (ending_told id given ≡ ending_of id front)
+    → (front : List Entry) × (entries ≡ front ++ behind) × EndsAs id front given
 end_told_of entries behind given now id passes opens =
     let is : front_of passes.groups ≡ flat_map entries_of passes.groups = front_is passes.groups in
     let parts : entries ≡ front_of passes.groups ++ behind = passes.parts ∙ ap (λ (es : List Entry). es ++ behind) (sym is) in
-    (front_of passes.groups, parts, new_ends id start now passes.groups given passes.runs (kept-None id []) opens)
+    (front_of passes.groups, parts, ends_as id passes.groups given (opens_front (front_of passes.groups) behind (subst Opens parts passes.opens)) (new_ends id start now passes.groups given passes.runs (kept-None id []) opens))

@@ -1,7 +1,7 @@
 -- What a whole header block comes to (RFC 9113, sections 4.3, 8.1 and 8.1.1), given the verdict of its HEADERS.
-use Rattle.std.specs.Prelude.{◌≡◌, ◌≢◌, ◌⊎◌, ℕ, List, [], ◌∷◌, Option}
+use Rattle.std.specs.Prelude.{◌≡◌, ◌≢◌, ◌⊎◌, ℕ, Bool, true, false, List, [], ◌∷◌, Option}
 use Rattle.h2frame.specs.declared.error_code.ErrorCode.{ErrorCode}
-use Rattle.h2frame.specs.declared.error_code.ErrorCode.TheVariants.{CompressionError, EnhanceYourCalm}
+use Rattle.h2frame.specs.declared.error_code.ErrorCode.TheVariants.{ProtocolError, CompressionError, EnhanceYourCalm}
 use Rattle.h2frame.specs.declared.frame.FrameHead.{FrameHead}
 use Rattle.hpack_codec.specs.declared.fault.HpackFault.{HpackFault}
 use Rattle.hpack_codec.specs.declared.fault.HpackFault.TheVariants.{TooLarge, OutOfMemory}
@@ -12,8 +12,9 @@ use Rattle.callhead.specs.declared.head.CallHead.{CallHead}
 use Rattle.callhead.specs.declared.fault.HeadFault.{HeadFault}
 use Rattle.callhead.specs.declared.fault.HeadFault.TheVariants.{Malformed}
 use Rattle.callhead.specs.Heads.{IsHead, IsFirstFault as IsFirstHeadFault}
+use Rattle.callhead.specs.MalformedHeads.{are_malformed_trailers}
 use Rattle.flow.specs.declared.halves.HalfVerdict.{HalfVerdict}
-use Rattle.flow.specs.declared.halves.HalfVerdict.TheVariants.{Open, Accept}
+use Rattle.flow.specs.declared.halves.HalfVerdict.TheVariants.{Open, Accept, StreamError}
 use Rattle.flow.specs.Halves.{Event, Cut}
 use Rattle.session.specs.declared.event.InEvent.{InEvent}
 use Rattle.session.specs.declared.event.InEvent.TheVariants as events
@@ -35,10 +36,20 @@ HeadGives head fields history given next =
     ((call : CallHead) × IsHead fields call × (given ≡ events.Open head.stream call ∷ end_of head) × (next ≡ history))
     ⊎ ((fault : HeadFault) × IsFirstHeadFault fields fault × (given ≡ bad_head_events fault head) × (next ≡ after_bad_head fault head.stream history))
 
--- trailers are not looked at, and neither is a block that is refused
+-- malformed trailers are an error of the stream, which resets it; others end it
+abbrev pub trailer_events : Bool → FrameHead → List InEvent
+trailer_events true head = refusal (StreamError ProtocolError) head.stream
+trailer_events false head = end_of head
+
+abbrev pub after_trailers : Bool → ℕ → List Event → List Event
+after_trailers true id history = Cut id ∷ history
+after_trailers false id history = history
+
+-- a block that is refused is not looked at
 abbrev pub FieldsGive : HalfVerdict → FrameHead → List Field → List Event → List InEvent → List Event → Type 0
 FieldsGive Open head fields history given next = HeadGives head fields history given next
-FieldsGive Accept head fields history given next = (given ≡ end_of head) × (next ≡ history)
+FieldsGive Accept head fields history given next =
+    (given ≡ trailer_events (are_malformed_trailers fields) head) × (next ≡ after_trailers (are_malformed_trailers fields) head.stream history)
 FieldsGive judged head fields history given next = (given ≡ refusal judged head.stream) × (next ≡ history)
 
 -- the error that a block without fields is to the peer

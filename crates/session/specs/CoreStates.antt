@@ -1,5 +1,5 @@
 -- What a reading core keeps of the bytes that it was fed and of the events that it answered.
-use Rattle.std.specs.Prelude.{◌≡◌, ◌≢◌, ◌⊎◌, ℕ, Bool, false, List, [], ◌∷◌, ◌++◌, map, length, slice_get, ◌-◌, if◌then◌else◌, Option, Some, None, IsSome, Result, Ok, Err}
+use Rattle.std.specs.Prelude.{◌≡◌, ◌≢◌, ◌⊎◌, ℕ, Bool, true, false, List, [], ◌∷◌, ◌++◌, map, length, slice_get, ◌-◌, if◌then◌else◌, Option, Some, None, IsSome, Result, Ok, Err}
 use Rattle.h2frame.specs.declared.error_code.ErrorCode.TheVariants.{ProtocolError}
 use Rattle.h2frame.specs.declared.fault.FrameFault.{FrameFault}
 use Rattle.h2frame.specs.declared.fault.FrameFault.TheVariants.{OutOfMemory}
@@ -8,7 +8,6 @@ use Rattle.h2frame.specs.Faults.{fault_error}
 use Rattle.h2frame.specs.FrameList.{Entry, Whole, Joined, IsUnfinished}
 use Rattle.hpack_codec.specs.Table.{Table, empty_table}
 use Rattle.flow.specs.declared.halves.HalfVerdict.{HalfVerdict}
-use Rattle.flow.specs.declared.halves.HalfVerdict.TheVariants.{Open}
 use Rattle.flow.specs.Halves.{Event, Streams, verdict, half_of}
 use Rattle.flow.specs.Halves.{Stands as Keeps}
 use Rattle.session.specs.declared.event.InEvent.{InEvent}
@@ -17,7 +16,7 @@ use Rattle.session.specs.declared.context.Position.TheVariants.{First, Between, 
 use Rattle.session.specs.declared.in_core.Stage.{Stage}
 use Rattle.session.specs.declared.in_core.Stage.TheVariants.{Greeting, Reading, Dead}
 use Rattle.session.specs.Prefaces.{preface, Departs}
-use Rattle.session.specs.Streams.{after_frame}
+use Rattle.session.specs.Streams.{after_frame, is_accepted}
 use Rattle.session.specs.Frames.{fatal}
 use Rattle.session.specs.HeaderBlocks.{Pending}
 use Rattle.session.specs.Events.{Passes, IsBegun, is_fatal, IsSettings, IsUnsettled, Close, Unfinished, Follows}
@@ -29,11 +28,11 @@ pub record Core : Type 0 where
   pub streams : Streams
   pub kept : Option Table
 
--- a header block that isn't whole was begun on a stream that was begun, if its HEADERS open it
+-- a header block that isn't whole was begun on a stream that was begun, if its HEADERS are no error
 abbrev pub IsSound : Position → Streams → Type 0
 IsSound First streams = Unit {0}
 IsSound Between streams = Unit {0}
-IsSound (Inside block judged) streams = (block.whole ≡ false) × (judged ≡ Open → IsSome (half_of streams block.head.stream))
+IsSound (Inside block judged) streams = (block.whole ≡ false) × (is_accepted judged ≡ true → IsSome (half_of streams block.head.stream))
 
 abbrev pub IsSoundNext : Option Position → Streams → Type 0
 IsSoundNext (Some position) streams = IsSound position streams

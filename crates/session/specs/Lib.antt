@@ -7,6 +7,9 @@ pub mod HeaderBlocks
 pub mod Events
 pub mod CoreStates
 pub mod StreamData
+pub mod Trailers
+pub mod Openings
+pub mod FlowBytes
 pub mod Examples
 pub mod EventExamples
 pub mod Framings

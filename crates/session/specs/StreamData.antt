@@ -55,7 +55,8 @@ is_opening id (events.Open other call) = nat_eq id other
 is_opening id (events.BadHead other fault) = nat_eq id other && is_well_formed fault
 is_opening id _ = false
 
--- how the client's part of a stream ends: not yet, by END_STREAM, or by RST_STREAM or an error of the stream
+-- How the client's part of a stream ends: not yet, by END_STREAM, or by RST_STREAM or an error of the stream. What the fields of
+-- trailers are isn't asked here: malformed ones are an error, for which see `EndsAs`.
 pub data Ending : Type 0 where
   Unended : Ending
   Finished : Ending

@@ -1,6 +1,6 @@
 -- What the frames of a stream come to (RFC 9113, sections 5.1, 6.1, 6.4 and 6.9), given the frames before them and the
 -- streams that the server reset: a stream is reset at once where one of its frames is an error of the stream.
-use Rattle.std.specs.Prelude.{ℕ, ◌==◌, if◌then◌else◌, List, [], ◌∷◌, ◌++◌}
+use Rattle.std.specs.Prelude.{ℕ, Bool, true, false, ◌==◌, if◌then◌else◌, List, [], ◌∷◌, ◌++◌}
 use Rattle.std.specs.Int.{w32, from_be_bytes}
 use Rattle.h2frame.specs.declared.error_code.ErrorCode.TheVariants.{ProtocolError}
 use Rattle.h2frame.specs.declared.frame.Frame.{Frame}
@@ -10,7 +10,7 @@ use Rattle.h2frame.specs.ErrorCode.{error_of}
 use Rattle.h2frame.specs.Faults.{increment_of}
 use Rattle.h2frame.specs.Flags.{has, end_stream}
 use Rattle.flow.specs.declared.halves.HalfVerdict.{HalfVerdict}
-use Rattle.flow.specs.declared.halves.HalfVerdict.TheVariants.{Accept, StreamError, ConnectionError}
+use Rattle.flow.specs.declared.halves.HalfVerdict.TheVariants.{Open, Accept, StreamError, ConnectionError}
 use Rattle.flow.specs.Halves.{Event, Received, Cut, verdict}
 use Rattle.session.specs.declared.event.Control.TheVariants.{Window}
 use Rattle.session.specs.declared.event.InEvent.{InEvent}
@@ -23,6 +23,12 @@ after _ id history = history
 
 abbrev pub after_frame : HalfVerdict → FrameHead → List Event → List Event
 after_frame judged head history = after judged head.stream (Received head ∷ history)
+
+-- the verdicts of frames that are no error: such HEADERS open a stream, or are its trailers
+abbrev pub is_accepted : HalfVerdict → Bool
+is_accepted Open = true
+is_accepted Accept = true
+is_accepted _ = false
 
 -- what every verdict but Accept comes to
 abbrev pub refusal : HalfVerdict → ℕ → List InEvent

@@ -1,15 +1,15 @@
 //! What a whole header block comes to (RFC 9113, sections 4.3 and 8.1).
 
-ghost use Rattle.std.specs.Prelude.{◌≡◌, ◌∷◌, ◌++◌, List, OnOk, IsSome};
-ghost use Rattle.flow.specs.declared.halves.HalfVerdict.TheVariants.{Open};
+ghost use Rattle.std.specs.Prelude.{◌≡◌, ◌∷◌, ◌++◌, true, List, OnOk, IsSome};
+ghost use Rattle.callhead.specs.MalformedHeads.{are_malformed_trailers};
 ghost use Rattle.flow.specs.Halves.{Event, Stands, half_of};
 ghost use Rattle.session.specs.declared.event.InEvent.{InEvent};
-ghost use Rattle.session.specs.Streams.{end_of};
-ghost use Rattle.session.specs.Blocks.{HeadGives, BlockGives, bad_head_events, after_bad_head, block_error};
+ghost use Rattle.session.specs.Streams.{end_of, is_accepted};
+ghost use Rattle.session.specs.Blocks.{HeadGives, BlockGives, bad_head_events, after_bad_head, trailer_events, after_trailers, block_error};
 
 use crate::event::InEvent;
 use crate::judge::refuse;
-use callhead::{CallHead, HeadFault};
+use callhead::{CallHead, HeadFault, are_malformed_trailers};
 use flow::{HalfVerdict, Halves};
 use h2frame::{ErrorCode, Flags, FrameHead};
 use hpack_codec::{Decoder, HpackFault};
@@ -26,7 +26,7 @@ pub fn block_events(
     block: &[u8],
     events: &mut Vec<InEvent>,
 ) -> Result<(), AllocError>
-    requires { verdict ≡ Open → IsSome (half_of halves.old head.now.stream) }
+    requires { is_accepted verdict ≡ true → IsSome (half_of halves.old head.now.stream) }
     ensures ok { OnOk result ((history : List Event) → Stands history halves.old
         → (given : List InEvent) × (next : List Event) × BlockGives decoder.old head.now verdict block.now history given next decoder.new
         × (events.new.items ≡ events.old.items ++ given) × Stands next halves.new) }
@@ -41,7 +41,7 @@ pub fn block_events(
     };
     match verdict {
         HalfVerdict::Open => head_events(alloc, halves, head, fields.as_slice(), events),
-        HalfVerdict::Accept => end_event(head, events),
+        HalfVerdict::Accept => trailer_events(halves, head, fields.as_slice(), events),
         _ => refuse(verdict, head.stream, events),
     }
 }
@@ -94,6 +94,27 @@ fn bad_head_events(
         return Ok(());
     }
     begin(InEvent::BadHead(head.stream, fault), head, events)
+}
+
+/// The events of trailers. Those that are malformed reset their stream (RFC 9113, section 8.1.1).
+fn trailer_events(
+    halves: &mut Halves,
+    head: &FrameHead,
+    fields: &[Field],
+    events: &mut Vec<InEvent>,
+) -> Result<(), AllocError>
+    requires { IsSome (half_of halves.old head.now.stream) }
+    ensures events { OnOk result (events.new.items
+        ≡ events.old.items ++ trailer_events (are_malformed_trailers fields.now) head.now) }
+    ensures follows { OnOk result ((history : List Event) → Stands history halves.old
+        → Stands (after_trailers (are_malformed_trailers fields.now) head.now.stream history) halves.new) }
+{
+    if are_malformed_trailers(fields) {
+        halves.cut(head.stream);
+        let error = HalfVerdict::StreamError(ErrorCode::ProtocolError);
+        return refuse(error, head.stream, events);
+    }
+    end_event(head, events)
 }
 
 /// The first event of a stream, and its end where the HEADERS have it.

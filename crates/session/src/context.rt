@@ -5,9 +5,9 @@ ghost use Rattle.h2frame.specs.FrameList.{Whole, NoIncrement, IsLawful, answered
 ghost use Rattle.h2frame.specs.Faults.{fault_error};
 ghost use Rattle.h2frame.specs.declared.fault.FrameFault.TheVariants.{OutOfMemory};
 ghost use Rattle.hpack_codec.specs.Table.{empty_table};
-ghost use Rattle.flow.specs.declared.halves.HalfVerdict.TheVariants.{Open};
 ghost use Rattle.flow.specs.Halves.{Stands, half_of};
 ghost use Rattle.session.specs.declared.context.Position.TheVariants.{Inside};
+ghost use Rattle.session.specs.Streams.{is_accepted};
 ghost use Rattle.session.specs.Frames.{fatal};
 ghost use Rattle.session.specs.CoreStates.{IsSound, IsSoundNext, Advances, Begins, Collected, IsEnd, position_behind};
 
@@ -201,7 +201,7 @@ impl Context {
         verdict: HalfVerdict,
         events: &mut Vec<InEvent>,
     ) -> Result<Option<Position>, AllocError>
-        requires { verdict ≡ Open → IsSome (half_of self.old.halves block.head.stream) }
+        requires { is_accepted verdict ≡ true → IsSome (half_of self.old.halves block.head.stream) }
         ensures sound { IfOk result (λ next. IsSoundNext next self.new.halves) }
         ensures follows { IfOk result (λ next. Collected block verdict self.old.halves self.old.decoder events.old.items
             next self.new.halves self.new.decoder events.new.items) }
@@ -220,7 +220,7 @@ impl Context {
         block: &[u8],
         events: &mut Vec<InEvent>,
     ) -> Result<Option<Position>, AllocError>
-        requires { verdict ≡ Open → IsSome (half_of self.old.halves head.now.stream) }
+        requires { is_accepted verdict ≡ true → IsSome (half_of self.old.halves head.now.stream) }
         ensures sound { IfOk result (λ next. IsSoundNext next self.new.halves) }
         ensures follows { IfOk result (λ next. Collected (record { head = head.now; block = block.now; whole = true }) verdict
             self.old.halves self.old.decoder events.old.items next self.new.halves self.new.decoder events.new.items) }

@@ -1,15 +1,14 @@
 //! What a frame comes to that is no part of a header block (RFC 9113, section 6).
 
-ghost use Rattle.std.specs.Prelude.{◌≡◌, ◌<◌, ◌==◌, ◌++◌, List, length, IfOk, IsSome, OnOk};
+ghost use Rattle.std.specs.Prelude.{◌≡◌, ◌<◌, ◌==◌, ◌++◌, true, List, length, IfOk, IsSome, OnOk};
 ghost use Rattle.std.specs.Int.{w32, from_be_bytes};
 ghost use Rattle.h2frame.specs.ErrorCode.{error_of};
 ghost use Rattle.h2frame.specs.Flags.{has, ack};
 ghost use Rattle.h2frame.specs.FrameList.{IsLawful};
 ghost use Rattle.h2frame.specs.declared.kind.FrameKind.TheVariants.{Data, Headers, Ping, RstStream, Settings, WindowUpdate};
-ghost use Rattle.flow.specs.declared.halves.HalfVerdict.TheVariants.{Open};
 ghost use Rattle.flow.specs.Halves.{Event, IsJudged, Stands, half_of, verdict};
 ghost use Rattle.session.specs.declared.event.InEvent.{InEvent};
-ghost use Rattle.session.specs.Streams.{after_frame, data_events, reset_events, window_events, refusal, credit_head, credit_verdict, without_increment};
+ghost use Rattle.session.specs.Streams.{after_frame, is_accepted, data_events, reset_events, window_events, refusal, credit_head, credit_verdict, without_increment};
 ghost use Rattle.session.specs.Frames.{Gives, SettingsGive, WindowGives, ping_events};
 
 use crate::event::{Control, InEvent};
@@ -19,12 +18,13 @@ use h2frame::{ErrorCode, Flags, Frame, FrameHead, FrameKind, StreamId, increment
 use std::alloc::{AllocError, Global};
 
 /// Judges a frame of a stream. An error of the stream resets it.
+#[tactic(auto, using(crate::proofs::LawfulFrames::accepted_begun))]
 pub fn judge(halves: &mut Halves, head: &FrameHead) -> Result<HalfVerdict, AllocError>
     requires { IsJudged head.now }
     ensures verdict { IfOk result (λ answer. (history : List Event) → Stands history halves.old → answer ≡ verdict history head.now) }
     ensures follows { IfOk result (λ answer. (history : List Event) → Stands history halves.old
         → Stands (after_frame answer head.now history) halves.new) }
-    ensures begun { IfOk result (λ answer. answer ≡ Open → IsSome (half_of halves.new head.now.stream)) }
+    ensures begun { IfOk result (λ answer. is_accepted answer ≡ true → IsSome (half_of halves.new head.now.stream)) }
 {
     let verdict = halves.on(head)?;
     if let HalfVerdict::StreamError(_) = verdict {

@@ -1,12 +1,15 @@
 //! Laws of a connection's events, for the proofs of callers. None of them does anything.
 
-ghost use Rattle.std.specs.Prelude.{◌≡◌, ◌≢◌, ◌<◌, ℕ, List, [], ◌∷◌, All, ◌++◌, true};
+ghost use Rattle.std.specs.Prelude.{◌≡◌, ◌≢◌, ◌<◌, ◌≤◌, ℕ, List, [], ◌∷◌, All, ◌++◌, true};
 ghost use Rattle.std.specs.List.{list_any};
 ghost use Rattle.session.specs.declared.event.InEvent.{InEvent as InEventOf};
 ghost use Rattle.h2frame.specs.FrameList.{Entry, Joined};
 ghost use Rattle.session.specs.Events.{Events, Group, GroupGives, IsCalm, Passes, Situation, is_fatal};
 ghost use Rattle.session.specs.Framings.{Framed};
-ghost use Rattle.session.specs.StreamData.{Unended, data_of, end_told, ending_of, ending_told, is_opening, pieces};
+ghost use Rattle.session.specs.StreamData.{Unended, data_of, end_told, ending_told, is_opening, pieces};
+ghost use Rattle.session.specs.Trailers.{EndsAs};
+ghost use Rattle.session.specs.Openings.{AreRising, openings};
+ghost use Rattle.session.specs.FlowBytes.{counted_told, payloads};
 ghost use Rattle.session.specs.CoreStates.{Core, Reached};
 
 /// What a core has answered are the events of the bytes that it was fed.
@@ -32,10 +35,23 @@ pub fn stream_data()
         Framed bytes given entries → list_any (is_opening id) given ≡ true → pieces id given ≡ data_of id entries }
 {}
 
-/// The first end that is told of such a stream is the one by the frames that count.
+/// The first end that is told of such a stream is the one by the frames that count; or, where END_STREAM came with malformed
+/// trailers, an error of the stream.
 pub fn stream_end()
     ensures { (bytes : List ℕ) (given : List InEventOf) (entries : List Entry) (id : ℕ) →
-        Framed bytes given entries → list_any (is_opening id) given ≡ true → ending_told id given ≡ ending_of id entries }
+        Framed bytes given entries → list_any (is_opening id) given ≡ true → EndsAs id entries given }
+{}
+
+/// The numbers of the streams that are told to begin rise, also of those without the head of a call.
+pub fn openings_rise()
+    ensures { (bytes : List ℕ) (given : List InEventOf) → Events bytes given → AreRising (openings given) }
+{}
+
+/// The bytes that are told for flow control, on streams and on the connection alone, are at most those of the payloads of the
+/// DATA frames that count.
+pub fn flow_bytes()
+    ensures { (bytes : List ℕ) (given : List InEventOf) (entries : List Entry) →
+        Framed bytes given entries → counted_told given ≤ payloads entries }
 {}
 
 /// Before a stream begins, unless its head is malformed, neither data nor an end of it are told.
@@ -63,7 +79,7 @@ pub fn group_data()
 pub fn group_end()
     ensures { (entries behind : List Entry) (given : List InEventOf) (now : Situation) (id : ℕ) →
         Passes entries behind given now → list_any (is_opening id) given ≡ true →
-        (front : List Entry) × (entries ≡ front ++ behind) × (ending_told id given ≡ ending_of id front) }
+        (front : List Entry) × (entries ≡ front ++ behind) × EndsAs id front given }
 {}
 
 /// A group of frames has one outcome: its events, and, where the connection goes on behind them, what the next frames

@@ -1,5 +1,5 @@
 -- What a call was fed since it was admitted, and the data of its stream.
-use Rattle.std.proofs.Common.{◌≡◌, ◌≢◌, ◌∙◌, ℕ, true, nat_eq, List, [], ◌∷◌, ◌++◌, ap, append_assoc, refl, sym}
+use Rattle.std.proofs.Common.{◌≡◌, ◌≢◌, ◌∙◌, ℕ, inl, inr, Bool, true, ◌||◌, nat_eq, List, [], ◌∷◌, ◌++◌, ap, append_assoc, refl, sym}
 use Rattle.std.specs.List.{list_any}
 use Rattle.std.proofs.lemmas.List.{append-nil}
 use mathlib.Core.List.{IsPrefix}
@@ -8,9 +8,11 @@ use Rattle.session.specs.declared.event.InEvent.{InEvent}
 use Rattle.session.specs.declared.event.InEvent.TheVariants as events
 use Rattle.session.specs.Framings.{Framed}
 use Rattle.session.specs.StreamData.{Ending, Unended, Finished, data_of, ending_of, end_told, ending_told, first_end, is_opening, pieces}
+use Rattle.session.specs.Trailers.{EndsAs, is_stream_error}
+use Rattle.std.proofs.lemmas.List.Folds.{list_any-append}
 use Rattle.session.proofs.StreamPieces.{pieces_append}
 use Rattle.session.proofs.StreamEnds.{told_append}
-use Rattle.session.proofs.StreamFrames.{framed_data, framed_end}
+use Rattle.session.proofs.StreamFrames.{framed_data, framed_end, quiet_no_error}
 use Rattle.session.proofs.StreamOrder.{framed_before, framed_behind, opening_told}
 use Rattle.slots.specs.Steps.{Step, admitted, events_of, fed_by, since}
 use Rattle.slots.proofs.HalfLemmas.{same_number}
@@ -28,7 +30,24 @@ nothing-behind id given before after event parts here none =
 
 -- Of a stream that begins with this event, what is told behind it is all data, and the end.
 abbrev pub IsAllBehind : ℕ → List InEvent → List Entry → List InEvent → Type 0
-IsAllBehind id given entries behind = (pieces id behind ≡ data_of id entries) × (ending_told id behind ≡ ending_of id entries)
+IsAllBehind id given entries behind = (pieces id behind ≡ data_of id entries) × EndsAs id entries behind
+
+-- an error of the stream that is told, and not before, is told behind
+error-behind : (id : ℕ) (front rest : List InEvent) → ending_told id front ≡ Unended → list_any (is_stream_error id) (front ++ rest) ≡ true → list_any (is_stream_error id) rest ≡ true
+error-behind id front rest quiet some =
+    ap (λ (b : Bool). b || list_any (is_stream_error id) rest) (sym (quiet_no_error id front quiet)) ∙ sym (list_any-append (is_stream_error id) front rest) ∙ some
+
+ends-behind : (id : ℕ) (given before behind : List InEvent) (event : InEvent) (entries : List Entry) → given ≡ before ++ event ∷ behind → ending_told id before ≡ Unended → end_told id event ≡ Unended
+    → ending_told id given ≡ ending_told id behind → EndsAs id entries given → EndsAs id entries behind
+ends-behind id given before behind event entries parts none quiet same (inl is) = inl (sym same ∙ is)
+ends-behind id given before behind event entries parts none quiet same (inr so) =
+    inr (record {
+      trailers = so.trailers;
+      ended = so.ended;
+      aborted = sym same ∙ so.aborted;
+      error = error-behind id (event ∷ []) behind (ap (λ (e : Ending). first_end e Unended) quiet)
+          (error-behind id before (event ∷ behind) none (ap (list_any (is_stream_error id)) (sym parts) ∙ so.error));
+    })
 
 pub all-behind : (came : List ℕ) (given before behind : List InEvent) (event : InEvent) (entries : List Entry) (id : ℕ) → Framed came given entries → given ≡ before ++ event ∷ behind → is_opening id event ≡ true
     → pieces id (event ∷ []) ≡ [] → end_told id event ≡ Unended → IsAllBehind id given entries behind
@@ -41,10 +60,14 @@ all-behind came given before behind event entries id framed parts opens here qui
     let ending-is : ending_told id given ≡ ending_told id behind =
     ap (ending_told id) parts ∙ told_append id before (event ∷ behind) ∙ ap (λ (e : Ending). first_end e (ending_told id (event ∷ behind))) nothing.1
     ∙ ap (λ (e : Ending). first_end e (ending_told id behind)) quiet in
-    (sym pieces-are ∙ framed_data came given entries id framed told, sym ending-is ∙ framed_end came given entries id framed told)
+    (sym pieces-are ∙ framed_data came given entries id framed told, ends-behind id given before behind event entries parts nothing.1 quiet ending-is (framed_end came given entries id framed told))
 
 front-of-all : (fed told rest all : List ℕ) → IsPrefix fed told → told ++ rest ≡ all → IsPrefix fed all
 front-of-all fed told rest all (more, e) f = (more ++ rest, sym (append_assoc fed more rest) ∙ (ap (λ (l : List ℕ). l ++ rest) e ∙ f))
+
+ended-as : (id : ℕ) (entries : List Entry) (given : List InEvent) → EndsAs id entries given → ending_told id given ≡ Finished → ending_of id entries ≡ Finished
+ended-as id entries given (inl is) ended = sym is ∙ ended
+ended-as id entries given (inr so) ended = so.ended
 
 -- a half that ended was fed all
 whole-of-all : (came : List ℕ) (given before later rest : List InEvent) (event : InEvent) (entries : List Entry) (id : ℕ) (fed : List ℕ) → Framed came given entries → given ≡ before ++ event ∷ (later ++ rest)
@@ -56,7 +79,7 @@ whole-of-all came given before later rest event entries id fed framed parts open
     let none : pieces id (after ++ rest) ≡ [] =
     framed_behind came given (before ++ event ∷ front) (events.End id) (after ++ rest) entries id framed (opening_told id given before event (later ++ rest) parts opens) split (end-ends id) in (
       fed-is ∙ sym (nothing-behind id (later ++ rest) front (after ++ rest) (events.End id) behind refl none) ∙ all.0,
-      sym all.1 ∙ told_append id later rest ∙ ap (λ (e : Ending). first_end e (ending_told id rest)) ends,
+      ended-as id entries (later ++ rest) all.1 (told_append id later rest ∙ ap (λ (e : Ending). first_end e (ending_told id rest)) ends),
     )
 
 pub call-data : (came : List ℕ) (given : List InEvent) (entries : List Entry) (told : List Step) (id : ℕ) → Framed came given entries → IsPrefix (events_of told) given

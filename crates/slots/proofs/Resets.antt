@@ -1,19 +1,24 @@
 -- Why the half of a call was reset though its client ended it: a reset of the stream is among the orders.
 use Rattle.std.proofs.Common.{◌≡◌, ◌∙◌, ◌⊎◌, inl, inr, ℕ, Bool, true, false, true≢false, nat_eq, List, [], ◌∷◌, ◌++◌, Option, None, Some, ap, eqb-true, refl, subst, sym}
-use Rattle.std.specs.Prelude.{◌&&◌, IfSome, if◌then◌else◌, is_none}
+use Rattle.std.specs.List.{list_any}
+use Rattle.std.proofs.lemmas.List.Folds.{list_any-append}
+use Rattle.outwriter.specs.declared.control.Control.TheVariants.{Reset}
+use Rattle.std.specs.Prelude.{◌&&◌, ◌||◌, IfSome, if◌then◌else◌, is_none}
 use Rattle.std.proofs.lemmas.Bool.{and_parts}
 use Rattle.std.specs.Option.{is_some}
 use Rattle.connbook.specs.declared.answers.Receipt.TheVariants.{Feed, Discard, CallWindow, Overrun}
 use Rattle.h2frame.specs.declared.error_code.ErrorCode.{ErrorCode}
 use Rattle.h2frame.specs.declared.error_code.ErrorCode.TheVariants.{FlowControlError, EnhanceYourCalm}
 use Rattle.outwriter.specs.Steps.{Order}
+use Rattle.session.specs.declared.event.InEvent.{InEvent}
 use Rattle.session.specs.declared.event.InEvent.TheVariants as events
+use Rattle.session.specs.Trailers.{is_stream_error}
 use Rattle.slots.specs.Calls.{is_admitted}
 use Rattle.connbook.specs.declared.answers.AdmitFault.{AdmitFault}
 use Rattle.connbook.specs.declared.answers.AdmitFault.TheVariants as refused
 use Rattle.slots.specs.Orders.{IsReset, cut_code, ends_at, ends_by, ends_if_refused, is_fed, orders_at, orders_by}
 use Rattle.slots.specs.Reports.{AreCalm, WasResetFor, is_heard_out}
-use Rattle.slots.specs.Steps.{Fate, Plain, Admitted, Unknown, TurnedAway, Received, Missed, Lacking, Cause, Step, Told, CutOff, lets_go, lost, shut_by, since}
+use Rattle.slots.specs.Steps.{Fate, Plain, Admitted, Unknown, TurnedAway, Received, Missed, Lacking, Cause, Step, Told, CutOff, admitted_by, events_of, is_of, lets_go, lost, shut_by, since}
 use Rattle.slots.proofs.LetGo.{let-go-before}
 
 -- ---- among orders
@@ -80,8 +85,50 @@ calm-at (other ∷ later) step before calm = calm-at later step before calm.1
 fed-now : (id : ℕ) (before : List Step) → is_admitted id before ≡ true → shut_by id (since id before) ≡ None → is_fed id before ≡ true
 fed-now id before known unshut = rw (known, unshut) refl
 
+-- ---- an error of the stream is always ordered
+
+either : (a b : Bool) → (a || b) ≡ true → (a ≡ true) ⊎ (b ≡ true)
+either true b e = inl refl
+either false b e = inr e
+
+event-orders : (id : ℕ) (event : InEvent) (fate : Fate) (before : List Step) → is_stream_error id event ≡ true → IsReset id (orders_at before (Told event fate))
+event-orders id (events.StreamError other code) fate before error = inl (code, ap (λ (n : ℕ). Reset n code true) (sym (eqb-true id other error)))
+event-orders id (events.Data other piece counted) fate before error = absurd cc
+event-orders id (events.End other) fate before error = absurd cc
+event-orders id (events.Reset other code) fate before error = absurd cc
+event-orders id (events.Open other head) fate before error = absurd cc
+event-orders id (events.BadHead other fault) fate before error = absurd cc
+event-orders id (events.Loose counted) fate before error = absurd cc
+event-orders id (events.Control control) fate before error = absurd cc
+event-orders id events.PeerGoaway fate before error = absurd cc
+event-orders id (events.Fatal code) fate before error = absurd cc
+
+step-orders : (id : ℕ) (step : Step) (heard before : List Step) → list_any (is_stream_error id) (events_of (step ∷ heard)) ≡ true → (list_any (is_stream_error id) (events_of heard) ≡ true) ⊎ IsReset id (orders_at before step)
+step-orders id (CutOff other why) heard before error = inl error
+step-orders id (Told event fate) heard before error =
+    elim (either (list_any (is_stream_error id) (events_of heard)) (list_any (is_stream_error id) (event ∷ [])) (sym (list_any-append (is_stream_error id) (events_of heard) (event ∷ [])) ∙ error)) [
+      | inl earlier ↦ inl earlier
+      | inr here ↦ elim (either (is_stream_error id event) false here) [
+        | inl this ↦ inr (event-orders id event fate before this)
+        | inr none ↦ absurd (true≢false (sym none))
+      ]
+    ]
+
+error-orders : (id : ℕ) (told : List Step) → list_any (is_stream_error id) (events_of (since id told)) ≡ true → IsReset id (orders_by told)
+error-orders id [] error = absurd cc
+error-orders id (step ∷ before) error = by (is_of id (admitted_by step)) error
+  where
+    by : (b : Bool) → list_any (is_stream_error id) (events_of (if b then [] else step ∷ since id before)) ≡ true → IsReset id (orders_by before ++ orders_at before step)
+    by true error = absurd cc
+    by false error =
+        elim (step-orders id step (since id before) before error) [
+          | inl earlier ↦ reset-left id (orders_by before) (orders_at before step) (error-orders id before earlier)
+          | inr here ↦ reset-right id (orders_by before) (orders_at before step) here
+        ]
+
 pub reset-ordered : (told : List Step) (id : ℕ) → AreCalm told → is_admitted id told ≡ true → WasResetFor told (orders_by told) id
-reset-ordered told id calm known code ended closed =
+reset-ordered told id calm known code (inr error) closed = error-orders id told error
+reset-ordered told id calm known code (inl ended) closed =
     let was = let-go-before id code told known ended closed in
     subst (λ (steps : List Step). IsReset id (orders_by steps)) (sym was.parts)
     (by-resets id was.later was.step was.before

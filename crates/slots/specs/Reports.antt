@@ -1,5 +1,6 @@
 -- The rows of a connection's report, each on what the reader heard of its stream.
-use Rattle.std.specs.Prelude.{◌≡◌, ℕ, Bool, true, false, List, [], ◌∷◌, ◌++◌, None, Some, All, map}
+use Rattle.std.specs.Prelude.{◌≡◌, ◌⊎◌, ℕ, Bool, true, false, List, [], ◌∷◌, ◌++◌, None, Some, All, map}
+use Rattle.std.specs.List.{list_any}
 use mathlib.Core.List.{IsPrefix}
 use Rattle.account.specs.declared.call.Account.{Account}
 use Rattle.account.specs.declared.call.Shut.{Shut}
@@ -10,6 +11,7 @@ use Rattle.outwriter.specs.Steps.{Order}
 use Rattle.session.specs.declared.event.InEvent.{InEvent}
 use Rattle.session.specs.Events.{Events}
 use Rattle.session.specs.StreamData.{Finished, ending_told}
+use Rattle.session.specs.Trailers.{is_stream_error}
 use Rattle.slots.specs.Steps.{Step, admitted, events_of, fed_by, head_of, shut_by, since, IsRising}
 use Rattle.callslot.specs.declared.report.CallReport.{CallReport}
 use Rattle.callslot.specs.declared.report.Ending.{Ending}
@@ -42,10 +44,14 @@ abbrev pub AreCalm : List Step → Type 0
 AreCalm [] = Unit {0}
 AreCalm (step ∷ before) = (ends_at step ≡ None) × AreCalm before
 
--- Where the half of a call was reset, though END_STREAM was told of its stream, a reset of the stream that is to be written was ordered.
+-- END_STREAM ended the stream, or an error of the stream was told
+abbrev pub IsEndedOrError : ℕ → List InEvent → Type 0
+IsEndedOrError id given = (ending_told id given ≡ Finished) ⊎ (list_any (is_stream_error id) given ≡ true)
+
+-- Where the half of a call was reset, though END_STREAM or an error of its stream was told, a reset of the stream that is to be written was ordered.
 abbrev pub WasResetFor : List Step → List Order → ℕ → Type 0
 WasResetFor told orders id =
-    (code : ℕ) → ending_told id (events_of (since id told)) ≡ Finished → shut_by id (since id told) ≡ Some (shut.Reset code) → IsReset id orders
+    (code : ℕ) → IsEndedOrError id (events_of (since id told)) → shut_by id (since id told) ≡ Some (shut.Reset code) → IsReset id orders
 
 module _ (answers : ℕ → List (List ℕ) → Bool → Answer → Type 0) (names : List ℕ → ℕ → Type 0) where
   -- A call of the row's stream was admitted with a head whose path names the row's method. The row stands on the call's lawful account: what it

@@ -4,6 +4,7 @@ use Rattle.std.specs.Prelude.{◌≡◌, ◌⊎◌, ℕ, List, Some}
 use Rattle.account.specs.declared.call.Shut.TheVariants as shut
 use Rattle.h2frame.specs.FrameList.{Entry}
 use Rattle.session.specs.StreamData.{Finished, data_of, ending_of}
+use Rattle.session.specs.Trailers.{HasMalformedTrailers}
 use Rattle.slots.specs.Steps.{Step, WasLetGo, fed_by, shut_by, since}
 
 -- What these steps feed a call begins the data of its stream, by these frames. They end its half only where END_STREAM ended
@@ -23,6 +24,12 @@ pub record ResetBefore (id : ℕ) (told : List Step) : Type 0 where
   pub closed : shut_by id (since id told) ≡ Some (shut.Reset code)
   pub by : WasLetGo id code told
 
+-- the half was reset, and its stream has malformed trailers
+pub record ResetAtTrailers (id : ℕ) (told : List Step) (entries : List Entry) : Type 0 where
+  pub trailers : HasMalformedTrailers id entries
+  pub code : ℕ
+  pub closed : shut_by id (since id told) ≡ Some (shut.Reset code)
+
 -- What became of the half of a call whose stream END_STREAM ended, once all its events were heard.
 abbrev pub HasEnd : ℕ → List Step → List Entry → Type 0
-HasEnd id told entries = EndedWhole id (since id told) entries ⊎ ResetBefore id told
+HasEnd id told entries = EndedWhole id (since id told) entries ⊎ (ResetBefore id told ⊎ ResetAtTrailers id told entries)

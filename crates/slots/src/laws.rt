@@ -76,8 +76,8 @@ pub fn call_data()
 {}
 
 /// Where END_STREAM ended the stream of a call and all events of the bytes that came were heard, its half ended and was fed all
-/// data, or a step before END_STREAM reset it: a piece of its data was lost, or no more of it was heard. No RST_STREAM of the client
-/// did, and no error of the stream.
+/// data, or a step before END_STREAM reset it: a piece of its data was lost, or no more of it was heard; or it was reset, and its
+/// trailers are malformed. No RST_STREAM of the client did, and no other error of the stream.
 pub fn call_end()
     ensures { (came : List ℕ) (given : List InEventOf) (entries : List Entry) (told : List Step) (id : ℕ) →
         Framed came given entries → events_of told ≡ given →
@@ -94,7 +94,7 @@ pub fn account_by_frames()
         Events came given → Framed came given entries → HasFrames end entries orders id account }
 {}
 
-/// Where the half of a call was reset, though END_STREAM came on its stream, a reset of the stream that is to be written is among the
+/// Where the half of a call was reset, though END_STREAM or an error of its stream was told, a reset of the stream that is to be written is among the
 /// orders that the steps lead to, as long as none of them ends the connection.
 pub fn reset_is_ordered()
     ensures { (told : List Step) (id : ℕ) → AreCalm told → is_admitted id told ≡ true → WasResetFor told (orders_by told) id }
