@@ -70,7 +70,12 @@ impl<A: Ledger, B: Ledger, C: Ledger, W: ConnWrite + Drop, G: Gate + Drop> Write
                 self.stop(rt);
                 self.gate.writing_ended();
             }
-            Rest::Idle => self.idle(rt),
+            Rest::Idle => {
+                self.idle(rt);
+                if self.writing.reset_left() {
+                    return false;
+                }
+            }
         }
         self.outlet
             .shared

@@ -3,7 +3,7 @@ use Rattle.outwriter.specs.declared.control.Control.{Control}
 use Rattle.outwriter.specs.Steps.{order_of}
 use Rattle.callslot.specs.declared.order.Opened.{Opened}
 use Rattle.slotwriter.specs.Orders.{Gives}
-use Rattle.slotwriter.proofs.WrittenSteps.{leads-lost, leads-passed, leads-taken}
+use Rattle.slotwriter.proofs.WrittenSteps.{knows-taken, leads-lost, leads-passed, leads-taken}
 use Rattle.slotwriter.proofs.slot_writer.SlotWriter.take_next.Goals as goal
 
 pub returns-in-Ok : goal.returns-in-Ok
@@ -11,7 +11,9 @@ returns-in-Ok g c = record {
   leads =
       leads-taken g.W.ConnWrite.contents g.W.ConnWrite.failed c.in-Some.order (order_of c.in-Ok.control) c.args.self.now c.take.new.self c.next.new.self
       (subst (λ (next : Option (Control Opened)). Gives next c.args.self.now.inbox c.next.new.self) c.in-Some.is c.next.ensures.gives)
-      c.in-Ok.ensures.same c.if-self.false c.take.ensures.inbox c.take.ensures.takes;
+      c.in-Ok.ensures.same c.if-self.false c.take.ensures.inbox c.take.ensures.takes
+      (λ still. knows-taken c.in-Some.order c.in-Ok.control (order_of c.in-Ok.control) c.args.self.now
+      (record c.args.self.now { inbox = c.next.new.self; senders = c.control_of.new.self }) c.take.new.self c.in-Ok.ensures.same c.in-Ok.ensures.makes refl (c.take.ensures.heeds still));
   lost = c.take.ensures.lost;
 }
 
