@@ -1,8 +1,8 @@
 -- What each step of a connection's writer does to what it wrote.
-use Rattle.std.proofs.Common.{◌≡◌, ◌≢◌, ◌∙◌, ℕ, Bool, true, false, true≢false, List, [], ◌∷◌, ◌++◌, Option, None, Some, IfSome, ap, append-nil, sym, refl, map, subst}
+use Rattle.std.proofs.Common.{◌≡◌, ◌≢◌, ◌∙◌, ℕ, zero, suc, Bool, true, false, true≢false, List, [], ◌∷◌, ◌++◌, Option, None, Some, IfSome, ap, append-nil, sym, refl, map, subst}
 use Rattle.std.specs.Prelude.{◌<◌, ◌||◌, All, Result, Ok, Err, OnOk, OnErr, get_or, length, set}
 use Rattle.std.specs.List.{list_any}
-use Rattle.std.proofs.lemmas.List.Elements.{All-append, All-from_get_or, All-get_or, All-set}
+use Rattle.std.proofs.lemmas.List.Elements.{All-append, All-from_get_or, All-get_or, All-nil, All-set}
 use Rattle.account.specs.declared.call.OutItem.{OutItem}
 use Rattle.outwriter.specs.Calls.{TellOthers}
 use Rattle.outwriter.specs.Polls.{coming}
@@ -325,7 +325,7 @@ module _ {W : Type 0} (contents : W → Option (List ℕ)) (failed : W → Bool)
     name = gives.name;
     lost = gives.lost;
     given = λ given has. subst (λ (all : List (Control Opened)). HasGiven all new.inbox) (append-nil given) (gives.given given has);
-  }) frames).leads
+  }) calls frames).leads
 
   -- what is given comes back
   pub leads-back : (next back : Control Opened) (old new : SlotWriter W) (mid : Inbox) → Gives (Some next) old.inbox mid → new.inbox ≡ record mid { set_aside = Some back } → back ≡ next
@@ -334,7 +334,7 @@ module _ {W : Type 0} (contents : W → Option (List ℕ)) (failed : W → Bool)
     name = ap (λ (inbox : Inbox). out_name inbox.ring) same ∙ gives.name;
     lost = ap (λ (inbox : Inbox). inbox.has_lost) same ∙ gives.lost;
     given = λ given has. subst (λ (inbox : Inbox). HasGiven given inbox) (sym same) (ap (λ (one : Control Opened). given ++ one ∷ []) is ∙ aside given (gives.given given has));
-  }) frames).leads
+  }) calls frames).leads
     where
       aside : (given : List (Control Opened)) → HasGiven (given ++ next ∷ []) mid → given ++ next ∷ [] ≡ taken mid.ring
       aside given has = sym (append-nil (given ++ next ∷ [])) ∙ (ap (λ (one : Option (Control Opened)). (given ++ next ∷ []) ++ order_in one) (sym gives.none_aside) ∙ has)
@@ -429,7 +429,7 @@ module _ {W : Type 0} (contents : W → Option (List ℕ)) (failed : W → Bool)
     all-given writer.inbox aside none,
     subst (λ (lost : Bool). Runs contents failed lost [] before writer.frames) (sym kept) ([], wrote, (refl, tt)),
     λ still. record {
-      opened = subst (λ (places : List Place). All (λ id. IsAmong (control.Open id tt) []) (ids_of places)) (sym empty) tt;
+      opened = subst (λ (places : List Place). All (λ id. IsAmong (control.Open id tt) []) (ids_of places)) (sym empty) (All-nil (λ (id : ℕ). IsAmong (control.Open id tt) []));
       input = going;
     },
   )

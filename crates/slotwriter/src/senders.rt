@@ -208,9 +208,9 @@ impl Senders {
         let Some(place) = self.places.get_mut(number) else {
             return false;
         };
-        let is_seen = !place.is_left && place.was_left();
-        place.is_left = place.is_left || is_seen;
-        is_seen
+        let is_left = place.was_left();
+        let was_seen = mem::replace(&mut place.is_left, is_left);
+        is_left && !was_seen
     }
 
     /// The stream of the slot's call, where that was seen to be left without trailers, and wasn't
