@@ -215,10 +215,11 @@ impl<A: Ledger, B: Ledger, C: Ledger, G: Gate + Drop> Worker<A, B, C, G> {
         ensures past { past_shut result.shut.shut ≡ past_in giver.tx }
         ensures row { result.row ≡ unanswered id index }
     {
+        let shut = giver.leave();
         self.settle(rt, id, 0, false);
         Finished {
             taker,
-            shut: giver.leave(),
+            shut,
             row: CallReport::unanswered(id, index),
         }
     }
@@ -390,6 +391,7 @@ impl<A: Ledger, B: Ledger, C: Ledger, G: Gate + Drop> Worker<A, B, C, G> {
         pace.came(credit);
         let (given, given_bytes) = run.given();
         let (taker, end, status) = run.into_ends();
+        let shut = shut_of(end);
         self.settle(rt, id, credit, status.is_some());
         let row = CallReport {
             id,
@@ -401,14 +403,11 @@ impl<A: Ledger, B: Ledger, C: Ledger, G: Gate + Drop> Worker<A, B, C, G> {
             given_bytes,
             status,
         };
-        Finished {
-            taker,
-            shut: shut_of(end),
-            row,
-        }
+        Finished { taker, shut, row }
     }
 
-    /// Returns what was taken of a call that is over, and tells the reader of it. One without trailers is live no more.
+    /// Returns what was taken of a call that is over, and tells reader and writer of it. Its last item was given before. One without trailers
+    /// is live no more.
     fn settle(&self, rt: &impl Wait, id: StreamId, credit: u32, has_trailers: bool) {
         {
             let mut book = self.shared.book.lock(rt);

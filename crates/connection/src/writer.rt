@@ -54,7 +54,7 @@ impl<A: Ledger, B: Ledger, C: Ledger, W: ConnWrite + Drop, G: Gate + Drop> Write
     fn turn(&mut self, rt: &impl Wait) -> bool
         ensures leads { LeadsOn W.contents W.failed self.old.writing self.new.writing }
         ensures over { result ≡ true → LeadsOut W.contents W.failed self.old.writing self.new.writing }
-        ensures flushed { IsFlushed self.new.writing }
+        ensures flushed { result ≡ true → IsFlushed self.new.writing }
     {
         let mark = self.outlet.shared.writer.mark();
         let (filled, is_silent) = self.write_once(rt);
@@ -70,13 +70,32 @@ impl<A: Ledger, B: Ledger, C: Ledger, W: ConnWrite + Drop, G: Gate + Drop> Write
                 self.stop(rt);
                 self.gate.writing_ended();
             }
-            Rest::Idle => self.idle(rt),
+            Rest::Idle => {
+                self.idle(rt);
+                self.reset_left(rt, mark);
+                return false;
+            }
         }
+        self.wait(rt, mark);
+        false
+    }
+
+    /// Has the calls reset that were left without trailers. Where there is none it waits.
+    fn reset_left(&mut self, rt: &impl Wait, mark: u64)
+        ensures leads { LeadsOn W.contents W.failed self.old.writing self.new.writing }
+    {
+        if self.writing.reset_left() {
+            return;
+        }
+        self.wait(rt, mark);
+    }
+
+    /// Waits for what is to be written.
+    fn wait(&self, rt: &impl Wait, mark: u64) {
         self.outlet
             .shared
             .writer
             .wait_past(rt, mark, Duration::from_millis(STEP));
-        false
     }
 
     /// Takes what orders wait, and writes a buffer's worth of frames. Why there aren't more, and whether there was none.

@@ -174,7 +174,10 @@ impl Writing {
         self.is_idle = true;
         match self.machine.rest(filled, is_silent) {
             Rest::None => self.is_idle = false,
-            Rest::Idle => self.cut_stuck(book),
+            Rest::Idle => {
+                self.cut_stuck(book);
+                self.is_idle = !self.machine.reset_left();
+            }
             Rest::Stopped => self.stop(book),
             Rest::StoppedOver => {
                 self.stop(book);

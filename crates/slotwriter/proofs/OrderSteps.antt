@@ -1,6 +1,7 @@
 -- What each step of a connection's writer does to the orders that its run obeys.
 use Rattle.std.proofs.Common.{◌≡◌, ◌∙◌, inl, inr, ℕ, Bool, true, false, true≢false, List, [], ◌∷◌, ◌++◌, ◌==◌, if◌then◌else◌, Option, None, Some, ap, append-nil, append_assoc, map, refl, sym}
 use Rattle.std.proofs.lemmas.List.{map-append}
+use Rattle.std.specs.List.{list_any}
 use Rattle.lane.specs.Ring.{taken}
 use Rattle.h2frame.specs.declared.error_code.ErrorCode.TheVariants.{FlowControlError, InternalError}
 use Rattle.h2frame.specs.declared.frame.Frame.{Frame}
@@ -15,7 +16,7 @@ use Rattle.connwriter.specs.declared.taking.Taking.TheVariants.{Done, Ended, Una
 use Rattle.connwriter.specs.Orders.{Blamed, own_order, parting, steps_of}
 use Rattle.callslot.specs.declared.order.Opened.{Opened}
 use Rattle.slotwriter.specs.declared.inbox.Inbox.{Inbox}
-use Rattle.slotwriter.specs.Orders.{AreAnswered, AreLast, HasGiven, HasTaken, IsAmong, IsAnswer, Obeys, loses_by, order_in, orders_of}
+use Rattle.slotwriter.specs.Orders.{AreAnswered, AreLast, HasGiven, HasTaken, IsAmong, IsAnswer, Obeys, ends_input, loses_by, order_in, orders_of}
 
 -- ---- orders were lost
 
@@ -43,12 +44,12 @@ obeys-lost false orders run obeys = record {
   ended = tt;
 }
 
-among-more : (order : Order) (orders more : List Order) → IsAmong order orders → IsAmong order (orders ++ more)
+pub among-more : (order : Order) (orders more : List Order) → IsAmong order orders → IsAmong order (orders ++ more)
 among-more order [] more among = absurd among
 among-more order (one ∷ orders) more (inl is) = inl is
 among-more order (one ∷ orders) more (inr among) = inr (among-more order orders more among)
 
-among-last : (order : Order) (orders : List Order) → IsAmong order (orders ++ order ∷ [])
+pub among-last : (order : Order) (orders : List Order) → IsAmong order (orders ++ order ∷ [])
 among-last order [] = inl refl
 among-last order (one ∷ orders) = inr (among-last order orders)
 
@@ -159,7 +160,7 @@ module _ {S : Type 0} where
       (taken-next orders (order_of taken) run obeys.0, (inl (room-of taken run blamed), answered-next (order_of taken) run obeys.1))
   obeys-taking taken last (Ended id) orders run blamed obeys =
       let answer = answer-of taken last id run blamed.0 blamed.1 in (
-        inr (answer, taken-next orders (order_of taken) run obeys.0),
+        inr (inl answer, taken-next orders (order_of taken) run obeys.0),
         (
           inl (ends-fit (id == 0) last id (Taken (order_of taken) ∷ run)),
           (inr (inl (answer.0, answer.1, answer.2, answer.3)), answered-next (order_of taken) run obeys.1),
@@ -177,6 +178,16 @@ module _ {S : Type 0} where
     ended = tt;
   }
   obeys-taking taken last (HandedBack back) orders run blamed obeys = obeys-more orders (order_of taken ∷ []) run (obeys-lost false orders run obeys)
+
+  -- a reset of the writer's own
+  pub obeys-reset : (id last : ℕ) (taking : Taking S) (orders : List Order) (run : List Step) → Blamed taking (control.Reset id InternalError true) run
+      → IsAmong (control.Open id tt) orders → list_any ends_input orders ≡ false → Obeys false orders run
+      → Obeys false orders (steps_of (control.Reset id InternalError true) last taking ++ run)
+  obeys-reset id last Done orders run blamed among goes_on obeys =
+      (inr (inr (id, refl, among, goes_on), obeys.0), (inl tt, answered-next (control.Reset id InternalError true) run obeys.1))
+  obeys-reset id last (Ended stream) orders run blamed among goes_on obeys = absurd blamed.0
+  obeys-reset id last (Unanswered stream) orders run blamed among goes_on obeys = absurd blamed.0
+  obeys-reset id last (HandedBack back) orders run blamed among goes_on obeys = obeys
 
   -- a GOAWAY of the writer's own
   pub obeys-parting : (last : ℕ) (taking : Taking S) (orders : List Order) (run : List Step) → Blamed taking (control.Goaway last InternalError) run → Obeys true orders run

@@ -1,6 +1,6 @@
 -- What each step of a connection's writer does to the senders of its slots.
 use Rattle.std.proofs.Common.{◌≡◌, ◌∙◌, ℕ, zero, suc, false, List, [], ◌∷◌, ◌++◌, Option, None, Some, get_or, set, length, ◌<◌, ◌≤◌, ◌⊎◌, inl, inr, arith, ap, sym, refl, subst}
-use Rattle.std.proofs.lemmas.List.{map-append, map-set}
+use Rattle.std.proofs.lemmas.List.{get_or-map, length-map, map-append, map-set}
 use Rattle.std.proofs.Math.Seq.{map-set_same}
 use Rattle.lane.proofs.CutLemmas.{prefix_refl}
 use Rattle.lane.specs.RingLane.{LaneName, got, out_name, past_out, ring_of}
@@ -16,7 +16,7 @@ use Rattle.connwriter.proofs.SentSteps.{on-taken, sent-again, sent-away, sent-ba
 use Rattle.callslot.specs.declared.order.Opened.{Opened}
 use Rattle.callslot.specs.declared.order.Opened.TheVariants.{New, Again}
 use Rattle.slotwriter.specs.declared.senders.Place.{Place}
-use Rattle.slotwriter.specs.Sent.{AreFresh, OpensRise, lines_from, lines_of, GetsRest, KeepsOn, NoneWaits, TakesHome, Waits, SlotSender, Lines, line_step, IsFresh, ids_of, held_of, AreKept, SamePlaces, Begins, MakesOf, IsPlain}
+use Rattle.slotwriter.specs.Sent.{AreFresh, OpensRise, lines_from, lines_of, GetsRest, KeepsOn, NoneWaits, TakesHome, Waits, SlotSender, Lines, line_step, IsFresh, ids_of, held_of, HasStream, AreKept, SamePlaces, Begins, MakesOf, IsPlain}
 
 ids-again : (lines : Lines) (n id : ℕ) → last_ids (again_at lines n id) ≡ set (last_ids lines) n id
 ids-again [] n id = refl
@@ -97,6 +97,17 @@ same-set places n p q is id sender = record {
   ids = map-set_same (λ (place : Place). place.id) places n q p (id ∙ ap (λ (place : Place). place.id) is);
 }
 
+-- the stream of a call stays at its place
+pub ids-set : (places : List Place) (n : ℕ) (p q : Place) → p ≡ get_or places n p → q.id ≡ p.id → ids_of (set places n q) ≡ ids_of places
+ids-set places n p q is id = map-set_same (λ (place : Place). place.id) places n q p (id ∙ ap (λ (place : Place). place.id) is)
+
+pub stream-at : (places : List Place) (n : ℕ) (p : Place) → n < length places → p ≡ get_or places n p → HasStream p.id places
+stream-at places n p lt is = (
+  n,
+  subst (λ (len : ℕ). n < len) (sym (length-map places (λ (place : Place). place.id))) lt,
+  get_or-map (λ (place : Place). place.id) places n p 0 lt ∙ ap (λ (place : Place). place.id) (sym is),
+)
+
 -- what a place holds
 held-at : (places : List Place) (n : ℕ) (p : Place) (d : Option SlotSender) → n < length places → get_or (held_of places) n d ≡ (get_or places n p).sender
 held-at [] n p d lt = absurd (no-less n lt)
@@ -174,6 +185,10 @@ kept-home run lines old new core cores id s (inr (away, same)) releases kept = r
       (sent-away out_name past_out got ring_of run lines (held_of old) core cores id s (away-line lines old id kept.ids away) releases kept.sent);
   ids = same.ids ∙ kept.ids;
 }
+
+pub home-ids : (old new : List Place) (id : ℕ) (s : SlotSender) → TakesHome id s old new → ids_of new ≡ ids_of old
+home-ids old new id s (inl (n, waits, held, ids)) = ids
+home-ids old new id s (inr (away, same)) = same.ids
 
 -- ---- what is left is got
 

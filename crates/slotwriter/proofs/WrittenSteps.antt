@@ -1,6 +1,8 @@
 -- What each step of a connection's writer does to what it wrote.
-use Rattle.std.proofs.Common.{◌≡◌, ◌≢◌, ◌∙◌, ℕ, Bool, true, false, true≢false, List, [], ◌∷◌, ◌++◌, Option, None, Some, IfSome, ap, append-nil, sym, refl, map, subst}
-use Rattle.std.specs.Prelude.{Result, Ok, Err, OnOk, OnErr}
+use Rattle.std.proofs.Common.{◌≡◌, ◌≢◌, ◌∙◌, ℕ, zero, suc, Bool, true, false, true≢false, List, [], ◌∷◌, ◌++◌, Option, None, Some, IfSome, ap, append-nil, sym, refl, map, subst}
+use Rattle.std.specs.Prelude.{◌<◌, ◌||◌, All, Result, Ok, Err, OnOk, OnErr, get_or, length, set}
+use Rattle.std.specs.List.{list_any}
+use Rattle.std.proofs.lemmas.List.Elements.{All-append, All-from_get_or, All-get_or, All-nil, All-set}
 use Rattle.account.specs.declared.call.OutItem.{OutItem}
 use Rattle.outwriter.specs.Calls.{TellOthers}
 use Rattle.outwriter.specs.Polls.{coming}
@@ -19,13 +21,16 @@ use Rattle.connwriter.specs.Wrote.{Wrote, WritesOn, Fills}
 use Rattle.lane.specs.Ring.{out_name, taken}
 use Rattle.lane.specs.RingLane.{got, ahead}
 use Rattle.callslot.specs.declared.order.Opened.{Opened}
+use Rattle.callslot.specs.declared.order.Opened.TheVariants.{New, Again}
 use Rattle.callslot.specs.declared.report.Ending.{Ending}
 use Rattle.callslot.specs.declared.report.Ending.TheVariants as ending
 use Rattle.slotwriter.specs.declared.inbox.Inbox.{Inbox}
 use Rattle.slotwriter.specs.declared.slot_writer.SlotWriter.{SlotWriter}
-use Rattle.slotwriter.specs.Orders.{Gives, HasGiven, Keeps, Obeys, order_in, orders_of, loses_by}
-use Rattle.slotwriter.specs.Written.{FrameWriter, HasWritten, IsFlushed, Runs, Ends, RunsOn, RunsOut, StaysOn, Takes, PassesOver, Parts, Led, LedOut, LeadsOn, LeadsOut, Stays}
-use Rattle.slotwriter.proofs.OrderSteps.{all-given, given-all, given-next, obeys-closing, obeys-frames, obeys-granted, obeys-last-word, obeys-lost, obeys-more, obeys-parting, obeys-returned, obeys-taking}
+use Rattle.slotwriter.specs.declared.senders.Place.{Place}
+use Rattle.slotwriter.specs.Orders.{Gives, HasGiven, IsAmong, Keeps, Obeys, ends_input, order_in, orders_of, loses_by}
+use Rattle.slotwriter.specs.Sent.{HasStream, MakesOf, SlotSender, ids_of}
+use Rattle.slotwriter.specs.Written.{FrameWriter, HasWritten, IsFlushed, Runs, Ends, RunsOn, RunsOut, StaysOn, Takes, PassesOver, Parts, Heeds, Knows, SameCalls, Led, LedOut, LeadsOn, LeadsOut, Stays}
+use Rattle.slotwriter.proofs.OrderSteps.{all-given, among-last, among-more, given-all, given-next, obeys-closing, obeys-frames, obeys-granted, obeys-last-word, obeys-lost, obeys-more, obeys-parting, obeys-reset, obeys-returned, obeys-taking}
 
 memory-going : stands.OutOfMemory ≢ stands.Going
 memory-going e = cc
@@ -41,6 +46,76 @@ standing-of stands.Broken going memory broken = broken refl
 unless-lost : {A : Type 0} (standing : Standing) (told : Option Ending) → (standing ≡ stands.OutOfMemory → told ≡ Some ending.OutOfMemory) → standing ≢ stands.Broken
     → (standing ≡ stands.Going → A) → told ≢ Some ending.OutOfMemory → A
 unless-lost standing told memory sound on other = standing-of standing on (λ stood. absurd (other (memory stood))) (λ stood. absurd (sound stood))
+
+-- ---- what the writer knows by the orders
+
+or-swap : (a b c : Bool) → (a || (b || c)) ≡ (b || (a || c))
+or-swap true true c = refl
+or-swap true false c = refl
+or-swap false true c = refl
+or-swap false false c = refl
+
+ends-more : (orders : List Order) (order : Order) → (ends_input order || list_any ends_input orders) ≡ list_any ends_input (orders ++ order ∷ [])
+ends-more [] order = refl
+ends-more (one ∷ orders) order =
+    or-swap (ends_input order) (ends_input one) (list_any ends_input orders) ∙ ap (λ (ends : Bool). ends_input one || ends) (ends-more orders order)
+
+opened-more : (ids : List ℕ) (orders more : List Order) → All (λ id. IsAmong (control.Open id tt) orders) ids → All (λ id. IsAmong (control.Open id tt) (orders ++ more)) ids
+opened-more ids orders more opened =
+    All-from_get_or (λ (id : ℕ). IsAmong (control.Open id tt) (orders ++ more)) ids 0
+    (λ i lt. among-more (control.Open (get_or ids i 0) tt) orders more (All-get_or (λ (id : ℕ). IsAmong (control.Open id tt) orders) ids i 0 lt opened))
+
+opened-still : (ids new_ids : List ℕ) (orders : List Order) (order : Order) → new_ids ≡ ids → All (λ id. IsAmong (control.Open id tt) orders) ids
+    → All (λ id. IsAmong (control.Open id tt) (orders ++ order ∷ [])) new_ids
+opened-still ids new_ids orders order same opened =
+    subst (λ (l : List ℕ). All (λ id. IsAmong (control.Open id tt) (orders ++ order ∷ [])) l) (sym same) (opened-more ids orders (order ∷ []) opened)
+
+-- an order that is made into a control opened the stream of its slot's call
+opened-made : (next : Control Opened) (one : Control SlotSender) (old new : List Place) (orders : List Order) → MakesOf next one old new
+    → All (λ id. IsAmong (control.Open id tt) orders) (ids_of old) → All (λ id. IsAmong (control.Open id tt) (orders ++ order_of next ∷ [])) (ids_of new)
+opened-made (control.Open id (New fresh)) one old new orders made opened =
+    let among : List ℕ → Type 0 = λ l. All (λ k. IsAmong (control.Open k tt) (orders ++ control.Open id tt ∷ [])) l in
+    subst among (sym made.2.ids)
+    (All-append (λ (k : ℕ). IsAmong (control.Open k tt) (orders ++ control.Open id tt ∷ [])) (ids_of old) (id ∷ []) (opened-more (ids_of old) orders (control.Open id tt ∷ []) opened)
+    (All-from_get_or (λ (k : ℕ). IsAmong (control.Open k tt) (orders ++ control.Open id tt ∷ [])) (id ∷ []) id (λ i lt. subst (λ (k : ℕ). IsAmong (control.Open k tt) (orders ++ control.Open id tt ∷ [])) (sym (only i)) (among-last (control.Open id tt) orders))))
+  where
+    only : (i : ℕ) → get_or (id ∷ []) i id ≡ id
+    only zero = refl
+    only (suc i) = refl
+opened-made (control.Open id (Again n)) one old new orders made opened =
+    subst (λ (l : List ℕ). All (λ k. IsAmong (control.Open k tt) (orders ++ control.Open id tt ∷ [])) l) (sym made.2.ids)
+    (All-set (λ (k : ℕ). IsAmong (control.Open k tt) (orders ++ control.Open id tt ∷ [])) (ids_of old) n id (among-last (control.Open id tt) orders) (opened-more (ids_of old) orders (control.Open id tt ∷ []) opened))
+opened-made (control.Settings settings) one old new orders made opened = opened-still (ids_of old) (ids_of new) orders (control.Settings settings) made.1.ids opened
+opened-made (control.Ping bytes) one old new orders made opened = opened-still (ids_of old) (ids_of new) orders (control.Ping bytes) made.1.ids opened
+opened-made (control.Window id n) one old new orders made opened = opened-still (ids_of old) (ids_of new) orders (control.Window id n) made.1.ids opened
+opened-made (control.Refuse id fields) one old new orders made opened = opened-still (ids_of old) (ids_of new) orders (control.Refuse id fields) made.1.ids opened
+opened-made (control.Reset id code written) one old new orders made opened = opened-still (ids_of old) (ids_of new) orders (control.Reset id code written) made.1.ids opened
+opened-made (control.Goaway last code) one old new orders made opened = opened-still (ids_of old) (ids_of new) orders (control.Goaway last code) made.1.ids opened
+opened-made control.InputEnded one old new orders made opened = opened-still (ids_of old) (ids_of new) orders control.InputEnded made.1.ids opened
+opened-made control.Close one old new orders made opened = opened-still (ids_of old) (ids_of new) orders control.Close made.1.ids opened
+
+module _ {W : Type 0} where
+  pub knows-same : (orders : List Order) (old new : SlotWriter W) → SameCalls old new → Knows orders old → Knows orders new
+  knows-same orders old new same knows = record {
+    opened = subst (λ (ids : List ℕ). All (λ id. IsAmong (control.Open id tt) orders) ids) (sym same.ids) knows.opened;
+    input = same.input ∙ knows.input;
+  }
+
+  -- the next order is taken
+  pub knows-taken : (next : Control Opened) (one : Control SlotSender) (order : Order) (old mid new : SlotWriter W) → order ≡ order_of next
+      → MakesOf next one old.senders.places.items mid.senders.places.items → mid.input_ended ≡ old.input_ended → Heeds order mid new
+      → (orders : List Order) → Knows orders old → Knows (orders ++ order_of next ∷ []) new
+  knows-taken next one order old mid new is made same heeds orders knows = record {
+    opened = subst (λ (ids : List ℕ). All (λ id. IsAmong (control.Open id tt) (orders ++ order_of next ∷ [])) ids) (sym heeds.ids)
+        (opened-made next one old.senders.places.items mid.senders.places.items orders made knows.opened);
+    input = heeds.input ∙ (ap (λ (taken_one : Order). ends_input taken_one || mid.input_ended) is
+        ∙ (ap (λ (ended : Bool). ends_input (order_of next) || ended) (same ∙ knows.input) ∙ ends-more orders (order_of next)));
+  }
+
+  -- the stream of a slot's call is one that an order opened
+  pub knows-stream : (orders : List Order) (writer : SlotWriter W) (id : ℕ) → HasStream id writer.senders.places.items → Knows orders writer → IsAmong (control.Open id tt) orders
+  knows-stream orders writer id (n, within, at) knows =
+      subst (λ (k : ℕ). IsAmong (control.Open k tt) orders) at (All-get_or (λ (k : ℕ). IsAmong (control.Open k tt) orders) (ids_of writer.senders.places.items) n 0 within knows.opened)
 
 module _ {W : Type 0} (contents : W → Option (List ℕ)) (failed : W → Bool) where
   -- ---- frames
@@ -139,6 +214,15 @@ module _ {W : Type 0} (contents : W → Option (List ℕ)) (failed : W → Bool)
   closing-on last taking old new on blamed orders before runs =
       (steps_of control.Close last taking ++ runs.0, on before runs.0 runs.1, obeys-closing last taking orders runs.0 (blamed before runs.0 runs.1) runs.2)
 
+  -- a reset of the writer's own
+  pub resetting-on : {S : Type 0} (id last : ℕ) (taking : Taking S) (old new : FrameWriter W)
+      → WritesOn got contents failed (steps_of (control.Reset id InternalError true) last taking) old new
+      → ((before : Option (List ℕ)) (run : List Step) → Wrote got contents failed before run old → Blamed taking (control.Reset id InternalError true) run)
+      → (orders : List Order) (before : Option (List ℕ)) → IsAmong (control.Open id tt) orders → list_any ends_input orders ≡ false
+      → Runs contents failed false orders before old → Runs contents failed false orders before new
+  resetting-on id last taking old new on blamed orders before among goes_on runs =
+      (steps_of (control.Reset id InternalError true) last taking ++ runs.0, on before runs.0 runs.1, obeys-reset id last taking orders runs.0 (blamed before runs.0 runs.1) among goes_on runs.2)
+
   -- another order there
   pub passes-by : (order : Order) (old new : FrameWriter W) → new ≡ old → PassesOver contents failed order old new
   passes-by order old new same orders before runs =
@@ -171,12 +255,15 @@ module _ {W : Type 0} (contents : W → Option (List ℕ)) (failed : W → Bool)
   out-then old mid out new first leads then before led = then.out before (leads before (first.on before led))
 
   -- no order is taken
-  pub leads-still : (old new : SlotWriter W) → new.inbox ≡ old.inbox → RunsOn contents failed old.frames new.frames → LeadsOn contents failed old new
-  leads-still old new same on = record {
+  pub leads-still : (old new : SlotWriter W) → new.inbox ≡ old.inbox → SameCalls old new → RunsOn contents failed old.frames new.frames → LeadsOn contents failed old new
+  leads-still old new same calls on = record {
     name = ap (λ (inbox : Inbox). out_name inbox.ring) same;
-    on = λ before led.
-        subst (λ (inbox : Inbox). (given : List (Control Opened)) × HasGiven given inbox × Runs contents failed inbox.has_lost (orders_of given) before new.frames) (sym same)
-        (led.0, led.1, on old.inbox.has_lost (orders_of led.0) before led.2);
+    on = λ before led. (
+      led.0,
+      subst (λ (inbox : Inbox). HasGiven led.0 inbox) (sym same) led.1,
+      subst (λ (inbox : Inbox). Runs contents failed inbox.has_lost (orders_of led.0) before new.frames) (sym same) (on old.inbox.has_lost (orders_of led.0) before led.2),
+      λ kept. knows-same (orders_of led.0) old new calls (led.3 (sym (ap (λ (inbox : Inbox). inbox.has_lost) same) ∙ kept)),
+    );
   }
 
   pub leads-out : (old new : SlotWriter W) → new.inbox ≡ old.inbox → RunsOut contents failed old.frames new.frames → LeadsOut contents failed old new
@@ -186,11 +273,17 @@ module _ {W : Type 0} (contents : W → Option (List ℕ)) (failed : W → Bool)
 
   -- the same, and more may be lost
   pub stays-by : (old new : SlotWriter W) → new.inbox ≡ record old.inbox { has_lost = new.inbox.has_lost }
+      → (new.inbox.has_lost ≡ false → old.inbox.has_lost ≡ false) → SameCalls old new
       → StaysOn contents failed old.inbox.has_lost new.inbox.has_lost old.frames new.frames → Stays contents failed old new
-  stays-by old new same on = record {
+  stays-by old new same kept_too calls on = record {
     leads = record {
       name = ap (λ (inbox : Inbox). out_name inbox.ring) same;
-      on = λ before led. (led.0, given-on-to led.0 led.1, on.runs (orders_of led.0) before led.2);
+      on = λ before led. (
+        led.0,
+        given-on-to led.0 led.1,
+        on.runs (orders_of led.0) before led.2,
+        λ kept. knows-same (orders_of led.0) old new calls (led.3 (kept_too kept)),
+      );
     };
     out = λ before led. (led.0, given-on-to led.0 led.1, on.ends (orders_of led.0) before led.2);
   }
@@ -199,8 +292,8 @@ module _ {W : Type 0} (contents : W → Option (List ℕ)) (failed : W → Bool)
       given-on-to given has = subst (λ (inbox : Inbox). HasGiven given inbox) (sym same) has
 
   -- an order is looked at
-  pub stays-with : (old new : SlotWriter W) → Keeps old.inbox new.inbox → new.frames ≡ old.frames → Stays contents failed old new
-  stays-with old new keeps frames = record {
+  pub stays-with : (old new : SlotWriter W) → Keeps old.inbox new.inbox → SameCalls old new → new.frames ≡ old.frames → Stays contents failed old new
+  stays-with old new keeps calls frames = record {
     leads = record {
       name = keeps.name;
       on = λ before led. (
@@ -208,6 +301,7 @@ module _ {W : Type 0} (contents : W → Option (List ℕ)) (failed : W → Bool)
         keeps.given led.0 led.1,
         subst (λ (lost : Bool). Runs contents failed lost (orders_of led.0) before new.frames) (sym keeps.lost)
             (subst (λ (writing : FrameWriter W). Runs contents failed old.inbox.has_lost (orders_of led.0) before writing) (sym frames) led.2),
+        λ kept. knows-same (orders_of led.0) old new calls (led.3 (sym keeps.lost ∙ kept)),
       );
     };
     out = λ before led. (
@@ -219,50 +313,54 @@ module _ {W : Type 0} (contents : W → Option (List ℕ)) (failed : W → Bool)
   }
 
   -- nothing is done
-  pub stays-same : (old new : SlotWriter W) → new.inbox ≡ old.inbox → new.frames ≡ old.frames → Stays contents failed old new
-  stays-same old new inbox frames =
-      stays-with old new (record { name = ap (λ (i : Inbox). out_name i.ring) inbox; lost = ap (λ (i : Inbox). i.has_lost) inbox; given = λ given has. subst (λ (i : Inbox). HasGiven given i) (sym inbox) has }) frames
+  pub stays-same : (old new : SlotWriter W) → new.inbox ≡ old.inbox → SameCalls old new → new.frames ≡ old.frames → Stays contents failed old new
+  stays-same old new inbox calls frames =
+      stays-with old new (record { name = ap (λ (i : Inbox). out_name i.ring) inbox; lost = ap (λ (i : Inbox). i.has_lost) inbox; given = λ given has. subst (λ (i : Inbox). HasGiven given i) (sym inbox) has }) calls frames
 
   -- ---- an order is looked for
 
   -- it gives none
-  pub leads-none : (old new : SlotWriter W) → Gives None old.inbox new.inbox → new.frames ≡ old.frames → LeadsOn contents failed old new
-  leads-none old new gives frames = (stays-with old new (record {
+  pub leads-none : (old new : SlotWriter W) → Gives None old.inbox new.inbox → SameCalls old new → new.frames ≡ old.frames → LeadsOn contents failed old new
+  leads-none old new gives calls frames = (stays-with old new (record {
     name = gives.name;
     lost = gives.lost;
     given = λ given has. subst (λ (all : List (Control Opened)). HasGiven all new.inbox) (append-nil given) (gives.given given has);
-  }) frames).leads
+  }) calls frames).leads
 
   -- what is given comes back
   pub leads-back : (next back : Control Opened) (old new : SlotWriter W) (mid : Inbox) → Gives (Some next) old.inbox mid → new.inbox ≡ record mid { set_aside = Some back } → back ≡ next
-      → new.frames ≡ old.frames → LeadsOn contents failed old new
-  leads-back next back old new mid gives same is frames = (stays-with old new (record {
+      → SameCalls old new → new.frames ≡ old.frames → LeadsOn contents failed old new
+  leads-back next back old new mid gives same is calls frames = (stays-with old new (record {
     name = ap (λ (inbox : Inbox). out_name inbox.ring) same ∙ gives.name;
     lost = ap (λ (inbox : Inbox). inbox.has_lost) same ∙ gives.lost;
     given = λ given has. subst (λ (inbox : Inbox). HasGiven given inbox) (sym same) (ap (λ (one : Control Opened). given ++ one ∷ []) is ∙ aside given (gives.given given has));
-  }) frames).leads
+  }) calls frames).leads
     where
       aside : (given : List (Control Opened)) → HasGiven (given ++ next ∷ []) mid → given ++ next ∷ [] ≡ taken mid.ring
       aside given has = sym (append-nil (given ++ next ∷ [])) ∙ (ap (λ (one : Option (Control Opened)). (given ++ next ∷ []) ++ order_in one) (sym gives.none_aside) ∙ has)
 
   led-next : (next : Control Opened) (old new : SlotWriter W) (mid : Inbox) (before : Option (List ℕ)) → Gives (Some next) old.inbox mid
       → new.inbox ≡ record mid { has_lost = new.inbox.has_lost } → (led : Led contents failed before old)
-      → Runs contents failed new.inbox.has_lost (orders_of led.0 ++ order_of next ∷ []) before new.frames → Led contents failed before new
-  led-next next old new mid before gives same led runs = (
+      → Runs contents failed new.inbox.has_lost (orders_of led.0 ++ order_of next ∷ []) before new.frames
+      → (new.inbox.has_lost ≡ false → Knows (orders_of led.0 ++ order_of next ∷ []) new) → Led contents failed before new
+  led-next next old new mid before gives same led runs knows = (
     led.0 ++ next ∷ [],
     subst (λ (inbox : Inbox). HasGiven (led.0 ++ next ∷ []) inbox) (sym same) (gives.given led.0 led.1),
     subst (λ (orders : List Order). Runs contents failed new.inbox.has_lost orders before new.frames) (sym (given-next led.0 next)) runs,
+    λ kept. subst (λ (orders : List Order). Knows orders new) (sym (given-next led.0 next)) (knows kept),
   )
 
   -- the next order is taken
   pub leads-taken : (next : Control Opened) (order : Order) (old new : SlotWriter W) (mid : Inbox) → Gives (Some next) old.inbox mid → order ≡ order_of next → mid.has_lost ≡ false
-      → new.inbox ≡ record mid { has_lost = new.inbox.has_lost } → Takes contents failed order new.inbox.has_lost old.frames new.frames → LeadsOn contents failed old new
-  leads-taken next order old new mid gives is kept same takes = record {
+      → new.inbox ≡ record mid { has_lost = new.inbox.has_lost } → Takes contents failed order new.inbox.has_lost old.frames new.frames
+      → (new.inbox.has_lost ≡ false → (orders : List Order) → Knows orders old → Knows (orders ++ order_of next ∷ []) new) → LeadsOn contents failed old new
+  leads-taken next order old new mid gives is kept same takes learns = record {
     name = ap (λ (inbox : Inbox). out_name inbox.ring) same ∙ gives.name;
     on = λ before led.
         led-next next old new mid before gives same led
         (subst (λ (one : Order). Runs contents failed new.inbox.has_lost (orders_of led.0 ++ one ∷ []) before new.frames) is
-        (takes (orders_of led.0) before (subst (λ (lost : Bool). Runs contents failed lost (orders_of led.0) before old.frames) (sym gives.lost ∙ kept) led.2)));
+        (takes (orders_of led.0) before (subst (λ (lost : Bool). Runs contents failed lost (orders_of led.0) before old.frames) (sym gives.lost ∙ kept) led.2)))
+        (λ still. learns still (orders_of led.0) (led.3 (sym gives.lost ∙ kept)));
   }
 
   -- it is passed over
@@ -273,7 +371,8 @@ module _ {W : Type 0} (contents : W → Option (List ℕ)) (failed : W → Bool)
     on = λ before led.
         let runs = passes (orders_of led.0) before (subst (λ (was : Bool). Runs contents failed was (orders_of led.0) before old.frames) (sym gives.lost ∙ lost) led.2) in
         led-next next old new mid before gives (same ∙ ap (λ (was : Bool). record mid { has_lost = was }) (sym (ap (λ (inbox : Inbox). inbox.has_lost) same))) led
-        (subst (λ (was : Bool). Runs contents failed was (orders_of led.0 ++ order_of next ∷ []) before new.frames) (sym (ap (λ (inbox : Inbox). inbox.has_lost) same ∙ lost)) runs);
+        (subst (λ (was : Bool). Runs contents failed was (orders_of led.0 ++ order_of next ∷ []) before new.frames) (sym (ap (λ (inbox : Inbox). inbox.has_lost) same ∙ lost)) runs)
+        (λ kept. absurd (true≢false (sym (ap (λ (inbox : Inbox). inbox.has_lost) same ∙ lost) ∙ kept)));
   }
 
   -- it is lost
@@ -286,28 +385,54 @@ module _ {W : Type 0} (contents : W → Option (List ℕ)) (failed : W → Bool)
         let runs = subst (λ (writing : FrameWriter W). Runs contents failed old.inbox.has_lost (orders_of led.0) before writing) (sym frames) led.2 in
         led-next next old new mid before gives (same ∙ ap (λ (was : Bool). record mid { has_lost = was }) (sym lost)) led
         (subst (λ (was : Bool). Runs contents failed was (orders_of led.0 ++ order_of next ∷ []) before new.frames) (sym lost)
-        (runs.0, runs.1, obeys-more (orders_of led.0) (order_of next ∷ []) runs.0 (obeys-lost old.inbox.has_lost (orders_of led.0) runs.0 runs.2)));
+        (runs.0, runs.1, obeys-more (orders_of led.0) (order_of next ∷ []) runs.0 (obeys-lost old.inbox.has_lost (orders_of led.0) runs.0 runs.2)))
+        (λ kept. absurd (true≢false (sym lost ∙ kept)));
   }
 
   -- a GOAWAY of the writer's own, where orders were lost
   pub leads-parting : (old new : SlotWriter W) → old.inbox.has_lost ≡ true → new.inbox ≡ old.inbox → Parts contents failed old.frames new.frames → LeadsOn contents failed old new
   leads-parting old new lost same parts = record {
     name = ap (λ (inbox : Inbox). out_name inbox.ring) same;
+    on = λ before led. (
+      led.0,
+      subst (λ (inbox : Inbox). HasGiven led.0 inbox) (sym same) led.1,
+      subst (λ (was : Bool). Runs contents failed was (orders_of led.0) before new.frames) (sym (ap (λ (inbox : Inbox). inbox.has_lost) same ∙ lost))
+          (parts (orders_of led.0) before (subst (λ (was : Bool). Runs contents failed was (orders_of led.0) before old.frames) lost led.2)),
+      λ kept. absurd (true≢false (sym (ap (λ (inbox : Inbox). inbox.has_lost) same ∙ lost) ∙ kept)),
+    );
+  }
+
+  -- a reset of the writer's own, where none was lost and the input goes on
+  pub leads-reset : {S : Type 0} (id last : ℕ) (taking : Taking S) (old new : SlotWriter W) → old.inbox.has_lost ≡ false → old.input_ended ≡ false
+      → HasStream id old.senders.places.items → new.inbox ≡ old.inbox → SameCalls old new
+      → WritesOn got contents failed (steps_of (control.Reset id InternalError true) last taking) old.frames new.frames
+      → ((before : Option (List ℕ)) (run : List Step) → Wrote got contents failed before run old.frames → Blamed taking (control.Reset id InternalError true) run)
+      → LeadsOn contents failed old new
+  leads-reset id last taking old new kept going whose same calls on blamed = record {
+    name = ap (λ (inbox : Inbox). out_name inbox.ring) same;
     on = λ before led.
-        subst (λ (inbox : Inbox). (given : List (Control Opened)) × HasGiven given inbox × Runs contents failed inbox.has_lost (orders_of given) before new.frames) (sym same) (
+        let knows : Knows (orders_of led.0) old = led.3 kept in (
           led.0,
-          led.1,
-          subst (λ (was : Bool). Runs contents failed was (orders_of led.0) before new.frames) (sym lost)
-              (parts (orders_of led.0) before (subst (λ (was : Bool). Runs contents failed was (orders_of led.0) before old.frames) lost led.2)),
+          subst (λ (inbox : Inbox). HasGiven led.0 inbox) (sym same) led.1,
+          subst (λ (was : Bool). Runs contents failed was (orders_of led.0) before new.frames) (sym (ap (λ (inbox : Inbox). inbox.has_lost) same ∙ kept))
+              (resetting-on id last taking old.frames new.frames on blamed (orders_of led.0) before (knows-stream (orders_of led.0) old id whose knows) (sym knows.input ∙ going)
+              (subst (λ (was : Bool). Runs contents failed was (orders_of led.0) before old.frames) kept led.2)),
+          λ still. knows-same (orders_of led.0) old new calls knows,
         );
   }
 
   -- a writer that has taken nothing
-  pub led-none : (before : Option (List ℕ)) (inbox : Inbox) (frames : FrameWriter W) → taken inbox.ring ≡ [] → inbox.set_aside ≡ None → inbox.has_lost ≡ false
-      → Wrote got contents failed before [] frames
-      → (given : List (Control Opened)) × HasGiven given inbox × Runs contents failed inbox.has_lost (orders_of given) before frames
-  led-none before inbox frames none aside kept wrote =
-      ([], all-given inbox aside none, subst (λ (lost : Bool). Runs contents failed lost [] before frames) (sym kept) ([], wrote, (refl, tt)))
+  pub led-none : (before : Option (List ℕ)) (writer : SlotWriter W) → taken writer.inbox.ring ≡ [] → writer.inbox.set_aside ≡ None → writer.inbox.has_lost ≡ false
+      → writer.senders.places.items ≡ [] → writer.input_ended ≡ false → Wrote got contents failed before [] writer.frames → Led contents failed before writer
+  led-none before writer none aside kept empty going wrote = (
+    [],
+    all-given writer.inbox aside none,
+    subst (λ (lost : Bool). Runs contents failed lost [] before writer.frames) (sym kept) ([], wrote, (refl, tt)),
+    λ still. record {
+      opened = subst (λ (places : List Place). All (λ id. IsAmong (control.Open id tt) []) (ids_of places)) (sym empty) (All-nil (λ (id : ℕ). IsAmong (control.Open id tt) []));
+      input = going;
+    },
+  )
 
   -- what is left of a writer whose buffer is flushed
   pub has-written : (before : Option (List ℕ)) (writer : SlotWriter W) (device : W) (told : Option Ending) → device ≡ writer.frames.device → IsFlushed writer

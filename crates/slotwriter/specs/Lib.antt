@@ -1,4 +1,4 @@
 pub mod Orders
 pub mod OrderExamples
-pub mod Written
 pub mod Sent
+pub mod Written

@@ -4,12 +4,12 @@ use Rattle.std.specs.Prelude.{◌≡◌, ◌++◌, ℕ, Bool, true, false, refl,
 use Rattle.flow.specs.WindowHistory.{CanCredit}
 use Rattle.flow.specs.WindowHistory.{Step as WindowStep}
 use Rattle.h2frame.specs.declared.error_code.ErrorCode.TheVariants.{FlowControlError, InternalError}
-use Rattle.outwriter.specs.declared.control.Control.TheVariants.{Ping, Window, Goaway, InputEnded, Close}
+use Rattle.outwriter.specs.declared.control.Control.TheVariants.{Ping, Window, Open, Reset, Goaway, InputEnded, Close}
 use Rattle.outwriter.specs.declared.control.OutFault.TheVariants.{PeerWindow}
 use Rattle.outwriter.specs.Calls.{closes}
 use Rattle.outwriter.specs.RunState.{Blames}
 use Rattle.outwriter.specs.Steps.{Order, Taken, Granted}
-use Rattle.slotwriter.specs.Orders.{Obeys}
+use Rattle.slotwriter.specs.Orders.{Obeys, ends_input}
 
 -- in turn, whatever else is done between them
 pub in_turn : Obeys false (InputEnded ∷ Close ∷ []) (Taken Close ∷ Granted 0 10 ∷ Taken InputEnded ∷ [])
@@ -19,7 +19,7 @@ in_turn = (inl (InputEnded ∷ [], refl, inl ([], refl, refl)), (inl tt, (inl tt
 pub answered : (n : ℕ) → Blames {S = Unit {0}} (PeerWindow 0) (Window 0 n) []
     → Obeys false (Window 0 n ∷ Close ∷ []) (Taken Close ∷ Taken (Goaway 5 FlowControlError) ∷ Taken (Window 0 n) ∷ [])
 answered n blames = (
-  inl (Window 0 n ∷ [], refl, inr ((5, 0, refl, refl, blames), inl ([], refl, refl))),
+  inl (Window 0 n ∷ [], refl, inr (inl (5, 0, refl, refl, blames), inl ([], refl, refl))),
   (inl tt, (inl tt, (inr (inl (5, 0, refl, refl)), tt))),
 )
 
@@ -28,6 +28,13 @@ pub unanswered : (n : ℕ) → ¬ CanCredit [] 0 n → ¬ Obeys false (Window 0 
 unanswered n over (took, (inl (history, none, room), rest)) = over (subst (λ (found : List WindowStep). CanCredit found 0 n) none (room (inl refl)))
 unanswered n over (took, (inr (inl answer), rest)) = answer
 unanswered n over (took, (inr (inr lacks), rest)) = true≢false (sym lacks)
+
+-- a call was left without trailers, and the writer resets its stream
+pub left : Obeys false (Open 1 tt ∷ Close ∷ []) (Taken Close ∷ Taken (Reset 1 InternalError true) ∷ Taken (Open 1 tt) ∷ [])
+left = (
+  inl (Open 1 tt ∷ [], refl, inr (inr (1, refl, inl refl, refl), inl ([], refl, refl))),
+  (inl tt, (inl tt, (inl tt, tt))),
+)
 
 -- there was no memory for a PING: the writer ends the connection, and takes no more orders than Close
 pub parted : (bytes : List ℕ)
@@ -44,21 +51,29 @@ parted bytes = record {
   ended = (inr (refl, inr (inr (inl refl))), (inl (5, refl), tt));
 }
 
-abbrev last_closes : List Order → Bool
-last_closes [] = false
-last_closes (order ∷ []) = closes order
-last_closes (order ∷ next ∷ orders) = last_closes (next ∷ orders)
+abbrev last_is : (Order → Bool) → List Order → Bool
+last_is test [] = false
+last_is test (order ∷ []) = test order
+last_is test (order ∷ next ∷ orders) = last_is test (next ∷ orders)
 
-closes_last : (orders : List Order) → last_closes (orders ++ Close ∷ []) ≡ true
-closes_last [] = refl
-closes_last (order ∷ []) = refl
-closes_last (order ∷ next ∷ orders) = closes_last (next ∷ orders)
+last_at : (test : Order → Bool) (orders : List Order) (order : Order) → last_is test (orders ++ order ∷ []) ≡ test order
+last_at test [] order = refl
+last_at test (one ∷ []) order = refl
+last_at test (one ∷ next ∷ orders) order = last_at test (next ∷ orders) order
 
 -- none is left out where none was lost
 pub left_out : ¬ Obeys false (Close ∷ []) []
-left_out obeys = true≢false (ap last_closes obeys.0)
+left_out obeys = true≢false (ap (λ (orders : List Order). last_is closes orders) obeys.0)
 
 -- two are not exchanged
 pub exchanged : ¬ Obeys false (Close ∷ InputEnded ∷ []) (Taken Close ∷ Taken InputEnded ∷ [])
-exchanged (inl (earlier, parts, took), answered) = true≢false (sym (closes_last earlier) ∙ ap last_closes (sym parts))
-exchanged (inr ((last, id, is, concerns, blames), took), answered) = absurd concerns
+exchanged (inl (earlier, parts, took), answered) = true≢false (sym (last_at closes earlier Close) ∙ ap (λ (orders : List Order). last_is closes orders) (sym parts))
+exchanged (inr (inl (last, id, is, concerns, blames), took), answered) = absurd concerns
+exchanged (inr (inr (id, is, among, goes_on), took), answered) = true≢false (ap closes is)
+
+-- no call is reset behind the end of the input
+pub left_too_late : ¬ Obeys false (Open 1 tt ∷ InputEnded ∷ []) (Taken (Reset 1 InternalError true) ∷ Taken InputEnded ∷ Taken (Open 1 tt) ∷ [])
+left_too_late (inl (earlier, parts, took), answered) =
+    true≢false (ap (λ (orders : List Order). last_is ends_input orders) parts ∙ last_at ends_input earlier (Reset 1 InternalError true))
+left_too_late (inr (inl (last, id, is, concerns, blames), took), answered) = absurd concerns
+left_too_late (inr (inr (id, is, among, goes_on), took), answered) = true≢false goes_on

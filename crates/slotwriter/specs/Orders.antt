@@ -1,10 +1,12 @@
--- What the core of a connection's writer takes: the orders of the reader, one after another, and between them orders of the writer's own.
+-- What the core of a connection's writer takes: the orders of the reader, one after another, and between them orders of the writer's own:
+-- its answer to an order by which a window is too large, and its reset of a call that was left without trailers.
 -- Lists of orders have the earliest first, runs the latest.
 use Rattle.std.specs.Prelude.{◌≡◌, ◌⊎◌, ℕ, Bool, true, false, List, [], ◌∷◌, ◌++◌, map, Option, None, Some}
+use Rattle.std.specs.List.{list_any}
 use Rattle.lane.specs.Ring.{taken, out_name}
 use Rattle.h2frame.specs.declared.error_code.ErrorCode.TheVariants.{InternalError}
 use Rattle.outwriter.specs.declared.control.Control.{Control}
-use Rattle.outwriter.specs.declared.control.Control.TheVariants.{Goaway, Close}
+use Rattle.outwriter.specs.declared.control.Control.TheVariants.{Open, Reset, Goaway, InputEnded, Close}
 use Rattle.outwriter.specs.declared.control.OutFault.TheVariants.{PeerWindow}
 use Rattle.outwriter.specs.RunState.{Blames, Concerns, HasRoom}
 use Rattle.outwriter.specs.Steps.{Order, Step, Taken, Granted, Written, Returned, order_of}
@@ -25,12 +27,26 @@ IsAnswer order (Taken blamed ∷ before) =
     (last : ℕ) × (id : ℕ) × (order ≡ own_order last id) × Concerns (PeerWindow id) blamed × Blames (PeerWindow id) blamed before
 IsAnswer order _ = ⊥
 
--- each of these orders was taken, in turn; and between them the writer's own answers
+-- the order is one of these
+abbrev pub IsAmong : Order → List Order → Type 0
+IsAmong order [] = ⊥
+IsAmong order (one ∷ orders) = (order ≡ one) ⊎ IsAmong order orders
+
+-- no more comes from the peer
+abbrev pub ends_input : Order → Bool
+ends_input InputEnded = true
+ends_input _ = false
+
+-- The writer resets the stream of a call that one of these orders opened, while the peer's input goes on by them.
+abbrev pub ResetsCall : Order → List Order → Type 0
+ResetsCall order orders = (id : ℕ) × (order ≡ Reset id InternalError true) × IsAmong (Open id tt) orders × (list_any ends_input orders ≡ false)
+
+-- each of these orders was taken, in turn; and between them the writer's own
 abbrev pub HasTaken : List Order → List Step → Type 0
 HasTaken orders [] = orders ≡ []
 HasTaken orders (Taken order ∷ before) =
     ((earlier : List Order) × (orders ≡ earlier ++ order ∷ []) × HasTaken earlier before)
-    ⊎ (IsAnswer order before × HasTaken orders before)
+    ⊎ ((IsAnswer order before ⊎ ResetsCall order orders) × HasTaken orders before)
 HasTaken orders (Granted id n ∷ before) = HasTaken orders before
 HasTaken orders (Written frame ∷ before) = HasTaken orders before
 HasTaken orders (Returned id items ∷ before) = HasTaken orders before
@@ -49,11 +65,6 @@ AreAnswered lacks next (Taken order ∷ before) =
 AreAnswered lacks next (Granted id n ∷ before) = AreAnswered lacks None before
 AreAnswered lacks next (Written frame ∷ before) = AreAnswered lacks None before
 AreAnswered lacks next (Returned id items ∷ before) = AreAnswered lacks None before
-
--- the order is one of these
-abbrev pub IsAmong : Order → List Order → Type 0
-IsAmong order [] = ⊥
-IsAmong order (one ∷ orders) = (order ≡ one) ⊎ IsAmong order orders
 
 -- by these steps nothing was taken but the GOAWAY of a writer without memory, and a Close that is one of these orders
 abbrev pub AreLast : List Order → List Step → Type 0

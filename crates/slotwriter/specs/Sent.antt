@@ -63,6 +63,10 @@ ids_of places = map (λ place. place.id) places
 abbrev pub held_of : List Place → List (Option SlotSender)
 held_of places = map (λ place. place.sender) places
 
+-- one of the places has the call of this stream
+abbrev pub HasStream : ℕ → List Place → Type 0
+HasStream id places = (n : ℕ) × (n < length (ids_of places)) × (get_or (ids_of places) n 0 ≡ id)
+
 -- the senders of these lines are in the places, and in the core
 pub record AreKept (run : List Step) (lines : Lines) (places : List Place) (core : List (ℕ × SlotSender)) : Type 0 where
   pub sent : AreSent out_name past_out got ring_of run lines (held_of places) core

@@ -1,5 +1,6 @@
 -- What the writer of a connection wrote: the frames of a lawful run of its core, as far as they went out.
-use Rattle.std.specs.Prelude.{◌≡◌, ◌≢◌, ℕ, Bool, true, false, List, [], ◌∷◌, ◌++◌, Option, Some}
+use Rattle.std.specs.Prelude.{◌≡◌, ◌≢◌, ◌||◌, All, ℕ, Bool, true, false, List, [], ◌∷◌, ◌++◌, Option, Some}
+use Rattle.std.specs.List.{list_any}
 use Rattle.account.specs.declared.call.OutItem.{OutItem}
 use Rattle.lane.specs.declared.ring_lane.RingLane.{RingLane}
 use Rattle.lane.specs.declared.ring_lane.RingLaneIn.{RingLaneIn}
@@ -8,6 +9,7 @@ use Rattle.lane.specs.declared.ring_lane.RingLaneShut.{RingLaneShut}
 use Rattle.lane.specs.Ring.{out_name}
 use Rattle.lane.specs.RingLane.{got}
 use Rattle.outwriter.specs.declared.control.Control.{Control}
+use Rattle.outwriter.specs.declared.control.Control.TheVariants.{Open}
 use Rattle.outwriter.specs.Calls.{TellOthers, is_closed}
 use Rattle.outwriter.specs.Runs.{IsLawful}
 use Rattle.outwriter.specs.RunState.{IsAnswered}
@@ -20,13 +22,30 @@ use Rattle.callslot.specs.declared.order.Opened.{Opened}
 use Rattle.callslot.specs.declared.report.Ending.{Ending}
 use Rattle.callslot.specs.declared.report.Ending.TheVariants.{OutOfMemory, WriteFailed}
 use Rattle.slotwriter.specs.declared.slot_writer.SlotWriter.{SlotWriter}
-use Rattle.slotwriter.specs.Orders.{HasGiven, Obeys, orders_of}
+use Rattle.slotwriter.specs.Orders.{HasGiven, IsAmong, Obeys, ends_input, orders_of}
+use Rattle.slotwriter.specs.Sent.{ids_of}
 
 -- No more orders come, and all that they obliged to is among the frames: each SETTINGS and each PING is acknowledged, and each header
 -- block is whole, or else the last frame is a GOAWAY with an error.
 pub record IsOver (run : List Step) : Type 0 where
   pub closed : is_closed run ≡ true
   pub answered : IsAnswered run
+
+module _ {W : Type 0} where
+  -- the slots' calls are those of the same streams, and the input has ended or not as before
+  pub record SameCalls (old new : SlotWriter W) : Type 0 where
+    pub ids : ids_of new.senders.places.items ≡ ids_of old.senders.places.items
+    pub input : new.input_ended ≡ old.input_ended
+
+  -- the same, but that the input may end by this order
+  pub record Heeds (order : Order) (old new : SlotWriter W) : Type 0 where
+    pub ids : ids_of new.senders.places.items ≡ ids_of old.senders.places.items
+    pub input : new.input_ended ≡ (ends_input order || old.input_ended)
+
+  -- each slot's call was opened by one of these orders, and the input has ended exactly by one of them
+  pub record Knows (orders : List Order) (writer : SlotWriter W) : Type 0 where
+    pub opened : All (λ id. IsAmong (Open id tt) orders) (ids_of writer.senders.places.items)
+    pub input : writer.input_ended ≡ list_any ends_input orders
 
 -- what writes the frames of a connection whose calls are answered over rings
 abbrev pub FrameWriter : Type 0 → Type 0
@@ -71,10 +90,11 @@ module _ {W : Type 0} (contents : W → Option (List ℕ)) (failed : W → Bool)
 
   -- ---- with the inbox
 
-  -- some run led to the writer, and obeyed the orders that its inbox has given
+  -- some run led to the writer, and obeyed the orders that its inbox has given; these it knows, unless some were lost
   abbrev pub Led : Option (List ℕ) → SlotWriter W → Type 0
   Led before writer = (given : List (Control Opened)) × HasGiven given writer.inbox
       × Runs writer.inbox.has_lost (orders_of given) before writer.frames
+      × (writer.inbox.has_lost ≡ false → Knows (orders_of given) writer)
 
   abbrev pub LedOut : Option (List ℕ) → SlotWriter W → Type 0
   LedOut before writer = (given : List (Control Opened)) × HasGiven given writer.inbox

@@ -30,6 +30,8 @@ pub(crate) struct Place {
     is_at_end: bool,
     /// Whether the call was called off or has ended, and its sender may be with the core still.
     is_called_off: bool,
+    /// Whether the call was seen to be left without trailers.
+    is_left: bool,
 }
 
 /// The senders of the slots, by the slots' numbers.
@@ -50,10 +52,12 @@ impl Senders {
     ghost use Rattle.outwriter.specs.Steps.{order_of};
     ghost use Rattle.callslot.specs.declared.order.Opened.TheVariants as opens;
     ghost use Rattle.slotwriter.specs.Orders.{IsBack};
-    ghost use Rattle.slotwriter.specs.Sent.{Adds, Begins, KeepsOn, MakesOf, NoneWaits, SamePlaces};
-    ghost use Rattle.slotwriter.specs.Sent.{TakesHome, Waits};
+    ghost use Rattle.slotwriter.specs.Sent.{Adds, Begins, HasStream, KeepsOn, MakesOf, NoneWaits};
+    ghost use Rattle.slotwriter.specs.Sent.{SamePlaces, TakesHome, Waits, ids_of};
 
-    pub(crate) fn new(alloc: Global) -> Senders {
+    pub(crate) fn new(alloc: Global) -> Senders
+        ensures { result.places.items ≡ [] }
+    {
         Senders {
             places: Vec::new(alloc),
             are_some_behind: false,
@@ -112,6 +116,7 @@ impl Senders {
         place.sender = Some(sender);
         place.is_at_end = is_at_end;
         place.is_called_off = false;
+        place.is_left = false;
         if is_at_end {
             place.slot.give_back();
         }
@@ -139,6 +144,7 @@ impl Senders {
     /// all was got.
     pub(crate) fn catch_up(&mut self) -> bool
         ensures keeps { KeepsOn self.old.places.items self.new.places.items }
+        ensures ids { ids_of self.new.places.items ≡ ids_of self.old.places.items }
     {
         if !self.are_some_behind {
             return false;
@@ -156,6 +162,7 @@ impl Senders {
     /// The same of one place.
     fn catch_up_at(&mut self, number: usize) -> bool
         ensures keeps { KeepsOn self.old.places.items self.new.places.items }
+        ensures ids { ids_of self.new.places.items ≡ ids_of self.old.places.items }
     {
         let Some(place) = self.places.get_mut(number) else {
             return false;
@@ -194,6 +201,31 @@ impl Senders {
         place.is_called_off.then_some(place.id)
     }
 
+    /// Notes whether the slot's call was left without trailers. Answers whether it is seen now.
+    pub(crate) fn sees_left(&mut self, number: usize) -> bool
+        ensures same { SamePlaces self.old.places.items self.new.places.items }
+    {
+        let Some(place) = self.places.get_mut(number) else {
+            return false;
+        };
+        let is_left = place.was_left();
+        let was_seen = mem::replace(&mut place.is_left, is_left);
+        is_left && !was_seen
+    }
+
+    /// The stream of the slot's call, where that was seen to be left without trailers, and wasn't
+    /// called off.
+    pub(crate) fn left(&self, number: usize) -> Option<StreamId>
+        ensures { IfSome result (λ id. HasStream id self.now.places.items) }
+    {
+        let place = self.places.get(number)?;
+        if place.is_left && !place.is_called_off {
+            Some(place.id)
+        } else {
+            None
+        }
+    }
+
     /// Wakes the worker of the call of this stream, where a slot has it: so it looks whether the
     /// call is live still.
     pub(crate) fn wake(&self, id: StreamId) {
@@ -220,6 +252,7 @@ impl Senders {
             sender: None,
             is_at_end: false,
             is_called_off: false,
+            is_left: false,
         };
         match self.places.push(place) {
             Ok(()) => Ok(Control::Open(id, sender)),
@@ -243,6 +276,7 @@ impl Senders {
         place.id = id;
         place.is_at_end = false;
         place.is_called_off = false;
+        place.is_left = false;
         Some(sender)
     }
 }
@@ -250,6 +284,11 @@ impl Senders {
 impl Place {
     ghost use Rattle.std.specs.Prelude.{◌≡◌};
     ghost use Rattle.slotwriter.specs.Sent.{GetsRest};
+
+    /// Whether the call was left without trailers, and its sender is with the core.
+    fn was_left(&self) -> bool {
+        self.sender.is_none() && self.slot.is_answered() && self.slot.is_left()
+    }
 
     /// Whether the sender is back, and not all of its call was got.
     fn is_behind(&self) -> bool {

@@ -14,9 +14,10 @@ ghost use Rattle.callslot.specs.declared.report.Ending.TheVariants as ending;
 ghost use Rattle.slotwriter.specs.declared.steps.Rest.TheVariants as rest;
 ghost use Rattle.slotwriter.specs.declared.steps.Took.TheVariants as took;
 ghost use Rattle.slotwriter.specs.declared.steps.Waiting.TheVariants as waiting;
-ghost use Rattle.slotwriter.specs.Orders.{TakesNoWindow, orders_of};
-ghost use Rattle.slotwriter.specs.Written.{HasWritten, IsFlushed, Led, LedOut, LeadsOn, LeadsOut};
-ghost use Rattle.slotwriter.specs.Written.{Parts, PassesOver, Stays, Takes};
+ghost use Rattle.slotwriter.specs.Orders.{TakesNoWindow, ends_input, orders_of};
+ghost use Rattle.slotwriter.specs.Sent.{HasStream};
+ghost use Rattle.slotwriter.specs.Written.{HasWritten, Heeds, IsFlushed, Led, LedOut, LeadsOn};
+ghost use Rattle.slotwriter.specs.Written.{LeadsOut, Parts, PassesOver, SameCalls, Stays, Takes};
 
 use crate::inbox::Inbox;
 use crate::senders::{Senders, Untaken};
@@ -131,6 +132,8 @@ impl<W: ConnWrite + Drop> SlotWriter<W> {
             self.old.frames self.new.frames }
         ensures inbox { self.new.inbox
             ≡ record self.old.inbox { has_lost = self.new.inbox.has_lost } }
+        ensures heeds { self.new.inbox.has_lost ≡ false
+            → Heeds (order_of order) self.old self.new }
         ensures lost { result ≡ took.Lost → self.new.inbox.has_lost ≡ true }
     {
         self.note(&order);
@@ -171,6 +174,7 @@ impl<W: ConnWrite + Drop> SlotWriter<W> {
 
     /// Notes what ends by an order.
     fn note(&mut self, order: &Control<Sender<OutLane>>)
+        ensures heeds { Heeds (order_of order.now) self.old self.new }
         ensures frames { self.new.frames ≡ self.old.frames }
         ensures inbox { self.new.inbox ≡ self.old.inbox }
     {
@@ -184,6 +188,7 @@ impl<W: ConnWrite + Drop> SlotWriter<W> {
 
     /// The writer has ended a stream, or at 0 the connection.
     fn end(&mut self, id: StreamId) -> Took
+        ensures calls { SameCalls self.old self.new }
         ensures frames { self.new.frames ≡ self.old.frames }
         ensures inbox { self.new.inbox ≡ self.old.inbox }
         ensures ends { result ≢ took.Lost }
@@ -241,6 +246,58 @@ impl<W: ConnWrite + Drop> SlotWriter<W> {
     /// so it sees that.
     pub fn wake(&self, id: StreamId) {
         self.senders.wake(id);
+    }
+
+    // ---- calls that were left
+
+    /// Resets the streams of calls that were left without trailers, with INTERNAL_ERROR, so that
+    /// their clients don't wait: of those that were seen to be left when this was asked last, where
+    /// the peer sends on and no order waits. It is asked where nothing can be written: so all that
+    /// was given of such a call is written, but what a window keeps back. Answers whether its owner
+    /// is to go on at once, since a call was reset, or is seen to be left only now.
+    pub fn reset_left(&mut self) -> bool
+        ensures leads { LeadsOn W.contents W.failed self.old self.new }
+    {
+        let Waiting::Nothing = self.look() else {
+            return false;
+        };
+        let mut goes_on = false;
+        'slots: for number in 0..self.senders.count() {
+            if self.reset_left_at(number) {
+                goes_on = true;
+            }
+        }
+        goes_on
+    }
+
+    /// The same of one, by its slot's number.
+    fn reset_left_at(&mut self, number: usize) -> bool
+        ensures leads { LeadsOn W.contents W.failed self.old self.new }
+    {
+        if self.inbox.has_lost || self.input_ended {
+            return false;
+        }
+        match self.senders.left(number) {
+            Some(id) => !self.frames.held(id) && self.reset(id),
+            None => self.senders.sees_left(number),
+        }
+    }
+
+    /// Resets the stream of a slot's call. Whether there was memory for that.
+    fn reset(&mut self, id: StreamId) -> bool
+        requires kept { self.old.inbox.has_lost ≡ false }
+        requires going { self.old.input_ended ≡ false }
+        requires whose { HasStream id self.old.senders.places.items }
+        ensures leads { LeadsOn W.contents W.failed self.old self.new }
+    {
+        let code = ErrorCode::InternalError;
+        let written = true;
+        let taking = self.frames.take(Control::Reset { id, code, written }, 0);
+        let Taking::Done = taking else {
+            return false;
+        };
+        self.senders.call_off(id);
+        true
     }
 
     // ---- frames

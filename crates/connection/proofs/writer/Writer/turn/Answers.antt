@@ -1,4 +1,8 @@
+use Rattle.slotwriter.proofs.WrittenSteps.{leads-then}
 use Rattle.connection.proofs.writer.Writer.turn.Goals as goal
 
 pub returns-in-Over-clause-over : goal.returns-in-Over-clause-over
 returns-in-Over-clause-over g c = λ yes. c.write_once-filled.ensures.over (c.rest.ensures.over c.in-Over.is)
+
+pub returns-in-Idle-clause-leads : goal.returns-in-Idle-clause-leads
+returns-in-Idle-clause-leads g c = leads-then g.W.ConnWrite.contents g.W.ConnWrite.failed _ _ _ c.write_once-filled.ensures.leads c.reset_left.ensures.leads

@@ -4,7 +4,7 @@ use Rattle.slotwriter.proofs.slot_writer.SlotWriter.fill.Goals as goal
 
 pub returns-clause-leads : goal.returns-clause-leads
 returns-clause-leads g c =
-    leads-still g.W.ConnWrite.contents g.W.ConnWrite.failed c.args.self.now (record c.args.self.now { frames = c.fill.new.self }) refl
+    leads-still g.W.ConnWrite.contents g.W.ConnWrite.failed c.args.self.now (record c.args.self.now { frames = c.fill.new.self }) refl (record { ids = refl; input = refl })
     (fills-on g.W.ConnWrite.contents g.W.ConnWrite.failed (Some c.fill.result) c.args.self.now.frames c.fill.new.self c.fill.ensures.wrote)
 
 pub returns-clause-over : goal.returns-clause-over

@@ -1,9 +1,10 @@
-use Rattle.std.proofs.Common.{Option, refl, subst, true}
+use Rattle.std.proofs.Common.{Option, Some, refl, subst, true}
 use Rattle.outwriter.specs.declared.control.Control.{Control}
 use Rattle.outwriter.specs.Steps.{order_of}
 use Rattle.callslot.specs.declared.order.Opened.{Opened}
-use Rattle.slotwriter.specs.Orders.{Gives}
-use Rattle.slotwriter.proofs.WrittenSteps.{leads-lost, leads-passed, leads-taken}
+use Rattle.slotwriter.specs.declared.senders.Untaken.{Untaken}
+use Rattle.slotwriter.specs.Orders.{Gives, IsBack}
+use Rattle.slotwriter.proofs.WrittenSteps.{knows-taken, leads-back, leads-lost, leads-passed, leads-taken}
 use Rattle.slotwriter.proofs.slot_writer.SlotWriter.take_next.Goals as goal
 
 pub returns-in-Ok : goal.returns-in-Ok
@@ -11,7 +12,9 @@ returns-in-Ok g c = record {
   leads =
       leads-taken g.W.ConnWrite.contents g.W.ConnWrite.failed c.in-Some.order (order_of c.in-Ok.control) c.args.self.now c.take.new.self c.next.new.self
       (subst (λ (next : Option (Control Opened)). Gives next c.args.self.now.inbox c.next.new.self) c.in-Some.is c.next.ensures.gives)
-      c.in-Ok.ensures.same c.if-self.false c.take.ensures.inbox c.take.ensures.takes;
+      c.in-Ok.ensures.same c.if-self.false c.take.ensures.inbox c.take.ensures.takes
+      (λ still. knows-taken c.in-Some.order c.in-Ok.control (order_of c.in-Ok.control) c.args.self.now
+      (record c.args.self.now { inbox = c.next.new.self; senders = c.control_of.new.self }) c.take.new.self c.in-Ok.ensures.same c.in-Ok.ensures.makes refl (c.take.ensures.heeds still));
   lost = c.take.ensures.lost;
 }
 
@@ -29,3 +32,10 @@ returns-then-self-clause-leads g c =
     leads-passed g.W.ConnWrite.contents g.W.ConnWrite.failed c.in-Some.order c.args.self.now c.pass_over.new.self c.next.new.self
     (subst (λ (next : Option (Control Opened)). Gives next c.args.self.now.inbox c.next.new.self) c.in-Some.is c.next.ensures.gives)
     c.if-self.true c.pass_over.ensures.inbox c.pass_over.ensures.passes
+
+pub returns-in-Err-Early-clause-leads : goal.returns-in-Err-Early-clause-leads
+returns-in-Err-Early-clause-leads g c =
+    leads-back g.W.ConnWrite.contents g.W.ConnWrite.failed c.in-Some.order c.in-Err-Early.order c.args.self.now
+    (record c.args.self.now { inbox = record c.next.new.self { set_aside = Some c.in-Err-Early.order }; senders = c.control_of.new.self }) c.next.new.self
+    (subst (λ (next : Option (Control Opened)). Gives next c.args.self.now.inbox c.next.new.self) c.in-Some.is c.next.ensures.gives)
+    refl (subst (λ (untaken : Untaken). IsBack c.in-Some.order untaken) c.in-Err-Early.field-0-is c.in-Err-Early.ensures.back) (record { ids = c.in-Err-Early.ensures.stays.ids; input = refl }) refl
