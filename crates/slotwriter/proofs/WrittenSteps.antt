@@ -1,6 +1,6 @@
 -- What each step of a connection's writer does to what it wrote.
 use Rattle.std.proofs.Common.{◌≡◌, ◌≢◌, ◌∙◌, ℕ, zero, suc, Bool, true, false, true≢false, List, [], ◌∷◌, ◌++◌, Option, None, Some, IfSome, ap, append-nil, sym, refl, map, subst}
-use Rattle.std.specs.Prelude.{◌<◌, ◌||◌, All, Result, Ok, Err, OnOk, OnErr, get_or, length, set}
+use Rattle.std.specs.Prelude.{◌||◌, All, Result, Ok, Err, OnOk, OnErr, get_or}
 use Rattle.std.specs.List.{list_any}
 use Rattle.std.proofs.lemmas.List.Elements.{All-append, All-from_get_or, All-get_or, All-nil, All-set}
 use Rattle.account.specs.declared.call.OutItem.{OutItem}
