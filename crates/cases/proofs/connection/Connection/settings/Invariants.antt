@@ -1,5 +1,5 @@
 use Rattle.std.proofs.Common.{length}
-use Rattle.cases.proofs.incoming.Connection.settings.Given as goal
+use Rattle.cases.proofs.connection.Connection.settings.Given as goal
 
 abbrev pub decreases-loop-rest : goal.decreases-loop-rest
 decreases-loop-rest g l = length l.rest
