@@ -1,7 +1,6 @@
 -- Reactions of which `Judges` says nothing.
 use Rattle.std.proofs.Common.{◌≡◌, ℕ, Bool, Result, Ok, Err, IfOk, refl}
-use Rattle.std.specs.Vec.{Vec}
-use Rattle.std.specs.declared.alloc.Global.{Global}
+use Rattle.std.specs.Global.{Vec}
 use Rattle.wire.specs.declared.fault.WireFault.{WireFault}
 use Rattle.wire.specs.declared.reaction.Reaction.{Reaction}
 use Rattle.wire.specs.declared.reaction.Reaction.TheVariants as reaction
@@ -9,10 +8,10 @@ use Rattle.wire.specs.declared.seen.Seen.{Seen}
 use Rattle.wire.specs.Reactions.{Judges}
 
 unclaimed : (seen : Seen) (r : Reaction) (held : Bool)
-    → ((codes : Vec ℕ Global) → r ≡ reaction.Connection codes → ⊥) → ((codes : Vec ℕ Global) → r ≡ reaction.Goaway codes → ⊥)
+    → ((codes : Vec ℕ) → r ≡ reaction.Connection codes → ⊥) → ((codes : Vec ℕ) → r ≡ reaction.Goaway codes → ⊥)
     → (r ≡ reaction.Closed → ⊥)
-    → ((stream : ℕ) (codes : Vec ℕ Global) → r ≡ reaction.Reset stream codes → ⊥)
-    → ((stream : ℕ) (codes : Vec ℕ Global) → r ≡ reaction.Stream stream codes → ⊥)
+    → ((stream : ℕ) (codes : Vec ℕ) → r ≡ reaction.Reset stream codes → ⊥)
+    → ((stream : ℕ) (codes : Vec ℕ) → r ≡ reaction.Stream stream codes → ⊥)
     → ((count : ℕ) → r ≡ reaction.Acks count → ⊥) → ((most : ℕ) → r ≡ reaction.Largest most → ⊥)
     → (r ≡ reaction.Orderly → ⊥) → Judges seen r held
 unclaimed seen (reaction.Connection codes) held a b c d e f g h = absurd (a codes refl)
@@ -26,10 +25,10 @@ unclaimed seen reaction.Orderly held a b c d e f g h = absurd (h refl)
 unclaimed seen other held a b c d e f g h = tt
 
 pub unclaimed_answer : (seen : Seen) (r : Reaction) (answer : Result Bool WireFault)
-    → ((codes : Vec ℕ Global) → r ≡ reaction.Connection codes → ⊥) → ((codes : Vec ℕ Global) → r ≡ reaction.Goaway codes → ⊥)
+    → ((codes : Vec ℕ) → r ≡ reaction.Connection codes → ⊥) → ((codes : Vec ℕ) → r ≡ reaction.Goaway codes → ⊥)
     → (r ≡ reaction.Closed → ⊥)
-    → ((stream : ℕ) (codes : Vec ℕ Global) → r ≡ reaction.Reset stream codes → ⊥)
-    → ((stream : ℕ) (codes : Vec ℕ Global) → r ≡ reaction.Stream stream codes → ⊥)
+    → ((stream : ℕ) (codes : Vec ℕ) → r ≡ reaction.Reset stream codes → ⊥)
+    → ((stream : ℕ) (codes : Vec ℕ) → r ≡ reaction.Stream stream codes → ⊥)
     → ((count : ℕ) → r ≡ reaction.Acks count → ⊥) → ((most : ℕ) → r ≡ reaction.Largest most → ⊥)
     → (r ≡ reaction.Orderly → ⊥) → IfOk answer (Judges seen r)
 unclaimed_answer seen r (Ok held) a b c d e f g h = unclaimed seen r held a b c d e f g h
