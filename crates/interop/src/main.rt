@@ -1,13 +1,13 @@
 //! The program `interop`: the gRPC interop test server, and the client that tries such a server.
 //!
-//! It has six commands:
+//! It has seven commands:
 //!
 //! - `interop serve --port P` serves `grpc.testing.TestService` on a port of this machine.
-//! - `interop case NAME --port P` runs test cases as a client, against whatever server listens there.
-//! - `interop self` runs them against a server of its own.
 //! - `interop misbehave NAME --port P` misbehaves as a server, and says whether the client does right.
-//! - `interop parts` serves the bytes of one connection, read as hexadecimal text, and prints what they are answered with.
+//! - `interop case NAME --port P` runs test cases as a client, against whatever server listens there.
 //! - `interop wire CASES --port P` sends a server what no client should, and judges what it answers.
+//! - `interop self` runs the test cases against a server of its own.
+//! - `interop parts` serves the bytes of one connection, read as hexadecimal text, and prints what they are answered with.
 //! - `interop body --cut N` reads the joined DATA bytes of one call as hexadecimal text, takes them in pieces of N bytes, and
 //!   prints the messages that they spell (gRPC over HTTP/2, "Length-Prefixed-Message"), then the end or the fault. It reads all of
 //!   its input before it prints anything, and its text is a function of that input, in whatever pieces.
