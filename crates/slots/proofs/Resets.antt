@@ -116,13 +116,13 @@ step-orders id (Told event fate) heard before error =
 
 error-orders : (id : ℕ) (told : List Step) → list_any (is_stream_error id) (events_of (since id told)) ≡ true → IsReset id (orders_by told)
 error-orders id [] error = absurd cc
-error-orders id (step ∷ before) error = by (is_of id (admitted_by step)) error
+error-orders id (step ∷ before) error = by (is_of id (admitted_by step)) (λ earlier. error-orders id before earlier) error
   where
-    by : (b : Bool) → list_any (is_stream_error id) (events_of (if b then [] else step ∷ since id before)) ≡ true → IsReset id (orders_by before ++ orders_at before step)
-    by true error = absurd cc
-    by false error =
+    by : (b : Bool) → (list_any (is_stream_error id) (events_of (since id before)) ≡ true → IsReset id (orders_by before)) → list_any (is_stream_error id) (events_of (if b then [] else step ∷ since id before)) ≡ true → IsReset id (orders_by before ++ orders_at before step)
+    by true earlier-orders error = absurd cc
+    by false earlier-orders error =
         elim (step-orders id step (since id before) before error) [
-          | inl earlier ↦ reset-left id (orders_by before) (orders_at before step) (error-orders id before earlier)
+          | inl earlier ↦ reset-left id (orders_by before) (orders_at before step) (earlier-orders earlier)
           | inr here ↦ reset-right id (orders_by before) (orders_at before step) here
         ]
 
