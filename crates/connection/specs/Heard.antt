@@ -6,7 +6,6 @@ use Rattle.callslot.specs.declared.report.Ending.{Ending}
 use Rattle.callslot.specs.declared.report.Ending.TheVariants.{PeerGoaway, ProtocolError, OutOfMemory}
 use Rattle.h2frame.specs.declared.error_code.ErrorCode.{ErrorCode}
 use Rattle.handlers.specs.declared.step.Step.{Step as Answer}
-use Rattle.outwriter.specs.Steps.{Order}
 use Rattle.outwriter.specs.declared.control.Control.TheVariants.{InputEnded, Close}
 use Rattle.session.specs.declared.event.InEvent.{InEvent}
 use Rattle.session.specs.declared.event.InEvent.TheVariants as events
