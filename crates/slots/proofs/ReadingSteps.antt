@@ -18,7 +18,7 @@ use Rattle.outwriter.specs.Steps.{Order, order_of}
 use Rattle.session.specs.declared.event.InEvent.{InEvent}
 use Rattle.session.specs.declared.event.InEvent.TheVariants as events
 use Rattle.h2frame.specs.declared.error_code.ErrorCode.TheVariants.{EnhanceYourCalm}
-use Rattle.outwriter.specs.declared.control.Control.TheVariants.{Goaway, Reset}
+use Rattle.outwriter.specs.declared.control.Control.TheVariants.{Reset}
 use Rattle.slots.specs.declared.half.Half.{Half}
 use Rattle.slots.specs.declared.half.Half.TheVariants.{Open, Shut as Closed, Moving}
 use Rattle.slots.specs.declared.reading.Cut.{Cut}
@@ -233,11 +233,6 @@ module _ {H : Type 0} {hand : Ghosts H} {names : List ℕ → ℕ → Type 0} wh
     counts = counts-step step told reading none reads.counts;
     heeds = heeds-more told step reading reading refl reads.heeds;
   }
-
--- the order that ends the connection names this stream
-pub goaway-order : (order : Control Opened) (last id : ℕ) (code : ErrorCode) → order ≡ Goaway last code → last ≡ id → order_in (Some order) ≡ Goaway id code ∷ []
-goaway-order order last id code is same =
-    ap (λ (one : Control Opened). order_in (Some one)) is ∙ ap (λ (n : ℕ). order_in (Some (Goaway n code))) same
 
 -- one order, or none
 pub one-order : (decided : Decided) (order : Control Opened) → decided.first ≡ None → decided.second ≡ Some order → orders_in decided ≡ order_of order ∷ []
