@@ -2,7 +2,6 @@
 
 ghost use Rattle.callhead.specs.declared.head.CallHead.{CallHead as Head};
 ghost use Rattle.std.specs.Prelude.{◌≡◌, ◌<◌, ◌++◌, ◌∷◌, ℕ, List, [], None, Some, Ok, IfOk, IfSome, OnErr, true, vec_capacity, vec_len};
-ghost use Rattle.callslot.specs.declared.report.Ending.TheVariants as ending;
 ghost use Rattle.callworker.specs.Works.{IsKnown};
 ghost use Rattle.handlers.specs.Listed.{listed};
 ghost use Rattle.session.specs.declared.event.InEvent.{InEvent as Event};
@@ -117,8 +116,6 @@ where
         ensures heard { KeptFor M.names [] self.old.reading self.old.orders → (came : List ℕ)
             × Consumes (I.remaining input.old) (I.remaining input.new) came
             × ((told : List Step) × HasRead M.names result came told self.new.reading self.new.orders) }
-        ensures failed { KeptFor M.names [] self.old.reading self.old.orders → result ≡ ending.ReadFailed
-            → I.failed input.new ≡ true }
     {
         let mut core = InCore::new(self.alloc);
         let mut piece = [0u8; PIECE];

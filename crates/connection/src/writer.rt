@@ -1,12 +1,11 @@
 //! The writing thread of a connection: it turns a `SlotWriter`, takes the lock for it, rings and waits.
 
-ghost use Rattle.std.specs.Prelude.{◌≡◌, ◌⊎◌, ℕ, List, [], Option, IfErr, IfOk, OnOk, true};
+ghost use Rattle.std.specs.Prelude.{◌≡◌, ◌⊎◌, ℕ, List, [], Option, IfOk, true};
 ghost use Rattle.lane.specs.Ring.{out_name, taken};
 ghost use Rattle.connwriter.specs.declared.filled.Filled.TheVariants as filling;
 ghost use Rattle.slotwriter.specs.Orders.{orders_of};
 ghost use Rattle.slotwriter.specs.Written.{HasWritten, IsFlushed, Led, LeadsOn, LeadsOut, Stays};
 
-use crate::orders::{Orders, Route};
 use crate::outlet::Outlet;
 use callslot::Order;
 use callworker::Gate;
@@ -15,7 +14,7 @@ use device::ConnWrite;
 use h2frame::StreamId;
 use lane::RingOut;
 use slotwriter::{Rest, SlotWriter, Took, Waiting, Written};
-use std::alloc::Global;
+use std::alloc::{AllocError, Global};
 use std::snapshot::Snapshot;
 use std::sync::ledger::Ledger;
 use std::sync::{Arc, Wait};
@@ -275,37 +274,31 @@ impl<W: ConnWrite + Drop> Promise<Written<W>> for Begun<W> {
 /// The thread that writes, and what it comes to.
 pub(crate) type Writing<W> = PromisedHandle<Written<W>, Begun<W>>;
 
-/// Starts the thread that writes. Where it can't be made, no order but Close comes, and this thread writes what is to be written then.
-pub(crate) fn start<A, B, C, N, W, G, R>(
+/// Starts the thread that writes. That it can't be made counts as want of memory.
+pub(crate) fn start<A, B, C, W, G, R>(
     rt: R,
     alloc: Global,
-    taking: RingOut<Order>,
+    orders: RingOut<Order>,
     outlet: Outlet<A, B, C>,
     gate: Arc<G>,
     device: W,
-    orders: &mut Orders<A, B, C, N>,
-) -> Result<Writing<W>, Written<W>>
+) -> Result<Writing<W>, AllocError>
 where
     A: Ledger + Send + Sync + 'static,
     B: Ledger + Send + Sync + 'static,
     C: Ledger + Send + Sync + 'static,
-    N: Route,
     W: ConnWrite + Send + Drop + 'static,
     G: Gate + Send + Sync + Drop + 'static,
     R: Threads + Wait + Copy + Send + Sync + Drop + 'static,
-    requires none { taken taking ≡ [] }
+    requires none { taken orders ≡ [] }
     ensures begun { IfOk result (λ writing. W.contents writing.promise.device.value ≡ W.contents device) }
-    ensures ring { IfOk result (λ writing. writing.promise.orders.value ≡ taking) }
-    ensures same { OnOk result (orders.new ≡ orders.old) }
-    ensures name { IfErr result (λ written. out_name written.orders ≡ out_name taking) }
-    ensures written { IfErr result (λ written. HasWritten W.contents W.failed (W.contents device)
-        (orders_of (taken written.orders)) written.ending written.device) }
+    ensures ring { IfOk result (λ writing. writing.promise.orders.value ≡ orders) }
 {
     let begun = Begun {
         device: Snapshot::of(&device),
-        orders: Snapshot::of(&taking),
+        orders: Snapshot::of(&orders),
     };
-    let writing = SlotWriter::new(alloc, taking, device, &begun.device);
+    let writing = SlotWriter::new(alloc, orders, device, &begun.device);
     let writer = Writer {
         outlet,
         gate,
@@ -313,10 +306,6 @@ where
     };
     match thread::spawn_with(&rt, begun, move || writer.write(&rt)) {
         Ok(handle) => Ok(handle),
-        Err(refused) => {
-            orders.close(&rt);
-            let write = refused.value;
-            Err(write())
-        }
+        Err(_fault) => Err(AllocError),
     }
 }

@@ -135,10 +135,6 @@ events_of [] = []
 events_of (Told event fate ∷ before) = events_of before ++ event ∷ []
 events_of (CutOff id why ∷ before) = events_of before
 
--- this event was told
-abbrev pub WasTold : InEvent → List Step → Type 0
-WasTold event told = (before : List InEvent) × (after : List InEvent) × (events_of told ≡ before ++ event ∷ after)
-
 -- ---- what lets a call's half go
 
 -- whether a step lets the half go, whatever its client does to the stream: a piece is lost, or no more of it is heard

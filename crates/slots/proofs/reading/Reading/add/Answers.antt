@@ -10,5 +10,5 @@ pub returns : goal.returns
 returns g c = λ job same jobs is told reads.
     subst (λ (id : ℕ). Decides g.H.Worker.names told (Told (events.Open id job.head) Admitted) c.begin.result c.begin.new.self) same
     (c.begin.ensures.decides told (Told (events.Open c.args.seat.id job.head) Admitted)
-    (begins-call told _ c.args.seat.id c.args.self.now _ refl refl refl refl
+    (begins-call told _ c.args.seat.id c.args.self.now _ refl refl refl
     (subst (λ (id : ℕ). Hears g.H.Worker.names (Told (events.Open id job.head) Admitted) c.args.self.now.slots c.add.new.self) (sym same) (c.add.ensures.heard job same jobs is)) reads) refl refl)
