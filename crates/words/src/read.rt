@@ -16,7 +16,15 @@ use clap::{ArgMatches, Command};
 use std::alloc::{AllocError, Global};
 
 /// The names of the commands.
-pub const COMMANDS: [&str; 7] = ["body", "case", "misbehave", "parts", "self", "serve", "wire"];
+pub const COMMANDS: [&str; 7] = [
+    "body",
+    "case",
+    "misbehave",
+    "parts",
+    "self",
+    "serve",
+    "wire",
+];
 
 /// What the program is told to do.
 #[derive(Clone, Copy, Debug, PartialEq, Eq)]
