@@ -1,7 +1,7 @@
 // Loaded before the C library (LD_PRELOAD): refuses one allocation of a program, the one whose number stands in the
-// environment as REFUSE, counted from 1. Where there is none it refuses nothing, and writes at the program's end how
-// many there were to the file that is named there as COUNT. Where the environment has LEAST, only those of so many bytes
-// and more count.
+// environment as REFUSE, counted from 1, or as many in a row as stand there as IN_A_ROW. Where there is none it refuses
+// nothing. At the program's end it writes how many there were to the file that is named there as COUNT. Where the
+// environment has LEAST, only those of so many bytes and more count.
 #include <errno.h>
 #include <stdatomic.h>
 #include <stddef.h>
@@ -16,12 +16,14 @@ extern void *__libc_realloc(void *old, size_t size);
 extern void *__libc_memalign(size_t alignment, size_t size);
 
 static atomic_ulong seen;
-static unsigned long refused;
+static unsigned long refused, in_a_row;
 static size_t least;
 
 __attribute__((constructor)) static void begin(void) {
   const char *number = getenv("REFUSE");
   refused = number ? strtoul(number, NULL, 10) : 0;
+  const char *row = getenv("IN_A_ROW");
+  in_a_row = row ? strtoul(row, NULL, 10) : 1;
   const char *bytes = getenv("LEAST");
   least = bytes ? strtoul(bytes, NULL, 10) : 0;
   atomic_store(&seen, 0);
@@ -52,7 +54,8 @@ static int is_refused(size_t size) {
   if (size < least) {
     return 0;
   }
-  if (atomic_fetch_add(&seen, 1) + 1 != refused) {
+  const unsigned long number = atomic_fetch_add(&seen, 1) + 1;
+  if (number < refused || number >= refused + in_a_row) {
     return 0;
   }
   errno = ENOMEM;
