@@ -4,8 +4,8 @@ ghost use Rattle.std.specs.Prelude.{◌≡◌, ℕ, None, true, false, List, [],
 ghost use mathlib.Core.List.{IsPrefix};
 ghost use Rattle.lane.specs.End.{of_end};
 ghost use Rattle.callbox.specs.InSides.{TellsFault, Took};
-ghost use Rattle.callbox.specs.Slots.{EachTook, TookOf};
-ghost use Rattle.callbox.specs.SlotRuns.{EachBegins, TookAll, asked_items, taken_call};
+ghost use Rattle.callbox.specs.Slots.{EachBegins, EachTook, TookOf};
+ghost use Rattle.callbox.specs.SlotRuns.{TookAll, asked_items, taken_call};
 ghost use Rattle.callbox.specs.declared.piece.InPiece.{InPiece};
 ghost use Rattle.callbox.specs.declared.piece.InPiece.TheVariants as in_piece;
 

@@ -6,7 +6,8 @@ ghost use Rattle.lane.specs.Cuts.{segment};
 ghost use Rattle.lane.specs.End.{of_end};
 ghost use Rattle.lpm.specs.Messages.{frame};
 ghost use Rattle.callbox.specs.OutSides.{has_head, message_items};
-ghost use Rattle.callbox.specs.SlotRuns.{EachBegins, end_item, reply_items, sent_items};
+ghost use Rattle.callbox.specs.SlotRuns.{end_item, reply_items, sent_items};
+ghost use Rattle.callbox.specs.Slots.{EachBegins};
 ghost use Rattle.account.specs.declared.call.OutItem.TheVariants as out_item;
 
 use crate::uses::four_threads::next_copy;

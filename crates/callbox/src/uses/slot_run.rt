@@ -4,7 +4,8 @@ ghost use Rattle.std.specs.Prelude.{◌≡◌, ◌≤◌, ℕ, List, [], ◌∷�
 ghost use Rattle.lane.specs.Cuts.{segment};
 ghost use Rattle.lane.specs.End.{of_end};
 ghost use Rattle.callbox.specs.InSides.{Took};
-ghost use Rattle.callbox.specs.SlotRuns.{EachBegins, RunsCalls, TookAll, asked_items, reply_items, sent_items, taken_call};
+ghost use Rattle.callbox.specs.SlotRuns.{RunsCalls, TookAll, asked_items, reply_items, sent_items, taken_call};
+ghost use Rattle.callbox.specs.Slots.{EachBegins};
 
 use crate::uses::slot_call::{RanCalls, SentCall, SlotCall, TookCall};
 use crate::uses::slot_in::{feed_calls, take_calls};
