@@ -5,10 +5,11 @@ ghost use Rattle.commands.specs.Times.{rank_of};
 
 use crate::client::{Target, try_case};
 use crate::tally::{Tally, print_tally};
-use cases::{Case, CaseFault, ReportFault};
+use cases::{Case, CaseFault, ReportFault, print_line};
 use device::{ConnWrite, write_all};
 use std::alloc::{AllocError, Global};
-use std::net::Net;
+use std::net::{Net, TcpListener, TcpStream};
+use std::sync::Arc;
 use std::thread;
 use std::thread::Threads;
 use std::time::{Clock, Instant};
@@ -22,60 +23,66 @@ struct Run {
     took: u64,
 }
 
+/// A case, and the server that it is run against.
+#[derive(Drop)]
+struct Trial {
+    name: &'static str,
+    host: String,
+    port: u16,
+    patience: u16,
+}
+
 /// Runs the case that the words name, or each of them, as often as they say, so many at a time. It prints a line of each and one
 /// of its times: within which half of the runs ended, and 99 of 100. It answers whether no run failed.
 pub fn run_load<R, W>(
-    rt: &R,
+    rt: R,
     words: CaseWords<'_>,
     streams: u16,
     output: &mut W,
 ) -> Result<bool, ReportFault>
 where
-    R: Net + Eprint + AllocGlobal + Clock + Threads + Sync,
+    R: Net<Stream = TcpStream, Listener = TcpListener> + Eprint + AllocGlobal,
+    R: Clock + Threads + Copy + Send + Sync + Drop + 'static,
     W: ConnWrite,
 {
-    if words.name != "all" {
-        return load_case(rt, words.name, words, streams, output);
+    if words.name == "all" {
+        let mut have_passed = true;
+        for case in Case::ALL {
+            let has_passed = load_case(rt, case, words, streams, output)?;
+            have_passed = have_passed && has_passed;
+        }
+        return Ok(have_passed);
     }
-    let mut have_passed = true;
-    for case in Case::ALL {
-        let has_passed = load_case(rt, case.name(), words, streams, output)?;
-        have_passed = have_passed && has_passed;
+    match Case::named(words.name) {
+        Some(case) => load_case(rt, case, words, streams, output),
+        None => {
+            print_line(rt.alloc(), words.name, Err(CaseFault::UnknownCase), output)?;
+            Ok(false)
+        }
     }
-    Ok(have_passed)
 }
 
 /// Runs a case as often as the words say, prints its lines, and answers whether no run failed.
 fn load_case<R, W>(
-    rt: &R,
-    name: &str,
+    rt: R,
+    case: Case,
     words: CaseWords<'_>,
     streams: u16,
     output: &mut W,
 ) -> Result<bool, ReportFault>
 where
-    R: Net + Eprint + AllocGlobal + Clock + Threads + Sync,
+    R: Net<Stream = TcpStream, Listener = TcpListener> + Eprint + AllocGlobal,
+    R: Clock + Threads + Copy + Send + Sync + Drop + 'static,
     W: ConnWrite,
 {
     let alloc = rt.alloc();
-    let target = Target {
-        host: words.host,
+    let trial = Trial {
+        name: case.name(),
+        host: String::from_str(alloc, words.host)?,
         port: words.port,
         patience: words.patience,
     };
-    let none = Run {
-        fault: None,
-        took: 0,
-    };
-    let mut runs = Vec::new(alloc);
-    runs.resize(usize::from(words.times), none)?;
-    let streams = usize::from(streams);
-    thread::for_each_mut(
-        rt,
-        runs.as_mut_slice(),
-        streams,
-        &|_, run| *run = try_once(rt, name, target),
-    );
+    let runs = all_runs(rt, alloc, trial, words.times, streams)?;
     let mut tally = Tally::new();
     for run in runs.as_slice() {
         tally.count(match run.fault {
@@ -83,9 +90,68 @@ where
             Some(fault) => Err(fault),
         });
     }
-    print_tally(alloc, name, tally, words.times, output)?;
+    print_tally(alloc, case.name(), tally, words.times, output)?;
     print_times(alloc, runs.as_slice(), words.times, output)?;
     Ok(tally.has_passed())
+}
+
+/// What came of so many runs, so many at a time: each thread makes one after another.
+fn all_runs<R>(
+    rt: R,
+    alloc: Global,
+    trial: Trial,
+    times: u16,
+    streams: u16,
+) -> Result<Vec<Run>, AllocError>
+where
+    R: Net<Stream = TcpStream, Listener = TcpListener> + Eprint + AllocGlobal,
+    R: Clock + Threads + Copy + Send + Sync + Drop + 'static,
+{
+    let trial = Arc::new(alloc, trial)?;
+    let mut threads = Vec::new(alloc);
+    for place in 0..streams {
+        let shared = Arc::try_clone(&trial)?;
+        let count = share(times, streams, place);
+        let Ok(thread) = thread::spawn(&rt, move || runs_of(&rt, alloc, &shared, count)) else {
+            return Err(AllocError);
+        };
+        threads.push(thread)?;
+    }
+    let mut runs = Vec::new(alloc);
+    for thread in threads {
+        for run in thread.join(&rt)?.as_slice() {
+            runs.push(*run)?;
+        }
+    }
+    Ok(runs)
+}
+
+/// How many of so many runs the thread of this place makes.
+fn share(times: u16, streams: u16, place: u16) -> u16 {
+    let least = times.checked_div(streams).unwrap_or(times);
+    let more = times.checked_rem(streams).unwrap_or(0);
+    if place < more {
+        least.saturating_add(1)
+    } else {
+        least
+    }
+}
+
+/// What came of so many runs, one after another.
+fn runs_of<R>(rt: &R, alloc: Global, trial: &Trial, count: u16) -> Result<Vec<Run>, AllocError>
+where
+    R: Net<Stream = TcpStream, Listener = TcpListener> + Eprint + AllocGlobal + Clock,
+{
+    let target = Target {
+        host: trial.host.as_str(),
+        port: trial.port,
+        patience: trial.patience,
+    };
+    let mut runs = Vec::new(alloc);
+    for _ in 0..count {
+        runs.push(try_once(rt, trial.name, target))?;
+    }
+    Ok(runs)
 }
 
 /// Runs a case, and looks at the clock.

@@ -114,7 +114,8 @@ impl Waiting {
         ensures text { OnOk result (IfOk report (λ it. string_bytes self.new.text ≡ string_bytes self.old.text ++ string_bytes it)) }
         ensures few { OnOk result (self.new.lines ≤ 16384) }
         ensures order { OnOk result (self.old.dropped ≡ 0) }
-        ensures unchanged { OnErr result (self.new ≡ self.old) }
+        ensures unchanged { OnErr result ((string_bytes self.new.text ≡ string_bytes self.old.text)
+            × (self.new.lines ≡ self.old.lines) × (self.new.dropped ≡ self.old.dropped)) }
     {
         let report = report?;
         let lines = self.lines.saturating_add(lines);

@@ -143,11 +143,12 @@ fn print_body<R: Input + Print + Eprint + AllocGlobal>(rt: &R, cut: usize) -> u8
 // Runs the cases that the words name, and answers the exit status.
 fn try_server<R>(rt: &R, words: CaseWords<'_>) -> u8
 where
-    R: Net + Print + Eprint + AllocGlobal + Clock + Threads + Sync,
+    R: Net<Stream = TcpStream, Listener = TcpListener> + Print + Eprint + AllocGlobal,
+    R: Clock + Threads + Copy + Send + Sync + Drop + 'static,
 {
     let mut output = Marked::new(io::writer(rt));
     let answer = match words.streams {
-        Some(streams) => run_load(rt, words, streams, &mut output),
+        Some(streams) => run_load(*rt, words, streams, &mut output),
         None => run_case(rt, words, &mut output),
     };
     match answer {
