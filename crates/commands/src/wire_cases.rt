@@ -8,7 +8,7 @@ use std::time::Duration;
 use wire::{
     Choice, Options, Outcome, WireFault, hex_name, hex_of, list, must_failures, push_json, run,
 };
-use words::{WireRun, WireWords};
+use words::WireWords;
 
 /// Lists the wire cases, or runs those that the words choose and prints a line of each. It answers whether none of level must
 /// failed. What the words name as the file for outcomes is written where a case failed or none did.
@@ -17,7 +17,7 @@ use words::{WireRun, WireWords};
 ///
 /// `UnknownCase` where the words choose no case: no connection is made. `WriteFailed` where a line or a file can't be written;
 /// of a file standard error says why.
-pub fn run_wire<R: Net + Files + Eprint + AllocGlobal, W: ConnWrite>(
+pub fn run_wire<R: Net + Files + Eprint + AllocGlobal + Copy + Drop + 'static, W: ConnWrite>(
     rt: &R,
     words: WireWords<'_>,
     output: &mut W,
@@ -33,18 +33,42 @@ pub fn run_wire<R: Net + Files + Eprint + AllocGlobal, W: ConnWrite>(
     let options = Options {
         verbose: words.is_verbose,
     };
-    let outcomes = run(rt.alloc(), choice, options, || open(rt, words), output)?;
+    let host = String::from_str(rt.alloc(), words.host)?;
+    let outcomes = outcomes_of(
+        *rt,
+        choice,
+        options,
+        host,
+        words.port,
+        words.silence,
+        output,
+    )?;
     if let Some(file) = words.json {
         write_outcomes(rt, file, outcomes.as_slice())?;
     }
     Ok(must_failures(outcomes.as_slice()) == 0)
 }
 
-/// A connection to the server, where one can be had. Its reads and writes fail where they take longer than the silence that the
-/// words allow.
-fn open<R: Net>(rt: &R, words: WireRun<'_>) -> Option<R::Stream> {
-    let stream = TcpStream::connect(rt, (words.host, words.port)).ok()?;
-    let silence = Duration::from_millis(u64::from(words.silence));
+/// Runs these cases, each over connections of its own, and prints a line of each.
+fn outcomes_of<R: Net + AllocGlobal + Copy + Drop + 'static, W: ConnWrite>(
+    rt: R,
+    choice: Choice,
+    options: Options,
+    host: String,
+    port: u16,
+    silence: u16,
+    output: &mut W,
+) -> Result<Vec<Outcome>, WireFault> {
+    let alloc = rt.alloc();
+    let connect = move || open(&rt, host.as_str(), port, silence);
+    run(alloc, choice, options, connect, output)
+}
+
+/// A connection to the server, where one can be had. Its reads and writes fail where they take longer than this silence, in
+/// milliseconds.
+fn open<R: Net>(rt: &R, host: &str, port: u16, silence: u16) -> Option<R::Stream> {
+    let stream = TcpStream::connect(rt, (host, port)).ok()?;
+    let silence = Duration::from_millis(u64::from(silence));
     stream.set_read_timeout(Some(silence)).ok()?;
     stream.set_write_timeout(Some(silence)).ok()?;
     stream.set_nodelay(true).ok()?;

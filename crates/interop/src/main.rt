@@ -161,7 +161,7 @@ where
 // Lists or runs the wire cases that the words choose, and answers the exit status.
 fn try_wire<R>(rt: &R, words: WireWords<'_>) -> u8
 where
-    R: Net + Files + Print + Eprint + AllocGlobal,
+    R: Net + Files + Print + Eprint + AllocGlobal + Copy + Drop + 'static,
 {
     let mut output = Marked::new(io::writer(rt));
     match run_wire(rt, words, &mut output) {
