@@ -62,6 +62,7 @@ fn run_lists<R: Print + AllocGlobal>(rt: &R) -> Result<()> {
 fn run_queues<R: Print + AllocGlobal>(rt: &R) -> Result<()> {
     let alloc = rt.alloc();
     tell(rt, "lanes fill and empty", lanes::fill_and_empty(alloc)?)?;
+    tell(rt, "rows stay full", lanes::rows_stay_full(alloc)?)?;
     tell(
         rt,
         "items are found in lanes of each room",
@@ -87,6 +88,11 @@ fn run_ends<R: Print + AllocGlobal>(rt: &R) -> Result<()> {
         rt,
         "what was polled is kept",
         in_ends::keep_what_was_polled(alloc)?,
+    )?;
+    tell(
+        rt,
+        "what was polled is credited",
+        in_ends::credit_what_was_polled(alloc)?,
     )?;
     tell(
         rt,

@@ -26,8 +26,8 @@ use Rattle.callbox.specs.declared.uses.slot_call.TookCall.{TookCall}
 use Rattle.callbox.specs.declared.uses.slot_call.SentCall.{SentCall}
 use Rattle.callbox.specs.InSides.{Took, Tells, TellsFault, bytes_of, ends_at_shut, grown, shut_of}
 use Rattle.callbox.specs.OutSides.{message_items}
-use Rattle.callbox.specs.Slots.{EachLawful, EachTook, TakenCall, TookOf, account_at, call_at}
-use Rattle.callbox.specs.SlotRuns.{EachBegins, RunsCalls, TookAll, asked_items, end_item, reply_items, sent_items, taken_call}
+use Rattle.callbox.specs.Slots.{EachBegins, EachLawful, EachTook, TakenCall, TookOf, account_at, call_at}
+use Rattle.callbox.specs.SlotRuns.{RunsCalls, TookAll, asked_items, end_item, reply_items, sent_items, taken_call}
 use Rattle.callbox.proofs.InLemmas.{ends_at_shut-push, nothing_behind}
 use Rattle.callbox.proofs.SlotLemmas.{prefix_at}
 

@@ -11,11 +11,11 @@ use Rattle.lpm.specs.Reading.{messages_of}
 use Rattle.account.specs.declared.call.OutItem.{OutItem}
 use Rattle.account.specs.declared.call.Shut.{Shut}
 use Rattle.account.specs.declared.call.Told.{Told}
-use Rattle.account.specs.Accounts.{Begins, IsResponse, MayTell}
+use Rattle.account.specs.Accounts.{Begins, IsLawful, IsResponse, MayTell}
 use Rattle.callbox.specs.declared.piece.InPiece.{InPiece}
 use Rattle.callbox.specs.InSides.{all_end_at_shut, bytes_of, ends_at_shut, shut_of}
 use Rattle.callbox.specs.OutSides.{EachResponse}
-use Rattle.callbox.specs.Slots.{EachLawful, EachTook, IsUnsent, TakenCall, TookOf, call_at}
+use Rattle.callbox.specs.Slots.{EachBegins, EachLawful, EachTook, IsLawfulIn, TakenCall, TookOf, call_at}
 use Rattle.callbox.proofs.InLemmas.{counts_in, fits_end}
 
 module _ {T : Type 0} where
@@ -64,21 +64,9 @@ in_part put got messages said took begins last =
       told = subst (λ (s : Option Told). MayTell s (bytes_of put) (shut_of put) messages) took.told lawful.told;
     }
 
-in_none : (put : List InPiece) → InPart put [] None
-in_none put = record { taken = (messages_of (bytes_of put), refl); told = tt }
-
-in_at : (got : List (List InPiece)) (calls : List TakenCall) (n : ℕ) (put : List InPiece) → EachTook got calls → IsPrefix (segment got n) put → ends_at_shut put ≡ true
-    → InPart put (call_at calls n).0 (call_at calls n).1
-in_at [] [] zero put took begins last = in_none put
-in_at [] [] (suc n) put took begins last = in_none put
-in_at [] (call ∷ calls) n put took begins last = absurd took
-in_at (items ∷ got) [] n put took begins last = absurd took
-in_at (items ∷ got) (call ∷ calls) zero put took begins last = in_part put items call.0 call.1 took.0 begins last
-in_at (items ∷ got) (call ∷ calls) (suc n) put took begins last = in_at got calls n put took.1 begins last
-
 -- ---- the out side
 
-response_at : (calls : List (List OutItem)) (n : ℕ) → EachResponse calls → IsResponse (segment calls n)
+pub response_at : (calls : List (List OutItem)) (n : ℕ) → EachResponse calls → IsResponse (segment calls n)
 response_at [] zero each = tt
 response_at [] (suc n) each = tt
 response_at (items ∷ calls) zero each = each.0
@@ -86,25 +74,32 @@ response_at (items ∷ calls) (suc n) each = response_at calls n each.1
 
 -- ---- both
 
-pub each_lawful : (fed past_fed : List (List InPiece)) (got : List InPiece) (given past_sent : List (List OutItem)) (sent : List OutItem) (calls : List TakenCall) → Follows fed past_fed got
-    → all_end_at_shut fed ≡ true → Follows given past_sent sent → EachResponse given → EachTook (past_fed ++ got ∷ []) calls → EachLawful fed calls given (past_sent ++ sent ∷ [])
-each_lawful fed past_fed got given past_sent sent calls follows_in last follows_out each took = λ n.
-    let part = in_at (past_fed ++ got ∷ []) calls n (segment fed n) took (follows_at fed past_fed got n follows_in) (ends_at fed n last) in
-    let begins = follows_at given past_sent sent n follows_out in
+pub each_begins : {T : Type 0} (put past : List (List T)) (got : List T) → Follows put past got → EachBegins (past ++ got ∷ []) put
+each_begins put past got follows = λ n. follows_at put past got n follows
+
+pub lawful_in : (fed got : List (List InPiece)) → EachBegins got fed → all_end_at_shut fed ≡ true → (n : ℕ) → IsLawfulIn (segment fed n) (segment got n)
+lawful_in fed got begins last n = λ messages said given sent took response front.
+    let part = in_part (segment fed n) (segment got n) messages said took (begins n) (ends_at fed n last) in
     record {
       taken = part.taken;
       told = part.told;
-      sent = (begins.0, sym begins.1);
-      given = response_at given n each;
+      sent = (front.0, sym front.1);
+      given = response;
     }
 
-pub each_unsent : (fed past_fed : List (List InPiece)) (got : List InPiece) (given : List (List OutItem)) → Follows fed past_fed got
-    → all_end_at_shut fed ≡ true → EachResponse given → (n : ℕ) → IsUnsent (segment fed n) (segment (past_fed ++ got ∷ []) n) (segment given n)
-each_unsent fed past_fed got given follows last each = λ n messages said took.
-    let part = in_part (segment fed n) (segment (past_fed ++ got ∷ []) n) messages said took (follows_at fed past_fed got n follows) (ends_at fed n last) in
-    record {
-      taken = part.taken;
-      told = part.told;
-      sent = (segment given n, refl);
-      given = response_at given n each;
-    }
+-- the account of a call of which no more is told: nothing was taken of it, or this
+account_in : (got : List (List InPiece)) (calls : List TakenCall) (n : ℕ) (fed : List InPiece) (given sent : List OutItem) → IsLawfulIn fed (segment got n) → IsResponse given → IsPrefix sent given → EachTook got calls
+    → IsLawful (record { fed = bytes_of fed; shut = shut_of fed; taken = (call_at calls n).0; told = (call_at calls n).1; given = given; sent = sent })
+account_in [] [] n fed given sent lawful response front took = unread n
+  where
+    unread : (n : ℕ) → IsLawful (record { fed = bytes_of fed; shut = shut_of fed; taken = (call_at [] n).0; told = (call_at [] n).1; given = given; sent = sent })
+    unread zero = record { taken = (messages_of (bytes_of fed), refl); told = tt; sent = (front.0, sym front.1); given = response }
+    unread (suc n) = record { taken = (messages_of (bytes_of fed), refl); told = tt; sent = (front.0, sym front.1); given = response }
+account_in [] (call ∷ calls) n fed given sent lawful response front took = absurd took
+account_in (items ∷ got) [] n fed given sent lawful response front took = absurd took
+account_in (items ∷ got) (call ∷ calls) zero fed given sent lawful response front took = lawful call.0 call.1 given sent took.0 response front
+account_in (items ∷ got) (call ∷ calls) (suc n) fed given sent lawful response front took = account_in got calls n fed given sent lawful response front took.1
+
+pub each_lawful : (fed got : List (List InPiece)) (given sent : List (List OutItem)) (calls : List TakenCall) → ((n : ℕ) → IsLawfulIn (segment fed n) (segment got n)) → ((n : ℕ) → IsResponse (segment given n))
+    → EachBegins sent given → EachTook got calls → EachLawful fed calls given sent
+each_lawful fed got given sent calls lawful response begins took = λ n. account_in got calls n (segment fed n) (segment given n) (segment sent n) (lawful n) (response n) (begins n) took

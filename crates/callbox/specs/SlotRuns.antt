@@ -39,10 +39,6 @@ taken_call took = (took.messages.items, took.told)
 abbrev pub sent_items : SentCall → List OutItem
 sent_items sent = sent.items.items
 
--- list number n of the first begins list number n of the second, whatever n is; behind its last a list of lists has empty ones
-abbrev pub EachBegins : {T : Type 0} → List (List T) → List (List T) → Type 0
-EachBegins fronts wholes = (n : ℕ) → IsPrefix (segment fronts n) (segment wholes n)
-
 -- these calls were taken of what was got, and nothing of a call behind them
 pub record TookAll (got : List (List InPiece)) (calls : List TakenCall) : Type 0 where
   pub each : List TakenCall

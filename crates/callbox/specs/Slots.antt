@@ -5,10 +5,14 @@ use Rattle.lane.specs.Cuts.{segment}
 use Rattle.account.specs.declared.call.Account.{Account}
 use Rattle.account.specs.declared.call.OutItem.{OutItem}
 use Rattle.account.specs.declared.call.Told.{Told}
-use Rattle.account.specs.Accounts.{IsLawful}
+use Rattle.account.specs.Accounts.{IsLawful, IsResponse}
 use Rattle.callbox.specs.declared.piece.InPiece.{InPiece}
 use Rattle.callbox.specs.declared.taker.Progress.{Progress}
 use Rattle.callbox.specs.InSides.{Took, bytes_of, shut_of}
+
+-- list number n of the first begins list number n of the second, whatever n is; behind its last a list of lists has empty ones
+abbrev pub EachBegins : {T : Type 0} → List (List T) → List (List T) → Type 0
+EachBegins fronts wholes = (n : ℕ) → IsPrefix (segment fronts n) (segment wholes n)
 
 -- the messages of a call that were taken, and what was told behind them
 abbrev pub TakenCall : Type 0
@@ -49,6 +53,12 @@ account_at fed calls given sent n =
 -- each call's account is lawful, whatever the other calls did
 abbrev pub EachLawful : List (List InPiece) → List TakenCall → List (List OutItem) → List (List OutItem) → Type 0
 EachLawful fed calls given sent = (n : ℕ) → IsLawful (account_at fed calls given sent n)
+
+-- Of a call of which this was fed and got, whatever was taken makes a lawful account, with each response that was given and each
+-- beginning of it that was sent.
+abbrev pub IsLawfulIn : List InPiece → List InPiece → Type 0
+IsLawfulIn fed got = (messages : List (List ℕ)) (said : Option Told) (given sent : List OutItem) → TookOf got messages said → IsResponse given → IsPrefix sent given
+    → IsLawful (record { fed = bytes_of fed; shut = shut_of fed; taken = messages; told = said; given = given; sent = sent })
 
 -- Of a call of which this was fed, got and given, whatever was taken makes a lawful account, of which nothing is known to be sent.
 abbrev pub IsUnsent : List InPiece → List InPiece → List OutItem → Type 0

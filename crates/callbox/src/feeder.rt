@@ -51,7 +51,8 @@ impl<L: Lane<Item = InPiece>> Feeder<L> {
     pub fn feed(&mut self, piece: Bytes) -> Result<(), FeedFault>
         ensures name { L.in_name self.new.tx ≡ L.in_name self.old.tx }
         ensures past { L.past_in self.new.tx ≡ L.past_in self.old.tx }
-        ensures ok { OnOk result (L.put_in self.new.tx ≡ L.put_in self.old.tx ++ in_piece.Bytes piece ∷ []) }
+        ensures ok { OnOk result (L.put_in self.new.tx
+            ≡ L.put_in self.old.tx ++ in_piece.Bytes piece ∷ []) }
         ensures unchanged { OnErr result (L.put_in self.new.tx ≡ L.put_in self.old.tx) }
         ensures handed_back { IfErr result (λ e. item_of e ≡ piece) }
         ensures fault { IfErr result
@@ -125,10 +126,13 @@ impl<L: Lane<Item = InPiece>> FedShut<L> {
     pub fn begin(self) -> Result<Feeder<L>, FedShut<L>>
         ensures placed { OnOk result (L.was_placed self.shut ≡ true) }
         ensures name { IfOk result (λ f. L.in_name f.tx ≡ L.next_name (L.shut_name self.shut)) }
-        ensures past { IfOk result (λ f. L.past_in f.tx ≡ L.past_shut self.shut ++ L.put_shut self.shut ∷ []) }
+        ensures past { IfOk result (λ f. L.past_in f.tx
+            ≡ L.past_shut self.shut ++ L.put_shut self.shut ∷ []) }
         ensures empty { IfOk result (λ f. (L.put_in f.tx ≡ []) × (L.seen_taken f.tx ≡ 0)) }
-        ensures err { IfErr result (λ s. (L.shut_name s.shut ≡ L.shut_name self.shut) × (s.kind ≡ self.kind)
-            × (L.past_shut s.shut ≡ L.past_shut self.shut) × (L.put_shut s.shut ≡ L.put_shut self.shut)
+        ensures err { IfErr result (λ s. (L.shut_name s.shut ≡ L.shut_name self.shut)
+            × (s.kind ≡ self.kind)
+            × (L.past_shut s.shut ≡ L.past_shut self.shut)
+            × (L.put_shut s.shut ≡ L.put_shut self.shut)
             × (L.was_placed s.shut ≡ L.was_placed self.shut)) }
     {
         let FedShut { shut, kind, fed } = self;

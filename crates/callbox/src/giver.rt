@@ -82,7 +82,8 @@ impl<L: Lane<Item = OutItem>> Giver<L> {
         requires first { L.put_in self.old.tx ≡ [] }
         ensures name { L.in_name self.new.tx ≡ L.in_name self.old.tx }
         ensures past { L.past_in self.new.tx ≡ L.past_in self.old.tx }
-        ensures ok { OnOk result (L.put_in self.new.tx ≡ L.put_in self.old.tx ++ out_item.Head fields ∷ []) }
+        ensures ok { OnOk result (L.put_in self.new.tx
+            ≡ L.put_in self.old.tx ++ out_item.Head fields ∷ []) }
         ensures unchanged { OnErr result (L.put_in self.new.tx ≡ L.put_in self.old.tx) }
         ensures handed_back { IfErr result (λ e. item_of e ≡ fields) }
         ensures fault { IfErr result
@@ -110,8 +111,10 @@ impl<L: Lane<Item = OutItem>> Giver<L> {
         ensures past { L.past_in self.new.tx ≡ L.past_in self.old.tx }
         ensures seen { L.seen_taken self.old.tx ≤ L.seen_taken self.new.tx }
         ensures unchanged { L.put_in self.new.tx ≡ L.put_in self.old.tx }
-        ensures room { OnOk result (length (L.put_in self.new.tx) < L.room_of (L.in_name self.new.tx) + L.seen_taken self.new.tx) }
-        ensures full { IfErr result (λ waiting. (waiting + L.seen_taken self.new.tx ≡ length (L.put_in self.new.tx))
+        ensures room { OnOk result (length (L.put_in self.new.tx)
+            < L.room_of (L.in_name self.new.tx) + L.seen_taken self.new.tx) }
+        ensures full { IfErr result
+            (λ waiting. (waiting + L.seen_taken self.new.tx ≡ length (L.put_in self.new.tx))
             × (L.room_of (L.in_name self.new.tx) ≤ waiting)) }
     {
         L::check_room(&mut self.tx)
@@ -125,7 +128,8 @@ impl<L: Lane<Item = OutItem>> Giver<L> {
         requires len { length message ≤ 4194304 }
         ensures name { L.in_name self.new.tx ≡ L.in_name self.old.tx }
         ensures past { L.past_in self.new.tx ≡ L.past_in self.old.tx }
-        ensures ok { OnOk result (L.put_in self.new.tx ≡ L.put_in self.old.tx ++ out_item.Message (frame message) ∷ []) }
+        ensures ok { OnOk result (L.put_in self.new.tx
+            ≡ L.put_in self.old.tx ++ out_item.Message (frame message) ∷ []) }
         ensures unchanged { OnErr result (L.put_in self.new.tx ≡ L.put_in self.old.tx) }
         ensures handed_back { IfErr result (λ e. item_of e ≡ message) }
         ensures fault { IfErr result
@@ -160,7 +164,8 @@ impl<L: Lane<Item = OutItem>> Giver<L> {
         ensures name { L.in_name self.new.tx ≡ L.in_name self.old.tx }
         ensures past { L.past_in self.new.tx ≡ L.past_in self.old.tx }
         ensures frame { OnOk result (IsFrame framed) }
-        ensures ok { OnOk result (L.put_in self.new.tx ≡ L.put_in self.old.tx ++ out_item.Message framed ∷ []) }
+        ensures ok { OnOk result (L.put_in self.new.tx
+            ≡ L.put_in self.old.tx ++ out_item.Message framed ∷ []) }
         ensures unchanged { OnErr result (L.put_in self.new.tx ≡ L.put_in self.old.tx) }
         ensures fault { IfErr result
             (RefusesFramed L.only_fills (L.room_of (L.in_name self.old.tx))
@@ -181,7 +186,8 @@ impl<L: Lane<Item = OutItem>> Giver<L> {
         requires frame { IsFrame framed }
         ensures name { L.in_name self.new.tx ≡ L.in_name self.old.tx }
         ensures past { L.past_in self.new.tx ≡ L.past_in self.old.tx }
-        ensures ok { OnOk result (L.put_in self.new.tx ≡ L.put_in self.old.tx ++ out_item.Message framed ∷ []) }
+        ensures ok { OnOk result (L.put_in self.new.tx
+            ≡ L.put_in self.old.tx ++ out_item.Message framed ∷ []) }
         ensures unchanged { OnErr result (L.put_in self.new.tx ≡ L.put_in self.old.tx) }
         ensures handed_back { IfErr result (λ e. item_of e ≡ framed) }
         ensures fault { IfErr result
@@ -254,10 +260,13 @@ impl<L: Lane<Item = OutItem>> GivenShut<L> {
     pub fn begin(self, alloc: Global) -> Result<Giver<L>, GivenShut<L>>
         ensures placed { OnOk result (L.was_placed self.shut ≡ true) }
         ensures name { IfOk result (λ g. L.in_name g.tx ≡ L.next_name (L.shut_name self.shut)) }
-        ensures past { IfOk result (λ g. L.past_in g.tx ≡ L.past_shut self.shut ++ L.put_shut self.shut ∷ []) }
+        ensures past { IfOk result (λ g. L.past_in g.tx
+            ≡ L.past_shut self.shut ++ L.put_shut self.shut ∷ []) }
         ensures empty { IfOk result (λ g. (L.put_in g.tx ≡ []) × (L.seen_taken g.tx ≡ 0)) }
-        ensures err { IfErr result (λ s. (L.shut_name s.shut ≡ L.shut_name self.shut) × (s.answered ≡ self.answered)
-            × (L.past_shut s.shut ≡ L.past_shut self.shut) × (L.put_shut s.shut ≡ L.put_shut self.shut)
+        ensures err { IfErr result (λ s. (L.shut_name s.shut ≡ L.shut_name self.shut)
+            × (s.answered ≡ self.answered)
+            × (L.past_shut s.shut ≡ L.past_shut self.shut)
+            × (L.put_shut s.shut ≡ L.put_shut self.shut)
             × (L.was_placed s.shut ≡ L.was_placed self.shut)) }
     {
         let GivenShut { shut, answered } = self;

@@ -28,7 +28,8 @@ pub fn settle_in<L: Lane<Item = InPiece>>(
     end: End<Feeder<L>, FedShut<L>>,
     taker: Taker<L>,
 ) -> InAccount
-    requires one_call { of_end (λ f. L.in_name f.tx) (λ s. L.shut_name s.shut) end ≡ L.out_name taker.rx }
+    requires one_call { of_end (λ f. L.in_name f.tx) (λ s. L.shut_name s.shut) end
+        ≡ L.out_name taker.rx }
     // Of the messages that were taken.
     ensures account { (messages : List (List ℕ)) → Took (L.got taker.rx) taker.progress messages
         → CountsIn (pieces_of (of_end (λ f. L.put_in f.tx) (λ s. L.put_shut s.shut) end))
@@ -59,7 +60,8 @@ fn settle_open<L: Lane<Item = InPiece>>(feeder: Feeder<L>, taker: Taker<L>) -> I
 fn settle_shut<L: Lane<Item = InPiece>>(shut: FedShut<L>, taker: Taker<L>) -> InAccount
     requires one_call { L.shut_name shut.shut ≡ L.out_name taker.rx }
     ensures account { (messages : List (List ℕ)) → Took (L.got taker.rx) taker.progress messages
-        → CountsIn (pieces_of (L.put_shut shut.shut)) (Some shut.kind) messages taker.progress.told result }
+        → CountsIn (pieces_of (L.put_shut shut.shut))
+        (Some shut.kind) messages taker.progress.told result }
 {
     let Taker { rx, progress } = taker;
     let FedShut { shut, kind, fed } = shut;
@@ -80,7 +82,8 @@ pub fn open_in<L: Lane<Item = InPiece>>(
     ensures one_call { IfOk result (λ r. L.in_name r.0.tx ≡ L.out_name r.1.rx) }
     ensures room { IfOk result (λ r. L.room_of (L.in_name r.0.tx) ≡ room) }
     ensures unfed { IfOk result (λ r. L.put_in r.0.tx ≡ []) }
-    ensures first { IfOk result (λ r. (L.past_in r.0.tx ≡ []) × (L.past_out r.1.rx ≡ []) × (L.got r.1.rx ≡ [])) }
+    ensures first { IfOk result (λ r. (L.past_in r.0.tx ≡ []) × (L.past_out r.1.rx ≡ [])
+        × (L.got r.1.rx ≡ [])) }
     ensures took { IfOk result (λ r. Took (L.got r.1.rx) r.1.progress []) }
     ensures owed { IfOk result (λ r. r.1.progress.owed ≡ 0) }
     ensures told { IfOk result (λ r. r.1.progress.told ≡ None) }

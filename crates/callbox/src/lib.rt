@@ -6,7 +6,7 @@
 //! events.
 //!
 //! A slot's four ends serve one call after another: each has a `begin`, and `settle_slot` brings them together for all
-//! calls at once.
+//! calls at once, `meet_in` and `meet_out` one side after the other.
 //!
 //! Read the crate `account` first; then `specs/InSides.antt` with `piece`, `feeder`, `taker` and `in_side`;
 //! `specs/OutSides.antt` with `giver`, `sender` and `out_side`; `specs/Slots.antt` with `slot`; and `call`,
@@ -31,7 +31,7 @@ pub use in_side::{InAccount, open_in, settle_in};
 pub use out_side::{OutAccount, open_out, settle_out};
 pub use piece::InPiece;
 pub use sender::Sender;
-pub use slot::{settle_slot, settle_unsent};
+pub use slot::{meet_in, meet_out, see_out, settle_slot, settle_unsent};
 pub use taker::{Taken, Taker};
 pub use uses::four_threads::{Answer, Ran, Request, run_call};
 pub use uses::handed_over::answer_elsewhere;

@@ -30,8 +30,10 @@ pub fn settle_out<L: Lane<Item = OutItem>>(
     end: End<Giver<L>, GivenShut<L>>,
     sender: Sender<L>,
 ) -> OutAccount
-    requires one_call { of_end (λ g. L.in_name g.tx) (λ s. L.shut_name s.shut) end ≡ L.out_name sender.rx }
-    ensures account { CountsOut (of_end (λ g. L.put_in g.tx) (λ s. L.put_shut s.shut) end) (L.got sender.rx) result }
+    requires one_call { of_end (λ g. L.in_name g.tx) (λ s. L.shut_name s.shut) end
+        ≡ L.out_name sender.rx }
+    ensures account { CountsOut (of_end (λ g. L.put_in g.tx) (λ s. L.put_shut s.shut) end)
+        (L.got sender.rx) result }
 {
     match end {
         End::Open(giver) => settle_open(giver, sender),

@@ -42,17 +42,21 @@ impl<L: Lane<Item = OutItem>> Sender<L> {
         ensures* after { sem 𝓛
             (follows_so (the_row L.row L.In.row L.Out.row L.Shut.row)
             (the_row L.row L.In.row L.Out.row L.Shut.row) self.entry.ghost_name none (λ _ _. ⊤)
-            (λ n. (L.out_name n.rx ≡ L.out_name self.old.rx) × (L.past_out n.rx ≡ L.past_out self.old.rx) × (n.id ≡ self.old.id) × MatchOption result
+            (λ n. (L.out_name n.rx ≡ L.out_name self.old.rx)
+            × (L.past_out n.rx ≡ L.past_out self.old.rx) × (n.id ≡ self.old.id) × MatchOption result
             ((L.got n.rx ≡ L.got self.old.rx) × (L.ahead self.old.rx ≡ []) × (L.ahead n.rx ≡ []))
             (λ item. (L.got n.rx ≡ L.got self.old.rx ++ item.now ∷ [])
-            × (0 < length (L.ahead self.old.rx) → L.ahead self.old.rx ≡ item.now ∷ L.ahead n.rx)))) }
+            × (0 < length (L.ahead self.old.rx)
+            → L.ahead self.old.rx ≡ item.now ∷ L.ahead n.rx)))) }
     {
         L::poll(&mut self.rx)
     }
     /// Goes on to the next call over the same lane, that of this stream, where the last item of this call was got.
     pub fn begin(&mut self, id: u32) -> bool
-        ensures name { result ≡ true → L.out_name self.new.rx ≡ L.next_name (L.out_name self.old.rx) }
-        ensures past { result ≡ true → L.past_out self.new.rx ≡ L.past_out self.old.rx ++ L.got self.old.rx ∷ [] }
+        ensures name { result ≡ true → L.out_name self.new.rx
+            ≡ L.next_name (L.out_name self.old.rx) }
+        ensures past { result ≡ true → L.past_out self.new.rx
+            ≡ L.past_out self.old.rx ++ L.got self.old.rx ∷ [] }
         ensures empty { result ≡ true → L.got self.new.rx ≡ [] }
         ensures id { result ≡ true → self.new.id ≡ id }
         ensures stays { result ≡ false → (self.new.rx ≡ self.old.rx) × (self.new.id ≡ self.old.id) }

@@ -84,8 +84,10 @@ impl Progress {
     /// The next answer, where what was polled has one.
     fn answer(&mut self) -> Option<Taken>
         requires { self.old.told ≡ None }
-        ensures took { (items : List InPiece) (messages : List (List ℕ)) → Took items self.old messages
-            → MatchOption result (Took items self.new messages) (λ a. Took items self.new (grown messages a)) }
+        ensures took { (items : List InPiece) (messages : List (List ℕ))
+            → Took items self.old messages
+            → MatchOption result (Took items self.new messages)
+            (λ a. Took items self.new (grown messages a)) }
         ensures tells { IfSome result (λ a. Tells a self.old.told self.new.told) }
         ensures more { IfNone result (IsUnfinished self.new.splitter × (self.new.told ≡ None)
             × (self.new.shut ≡ None) × (self.new.unread ≡ false)) }
@@ -112,10 +114,13 @@ impl Progress {
     fn ending(&mut self) -> Option<Taken>
         requires unfinished { IsUnfinished self.old.splitter }
         requires untold { self.old.told ≡ None }
-        ensures took { (items : List InPiece) (messages : List (List ℕ)) → Took items self.old messages
-            → MatchOption result (Took items self.new messages) (λ a. Took items self.new (grown messages a)) }
+        ensures took { (items : List InPiece) (messages : List (List ℕ))
+            → Took items self.old messages
+            → MatchOption result (Took items self.new messages)
+            (λ a. Took items self.new (grown messages a)) }
         ensures tells { IfSome result (λ a. Tells a self.old.told self.new.told) }
-        ensures more { IfNone result ((self.new ≡ self.old) × (self.new.shut ≡ None) × (self.new.unread ≡ false)) }
+        ensures more { IfNone result ((self.new ≡ self.old) × (self.new.shut ≡ None)
+            × (self.new.unread ≡ false)) }
         ensures some { IfSome result (λ a. a ≡ taken.Nothing → ⊥) }
         ensures owed { self.new.owed ≡ self.old.owed }
     {
@@ -132,7 +137,8 @@ impl Progress {
         requires untold { self.old.told ≡ None }
         requires unshut { self.old.shut ≡ None }
         requires read { self.old.unread ≡ false }
-        ensures took { (items : List InPiece) (item : InPiece) (messages : List (List ℕ)) → Took items self.old messages
+        ensures took { (items : List InPiece) (item : InPiece) (messages : List (List ℕ))
+            → Took items self.old messages
             → IsPolled item polled → Took (items ++ item ∷ []) self.new messages }
         ensures told { self.new.told ≡ None }
         ensures owed { (item : InPiece) → IsPolled item polled
@@ -154,7 +160,8 @@ impl Progress {
     pub(crate) fn accept_again(&mut self, polled: Polled)
         requires untold { self.old.told ≡ None }
         requires unread { self.old.unread ≡ true }
-        ensures took { (items : List InPiece) (item : InPiece) (messages : List (List ℕ)) → Took items self.old messages
+        ensures took { (items : List InPiece) (item : InPiece) (messages : List (List ℕ))
+            → Took items self.old messages
             → last_of items ≡ Some item → IsPolled item polled → Took items self.new messages }
         ensures told { self.new.told ≡ None }
         ensures owed { self.new.owed ≡ self.old.owed }
@@ -232,7 +239,8 @@ fn poll_again<L: Lane<Item = InPiece>>(rx: &mut L::Out) -> Option<Polled>
     ensures name { L.out_name rx.new ≡ L.out_name rx.old }
     ensures past { L.past_out rx.new ≡ L.past_out rx.old }
     ensures got { L.got rx.new ≡ L.got rx.old }
-    ensures item { IfSome result (λ p. (item : InPiece) × (last_of (L.got rx.old) ≡ Some item) × IsPolled item p) }
+    ensures item { IfSome result (λ p. (item : InPiece) × (last_of (L.got rx.old) ≡ Some item)
+        × IsPolled item p) }
 {
     match L::again(rx) {
         Some(item) => Some(item.share()),
@@ -279,19 +287,24 @@ impl<L: Lane<Item = InPiece>> Taker<L> {
         ensures name { L.out_name self.new.rx ≡ L.out_name self.old.rx }
         ensures past { L.past_out self.new.rx ≡ L.past_out self.old.rx }
         // Of all messages that were taken so far.
-        ensures took { (messages : List (List ℕ)) → Took (L.got self.old.rx) self.old.progress messages
+        ensures took { (messages : List (List ℕ))
+            → Took (L.got self.old.rx) self.old.progress messages
             → Took (L.got self.new.rx) self.new.progress (grown messages result) }
         ensures tells { Tells result self.old.progress.told self.new.progress.told }
         ensures repeats { IfSome self.old.progress.told
-            (λ t. (result ≡ telling t) × (self.new.progress ≡ self.old.progress) × (L.got self.new.rx ≡ L.got self.old.rx)) }
+            (λ t. (result ≡ telling t) × (self.new.progress ≡ self.old.progress)
+            × (L.got self.new.rx ≡ L.got self.old.rx)) }
         ensures nothing { result ≡ taken.Nothing → IsUnfinished self.new.progress.splitter
-            × (self.new.progress.shut ≡ None) × (self.new.progress.unread ≡ false) × (L.ahead self.new.rx ≡ []) }
+            × (self.new.progress.shut ≡ None) × (self.new.progress.unread ≡ false)
+            × (L.ahead self.new.rx ≡ []) }
         // It polls only where the bytes that are held make no whole message and no fault, and no shut was polled.
-        ensures needed { (messages : List (List ℕ)) → Took (L.got self.old.rx) self.old.progress messages
+        ensures needed { (messages : List (List ℕ))
+            → Took (L.got self.old.rx) self.old.progress messages
             → (items : List InPiece) × (L.got self.new.rx ≡ L.got self.old.rx ++ items)
             × EachNeeded (L.got self.old.rx) items messages }
         ensures owed { (items : List InPiece) × (L.got self.new.rx ≡ L.got self.old.rx ++ items)
-            × (self.new.progress.owed ≡ min (self.old.progress.owed + length (bytes_of items)) 4294967295) }
+            × (self.new.progress.owed ≡ min
+            (self.old.progress.owed + length (bytes_of items)) 4294967295) }
     {
         let _owed = self.progress.owed;
         if let Some(told) = self.progress.told {
@@ -310,7 +323,8 @@ impl<L: Lane<Item = InPiece>> Taker<L> {
         ensures name { L.out_name self.new.rx ≡ L.out_name self.old.rx }
         ensures past { L.past_out self.new.rx ≡ L.past_out self.old.rx }
         ensures got { L.got self.new.rx ≡ L.got self.old.rx }
-        ensures took { (messages : List (List ℕ)) → Took (L.got self.old.rx) self.old.progress messages
+        ensures took { (messages : List (List ℕ))
+            → Took (L.got self.old.rx) self.old.progress messages
             → Took (L.got self.new.rx) self.new.progress messages }
         ensures told { self.new.progress.told ≡ None }
         ensures owed { self.new.progress.owed ≡ self.old.progress.owed }
@@ -325,17 +339,21 @@ impl<L: Lane<Item = InPiece>> Taker<L> {
         requires { self.old.progress.told ≡ None }
         ensures name { L.out_name self.new.rx ≡ L.out_name self.old.rx }
         ensures past { L.past_out self.new.rx ≡ L.past_out self.old.rx }
-        ensures took { (messages : List (List ℕ)) → Took (L.got self.old.rx) self.old.progress messages
+        ensures took { (messages : List (List ℕ))
+            → Took (L.got self.old.rx) self.old.progress messages
             → Took (L.got self.new.rx) self.new.progress (grown messages result) }
         ensures tells { Tells result None self.new.progress.told }
         ensures nothing { result ≡ taken.Nothing → IsUnfinished self.new.progress.splitter
-            × (self.new.progress.shut ≡ None) × (self.new.progress.unread ≡ false) × (L.ahead self.new.rx ≡ []) }
+            × (self.new.progress.shut ≡ None) × (self.new.progress.unread ≡ false)
+            × (L.ahead self.new.rx ≡ []) }
         // It polls only where the bytes that are held make no whole message and no fault, and no shut was polled.
-        ensures needed { (messages : List (List ℕ)) → Took (L.got self.old.rx) self.old.progress messages
+        ensures needed { (messages : List (List ℕ))
+            → Took (L.got self.old.rx) self.old.progress messages
             → (items : List InPiece) × (L.got self.new.rx ≡ L.got self.old.rx ++ items)
             × EachNeeded (L.got self.old.rx) items messages }
         ensures owed { (items : List InPiece) × (L.got self.new.rx ≡ L.got self.old.rx ++ items)
-            × (self.new.progress.owed ≡ min (self.old.progress.owed + length (bytes_of items)) 4294967295) }
+            × (self.new.progress.owed ≡ min
+            (self.old.progress.owed + length (bytes_of items)) 4294967295) }
     {
         let _owed = self.progress.owed;
         for _ in 0..u64::MAX {
@@ -366,13 +384,16 @@ impl<L: Lane<Item = InPiece>> Taker<L> {
 
     /// Goes on to the next call over the same lane, where the shut of this one was got.
     pub fn begin(&mut self, alloc: Global) -> bool
-        ensures name { result ≡ true → L.out_name self.new.rx ≡ L.next_name (L.out_name self.old.rx) }
-        ensures past { result ≡ true → L.past_out self.new.rx ≡ L.past_out self.old.rx ++ L.got self.old.rx ∷ [] }
+        ensures name { result ≡ true → L.out_name self.new.rx
+            ≡ L.next_name (L.out_name self.old.rx) }
+        ensures past { result ≡ true → L.past_out self.new.rx
+            ≡ L.past_out self.old.rx ++ L.got self.old.rx ∷ [] }
         ensures empty { result ≡ true → L.got self.new.rx ≡ [] }
         ensures took { result ≡ true → Took [] self.new.progress [] }
         ensures owed { result ≡ true → self.new.progress.owed ≡ 0 }
         ensures told { result ≡ true → self.new.progress.told ≡ None }
-        ensures stays { result ≡ false → (self.new.rx ≡ self.old.rx) × (self.new.progress ≡ self.old.progress) }
+        ensures stays { result ≡ false
+            → (self.new.rx ≡ self.old.rx) × (self.new.progress ≡ self.old.progress) }
     {
         let Taker { rx, progress } = self;
         if !L::go_on(rx) {

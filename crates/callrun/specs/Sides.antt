@@ -1,6 +1,10 @@
 -- What the giving end of a call shows.
-use Rattle.std.specs.Prelude.{ℕ, Bool, true, false, List, [], Option, None, Some}
+use Rattle.std.specs.Prelude.{ℕ, Bool, true, false, List, [], Option, None, Some, length}
+use Rattle.lane.specs.declared.lane.Lane.{Ghosts}
 use Rattle.account.specs.declared.call.OutItem.{OutItem}
+use Rattle.callbox.specs.declared.giver.Giver.{Giver}
+use Rattle.callbox.specs.declared.giver.GivenShut.{GivenShut}
+use Rattle.callrun.specs.Giving.{IsFull}
 use Rattle.callrun.specs.declared.response.Response.{Response}
 use Rattle.callrun.specs.declared.response.Response.TheVariants.{Open, Left, Shut, Gone}
 
@@ -68,3 +72,19 @@ module _ {G S : Type 0} where
   IsOpenTo P (Left giver) = ⊥
   IsOpenTo P (Shut end code) = ⊥
   IsOpenTo P Gone = ⊥
+
+module _ {L In Out Shut : Type 0} {lane : Ghosts L OutItem In Out Shut} where
+  -- what was given over the lane, and the status of the trailers, if they had their place
+  abbrev pub given_over : Response (Giver L In Out Shut lane) (GivenShut L In Out Shut lane) → Shown
+  given_over response = shown (λ g. lane.put_in g.tx) (λ s. lane.put_shut s.shut) (λ s. lane.was_placed s.shut) response
+
+  -- which lane it is, and what was given over it for the calls before
+  abbrev pub lane_of : Response (Giver L In Out Shut lane) (GivenShut L In Out Shut lane) → Option lane.Name
+  lane_of response = name_by (λ g. lane.in_name g.tx) (λ s. lane.shut_name s.shut) response
+
+  abbrev pub past_of : Response (Giver L In Out Shut lane) (GivenShut L In Out Shut lane) → Option (List (List OutItem))
+  past_of response = name_by (λ g. lane.past_in g.tx) (λ s. lane.past_shut s.shut) response
+
+  -- more may be given, but the lane has no room
+  abbrev pub HasNoRoom : Response (Giver L In Out Shut lane) (GivenShut L In Out Shut lane) → Type 0
+  HasNoRoom response = IsOpenTo (λ g. IsFull (lane.room_of (lane.in_name g.tx)) (length (lane.put_in g.tx)) (lane.seen_taken g.tx)) response

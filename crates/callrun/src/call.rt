@@ -1,6 +1,6 @@
 //! What is kept of a call beside its ends, and how its response is given.
 
-ghost use Rattle.std.specs.Prelude.{◌≡◌, ◌≢◌, ◌≤◌, ◌∷◌, ◌⊎◌, [], ℕ, List, true, false, None, Some, length, IsSomeAnd, IfOk, Bool, Option};
+ghost use Rattle.std.specs.Prelude.{◌≡◌, ◌≢◌, ◌≤◌, ◌∷◌, ◌⊎◌, [], ℕ, List, true, false, None, Some, IsSomeAnd, IfOk, Bool, Option};
 ghost use Rattle.callbox.specs.InSides.{Tells, grown};
 ghost use Rattle.account.specs.declared.call.OutItem.{OutItem as Item};
 ghost use Rattle.account.specs.declared.call.Told.{Told as ToldOf};
@@ -47,19 +47,21 @@ pub(crate) struct Call {
 impl Call {
     ghost use Rattle.callrun.specs.declared.call.Turn.TheVariants as turn;
     ghost use Rattle.callrun.specs.declared.giving.Refused.TheVariants as refused_kind;
-    ghost use Rattle.callrun.specs.Giving.{IsFull};
     ghost use Rattle.callrun.specs.Handlings.{HeadIsDue, IsReady, lacks_memory};
     ghost use Rattle.callrun.specs.Runs.{GivesOne, HasCome, HasRun, RunsOn, RunsOut, SameCall, IsDueReply, IsEnding, HasTrailers, ends_short};
-    ghost use Rattle.callrun.specs.Sides.{IsOpenTo, is_gone, is_left, is_open, left, name_by, shown, Shown};
+    ghost use Rattle.callrun.specs.Sides.{HasNoRoom, IsOpenTo, Shown, given_over, is_gone, is_left, is_open, lane_of, left, past_of, shown};
 
     /// Ends the call where the deadline has come.
     pub(crate) fn look_at(&mut self, now: u64)
         ensures run { (before : Shown) → RunsOn self.old before self.new before }
-        ensures overdue { self.new.overdue ≡ true → (self.old.overdue ≡ true) ⊎ IsSomeAnd self.old.deadline (λ deadline. deadline ≤ now) }
-        ensures late { IsSomeAnd self.old.deadline (λ deadline. deadline ≤ now) → self.new.overdue ≡ true }
+        ensures overdue { self.new.overdue ≡ true
+            → (self.old.overdue ≡ true) ⊎ IsSomeAnd self.old.deadline (λ deadline. deadline ≤ now) }
+        ensures late { IsSomeAnd self.old.deadline (λ deadline. deadline ≤ now)
+            → self.new.overdue ≡ true }
         ensures stays { self.old.overdue ≡ true → self.new ≡ self.old }
         ensures same { (self.new.head ≡ self.old.head) × (self.new.deadline ≡ self.old.deadline) }
-        ensures newly { (self.new ≡ self.old) ⊎ ((self.old.overdue ≡ false) × (self.new.overdue ≡ true)) }
+        ensures newly { (self.new ≡ self.old)
+            ⊎ ((self.old.overdue ≡ false) × (self.new.overdue ≡ true)) }
     {
         if self.overdue {
             return;
@@ -76,9 +78,12 @@ impl Call {
     /// Has the method answer what was taken, or ends the call by it.
     pub(crate) fn answer(&mut self, method: &dyn Method, taken: Taken)
         requires { IsReady self.old.handling }
-        ensures run { (said : Option ToldOf) (next : Option ToldOf) (messages : List (List ℕ)) (given : List Item) → Tells taken said next
-            → HasRun (answers method.now) (stands method.now) said messages self.old (record { is_live = true; given = given; code = None })
-            → HasRun (answers method.now) (stands method.now) next (grown messages taken) self.new (record { is_live = true; given = given; code = None }) }
+        ensures run { (said : Option ToldOf) (next : Option ToldOf) (messages : List (List ℕ))
+            (given : List Item) → Tells taken said next
+            → HasRun (answers method.now) (stands method.now) said messages self.old
+            (record { is_live = true; given = given; code = None })
+            → HasRun (answers method.now) (stands method.now) next (grown messages taken) self.new
+            (record { is_live = true; given = given; code = None }) }
         ensures same { SameCall self.old self.new }
     {
         let alloc = self.alloc;
@@ -101,9 +106,12 @@ impl Call {
         in_hand: Option<Taken>,
         response: &Response<G, S>,
     )
-        ensures run { (of_open : G → List Item) (of_shut : S → List Item) (was_placed : S → Bool) (said : Option ToldOf) (messages : List (List ℕ))
-            → HasCome (answers method.now) (stands method.now) said messages self.old in_hand (shown of_open of_shut was_placed response.now)
-            → HasRun (answers method.now) (stands method.now) said messages self.new (shown of_open of_shut was_placed response.now) }
+        ensures run { (of_open : G → List Item) (of_shut : S → List Item) (was_placed : S → Bool)
+            (said : Option ToldOf) (messages : List (List ℕ))
+            → HasCome (answers method.now) (stands method.now) said messages self.old in_hand
+            (shown of_open of_shut was_placed response.now)
+            → HasRun (answers method.now) (stands method.now) said messages self.new
+            (shown of_open of_shut was_placed response.now) }
         ensures same { SameCall self.old self.new }
         ensures lacks { lacks_memory self.old.handling.ending ≡ true → self.new ≡ self.old }
     {
@@ -122,17 +130,20 @@ impl Call {
         reply: Reply,
     ) -> Turn
         requires { IsDueReply reply self.old }
-        ensures run { RunsOn self.old (shown (λ g. O.put_in g.tx) (λ s. O.put_shut s.shut) (λ s. O.was_placed s.shut) response.old) self.new (shown (λ g. O.put_in g.tx) (λ s. O.put_shut s.shut) (λ s. O.was_placed s.shut) response.new) }
-        ensures name { name_by (λ g. O.in_name g.tx) (λ s. O.shut_name s.shut) response.new ≡ name_by (λ g. O.in_name g.tx) (λ s. O.shut_name s.shut) response.old }
-        ensures past { name_by (λ g. O.past_in g.tx) (λ s. O.past_shut s.shut) response.new ≡ name_by (λ g. O.past_in g.tx) (λ s. O.past_shut s.shut) response.old }
+        ensures run { RunsOn self.old (given_over response.old) self.new (given_over response.new) }
+        ensures name { lane_of response.new ≡ lane_of response.old }
+        ensures past { past_of response.new ≡ past_of response.old }
         ensures there { is_gone response.new ≡ is_gone response.old }
         ensures same { SameCall self.old self.new }
         ensures turn { result ≢ turn.Nothing }
-        ensures went { result ≡ turn.Went → GivesOne (shown (λ g. O.put_in g.tx) (λ s. O.put_shut s.shut) (λ s. O.was_placed s.shut) response.old) (shown (λ g. O.put_in g.tx) (λ s. O.put_shut s.shut) (λ s. O.was_placed s.shut) response.new)
+        ensures went { result ≡ turn.Went
+            → GivesOne (given_over response.old) (given_over response.new)
             ⊎ RunsOut self.old self.new }
         ensures over { result ≡ turn.Over → is_open response.new ≡ false }
-        ensures left { is_left response.new ≡ true → (is_left response.old ≡ true) ⊎ (lacks_memory self.new.handling.ending ≡ true) ⊎ (O.only_fills ≡ false) }
-        ensures full { result ≡ turn.Full → IsOpenTo (λ g. IsFull (O.room_of (O.in_name g.tx)) (length (O.put_in g.tx)) (O.seen_taken g.tx)) response.new }
+        ensures left { is_left response.new ≡ true
+            → (is_left response.old ≡ true) ⊎ (lacks_memory self.new.handling.ending ≡ true)
+            ⊎ (O.only_fills ≡ false) }
+        ensures full { result ≡ turn.Full → HasNoRoom response.new }
     {
         let Response::Open(giver) = response else {
             return Turn::Over;
@@ -156,17 +167,20 @@ impl Call {
     ) -> Turn
         requires due { HeadIsDue self.old.head self.old.handling }
         requires empty { IsOpenTo (λ g. O.put_in g.tx ≡ []) response.old }
-        ensures run { RunsOn self.old (shown (λ g. O.put_in g.tx) (λ s. O.put_shut s.shut) (λ s. O.was_placed s.shut) response.old) self.new (shown (λ g. O.put_in g.tx) (λ s. O.put_shut s.shut) (λ s. O.was_placed s.shut) response.new) }
-        ensures name { name_by (λ g. O.in_name g.tx) (λ s. O.shut_name s.shut) response.new ≡ name_by (λ g. O.in_name g.tx) (λ s. O.shut_name s.shut) response.old }
-        ensures past { name_by (λ g. O.past_in g.tx) (λ s. O.past_shut s.shut) response.new ≡ name_by (λ g. O.past_in g.tx) (λ s. O.past_shut s.shut) response.old }
+        ensures run { RunsOn self.old (given_over response.old) self.new (given_over response.new) }
+        ensures name { lane_of response.new ≡ lane_of response.old }
+        ensures past { past_of response.new ≡ past_of response.old }
         ensures there { is_gone response.new ≡ is_gone response.old }
         ensures same { SameCall self.old self.new }
         ensures turn { result ≢ turn.Nothing }
-        ensures went { result ≡ turn.Went → GivesOne (shown (λ g. O.put_in g.tx) (λ s. O.put_shut s.shut) (λ s. O.was_placed s.shut) response.old) (shown (λ g. O.put_in g.tx) (λ s. O.put_shut s.shut) (λ s. O.was_placed s.shut) response.new)
+        ensures went { result ≡ turn.Went
+            → GivesOne (given_over response.old) (given_over response.new)
             ⊎ RunsOut self.old self.new }
         ensures over { result ≡ turn.Over → is_open response.new ≡ false }
-        ensures left { is_left response.new ≡ true → (is_left response.old ≡ true) ⊎ (lacks_memory self.new.handling.ending ≡ true) ⊎ (O.only_fills ≡ false) }
-        ensures full { result ≡ turn.Full → IsOpenTo (λ g. IsFull (O.room_of (O.in_name g.tx)) (length (O.put_in g.tx)) (O.seen_taken g.tx)) response.new }
+        ensures left { is_left response.new ≡ true
+            → (is_left response.old ≡ true) ⊎ (lacks_memory self.new.handling.ending ≡ true)
+            ⊎ (O.only_fills ≡ false) }
+        ensures full { result ≡ turn.Full → HasNoRoom response.new }
     {
         let Response::Open(giver) = response else {
             return Turn::Over;
@@ -179,14 +193,18 @@ impl Call {
 
     /// What the turn comes to in which an item was refused.
     fn refused<G: Drop, S: Drop>(&mut self, response: &mut Response<G, S>, refused: Refused) -> Turn
-        ensures run { (of_open : G → List Item) (of_shut : S → List Item) (was_placed : S → Bool) → RunsOn self.old (shown of_open of_shut was_placed response.old) self.new (shown of_open of_shut was_placed response.new) }
+        ensures run { (of_open : G → List Item) (of_shut : S → List Item) (was_placed : S → Bool)
+            → RunsOn self.old (shown of_open of_shut was_placed response.old) self.new
+            (shown of_open of_shut was_placed response.new) }
         ensures response { (response.new ≡ response.old) ⊎ (response.new ≡ left response.old) }
         ensures same { SameCall self.old self.new }
         ensures turn { result ≢ turn.Nothing }
         ensures went { result ≡ turn.Went → RunsOut self.old self.new }
         ensures over { result ≡ turn.Over → is_open response.new ≡ false }
-        ensures full { result ≡ turn.Full → (refused ≡ refused_kind.Full) × (response.new ≡ response.old) }
-        ensures left { (response.new ≡ response.old) ⊎ (lacks_memory self.new.handling.ending ≡ true) ⊎ (refused ≡ refused_kind.NotTaken) }
+        ensures full { result ≡ turn.Full
+            → (refused ≡ refused_kind.Full) × (response.new ≡ response.old) }
+        ensures left { (response.new ≡ response.old)
+            ⊎ (lacks_memory self.new.handling.ending ≡ true) ⊎ (refused ≡ refused_kind.NotTaken) }
     {
         match refused {
             Refused::Full => Turn::Full,
@@ -200,11 +218,15 @@ impl Call {
 
     /// Ends the call for want of memory; where it ended so before, without trailers.
     fn run_out<G: Drop, S: Drop>(&mut self, response: &mut Response<G, S>) -> Turn
-        ensures run { (of_open : G → List Item) (of_shut : S → List Item) (was_placed : S → Bool) → RunsOn self.old (shown of_open of_shut was_placed response.old) self.new (shown of_open of_shut was_placed response.new) }
+        ensures run { (of_open : G → List Item) (of_shut : S → List Item) (was_placed : S → Bool)
+            → RunsOn self.old (shown of_open of_shut was_placed response.old) self.new
+            (shown of_open of_shut was_placed response.new) }
         ensures response { (response.new ≡ response.old) ⊎ (response.new ≡ left response.old) }
         ensures same { SameCall self.old self.new }
         ensures went { result ≡ turn.Went → RunsOut self.old self.new }
-        ensures turn { ((result ≡ turn.Went) × (response.new ≡ response.old)) ⊎ ((result ≡ turn.Over) × (response.new ≡ left response.old) × (lacks_memory self.new.handling.ending ≡ true)) }
+        ensures turn { ((result ≡ turn.Went) × (response.new ≡ response.old))
+            ⊎ ((result ≡ turn.Over) × (response.new ≡ left response.old)
+            × (lacks_memory self.new.handling.ending ≡ true)) }
     {
         if self.handling.lacks_memory() {
             response.leave();
@@ -220,17 +242,20 @@ impl Call {
         response: &mut Response<Giver<O>, GivenShut<O>>,
     ) -> Turn
         requires { IsEnding self.old.handling }
-        ensures run { RunsOn self.old (shown (λ g. O.put_in g.tx) (λ s. O.put_shut s.shut) (λ s. O.was_placed s.shut) response.old) self.new (shown (λ g. O.put_in g.tx) (λ s. O.put_shut s.shut) (λ s. O.was_placed s.shut) response.new) }
-        ensures name { name_by (λ g. O.in_name g.tx) (λ s. O.shut_name s.shut) response.new ≡ name_by (λ g. O.in_name g.tx) (λ s. O.shut_name s.shut) response.old }
-        ensures past { name_by (λ g. O.past_in g.tx) (λ s. O.past_shut s.shut) response.new ≡ name_by (λ g. O.past_in g.tx) (λ s. O.past_shut s.shut) response.old }
+        ensures run { RunsOn self.old (given_over response.old) self.new (given_over response.new) }
+        ensures name { lane_of response.new ≡ lane_of response.old }
+        ensures past { past_of response.new ≡ past_of response.old }
         ensures there { is_gone response.new ≡ is_gone response.old }
         ensures same { SameCall self.old self.new }
         ensures turn { result ≢ turn.Nothing }
-        ensures went { result ≡ turn.Went → GivesOne (shown (λ g. O.put_in g.tx) (λ s. O.put_shut s.shut) (λ s. O.was_placed s.shut) response.old) (shown (λ g. O.put_in g.tx) (λ s. O.put_shut s.shut) (λ s. O.was_placed s.shut) response.new)
+        ensures went { result ≡ turn.Went
+            → GivesOne (given_over response.old) (given_over response.new)
             ⊎ RunsOut self.old self.new }
         ensures over { result ≡ turn.Over → is_open response.new ≡ false }
-        ensures left { is_left response.new ≡ true → (is_left response.old ≡ true) ⊎ (lacks_memory self.new.handling.ending ≡ true) ⊎ (O.only_fills ≡ false) }
-        ensures full { result ≡ turn.Full → IsOpenTo (λ g. IsFull (O.room_of (O.in_name g.tx)) (length (O.put_in g.tx)) (O.seen_taken g.tx)) response.new }
+        ensures left { is_left response.new ≡ true
+            → (is_left response.old ≡ true) ⊎ (lacks_memory self.new.handling.ending ≡ true)
+            ⊎ (O.only_fills ≡ false) }
+        ensures full { result ≡ turn.Full → HasNoRoom response.new }
     {
         let Response::Open(giver) = response else {
             return Turn::Over;
@@ -260,7 +285,8 @@ impl Call {
 
     /// The trailers, behind a head or alone, and their status.
     fn trailers(&self, has_head: bool) -> Result<(Sequence<Field>, u32), AllocError>
-        ensures { IfOk result (λ r. HasTrailers has_head self.now.head self.now.handling.ending r.0 r.1) }
+        ensures { IfOk result
+            (λ r. HasTrailers has_head self.now.head self.now.handling.ending r.0 r.1) }
     {
         let Some(ending) = &self.handling.ending else {
             return Err(AllocError);

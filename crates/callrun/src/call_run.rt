@@ -8,11 +8,10 @@ ghost use Rattle.callbox.specs.InSides.{Took};
 ghost use Rattle.handlers.specs.declared.step.Step.{Step};
 ghost use Rattle.handlers.specs.Listed.{listed};
 ghost use Rattle.callrun.specs.declared.call.Turn.TheVariants as turn;
-ghost use Rattle.callrun.specs.Giving.{IsFull};
 ghost use Rattle.callrun.specs.Outcomes.{IsOutcome};
 ghost use Rattle.callrun.specs.Handlings.{IsReady, lacks_memory};
 ghost use Rattle.callrun.specs.Runs.{GivesOf, GivesOne, HasCome, HasRun, Leaves, MayTake, RunsOut, SameCall, TakesAhead, TakesOne, deadline_of};
-ghost use Rattle.callrun.specs.Sides.{IsOpenTo, is_gone, is_left, is_open, is_shut, name_by, shown};
+ghost use Rattle.callrun.specs.Sides.{HasNoRoom, given_over, is_gone, is_left, is_open, is_shut, lane_of, past_of};
 
 use crate::call::{Call, Turn};
 use crate::handling::Handling;
@@ -51,11 +50,14 @@ impl<I: Lane<Item = InPiece>, O: Lane<Item = OutItem>> CallRun<I, O> {
     ) -> CallRun<I, O>
         requires index { index < length (listed methods.now) }
         // Where nothing was taken and nothing given before, no message leads to it.
-        ensures run { IfSome (slice_get (listed methods.now) index) (λ method. taker.progress.told ≡ None → O.put_in giver.tx ≡ []
-            → HasRun ((⟦<dyn Method as Method>⟧ method.vtable).answers method.value) ((⟦<dyn Method as Method>⟧ method.vtable).stands method.value) None [] result.call (shown (λ g. O.put_in g.tx) (λ s. O.put_shut s.shut) (λ s. O.was_placed s.shut) result.response)) }
+        ensures run { IfSome (slice_get (listed methods.now) index)
+            (λ method. taker.progress.told ≡ None → O.put_in giver.tx ≡ []
+            → HasRun ((⟦<dyn Method as Method>⟧ method.vtable).answers method.value)
+            ((⟦<dyn Method as Method>⟧ method.vtable).stands method.value) None [] result.call
+            (given_over result.response)) }
         ensures taker { result.taker ≡ taker }
-        ensures name { name_by (λ g. O.in_name g.tx) (λ s. O.shut_name s.shut) result.response ≡ Some (O.in_name giver.tx) }
-        ensures past { name_by (λ g. O.past_in g.tx) (λ s. O.past_shut s.shut) result.response ≡ Some (O.past_in giver.tx) }
+        ensures name { lane_of result.response ≡ Some (O.in_name giver.tx) }
+        ensures past { past_of result.response ≡ Some (O.past_in giver.tx) }
         ensures index_is { result.index ≡ index }
         ensures hand { result.in_hand ≡ None }
         ensures head { result.call.head ≡ head }
@@ -90,33 +92,53 @@ impl<I: Lane<Item = InPiece>, O: Lane<Item = OutItem>> CallRun<I, O> {
     pub fn turn(&mut self, methods: &Methods, now: u64) -> Turn
         requires index { self.old.index < length (listed methods.now) }
         // Whatever messages led to the call before, they and those that were taken lead to the call after.
-        ensures run { IfSome (slice_get (listed methods.now) self.old.index) (λ method. (messages : List (List ℕ))
+        ensures run { IfSome (slice_get (listed methods.now) self.old.index)
+            (λ method. (messages : List (List ℕ))
             → Took (I.got self.old.taker.rx) self.old.taker.progress messages
-            → HasCome ((⟦<dyn Method as Method>⟧ method.vtable).answers method.value) ((⟦<dyn Method as Method>⟧ method.vtable).stands method.value) self.old.taker.progress.told messages self.old.call self.old.in_hand (shown (λ g. O.put_in g.tx) (λ s. O.put_shut s.shut) (λ s. O.was_placed s.shut) self.old.response)
-            → (more : List (List ℕ)) × Took (I.got self.new.taker.rx) self.new.taker.progress (messages ++ more)
-            × HasCome ((⟦<dyn Method as Method>⟧ method.vtable).answers method.value) ((⟦<dyn Method as Method>⟧ method.vtable).stands method.value) self.new.taker.progress.told (messages ++ more) self.new.call self.new.in_hand (shown (λ g. O.put_in g.tx) (λ s. O.put_shut s.shut) (λ s. O.was_placed s.shut) self.new.response)) }
+            → HasCome ((⟦<dyn Method as Method>⟧ method.vtable).answers method.value)
+            ((⟦<dyn Method as Method>⟧ method.vtable).stands method.value)
+            self.old.taker.progress.told messages self.old.call self.old.in_hand
+            (given_over self.old.response)
+            → (more : List (List ℕ)) × Took (I.got self.new.taker.rx) self.new.taker.progress
+            (messages ++ more)
+            × HasCome ((⟦<dyn Method as Method>⟧ method.vtable).answers method.value)
+            ((⟦<dyn Method as Method>⟧ method.vtable).stands method.value)
+            self.new.taker.progress.told (messages ++ more) self.new.call self.new.in_hand
+            (given_over self.new.response)) }
         ensures in_name { I.out_name self.new.taker.rx ≡ I.out_name self.old.taker.rx }
         ensures in_past { I.past_out self.new.taker.rx ≡ I.past_out self.old.taker.rx }
-        ensures name { name_by (λ g. O.in_name g.tx) (λ s. O.shut_name s.shut) self.new.response ≡ name_by (λ g. O.in_name g.tx) (λ s. O.shut_name s.shut) self.old.response }
-        ensures past { name_by (λ g. O.past_in g.tx) (λ s. O.past_shut s.shut) self.new.response ≡ name_by (λ g. O.past_in g.tx) (λ s. O.past_shut s.shut) self.old.response }
-        ensures same { (self.new.index ≡ self.old.index) × (self.new.call.head ≡ self.old.call.head) × (self.new.call.deadline ≡ self.old.call.deadline) }
+        ensures name { lane_of self.new.response ≡ lane_of self.old.response }
+        ensures past { past_of self.new.response ≡ past_of self.old.response }
+        ensures same { (self.new.index ≡ self.old.index) × (self.new.call.head ≡ self.old.call.head)
+            × (self.new.call.deadline ≡ self.old.call.deadline) }
         // The deadline counts as come only where a moment was not before it.
-        ensures overdue { self.new.call.overdue ≡ true → (self.old.call.overdue ≡ true) ⊎ IsSomeAnd self.old.call.deadline (λ deadline. deadline ≤ now) }
+        ensures overdue { self.new.call.overdue ≡ true
+            → (self.old.call.overdue ≡ true)
+            ⊎ IsSomeAnd self.old.call.deadline (λ deadline. deadline ≤ now) }
         // And where it was not, it does.
-        ensures late { is_open self.old.response ≡ true → IsSomeAnd self.old.call.deadline (λ deadline. deadline ≤ now) → self.new.call.overdue ≡ true }
+        ensures late { is_open self.old.response ≡ true
+            → IsSomeAnd self.old.call.deadline (λ deadline. deadline ≤ now)
+            → self.new.call.overdue ≡ true }
         ensures over { result ≡ turn.Over → is_open self.new.response ≡ false }
         // A call is left without trailers only for want of memory, or by a lane that has other faults than that it is full.
-        ensures left { is_left self.new.response ≡ true → (is_left self.old.response ≡ true) ⊎ (lacks_memory self.new.call.handling.ending ≡ true) ⊎ (O.only_fills ≡ false) }
-        ensures stays_over { is_open self.old.response ≡ false → (result ≡ turn.Over) × (self.new ≡ self.old) }
+        ensures left { is_left self.new.response ≡ true
+            → (is_left self.old.response ≡ true)
+            ⊎ (lacks_memory self.new.call.handling.ending ≡ true) ⊎ (O.only_fills ≡ false) }
+        ensures stays_over { is_open self.old.response ≡ false
+            → (result ≡ turn.Over) × (self.new ≡ self.old) }
         // Something was done: an item was given, or one thing was taken, or memory was wanting, by which the call ends.
-        ensures went { result ≡ turn.Went → GivesOne (shown (λ g. O.put_in g.tx) (λ s. O.put_shut s.shut) (λ s. O.was_placed s.shut) self.old.response) (shown (λ g. O.put_in g.tx) (λ s. O.put_shut s.shut) (λ s. O.was_placed s.shut) self.new.response)
-            ⊎ TakesOne (λ all. Took (I.got self.old.taker.rx) self.old.taker.progress all) (λ all. Took (I.got self.new.taker.rx) self.new.taker.progress all) self.old.taker.progress.told self.new.taker.progress.told
+        ensures went { result ≡ turn.Went
+            → GivesOne (given_over self.old.response) (given_over self.new.response)
+            ⊎ TakesOne (λ all. Took (I.got self.old.taker.rx) self.old.taker.progress all)
+            (λ all. Took (I.got self.new.taker.rx) self.new.taker.progress all)
+            self.old.taker.progress.told self.new.taker.progress.told
             ⊎ RunsOut self.old.call self.new.call }
         // There was nothing to take.
         ensures nothing { result ≡ turn.Nothing → IsUnfinished self.new.taker.progress.splitter
-            × (self.new.taker.progress.shut ≡ None) × (self.new.taker.progress.unread ≡ false) × (I.ahead self.new.taker.rx ≡ []) }
+            × (self.new.taker.progress.shut ≡ None) × (self.new.taker.progress.unread ≡ false)
+            × (I.ahead self.new.taker.rx ≡ []) }
         // As many items wait as there is room for, or more.
-        ensures full { result ≡ turn.Full → IsOpenTo (λ g. IsFull (O.room_of (O.in_name g.tx)) (length (O.put_in g.tx)) (O.seen_taken g.tx)) self.new.response }
+        ensures full { result ≡ turn.Full → HasNoRoom self.new.response }
     {
         let Some(method) = methods.get(self.index) else {
             unreachable!()
@@ -140,13 +162,18 @@ impl<I: Lane<Item = InPiece>, O: Lane<Item = OutItem>> CallRun<I, O> {
     /// ahead, where no item waits to be given and nothing was taken ahead before.
     pub fn is_ready(&mut self) -> bool
         ensures ready { IsTrue result ↔ IsSome self.new.in_hand }
-        ensures ahead { (messages : List (List ℕ)) → Took (I.got self.old.taker.rx) self.old.taker.progress messages
-            → TakesAhead (λ all. Took (I.got self.new.taker.rx) self.new.taker.progress all) messages
-            self.old.in_hand self.old.taker.progress.told self.new.in_hand self.new.taker.progress.told }
-        ensures may { (self.new.in_hand ≡ self.old.in_hand) ⊎ MayTake self.old.in_hand self.new.call (shown (λ g. O.put_in g.tx) (λ s. O.put_shut s.shut) (λ s. O.was_placed s.shut) self.new.response) }
+        ensures ahead { (messages : List (List ℕ))
+            → Took (I.got self.old.taker.rx) self.old.taker.progress messages
+            → TakesAhead (λ all. Took (I.got self.new.taker.rx) self.new.taker.progress all)
+            messages
+            self.old.in_hand self.old.taker.progress.told self.new.in_hand
+            self.new.taker.progress.told }
+        ensures may { (self.new.in_hand ≡ self.old.in_hand)
+            ⊎ MayTake self.old.in_hand self.new.call (given_over self.new.response) }
         ensures in_name { I.out_name self.new.taker.rx ≡ I.out_name self.old.taker.rx }
         ensures in_past { I.past_out self.new.taker.rx ≡ I.past_out self.old.taker.rx }
-        ensures same { (self.new.index ≡ self.old.index) × (self.new.call ≡ self.old.call) × (self.new.response ≡ self.old.response) }
+        ensures same { (self.new.index ≡ self.old.index) × (self.new.call ≡ self.old.call)
+            × (self.new.response ≡ self.old.response) }
     {
         if self.in_hand.is_none() && self.response.is_open() && self.call.handling.is_ready() {
             self.look_ahead();
@@ -157,12 +184,16 @@ impl<I: Lane<Item = InPiece>, O: Lane<Item = OutItem>> CallRun<I, O> {
     /// Takes ahead what there is to take.
     fn look_ahead(&mut self)
         requires { self.old.in_hand ≡ None }
-        ensures ahead { (messages : List (List ℕ)) → Took (I.got self.old.taker.rx) self.old.taker.progress messages
-            → TakesAhead (λ all. Took (I.got self.new.taker.rx) self.new.taker.progress all) messages
-            self.old.in_hand self.old.taker.progress.told self.new.in_hand self.new.taker.progress.told }
+        ensures ahead { (messages : List (List ℕ))
+            → Took (I.got self.old.taker.rx) self.old.taker.progress messages
+            → TakesAhead (λ all. Took (I.got self.new.taker.rx) self.new.taker.progress all)
+            messages
+            self.old.in_hand self.old.taker.progress.told self.new.in_hand
+            self.new.taker.progress.told }
         ensures in_name { I.out_name self.new.taker.rx ≡ I.out_name self.old.taker.rx }
         ensures in_past { I.past_out self.new.taker.rx ≡ I.past_out self.old.taker.rx }
-        ensures same { (self.new.index ≡ self.old.index) × (self.new.call ≡ self.old.call) × (self.new.response ≡ self.old.response) }
+        ensures same { (self.new.index ≡ self.old.index) × (self.new.call ≡ self.old.call)
+            × (self.new.response ≡ self.old.response) }
     {
         match self.taker.take() {
             Taken::Nothing => {}
@@ -173,16 +204,24 @@ impl<I: Lane<Item = InPiece>, O: Lane<Item = OutItem>> CallRun<I, O> {
     /// Gives nothing more, as where the call is no longer live. Each turn answers `Over` from then on.
     pub fn leave(&mut self, methods: &Methods)
         requires index { self.old.index < length (listed methods.now) }
-        ensures run { IfSome (slice_get (listed methods.now) self.old.index) (λ method. (messages : List (List ℕ))
-            → HasCome ((⟦<dyn Method as Method>⟧ method.vtable).answers method.value) ((⟦<dyn Method as Method>⟧ method.vtable).stands method.value) self.old.taker.progress.told messages self.old.call self.old.in_hand (shown (λ g. O.put_in g.tx) (λ s. O.put_shut s.shut) (λ s. O.was_placed s.shut) self.old.response)
-            → HasCome ((⟦<dyn Method as Method>⟧ method.vtable).answers method.value) ((⟦<dyn Method as Method>⟧ method.vtable).stands method.value) self.new.taker.progress.told messages self.new.call self.new.in_hand (shown (λ g. O.put_in g.tx) (λ s. O.put_shut s.shut) (λ s. O.was_placed s.shut) self.new.response)) }
+        ensures run { IfSome (slice_get (listed methods.now) self.old.index)
+            (λ method. (messages : List (List ℕ))
+            → HasCome ((⟦<dyn Method as Method>⟧ method.vtable).answers method.value)
+            ((⟦<dyn Method as Method>⟧ method.vtable).stands method.value)
+            self.old.taker.progress.told messages self.old.call self.old.in_hand
+            (given_over self.old.response)
+            → HasCome ((⟦<dyn Method as Method>⟧ method.vtable).answers method.value)
+            ((⟦<dyn Method as Method>⟧ method.vtable).stands method.value)
+            self.new.taker.progress.told messages self.new.call self.new.in_hand
+            (given_over self.new.response)) }
         // What was given stays.
-        ensures leaves { Leaves (shown (λ g. O.put_in g.tx) (λ s. O.put_shut s.shut) (λ s. O.was_placed s.shut) self.old.response) (shown (λ g. O.put_in g.tx) (λ s. O.put_shut s.shut) (λ s. O.was_placed s.shut) self.new.response) }
-        ensures name { name_by (λ g. O.in_name g.tx) (λ s. O.shut_name s.shut) self.new.response ≡ name_by (λ g. O.in_name g.tx) (λ s. O.shut_name s.shut) self.old.response }
-        ensures past { name_by (λ g. O.past_in g.tx) (λ s. O.past_shut s.shut) self.new.response ≡ name_by (λ g. O.past_in g.tx) (λ s. O.past_shut s.shut) self.old.response }
+        ensures leaves { Leaves (given_over self.old.response) (given_over self.new.response) }
+        ensures name { lane_of self.new.response ≡ lane_of self.old.response }
+        ensures past { past_of self.new.response ≡ past_of self.old.response }
         ensures over { is_open self.new.response ≡ false }
         ensures shut { is_shut self.new.response ≡ is_shut self.old.response }
-        ensures same { (self.new.index ≡ self.old.index) × (self.new.taker ≡ self.old.taker) × SameCall self.old.call self.new.call }
+        ensures same { (self.new.index ≡ self.old.index) × (self.new.taker ≡ self.old.taker)
+            × SameCall self.old.call self.new.call }
     {
         let Some(method) = methods.get(self.index) else {
             unreachable!()
@@ -197,7 +236,8 @@ impl<I: Lane<Item = InPiece>, O: Lane<Item = OutItem>> CallRun<I, O> {
         ensures owed { result ≡ self.old.taker.progress.owed }
         ensures none { self.new.taker.progress ≡ record self.old.taker.progress { owed = 0 } }
         ensures rx { self.new.taker.rx ≡ self.old.taker.rx }
-        ensures same { (self.new.index ≡ self.old.index) × (self.new.call ≡ self.old.call) × (self.new.in_hand ≡ self.old.in_hand) × (self.new.response ≡ self.old.response) }
+        ensures same { (self.new.index ≡ self.old.index) × (self.new.call ≡ self.old.call)
+            × (self.new.in_hand ≡ self.old.in_hand) × (self.new.response ≡ self.old.response) }
     {
         self.taker.credit()
     }
@@ -233,12 +273,16 @@ impl<I: Lane<Item = InPiece>, O: Lane<Item = OutItem>> CallRun<I, O> {
     /// The two ends of the call, and the status of the trailers that were given.
     pub fn into_ends(self) -> (Taker<I>, End<Giver<O>, GivenShut<O>>, Option<u32>)
         // What was given is an outcome of what the method answers.
-        ensures outcome { (answer : Step) → GivesOf self.taker.progress.told answer self.call (shown (λ g. O.put_in g.tx) (λ s. O.put_shut s.shut) (λ s. O.was_placed s.shut) self.response)
-            → IsOutcome self.call.head self.call.overdue self.taker.progress.told answer (of_end (λ g. O.put_in g.tx) (λ s. O.put_shut s.shut) result.1) result.2 }
+        ensures outcome { (answer : Step)
+            → GivesOf self.taker.progress.told answer self.call (given_over self.response)
+            → IsOutcome self.call.head self.call.overdue self.taker.progress.told answer
+            (of_end (λ g. O.put_in g.tx) (λ s. O.put_shut s.shut) result.1) result.2 }
         ensures taker { result.0 ≡ self.taker }
         ensures shut { of_end (λ g. false) (λ s. true) result.1 ≡ is_shut self.response }
-        ensures name { Some (of_end (λ g. O.in_name g.tx) (λ s. O.shut_name s.shut) result.1) ≡ name_by (λ g. O.in_name g.tx) (λ s. O.shut_name s.shut) self.response }
-        ensures past { Some (of_end (λ g. O.past_in g.tx) (λ s. O.past_shut s.shut) result.1) ≡ name_by (λ g. O.past_in g.tx) (λ s. O.past_shut s.shut) self.response }
+        ensures name { Some (of_end (λ g. O.in_name g.tx) (λ s. O.shut_name s.shut) result.1)
+            ≡ lane_of self.response }
+        ensures past { Some (of_end (λ g. O.past_in g.tx) (λ s. O.past_shut s.shut) result.1)
+            ≡ past_of self.response }
     {
         let CallRun {
             taker,
@@ -260,17 +304,26 @@ impl<I: Lane<Item = InPiece>, O: Lane<Item = OutItem>> CallRun<I, O> {
     fn take(&mut self, method: &dyn Method) -> Turn
         requires ready { IsReady self.old.call.handling }
         requires open { is_open self.old.response ≡ true }
-        ensures run { (messages : List (List ℕ)) → Took (I.got self.old.taker.rx) self.old.taker.progress messages
-            → HasRun (answers method.now) (stands method.now) self.old.taker.progress.told messages self.old.call (shown (λ g. O.put_in g.tx) (λ s. O.put_shut s.shut) (λ s. O.was_placed s.shut) self.old.response)
-            → (more : List (List ℕ)) × Took (I.got self.new.taker.rx) self.new.taker.progress (messages ++ more)
-            × HasRun (answers method.now) (stands method.now) self.new.taker.progress.told (messages ++ more) self.new.call (shown (λ g. O.put_in g.tx) (λ s. O.put_shut s.shut) (λ s. O.was_placed s.shut) self.new.response) }
+        ensures run { (messages : List (List ℕ))
+            → Took (I.got self.old.taker.rx) self.old.taker.progress messages
+            → HasRun (answers method.now) (stands method.now) self.old.taker.progress.told messages
+            self.old.call (given_over self.old.response)
+            → (more : List (List ℕ)) × Took (I.got self.new.taker.rx) self.new.taker.progress
+            (messages ++ more)
+            × HasRun (answers method.now) (stands method.now) self.new.taker.progress.told
+            (messages ++ more) self.new.call (given_over self.new.response) }
         ensures in_name { I.out_name self.new.taker.rx ≡ I.out_name self.old.taker.rx }
         ensures in_past { I.past_out self.new.taker.rx ≡ I.past_out self.old.taker.rx }
-        ensures same { (self.new.index ≡ self.old.index) × (self.new.in_hand ≡ self.old.in_hand) × (self.new.response ≡ self.old.response) × SameCall self.old.call self.new.call }
+        ensures same { (self.new.index ≡ self.old.index) × (self.new.in_hand ≡ self.old.in_hand)
+            × (self.new.response ≡ self.old.response) × SameCall self.old.call self.new.call }
         ensures turn { (result ≡ turn.Went) ⊎ (result ≡ turn.Nothing) }
-        ensures went { result ≡ turn.Went → TakesOne (λ all. Took (I.got self.old.taker.rx) self.old.taker.progress all) (λ all. Took (I.got self.new.taker.rx) self.new.taker.progress all) self.old.taker.progress.told self.new.taker.progress.told }
+        ensures went { result ≡ turn.Went
+            → TakesOne (λ all. Took (I.got self.old.taker.rx) self.old.taker.progress all)
+            (λ all. Took (I.got self.new.taker.rx) self.new.taker.progress all)
+            self.old.taker.progress.told self.new.taker.progress.told }
         ensures nothing { result ≡ turn.Nothing → IsUnfinished self.new.taker.progress.splitter
-            × (self.new.taker.progress.shut ≡ None) × (self.new.taker.progress.unread ≡ false) × (I.ahead self.new.taker.rx ≡ []) }
+            × (self.new.taker.progress.shut ≡ None) × (self.new.taker.progress.unread ≡ false)
+            × (I.ahead self.new.taker.rx ≡ []) }
     {
         match self.taker.take() {
             Taken::Nothing => Turn::Nothing,

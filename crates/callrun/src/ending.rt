@@ -43,7 +43,8 @@ impl Ending {
 
     /// The fields of the trailers.
     pub(crate) fn trailers(&self, alloc: Global, head: &CallHead) -> Result<Vec<Field>, AllocError>
-        ensures { IfOk result (λ fields. fields.items ≡ trailing_fields head.now (ends_with self.now)) }
+        ensures { IfOk result (λ fields. fields.items
+            ≡ trailing_fields head.now (ends_with self.now)) }
     {
         status_fields(alloc, self.code(), self.text(), &head.echo_trailing)
     }
@@ -54,7 +55,8 @@ impl Ending {
         alloc: Global,
         head: &CallHead,
     ) -> Result<Vec<Field>, AllocError>
-        ensures { IfOk result (λ fields. fields.items ≡ response_fields [] ++ trailing_fields head.now (ends_with self.now)) }
+        ensures { IfOk result (λ fields. fields.items
+            ≡ response_fields [] ++ trailing_fields head.now (ends_with self.now)) }
     {
         let mut fields = response_fields(alloc, &Texts::from(Vec::new(alloc)))?;
         let mut trailers = self.trailers(alloc, head)?;

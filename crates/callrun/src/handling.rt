@@ -26,7 +26,8 @@ impl Handling {
     /// No message was taken yet.
     pub(crate) fn new(alloc: Global, method: &dyn Method) -> Handling
         ensures lawful { IsLawful (answers method.now) }
-        ensures standing { IsStanding (answers method.now) (stands method.now) None [] result.state }
+        ensures standing { IsStanding (answers method.now)
+            (stands method.now) None [] result.state }
         ensures none { answers method.now [] false nothing }
         ensures ready { IsReady result }
     {
@@ -39,8 +40,10 @@ impl Handling {
 
     /// A message was taken.
     pub(crate) fn message(&mut self, alloc: Global, method: &dyn Method, message: &[u8])
-        ensures answers { (messages : List (List ℕ)) → IsLawful (answers method.now) → IsStanding (answers method.now) (stands method.now) None messages self.old.state
-            → Answers (answers method.now) (stands method.now) None messages (messages ++ message.now ∷ []) self.new }
+        ensures answers { (messages : List (List ℕ)) → IsLawful (answers method.now)
+            → IsStanding (answers method.now) (stands method.now) None messages self.old.state
+            → Answers (answers method.now) (stands method.now) None messages
+            (messages ++ message.now ∷ []) self.new }
     {
         let step = method.message(alloc, &mut self.state, message);
         self.accept(alloc, step);
@@ -48,8 +51,10 @@ impl Handling {
 
     /// The end was told.
     pub(crate) fn end(&mut self, alloc: Global, method: &dyn Method)
-        ensures answers { (messages : List (List ℕ)) → IsLawful (answers method.now) → IsStanding (answers method.now) (stands method.now) None messages self.old.state
-            → Answers (answers method.now) (stands method.now) (Some told_kind.End) messages messages self.new }
+        ensures answers { (messages : List (List ℕ)) → IsLawful (answers method.now)
+            → IsStanding (answers method.now) (stands method.now) None messages self.old.state
+            → Answers (answers method.now) (stands method.now)
+            (Some told_kind.End) messages messages self.new }
     {
         let step = method.end(alloc, &mut self.state);
         self.accept(alloc, step);

@@ -62,7 +62,8 @@ impl Waiting {
 
     /// The next reply.
     pub(crate) fn first(&self) -> Option<Reply>
-        ensures { MatchOption result (self.now ≡ []) (λ reply. (rest : List ReplyOf) × (self.now ≡ reply ∷ rest)) }
+        ensures { MatchOption result (self.now ≡ [])
+            (λ reply. (rest : List ReplyOf) × (self.now ≡ reply ∷ rest)) }
     {
         let reply = self.replies.as_slice().get(self.given)?;
         Some(*reply)
@@ -77,7 +78,8 @@ impl Waiting {
 
     /// The next reply was given.
     pub(crate) fn pass(&mut self)
-        ensures { (reply : ReplyOf) (rest : List ReplyOf) → self.old ≡ reply ∷ rest → self.new ≡ rest }
+        ensures { (reply : ReplyOf) (rest : List ReplyOf) → self.old ≡ reply ∷ rest
+            → self.new ≡ rest }
     {
         if self.given < self.replies.as_slice().len() {
             self.passed = self.passed.saturating_add(1);

@@ -48,4 +48,4 @@ unsent fed messages said given = record { fed = bytes_of fed; shut = shut_of fed
 -- the row of a call of which nothing was taken, and to which nothing was given
 abbrev pub unanswered : ℕ → ℕ → CallReport
 unanswered id method =
-    record { id = id; method = method; messages = 0; bytes = 0; told = None; given = 0; given_bytes = 0; status = None }
+    record { id = id; method = method; fed = 0; shut = None; messages = 0; bytes = 0; told = None; given = 0; given_bytes = 0; status = None }

@@ -1,5 +1,6 @@
 -- What a worker did with the calls of its slot.
-use Rattle.std.specs.Prelude.{◌≡◌, ◌≤◌, ℕ, Bool, List, [], ◌∷◌, ◌++◌, length, Option, None, IfSome, IsSomeAnd, slice_get}
+use Rattle.std.specs.Prelude.{◌≡◌, ◌⊎◌, ◌≤◌, ℕ, Bool, true, nat_eq, List, [], ◌∷◌, ◌++◌, length, Option, None, Some, IfSome, slice_get, All}
+use Rattle.std.specs.List.{list_any}
 use Rattle.lane.specs.Cuts.{segment}
 use Rattle.lane.specs.End.{of_end}
 use Rattle.lane.specs.Ring.{taken}
@@ -14,7 +15,11 @@ use Rattle.handlers.specs.declared.step.Step.{Step}
 use Rattle.callslot.specs.declared.report.CallReport.{CallReport}
 use Rattle.callslot.specs.declared.seen.Seen.{Seen}
 use Rattle.callslot.specs.declared.slot.Job.{Job}
-use Rattle.callslot.specs.Accounts.{IsAnswered}
+use Rattle.callslot.specs.Accounts.{IsAnswered, IsGivenAs}
+
+-- there is a row of the stream of this job
+abbrev pub HasRow : List CallReport → Job → Type 0
+HasRow rows job = list_any (λ row. nat_eq row.id job.id) rows ≡ true
 
 module _ (answers : ℕ → List (List ℕ) → Bool → Step → Type 0) where
   -- Of the call of this job this was got and given, and this is its row.
@@ -26,11 +31,17 @@ module _ (answers : ℕ → List (List ℕ) → Bool → Step → Type 0) where
     pub method : row.method ≡ job.index
     pub answered : IsAnswered answers job.head messages said given row
 
-  -- Each job has its row, in the same order: row number n is of what was got and given of the call of that number. Of a call beyond
-  -- them nothing was given.
+  -- This is the row of one of these jobs, by what was got and given of the call of that number.
+  pub record IsOfJob (gots : List (List InPiece)) (gives : List (List OutItem)) (jobs : List Job) (row : CallReport) : Type 0 where
+    pub number : ℕ
+    pub job : Job
+    pub at : slice_get jobs number ≡ Some job
+    pub stands : Answers (segment gots number) (segment gives number) job row
+
+  -- Each row is of a job. A job without a row was given nothing, but for the word that it was left; a call beyond the jobs nothing at all.
   pub record HaveRows (gots : List (List InPiece)) (gives : List (List OutItem)) (jobs : List Job) (rows : List CallReport) : Type 0 where
-    pub count : length rows ≡ length jobs
-    pub each : (n : ℕ) → IfSome (slice_get jobs n) (λ job. IsSomeAnd (slice_get rows n) (λ row. Answers (segment gots n) (segment gives n) job row))
+    pub each : All (λ row. IsOfJob gots gives jobs row) rows
+    pub left : (n : ℕ) → IfSome (slice_get jobs n) (λ job. HasRow rows job ⊎ IsGivenAs [] (segment gives n))
     pub beyond : (n : ℕ) → length jobs ≤ n → segment gives n ≡ []
 
 -- nothing was got of a call yet, nothing taken, and nothing told
@@ -47,7 +58,6 @@ abbrev pub given_by : Seen → List (List OutItem)
 given_by seen = of_end (λ g. past_in g.tx) (λ s. past_shut s.shut) seen.end
     ++ of_end (λ g. put_in g.tx) (λ s. put_shut s.shut) seen.end ∷ []
 
--- where there was memory for its rows, each job that it took has one
+-- what its rows say of the jobs that it took
 abbrev pub HasRows : (ℕ → List (List ℕ) → Bool → Step → Type 0) → Seen → Type 0
-HasRows answers seen =
-    IfSome seen.calls (λ rows. HaveRows answers (got_by seen) (given_by seen) (taken seen.jobs) rows.items)
+HasRows answers seen = HaveRows answers (got_by seen) (given_by seen) (taken seen.jobs) seen.calls.items

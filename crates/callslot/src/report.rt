@@ -3,7 +3,7 @@
 ghost use Rattle.std.specs.Prelude.{◌≡◌};
 ghost use Rattle.callslot.specs.Accounts.{unanswered};
 
-use account::Told;
+use account::{Shut, Told};
 use h2frame::{ErrorCode, StreamId};
 
 /// What became of a call. A number over the greatest `u64` counts as that.
@@ -13,6 +13,10 @@ pub struct CallReport {
     pub id: StreamId,
     /// Which of the methods it called.
     pub method: usize,
+    /// How many bytes of its DATA were fed to it.
+    pub fed: u64,
+    /// How its client's half was shut, if it was.
+    pub shut: Option<Shut>,
     /// How many messages were taken.
     pub messages: u64,
     /// How many bytes of its DATA came for them.
@@ -35,6 +39,8 @@ impl CallReport {
         CallReport {
             id,
             method,
+            fed: 0,
+            shut: None,
             messages: 0,
             bytes: 0,
             told: None,

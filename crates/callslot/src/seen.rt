@@ -12,6 +12,6 @@ pub struct Seen {
     pub end: End<Giver<OutLane>, GivenShut<OutLane>>,
     /// Where its calls come from.
     pub jobs: RingOut<Job>,
-    /// A row for each call that it took. None where there was no memory for them.
-    pub calls: Option<Vec<CallReport>>,
+    /// The rows of the calls that it took. One for whose row there was no memory has none: it was left at once.
+    pub calls: Vec<CallReport>,
 }

@@ -1,9 +1,13 @@
 -- The rows of a slot's calls.
-use Rattle.std.proofs.Common.{◌≡◌, ◌∙◌, inl, inr, ap, arith, refl, subst, sym, ℕ, ◌+◌, ◌<◌, ◌≤◌, zero, suc, Bool, true, false, List, [], ◌∷◌, ◌++◌, Option, None, Some, length, length-append, slice_get}
+use Rattle.std.proofs.Common.{◌≡◌, ◌∙◌, ◌⊎◌, inl, inr, ap, append-nil, arith, eq-eqb, refl, subst, sym, ℕ, ◌+◌, ◌<◌, ◌≤◌, zero, suc, nat_eq, Bool, true, false, List, [], ◌∷◌, ◌++◌, Option, None, Some, All, length, length-append, slice_get}
 use Rattle.std.proofs.Math.ListN.{get_or-append}
 use Rattle.std.proofs.lemmas.List.{get_or_past, get_or_push}
-use Rattle.std.proofs.lemmas.List.Elements.{All-append, All-cons, All-nil}
-use Rattle.std.specs.Prelude.{IfSome, IsSomeAnd, is_some}
+use Rattle.std.proofs.lemmas.Bool.{cases_lt}
+use Rattle.std.proofs.lemmas.List.Elements.{All-nil, All-push, All-weaker}
+use Rattle.std.proofs.lemmas.List.Folds.{list_any-append}
+use Rattle.std.proofs.lemmas.Option.{slice_get_within}
+use Rattle.std.specs.Prelude.{◌||◌, IfSome}
+use Rattle.std.specs.List.{list_any}
 use mathlib.Core.List.{IsPrefix}
 use Rattle.lane.specs.Cuts.{segment}
 use Rattle.lane.specs.End.{of_end}
@@ -18,40 +22,35 @@ use Rattle.handlers.specs.declared.step.Step.{Step}
 use Rattle.callrun.specs.Outcomes.{Unended}
 use Rattle.callslot.specs.declared.report.CallReport.{CallReport}
 use Rattle.callslot.specs.declared.slot.Job.{Job}
-use Rattle.callslot.specs.Accounts.{IsWithin, unanswered}
-use Rattle.callslot.specs.Workers.{Answers, HaveRows}
+use Rattle.callslot.specs.Accounts.{IsGivenAs, IsWithin, unanswered}
+use Rattle.callslot.specs.Workers.{Answers, HasRow, HaveRows, IsOfJob}
 
--- ---- two lists, place by place
+-- ---- jobs, place by place
 
--- at each place of the first list there is one in the second that fits
-abbrev pub At : {A B : Type 0} → (ℕ → A → B → Type 0) → List A → List B → Type 0
-At P xs ys = (n : ℕ) → IfSome (slice_get xs n) (λ x. IsSomeAnd (slice_get ys n) (λ y. P n x y))
+-- so it is of each element, by its place
+abbrev pub At : {A : Type 0} → (ℕ → A → Type 0) → List A → Type 0
+At P xs = (n : ℕ) → IfSome (slice_get xs n) (P n)
 
-at-push : {A B : Type 0} (P : ℕ → A → B → Type 0) (xs : List A) (ys : List B) (x : A) (y : B) → length ys ≡ length xs → At P xs ys → P (length xs) x y
-    → At P (xs ++ x ∷ []) (ys ++ y ∷ [])
-at-push P [] [] x y same at one zero = one
-at-push P [] [] x y same at one (suc n) = tt
-at-push P [] (b ∷ ys) x y same at one n = absurd (omega (arith, same))
-at-push P (a ∷ xs) [] x y same at one n = absurd (omega (arith, same))
-at-push P (a ∷ xs) (b ∷ ys) x y same at one zero = at zero
-at-push P (a ∷ xs) (b ∷ ys) x y same at one (suc n) = at-push (λ k. P (suc k)) xs ys x y (omega (arith, same)) (λ k. at (suc k)) one n
+at-push : {A : Type 0} (P : ℕ → A → Type 0) (xs : List A) (x : A) → At P xs → P (length xs) x → At P (xs ++ x ∷ [])
+at-push P [] x at one zero = one
+at-push P [] x at one (suc n) = tt
+at-push P (a ∷ xs) x at one zero = at zero
+at-push P (a ∷ xs) x at one (suc n) = at-push (λ k. P (suc k)) xs x (λ k. at (suc k)) one n
 
-at-follows : {A B : Type 0} (P Q : ℕ → A → B → Type 0) (xs : List A) (ys : List B) → ((n : ℕ) (x : A) (y : B) → n < length xs → P n x y → Q n x y)
-    → At P xs ys → At Q xs ys
-at-follows P Q [] ys follows at n = tt
-at-follows P Q (a ∷ xs) [] follows at n = absurd (at zero)
-at-follows P Q (a ∷ xs) (b ∷ ys) follows at zero = follows zero a b (omega arith) (at zero)
-at-follows P Q (a ∷ xs) (b ∷ ys) follows at (suc n) =
-    at-follows (λ k. P (suc k)) (λ k. Q (suc k)) xs ys (λ k x y within. follows (suc k) x y (omega (arith, within))) (λ k. at (suc k)) n
+at-follows : {A : Type 0} (P Q : ℕ → A → Type 0) (xs : List A) → ((n : ℕ) (x : A) → n < length xs → P n x → Q n x) → At P xs → At Q xs
+at-follows P Q [] follows at n = tt
+at-follows P Q (a ∷ xs) follows at zero = follows zero a (omega arith) (at zero)
+at-follows P Q (a ∷ xs) follows at (suc n) =
+    at-follows (λ k. P (suc k)) (λ k. Q (suc k)) xs (λ k x within. follows (suc k) x (omega (arith, within))) (λ k. at (suc k)) n
 
-get-left : {A : Type 0} (P : A → Type 0) (xs ys : List A) (n : ℕ) → IsSomeAnd (slice_get xs n) P → IsSomeAnd (slice_get (xs ++ ys) n) P
-get-left P [] ys n has = absurd has
-get-left P (x ∷ xs) ys zero has = has
-get-left P (x ∷ xs) ys (suc n) has = get-left P xs ys n has
+get-left : {A : Type 0} (xs ys : List A) (n : ℕ) (x : A) → slice_get xs n ≡ Some x → slice_get (xs ++ ys) n ≡ Some x
+get-left [] ys n x is = absurd cc
+get-left (a ∷ xs) ys zero x is = is
+get-left (a ∷ xs) ys (suc n) x is = get-left xs ys n x is
 
-get-last : {A : Type 0} (P : A → Type 0) (xs : List A) (x : A) → P x → IsSomeAnd (slice_get (xs ++ x ∷ []) (length xs)) P
-get-last P [] x has = has
-get-last P (y ∷ xs) x has = get-last P xs x has
+get-last : {A : Type 0} (xs : List A) (x : A) → slice_get (xs ++ x ∷ []) (length xs) ≡ Some x
+get-last [] x = refl
+get-last (a ∷ xs) x = get-last xs x
 
 -- both lists have one more
 pub one_longer : {X Y : Type 0} (xs new_xs : List X) (ys new_ys : List Y) (x : X) (y : Y) → new_xs ≡ xs ++ x ∷ [] → new_ys ≡ ys ++ y ∷ [] → length xs ≡ length ys → length new_xs ≡ length new_ys
@@ -112,9 +111,27 @@ untaken = record { splitter = []; unread = false; shut = None; told = None; take
 took-none : Took [] untaken []
 took-none = record { missing = []; whole = refl; each = λ k d within. absurd (omega (arith, within)); unread = refl; closed = refl; telling = tt; count = refl }
 
+-- ---- the rows so far
+
+still-has : (rows more : List CallReport) (job : Job) → HasRow rows job → HasRow (rows ++ more) job
+still-has rows more job has =
+    list_any-append (λ row. nat_eq row.id job.id) rows more ∙ ap (λ (b : Bool). b || list_any (λ (row : CallReport). nat_eq row.id job.id) more) has
+
+or-true : (a b : Bool) → b ≡ true → (a || b) ≡ true
+or-true true b is = refl
+or-true false b is = is
+
+has-last : (rows : List CallReport) (row : CallReport) (job : Job) → row.id ≡ job.id → HasRow (rows ++ row ∷ []) job
+has-last [] row job is = ap (λ (b : Bool). b || false) (eq-eqb row.id job.id is)
+has-last (first ∷ rows) row job is = or-true (nat_eq first.id job.id) (list_any (λ (r : CallReport). nat_eq r.id job.id) (rows ++ row ∷ [])) (has-last rows row job is)
+
+not-true : (b : Bool) → (b ≡ true → ⊥) → b ≡ false
+not-true true not = absurd (not refl)
+not-true false not = refl
+
 module _ (answers : ℕ → List (List ℕ) → Bool → Step → Type 0) where
-  -- the row of a call to which nothing was given
-  pub none_answered : (got : List InPiece) (given : List OutItem) (job : Job) → given ≡ [] → Answers answers got given job (unanswered job.id job.index)
+  -- the row of a call to which nothing was given, but for the word that it was left
+  pub none_answered : (got : List InPiece) (given : List OutItem) (job : Job) → IsGivenAs [] given → Answers answers got given job (unanswered job.id job.index)
   none_answered got given job none = record {
     messages = [];
     said = None;
@@ -126,7 +143,7 @@ module _ (answers : ℕ → List (List ℕ) → Bool → Step → Type 0) where
       timed = λ late. absurd (cc);
       items = [];
       outcome = λ answer is. Unended [] (answer.replies, refl) (inl (refl, refl)) refl;
-      ends = inl none;
+      ends = none;
       taken = refl;
       told = refl;
     };
@@ -157,95 +174,125 @@ module _ (answers : ℕ → List (List ℕ) → Bool → Step → Type 0) where
   -- ---- the rows of all jobs
 
   -- by other lists of the same segments
-  same_rows : (gots new_gots : List (List InPiece)) (gives new_gives : List (List OutItem)) (jobs : List Job) (rows : List CallReport)
-      → ((n : ℕ) → n < length jobs → segment new_gots n ≡ segment gots n) → ((n : ℕ) → segment new_gives n ≡ segment gives n)
-      → HaveRows answers gots gives jobs rows → HaveRows answers new_gots new_gives jobs rows
-  same_rows gots new_gots gives new_gives jobs rows same_gots same_gives has = record {
-    count = has.count;
-    each = at-follows (λ n j r. Answers answers (segment gots n) (segment gives n) j r) (λ n j r. Answers answers (segment new_gots n) (segment new_gives n) j r) jobs rows
-        (λ n j r within one. of-same (segment gots n) (segment new_gots n) (segment gives n) (segment new_gives n) j r (same_gots n within) (same_gives n) one) has.each;
-    beyond = λ n past. same_gives n ∙ has.beyond n past;
-  }
+  each-same : (gots new_gots : List (List InPiece)) (gives new_gives : List (List OutItem)) (jobs more : List Job) (rows : List CallReport)
+      → ((n : ℕ) → n < length jobs → segment new_gots n ≡ segment gots n) → ((n : ℕ) → n < length jobs → segment new_gives n ≡ segment gives n)
+      → All (λ row. IsOfJob answers gots gives jobs row) rows → All (λ row. IsOfJob answers new_gots new_gives (jobs ++ more) row) rows
+  each-same gots new_gots gives new_gives jobs more rows same_gots same_gives each =
+      All-weaker (λ row. IsOfJob answers gots gives jobs row) (λ row. IsOfJob answers new_gots new_gives (jobs ++ more) row)
+      (λ row one. record {
+        number = one.number;
+        job = one.job;
+        at = get-left jobs more one.number one.job one.at;
+        stands = of-same (segment gots one.number) (segment new_gots one.number) (segment gives one.number) (segment new_gives one.number) one.job row
+            (same_gots one.number (slice_get_within jobs one.number one.job one.at)) (same_gives one.number (slice_get_within jobs one.number one.job one.at)) one.stands;
+      })
+      rows each
 
-  -- one job more, by the same segments
-  one_row : (gots : List (List InPiece)) (gives : List (List OutItem)) (jobs : List Job) (rows : List CallReport) (job : Job) (row : CallReport)
-      → HaveRows answers gots gives jobs rows → Answers answers (segment gots (length jobs)) (segment gives (length jobs)) job row
-      → HaveRows answers gots gives (jobs ++ job ∷ []) (rows ++ row ∷ [])
-  one_row gots gives jobs rows job row has one = record {
-    count = length-append rows (row ∷ []) ∙ (ap (λ (n : ℕ). n + 1) has.count ∙ sym (length-append jobs (job ∷ [])));
-    each = at-push (λ n j r. Answers answers (segment gots n) (segment gives n) j r) jobs rows job row has.count has.each one;
-    beyond = λ n past. has.beyond n (omega (arith, past, length-append jobs (job ∷ [])));
-  }
+  -- what is so of a job without a row
+  abbrev IsLeftOr : List CallReport → List (List OutItem) → ℕ → Job → Type 0
+  IsLeftOr rows gives n job = HasRow rows job ⊎ IsGivenAs [] (segment gives n)
 
-  -- a job that was never begun
-  unbegun_row : (gots : List (List InPiece)) (gives : List (List OutItem)) (jobs : List Job) (rows : List CallReport) (job : Job)
-      → HaveRows answers gots gives jobs rows → HaveRows answers gots gives (jobs ++ job ∷ []) (rows ++ unanswered job.id job.index ∷ [])
-  unbegun_row gots gives jobs rows job has =
-      one_row gots gives jobs rows job (unanswered job.id job.index) has
-      (none_answered (segment gots (length jobs)) (segment gives (length jobs)) job (has.beyond (length jobs) (omega arith)))
+  left-same : (gives new_gives : List (List OutItem)) (jobs : List Job) (rows more : List CallReport) → ((n : ℕ) → n < length jobs → segment new_gives n ≡ segment gives n)
+      → At (IsLeftOr rows gives) jobs → At (IsLeftOr (rows ++ more) new_gives) jobs
+  left-same gives new_gives jobs rows more same_gives left =
+      at-follows (IsLeftOr rows gives) (IsLeftOr (rows ++ more) new_gives) jobs
+      (λ n job within was. elim was [
+        | inl has ↦ inl (still-has rows more job has)
+        | inr given ↦ inr (subst (λ (items : List OutItem). IsGivenAs [] items) (sym (same_gives n within)) given)
+      ])
+      left
+
+  -- the call has its row, or was given nothing, but for the word that it was left
+  abbrev pub Gained : List CallReport → List CallReport → List InPiece → List OutItem → Job → CallReport → Type 0
+  Gained rows new got given job row = ((new ≡ rows ++ row ∷ []) × Answers answers got given job row) ⊎ ((new ≡ rows) × IsGivenAs [] given)
+
+  -- one job more
+  more : (gots new_gots : List (List InPiece)) (gives new_gives : List (List OutItem)) (jobs : List Job) (rows new : List CallReport) (job : Job) (row : CallReport)
+      → ((n : ℕ) → n < length jobs → segment new_gots n ≡ segment gots n) → ((n : ℕ) → n < length jobs → segment new_gives n ≡ segment gives n)
+      → ((n : ℕ) → length jobs < n → segment new_gives n ≡ [])
+      → Gained rows new (segment new_gots (length jobs)) (segment new_gives (length jobs)) job row
+      → HaveRows answers gots gives jobs rows → HaveRows answers new_gots new_gives (jobs ++ job ∷ []) new
+  more gots new_gots gives new_gives jobs rows new job row same_gots same_gives none gained has = elim gained [
+    | inl kept ↦
+        subst (λ (all : List CallReport). HaveRows answers new_gots new_gives (jobs ++ job ∷ []) all) (sym kept.0) (record {
+          each = All-push (λ r. IsOfJob answers new_gots new_gives (jobs ++ job ∷ []) r) rows row
+              (each-same gots new_gots gives new_gives jobs (job ∷ []) rows same_gots same_gives has.each)
+              (record { number = length jobs; job = job; at = get-last jobs job; stands = kept.1 });
+          left = at-push (IsLeftOr (rows ++ row ∷ []) new_gives) jobs job (left-same gives new_gives jobs rows (row ∷ []) same_gives has.left) (inl (has-last rows row job kept.1.id));
+          beyond = λ n past. none n (omega (arith, past, length-append jobs (job ∷ [])));
+        })
+    | inr left ↦
+        subst (λ (all : List CallReport). HaveRows answers new_gots new_gives (jobs ++ job ∷ []) all) (sym left.0) (record {
+          each = each-same gots new_gots gives new_gives jobs (job ∷ []) rows same_gots same_gives has.each;
+          left = at-push (IsLeftOr rows new_gives) jobs job
+              (subst (λ (all : List CallReport). At (IsLeftOr all new_gives) jobs) (append-nil rows) (left-same gives new_gives jobs rows [] same_gives has.left)) (inr left.1);
+          beyond = λ n past. none n (omega (arith, past, length-append jobs (job ∷ [])));
+        })
+  ]
 
   -- ---- one call more of a worker
 
-  -- its call is the last of the segments
-  last_row : (gots : List (List InPiece)) (gives : List (List OutItem)) (all : List InPiece) (given : List OutItem) (jobs : List Job) (rows : List CallReport) (job : Job) (row : CallReport)
-      → length gots ≡ length jobs → length gives ≡ length jobs → HaveRows answers gots gives jobs rows → Answers answers all given job row
-      → HaveRows answers (gots ++ all ∷ []) (gives ++ given ∷ []) (jobs ++ job ∷ []) (rows ++ row ∷ [])
-  last_row gots gives all given jobs rows job row got_each gave_each has one = record {
-    count = length-append rows (row ∷ []) ∙ (ap (λ (n : ℕ). n + 1) has.count ∙ sym (length-append jobs (job ∷ [])));
-    each = at-push (λ n j r. Answers answers (segment (gots ++ all ∷ []) n) (segment (gives ++ given ∷ []) n) j r) jobs rows job row has.count
-        (at-follows (λ n j r. Answers answers (segment gots n) (segment gives n) j r) (λ n j r. Answers answers (segment (gots ++ all ∷ []) n) (segment (gives ++ given ∷ []) n) j r) jobs rows
-        (λ n j r within is. of-same (segment gots n) (segment (gots ++ all ∷ []) n) (segment gives n) (segment (gives ++ given ∷ []) n) j r
-        (segment-before gots all n (omega (arith, within, got_each))) (segment-before gives given n (omega (arith, within, gave_each))) is) has.each)
-        (of-same all (segment (gots ++ all ∷ []) (length jobs)) given (segment (gives ++ given ∷ []) (length jobs)) job row
-        (segment-last gots all (length jobs) got_each) (segment-last gives given (length jobs) gave_each) one);
-    beyond = λ n past. segment-past (gives ++ given ∷ []) n (omega (arith, past, gave_each, length-append jobs (job ∷ []), length-append gives (given ∷ [])));
+  pub no_rows : (rows : List CallReport) (gots : List (List InPiece)) (gives : List (List OutItem)) (jobs : List Job) → rows ≡ [] → gots ≡ [] → gives ≡ [] → jobs ≡ []
+      → HaveRows answers gots gives jobs rows
+  no_rows rows gots gives jobs none no_gots no_gives no_jobs = record {
+    each = subst (λ (all : List CallReport). All (λ row. IsOfJob answers gots gives jobs row) all) (sym none) (All-nil (λ row. IsOfJob answers gots gives jobs row));
+    left = subst (λ (js : List Job). At (IsLeftOr rows gives) js) (sym no_jobs) (λ n. tt);
+    beyond = λ n past. ap (λ (xs : List (List OutItem)). segment xs n) no_gives;
   }
 
-  module _ {V : Type 0} (items : V → List CallReport) where
-    pub no_rows : (calls : Option V) (rows : V) (gots : List (List InPiece)) (gives : List (List OutItem)) (jobs : List Job) → calls ≡ Some rows → items rows ≡ []
-        → gots ≡ [] → gives ≡ [] → jobs ≡ [] → IfSome calls (λ v. HaveRows answers gots gives jobs (items v))
-    no_rows calls rows gots gives jobs some none no_gots no_gives no_jobs =
-        subst (λ (c : Option V). IfSome c (λ v. HaveRows answers gots gives jobs (items v))) (sym some) (record {
-          count = ap length none ∙ sym (ap length no_jobs);
-          each = subst (λ (js : List Job). At (λ n j r. Answers answers (segment gots n) (segment gives n) j r) js (items rows)) (sym no_jobs) (λ n. tt);
-          beyond = λ n past. ap (λ (xs : List (List OutItem)). segment xs n) no_gives;
-        })
+  -- its call was answered, or left
+  pub one_more : (first rows new : List CallReport) (gots new_gots : List (List InPiece)) (gives new_gives : List (List OutItem)) (jobs new_jobs : List Job) (got all : List InPiece) (given : List OutItem) (job : Job) (row : CallReport)
+      → rows ≡ first → Gained rows new got given job row
+      → new_jobs ≡ jobs ++ job ∷ [] → new_gots ≡ gots ++ all ∷ [] → new_gives ≡ gives ++ given ∷ [] → length gots ≡ length jobs → length gives ≡ length jobs
+      → HaveRows answers gots gives jobs first → IsPrefix got all → HaveRows answers new_gots new_gives new_jobs new
+  one_more first rows new gots new_gots gives new_gives jobs new_jobs got all given job row same gained is_jobs is_gots is_gives got_each gave_each has begins =
+      subst (λ (xs : List (List InPiece)). HaveRows answers xs new_gives new_jobs new) (sym is_gots)
+      (subst (λ (xs : List (List OutItem)). HaveRows answers (gots ++ all ∷ []) xs new_jobs new) (sym is_gives)
+      (subst (λ (xs : List Job). HaveRows answers (gots ++ all ∷ []) (gives ++ given ∷ []) xs new) (sym is_jobs)
+      (more gots (gots ++ all ∷ []) gives (gives ++ given ∷ []) jobs rows new job row
+      (λ n within. segment-before gots all n (omega (arith, within, got_each)))
+      (λ n within. segment-before gives given n (omega (arith, within, gave_each)))
+      (λ n past. segment-past (gives ++ given ∷ []) n (omega (arith, past, gave_each, length-append gives (given ∷ []))))
+      (elim gained [
+        | inl kept ↦
+            inl (
+              kept.0,
+              of-same all (segment (gots ++ all ∷ []) (length jobs)) given (segment (gives ++ given ∷ []) (length jobs)) job row
+                  (segment-last gots all (length jobs) got_each) (segment-last gives given (length jobs) gave_each) (drained got all given job row begins kept.1),
+            )
+        | inr left ↦ inr (left.0, subst (λ (items : List OutItem). IsGivenAs [] items) (sym (segment-last gives given (length jobs) gave_each)) left.1)
+      ])
+      (subst (λ (all : List CallReport). HaveRows answers gots gives jobs all) (sym same) has))))
 
-    -- the call was answered
-    pub one_more : (calls after : Option V) (gots new_gots : List (List InPiece)) (gives new_gives : List (List OutItem)) (jobs new_jobs : List Job) (got all : List InPiece) (given : List OutItem) (job : Job) (row : CallReport)
-        → IfSome after (λ rows. IsSomeAnd calls (λ before. items rows ≡ items before ++ row ∷ []))
-        → new_jobs ≡ jobs ++ job ∷ [] → new_gots ≡ gots ++ all ∷ [] → new_gives ≡ gives ++ given ∷ [] → length gots ≡ length jobs → length gives ≡ length jobs
-        → IfSome calls (λ rows. HaveRows answers gots gives jobs (items rows)) → IsPrefix got all → Answers answers got given job row
-        → IfSome after (λ rows. HaveRows answers new_gots new_gives new_jobs (items rows))
-    one_more calls None gots new_gots gives new_gives jobs new_jobs got all given job row more is_jobs is_gots is_gives got_each gave_each has begins one = tt
-    one_more None (Some rows) gots new_gots gives new_gives jobs new_jobs got all given job row more is_jobs is_gots is_gives got_each gave_each has begins one = absurd more
-    one_more (Some before) (Some rows) gots new_gots gives new_gives jobs new_jobs got all given job row more is_jobs is_gots is_gives got_each gave_each has begins one =
-        subst (λ (xs : List (List InPiece)). HaveRows answers xs new_gives new_jobs (items rows)) (sym is_gots)
-        (subst (λ (xs : List (List OutItem)). HaveRows answers (gots ++ all ∷ []) xs new_jobs (items rows)) (sym is_gives)
-        (subst (λ (xs : List Job). HaveRows answers (gots ++ all ∷ []) (gives ++ given ∷ []) xs (items rows)) (sym is_jobs)
-        (subst (λ (xs : List CallReport). HaveRows answers (gots ++ all ∷ []) (gives ++ given ∷ []) (jobs ++ job ∷ []) xs) (sym more)
-        (last_row gots gives all given jobs (items before) job row got_each gave_each has (drained got all given job row begins one)))))
+  -- the call couldn't begin
+  pub not_begun : (first rows : List CallReport) (gots : List (List InPiece)) (gives new_gives : List (List OutItem)) (jobs new_jobs : List Job) (got : List InPiece) (job : Job)
+      → rows ≡ first → new_jobs ≡ jobs ++ job ∷ [] → new_gives ≡ gives → length gots ≡ length jobs
+      → HaveRows answers gots gives jobs first → HaveRows answers (gots ++ got ∷ []) new_gives new_jobs rows
+  not_begun first rows gots gives new_gives jobs new_jobs got job same is_jobs is_gives got_each has =
+      subst (λ (xs : List (List OutItem)). HaveRows answers (gots ++ got ∷ []) xs new_jobs rows) (sym is_gives)
+      (subst (λ (xs : List Job). HaveRows answers (gots ++ got ∷ []) gives xs rows) (sym is_jobs)
+      (more gots (gots ++ got ∷ []) gives gives jobs rows rows job (unanswered job.id job.index)
+      (λ n within. segment-before gots got n (omega (arith, within, got_each))) (λ n within. refl) (λ n past. has.beyond n (omega (arith, past)))
+      (inr (refl, inl (has.beyond (length jobs) (omega arith)))) (subst (λ (all : List CallReport). HaveRows answers gots gives jobs all) (sym same) has)))
 
-    -- the call couldn't begin
-    pub not_begun : (calls after : Option V) (gots : List (List InPiece)) (gives new_gives : List (List OutItem)) (jobs new_jobs : List Job) (got : List InPiece) (job : Job) (row : CallReport)
-        → IfSome after (λ rows. IsSomeAnd calls (λ before. items rows ≡ items before ++ row ∷ []))
-        → new_jobs ≡ jobs ++ job ∷ [] → new_gives ≡ gives → length gots ≡ length jobs → row ≡ unanswered job.id job.index
-        → IfSome calls (λ rows. HaveRows answers gots gives jobs (items rows))
-        → IfSome after (λ rows. HaveRows answers (gots ++ got ∷ []) new_gives new_jobs (items rows))
-    not_begun calls None gots gives new_gives jobs new_jobs got job row more is_jobs is_gives got_each is_row has = tt
-    not_begun None (Some rows) gots gives new_gives jobs new_jobs got job row more is_jobs is_gives got_each is_row has = absurd more
-    not_begun (Some before) (Some rows) gots gives new_gives jobs new_jobs got job row more is_jobs is_gives got_each is_row has =
-        subst (λ (xs : List (List OutItem)). HaveRows answers (gots ++ got ∷ []) xs new_jobs (items rows)) (sym is_gives)
-        (subst (λ (xs : List Job). HaveRows answers (gots ++ got ∷ []) gives xs (items rows)) (sym is_jobs)
-        (subst (λ (xs : List CallReport). HaveRows answers (gots ++ got ∷ []) gives (jobs ++ job ∷ []) xs) (sym (more ∙ ap (λ (r : CallReport). items before ++ r ∷ []) is_row))
-        (unbegun_row (gots ++ got ∷ []) gives jobs (items before) job
-        (same_rows gots (gots ++ got ∷ []) gives gives jobs (items before) (λ n within. segment-before gots got n (omega (arith, within, got_each))) (λ n. refl) has))))
+  -- no call came
+  pub none_came : (first rows : List CallReport) (gots : List (List InPiece)) (gives new_gives : List (List OutItem)) (jobs new_jobs : List Job) (got : List InPiece)
+      → rows ≡ first → new_jobs ≡ jobs → ((n : ℕ) → segment new_gives n ≡ segment gives n) → length gots ≡ length jobs
+      → HaveRows answers gots gives jobs first → HaveRows answers (gots ++ got ∷ []) new_gives new_jobs rows
+  none_came first rows gots gives new_gives jobs new_jobs got same is_jobs same_gives got_each was =
+      let has = subst (λ (all : List CallReport). HaveRows answers gots gives jobs all) (sym same) was in
+      subst (λ (xs : List Job). HaveRows answers (gots ++ got ∷ []) new_gives xs rows) (sym is_jobs) (record {
+        each = subst (λ (js : List Job). All (λ row. IsOfJob answers (gots ++ got ∷ []) new_gives js row) rows) (append-nil jobs)
+            (each-same gots (gots ++ got ∷ []) gives new_gives jobs [] rows (λ n within. segment-before gots got n (omega (arith, within, got_each))) (λ n within. same_gives n) has.each);
+        left = subst (λ (all : List CallReport). At (IsLeftOr all new_gives) jobs) (append-nil rows) (left-same gives new_gives jobs rows [] (λ n within. same_gives n) has.left);
+        beyond = λ n past. same_gives n ∙ has.beyond n past;
+      })
 
-    -- no call came
-    pub none_came : (calls : Option V) (gots : List (List InPiece)) (gives new_gives : List (List OutItem)) (jobs new_jobs : List Job) (got : List InPiece)
-        → new_jobs ≡ jobs → ((n : ℕ) → segment new_gives n ≡ segment gives n) → length gots ≡ length jobs
-        → IfSome calls (λ rows. HaveRows answers gots gives jobs (items rows)) → IfSome calls (λ rows. HaveRows answers (gots ++ got ∷ []) new_gives new_jobs (items rows))
-    none_came None gots gives new_gives jobs new_jobs got is_jobs same_gives got_each has = tt
-    none_came (Some rows) gots gives new_gives jobs new_jobs got is_jobs same_gives got_each has =
-        subst (λ (xs : List Job). HaveRows answers (gots ++ got ∷ []) new_gives xs (items rows)) (sym is_jobs)
-        (same_rows gots (gots ++ got ∷ []) gives new_gives jobs (items rows) (λ n within. segment-before gots got n (omega (arith, within, got_each))) same_gives has)
+  -- there was room for its row, or it was left
+  pub gained : (has_room : Bool) (len room : ℕ) (rows new : List CallReport) (got : List InPiece) (given : List OutItem) (job : Job) (row : CallReport)
+      → (has_room ≡ true → len < room) → (len < room → new ≡ rows ++ row ∷ []) → (room ≤ len → new ≡ rows) → (has_room ≡ false → IsGivenAs [] given)
+      → Answers answers got given job row → Gained rows new got given job row
+  gained has_room len room rows new got given job row has kept full left one = elim (cases_lt len room) [
+    | inl lt ↦ inl (kept lt, one)
+    | inr past ↦ inr (full past, left (not-true has_room (λ is. let lt = has is in omega (arith, lt, past))))
+  ]

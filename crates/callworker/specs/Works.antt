@@ -1,5 +1,5 @@
 -- What a worker has between two calls, and at its end.
-use Rattle.std.specs.Prelude.{◌≡◌, ℕ, Bool, List, [], ◌∷◌, ◌++◌, length, IfSome}
+use Rattle.std.specs.Prelude.{◌≡◌, ℕ, Bool, List, [], ◌∷◌, ◌++◌, length}
 use Rattle.lane.specs.End.{of_end}
 use Rattle.lane.specs.declared.lane.End.{End}
 use Rattle.lane.specs.Ring as ring
@@ -52,14 +52,13 @@ AreSameEnds before after = (ring_of (out_name after.taker.rx) ≡ ring_of (out_n
     × (giving_ring after.end ≡ giving_ring before.end)
     × (ring.out_name after.jobs ≡ ring.out_name before.jobs)
 
--- Between two calls: each call has its row, and of the next one nothing was got or given yet.
+-- Between two calls: the calls have their rows, and of the next one nothing was got or given yet.
 pub record IsIdle (answers : ℕ → List (List ℕ) → Bool → Step → Type 0) (seen : Seen) : Type 0 where
   pub fresh : IsFresh (got seen.taker.rx) seen.taker.progress
   pub ungiven : given_now seen.end ≡ []
   pub got_each : length (past_out seen.taker.rx) ≡ length (ring.taken seen.jobs)
   pub gave_each : length (given_before seen.end) ≡ length (ring.taken seen.jobs)
-  pub rows : IfSome seen.calls
-      (λ rows. HaveRows answers (past_out seen.taker.rx) (given_before seen.end) (ring.taken seen.jobs) rows.items)
+  pub rows : HaveRows answers (past_out seen.taker.rx) (given_before seen.end) (ring.taken seen.jobs) seen.calls.items
 
 -- what a worker comes to that was given these ends
 abbrev pub HasWorked : (ℕ → List (List ℕ) → Bool → Step → Type 0) → Ends → Seen → Type 0

@@ -1,6 +1,6 @@
 //! What stays of a call that was answered: a worker's ends of the lanes, and the row of the call.
 
-ghost use Rattle.std.specs.Prelude.{◌≡◌, [], ◌∷◌, ◌++◌, IfSome, IsSomeAnd};
+ghost use Rattle.std.specs.Prelude.{◌≡◌, ◌<◌, ◌≤◌, [], ◌∷◌, ◌++◌, true, vec_capacity, vec_len};
 ghost use Rattle.lane.specs.End.{of_end};
 ghost use Rattle.lane.specs.RingLane.{in_name, past_in, past_shut, put_in, put_shut, shut_name};
 ghost use Rattle.callslot.specs.Accounts.{IsGivenAs};
@@ -30,13 +30,25 @@ pub(crate) fn shut_of(end: End<Giver<OutLane>, GivenShut<OutLane>>) -> GivenShut
     }
 }
 
-/// The rows with one more, if there is memory for it.
-pub(crate) fn with_row(calls: Option<Vec<CallReport>>, row: CallReport) -> Option<Vec<CallReport>>
-    ensures { IfSome result (λ rows. IsSomeAnd calls (λ before. rows.items ≡ before.items ++ row ∷ [])) }
+/// Whether there is room for one row more. Where there was none it is made, if there is memory for it.
+pub(crate) fn has_room(calls: &mut Vec<CallReport>) -> bool
+    ensures same { calls.new.items ≡ calls.old.items }
+    ensures room { result ≡ true → vec_len calls.new < vec_capacity calls.new }
 {
-    let mut rows = calls?;
-    match rows.push(row) {
-        Ok(()) => Some(rows),
-        Err(_e) => None,
+    match calls.reserve(1) {
+        Ok(()) => true,
+        Err(_e) => false,
     }
+}
+
+/// The rows with one more, where there is room for it. It takes no memory.
+pub(crate) fn with_row(calls: Vec<CallReport>, row: CallReport) -> Vec<CallReport>
+    ensures kept { vec_len calls < vec_capacity calls → result.items ≡ calls.items ++ row ∷ [] }
+    ensures full { vec_capacity calls ≤ vec_len calls → result.items ≡ calls.items }
+{
+    let mut rows = calls;
+    if rows.len() < rows.capacity() {
+        rows.push_reserved(row);
+    }
+    rows
 }

@@ -1,7 +1,7 @@
 //! What a worker does with its calls.
 //!
-//! `Worker::work` answers one call after another, and hands back the ends of its slot's lanes and of its ring with a row for each
-//! call; `callslot`'s `specs/Workers.antt` has what the rows say of them.
+//! `Worker::work` answers one call after another, and hands back the ends of its slot's lanes and of its ring with the rows of the
+//! calls; `callslot`'s `specs/Workers.antt` has what the rows say of them.
 
 ghost use Rattle.std.specs.Prelude.{◌≡◌, ◌<◌, List, [], ◌∷◌, ◌++◌, true, false, length, IfOk, IfErr, Some};
 ghost use mathlib.Core.List.{IsPrefix};
@@ -9,7 +9,7 @@ ghost use Rattle.lane.specs.RingLane.{got, in_name, next_name, out_name, past_in
 ghost use Rattle.callbox.specs.declared.piece.InPiece.{InPiece};
 ghost use Rattle.handlers.specs.Listed.{listed};
 ghost use Rattle.callrun.specs.Sides.{is_open};
-ghost use Rattle.callslot.specs.Accounts.{answers_by, unanswered};
+ghost use Rattle.callslot.specs.Accounts.{IsGivenAs, answers_by, unanswered};
 ghost use Rattle.callslot.specs.Workers.{Answers, HasRows, IsFresh};
 ghost use Rattle.callworker.specs.Runs.{EndsAs, GoesOn, IsOneCall, IsRowOf, given_past, giver_name};
 ghost use Rattle.callworker.specs.Works.{AreEndsOf, AreSameEnds, IsIdle, IsKnown, IsUnused, given_before, given_now, giving_ring};
@@ -19,7 +19,7 @@ use crate::ends::Ends;
 use crate::gate::Gate;
 use crate::jobs::next_call;
 use crate::pace::{IDLE, Pace, STEP};
-use crate::rows::{Finished, shut_of, with_row};
+use crate::rows::{Finished, has_room, shut_of, with_row};
 use crate::shared::Shared;
 use callbox::{GivenShut, Giver, Taker};
 use callrun::{CallRun, Turn};
@@ -60,7 +60,7 @@ impl<A: Ledger, B: Ledger, C: Ledger, G: Gate + Drop> Worker<A, B, C, G> {
             taker,
             end: End::Open(giver),
             jobs,
-            calls: Some(Vec::new(self.alloc)),
+            calls: Vec::new(self.alloc),
         };
         'calls: for _ in rt.forever() {
             match self.serve::<M, R>(rt, methods, seen) {
@@ -84,6 +84,8 @@ impl<A: Ledger, B: Ledger, C: Ledger, G: Gate + Drop> Worker<A, B, C, G> {
         ensures rows { IfErr result (λ r. HasRows M.known r) }
     {
         let mut seen = seen;
+        // Behind the call's end its row takes no memory.
+        let has_room = has_room(&mut seen.calls);
         let Some(job) = next_call(rt, &self.slot, &mut seen.jobs) else {
             return Err(seen);
         };
@@ -100,11 +102,11 @@ impl<A: Ledger, B: Ledger, C: Ledger, G: Gate + Drop> Worker<A, B, C, G> {
                     taker,
                     end: End::Shut(shut),
                     jobs,
-                    calls: with_row(calls, CallReport::unanswered(job.id, job.index)),
+                    calls,
                 });
             }
         };
-        let mut finished = self.answer(rt, methods, job, taker, giver);
+        let mut finished = self.answer_or_leave(rt, methods, job, taker, giver, has_room);
         let goes_on = self.rest(rt, &mut finished.taker);
         let seen = Seen {
             taker: finished.taker,
@@ -168,6 +170,33 @@ impl<A: Ledger, B: Ledger, C: Ledger, G: Gate + Drop> Worker<A, B, C, G> {
         unreachable!()
     }
 
+    /// Answers a call where there is room for its row. Else it is left, with nothing taken.
+    fn answer_or_leave<R: Wait + Clock>(
+        &self,
+        rt: &R,
+        methods: &Methods,
+        job: Job,
+        taker: Taker<InLane>,
+        giver: Giver<OutLane>,
+        has_room: bool,
+    ) -> Finished
+        requires fresh { IsFresh (got taker.rx) taker.progress }
+        requires ungiven { put_in giver.tx ≡ [] }
+        ensures in_name { out_name result.taker.rx ≡ out_name taker.rx }
+        ensures in_past { past_out result.taker.rx ≡ past_out taker.rx }
+        ensures name { shut_name result.shut.shut ≡ in_name giver.tx }
+        ensures past { past_shut result.shut.shut ≡ past_in giver.tx }
+        ensures answers { Answers
+            (answers_by (λ m. answers (m.vtable, m.value)) (listed methods.now))
+            (got result.taker.rx) (put_shut result.shut.shut) job result.row }
+        ensures left { has_room ≡ false → IsGivenAs [] (put_shut result.shut.shut) }
+    {
+        if has_room {
+            return self.answer(rt, methods, job, taker, giver);
+        }
+        self.pass_over(rt, job.id, job.index, taker, giver)
+    }
+
     /// Answers a call.
     fn answer<R: Wait + Clock>(
         &self,
@@ -183,7 +212,8 @@ impl<A: Ledger, B: Ledger, C: Ledger, G: Gate + Drop> Worker<A, B, C, G> {
         ensures in_past { past_out result.taker.rx ≡ past_out taker.rx }
         ensures name { shut_name result.shut.shut ≡ in_name giver.tx }
         ensures past { past_shut result.shut.shut ≡ past_in giver.tx }
-        ensures answers { Answers (answers_by (λ m. answers (m.vtable, m.value)) (listed methods.now))
+        ensures answers { Answers
+            (answers_by (λ m. answers (m.vtable, m.value)) (listed methods.now))
             (got result.taker.rx) (put_shut result.shut.shut) job result.row }
     {
         let Job {
@@ -201,7 +231,7 @@ impl<A: Ledger, B: Ledger, C: Ledger, G: Gate + Drop> Worker<A, B, C, G> {
         self.end(rt, id, index, run, pace)
     }
 
-    /// Leaves a call whose method isn't there.
+    /// Leaves a call of which nothing was taken.
     fn pass_over(
         &self,
         rt: &impl Wait,
@@ -213,6 +243,7 @@ impl<A: Ledger, B: Ledger, C: Ledger, G: Gate + Drop> Worker<A, B, C, G> {
         ensures taker { result.taker ≡ taker }
         ensures name { shut_name result.shut.shut ≡ in_name giver.tx }
         ensures past { past_shut result.shut.shut ≡ past_in giver.tx }
+        ensures given { IsGivenAs (put_in giver.tx) (put_shut result.shut.shut) }
         ensures row { result.row ≡ unanswered id index }
     {
         let shut = giver.leave();
@@ -234,7 +265,8 @@ impl<A: Ledger, B: Ledger, C: Ledger, G: Gate + Drop> Worker<A, B, C, G> {
         pace: &mut Pace,
     )
         requires index { run.old.index < length (listed methods.now) }
-        ensures goes_on { GoesOn (λ m. answers (m.vtable, m.value)) (λ m. stands (m.vtable, m.value))
+        ensures goes_on { GoesOn (λ m. answers (m.vtable, m.value))
+            (λ m. stands (m.vtable, m.value))
             (listed methods.now) run.old run.new }
         ensures same { IsOneCall run.old run.new }
         ensures over { is_open run.new.response ≡ false }
@@ -274,7 +306,8 @@ impl<A: Ledger, B: Ledger, C: Ledger, G: Gate + Drop> Worker<A, B, C, G> {
         pace: &mut Pace,
     ) -> bool
         requires index { run.old.index < length (listed methods.now) }
-        ensures goes_on { GoesOn (λ m. answers (m.vtable, m.value)) (λ m. stands (m.vtable, m.value))
+        ensures goes_on { GoesOn (λ m. answers (m.vtable, m.value))
+            (λ m. stands (m.vtable, m.value))
             (listed methods.now) run.old run.new }
         ensures same { IsOneCall run.old run.new }
         ensures over { result ≡ false → is_open run.new.response ≡ false }
@@ -351,7 +384,8 @@ impl<A: Ledger, B: Ledger, C: Ledger, G: Gate + Drop> Worker<A, B, C, G> {
         run: &mut CallRun<InLane, OutLane>,
     )
         requires index { run.old.index < length (listed methods.now) }
-        ensures goes_on { GoesOn (λ m. answers (m.vtable, m.value)) (λ m. stands (m.vtable, m.value))
+        ensures goes_on { GoesOn (λ m. answers (m.vtable, m.value))
+            (λ m. stands (m.vtable, m.value))
             (listed methods.now) run.old run.new }
         ensures same { IsOneCall run.old run.new }
         ensures over { is_open run.new.response ≡ false }
@@ -394,14 +428,13 @@ impl<A: Ledger, B: Ledger, C: Ledger, G: Gate + Drop> Worker<A, B, C, G> {
         let shut = shut_of(end);
         self.settle(rt, id, credit, status.is_some());
         let row = CallReport {
-            id,
-            method: index,
             messages: taker.taken(),
             bytes: pace.bytes(),
             told: taker.told(),
             given,
             given_bytes,
             status,
+            ..CallReport::unanswered(id, index)
         };
         Finished { taker, shut, row }
     }

@@ -100,7 +100,8 @@ pub fn run_body<R: ConnRead, W: ConnWrite>(
     requires { 0 < cut }
     ensures ok { OnOk result (Reports (R.remaining input.old) (R.remaining input.new)
         (W.contents output.old) (W.contents output.new)) }
-    ensures err { IfErr result (λ fault. Leaves fault (R.remaining input.old) (R.remaining input.new)
+    ensures err { IfErr result
+        (λ fault. Leaves fault (R.remaining input.old) (R.remaining input.new)
         (W.contents output.old) (W.contents output.new)) }
     ensures unmarked { OnOk result ((R.failed input.new ≡ R.failed input.old)
         × (W.failed output.new ≡ W.failed output.old)) }

@@ -68,7 +68,8 @@ fn run_once<R: Net + Eprint + AllocGlobal, W: ConnWrite>(
     output: &mut W,
 ) -> Result<bool, ReportFault>
     ensures unknown { IsNoName name.now
-        → IfOk result (λ passed. (passed ≡ false) × Appends (W.contents output.old) (W.contents output.new)
+        → IfOk result (λ passed. (passed ≡ false)
+        × Appends (W.contents output.old) (W.contents output.new)
         (line_of name.now (Err UnknownCase))) }
 {
     let answer = try_case(rt, name, target);

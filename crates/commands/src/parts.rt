@@ -42,9 +42,6 @@ where
         output: written,
         ..
     } = serve_connection(rt, alloc, &mut input, written, methods, gate);
-    let Some(written) = written else {
-        return Err(RunFault::OutOfMemory);
-    };
     let report = report(alloc, written.into_inner().bytes.as_slice(), ending)?;
     write_all(output, report.as_bytes())?;
     Ok(())

@@ -54,11 +54,8 @@ impl Reporter {
         ended: Ended,
     ) {
         let Ended { ending, calls } = ended;
-        let lines = match &calls {
-            Some(calls) => calls.len().saturating_add(1),
-            None => 1,
-        };
-        let report = report_of(alloc, peer, methods, ending, calls);
+        let lines = calls.len().saturating_add(1);
+        let report = report_of(alloc, peer, methods, ending, &calls);
         if self.keep(rt, report, lines) {
             self.print_all(rt, alloc);
         }
@@ -110,8 +107,11 @@ impl Waiting {
 
     /// Adds a report of so many lines, if there is room for it. Behind lines that were dropped there is none.
     fn add(&mut self, report: Result<String, AllocError>, lines: usize) -> Result<(), AllocError>
-        ensures added { OnOk result ((self.new.lines ≡ self.old.lines + lines) × (self.new.dropped ≡ self.old.dropped)) }
-        ensures text { OnOk result (IfOk report (λ it. string_bytes self.new.text ≡ string_bytes self.old.text ++ string_bytes it)) }
+        ensures added { OnOk result ((self.new.lines ≡ self.old.lines + lines)
+            × (self.new.dropped ≡ self.old.dropped)) }
+        ensures text { OnOk result
+            (IfOk report (λ it. string_bytes self.new.text
+            ≡ string_bytes self.old.text ++ string_bytes it)) }
         ensures few { OnOk result (self.new.lines ≤ 16384) }
         ensures order { OnOk result (self.old.dropped ≡ 0) }
         ensures unchanged { OnErr result ((string_bytes self.new.text ≡ string_bytes self.old.text)

@@ -1,42 +1,39 @@
 //! What `interop serve --report` tells of a connection: one line of it, and one of each call that was answered on it.
 
-use account::Told;
+use account::{Shut, Told};
 use connection::{CallReport, Ending};
 use handlers::Methods;
 use std::alloc::{AllocError, Global};
 use std::net::SocketAddr;
 
-/// The lines on a connection of this peer that ended so, with these calls; none where there was no memory for all of them.
+/// The lines on a connection of this peer that ended so, with these calls.
 pub fn report_of(
     alloc: Global,
     peer: SocketAddr,
     methods: &Methods,
     ending: Ending,
-    calls: Option<Vec<CallReport>>,
+    calls: &[CallReport],
 ) -> Result<String, AllocError> {
     let mut text = String::new(alloc);
     let how = text_of(ending);
-    let Some(mut calls) = calls else {
-        writeln!(text, "connection {peer} {how} calls unknown")?;
-        return Ok(text);
-    };
-    calls.sort_unstable_by_key(|call| call.id);
     let count = calls.len();
     writeln!(text, "connection {peer} {how} calls {count}")?;
-    for call in &calls {
+    for call in calls {
         tell(&mut text, methods, call)?;
     }
     Ok(text)
 }
 
-/// Tells a call: its stream and method, the messages and bytes that came in and went out, and how it ended.
+/// Tells a call: its stream and method, what it was fed, the messages and bytes that came in and went out, and how it ended.
 fn tell(text: &mut String, methods: &Methods, call: &CallReport) -> Result<(), AllocError> {
     let path = match methods.get(call.method) {
         Some(method) => method.path(),
         None => "-",
     };
+    let id = call.id;
+    write!(text, "call {id:>10} {path:<46} ")?;
+    tell_half(text, call)?;
     let CallReport {
-        id,
         messages,
         bytes,
         given,
@@ -45,7 +42,7 @@ fn tell(text: &mut String, methods: &Methods, call: &CallReport) -> Result<(), A
     } = call;
     write!(
         text,
-        "call {id:>10} {path:<46} in {messages:>8} {bytes:>12} out {given:>8} {given_bytes:>12} "
+        "in {messages:>8} {bytes:>12} out {given:>8} {given_bytes:>12} "
     )?;
     match (call.told, call.status) {
         (Some(Told::Reset(code)), _) => writeln!(text, "reset {code}")?,
@@ -53,6 +50,16 @@ fn tell(text: &mut String, methods: &Methods, call: &CallReport) -> Result<(), A
         (_, None) => writeln!(text, "left")?,
     }
     Ok(())
+}
+
+/// Tells how many bytes of its DATA the call was fed, and how its client's half was shut.
+fn tell_half(text: &mut String, call: &CallReport) -> Result<(), AllocError> {
+    let fed = call.fed;
+    match call.shut {
+        Some(Shut::End) => write!(text, "fed {fed:>12} end "),
+        Some(Shut::Reset(code)) => write!(text, "fed {fed:>12} reset {code} "),
+        None => write!(text, "fed {fed:>12} open "),
+    }
 }
 
 /// How a connection ended, in a word.

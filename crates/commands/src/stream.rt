@@ -52,8 +52,8 @@ impl Write for LinkOutput {
 #[derive(Drop)]
 pub struct Ended {
     pub ending: Ending,
-    /// A row for each call that was admitted; None where there was no memory for all of them.
-    pub calls: Option<Vec<CallReport>>,
+    /// A row for each call that was admitted.
+    pub calls: Vec<CallReport>,
 }
 
 /// Serves a connection to its end, and gives its descriptor back. It fails where nothing was read of it.

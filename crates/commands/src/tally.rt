@@ -85,7 +85,8 @@ pub fn print_tally<W: ConnWrite>(
     output: &mut W,
 ) -> Result<(), ReportFault>
     ensures line { OnOk result
-        (Appends (W.contents output.old) (W.contents output.new) (tally_line name.now tally times)) }
+        (Appends (W.contents output.old) (W.contents output.new)
+        (tally_line name.now tally times)) }
     ensures write_failed { IsErrOf result WriteFailed → W.failed output.new ≡ true }
 {
     let mut text = Vec::new(alloc);

@@ -1,12 +1,16 @@
 -- What the reading thread has heard, one after another.
-use Rattle.std.proofs.Common.{◌≡◌, ◌∙◌, ◌⊎◌, inl, inr, ℕ, Bool, true, false, true≢false, List, [], ◌∷◌, ◌++◌, Option, None, Some, ap, append-nil, refl, subst, sym, map, take}
+use Rattle.std.proofs.Common.{◌≡◌, ◌≢◌, ◌∙◌, ◌⊎◌, inl, inr, ℕ, Bool, true, false, true≢false, List, [], ◌∷◌, ◌++◌, Option, None, Some, ap, append-nil, refl, subst, sym, map, take}
 use Rattle.std.proofs.lemmas.List.{append_assoc, map-append}
 use Rattle.std.specs.Io.KnownBytes.{Consumes, Keeps, ReadConsumes}
 use Rattle.std.specs.Prelude.{IfSome, Result, Ok, Err, is_some}
 use mathlib.Core.List.{IsPrefix}
+use Rattle.callhead.specs.declared.head.CallHead.{CallHead}
 use Rattle.callslot.specs.declared.order.Opened.{Opened}
 use Rattle.callslot.specs.declared.report.Ending.{Ending}
+use Rattle.callslot.specs.declared.report.Ending.TheVariants.{InputEnded, PeerGoaway, ProtocolError, ReadFailed, OutOfMemory}
+use Rattle.h2frame.specs.declared.error_code.ErrorCode.{ErrorCode}
 use Rattle.outwriter.specs.declared.control.Control.{Control}
+use Rattle.outwriter.specs.declared.control.Control.TheVariants as orders
 use Rattle.outwriter.specs.Steps.{Order, order_of}
 use Rattle.session.specs.declared.event.InEvent.{InEvent}
 use Rattle.session.specs.declared.event.InEvent.TheVariants as events
@@ -22,14 +26,14 @@ use Rattle.slots.specs.declared.worker.Worker.{Ghosts as Hands}
 use Rattle.slots.specs.Orders.{ends_at, orders_at, orders_by}
 use Rattle.slots.specs.Readings.{Awaits, Decides, DecidesOn, Reads, ReadsOn, Stands, Stays, orders_in}
 use Rattle.slots.specs.Reports.{AreCalm, AreHeard, IsFront, is_heard_out}
-use Rattle.slots.specs.Steps.{Cause, CutOff, Fate, Step, Told, events_of}
+use Rattle.slots.specs.Steps.{Cause, CutOff, Fate, Step, Told, WasTold, events_of}
 use Rattle.slots.proofs.LetGo.{events-append}
 use Rattle.slots.proofs.Resets.{calm-more, ends-harsh}
 use Rattle.lane.specs.Ring.{put_in}
 use Rattle.connection.specs.declared.orders.Orders.{Orders}
 use Rattle.connection.specs.declared.orders.Outbox.{Outbox}
 use Rattle.connection.specs.declared.orders.Route.{Ghosts}
-use Rattle.connection.specs.Heard.{Acts, Cuts, CutsSome, HasRead, KeptFor, ReadsTo, Tells}
+use Rattle.connection.specs.Heard.{Acts, Cuts, CutsSome, HasPut, HasRead, IsEndedBy, KeptFor, ReadsTo, Tells}
 use Rattle.connection.specs.Puts.{IsSame, Ordered, Puts, PutsAll, order_in, put_of, put_orders}
 
 -- what a core answered to the bytes before
@@ -103,10 +107,57 @@ module _ {A B C N : Type 0} {route : Ghosts N} where
         whole = λ none. is ∙ ordered.whole (sym same.1 ∙ none);
       }
 
+  -- behind these orders that the input has ended, and that no more come
+  pub put-ended : (all : List Order) (old new : Orders A B C N route) → put_of new ≡ put_of old ++ orders.Close ∷ [] → Ordered all old → HasPut all (put_orders new)
+  put-ended all old new put ordered = record {
+    front = put_orders old;
+    begins = ordered.front;
+    closed = ap map_of put ∙ map-append (λ (o : Control Opened). order_of o) (put_of old) (orders.Close ∷ []);
+  }
+
+  pub put-whole : (all : List Order) (old new : Orders A B C N route) → put_of new ≡ put_of old ++ orders.Close ∷ [] → new.has_dropped ≡ old.has_dropped → Ordered all old
+      → new.has_dropped ≡ false → put_orders new ≡ all ++ orders.Close ∷ []
+  put-whole all old new put same ordered none =
+      ap map_of put ∙ (map-append (λ (o : Control Opened). order_of o) (put_of old) (orders.Close ∷ [])
+      ∙ ap (λ (os : List Order). os ++ orders.Close ∷ []) (ordered.whole (sym same ∙ none)))
+
 -- ---- steps
 
 pub silent-more : (more told : List Step) → events_of more ≡ [] → events_of (more ++ told) ≡ events_of told
 silent-more more told silent = events-append more told ∙ (ap (λ (es : List InEvent). events_of told ++ es) silent ∙ append-nil (events_of told))
+
+-- ---- how a step ended the connection
+
+pub ended-more : (ending : Ending) (more told : List Step) → IsEndedBy ending told → IsEndedBy ending (more ++ told)
+ended-more ending [] told is = is
+ended-more ending (step ∷ more) told is = inr (ended-more ending more told is)
+
+pub ended-front : (ending : Ending) (more told : List Step) → IsEndedBy ending more → IsEndedBy ending (more ++ told)
+ended-front ending [] told is = absurd is
+ended-front ending (step ∷ more) told (inl is) = inl is
+ended-front ending (step ∷ more) told (inr is) = inr (ended-front ending more told is)
+
+pub ended-harsh : (ending : Ending) (told : List Step) → IsEndedBy ending told → is_heard_out ending ≡ false
+ended-harsh ending [] is = absurd is
+ended-harsh ending (step ∷ told) (inl is) = subst (λ (found : Option Ending). IfSome found (λ e. is_heard_out e ≡ false)) is (ends-harsh step)
+ended-harsh ending (step ∷ told) (inr is) = ended-harsh ending told is
+
+if-ended : (end : Option Ending) (more told : List Step) → IfSome end (λ e. IsEndedBy e more) → IfSome end (λ e. IsEndedBy e (more ++ told))
+if-ended None more told is = tt
+if-ended (Some ending) more told is = ended-front ending more told is
+
+ended-at : (step : Step) (end : Option Ending) → ends_at step ≡ end → IfSome end (λ e. IsEndedBy e (step ∷ []))
+ended-at step None is = tt
+ended-at step (Some ending) is = inl is
+
+-- the input ended
+pub not-by-error : (end : Ending) → (end ≡ InputEnded) ⊎ (end ≡ PeerGoaway) → (code : ErrorCode) → end ≢ ProtocolError code
+not-by-error end (inl is) code other = cc
+not-by-error end (inr is) code other = cc
+
+pub not-by-fault : (end : Ending) → (end ≡ InputEnded) ⊎ (end ≡ PeerGoaway) → end ≢ ReadFailed
+not-by-fault end (inl is) other = cc
+not-by-fault end (inr is) other = cc
 
 module _ {H : Type 0} {hand : Hands H} {names : List ℕ → ℕ → Type 0} where
   pub reads-same : (told : List Step) (one two : Reading H hand) → two ≡ one → Reads names told one → Reads names told two
@@ -171,7 +222,7 @@ module _ {H : Type 0} {hand : Hands H} {A B C N : Type 0} {route : Ghosts N} {na
           front = ([], refl);
           all = λ none. refl;
           calm = λ none. (sym decision.ends ∙ (sym is ∙ none), tt);
-          harsh = subst (λ (found : Option Ending). IfSome found (λ ending. is_heard_out ending ≡ false)) (sym (is ∙ decision.ends)) (ends-harsh (Told event fate));
+          ended = ended-at (Told event fate) end (sym (is ∙ decision.ends));
           kept = record { reads = done.0; ordered = done.1 kept.ordered };
         },
       )
@@ -185,7 +236,7 @@ module _ {H : Type 0} {hand : Hands H} {A B C N : Type 0} {route : Ghosts N} {na
       front = ([], refl);
       all = λ none. refl;
       calm = λ none. (calm, tt);
-      harsh = tt;
+      ended = tt;
       kept = record {
         reads = reads told kept.reads;
         ordered = subst (λ (os : List Order). Ordered os new) (sym (ap (λ (os : List Order). orders_by told ++ os) (silent told) ∙ append-nil (orders_by told)))
@@ -210,6 +261,13 @@ module _ {H : Type 0} {hand : Hands H} {A B C N : Type 0} {route : Ghosts N} {na
       → ReadsTo names (events.Open job.id job.head ∷ []) end one old two new → ReadsTo names (events.Open given.id given.head ∷ []) end one old two new
   open-as job given end one two old new is reads = subst (λ (j : Job). ReadsTo names (events.Open j.id j.head ∷ []) end one old two new) is reads
 
+  -- of a job that is of this stream, with this head
+  pub open-for : (job : Job) (id : ℕ) (head : CallHead) (end : Option Ending) (one two : Reading H hand) (old new : Orders A B C N route) → job.id ≡ id → job.head ≡ head
+      → ReadsTo names (events.Open job.id job.head ∷ []) end one old two new → ReadsTo names (events.Open id head ∷ []) end one old two new
+  open-for job id head end one two old new same is reads =
+      subst (λ (n : ℕ). ReadsTo names (events.Open n head ∷ []) end one old two new) same
+      (subst (λ (h : CallHead). ReadsTo names (events.Open job.id h ∷ []) end one old two new) is reads)
+
   -- by another end
   pub to-end : (given : List InEvent) (end other : Option Ending) (one two : Reading H hand) (old new : Orders A B C N route) → end ≡ other → ReadsTo names given end one old two new
       → ReadsTo names given other one old two new
@@ -232,13 +290,13 @@ module _ {H : Type 0} {hand : Hands H} {A B C N : Type 0} {route : Ghosts N} {na
           front = subst (λ (es : List InEvent). IsPrefix es given) (sym is) b.1.front;
           all = λ none. is ∙ b.1.all none;
           calm = λ none. calm-more b.0 a.0 (b.1.calm none) a.1.calm;
-          harsh = b.1.harsh;
+          ended = if-ended end b.0 a.0 b.1.ended;
           kept = subst (λ (steps : List Step). KeptFor names steps three new) (sym (append_assoc b.0 a.0 told)) b.1.kept;
         },
       )
 
   pub to-none : (reading : Reading H hand) (orders : Orders A B C N route) → ReadsTo names [] None reading orders reading orders
-  to-none reading orders told kept = ([], record { front = ([], refl); all = λ none. refl; calm = λ none. tt; harsh = tt; kept = kept })
+  to-none reading orders told kept = ([], record { front = ([], refl); all = λ none. refl; calm = λ none. tt; ended = tt; kept = kept })
 
   -- more events
   pub to-then : (first more : List InEvent) (end : Option Ending) (one two three : Reading H hand) (old mid new : Orders A B C N route) → ReadsTo names first None one old two mid
@@ -252,7 +310,7 @@ module _ {H : Type 0} {hand : Hands H} {A B C N : Type 0} {route : Ghosts N} {na
           front = (b.1.front.0, ap (λ (es : List InEvent). es ++ b.1.front.0) is ∙ (append_assoc first (events_of b.0) b.1.front.0 ∙ ap (λ (es : List InEvent). first ++ es) b.1.front.1));
           all = λ none. is ∙ ap (λ (es : List InEvent). first ++ es) (b.1.all none);
           calm = λ none. calm-more b.0 a.0 (b.1.calm none) (a.1.calm refl);
-          harsh = b.1.harsh;
+          ended = if-ended end b.0 a.0 b.1.ended;
           kept = subst (λ (steps : List Step). KeptFor names steps three new) (sym (append_assoc b.0 a.0 told)) b.1.kept;
         },
       )
@@ -267,7 +325,7 @@ module _ {H : Type 0} {hand : Hands H} {A B C N : Type 0} {route : Ghosts N} {na
           front = (a.1.front.0 ++ rest, sym (append_assoc (events_of a.0) a.1.front.0 rest) ∙ ap (λ (es : List InEvent). es ++ rest) a.1.front.1);
           all = λ none. absurd (not-both end is none);
           calm = λ none. absurd (not-both end is none);
-          harsh = a.1.harsh;
+          ended = a.1.ended;
           kept = a.1.kept;
         },
       )
@@ -280,16 +338,31 @@ module _ {H : Type 0} {hand : Hands H} {A B C N : Type 0} {route : Ghosts N} {na
 
   -- all events of these bytes were heard
   pub all-read : (end : Ending) (before : List InEvent) (told : List Step) (bytes given : List ℕ) (core : Core) (reading : Reading H hand) (orders : Orders A B C N route) → given ≡ bytes → Reached bytes before core
-      → events_of told ≡ before → AreCalm told → KeptFor names told reading orders → HasRead names end given told reading orders
-  all-read end before told bytes given core reading orders same reached is calm kept = record {
+      → events_of told ≡ before → AreCalm told → KeptFor names told reading orders → (end ≡ PeerGoaway → WasTold events.PeerGoaway told) → ((code : ErrorCode) → end ≢ ProtocolError code)
+      → HasRead names end given told reading orders
+  all-read end before told bytes given core reading orders same reached is calm kept goaway unfailed = record {
     reads = kept.reads;
     heard = subst (λ (bs : List ℕ). AreHeard end bs (events_of told)) (sym same) (record {
       front = front-some bytes (events_of told) before core reached ([], append-nil (events_of told) ∙ is);
       whole = λ ended. subst (λ (es : List InEvent). Events bytes es) (sym is) (reached_events bytes before core reached);
     });
     calm = λ ended. calm;
-    ordered = λ ended. kept.ordered;
+    ordered = λ spared. kept.ordered;
+    goaway = goaway;
+    failed = λ code failed. absurd (unfailed code failed);
   }
+
+  -- and then the input ended, or could not be read on
+  pub input-read : (end : Ending) (before : List InEvent) (told : List Step) (bytes given : List ℕ) (core : Core) (reading : Reading H hand) (orders : Orders A B C N route) → given ≡ bytes → Reached bytes before core
+      → events_of told ≡ before → AreCalm told → KeptFor names told reading orders → (end ≡ InputEnded) ⊎ (end ≡ PeerGoaway)
+      → (end ≡ PeerGoaway → (steps : List Step) → Reads names steps reading → WasTold events.PeerGoaway steps) → HasRead names end given told reading orders
+  input-read end before told bytes given core reading orders same reached is calm kept input goaway =
+      all-read end before told bytes given core reading orders same reached is calm kept (λ gone. goaway gone told kept.reads) (not-by-error end input)
+
+  pub failed-read : (before : List InEvent) (told : List Step) (bytes given : List ℕ) (core : Core) (reading : Reading H hand) (orders : Orders A B C N route) → given ≡ bytes → Reached bytes before core
+      → events_of told ≡ before → AreCalm told → KeptFor names told reading orders → HasRead names ReadFailed given told reading orders
+  failed-read before told bytes given core reading orders same reached is calm kept =
+      all-read ReadFailed before told bytes given core reading orders same reached is calm kept (λ gone. cc) (λ code failed. cc)
 
   -- some were, and one of them ended the connection
   pub some-read : (end : Ending) (given before : List InEvent) (told : List Step) (bytes : List ℕ) (core : Core) (reading reading_new : Reading H hand) (orders orders_new : Orders A B C N route)
@@ -297,7 +370,7 @@ module _ {H : Type 0} {hand : Hands H} {A B C N : Type 0} {route : Ghosts N} {na
       → KeptFor names told reading orders → (all : List Step) × HasRead names end bytes all reading_new orders_new
   some-read end given before told bytes core reading reading_new orders orders_new reached is reads kept =
       let more = reads told kept in
-      let not : is_heard_out end ≡ true → ⊥ = λ ended. true≢false (sym ended ∙ more.1.harsh) in (
+      let not : is_heard_out end ≡ true → ⊥ = λ out. true≢false (sym out ∙ ended-harsh end more.0 more.1.ended) in (
         more.0 ++ told,
         record {
           reads = more.1.kept.reads;
@@ -310,21 +383,29 @@ module _ {H : Type 0} {hand : Hands H} {A B C N : Type 0} {route : Ghosts N} {na
             whole = λ ended. absurd (not ended);
           };
           calm = λ ended. absurd (not ended);
-          ordered = λ ended. absurd (not ended);
+          ordered = λ spared. more.1.kept.ordered;
+          goaway = λ gone. absurd (not (ap (λ (e : Ending). is_heard_out e) gone));
+          failed = λ code is_so. subst (λ (e : Ending). IsEndedBy e (more.0 ++ told)) is_so (ended-front end more.0 told more.1.ended);
         },
       )
 
+  pub some-sound : (end : Ending) (given : List InEvent) (told : List Step) (reading reading_new : Reading H hand) (orders orders_new : Orders A B C N route)
+      → ReadsTo names given (Some end) reading orders reading_new orders_new → KeptFor names told reading orders → end ≢ ReadFailed
+  some-sound end given told reading reading_new orders orders_new reads kept is =
+      let more = reads told kept in
+      true≢false (sym (ap (λ (e : Ending). is_heard_out e) is) ∙ ended-harsh end more.0 more.1.ended)
+
   -- none of the last bytes were heard
-  pub none-read : (before : List InEvent) (told : List Step) (bytes more : List ℕ) (core : Core) (end : Ending) (reading : Reading H hand) (orders : Orders A B C N route) → is_heard_out end ≡ false
-      → Reached bytes before core → events_of told ≡ before → Reads names told reading → HasRead names end (bytes ++ more) told reading orders
-  none-read before told bytes more core end reading orders other reached is reads =
-      let not : is_heard_out end ≡ true → ⊥ = λ ended. true≢false (sym ended ∙ other) in
-      record {
-        reads = reads;
-        heard = record { front = subst (λ (es : List InEvent). IsFront (bytes ++ more) es) (sym is) (front-before bytes more before core reached); whole = λ ended. absurd (not ended) };
-        calm = λ ended. absurd (not ended);
-        ordered = λ ended. absurd (not ended);
-      }
+  pub none-read : (before : List InEvent) (told : List Step) (bytes more : List ℕ) (core : Core) (reading : Reading H hand) (orders : Orders A B C N route)
+      → Reached bytes before core → events_of told ≡ before → Reads names told reading → HasRead names OutOfMemory (bytes ++ more) told reading orders
+  none-read before told bytes more core reading orders reached is reads = record {
+    reads = reads;
+    heard = record { front = subst (λ (es : List InEvent). IsFront (bytes ++ more) es) (sym is) (front-before bytes more before core reached); whole = λ ended. absurd cc };
+    calm = λ ended. absurd cc;
+    ordered = λ spared. absurd (spared refl);
+    goaway = λ gone. absurd cc;
+    failed = λ code failed. absurd cc;
+  }
 
 -- none came
 pub none-more : (bytes buf : List ℕ) (count : ℕ) → count ≡ 0 → bytes ++ take count buf ≡ bytes
@@ -346,3 +427,7 @@ parts-more before event left rest all parts next =
 -- nothing was put yet
 pub ordered-none : {A B C N : Type 0} {route : Ghosts N} (orders : Orders A B C N route) → put_of orders ≡ [] → Ordered [] orders
 ordered-none orders none = record { front = ([], append-nil (put_orders orders) ∙ ap map_of none); whole = λ undropped. ap map_of none }
+
+pub kept-none : {H : Type 0} {hand : Hands H} {A B C N : Type 0} {route : Ghosts N} {names : List ℕ → ℕ → Type 0} (reading : Reading H hand) (orders : Orders A B C N route) → Reads names [] reading
+    → put_of orders ≡ [] → KeptFor names [] reading orders
+kept-none reading orders reads none = record { reads = reads; ordered = ordered-none orders none }

@@ -1,22 +1,31 @@
--- The report of a connection, of what was heard and of its rows.
-use Rattle.std.proofs.Common.{◌≡◌, ◌≢◌, ◌∙◌, ℕ, Bool, true, false, List, [], ◌∷◌, ◌++◌, Option, None, Some, ap, refl, subst, sym}
-use Rattle.std.specs.Prelude.{IfSome}
-use Rattle.std.proofs.lemmas.List.Elements.{All-weaker}
+-- What became of a connection, of what was heard, ordered and written.
+use Rattle.std.proofs.Common.{◌≡◌, ◌≢◌, ◌∙◌, ◌⊎◌, inl, inr, ℕ, Bool, true, false, true≢false, List, [], ◌∷◌, ◌++◌, Option, None, Some, ap, append-nil, refl, subst, sym}
+use Rattle.std.specs.Prelude.{All, map}
+use Rattle.std.specs.Io.KnownBytes.{Appends}
+use Rattle.std.proofs.lemmas.List.Elements.{All-nil}
 use Rattle.callslot.specs.declared.report.CallReport.{CallReport}
 use Rattle.callslot.specs.declared.report.Ending.{Ending}
 use Rattle.callslot.specs.declared.report.Ending.TheVariants.{InputEnded, PeerGoaway, ProtocolError, ReadFailed, WriteFailed, OutOfMemory}
 use Rattle.h2frame.specs.declared.error_code.ErrorCode.{ErrorCode}
+use Rattle.h2frame.specs.declared.error_code.ErrorCode.TheVariants.{FlowControlError}
 use Rattle.handlers.specs.declared.step.Step.{Step as Answer}
 use Rattle.outwriter.specs.Steps.{Order}
 use Rattle.outwriter.specs.declared.control.Control.TheVariants as orders
 use Rattle.session.specs.declared.event.InEvent.{InEvent}
 use Rattle.session.specs.Events.{Events}
+use Rattle.slots.specs.declared.reading.Reading.{Reading}
+use Rattle.slots.specs.declared.worker.Worker.{Ghosts as Hands}
 use Rattle.slots.specs.Orders.{IsReset, orders_by}
-use Rattle.slots.specs.Reports.{AreAccounted, AreCalm, AreHeard, AreRows, IsAccounted, IsFront, WasResetFor, is_heard_out}
-use Rattle.slots.specs.Steps.{Step, admitted, events_of, IsRising}
+use Rattle.slots.specs.Reports.{AreRows, IsFront, IsReported, is_heard_out}
+use Rattle.slots.specs.Steps.{Step, events_of, reported}
 use Rattle.slots.proofs.Resets.{calm-more, reset-left, reset-ordered}
-use Rattle.connection.specs.Heard.{HasEnded}
-use Rattle.connection.proofs.Heard.{silent-more}
+use Rattle.slotwriter.specs.Written.{HasWritten}
+use Rattle.connection.specs.declared.orders.Orders.{Orders}
+use Rattle.connection.specs.declared.orders.Route.{Ghosts}
+use Rattle.connection.specs.Heard.{EndsOrders, HasEnded, HasRead, IsEndedBy}
+use Rattle.connection.specs.Puts.{put_orders}
+use Rattle.connection.specs.Served.{HasCause, IsServed}
+use Rattle.connection.proofs.Heard.{ended-more, silent-more}
 
 -- what is so unless an error ended the connection
 pub calm-so : (ending : Ending) (P : Type 0) → is_heard_out ending ≡ true → (ending ≢ OutOfMemory → ending ≢ WriteFailed → ((code : ErrorCode) → ending ≢ ProtocolError code) → P) → P
@@ -30,41 +39,99 @@ calm-so OutOfMemory P calm so = absurd cc
 abbrev ending_orders : List Order
 ending_orders = orders.InputEnded ∷ orders.Close ∷ []
 
-module _ (answers : ℕ → List (List ℕ) → Bool → Answer → Type 0) (names : List ℕ → ℕ → Type 0) {V : Type 0} (items : V → List CallReport) (P : List ℕ → Type 0) where
-  -- behind what was read the calls were cut, of which no event tells
-  pub are-accounted : (calls given : Option V) (came : List ℕ) (read ending : Ending) (told cuts : List Step) (all : List Order) → calls ≡ given → (is_heard_out ending ≡ true → ending ≡ read) → P came
-      → AreHeard read came (events_of told) → (is_heard_out read ≡ true → AreCalm told) → HasEnded items answers names told cuts given
-      → (is_heard_out ending ≡ true → is_heard_out read ≡ true → all ≡ orders_by (cuts ++ told) ++ ending_orders)
-      → IfSome calls (λ rows. (bytes : List ℕ) × P bytes × AreAccounted answers names ending bytes all (items rows))
-  are-accounted None given came read ending told cuts all same input p heard calm ended ordered = tt
-  are-accounted (Some report) given came read ending told cuts all same input p heard calm ended ordered =
-      let mine = subst (λ (found : Option V). IfSome found (λ v. AreRows answers names (cuts ++ told) (admitted (cuts ++ told)) (items v))) (sym same) ended.rows in
-      let also : is_heard_out ending ≡ true → is_heard_out read ≡ true = λ out. subst (λ (e : Ending). is_heard_out e ≡ true) (input out) out in
-      let is : events_of (cuts ++ told) ≡ events_of told = silent-more cuts told ended.silent in (
-        came,
-        p,
-        record {
-          told = cuts ++ told;
-          rising = ended.rising;
-          heard = record {
-            front = subst (λ (es : List InEvent). IsFront came es) (sym is) heard.front;
-            whole = λ out. subst (λ (es : List InEvent). Events came es) (sym is) (heard.whole (also out));
-          };
-          calls = mine;
-          ordered = λ out. ordered out (also out);
-          resets = λ out.
-              All-weaker (λ (row : CallReport). IsAccounted answers names (cuts ++ told) row) (λ (row : CallReport). WasResetFor (cuts ++ told) all row.id)
-              (λ row accounted code finished closed.
-              subst (λ (os : List Order). IsReset row.id os) (sym (ordered out (also out)))
-              (reset-left row.id (orders_by (cuts ++ told)) ending_orders
-              (reset-ordered (cuts ++ told) row.id (calm-more cuts told ended.calm (calm (also out))) accounted.known code finished closed)))
-              (items report) mine.each;
-        },
-      )
+-- that the writer blames its peer is no cause of the reader's
+blamed-so : (told : List Step) (read : Ending) (code : ErrorCode) → ((c : ErrorCode) → read ≡ ProtocolError c → IsEndedBy (ProtocolError c) told)
+    → (read ≡ ProtocolError code) ⊎ (code ≡ FlowControlError) → IsEndedBy (ProtocolError code) told ⊎ (code ≡ FlowControlError)
+blamed-so told read code failed (inl is) = inl (failed code is)
+blamed-so told read code failed (inr is) = inr is
 
-  -- with what else is known of the orders
-  pub with-orders : (Q : List Order → Type 0) (calls : Option V) (ending : Ending) (all : List Order) → Q all
-      → IfSome calls (λ rows. (bytes : List ℕ) × P bytes × AreAccounted answers names ending bytes all (items rows))
-      → IfSome calls (λ rows. (every : List Order) × Q every × ((bytes : List ℕ) × P bytes × AreAccounted answers names ending bytes every (items rows)))
-  with-orders Q None ending all so are = tt
-  with-orders Q (Some rows) ending all so are = (all, so, are)
+module _ (answers : ℕ → List (List ℕ) → Bool → Answer → Type 0) (names : List ℕ → ℕ → Type 0) {V W : Type 0} (items : V → List CallReport) (contents : W → Option (List ℕ)) (failed : W → Bool) where
+  -- behind what was read the calls were cut, of which no event tells
+  pub are-served : {H : Type 0} {hand : Hands H} {A B C N : Type 0} {route : Ghosts N} (came : List ℕ) (before : Option (List ℕ)) (read_failed : Bool) (read ending : Ending) (told cuts : List Step)
+      (reading : Reading H hand) (old new : Orders A B C N route) (given calls : V) (device : W) → calls ≡ given → HasRead names read came told reading old
+      → HasEnded items answers names told cuts given → EndsOrders told cuts old new → (is_heard_out ending ≡ true → ending ≡ read)
+      → ((code : ErrorCode) → ending ≡ ProtocolError code → (read ≡ ProtocolError code) ⊎ (code ≡ FlowControlError)) → (ending ≢ OutOfMemory → read ≢ OutOfMemory)
+      → (ending ≢ OutOfMemory → ending ≢ WriteFailed → ((code : ErrorCode) → ending ≢ ProtocolError code) → new.has_dropped ≡ false) → (read ≡ ReadFailed → read_failed ≡ true)
+      → HasWritten contents failed before (put_orders new) (Some ending) device → IsServed items contents failed answers names came before read_failed ending calls device
+  are-served came before read_failed read ending told cuts reading old new given calls device same has ended ends input blamed spared undropped unread written =
+      let is : events_of (cuts ++ told) ≡ events_of told = silent-more cuts told ended.silent in
+      let also : is_heard_out ending ≡ true → is_heard_out read ≡ true = λ out. subst (λ (e : Ending). is_heard_out e ≡ true) (input out) out in
+      let whole : is_heard_out ending ≡ true → put_orders new ≡ orders_by (cuts ++ told) ++ ending_orders =
+      λ out. calm-so ending _ out (λ spares sends calm. (ends (has.ordered (spared spares))).1 (undropped spares sends calm)) in
+      record {
+        told = cuts ++ told;
+        put = put_orders new;
+        heard = record {
+          front = subst (λ (es : List InEvent). IsFront came es) (sym is) has.heard.front;
+          whole = λ out. subst (λ (es : List InEvent). Events came es) (sym is) (has.heard.whole (also out));
+        };
+        rising = ended.rising;
+        calm = λ out. calm-more cuts told ended.calm (has.calm (also out));
+        ordered = λ spares. (ends (has.ordered (spared spares))).0;
+        whole = whole;
+        resets = λ out id known code finished closed.
+            subst (λ (os : List Order). IsReset id os) (sym (whole out))
+            (reset-left id (orders_by (cuts ++ told)) ending_orders (reset-ordered (cuts ++ told) id (calm-more cuts told ended.calm (has.calm (also out))) known code finished closed));
+        written = written;
+        rows = subst (λ (v : V). AreRows answers names (cuts ++ told) (reported (cuts ++ told)) (items v)) (sym same) ended.rows;
+        cause = record {
+          unsent = λ sent. written.marked (ap Some sent);
+          unread = λ fails. unread (sym (input (ap (λ (e : Ending). is_heard_out e) fails)) ∙ fails);
+          goaway = λ gone.
+              let was = has.goaway (sym (input (ap (λ (e : Ending). is_heard_out e) gone)) ∙ gone) in
+              (was.0, was.1, is ∙ was.2);
+          failed = λ code fails. blamed-so (cuts ++ told) read code (λ c by. ended-more (ProtocolError c) cuts told (has.failed c by)) (blamed code fails);
+        };
+      }
+
+  none-rows : (calls : V) → items calls ≡ [] → AreRows answers names [] [] (items calls)
+  none-rows calls is = record {
+    each = subst (λ (rs : List CallReport). All (λ (row : CallReport). IsReported answers names [] row) rs) (sym is) (All-nil (λ (row : CallReport). IsReported answers names [] row));
+    streams = ap (λ (rs : List CallReport). map (λ (row : CallReport). row.id) rs) is;
+  }
+
+  -- no memory was there, and nothing was read
+  pub none-served : (before : Option (List ℕ)) (read_failed : Bool) (ending : Ending) (put : List Order) (calls : V) (device : W) → ending ≡ OutOfMemory
+      → items calls ≡ [] → HasWritten contents failed before put (Some ending) device
+      → IsServed items contents failed answers names [] before read_failed ending calls device
+  none-served before read_failed ending put calls device lacked none written =
+      let not : is_heard_out ending ≡ true → ⊥ = λ out. true≢false (sym out ∙ ap (λ (e : Ending). is_heard_out e) lacked) in
+      record {
+        told = [];
+        put = put;
+        heard = record { front = λ all are. (all, refl); whole = λ out. absurd (not out) };
+        rising = tt;
+        calm = λ out. tt;
+        ordered = λ spared. absurd (spared lacked);
+        whole = λ out. absurd (not out);
+        resets = λ out. absurd (not out);
+        written = written;
+        rows = none-rows calls none;
+        cause = record { unread = λ is. absurd cc; unsent = λ sent. absurd cc; goaway = λ is. absurd cc; failed = λ code is. absurd cc };
+      }
+
+  appends-none : (now : Option (List ℕ)) → Appends now now []
+  appends-none None = tt
+  appends-none (Some bytes) = sym (append-nil bytes)
+
+  -- nothing was written either
+  pub none-written : (device : W) (ending : Ending) → ending ≡ OutOfMemory → HasWritten contents failed (contents device) [] (Some ending) device
+  none-written device ending lacked = record {
+    run = [];
+    lawful = tt;
+    some = record { front = []; rest = []; ends = []; steps = []; orders_are = refl; run_is = refl; took = refl; answered = tt; ended = tt };
+    each = λ spared. absurd (spared (ap Some lacked));
+    others = λ id unopened. ([], (_, [], (refl, refl), refl), inl refl);
+    marked = λ sent. absurd cc;
+    front = ([], ([], refl), appends-none (contents device));
+    whole = λ unmarked. ([], [], refl, appends-none (contents device));
+    all = λ unmarked spared. absurd (spared (ap Some lacked));
+    over = λ unmarked spared. absurd (spared (ap Some lacked));
+  }
+
+  -- the device is as it was
+  pub unbegun : (read_failed : Bool) (ending : Ending) (calls : V) (old device : W) → ending ≡ OutOfMemory → device ≡ old → items calls ≡ []
+      → IsServed items contents failed answers names [] (contents old) read_failed ending calls device
+  unbegun read_failed ending calls old device lacked same none =
+      none-served (contents old) read_failed ending [] calls device lacked none
+      (subst (λ (d : W). HasWritten contents failed (contents d) [] (Some ending) device) same (none-written device ending lacked))

@@ -24,6 +24,8 @@ impl<M: Answering, R: Threads + Drop> Worker for Hand<M, R> {
 
     ghost names = { M.names };
 
+    ghost tells = { Unit {0} };
+
     fn end(self) -> Seen {
         let Hand { rt, thread } = self;
         thread.join(&rt)

@@ -134,7 +134,8 @@ impl<A: Ledger, B: Ledger, C: Ledger, N: Route> Orders<A, B, C, N> {
 
     /// Rings the writer.
     pub(crate) fn ring(&mut self)
-        ensures same { (self.new.outbox ≡ self.old.outbox) × (self.new.has_dropped ≡ self.old.has_dropped) }
+        ensures same { (self.new.outbox ≡ self.old.outbox)
+            × (self.new.has_dropped ≡ self.old.has_dropped) }
     {
         self.are_unrung = false;
         self.shared.writer.ring();

@@ -2,6 +2,7 @@
 
 ghost use Rattle.callhead.specs.declared.head.CallHead.{CallHead as Head};
 ghost use Rattle.std.specs.Prelude.{◌≡◌, ◌<◌, ◌++◌, ◌∷◌, ℕ, List, [], None, Some, Ok, IfOk, IfSome, OnErr, true, vec_capacity, vec_len};
+ghost use Rattle.callslot.specs.declared.report.Ending.TheVariants as ending;
 ghost use Rattle.callworker.specs.Works.{IsKnown};
 ghost use Rattle.handlers.specs.Listed.{listed};
 ghost use Rattle.session.specs.declared.event.InEvent.{InEvent as Event};
@@ -9,7 +10,7 @@ ghost use Rattle.session.specs.declared.event.InEvent.TheVariants as events;
 ghost use Rattle.session.specs.CoreStates.{Reached};
 ghost use Rattle.slots.specs.Calls.{AreNames, IsFirstWith};
 ghost use Rattle.slots.specs.Readings.{Reads};
-ghost use Rattle.slots.specs.Seats.{IsSeat, jobs_of};
+ghost use Rattle.slots.specs.Seats.{IsNext, IsSeat, KeepsNext, jobs_of};
 ghost use Rattle.slots.specs.Steps.{Admitted, Step, Told, events_of};
 ghost use Rattle.callslot.specs.declared.slot.Job.{Job as Called};
 ghost use Rattle.std.specs.Io.KnownBytes.{Consumes};
@@ -106,8 +107,10 @@ where
         input: &mut I,
         methods: &Arc<Methods>,
     ) -> Ending
-        requires known { IsKnown M.known (λ m. answers (m.vtable, m.value)) (listed methods.now.value) }
-        requires named { AreNames (IsFirstWith (λ m. (⟦<dyn Method as Method>⟧ m.vtable).name m.value)
+        requires known { IsKnown M.known (λ m. answers (m.vtable, m.value))
+            (listed methods.now.value) }
+        requires named { AreNames
+            (IsFirstWith (λ m. (⟦<dyn Method as Method>⟧ m.vtable).name m.value)
             (listed methods.now.value)) M.names }
         requires came { (intake.old.came.parts ≡ A.parts) × (0 < A.parts) }
         requires calls { (intake.old.calls.parts ≡ B.parts) × (0 < B.parts) }
@@ -115,7 +118,11 @@ where
         ensures calls { (intake.new.calls.parts ≡ B.parts) × (0 < B.parts) }
         ensures heard { KeptFor M.names [] self.old.reading self.old.orders → (came : List ℕ)
             × Consumes (I.remaining input.old) (I.remaining input.new) came
-            × ((told : List Step) × HasRead M.names result came told self.new.reading self.new.orders) }
+            × ((told : List Step) × HasRead M.names result came told self.new.reading
+            self.new.orders) }
+        ensures failed { KeptFor M.names [] self.old.reading self.old.orders
+            → result ≡ ending.ReadFailed
+            → I.failed input.new ≡ true }
     {
         let mut core = InCore::new(self.alloc);
         let mut piece = [0u8; PIECE];
@@ -146,11 +153,11 @@ where
         unreachable!()
     }
 
-    /// Behind the last event: ends all halves and workers, and lets the writer end. The rows of all calls, or none for want of
-    /// memory; and what was ordered.
-    pub(crate) fn end(self) -> (Option<Vec<CallReport>>, Orders<A, B, C, N>)
+    /// Behind the last event: ends all halves and workers, and lets the writer end. The rows of all calls, and what was ordered.
+    pub(crate) fn end(self) -> (Vec<CallReport>, Orders<A, B, C, N>)
         ensures { (told : List Step) → Reads M.names told self.reading → (cuts : List Step)
-            × HasEnded (λ rows. rows.items) M.known M.names told cuts result.0 × EndsOrders told cuts self.orders result.1 }
+            × HasEnded (λ rows. rows.items) M.known M.names told cuts result.0
+            × EndsOrders told cuts self.orders result.1 }
     {
         let mut reader = self;
         reader.cut_all();
@@ -170,7 +177,8 @@ where
 
     /// Behind the last event: the calls that their clients neither ended nor reset are cut.
     fn cut_all(&mut self)
-        ensures { CutsSome M.names self.old.reading self.old.orders self.new.reading self.new.orders }
+        ensures { CutsSome M.names self.old.reading self.old.orders self.new.reading
+            self.new.orders }
     {
         'places: for place in 0..self.reading.slots() {
             self.cut_at(place);
@@ -179,7 +187,8 @@ where
 
     /// The same for the slot of this number.
     fn cut_at(&mut self, place: usize)
-        ensures cuts { CutsSome M.names self.old.reading self.old.orders self.new.reading self.new.orders }
+        ensures cuts { CutsSome M.names self.old.reading self.old.orders self.new.reading
+            self.new.orders }
     {
         if let Some(decided) = self.reading.cut_off(place) {
             self.act(decided);
@@ -208,17 +217,22 @@ where
         piece: &[u8],
         methods: &Arc<Methods>,
     ) -> Result<Option<Ending>, AllocError>
-        requires known { IsKnown M.known (λ m. answers (m.vtable, m.value)) (listed methods.now.value) }
-        requires named { AreNames (IsFirstWith (λ m. (⟦<dyn Method as Method>⟧ m.vtable).name m.value)
+        requires known { IsKnown M.known (λ m. answers (m.vtable, m.value))
+            (listed methods.now.value) }
+        requires named { AreNames
+            (IsFirstWith (λ m. (⟦<dyn Method as Method>⟧ m.vtable).name m.value)
             (listed methods.now.value)) M.names }
         requires came { (intake.old.came.parts ≡ A.parts) × (0 < A.parts) }
         requires calls { (intake.old.calls.parts ≡ B.parts) × (0 < B.parts) }
         ensures came { (intake.new.came.parts ≡ A.parts) × (0 < A.parts) }
         ensures calls { (intake.new.calls.parts ≡ B.parts) × (0 < B.parts) }
-        ensures on { IfOk result (λ end. (bytes : List ℕ) (before : List Event) → Reached bytes before core.old
+        ensures on { IfOk result (λ end. (bytes : List ℕ) (before : List Event)
+            → Reached bytes before core.old
             → (given : List Event) × Reached (bytes ++ piece.now) (before ++ given) core.new
-            × ReadsTo M.names given end self.old.reading self.old.orders self.new.reading self.new.orders) }
-        ensures same { OnErr result ((self.new.reading ≡ self.old.reading) × (self.new.orders ≡ self.old.orders)) }
+            × ReadsTo M.names given end self.old.reading self.old.orders self.new.reading
+            self.new.orders) }
+        ensures same { OnErr result ((self.new.reading ≡ self.old.reading)
+            × (self.new.orders ≡ self.old.orders)) }
     {
         let events = core.feed(piece)?;
         let end = self.heed(intake, events, methods);
@@ -247,8 +261,10 @@ where
         events: Vec<InEvent>,
         methods: &Arc<Methods>,
     ) -> Option<Ending>
-        requires known { IsKnown M.known (λ m. answers (m.vtable, m.value)) (listed methods.now.value) }
-        requires named { AreNames (IsFirstWith (λ m. (⟦<dyn Method as Method>⟧ m.vtable).name m.value)
+        requires known { IsKnown M.known (λ m. answers (m.vtable, m.value))
+            (listed methods.now.value) }
+        requires named { AreNames
+            (IsFirstWith (λ m. (⟦<dyn Method as Method>⟧ m.vtable).name m.value)
             (listed methods.now.value)) M.names }
         requires came { (intake.old.came.parts ≡ A.parts) × (0 < A.parts) }
         requires calls { (intake.old.calls.parts ≡ B.parts) × (0 < B.parts) }
@@ -273,8 +289,10 @@ where
         event: InEvent,
         methods: &Arc<Methods>,
     ) -> Option<Ending>
-        requires known { IsKnown M.known (λ m. answers (m.vtable, m.value)) (listed methods.now.value) }
-        requires named { AreNames (IsFirstWith (λ m. (⟦<dyn Method as Method>⟧ m.vtable).name m.value)
+        requires known { IsKnown M.known (λ m. answers (m.vtable, m.value))
+            (listed methods.now.value) }
+        requires named { AreNames
+            (IsFirstWith (λ m. (⟦<dyn Method as Method>⟧ m.vtable).name m.value)
             (listed methods.now.value)) M.names }
         requires came { (intake.old.came.parts ≡ A.parts) × (0 < A.parts) }
         requires calls { (intake.old.calls.parts ≡ B.parts) × (0 < B.parts) }
@@ -353,9 +371,10 @@ where
 
     /// Does what was decided: what is ordered first, then the half that is to be shut. How the connection ends, if it does.
     fn act(&mut self, decided: Decided) -> Option<Ending>
-        ensures acts { Acts M.names decided self.old.reading self.old.orders self.new.reading self.new.orders }
+        ensures acts { Acts M.names decided self.old.reading self.old.orders self.new.reading
+            self.new.orders }
         ensures ends { result ≡ decided.ends }
-        ensures last { self.new.reading.slots.last ≡ self.old.reading.slots.last }
+        ensures next { KeepsNext self.old.reading.slots self.new.reading.slots }
     {
         let rt = self.rt;
         let Decided {
@@ -381,8 +400,10 @@ where
         head: CallHead,
         methods: &Arc<Methods>,
     ) -> Option<Ending>
-        requires known { IsKnown M.known (λ m. answers (m.vtable, m.value)) (listed methods.now.value) }
-        requires named { AreNames (IsFirstWith (λ m. (⟦<dyn Method as Method>⟧ m.vtable).name m.value)
+        requires known { IsKnown M.known (λ m. answers (m.vtable, m.value))
+            (listed methods.now.value) }
+        requires named { AreNames
+            (IsFirstWith (λ m. (⟦<dyn Method as Method>⟧ m.vtable).name m.value)
             (listed methods.now.value)) M.names }
         requires came { (intake.old.came.parts ≡ A.parts) × (0 < A.parts) }
         requires calls { (intake.old.calls.parts ≡ B.parts) × (0 < B.parts) }
@@ -410,9 +431,10 @@ where
         job: Job,
         methods: &Arc<Methods>,
     ) -> Option<Ending>
-        requires known { IsKnown M.known (λ m. answers (m.vtable, m.value)) (listed methods.now.value) }
+        requires known { IsKnown M.known (λ m. answers (m.vtable, m.value))
+            (listed methods.now.value) }
         requires named { M.names job.head.path job.index }
-        requires above { self.old.reading.slots.last < job.id }
+        requires next { IsNext job.id self.old.reading.slots }
         requires came { (intake.old.came.parts ≡ A.parts) × (0 < A.parts) }
         requires calls { (intake.old.calls.parts ≡ B.parts) × (0 < B.parts) }
         ensures came { (intake.new.came.parts ≡ A.parts) × (0 < A.parts) }
@@ -439,14 +461,15 @@ where
     /// Has a worker answer a call that was admitted: that of a free slot, or of a new one. Where there are as many slots as calls may be
     /// live, one of them is at a call that is no longer live, and soon is free.
     fn start(&mut self, job: Job, methods: &Arc<Methods>) -> Option<Ending>
-        requires known { IsKnown M.known (λ m. answers (m.vtable, m.value)) (listed methods.now.value) }
+        requires known { IsKnown M.known (λ m. answers (m.vtable, m.value))
+            (listed methods.now.value) }
         requires named { M.names job.head.path job.index }
-        requires above { self.old.reading.slots.last < job.id }
+        requires next { IsNext job.id self.old.reading.slots }
         ensures reads { ReadsTo M.names (events.Open job.id job.head ∷ []) result
             self.old.reading self.old.orders self.new.reading self.new.orders }
     {
         let rt = self.rt;
-        let id = job.id;
+        let (id, index) = (job.id, job.index);
         let mut job = job;
         'looks: for _ in rt.forever() {
             let mark = self.orders.shared.reader.mark();
@@ -459,7 +482,7 @@ where
                 return self.open_slot(job, methods);
             }
             if self.orders.shared.has_stopped() {
-                return self.turn_away(id, AdmitFault::Draining);
+                return self.pass_over(id, index);
             }
             self.wait(mark);
         }
@@ -478,50 +501,68 @@ where
 
     /// Has the worker of a new slot answer a call. Where there is no memory or no thread for it the connection ends.
     fn open_slot(&mut self, job: Job, methods: &Arc<Methods>) -> Option<Ending>
-        requires known { IsKnown M.known (λ m. answers (m.vtable, m.value)) (listed methods.now.value) }
+        requires known { IsKnown M.known (λ m. answers (m.vtable, m.value))
+            (listed methods.now.value) }
         requires named { M.names job.head.path job.index }
-        requires above { self.old.reading.slots.last < job.id }
+        requires next { IsNext job.id self.old.reading.slots }
         ensures reads { ReadsTo M.names (events.Open job.id job.head ∷ []) result
             self.old.reading self.old.orders self.new.reading self.new.orders }
     {
         let rt = self.rt;
-        let id = job.id;
+        let (id, index) = (job.id, job.index);
         if let Err(AllocError) = self.reading.reserve() {
-            return self.run_out(id);
+            return self.lose(id, index);
         }
         let (shared, gate) = (&self.orders.shared, &self.gate);
         match open_seat(rt, self.alloc, shared, gate, methods, self.start, job) {
-            Ok(made) => self.add(made),
-            Err(AllocError) => self.run_out(id),
+            Ok(made) => self.add(made, index),
+            Err(AllocError) => self.lose(id, index),
         }
     }
 
-    /// A call begins in a new slot.
-    fn add(&mut self, made: Made<M, R>) -> Option<Ending>
-        requires room { vec_len self.old.reading.slots.seats < vec_capacity self.old.reading.slots.seats }
-        requires above { self.old.reading.slots.last < made.seat.id }
-        ensures reads { (job : Called) → made.seat.id ≡ job.id → jobs_of made.seat ≡ job ∷ []
-            → ((told : List Step) → IsSeat M.names (Told (events.Open job.id job.head) Admitted ∷ told) made.seat)
+    /// A call of this method begins in a new slot.
+    fn add(&mut self, made: Made<M, R>, method: usize) -> Option<Ending>
+        requires room { vec_len self.old.reading.slots.seats
+            < vec_capacity self.old.reading.slots.seats }
+        requires next { IsNext made.seat.id self.old.reading.slots }
+        ensures reads { (job : Called) → made.seat.id ≡ job.id → method ≡ job.index
+            → jobs_of made.seat ≡ job ∷ []
+            → ((told : List Step) → IsSeat M.names
+            (Told (events.Open job.id job.head) Admitted ∷ told) made.seat)
             → ReadsTo M.names (events.Open job.id job.head ∷ []) result
             self.old.reading self.old.orders self.new.reading self.new.orders }
     {
-        let decided = self.reading.add(made.seat, made.fresh);
+        let decided = self.reading.add(made.seat, method, made.fresh);
         self.act(decided)
     }
 
-    /// There is no memory, or no thread, for a stream that begins: the connection ends.
-    fn run_out(&mut self, id: StreamId) -> Option<Ending>
-        ensures reads { (head : Head) → ReadsTo M.names (events.Open id head ∷ []) result
+    /// There is no memory, or no thread, for a call of this method, which was admitted: the connection ends.
+    fn lose(&mut self, id: StreamId, method: usize) -> Option<Ending>
+        requires next { IsNext id self.old.reading.slots }
+        ensures reads { (head : Head) → M.names head.path method
+            → ReadsTo M.names (events.Open id head ∷ []) result
             self.old.reading self.old.orders self.new.reading self.new.orders }
     {
-        let decided = self.reading.lack(id);
+        let decided = self.reading.lose(id, method);
+        self.act(decided)
+    }
+
+    /// A call of this method was admitted, and the writer has stopped.
+    fn pass_over(&mut self, id: StreamId, method: usize) -> Option<Ending>
+        requires next { IsNext id self.old.reading.slots }
+        ensures reads { (head : Head) → M.names head.path method
+            → ReadsTo M.names (events.Open id head ∷ []) result
+            self.old.reading self.old.orders self.new.reading self.new.orders }
+    {
+        let decided = self.reading.pass_over(id, method);
         self.act(decided)
     }
 
     /// Cuts the calls that are no longer live, though their clients neither ended nor reset them: before that their slots aren't free.
     fn abandon_all(&mut self)
-        ensures cuts { CutsSome M.names self.old.reading self.old.orders self.new.reading self.new.orders }
-        ensures last { self.new.reading.slots.last ≡ self.old.reading.slots.last }
+        ensures cuts { CutsSome M.names self.old.reading self.old.orders self.new.reading
+            self.new.orders }
+        ensures next { KeepsNext self.old.reading.slots self.new.reading.slots }
     {
         'places: for place in 0..self.reading.slots() {
             self.abandon_at(place);
@@ -530,8 +571,9 @@ where
 
     /// The same for the slot of this number.
     fn abandon_at(&mut self, place: usize)
-        ensures cuts { CutsSome M.names self.old.reading self.old.orders self.new.reading self.new.orders }
-        ensures last { self.new.reading.slots.last ≡ self.old.reading.slots.last }
+        ensures cuts { CutsSome M.names self.old.reading self.old.orders self.new.reading
+            self.new.orders }
+        ensures next { KeepsNext self.old.reading.slots self.new.reading.slots }
     {
         let Some((id, has_trailers)) = self.reading.answered(place) else {
             return;

@@ -1,17 +1,18 @@
 //! One connection from its first byte to its last.
 
-ghost use Rattle.std.specs.Prelude.{◌≡◌, ◌≢◌, ◌<◌, ℕ, List, [], Option, Some, None, false, true, IfOk, IfSome};
+ghost use Rattle.std.specs.Prelude.{◌≡◌, ◌≢◌, ◌⊎◌, ◌<◌, ℕ, List, [], Option, Some, false, true};
 ghost use Rattle.callslot.specs.declared.report.Ending.TheVariants as ending;
 ghost use Rattle.std.specs.Io.KnownBytes.{Consumes};
 ghost use Rattle.handlers.specs.Listed.{listed};
 ghost use Rattle.h2frame.specs.declared.error_code.ErrorCode.{ErrorCode as Code};
+ghost use Rattle.h2frame.specs.declared.error_code.ErrorCode.TheVariants.{FlowControlError};
 ghost use Rattle.callslot.specs.Accounts.{IsWithin, answers_by};
 ghost use Rattle.slots.specs.Calls.{AreNames, IsFirstWith};
-ghost use Rattle.slots.specs.Reports.{AreAccounted, is_heard_out};
+ghost use Rattle.slots.specs.Reports.{is_heard_out};
 ghost use Rattle.lane.specs.Ring.{in_name, out_name, put_in, taken};
-ghost use Rattle.outwriter.specs.Steps.{Order as Ordered};
 ghost use Rattle.slotwriter.specs.Orders.{orders_of};
 ghost use Rattle.slotwriter.specs.Written.{HasWritten};
+ghost use Rattle.connection.specs.Served.{IsServed};
 
 use crate::intake::Intake;
 use crate::orders::{ORDERS, Orders, Route};
@@ -19,11 +20,11 @@ use crate::outlet::Outlet;
 use crate::reader::Reader;
 use crate::served::Served;
 use crate::writer;
-use crate::writer::Writing;
 use callslot::{CallReport, Ending, Order};
 use callworker::{Answering, Gate, Shared};
 use connbook::ConnBook;
 use device::{ConnRead, ConnWrite};
+use h2frame::ErrorCode;
 use handlers::{Method, Methods};
 use lane::{Ring, RingIn, RingOut};
 use slotwriter::Written;
@@ -51,39 +52,66 @@ where
     O: ConnWrite + Send + Drop + 'static,
     G: Gate + Send + Sync + Drop + 'static,
     R: Threads + Wait + Clock + Copy + Send + Sync + Drop + 'static,
-    // What was written are the frames of a lawful run, which obeyed these orders.
-    ensures served { IfSome result.output (λ device. (orders : List Ordered) × HasWritten O.contents O.failed (O.contents output) orders (Some result.ending) device) }
-    // A row for each call, on the lawful account of what came of its stream and was answered by the method that its path names.
-    // Where all that came was heard, a half was reset though END_STREAM came only where a reset of the stream was ordered.
-    ensures calls { IfSome result.calls (λ rows. (orders : List Ordered) × IfSome result.output (HasWritten O.contents O.failed (O.contents output) orders (Some result.ending))
-        × ((came : List ℕ) × Consumes (I.remaining input.old) (I.remaining input.new) came
-        × AreAccounted (answers_by (λ method. answers (method.vtable, method.value)) (listed methods.value))
-        (IsFirstWith (λ method. (⟦<dyn Method as Method>⟧ method.vtable).name method.value) (listed methods.value)) result.ending came orders rows.items)) }
+    // Over one list of what was heard, one of what was ordered, and one run of the writer.
+    ensures served { (came : List ℕ) × Consumes (I.remaining input.old) (I.remaining input.new) came
+        × IsServed (λ rows. rows.items) O.contents O.failed
+        (answers_by (λ method. answers (method.vtable, method.value)) (listed methods.value))
+        (IsFirstWith (λ method. (⟦<dyn Method as Method>⟧ method.vtable).name method.value)
+        (listed methods.value))
+        came (O.contents output) (I.failed input.new) result.ending result.calls result.output }
 {
     let blanks = (Blank::new(1), Blank::new(1), Blank::new(1));
     let Ok(ring) = Ring::open(alloc, ORDERS) else {
-        return unserved();
+        return unserved(alloc, output);
     };
-    match serve_over::<Brand, Brand, Brand, Brand, Brand, I, O, G, R>(
+    serve_over::<Brand, Brand, Brand, Brand, Brand, I, O, G, R>(
         rt, alloc, blanks, ring, input, output, methods, gate,
-    ) {
-        Ok(served) => served,
-        Err(AllocError) => unserved(),
-    }
+    )
 }
 
 /// Out of memory before the connection began.
-fn unserved<O: Drop>() -> Served<O>
-    ensures none { (result.output ≡ None) × (result.calls ≡ None) }
+fn unserved<O: Drop>(alloc: Global, output: O) -> Served<O>
+    ensures ending { result.ending ≡ ending.OutOfMemory }
+    ensures output { result.output ≡ output }
+    ensures calls { result.calls.items ≡ [] }
 {
     Served {
         ending: Ending::OutOfMemory,
-        output: None,
-        calls: None,
+        output,
+        calls: Vec::new(alloc),
     }
 }
 
-/// The same, over ledgers of its own, and a ring for the orders. Out of memory before the connection began nothing was read or written.
+/// What the parts of a connection are begun with, and when it began.
+#[derive(Drop)]
+struct Common<A: Ledger, B: Ledger, C: Ledger, G: Drop> {
+    for_reader: Arc<Shared<A, B, C>>,
+    for_orders: Arc<Shared<A, B, C>>,
+    for_writer: Arc<Shared<A, B, C>>,
+    gate: Arc<G>,
+    start: Instant,
+}
+
+impl<A: Ledger, B: Ledger, C: Ledger, G: Drop> Common<A, B, C, G> {
+    /// Over this book. A clock that can't be read counts as want of memory.
+    fn new(
+        rt: &impl Clock,
+        alloc: Global,
+        book: ConnBook<A, B, C>,
+        gate: &Arc<G>,
+    ) -> Result<Common<A, B, C, G>, AllocError> {
+        let shared = Shared::new(alloc, book)?;
+        Ok(Common {
+            for_orders: Arc::try_clone(&shared)?,
+            for_writer: Arc::try_clone(&shared)?,
+            for_reader: shared,
+            gate: Arc::try_clone(gate)?,
+            start: Instant::now(rt).map_err(|_| AllocError)?,
+        })
+    }
+}
+
+/// The same, over ledgers of its own, and a ring for the orders.
 fn serve_over<A, B, C, M, N, I, O, G, R>(
     rt: R,
     alloc: Global,
@@ -93,7 +121,7 @@ fn serve_over<A, B, C, M, N, I, O, G, R>(
     output: O,
     methods: Arc<Methods>,
     gate: Arc<G>,
-) -> Result<Served<O>, AllocError>
+) -> Served<O>
 where
     A: Ledger + Send + Sync + 'static,
     B: Ledger + Send + Sync + 'static,
@@ -107,39 +135,52 @@ where
     requires received { (blanks.0.name ≡ A.name) × (blanks.0.parts ≡ A.parts) × (0 < A.parts) }
     requires admitted { (blanks.1.name ≡ B.name) × (blanks.1.parts ≡ B.parts) × (0 < B.parts) }
     requires announced { (blanks.2.name ≡ C.name) × (blanks.2.parts ≡ C.parts) × (0 < C.parts) }
-    requires known { IsWithin M.known (answers_by (λ method. answers (method.vtable, method.value)) (listed methods.value)) }
-    requires named { AreNames (IsFirstWith (λ method. (⟦<dyn Method as Method>⟧ method.vtable).name method.value) (listed methods.value)) M.names }
+    requires known { IsWithin M.known
+        (answers_by (λ method. answers (method.vtable, method.value)) (listed methods.value)) }
+    requires named { AreNames
+        (IsFirstWith (λ method. (⟦<dyn Method as Method>⟧ method.vtable).name method.value)
+        (listed methods.value)) M.names }
     requires ring { (N.ring ≡ Some (in_name ring.0)) × (in_name ring.0 ≡ out_name ring.1) }
     requires unused { (put_in ring.0 ≡ []) × (taken ring.1 ≡ []) }
-    ensures served { IfOk result (λ served. IfSome served.output (λ device. (orders : List Ordered) × HasWritten O.contents O.failed (O.contents output) orders (Some served.ending) device)) }
-    ensures calls { IfOk result (λ served. IfSome served.calls (λ rows. (orders : List Ordered) × IfSome served.output (HasWritten O.contents O.failed (O.contents output) orders (Some served.ending))
-        × ((came : List ℕ) × Consumes (I.remaining input.old) (I.remaining input.new) came × AreAccounted M.known M.names served.ending came orders rows.items))) }
+    ensures served { (came : List ℕ) × Consumes (I.remaining input.old) (I.remaining input.new) came
+        × IsServed (λ rows. rows.items) O.contents O.failed M.known M.names
+        came (O.contents output) (I.failed input.new) result.ending result.calls result.output }
 {
     let (received, came) = blanks.0.open::<A>();
     let (admitted, calls) = blanks.1.open::<B>();
     let (announced, told) = blanks.2.open::<C>();
     let book = ConnBook::new(alloc, received, admitted, announced);
-    let shared = Shared::new(alloc, book)?;
+    let Ok(common) = Common::new(&rt, alloc, book, &gate) else {
+        return unserved(alloc, output);
+    };
     let (putting, taking) = ring;
-    let start = Instant::now(&rt).map_err(|_| AllocError)?;
-    let outlet = Outlet::new(Arc::try_clone(&shared)?, told);
-    let orders: Orders<A, B, C, N> = Orders::new(putting, Arc::try_clone(&shared)?);
-    let mut intake = Intake::new(shared, came, calls);
-    let theirs = Arc::try_clone(&gate)?;
-    let mut reader: Reader<A, B, C, M, N, R, G> = Reader::new(rt, alloc, orders, gate, start);
-    let writing = writer::start(rt, alloc, taking, outlet, theirs, output)?;
+    let outlet = Outlet::new(common.for_writer, told);
+    let mut orders: Orders<A, B, C, N> = Orders::new(putting, common.for_orders);
+    let writing = match writer::start(rt, alloc, taking, outlet, common.gate, output, &mut orders) {
+        Ok(writing) => writing,
+        Err(written) => {
+            return meet(Ending::OutOfMemory, Vec::new(alloc), orders, written);
+        }
+    };
+    let mut intake = Intake::new(common.for_reader, came, calls);
+    let mut reader: Reader<A, B, C, M, N, R, G> = Reader::new(
+        rt,
+        alloc,
+        orders,
+        gate,
+        common.start,
+    );
     let read = reader.read(&mut intake, input, &methods);
     let (calls, orders) = reader.end();
-    Ok(meet(&rt, read, calls, orders, writing))
+    meet(read, calls, orders, writing.join(&rt))
 }
 
 /// What became of a connection, where its reader meets its writer.
 fn meet<A, B, C, N, O>(
-    rt: &impl Threads,
     read: Ending,
-    calls: Option<Vec<CallReport>>,
+    calls: Vec<CallReport>,
     orders: Orders<A, B, C, N>,
-    writing: Writing<O>,
+    written: Written<O>,
 ) -> Served<O>
 where
     A: Ledger,
@@ -147,42 +188,57 @@ where
     C: Ledger,
     N: Route,
     O: ConnWrite + Send + Drop + 'static,
-    requires route { N.ring ≡ Some (out_name writing.promise.orders.value) }
+    requires route { N.ring ≡ Some (out_name written.orders) }
     // The orders that were put are those that the run obeyed.
-    ensures served { (before : Option (List ℕ)) → O.contents writing.promise.device.value ≡ before
-        → IfSome result.output (HasWritten O.contents O.failed before (orders_of (put_in orders.outbox.ring)) (Some result.ending)) }
+    ensures written { (before : Option (List ℕ))
+        → HasWritten O.contents O.failed before
+        (orders_of (taken written.orders)) written.ending written.device
+        → HasWritten O.contents O.failed before (orders_of (put_in orders.outbox.ring))
+        (Some result.ending) result.output }
     // None was dropped, unless the ending tells why.
-    ensures dropped { result.ending ≢ ending.OutOfMemory → result.ending ≢ ending.WriteFailed → ((code : Code) → result.ending ≢ ending.ProtocolError code) → orders.has_dropped ≡ false }
+    ensures dropped { result.ending ≢ ending.OutOfMemory → result.ending ≢ ending.WriteFailed
+        → ((code : Code) → result.ending ≢ ending.ProtocolError code) → orders.has_dropped ≡ false }
     ensures calls { result.calls ≡ calls }
     ensures input { is_heard_out result.ending ≡ true → result.ending ≡ read }
+    ensures blamed { (code : Code) → result.ending ≡ ending.ProtocolError code
+        → (read ≡ ending.ProtocolError code) ⊎ (code ≡ FlowControlError) }
+    ensures spared { result.ending ≢ ending.OutOfMemory → read ≢ ending.OutOfMemory }
+    ensures lacked { read ≡ ending.OutOfMemory → result.ending ≡ ending.OutOfMemory }
 {
     let Written {
         ending,
         device,
         orders: rx,
-    } = writing.join(rt);
+        ..
+    } = written;
     let has_dropped = orders.has_dropped;
     let are_all = orders.meet(rx);
-    let ending = by_orders(of_both(read, ending), are_all, has_dropped);
     Served {
-        ending,
-        output: Some(device),
+        ending: by_orders(of_both(read, ending), are_all, has_dropped),
+        output: device,
         calls,
     }
 }
 
-/// How a connection ended, by what the reader and the writer see.
+/// How a connection ended, by what the reader and the writer see. What a writer, or a reader, doesn't end with
+/// counts as want of memory.
 fn of_both(read: Ending, written: Option<Ending>) -> Ending
     ensures memory { written ≡ Some ending.OutOfMemory → result ≡ ending.OutOfMemory }
-    ensures failed { written ≡ Some ending.WriteFailed → result ≢ ending.OutOfMemory → result ≡ ending.WriteFailed }
-    ensures blamed { (code : Code) → written ≡ Some (ending.ProtocolError code) → read ≢ ending.OutOfMemory → result ≡ ending.ProtocolError code }
+    ensures failed { written ≡ Some ending.WriteFailed → result ≢ ending.OutOfMemory
+        → result ≡ ending.WriteFailed }
+    ensures marked { result ≡ ending.WriteFailed → written ≡ Some ending.WriteFailed }
+    ensures blamed { (code : Code) → result ≡ ending.ProtocolError code
+        → (read ≡ ending.ProtocolError code) ⊎ (code ≡ FlowControlError) }
     ensures input { is_heard_out result ≡ true → result ≡ read }
+    ensures lacked { read ≡ ending.OutOfMemory → result ≡ ending.OutOfMemory }
 {
     match (read, written) {
         (Ending::OutOfMemory, _) => Ending::OutOfMemory,
         (_, Some(Ending::OutOfMemory)) => Ending::OutOfMemory,
-        (_, Some(Ending::ProtocolError(code))) => Ending::ProtocolError(code),
-        (_, Some(_)) => Ending::WriteFailed,
+        // The writer blames its peer for nothing but a window that would be too large.
+        (_, Some(Ending::ProtocolError(_))) => Ending::ProtocolError(ErrorCode::FlowControlError),
+        (_, Some(Ending::WriteFailed)) => Ending::WriteFailed,
+        (_, Some(_)) | (Ending::WriteFailed, None) => Ending::OutOfMemory,
         (ending, None) => ending,
     }
 }
@@ -192,9 +248,11 @@ fn of_both(read: Ending, written: Option<Ending>) -> Ending
 fn by_orders(seen: Ending, are_all: bool, has_dropped: bool) -> Ending
     ensures memory { seen ≡ ending.OutOfMemory → result ≡ ending.OutOfMemory }
     ensures failed { seen ≡ ending.WriteFailed → result ≡ ending.WriteFailed }
-    ensures input { is_heard_out result ≡ true → result ≡ seen }
+    ensures marked { result ≡ ending.WriteFailed → seen ≡ ending.WriteFailed }
+    ensures seen { (result ≡ seen) ⊎ (result ≡ ending.OutOfMemory) }
     ensures all { result ≢ ending.OutOfMemory → result ≢ ending.WriteFailed → are_all ≡ true }
-    ensures dropped { result ≢ ending.OutOfMemory → result ≢ ending.WriteFailed → ((code : Code) → result ≢ ending.ProtocolError code) → has_dropped ≡ false }
+    ensures dropped { result ≢ ending.OutOfMemory → result ≢ ending.WriteFailed
+        → ((code : Code) → result ≢ ending.ProtocolError code) → has_dropped ≡ false }
 {
     match seen {
         Ending::OutOfMemory | Ending::WriteFailed => seen,

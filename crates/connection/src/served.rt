@@ -6,8 +6,8 @@ use callslot::{CallReport, Ending};
 #[derive(Drop)]
 pub struct Served<O: Drop> {
     pub ending: Ending,
-    /// What was written to. None where no memory or no thread was to be had before anything was read.
-    pub output: Option<O>,
-    /// A row for each call that was admitted, in the order of their streams. None where there was no memory for all of them.
-    pub calls: Option<Vec<CallReport>>,
+    /// What was written to.
+    pub output: O,
+    /// A row for each call that was admitted, in the order of their streams.
+    pub calls: Vec<CallReport>,
 }

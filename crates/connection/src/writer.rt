@@ -1,11 +1,12 @@
 //! The writing thread of a connection: it turns a `SlotWriter`, takes the lock for it, rings and waits.
 
-ghost use Rattle.std.specs.Prelude.{◌≡◌, ◌⊎◌, ℕ, List, [], Option, IfOk, true};
+ghost use Rattle.std.specs.Prelude.{◌≡◌, ◌⊎◌, ℕ, List, [], Option, IfErr, IfOk, OnOk, true};
 ghost use Rattle.lane.specs.Ring.{out_name, taken};
 ghost use Rattle.connwriter.specs.declared.filled.Filled.TheVariants as filling;
 ghost use Rattle.slotwriter.specs.Orders.{orders_of};
 ghost use Rattle.slotwriter.specs.Written.{HasWritten, IsFlushed, Led, LeadsOn, LeadsOut, Stays};
 
+use crate::orders::{Orders, Route};
 use crate::outlet::Outlet;
 use callslot::Order;
 use callworker::Gate;
@@ -14,7 +15,7 @@ use device::ConnWrite;
 use h2frame::StreamId;
 use lane::RingOut;
 use slotwriter::{Rest, SlotWriter, Took, Waiting, Written};
-use std::alloc::{AllocError, Global};
+use std::alloc::Global;
 use std::snapshot::Snapshot;
 use std::sync::ledger::Ledger;
 use std::sync::{Arc, Wait};
@@ -37,7 +38,8 @@ impl<A: Ledger, B: Ledger, C: Ledger, W: ConnWrite + Drop, G: Gate + Drop> Write
     /// Writes until no more is to be written.
     fn write(self, rt: &impl Wait) -> Written<W>
         ensures written { (before : Option (List ℕ)) → Led W.contents W.failed before self.writing
-            → HasWritten W.contents W.failed before (orders_of (taken result.orders)) result.ending result.device }
+            → HasWritten W.contents W.failed before
+            (orders_of (taken result.orders)) result.ending result.device }
         ensures name { out_name result.orders ≡ out_name self.writing.inbox.ring }
     {
         let mut writer = self;
@@ -53,7 +55,8 @@ impl<A: Ledger, B: Ledger, C: Ledger, W: ConnWrite + Drop, G: Gate + Drop> Write
     /// Writes what can be written, and waits where that is nothing. Whether no more is to be written.
     fn turn(&mut self, rt: &impl Wait) -> bool
         ensures leads { LeadsOn W.contents W.failed self.old.writing self.new.writing }
-        ensures over { result ≡ true → LeadsOut W.contents W.failed self.old.writing self.new.writing }
+        ensures over { result ≡ true → LeadsOut W.contents W.failed self.old.writing
+            self.new.writing }
         ensures flushed { result ≡ true → IsFlushed self.new.writing }
     {
         let mark = self.outlet.shared.writer.mark();
@@ -274,38 +277,57 @@ impl<W: ConnWrite + Drop> Promise<Written<W>> for Begun<W> {
 /// The thread that writes, and what it comes to.
 pub(crate) type Writing<W> = PromisedHandle<Written<W>, Begun<W>>;
 
-/// Starts the thread that writes. That it can't be made counts as want of memory.
-pub(crate) fn start<A, B, C, W, G, R>(
+/// Starts the thread that writes. Where it can't be made, no order but Close comes, and this thread writes what is to be written then.
+pub(crate) fn start<A, B, C, N, W, G, R>(
     rt: R,
     alloc: Global,
-    orders: RingOut<Order>,
+    taking: RingOut<Order>,
     outlet: Outlet<A, B, C>,
     gate: Arc<G>,
     device: W,
-) -> Result<Writing<W>, AllocError>
+    orders: &mut Orders<A, B, C, N>,
+) -> Result<Writing<W>, Written<W>>
 where
     A: Ledger + Send + Sync + 'static,
     B: Ledger + Send + Sync + 'static,
     C: Ledger + Send + Sync + 'static,
+    N: Route,
     W: ConnWrite + Send + Drop + 'static,
     G: Gate + Send + Sync + Drop + 'static,
     R: Threads + Wait + Copy + Send + Sync + Drop + 'static,
-    requires none { taken orders ≡ [] }
-    ensures begun { IfOk result (λ writing. W.contents writing.promise.device.value ≡ W.contents device) }
-    ensures ring { IfOk result (λ writing. writing.promise.orders.value ≡ orders) }
+    requires none { taken taking ≡ [] }
+    ensures begun { IfOk result (λ writing. W.contents writing.promise.device.value
+        ≡ W.contents device) }
+    ensures ring { IfOk result (λ writing. writing.promise.orders.value ≡ taking) }
+    ensures same { OnOk result (orders.new ≡ orders.old) }
+    ensures name { IfErr result (λ written. out_name written.orders ≡ out_name taking) }
+    ensures written { IfErr result (λ written. HasWritten W.contents W.failed (W.contents device)
+        (orders_of (taken written.orders)) written.ending written.device) }
 {
     let begun = Begun {
         device: Snapshot::of(&device),
-        orders: Snapshot::of(&orders),
+        orders: Snapshot::of(&taking),
     };
-    let writing = SlotWriter::new(alloc, orders, device, &begun.device);
+    let writing = SlotWriter::new(alloc, taking, device, &begun.device);
     let writer = Writer {
         outlet,
         gate,
         writing,
     };
-    match thread::spawn_with(&rt, begun, move || writer.write(&rt)) {
+    let write = move || -> Written<W>
+        ensures name { out_name result.orders ≡ out_name writer.writing.inbox.ring }
+        ensures written { (before : Option (List ℕ)) → Led W.contents W.failed before writer.writing
+            → HasWritten W.contents W.failed before
+            (orders_of (taken result.orders)) result.ending result.device }
+    { writer.write(&rt) };
+    match thread::spawn_with(&rt, begun, write) {
         Ok(handle) => Ok(handle),
-        Err(_fault) => Err(AllocError),
+        Err(refused) => {
+            // The writer may lack memory for the first, and lose it; behind one that was lost it takes the next.
+            orders.close(&rt);
+            orders.close(&rt);
+            let write_here = refused.value;
+            Err(write_here())
+        }
     }
 }

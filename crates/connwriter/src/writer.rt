@@ -101,7 +101,8 @@ impl<L: Lane<Item = OutItem>, W: ConnWrite> ConnWriter<L, W> {
 
     /// Whether an item of the stream is in hand that a window keeps back.
     pub fn held(&self, id: StreamId) -> bool
-        ensures { result ≡ is_held (open_stream self.now.core id) (room self.now.core.sending.outbound.states.windows id) }
+        ensures { result ≡ is_held (open_stream self.now.core id)
+            (room self.now.core.sending.outbound.states.windows id) }
     {
         self.core.held(id)
     }
@@ -110,15 +111,20 @@ impl<L: Lane<Item = OutItem>, W: ConnWrite> ConnWriter<L, W> {
     /// of its own; `last` is the greatest stream that was looked at, which a GOAWAY then tells.
     pub fn take(&mut self, control: Control<Sender<L>>, last: StreamId) -> Taking<Sender<L>>
         // The order is the next step of the run, unless it is handed back, and behind it the writer's own is.
-        ensures wrote { IsUnused L.got control → WritesOn L.got W.contents W.failed (steps_of (order_of control) last result) self.old self.new }
+        ensures wrote { IsUnused L.got control
+            → WritesOn L.got W.contents W.failed
+            (steps_of (order_of control) last result) self.old self.new }
 
         // The writer ends a stream or the connection exactly where a window would be over 2^31 - 1 bytes.
-        ensures blamed { (before : Option (List ℕ)) (run : List Step) → Wrote L.got W.contents W.failed before run self.old → Blamed result control run }
+        ensures blamed { (before : Option (List ℕ)) (run : List Step)
+            → Wrote L.got W.contents W.failed before run self.old → Blamed result control run }
         ensures stands { Stops result self.old.standing self.new.standing }
 
         // The sender of an Open that is taken stands behind the others, and nothing else changes them.
-        ensures brings { BringsBy result control self.old.core.sending.senders.items self.new.core.sending.senders.items }
-        ensures rest { self.new ≡ record self.old { core = self.new.core; standing = self.new.standing } }
+        ensures brings { BringsBy result control self.old.core.sending.senders.items
+            self.new.core.sending.senders.items }
+        ensures rest { self.new ≡ record
+            self.old { core = self.new.core; standing = self.new.standing } }
     {
         match self.core.control(control) {
             Ok(()) => Taking::Done,
@@ -144,10 +150,15 @@ impl<L: Lane<Item = OutItem>, W: ConnWrite> ConnWriter<L, W> {
     /// unfinished. What it was told may still be in the buffer.
     pub fn release(&mut self, id: StreamId) -> Option<Sender<L>>
         // That it is given back, with what it has given, is the next step of the run.
-        ensures wrote { IfSome result (λ sender. WritesOn L.got W.contents W.failed (Returned id (L.got sender.rx) ∷ []) self.old self.new) }
-        ensures releases { IfSome result (λ sender. Releases id sender self.old.core.sending.senders.items self.new.core.sending.senders.items) }
+        ensures wrote { IfSome result
+            (λ sender. WritesOn L.got W.contents W.failed
+            (Returned id (L.got sender.rx) ∷ []) self.old self.new) }
+        ensures releases { IfSome result
+            (λ sender. Releases id sender self.old.core.sending.senders.items
+            self.new.core.sending.senders.items) }
         ensures through { OnSome result (IsThrough id self.old.core) }
-        ensures none { IfNone result (IsThrough id self.old.core → HasNone id self.old.core.sending.senders.items) }
+        ensures none { IfNone result (IsThrough id self.old.core
+            → HasNone id self.old.core.sending.senders.items) }
         ensures unchanged { IfNone result (self.new ≡ self.old) }
         ensures rest { self.new ≡ record self.old { core = self.new.core } }
     {
@@ -158,15 +169,20 @@ impl<L: Lane<Item = OutItem>, W: ConnWrite> ConnWriter<L, W> {
     /// 131,144 bytes by it.
     pub fn fill(&mut self) -> Filled
         // Frames are the next steps of the run. Where none comes, all is written that can be.
-        ensures wrote { Fills L.got (coming L.got L.ahead) W.contents W.failed (Some result) self.old self.new }
+        ensures wrote { Fills L.got (coming L.got L.ahead) W.contents W.failed
+            (Some result) self.old self.new }
 
         // Each sender stays at its place, an end of the same lane, and what was got of the calls before its own stays too.
-        ensures senders { lanes (lane_and_past L.out_name L.past_out) self.new.core.sending.senders.items ≡ lanes (lane_and_past L.out_name L.past_out) self.old.core.sending.senders.items }
-        ensures room { length self.old.buffer.items ≤ 131144 → length self.new.buffer.items ≤ 131144 }
+        ensures senders { lanes (lane_and_past L.out_name L.past_out)
+            self.new.core.sending.senders.items
+            ≡ lanes (lane_and_past L.out_name L.past_out) self.old.core.sending.senders.items }
+        ensures room { length self.old.buffer.items ≤ 131144
+            → length self.new.buffer.items ≤ 131144 }
         ensures device { self.new.device ≡ self.old.device }
         ensures left { self.new.left ≡ self.old.left }
         ensures goes { result ≢ filled.Stopped → self.new.standing ≡ stands.Going }
-        ensures stopped { self.old.standing ≢ stands.Going → (result ≡ filled.Stopped) × (self.new ≡ self.old) }
+        ensures stopped { self.old.standing ≢ stands.Going
+            → (result ≡ filled.Stopped) × (self.new ≡ self.old) }
     {
         match self.standing {
             Standing::Going => self.fill_on(),
@@ -178,18 +194,25 @@ impl<L: Lane<Item = OutItem>, W: ConnWrite> ConnWriter<L, W> {
     /// answers a fault again, and writes nothing.
     pub fn flush(&mut self) -> Result<(), DeviceFault>
         ensures wrote { WritesOn L.got W.contents W.failed [] self.old self.new }
-        ensures ok { OnOk result (Appends (W.contents self.old.device) (W.contents self.new.device) self.old.buffer.items) }
-        ensures prefix { OnErr result (self.old.standing ≢ stands.Broken → AppendsPrefix (W.contents self.old.device) (W.contents self.new.device) self.old.buffer.items) }
+        ensures ok { OnOk result
+            (Appends (W.contents self.old.device)
+            (W.contents self.new.device) self.old.buffer.items) }
+        ensures prefix { OnErr result (self.old.standing ≢ stands.Broken
+            → AppendsPrefix (W.contents self.old.device)
+            (W.contents self.new.device) self.old.buffer.items) }
         ensures empty { OnOk result (self.new.buffer.items ≡ []) }
-        ensures ended { OnOk result ((self.new.ended.items ≡ []) × (self.new.left.items ≡ self.old.ended.items)) }
+        ensures ended { OnOk result ((self.new.ended.items ≡ [])
+            × (self.new.left.items ≡ self.old.ended.items)) }
         ensures stands { OnOk result (self.new.standing ≡ self.old.standing) }
         ensures broken { OnErr result (self.new.standing ≡ stands.Broken) }
         ensures unmarked { OnOk result (W.failed self.new.device ≡ W.failed self.old.device) }
-        ensures marked { OnErr result (self.old.standing ≢ stands.Broken → W.failed self.new.device ≡ true) }
+        ensures marked { OnErr result (self.old.standing ≢ stands.Broken
+            → W.failed self.new.device ≡ true) }
         ensures core { self.new.core ≡ self.old.core }
 
         // What is broken stays as it is, its device too.
-        ensures never_again { self.old.standing ≡ stands.Broken → (self.new ≡ self.old) × IsErr result }
+        ensures never_again { self.old.standing ≡ stands.Broken
+            → (self.new ≡ self.old) × IsErr result }
     {
         if let Standing::Broken = self.standing {
             return Err(DeviceFault);
@@ -226,14 +249,17 @@ impl<L: Lane<Item = OutItem>, W: ConnWrite> ConnWriter<L, W> {
         // It is the next step of the run, behind the order for it; unsaid it is none.
         ensures wrote { WritesOn L.got W.contents W.failed (parting last result) self.old self.new }
         ensures senders { self.new.core.sending.senders ≡ self.old.core.sending.senders }
-        ensures dead { result ≡ true → (self.old.standing ≡ stands.OutOfMemory) × (self.old.core.is_dead ≡ true) }
+        ensures dead { result ≡ true → (self.old.standing ≡ stands.OutOfMemory)
+            × (self.old.core.is_dead ≡ true) }
 
         // Behind it nothing more is said.
         ensures once { result ≡ true → self.new.core.may_part ≡ false }
         ensures spent { self.old.core.may_part ≡ false → result ≡ false }
-        ensures room { length self.old.buffer.items ≤ 131144 → length self.new.buffer.items ≤ 131144 }
+        ensures room { length self.old.buffer.items ≤ 131144
+            → length self.new.buffer.items ≤ 131144 }
         ensures unsaid { result ≡ false → self.new.buffer.items ≡ self.old.buffer.items }
-        ensures rest { self.new ≡ record self.old { core = self.new.core; buffer = self.new.buffer } }
+        ensures rest { self.new ≡ record
+            self.old { core = self.new.core; buffer = self.new.buffer } }
     {
         if self.standing != Standing::OutOfMemory || self.buffer.len() > BUFFER - LONGEST_FRAME {
             return false;
@@ -254,18 +280,28 @@ impl<L: Lane<Item = OutItem>, W: ConnWrite> ConnWriter<L, W> {
 
         // What was told of each call begins what the items that were got of its sender spell, also where the sender was given back; of a stream that was never opened nothing was
         // told, a reset, or what a Refuse asked for.
-        ensures fronts { (before : Option (List ℕ)) (run : List Step) → Wrote L.got W.contents W.failed before run self → TellFronts run (calls L.got result.0.items) }
-        ensures returned { (before : Option (List ℕ)) (run : List Step) → Wrote L.got W.contents W.failed before run self → TellReturned run }
-        ensures others { (before : Option (List ℕ)) (run : List Step) → Wrote L.got W.contents W.failed before run self → TellOthers run }
+        ensures fronts { (before : Option (List ℕ)) (run : List Step)
+            → Wrote L.got W.contents W.failed before run self
+            → TellFronts run (calls L.got result.0.items) }
+        ensures returned { (before : Option (List ℕ)) (run : List Step)
+            → Wrote L.got W.contents W.failed before run self → TellReturned run }
+        ensures others { (before : Option (List ℕ)) (run : List Step)
+            → Wrote L.got W.contents W.failed before run self → TellOthers run }
 
         // The device got a prefix of the spelled frames of the run, and all of them where no write failed and nothing is left.
-        ensures prefix { (before : Option (List ℕ)) (run : List Step) → Wrote L.got W.contents W.failed before run self → IsFront (frames_of run) before (W.contents result.1) }
-        ensures all { self.standing ≡ stands.Going → self.buffer.items ≡ [] → (before : Option (List ℕ)) (run : List Step)
-            → Wrote L.got W.contents W.failed before run self → IsAll (frames_of run) before (W.contents result.1) }
+        ensures prefix { (before : Option (List ℕ)) (run : List Step)
+            → Wrote L.got W.contents W.failed before run self
+            → IsFront (frames_of run) before (W.contents result.1) }
+        ensures all { self.standing ≡ stands.Going → self.buffer.items ≡ []
+            → (before : Option (List ℕ)) (run : List Step)
+            → Wrote L.got W.contents W.failed before run self
+            → IsAll (frames_of run) before (W.contents result.1) }
 
         // Where memory ran out too, no frame of them is cut.
-        ensures whole { self.standing ≢ stands.Broken → self.buffer.items ≡ [] → (before : Option (List ℕ)) (run : List Step)
-            → Wrote L.got W.contents W.failed before run self → IsWhole (frames_of run) before (W.contents result.1) }
+        ensures whole { self.standing ≢ stands.Broken → self.buffer.items ≡ []
+            → (before : Option (List ℕ)) (run : List Step)
+            → Wrote L.got W.contents W.failed before run self
+            → IsWhole (frames_of run) before (W.contents result.1) }
     {
         let ConnWriter { core, device, .. } = self;
         (core.into_senders(), device)
@@ -273,12 +309,16 @@ impl<L: Lane<Item = OutItem>, W: ConnWrite> ConnWriter<L, W> {
 
     /// Ends the stream whose window overflowed, or at 0 the connection. Out of memory, the writer stops.
     fn end(&mut self, id: StreamId, last: StreamId) -> Result<(), AllocError>
-        ensures wrote { OnOk result (WritesOn L.got W.contents W.failed (Taken (own_order last id) ∷ []) self.old self.new) }
+        ensures wrote { OnOk result
+            (WritesOn L.got W.contents W.failed
+            (Taken (own_order last id) ∷ []) self.old self.new) }
         ensures still { OnErr result (WritesOn L.got W.contents W.failed [] self.old self.new) }
-        ensures senders { self.new.core.sending.senders.items ≡ self.old.core.sending.senders.items }
+        ensures senders { self.new.core.sending.senders.items
+            ≡ self.old.core.sending.senders.items }
         ensures stands { OnOk result (self.new.standing ≡ self.old.standing) }
         ensures stops { OnErr result (self.new.standing ≢ stands.Going) }
-        ensures rest { self.new ≡ record self.old { core = self.new.core; standing = self.new.standing } }
+        ensures rest { self.new ≡ record
+            self.old { core = self.new.core; standing = self.new.standing } }
     {
         match self.core.control(own_order(id, last)) {
             Ok(()) => Ok(()),
@@ -293,9 +333,13 @@ impl<L: Lane<Item = OutItem>, W: ConnWrite> ConnWriter<L, W> {
     /// Puts frames into the buffer.
     fn fill_on(&mut self) -> Filled
         requires { self.old.standing ≡ stands.Going }
-        ensures wrote { Fills L.got (coming L.got L.ahead) W.contents W.failed (Some result) self.old self.new }
-        ensures senders { lanes (lane_and_past L.out_name L.past_out) self.new.core.sending.senders.items ≡ lanes (lane_and_past L.out_name L.past_out) self.old.core.sending.senders.items }
-        ensures room { length self.old.buffer.items ≤ 131144 → length self.new.buffer.items ≤ 131144 }
+        ensures wrote { Fills L.got (coming L.got L.ahead) W.contents W.failed
+            (Some result) self.old self.new }
+        ensures senders { lanes (lane_and_past L.out_name L.past_out)
+            self.new.core.sending.senders.items
+            ≡ lanes (lane_and_past L.out_name L.past_out) self.old.core.sending.senders.items }
+        ensures room { length self.old.buffer.items ≤ 131144
+            → length self.new.buffer.items ≤ 131144 }
         ensures device { self.new.device ≡ self.old.device }
         ensures left { self.new.left ≡ self.old.left }
         ensures goes { result ≢ filled.Stopped → self.new.standing ≡ stands.Going }
@@ -311,9 +355,13 @@ impl<L: Lane<Item = OutItem>, W: ConnWrite> ConnWriter<L, W> {
     /// Puts the next frame into the buffer. Where there is none it says why.
     fn add_frame(&mut self) -> Option<Filled>
         requires { self.old.standing ≡ stands.Going }
-        ensures wrote { Fills L.got (coming L.got L.ahead) W.contents W.failed result self.old self.new }
-        ensures senders { lanes (lane_and_past L.out_name L.past_out) self.new.core.sending.senders.items ≡ lanes (lane_and_past L.out_name L.past_out) self.old.core.sending.senders.items }
-        ensures grows { IfNone result (length self.old.buffer.items < length self.new.buffer.items) }
+        ensures wrote { Fills L.got (coming L.got L.ahead) W.contents W.failed result self.old
+            self.new }
+        ensures senders { lanes (lane_and_past L.out_name L.past_out)
+            self.new.core.sending.senders.items
+            ≡ lanes (lane_and_past L.out_name L.past_out) self.old.core.sending.senders.items }
+        ensures grows { IfNone result (length self.old.buffer.items
+            < length self.new.buffer.items) }
         ensures fits { length self.new.buffer.items ≤ length self.old.buffer.items + 16393 }
         ensures goes { result ≢ Some filled.Stopped → self.new.standing ≡ stands.Going }
         ensures device { self.new.device ≡ self.old.device }

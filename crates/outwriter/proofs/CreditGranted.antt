@@ -1,31 +1,13 @@
 -- In a lawful run no more credit is told than was granted (RFC 9113, section 6.9).
-use Rattle.std.proofs.Common.{◌≡◌, ℕ, ◌+◌, ◌≤◌, ◌==◌, refl, Bool, true, false, List, [], ◌∷◌, arith, min}
-use Rattle.std.specs.Prelude.{◌&&◌, sum_by, if◌then◌else◌}
+use Rattle.std.proofs.Common.{ℕ, ◌+◌, ◌≤◌, ◌==◌, Bool, true, false, List, [], ◌∷◌, arith, min}
+use Rattle.std.specs.Prelude.{◌&&◌, if◌then◌else◌}
 use Rattle.std.proofs.lemmas.List.Sums.{sum_by-cons}
 use Rattle.flow.specs.declared.TheConstants.{MAX_WINDOW}
-use Rattle.outwriter.specs.Examples.{crediting}
+use Rattle.outwriter.specs.Credit.{granted, granted_by, updated}
 use Rattle.outwriter.specs.Frames.{update_on}
 use Rattle.outwriter.specs.Histories.{is_stream, resets_stream}
 use Rattle.outwriter.specs.Runs.{IsLawful, may_owe, owed}
 use Rattle.outwriter.specs.Steps.{Step, Taken, Granted, Written, Returned, frames_of}
-
-abbrev granted_by : ℕ → Step → ℕ
-granted_by id (Granted stream n) = if id == stream then n else 0
-granted_by id _ = 0
-
--- what was granted on a stream, or on the connection as stream 0
-abbrev pub granted : ℕ → List Step → ℕ
-granted id run = sum_by (granted_by id) run
-
--- the increments that were written on it
-abbrev pub updated : ℕ → List Step → ℕ
-updated id run = sum_by (update_on id) (frames_of run)
-
-pub ten-granted : granted 1 crediting ≡ 10
-ten-granted = refl
-
-pub four-updated : updated 1 crediting ≡ 4
-four-updated = refl
 
 -- what was written, with what is owed still
 with-owed : (run : List Step) (id : ℕ) → IsLawful run → updated id run + owed id run ≤ granted id run
@@ -47,5 +29,5 @@ with-owed (Returned stream items ∷ run) id lawful = omega (arith, with-owed ru
 with-owed (Written frame ∷ run) id lawful =
     omega (arith, with-owed run id lawful.2, lawful.1.owes id, sum_by-cons (update_on id) frame (frames_of run), sum_by-cons (granted_by id) (Written frame) run)
 
-pub no-more-than-granted : (run : List Step) (id : ℕ) → IsLawful run → updated id run ≤ granted id run
-no-more-than-granted run id lawful = omega (arith, with-owed run id lawful)
+pub no-more-than-granted : (id : ℕ) (run : List Step) → IsLawful run → updated id run ≤ granted id run
+no-more-than-granted id run lawful = omega (arith, with-owed run id lawful)

@@ -13,6 +13,7 @@ use Rattle.outwriter.specs.declared.control.Control.TheVariants.{Settings, Ping,
 use Rattle.outwriter.specs.declared.control.Control.TheVariants as order
 use Rattle.h2frame.specs.declared.settings.PeerSetting.TheVariants.{TableSize, WindowSize}
 use Rattle.outwriter.specs.Calls.{is_called_off}
+use Rattle.outwriter.specs.Credit.{granted, updated}
 use Rattle.outwriter.specs.Frames.{frame_with, first_settings, settings_ack, ping_ack, reset_frame, goaway_frame, update_frame, data_frame, headers_frame, continuation_frame, is_last}
 use Rattle.outwriter.specs.Histories.{window_sizes, table_sizes, spending_of, closing_of, is_over, opens}
 use Rattle.outwriter.specs.Parts.{Byte, Fields, End, Reset, spelled, plain_marks, completed, marks_on, on_stream}
@@ -130,6 +131,19 @@ over = refl
 -- of ten bytes that were granted on stream 1, which is open, four were written as credit
 abbrev pub crediting : List Step
 crediting = Written (update_frame 1 4) ∷ Granted 1 6 ∷ Granted 0 9 ∷ Granted 1 4 ∷ Taken (order.Open 1 tt) ∷ Written first_settings ∷ []
+
+pub ten_granted : granted 1 crediting ≡ 10
+ten_granted = refl
+
+pub four_updated : updated 1 crediting ≡ 4
+four_updated = refl
+
+-- what a stream is granted isn't the connection's, nor the other way round
+pub nine_granted : granted 0 crediting ≡ 9
+nine_granted = refl
+
+pub none_updated : updated 0 crediting ≡ 0
+none_updated = refl
 
 -- so six are owed, and on the connection all that was granted
 pub six_owed : owed 1 crediting ≡ 6

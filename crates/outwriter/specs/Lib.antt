@@ -3,6 +3,7 @@ pub mod Frames
 pub mod Histories
 pub mod OpenStreams
 pub mod Runs
+pub mod Credit
 pub mod Parts
 pub mod ToldByNow
 pub mod Calls

@@ -44,18 +44,22 @@ impl<L: Lane<Item = OutItem>> OutCore<L> {
         ensures leads { LeadsNext L.got result self.old self.new }
 
         // It keeps the rules of its type, so that `write_frame` takes it.
-        ensures sound { IfOk result (λ next. (frame : FrameOf) → next ≡ next_kind.Frame frame → IsSound frame) }
+        ensures sound { IfOk result (λ next. (frame : FrameOf) → next ≡ next_kind.Frame frame
+            → IsSound frame) }
         ensures dead { self.old.is_dead ≡ true → result ≡ Err (out_fault.OutOfMemory None) }
         ensures lives { IfOk result (λ next. self.new.is_dead ≡ false) }
-        ensures dies { IfErr result (λ fault. (fault ≡ out_fault.OutOfMemory None) × (self.new.is_dead ≡ true)) }
+        ensures dies { IfErr result (λ fault. (fault ≡ out_fault.OutOfMemory None)
+            × (self.new.is_dead ≡ true)) }
         ensures over { IfOk result (λ next. next ≡ next_kind.Over → self.new.closed ≡ true) }
 
         // Each sender stays at its place, an end of the same lane, and what was got of the calls before its own stays too.
-        ensures senders { lanes (lane_and_past L.out_name L.past_out) self.new.sending.senders.items ≡ lanes (lane_and_past L.out_name L.past_out) self.old.sending.senders.items }
+        ensures senders { lanes (lane_and_past L.out_name L.past_out) self.new.sending.senders.items
+            ≡ lanes (lane_and_past L.out_name L.past_out) self.old.sending.senders.items }
 
         // Where none comes, all was written that could be, what was found ahead of the senders included. It is over exactly where a Close was
         // taken: that no more comes from the peer is none.
-        ensures rests { IfOk result (λ next. (run : List Step) → Leads L.got run self.old → RestsNext (coming L.got L.ahead) run next self.new) }
+        ensures rests { IfOk result (λ next. (run : List Step) → Leads L.got run self.old
+            → RestsNext (coming L.got L.ahead) run next self.new) }
     {
         if self.is_dead {
             return Err(OutFault::OutOfMemory(None));
@@ -88,7 +92,8 @@ impl<L: Lane<Item = OutItem>> Sending<L> {
         ensures spent { IfOk result (λ o. IfNone o (IsSpent self.new.outbound)) }
         ensures served { IfOk result (λ o. HoldsOn L.got o self.old self.new) }
         ensures gives { Gives L.got (lane_and_past L.out_name L.past_out) self.old self.new }
-        ensures quiet { IfOk result (λ o. IfNone o (GetsQuiet L.got (coming L.got L.ahead) self.old self.new)) }
+        ensures quiet { IfOk result
+            (λ o. IfNone o (GetsQuiet L.got (coming L.got L.ahead) self.old self.new)) }
     {
         if self.outbound.gone {
             return Ok(None);
@@ -107,7 +112,8 @@ impl<L: Lane<Item = OutItem>> Sending<L> {
         requires { IsBetween self.old.outbound }
         ensures picks { IfOk result (λ o. Picks L.got o self.old self.new) }
         ensures gives { Gives L.got (lane_and_past L.out_name L.past_out) self.old self.new }
-        ensures quiet { IfOk result (λ o. IfNone o (AllStuck L.got (coming L.got L.ahead) self.old self.new)) }
+        ensures quiet { IfOk result
+            (λ o. IfNone o (AllStuck L.got (coming L.got L.ahead) self.old self.new)) }
     {
         if let Some(frame) = self.frame_out_of_turn()? {
             return Ok(Some(frame));
@@ -165,7 +171,8 @@ impl<L: Lane<Item = OutItem>> Sending<L> {
         requires { IsBetween self.old.outbound }
         ensures picks { IfOk result (λ o. Picks L.got o self.old self.new) }
         ensures gives { Gives L.got (lane_and_past L.out_name L.past_out) self.old self.new }
-        ensures quiet { IfOk result (λ o. IfNone o (AllStuck L.got (coming L.got L.ahead) self.old self.new)) }
+        ensures quiet { IfOk result
+            (λ o. IfNone o (AllStuck L.got (coming L.got L.ahead) self.old self.new)) }
     {
         for index in 0..self.senders.len() {
             let id = match self.senders.get(index) {
@@ -184,7 +191,8 @@ impl<L: Lane<Item = OutItem>> Sending<L> {
         requires { IsBetween self.old.outbound }
         ensures picks { IfOk result (λ o. Picks L.got o self.old self.new) }
         ensures gives { Gives L.got (lane_and_past L.out_name L.past_out) self.old self.new }
-        ensures quiet { IfOk result (λ o. IfNone o (GetsStuck L.got (coming L.got L.ahead) id self.old self.new)) }
+        ensures quiet { IfOk result
+            (λ o. IfNone o (GetsStuck L.got (coming L.got L.ahead) id self.old self.new)) }
     {
         let Some(frame) = self.look(id)? else {
             return Ok(None);
@@ -199,7 +207,8 @@ impl<L: Lane<Item = OutItem>> Sending<L> {
         requires { IsBetween self.old.outbound }
         ensures picks { IfOk result (λ o. Picks L.got o self.old self.new) }
         ensures gives { Gives L.got (lane_and_past L.out_name L.past_out) self.old self.new }
-        ensures quiet { IfOk result (λ o. IfNone o (GetsStuck L.got (coming L.got L.ahead) id self.old self.new)) }
+        ensures quiet { IfOk result
+            (λ o. IfNone o (GetsStuck L.got (coming L.got L.ahead) id self.old self.new)) }
     {
         for _ in 0..u32::MAX {
             match self.look_once(id)? {
@@ -216,7 +225,8 @@ impl<L: Lane<Item = OutItem>> Sending<L> {
         requires { IsBetween self.old.outbound }
         ensures picks { IfOk result (λ l. Picks L.got (frame_in l) self.old self.new) }
         ensures gives { Gives L.got (lane_and_past L.out_name L.past_out) self.old self.new }
-        ensures looks { IfOk result (λ l. LooksAt L.got (coming L.got L.ahead) id l self.old self.new) }
+        ensures looks { IfOk result
+            (λ l. LooksAt L.got (coming L.got L.ahead) id l self.old self.new) }
     {
         let found = self
             .outbound

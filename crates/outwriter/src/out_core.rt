@@ -64,20 +64,25 @@ impl<L: Lane<Item = OutItem>> OutCore<L> {
         ensures leads { LeadsControl L.got result control self.old self.new }
 
         // The sender of an Open that is taken stands behind the others, and nothing else changes them.
-        ensures brings { Brings result control self.old.sending.senders.items self.new.sending.senders.items }
+        ensures brings { Brings result control self.old.sending.senders.items
+            self.new.sending.senders.items }
 
         // A fault of the peer is answered exactly where it stands.
-        ensures fault { IfErr result (λ fault. (run : List Step) → Leads L.got run self.old → Blames fault control run) }
-        ensures room { OnOk result ((run : List Step) → Leads L.got run self.old → HasRoom control run) }
+        ensures fault { IfErr result (λ fault. (run : List Step) → Leads L.got run self.old
+            → Blames fault control run) }
+        ensures room { OnOk result ((run : List Step) → Leads L.got run self.old
+            → HasRoom control run) }
 
         // It is that of the stream to which the peer gave credit, or of the connection where its SETTINGS are.
         ensures whose { IfErr result (λ fault. Concerns fault control) }
         ensures alive { self.new.is_dead ≡ self.old.is_dead }
-        ensures dead { self.old.is_dead ≡ true → result ≡ Err (out_fault.OutOfMemory (Some control)) }
+        ensures dead { self.old.is_dead ≡ true
+            → result ≡ Err (out_fault.OutOfMemory (Some control)) }
         ensures dead_stays { self.old.is_dead ≡ true → self.new ≡ self.old }
 
         // The limits of the header table that SETTINGS set are told to the encoder, whose next header block sets the least.
-        ensures limits { TakesLimits result control self.old.sending.outbound.encoder self.new.sending.outbound.encoder }
+        ensures limits { TakesLimits result control self.old.sending.outbound.encoder
+            self.new.sending.outbound.encoder }
     {
         if self.is_dead {
             return Err(OutFault::OutOfMemory(Some(control)));
@@ -124,7 +129,8 @@ impl<L: Lane<Item = OutItem>> OutCore<L> {
         ensures goaway { IfSome result (λ frame. frame ≡ goaway_frame last code) }
 
         // It is the next step of the run, behind the control that asks for it.
-        ensures leads { IfSome result (λ frame. (run : List Step) → Leads L.got run self.old → Leads L.got (Written frame ∷ Taken (order.Goaway last code) ∷ run) self.new) }
+        ensures leads { IfSome result (λ frame. (run : List Step) → Leads L.got run self.old
+            → Leads L.got (Written frame ∷ Taken (order.Goaway last code) ∷ run) self.new) }
 
         // A frame that is not written is no step.
         ensures still { LeadsStill L.got self.old self.new }
@@ -155,8 +161,16 @@ impl<L: Lane<Item = OutItem>> OutCore<L> {
         ensures dead_stays { self.old.is_dead ≡ true → self.new ≡ self.old }
 
         // What is due stays, and which streams are open, over or reset.
-        ensures takes { Takes [] none_is_new [] self.old.sending.outbound self.new.sending.outbound }
-        ensures rest { self.new ≡ record self.old { sending = record self.old.sending { outbound = record self.old.sending.outbound { states = self.new.sending.outbound.states } } } }
+        ensures takes { Takes [] none_is_new [] self.old.sending.outbound
+            self.new.sending.outbound }
+        ensures rest { self.new ≡ record
+            self.old {
+              sending = record
+                  self.old.sending {
+                    outbound = record
+                        self.old.sending.outbound { states = self.new.sending.outbound.states };
+                  };
+            } }
     {
         if !self.is_dead {
             self.sending.outbound.grant(id, n);
@@ -165,7 +179,8 @@ impl<L: Lane<Item = OutItem>> OutCore<L> {
 
     /// Whether an item of the stream is in hand that a window keeps back. Of what its sender has yet nothing is said.
     pub fn held(&self, id: StreamId) -> bool
-        ensures { result ≡ is_held (open_stream self.now id) (room self.now.sending.outbound.states.windows id) }
+        ensures { result ≡ is_held (open_stream self.now id)
+            (room self.now.sending.outbound.states.windows id) }
     {
         self.sending.outbound.states.has_hand(id) && self.sending.outbound.states.room(id) == 0
     }
@@ -175,7 +190,8 @@ impl<L: Lane<Item = OutItem>> OutCore<L> {
         ensures senders { result ≡ self.sending.senders }
 
         // What was told of each call begins what the items that were got of its sender spell.
-        ensures fronts { (run : List Step) → Leads L.got run self → TellFronts run (calls L.got result.items) }
+        ensures fronts { (run : List Step) → Leads L.got run self
+            → TellFronts run (calls L.got result.items) }
 
         // So does what was told of each call whose sender was given back.
         ensures returned { (run : List Step) → Leads L.got run self → TellReturned run }

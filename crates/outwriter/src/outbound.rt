@@ -95,9 +95,14 @@ impl Outbound {
     pub(crate) fn take_settings(&mut self, settings: &PeerSettings) -> Result<(), WindowFault>
         requires room { deque_len self.old.due < deque_capacity self.old.due }
         ensures taken { MirrorsOn (Taken (order.Settings settings.now)) self.old self.new }
-        ensures takes { Takes (due_kind.SettingsAck ∷ []) none_is_new (table_sizes settings.now) self.old self.new }
-        ensures fits { OnOk result ((history : List WindowStep) → Follows history self.old.states.windows → All (CanResize history) (window_sizes settings.now)) }
-        ensures over { OnErr result ((history : List WindowStep) → Follows history self.old.states.windows → ¬ All (CanResize history) (window_sizes settings.now)) }
+        ensures takes { Takes (due_kind.SettingsAck ∷ []) none_is_new
+            (table_sizes settings.now) self.old self.new }
+        ensures fits { OnOk result ((history : List WindowStep)
+            → Follows history self.old.states.windows
+            → All (CanResize history) (window_sizes settings.now)) }
+        ensures over { OnErr result ((history : List WindowStep)
+            → Follows history self.old.states.windows
+            → ¬ All (CanResize history) (window_sizes settings.now)) }
         ensures limits { self.new.encoder ≡ limited_by self.old.encoder (table_sizes settings.now) }
     {
         self.due.push_back_reserved(Due::SettingsAck);
@@ -119,8 +124,11 @@ impl Outbound {
     pub(crate) fn take_window(&mut self, id: StreamId, increment: u32) -> bool
         ensures taken { MirrorsOn (Taken (order.Window id increment)) self.old self.new }
         ensures takes { Takes [] none_is_new [] self.old self.new }
-        ensures fits { result ≡ true → (history : List WindowStep) → Follows history self.old.states.windows → HasWindow history id → CanCredit history id increment }
-        ensures over { result ≡ false → (history : List WindowStep) → Follows history self.old.states.windows → Overflows history id increment }
+        ensures fits { result ≡ true → (history : List WindowStep)
+            → Follows history self.old.states.windows → HasWindow history id
+            → CanCredit history id increment }
+        ensures over { result ≡ false → (history : List WindowStep)
+            → Follows history self.old.states.windows → Overflows history id increment }
         ensures encoder { self.new.encoder ≡ self.old.encoder }
     {
         let credited = self.states.credit(id, increment);
@@ -132,8 +140,13 @@ impl Outbound {
     pub(crate) fn take_open(&mut self, id: StreamId, place: usize) -> Result<(), AllocError>
         ensures taken { OnOk result (MirrorsOn (Taken (order.Open id tt)) self.old self.new) }
         ensures stays { OnErr result (Stays self.old self.new) }
-        ensures takes { OnOk result (Takes [] (λ other. is_new_call_of self.old id && (other == id)) [] self.old self.new) }
-        ensures becomes { OnOk result ((k : ℕ) → open_at self.new.states k ≡ (if becomes_open self.old id && (k == id) then Some (stream_at place) else open_at self.old.states k)) }
+        ensures takes { OnOk result
+            (Takes [] (λ other. is_new_call_of self.old id && (other == id)) [] self.old
+            self.new) }
+        ensures becomes { OnOk result ((k : ℕ)
+            → open_at self.new.states k
+            ≡ (if becomes_open self.old id && (k == id) then Some
+            (stream_at place) else open_at self.old.states k)) }
         ensures takes_none { OnErr result (Takes [] none_is_new [] self.old self.new) }
         ensures encoder { self.new.encoder ≡ self.old.encoder }
     {
@@ -148,7 +161,8 @@ impl Outbound {
     ) -> Result<(), OutFault<S>>
         requires room { deque_len self.old.due < deque_capacity self.old.due }
         ensures kept { OnOk result (KeptOn (Taken (order.Refuse id fields)) self.old self.new) }
-        ensures back { IfErr result (λ fault. fault ≡ out_fault.OutOfMemory (Some (order.Refuse id fields))) }
+        ensures back { IfErr result (λ fault. fault
+            ≡ out_fault.OutOfMemory (Some (order.Refuse id fields))) }
         ensures unchanged { OnErr result (self.new ≡ self.old) }
         ensures encoder { self.new.encoder ≡ self.old.encoder }
     {
@@ -167,7 +181,8 @@ impl Outbound {
         requires number { id < 2 ^ 31 }
         requires room { deque_len self.old.due < deque_capacity self.old.due }
         ensures taken { OnOk result (MirrorsOn (Taken (order.Refuse id fields)) self.old self.new) }
-        ensures takes { OnOk result (Takes (due_kind.Refuse id fields ∷ []) none_is_new [] self.old self.new) }
+        ensures takes { OnOk result
+            (Takes (due_kind.Refuse id fields ∷ []) none_is_new [] self.old self.new) }
         ensures back { IfErr result (λ back. back ≡ fields) }
         ensures unchanged { OnErr result (self.new ≡ self.old) }
         ensures encoder { self.new.encoder ≡ self.old.encoder }
@@ -190,8 +205,10 @@ impl Outbound {
         written: bool,
     ) -> Result<(), OutFault<S>>
         requires room { deque_len self.old.due < deque_capacity self.old.due }
-        ensures kept { OnOk result (KeptOn (Taken (order.Reset id code written)) self.old self.new) }
-        ensures back { IfErr result (λ fault. fault ≡ out_fault.OutOfMemory (Some (order.Reset id code written))) }
+        ensures kept { OnOk result
+            (KeptOn (Taken (order.Reset id code written)) self.old self.new) }
+        ensures back { IfErr result (λ fault. fault
+            ≡ out_fault.OutOfMemory (Some (order.Reset id code written))) }
         ensures unchanged { OnErr result (self.new ≡ self.old) }
         ensures encoder { self.new.encoder ≡ self.old.encoder }
     {
@@ -208,10 +225,18 @@ impl Outbound {
     /// is to be written and the stream had neither ended nor been reset. Out of memory, it changes nothing.
     fn take_reset(&mut self, id: StreamId, code: ErrorCode, written: bool) -> Result<(), AllocError>
         requires room { deque_len self.old.due < deque_capacity self.old.due }
-        ensures taken { OnOk result (MirrorsOn (Taken (order.Reset id code written)) self.old self.new) }
-        ensures takes { OnOk result (Takes (due_reset self.old id code written) none_is_new [] (record self.old { states = self.new.states }) self.new) }
-        ensures marks { OnOk result ((k : ℕ) → (knows self.new.states k ≡ knows self.old.states k) × (is_reset self.new.states k ≡ ((is_number id && (k == id)) || is_reset self.old.states k))) }
-        ensures heard { OnOk result ((k : ℕ) → is_heard self.new.states k ≡ ((is_number id && (k == id)) || is_heard self.old.states k)) }
+        ensures taken { OnOk result
+            (MirrorsOn (Taken (order.Reset id code written)) self.old self.new) }
+        ensures takes { OnOk result
+            (Takes (due_reset self.old id code written) none_is_new []
+            (record self.old { states = self.new.states }) self.new) }
+        ensures marks { OnOk result ((k : ℕ)
+            → (knows self.new.states k ≡ knows self.old.states k)
+            × (is_reset self.new.states k
+            ≡ ((is_number id && (k == id)) || is_reset self.old.states k))) }
+        ensures heard { OnOk result ((k : ℕ)
+            → is_heard self.new.states k
+            ≡ ((is_number id && (k == id)) || is_heard self.old.states k)) }
         ensures over { OnOk result (SameOver self.old.states self.new.states) }
         ensures open { OnOk result (SameOpen self.old.states self.new.states) }
         ensures unchanged { OnErr result (self.new ≡ self.old) }
@@ -269,14 +294,29 @@ pub(crate) fn is_stream(id: StreamId) -> bool
 /// A call begins on a stream, if it is one.
 fn open_state(states: &mut StreamStates, id: StreamId, place: usize) -> Result<(), AllocError>
     ensures owed { OnOk result ((other : ℕ) → owed_on states.new other ≡ owed_on states.old other) }
-    ensures pays { OnOk result ((other : ℕ) → pays states.new other ≡ (if (is_number id && not (knows states.old id)) && (other == id) then not (is_reset states.old id) else pays states.old other)) }
-    ensures known { OnOk result ((other : ℕ) → knows states.new other ≡ (((is_number id && not (knows states.old id)) && (other == id)) || knows states.old other)) }
-    ensures resets { OnOk result ((other : ℕ) → is_reset states.new other ≡ is_reset states.old other) }
-    ensures heard { OnOk result ((other : ℕ) → is_heard states.new other ≡ (((is_number id && not (knows states.old id)) && (other == id)) || is_heard states.old other)) }
+    ensures pays { OnOk result ((other : ℕ)
+        → pays states.new other
+        ≡ (if (is_number id && not (knows states.old id)) && (other == id) then not
+        (is_reset states.old id) else pays states.old other)) }
+    ensures known { OnOk result ((other : ℕ)
+        → knows states.new other
+        ≡ (((is_number id && not (knows states.old id)) && (other == id)) || knows states.old
+        other)) }
+    ensures resets { OnOk result ((other : ℕ)
+        → is_reset states.new other ≡ is_reset states.old other) }
+    ensures heard { OnOk result ((other : ℕ)
+        → is_heard states.new other
+        ≡ (((is_number id && not (knows states.old id)) && (other == id)) || is_heard states.old
+        other)) }
     ensures over { OnOk result (SameOver states.old states.new) }
-    ensures same { OnOk result ((is_number id && not (knows states.old id)) ≡ false → SameOpen states.old states.new) }
-    ensures becomes { OnOk result ((k : ℕ) → open_at states.new k ≡ (if (is_number id && not (is_heard states.old id)) && (k == id) then Some (stream_at place) else open_at states.old k)) }
-    ensures windows { OnOk result (Moves states.old (if is_number id then opening states.old id else []) states.new) }
+    ensures same { OnOk result ((is_number id && not (knows states.old id)) ≡ false
+        → SameOpen states.old states.new) }
+    ensures becomes { OnOk result ((k : ℕ)
+        → open_at states.new k
+        ≡ (if (is_number id && not (is_heard states.old id)) && (k == id) then Some
+        (stream_at place) else open_at states.old k)) }
+    ensures windows { OnOk result
+        (Moves states.old (if is_number id then opening states.old id else []) states.new) }
     ensures unchanged { OnErr result (states.new ≡ states.old) }
 {
     if !is_stream(id) {
@@ -287,11 +327,17 @@ fn open_state(states: &mut StreamStates, id: StreamId, place: usize) -> Result<(
 
 /// The state of a stream that is reset.
 fn reset_state(states: &mut StreamStates, id: StreamId) -> Result<(), AllocError>
-    ensures owed { OnOk result ((k : ℕ) → owed_on states.new k ≡ (if is_number id && (k == id) then 0 else owed_on states.old k)) }
-    ensures pays { OnOk result ((k : ℕ) → pays states.new k ≡ (if is_number id && (k == id) then false else pays states.old k)) }
+    ensures owed { OnOk result ((k : ℕ)
+        → owed_on states.new k
+        ≡ (if is_number id && (k == id) then 0 else owed_on states.old k)) }
+    ensures pays { OnOk result ((k : ℕ)
+        → pays states.new k
+        ≡ (if is_number id && (k == id) then false else pays states.old k)) }
     ensures known { OnOk result ((k : ℕ) → knows states.new k ≡ knows states.old k) }
-    ensures resets { OnOk result ((k : ℕ) → is_reset states.new k ≡ ((is_number id && (k == id)) || is_reset states.old k)) }
-    ensures heard { OnOk result ((k : ℕ) → is_heard states.new k ≡ ((is_number id && (k == id)) || is_heard states.old k)) }
+    ensures resets { OnOk result ((k : ℕ)
+        → is_reset states.new k ≡ ((is_number id && (k == id)) || is_reset states.old k)) }
+    ensures heard { OnOk result ((k : ℕ)
+        → is_heard states.new k ≡ ((is_number id && (k == id)) || is_heard states.old k)) }
     ensures over { OnOk result (SameOver states.old states.new) }
     ensures open { OnOk result (SameOpen states.old states.new) }
     ensures windows { OnOk result (Moves states.old (Closing id ∷ []) states.new) }

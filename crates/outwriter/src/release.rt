@@ -24,17 +24,27 @@ impl<L: Lane<Item = OutItem>> OutCore<L> {
     /// twice has two.
     pub fn release(&mut self, id: StreamId) -> Option<Sender<L>>
         // That it is given back, with what it has given, is the next step of the run.
-        ensures leads { IfSome result (λ sender. LeadsOn L.got (Returned id (L.got sender.rx)) self.old self.new) }
+        ensures leads { IfSome result
+            (λ sender. LeadsOn L.got (Returned id (L.got sender.rx)) self.old self.new) }
 
         // It is one of this stream's that were kept, and the last takes its place.
-        ensures releases { IfSome result (λ sender. Releases id sender self.old.sending.senders.items self.new.sending.senders.items) }
+        ensures releases { IfSome result
+            (λ sender. Releases id sender self.old.sending.senders.items
+            self.new.sending.senders.items) }
 
         // It is given back exactly where the call is through, and so has ended or was reset.
         ensures through { OnSome result (IsThrough id self.old) }
-        ensures none { IfNone result (IsThrough id self.old → HasNone id self.old.sending.senders.items) }
+        ensures none { IfNone result (IsThrough id self.old
+            → HasNone id self.old.sending.senders.items) }
         ensures ended { OnSome result (HasEnded L.got id self.old) }
         ensures unchanged { IfNone result (self.new ≡ self.old) }
-        ensures rest { self.new ≡ record self.old { sending = record self.old.sending { senders = self.new.sending.senders; outbound = self.new.sending.outbound } } }
+        ensures rest { self.new ≡ record
+            self.old {
+              sending = record self.old.sending {
+                senders = self.new.sending.senders;
+                outbound = self.new.sending.outbound;
+              };
+            } }
 
         // It changes no more than where the sender stands that takes its place.
         ensures same { SameButOpen self.old.sending.outbound self.new.sending.outbound }

@@ -14,9 +14,13 @@ use h2frame::PeerSetting;
 /// first.
 pub(crate) fn resize(states: &mut StreamStates, settings: &[PeerSetting]) -> Result<(), WindowFault>
     ensures rest { SameButWindows states.old states.new }
-    ensures windows { OnOk result (Moves states.old (reverse (map Resizing (window_sizes settings.now))) states.new) }
-    ensures fits { OnOk result ((history : List Step) → Follows history states.old.windows → All (CanResize history) (window_sizes settings.now)) }
-    ensures overflow { OnErr result ((history : List Step) → Follows history states.old.windows → ¬ All (CanResize history) (window_sizes settings.now)) }
+    ensures windows { OnOk result
+        (Moves states.old (reverse (map Resizing (window_sizes settings.now))) states.new) }
+    ensures fits { OnOk result ((history : List Step) → Follows history states.old.windows
+        → All (CanResize history) (window_sizes settings.now)) }
+    ensures overflow { OnErr result
+        ((history : List Step) → Follows history states.old.windows
+        → ¬ All (CanResize history) (window_sizes settings.now)) }
     ensures unchanged { OnErr result (states.new ≡ states.old) }
 {
     let (greatest, last) = sizes(settings);

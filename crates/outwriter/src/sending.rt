@@ -55,10 +55,15 @@ impl<L: Lane<Item = OutItem>> Sending<L> {
         id: StreamId,
         sender: Sender<L>,
     ) -> Result<(), OutFault<Sender<L>>>
-        ensures kept { OnOk result (L.got sender.rx ≡ [] → (run : List Step) → Keeps L.got run self.old → Keeps L.got (Taken (order.Open id tt) ∷ run) self.new) }
-        ensures still { OnErr result ((run : List Step) → Keeps L.got run self.old → Keeps L.got run self.new) }
-        ensures back { IfErr result (λ fault. fault ≡ out_fault.OutOfMemory (Some (order.Open id sender))) }
-        ensures brings { Brings result (order.Open id sender) self.old.senders.items self.new.senders.items }
+        ensures kept { OnOk result (L.got sender.rx ≡ [] → (run : List Step)
+            → Keeps L.got run self.old → Keeps L.got
+            (Taken (order.Open id tt) ∷ run) self.new) }
+        ensures still { OnErr result ((run : List Step) → Keeps L.got run self.old
+            → Keeps L.got run self.new) }
+        ensures back { IfErr result (λ fault. fault
+            ≡ out_fault.OutOfMemory (Some (order.Open id sender))) }
+        ensures brings { Brings result
+            (order.Open id sender) self.old.senders.items self.new.senders.items }
         ensures encoder { self.new.outbound.encoder ≡ self.old.outbound.encoder }
     {
         match self.prepare(id) {
@@ -72,7 +77,8 @@ impl<L: Lane<Item = OutItem>> Sending<L> {
 
     /// All that a call needs but its sender. A stream that was refused, reset or opened before isn't opened.
     fn prepare(&mut self, id: StreamId) -> Result<(), AllocError>
-        ensures kept { OnOk result (KeptWith id (length self.old.senders.items) self.old.outbound self.new.outbound) }
+        ensures kept { OnOk result
+            (KeptWith id (length self.old.senders.items) self.old.outbound self.new.outbound) }
         ensures still { OnErr result (KeptStill self.old.outbound self.new.outbound) }
         ensures room { OnOk result (vec_len self.new.senders < vec_capacity self.new.senders) }
         ensures senders { self.new.senders.items ≡ self.old.senders.items }

@@ -177,7 +177,8 @@ impl Stream {
     fn change(&mut self, change: Change)
         ensures opened { self.new.opened ≡ self.old.opened }
         ensures state { IsAfter change self.old.state self.new.state }
-        ensures balance { self.new.balance ≡ balance_after_of change self.old.state self.old.balance }
+        ensures balance { self.new.balance
+            ≡ balance_after_of change self.old.state self.old.balance }
     {
         self.balance = balance_after(change, self.state, self.balance);
         self.state = self.state.after(change);
@@ -187,7 +188,8 @@ impl Stream {
     fn credit(&mut self, window: &ConnectionWindow, increment: u32) -> Result<(), WindowFault>
         ensures state { self.new.state ≡ self.old.state }
         ensures opened { self.new.opened ≡ self.old.opened }
-        ensures credits { CreditsStream window.now self.old.balance self.new.balance increment result }
+        ensures credits { CreditsStream window.now self.old.balance self.new.balance increment
+            result }
     {
         match &mut self.balance {
             Some(balance) => window.credit_stream(balance, increment),
@@ -224,9 +226,12 @@ impl Stream {
         encoder: &mut Encoder,
     ) -> Result<Found, AllocError>
         ensures amount { amount_of self.new.state ≡ amount_of self.old.state }
-        ensures next { IfOk result (NextOnStream L.got (coming L.got L.ahead) id self.old self.new window.old window.new senders.old.items senders.new.items encoder.old encoder.new) }
+        ensures next { IfOk result
+            (NextOnStream L.got (coming L.got L.ahead) id self.old self.new window.old
+            window.new senders.old.items senders.new.items encoder.old encoder.new) }
         ensures got { GetsOne (calls L.got senders.old.items) (calls L.got senders.new.items) }
-        ensures senders { lanes (lane_and_past L.out_name L.past_out) senders.new.items ≡ lanes (lane_and_past L.out_name L.past_out) senders.old.items }
+        ensures senders { lanes (lane_and_past L.out_name L.past_out) senders.new.items
+            ≡ lanes (lane_and_past L.out_name L.past_out) senders.old.items }
     {
         let place = match self.look(id, window)? {
             Hand::Shut => return Ok(Found::Nothing),
@@ -259,7 +264,8 @@ impl Stream {
         polled: Polled,
     ) -> Result<Found, AllocError>
         ensures amount { amount_of self.new.state ≡ amount_of self.old.state }
-        ensures takes { IfOk result (TakesUpStream id self.old self.new window.old window.new polled) }
+        ensures takes { IfOk result
+            (TakesUpStream id self.old self.new window.old window.new polled) }
     {
         match polled {
             Polled::Nothing => Ok(Found::Nothing),
@@ -289,7 +295,8 @@ impl Stream {
         message: Bytes,
     ) -> Result<Looked, AllocError>
         ensures state { self.new.state ≡ self.old.state }
-        ensures begins { IfOk result (BeginsOnStream id self.old self.new window.old window.new message) }
+        ensures begins { IfOk result
+            (BeginsOnStream id self.old self.new window.old window.new message) }
     {
         let mut rest = message;
         let looked = next_data(window, &mut self.balance, id, &mut rest)?;
@@ -351,7 +358,8 @@ fn balance_after(change: Change, state: StreamState, balance: Option<Balance>) -
 
 /// The same behind an Open.
 fn opened(state: StreamState, balance: Option<Balance>) -> Option<Balance>
-    ensures { result ≡ (if can_write state && not (is_some balance) then Some (pos 0) else balance) }
+    ensures { result
+        ≡ (if can_write state && not (is_some balance) then Some (pos 0) else balance) }
 {
     if state.can_write() && balance.is_none() {
         return Some(Balance::new());
@@ -529,8 +537,10 @@ impl StreamStates {
         ensures rest { SameButWindows self.old self.new }
         ensures fault { Meets (CreditFault self.old.windows id increment) result }
         ensures windows { OnOk result (Moves self.old (Credit id increment ∷ []) self.new) }
-        ensures can { OnOk result ((history : List WindowStep) → Follows history self.old.windows → CanCredit history id increment) }
-        ensures cannot { OnErr result ((history : List WindowStep) → Follows history self.old.windows → ¬ CanCredit history id increment) }
+        ensures can { OnOk result ((history : List WindowStep) → Follows history self.old.windows
+            → CanCredit history id increment) }
+        ensures cannot { OnErr result ((history : List WindowStep)
+            → Follows history self.old.windows → ¬ CanCredit history id increment) }
         ensures unchanged { OnErr result (self.new ≡ self.old) }
     {
         if id == 0 {
@@ -541,12 +551,15 @@ impl StreamStates {
 
     /// Takes a new initial size of the streams' windows. Where one of them would be over 2^31 - 1, none changes.
     pub(crate) fn initial(&mut self, size: u32) -> Result<(), WindowFault>
-        ensures ok { OnOk result (self.new ≡ record self.old { windows = record self.old.windows { initial = size } }) }
+        ensures ok { OnOk result (self.new
+            ≡ record self.old { windows = record self.old.windows { initial = size } }) }
         ensures windows { OnOk result (Moves self.old (Resizing size ∷ []) self.new) }
         ensures fits { OnOk result (FitsOn self.old.windows size) }
         ensures overflow { OnErr result (¬ FitsOn self.old.windows size) }
-        ensures can { OnOk result ((history : List WindowStep) → Follows history self.old.windows → CanResize history size) }
-        ensures cannot { OnErr result ((history : List WindowStep) → Follows history self.old.windows → ¬ CanResize history size) }
+        ensures can { OnOk result ((history : List WindowStep) → Follows history self.old.windows
+            → CanResize history size) }
+        ensures cannot { OnErr result ((history : List WindowStep)
+            → Follows history self.old.windows → ¬ CanResize history size) }
         ensures unchanged { OnErr result (self.new ≡ self.old) }
     {
         if size > MAX_WINDOW {
@@ -587,9 +600,12 @@ impl StreamStates {
         senders: &mut Vec<(StreamId, Sender<L>)>,
         encoder: &mut Encoder,
     ) -> Result<Found, AllocError>
-        ensures next { IfOk result (TakesNext L.got (coming L.got L.ahead) id self.old self.new senders.old.items senders.new.items encoder.old encoder.new) }
+        ensures next { IfOk result
+            (TakesNext L.got (coming L.got L.ahead) id self.old self.new senders.old.items
+            senders.new.items encoder.old encoder.new) }
         ensures got { GetsOne (calls L.got senders.old.items) (calls L.got senders.new.items) }
-        ensures senders { lanes (lane_and_past L.out_name L.past_out) senders.new.items ≡ lanes (lane_and_past L.out_name L.past_out) senders.old.items }
+        ensures senders { lanes (lane_and_past L.out_name L.past_out) senders.new.items
+            ≡ lanes (lane_and_past L.out_name L.past_out) senders.old.items }
     {
         next_at(&mut self.streams, id, &mut self.window, senders, encoder)
     }
@@ -659,7 +675,8 @@ fn change_of(
     change: Change,
     opened: Option<OpenStream>,
 ) -> Result<(), AllocError>
-    ensures changes { OnOk result (Changes streams.old.entries id change opened streams.new.entries) }
+    ensures changes { OnOk result
+        (Changes streams.old.entries id change opened streams.new.entries) }
     ensures unchanged { OnErr result (streams.new.entries ≡ streams.old.entries) }
 {
     if let Some(stream) = streams.get_mut(&id) {
@@ -704,7 +721,8 @@ fn credit_of(
 
 /// Whether each open window with this initial size is at most 2^31 - 1 bytes.
 fn all_fit(streams: &IndexMap<StreamId, Stream>, size: u32) -> bool
-    ensures value { result ≡ list_all (λ stream. fits_with size stream.balance) (values_of streams.now.entries) }
+    ensures value { result ≡ list_all (λ stream. fits_with size stream.balance)
+        (values_of streams.now.entries) }
     ensures unique { IsUnique nat_eq streams.now }
 {
     // That no key stands twice is said by `len`.
@@ -721,9 +739,12 @@ fn next_at<L: Lane<Item = OutItem>>(
     encoder: &mut Encoder,
 ) -> Result<Found, AllocError>
     ensures amount { KeepsAmount streams.old.entries id streams.new.entries }
-    ensures next { IfOk result (NextAtEntry L.got (coming L.got L.ahead) id streams.old.entries streams.new.entries window.old window.new senders.old.items senders.new.items encoder.old encoder.new) }
+    ensures next { IfOk result
+        (NextAtEntry L.got (coming L.got L.ahead) id streams.old.entries streams.new.entries
+        window.old window.new senders.old.items senders.new.items encoder.old encoder.new) }
     ensures got { GetsOne (calls L.got senders.old.items) (calls L.got senders.new.items) }
-    ensures senders { lanes (lane_and_past L.out_name L.past_out) senders.new.items ≡ lanes (lane_and_past L.out_name L.past_out) senders.old.items }
+    ensures senders { lanes (lane_and_past L.out_name L.past_out) senders.new.items
+        ≡ lanes (lane_and_past L.out_name L.past_out) senders.old.items }
 {
     match streams.get_mut(&id) {
         Some(stream) => stream.next(id, window, senders, encoder),
@@ -734,7 +755,8 @@ fn next_at<L: Lane<Item = OutItem>>(
 /// Whether a stream takes turns from now on, if it is open. It answers whether it is.
 fn turn_of(streams: &mut IndexMap<StreamId, Stream>, id: StreamId, in_turn: bool) -> bool
     ensures edits { Edits streams.old.entries id streams.new.entries }
-    ensures hand { shown (opened_of (lookup (nat_eq id) streams.new.entries)) ≡ shown (opened_of (lookup (nat_eq id) streams.old.entries)) }
+    ensures hand { shown (opened_of (lookup (nat_eq id) streams.new.entries))
+        ≡ shown (opened_of (lookup (nat_eq id) streams.old.entries)) }
 {
     match streams.get_mut(&id) {
         Some(stream) => stream.turn(in_turn),
@@ -745,7 +767,8 @@ fn turn_of(streams: &mut IndexMap<StreamId, Stream>, id: StreamId, in_turn: bool
 /// The sender of an open stream stands at another place, if it stood there.
 fn move_place_of(streams: &mut IndexMap<StreamId, Stream>, id: StreamId, from: usize, to: usize)
     ensures edits { Edits streams.old.entries id streams.new.entries }
-    ensures place { shown (opened_of (lookup (nat_eq id) streams.new.entries)) ≡ with_place from to (shown (opened_of (lookup (nat_eq id) streams.old.entries))) }
+    ensures place { shown (opened_of (lookup (nat_eq id) streams.new.entries))
+        ≡ with_place from to (shown (opened_of (lookup (nat_eq id) streams.old.entries))) }
 {
     if let Some(stream) = streams.get_mut(&id) {
         stream.move_place(from, to);
@@ -787,7 +810,8 @@ fn bring_forward(streams: &mut IndexMap<StreamId, Stream>, place: usize, owing: 
     ensures owing { result ≤ length streams.new.entries }
     ensures settled { IsSettledFrom result streams.new.entries }
     ensures fit { AllFit streams.old.entries → AllFit streams.new.entries }
-    ensures same { (id : ℕ) → lookup (nat_eq id) streams.new.entries ≡ lookup (nat_eq id) streams.old.entries }
+    ensures same { (id : ℕ) → lookup (nat_eq id) streams.new.entries
+        ≡ lookup (nat_eq id) streams.old.entries }
 {
     if place < owing {
         return owing;

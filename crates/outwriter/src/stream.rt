@@ -41,7 +41,8 @@ impl OpenStream {
         window: &mut ConnectionWindow,
         balance: &mut Option<Balance>,
     ) -> Result<Hand, AllocError>
-        ensures { IfOk result (LooksAtOpen id self.old self.new window.old window.new balance.old balance.new) }
+        ensures { IfOk result
+            (LooksAtOpen id self.old self.new window.old window.new balance.old balance.new) }
     {
         let Some(mut rest) = self.in_hand.take() else {
             return Ok(Hand::Empty(self.place));
@@ -108,7 +109,8 @@ pub(crate) fn next_data(
     id: StreamId,
     message: &mut Bytes,
 ) -> Result<Looked, AllocError>
-    ensures { IfOk result (CutsData id window.old window.new balance.old balance.new message.old message.new) }
+    ensures { IfOk result
+        (CutsData id window.old window.new balance.old balance.new message.old message.new) }
 {
     if message.is_empty() {
         return Ok(Looked::Empty);
@@ -140,9 +142,13 @@ pub(crate) fn poll_at<L: Lane<Item = OutItem>>(
     encoder: &mut Encoder,
     place: usize,
 ) -> Result<Polled, AllocError>
-    ensures takes { TakesHand None place (calls L.got senders.old.items) (calls L.got senders.new.items) (aheads (coming L.got L.ahead) senders.new.items) encoder.old encoder.new result }
-    ensures ahead { SameElsewhere place (aheads (coming L.got L.ahead) senders.old.items) (aheads (coming L.got L.ahead) senders.new.items) }
-    ensures senders { lanes (lane_and_past L.out_name L.past_out) senders.new.items ≡ lanes (lane_and_past L.out_name L.past_out) senders.old.items }
+    ensures takes { TakesHand None place (calls L.got senders.old.items)
+        (calls L.got senders.new.items)
+        (aheads (coming L.got L.ahead) senders.new.items) encoder.old encoder.new result }
+    ensures ahead { SameElsewhere place (aheads (coming L.got L.ahead) senders.old.items)
+        (aheads (coming L.got L.ahead) senders.new.items) }
+    ensures senders { lanes (lane_and_past L.out_name L.past_out) senders.new.items
+        ≡ lanes (lane_and_past L.out_name L.past_out) senders.old.items }
 {
     match senders.get_mut(place) {
         Some(call) => poll(&mut call.1, encoder),
@@ -159,9 +165,12 @@ pub(crate) fn poll<L: Lane<Item = OutItem>>(
     ensures name { L.out_name sender.new.rx ≡ L.out_name sender.old.rx }
     ensures past { L.past_out sender.new.rx ≡ L.past_out sender.old.rx }
     ensures id { sender.new.id ≡ sender.old.id }
-    ensures ok { IfOk result (Polls (L.got sender.old.rx) (L.got sender.new.rx) (coming L.got L.ahead sender.new.rx) encoder.old encoder.new) }
+    ensures ok { IfOk result
+        (Polls (L.got sender.old.rx) (L.got sender.new.rx)
+        (coming L.got L.ahead sender.new.rx) encoder.old encoder.new) }
     // Even without memory an item was got.
-    ensures memory { OnErr result ((item : OutItem) × (L.got sender.new.rx ≡ L.got sender.old.rx ++ item ∷ [])) }
+    ensures memory { OnErr result ((item : OutItem)
+        × (L.got sender.new.rx ≡ L.got sender.old.rx ++ item ∷ [])) }
 {
     match sender.next() {
         None => Ok(Polled::Nothing),

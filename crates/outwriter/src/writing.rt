@@ -45,7 +45,9 @@ impl Outbound {
         requires going { self.old.gone ≡ false }
         ensures sound { IfOk result (λ o. IfSome o IsSound) }
         ensures frame { IfOk result (λ o. Progress o self.old self.new) }
-        ensures none { IfOk result (λ o. IfNone o ((self.old.block ≡ None) × (self.new.due.items ≡ []) × ((id : ℕ) → owed_on self.new.states id ≡ 0))) }
+        ensures none { IfOk result
+            (λ o. IfNone o ((self.old.block ≡ None) × (self.new.due.items ≡ [])
+            × ((id : ℕ) → owed_on self.new.states id ≡ 0))) }
         ensures own { IfOk result (λ o. OwnOrRests o self.old self.new) }
     {
         if let Some(frame) = self.block_frame()? {
@@ -81,7 +83,9 @@ impl Outbound {
         ensures frame { IfOk result (λ o. IfSome o (λ frame. Writes frame self.old self.new)) }
         ensures none { IfOk result (λ o. IfNone o (self.new.due.items ≡ [])) }
         ensures own { IfOk result (λ o. OwnOrRests o self.old self.new) }
-        ensures still { IfOk result (λ o. IfNone o ((run : List Step) → MirrorsOf run self.old → MirrorsOf run self.new)) }
+        ensures still { IfOk result
+            (λ o. IfNone o ((run : List Step) → MirrorsOf run self.old
+            → MirrorsOf run self.new)) }
         ensures between { IfOk result (λ o. IfNone o (IsBetween self.new)) }
     {
         while let Some(due) = self.due.pop_front() {
@@ -131,8 +135,10 @@ impl Outbound {
     fn ping_ack(&mut self, bytes: [u8; 8]) -> Result<Frame, AllocError>
         requires { IsBetween self.old }
         ensures sound { IfOk result IsSound }
-        ensures written { IfOk result (λ frame. WritesDue (due_kind.PingAck bytes) frame self.old self.new) }
-        ensures own { IfOk result (λ frame. OwnByDue (due_kind.PingAck bytes) frame self.old self.new) }
+        ensures written { IfOk result
+            (λ frame. WritesDue (due_kind.PingAck bytes) frame self.old self.new) }
+        ensures own { IfOk result
+            (λ frame. OwnByDue (due_kind.PingAck bytes) frame self.old self.new) }
     {
         make_ping_ack(&mut self.small, bytes)
     }
@@ -140,8 +146,10 @@ impl Outbound {
     fn goaway_frame(&mut self, last: StreamId, code: ErrorCode) -> Result<Frame, AllocError>
         requires { IsBetween self.old }
         ensures sound { IfOk result IsSound }
-        ensures written { IfOk result (λ frame. WritesDue (due_kind.Goaway last code) frame self.old self.new) }
-        ensures own { IfOk result (λ frame. OwnByDue (due_kind.Goaway last code) frame self.old self.new) }
+        ensures written { IfOk result
+            (λ frame. WritesDue (due_kind.Goaway last code) frame self.old self.new) }
+        ensures own { IfOk result
+            (λ frame. OwnByDue (due_kind.Goaway last code) frame self.old self.new) }
     {
         let frame = make_goaway(&mut self.small, last, code)?;
         self.gone = code.code() != 0;
@@ -179,8 +187,10 @@ impl Outbound {
         requires is { is_number id ≡ true }
         requires open { over_on self.old.states id ≡ None }
         ensures sound { IfOk result IsSound }
-        ensures written { IfOk result (λ frame. WritesDue (due_kind.Reset id code) frame self.old self.new) }
-        ensures own { IfOk result (λ frame. OwnByDue (due_kind.Reset id code) frame self.old self.new) }
+        ensures written { IfOk result
+            (λ frame. WritesDue (due_kind.Reset id code) frame self.old self.new) }
+        ensures own { IfOk result
+            (λ frame. OwnByDue (due_kind.Reset id code) frame self.old self.new) }
     {
         let frame = make_reset(&mut self.small, id, code)?;
         self.states.end(id, Over::RstStream)?;
@@ -195,8 +205,10 @@ impl Outbound {
         requires open { over_on self.old.states id ≡ None }
         requires unreset { is_reset self.old.states id ≡ false }
         ensures sound { IfOk result IsSound }
-        ensures written { IfOk result (λ frame. WritesDue (due_kind.Refuse id fields) frame self.old self.new) }
-        ensures own { IfOk result (λ frame. OwnByDue (due_kind.Refuse id fields) frame self.old self.new) }
+        ensures written { IfOk result
+            (λ frame. WritesDue (due_kind.Refuse id fields) frame self.old self.new) }
+        ensures own { IfOk result
+            (λ frame. OwnByDue (due_kind.Refuse id fields) frame self.old self.new) }
     {
         let bytes = encoded(&mut self.encoder, fields.as_slice())?;
         self.states.end(id, Over::EndStream)?;

@@ -3,9 +3,10 @@
 //! It decides nothing by itself: what the reader does with each event the crate `slots` decides, what the writer does with each order
 //! `slotwriter`; the credit book is asked as the server's threads ask it.
 
-ghost use Rattle.std.specs.Prelude.{◌≡◌, ◌<◌};
+ghost use Rattle.std.specs.Prelude.{◌≡◌};
 ghost use Rattle.lane.specs.Ring as ring;
 ghost use Rattle.lane.specs.RingLane.{out_name, ring_of};
+ghost use Rattle.slots.specs.Seats.{IsNext};
 
 use crate::credit::Credit;
 use crate::outbox::{Outbox, Put};
@@ -260,7 +261,7 @@ impl<'a> Serial<'a> {
         }
     }
 
-    /// A call isn't admitted, or no slot can be had for it.
+    /// A call isn't admitted.
     fn turn_away<A: Ledger, B: Ledger, C: Ledger>(
         &mut self,
         credit: &mut Credit<A, B, C>,
@@ -278,7 +279,7 @@ impl<'a> Serial<'a> {
         credit: &mut Credit<A, B, C>,
         job: Job,
     ) -> Result<()>
-        requires above { self.old.reading.slots.last < job.id }
+        requires next { IsNext job.id self.old.reading.slots }
     {
         let job = match self.reading.engage(job) {
             Ok(decided) => return self.act(credit, decided),
@@ -288,7 +289,8 @@ impl<'a> Serial<'a> {
             return self.open_slot(credit, job);
         }
         if self.writing.has_stopped {
-            return self.turn_away(credit, job.id, AdmitFault::Draining);
+            let decided = self.reading.pass_over(job.id, job.index);
+            return self.act(credit, decided);
         }
         self.abandon_all(credit)?;
         self.waiting = Some(job);
@@ -319,14 +321,14 @@ impl<'a> Serial<'a> {
         credit: &mut Credit<A, B, C>,
         job: Job,
     ) -> Result<()>
-        requires above { self.old.reading.slots.last < job.id }
+        requires next { IsNext job.id self.old.reading.slots }
     {
-        let id = job.id;
+        let (id, index) = (job.id, job.index);
         let decided = match self.reading.reserve() {
-            Err(AllocError) => self.reading.lack(id),
+            Err(AllocError) => self.reading.lose(id, index),
             Ok(()) => match open_seat(self.alloc, job) {
-                Ok(made) => self.reading.add(made.seat, made.fresh),
-                Err(AllocError) => self.reading.lack(id),
+                Ok(made) => self.reading.add(made.seat, index, made.fresh),
+                Err(AllocError) => self.reading.lose(id, index),
             },
         };
         self.act(credit, decided)
@@ -492,7 +494,7 @@ impl<'a> Serial<'a> {
             ..
         } = self;
         let read = ended.unwrap_or(reading.ending());
-        let _none = reading.end();
+        let _rows = reading.end();
         let (written, output) = writing.into_end();
         rows.sort_unstable_by_key(|row| row.id);
         Outcome {

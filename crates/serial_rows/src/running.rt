@@ -140,14 +140,13 @@ impl Running {
         let (given, given_bytes) = run.given();
         let (taker, end, status) = run.into_ends();
         let row = CallReport {
-            id,
-            method: index,
             messages: taker.taken(),
             bytes,
             told: taker.told(),
             given,
             given_bytes,
             status,
+            ..CallReport::unanswered(id, index)
         };
         (taker, end, row)
     }

@@ -131,9 +131,16 @@ impl Worker for SerialWorker {
 
     ghost names = { λ path index. Unit {0} };
 
+    ghost tells = { ⊥ };
+
     /// Its ends as they are. Its rows were handed out as the calls were over.
     fn end(self) -> Seen {
-        let SerialWorker { jobs, work, .. } = self;
+        let SerialWorker {
+            alloc,
+            jobs,
+            work,
+            ..
+        } = self;
         let Some((taker, end)) = work.into_ends() else {
             unreachable!();
         };
@@ -141,7 +148,7 @@ impl Worker for SerialWorker {
             taker,
             end,
             jobs,
-            calls: None,
+            calls: Vec::new(alloc),
         }
     }
 }

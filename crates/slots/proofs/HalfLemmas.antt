@@ -53,16 +53,16 @@ full-grown (byte ∷ bytes) (Some kind) items full = full
 
 -- ---- lists of steps
 
-earlier-none : (closed : Option Shut) → earlier closed None ≡ closed
+pub earlier-none : (closed : Option Shut) → earlier closed None ≡ closed
 earlier-none None = refl
 earlier-none (Some kind) = refl
 
-unless-nil : (closed : Option Shut) → unless closed [] ≡ []
+pub unless-nil : (closed : Option Shut) → unless closed [] ≡ []
 unless-nil None = refl
 unless-nil (Some kind) = refl
 
 -- a half that is shut is fed nothing
-fed-shut : (fed data_now : List ℕ) (kind : Shut) (closed : Option Shut) → closed ≡ Some kind → fed ++ unless closed data_now ≡ fed
+pub fed-shut : (fed data_now : List ℕ) (kind : Shut) (closed : Option Shut) → closed ≡ Some kind → fed ++ unless closed data_now ≡ fed
 fed-shut fed data_now kind closed is = rw is (append-nil fed)
 
 pub same_number : (id : ℕ) → nat_eq id id ≡ true

@@ -2,7 +2,7 @@
 use Rattle.std.proofs.Common.{◌≡◌, ◌≢◌, ◌∙◌, ℕ, Option, None, Some, List, [], ◌∷◌, ◌++◌, ap, eq-eqb, refl, subst, sym, append-nil}
 use Rattle.std.proofs.lemmas.List.{append_assoc}
 use Rattle.session.specs.declared.event.InEvent.{InEvent}
-use Rattle.slots.specs.Steps.{Fate, Missed, Plain, Step, Told, CutOff, admitted_by, events_of, shut_at}
+use Rattle.slots.specs.Steps.{Fate, Plain, Admitted, Unserved, Unknown, TurnedAway, Received, Missed, Lacking, Step, Told, CutOff, admitted_by, reported_by, events_of, shut_at}
 use Rattle.account.specs.declared.call.Shut.TheVariants as shut
 use Rattle.h2frame.specs.ErrorCode.{error_number}
 use Rattle.h2frame.specs.declared.error_code.ErrorCode.TheVariants.{EnhanceYourCalm}
@@ -16,23 +16,33 @@ use Rattle.slots.specs.Concerns.{IsIdle}
 
 -- ---- events that touch no call
 
-pub idle-open : (id : ℕ) (head : CallHead) (fate : Fate) → admitted_by (Told (events.Open id head) fate) ≡ None → IsIdle (Told (events.Open id head) fate)
-idle-open id head fate none = record { admits = none; shuts = λ other. refl; feeds = λ other. refl }
+served-not : (id : ℕ) (head : CallHead) (fate : Fate) → reported_by (Told (events.Open id head) fate) ≡ None → admitted_by (Told (events.Open id head) fate) ≡ None
+served-not id head Plain none = refl
+served-not id head Admitted none = none
+served-not id head (Unserved why) none = refl
+served-not id head Unknown none = refl
+served-not id head (TurnedAway fault) none = refl
+served-not id head (Received receipt) none = refl
+served-not id head Missed none = refl
+served-not id head Lacking none = refl
+
+pub idle-open : (id : ℕ) (head : CallHead) (fate : Fate) → reported_by (Told (events.Open id head) fate) ≡ None → IsIdle (Told (events.Open id head) fate)
+idle-open id head fate none = record { admits = served-not id head fate none; reports = none; shuts = λ other. refl; feeds = λ other. refl }
 
 pub idle-loose : (counted : ℕ) (fate : Fate) → IsIdle (Told (events.Loose counted) fate)
-idle-loose counted fate = record { admits = refl; shuts = λ other. refl; feeds = λ other. refl }
+idle-loose counted fate = record { admits = refl; reports = refl; shuts = λ other. refl; feeds = λ other. refl }
 
 pub idle-head : (id : ℕ) (fault : HeadFault) (fate : Fate) → IsIdle (Told (events.BadHead id fault) fate)
-idle-head id fault fate = record { admits = refl; shuts = λ other. refl; feeds = λ other. refl }
+idle-head id fault fate = record { admits = refl; reports = refl; shuts = λ other. refl; feeds = λ other. refl }
 
 pub idle-control : (control : Control) → IsIdle (Told (events.Control control) Plain)
-idle-control control = record { admits = refl; shuts = λ other. refl; feeds = λ other. refl }
+idle-control control = record { admits = refl; reports = refl; shuts = λ other. refl; feeds = λ other. refl }
 
 pub idle-goaway : IsIdle (Told events.PeerGoaway Plain)
-idle-goaway = record { admits = refl; shuts = λ other. refl; feeds = λ other. refl }
+idle-goaway = record { admits = refl; reports = refl; shuts = λ other. refl; feeds = λ other. refl }
 
 pub idle-fatal : (code : ErrorCode) → IsIdle (Told (events.Fatal code) Plain)
-idle-fatal code = record { admits = refl; shuts = λ other. refl; feeds = λ other. refl }
+idle-fatal code = record { admits = refl; reports = refl; shuts = λ other. refl; feeds = λ other. refl }
 
 -- a piece that the lane of its call refused
 pub shuts-missed : (id counted : ℕ) (piece : List ℕ) → shut_at id (Told (events.Data id piece counted) Missed) ≡ Some (shut.Reset (error_number EnhanceYourCalm))

@@ -12,6 +12,8 @@ pub mod Ids
 pub mod NoneAnswered
 pub mod SeatRows
 pub mod SlotRows
+pub mod ListedRows
+pub mod Updates
 pub mod Heard
 pub mod Resets
 pub mod ReadingSteps

@@ -2,6 +2,7 @@
 use Rattle.std.proofs.Common.{◌≡◌, ◌≢◌, ◌∙◌, ◌⊎◌, inl, inr, ℕ, zero, suc, ◌+◌, ◌<◌, ◌≤◌, Bool, true, false, true≢false, nat_eq, List, [], ◌∷◌, ◌++◌, length, Option, None, Some, ap, append-nil, arith, eqb-true, get_or, refl, subst, sym}
 use Rattle.std.specs.Prelude.{◌&&◌, ◌==◌, Result, Ok, Err, if◌then◌else◌, is_none, is_some, max, min, position}
 use Rattle.std.proofs.lemmas.Bool.{and_parts, cases_Bool}
+use Rattle.std.proofs.lemmas.List.{append_assoc}
 use Rattle.std.proofs.lemmas.List.Quantifiers.{position-Some}
 use Rattle.account.specs.declared.call.Shut.{Shut}
 use Rattle.account.specs.declared.call.Shut.TheVariants as shut
@@ -17,7 +18,7 @@ use Rattle.outwriter.specs.Steps.{Order, order_of}
 use Rattle.session.specs.declared.event.InEvent.{InEvent}
 use Rattle.session.specs.declared.event.InEvent.TheVariants as events
 use Rattle.h2frame.specs.declared.error_code.ErrorCode.TheVariants.{EnhanceYourCalm}
-use Rattle.outwriter.specs.declared.control.Control.TheVariants.{Reset}
+use Rattle.outwriter.specs.declared.control.Control.TheVariants.{Goaway, Reset}
 use Rattle.slots.specs.declared.half.Half.{Half}
 use Rattle.slots.specs.declared.half.Half.TheVariants.{Open, Shut as Closed, Moving}
 use Rattle.slots.specs.declared.reading.Cut.{Cut}
@@ -30,9 +31,9 @@ use Rattle.slots.specs.Calls.{is_admitted}
 use Rattle.slots.specs.Concerns.{Concerns, IsIdle}
 use Rattle.slots.specs.Halves.{is_open, shown}
 use Rattle.slots.specs.Orders.{begun, begun_at, came_loose, cut_code, ends_at, greatest, is_fed, last_stream, most_streams, orders_at}
-use Rattle.slots.specs.Readings.{Awaits, Begins, Counts, Decides, DecidesOn, Reads, ReadsOn, Stands, Stays, order_in, orders_in, unless_ended}
+use Rattle.slots.specs.Readings.{Awaits, Begins, Counts, Decides, DecidesOn, Heeds, Reads, ReadsOn, Stands, Stays, order_in, orders_in, unless_ended}
 use Rattle.slots.specs.Seats.{Hears, IsSeat, Keeps, Kept, feeds}
-use Rattle.slots.specs.Steps.{Cause, CutOff, Fate, Lacking, Received, Step, Told, shut_at, shut_by, since}
+use Rattle.slots.specs.Steps.{Cause, CutOff, Fate, Lacking, Received, Step, Told, WasTold, events_of, shut_at, shut_by, since}
 use Rattle.slots.proofs.SlotSteps.{kept-idle, kept-none}
 use Rattle.slots.proofs.Unfed.{unfed-shut}
 
@@ -60,19 +61,25 @@ module _ {H : Type 0} {hand : Ghosts H} {names : List ℕ → ℕ → Type 0} wh
     | inr unknown ↦ ap (λ (b : Bool). b && is_none (shut_by id (since id told))) unknown
   ]
 
-  pub fed-some : (told : List Step) (id place : ℕ) (d : Seat H hand) (slots : Slots H hand) → Kept names told slots
-      → position (λ (seat : Seat H hand). feeds id seat) slots.seats.items ≡ Some place → is_fed id told ≡ true
-  fed-some told id place d slots kept found =
+  -- it was admitted, and isn't shut
+  pub fed-both : (told : List Step) (id place : ℕ) (d : Seat H hand) (slots : Slots H hand) → Kept names told slots
+      → position (λ (seat : Seat H hand). feeds id seat) slots.seats.items ≡ Some place → (is_admitted id told ≡ true) × (shut_by id (since id told) ≡ None)
+  fed-both told id place d slots kept found =
       let at = position-Some (λ (seat : Seat H hand). feeds id seat) slots.seats.items place d found in
       let seat = get_or slots.seats.items place d in
       let parts = and_parts (nat_eq seat.id id) (is_open seat.half) at.1 in
       let are = kept.each place d at.0 in
       let same : seat.id ≡ id = eqb-true seat.id id parts.0 in
-      let here : are.job.id ≡ id = sym are.at ∙ same in
-      let known : is_admitted id told ≡ true = subst (λ (n : ℕ). is_admitted n told ≡ true) here are.last.known in
-      let unshut : shut_by id (since id told) ≡ None =
-      subst (λ (n : ℕ). shut_by n (since n told) ≡ None) here (sym are.last.half.shut ∙ open-unshut seat.half parts.1) in
-      ap (λ (b : Bool). b && is_none (shut_by id (since id told))) known ∙ none-is (shut_by id (since id told)) unshut
+      let here : are.job.id ≡ id = sym are.at ∙ same in (
+        subst (λ (n : ℕ). is_admitted n told ≡ true) here are.last.known,
+        subst (λ (n : ℕ). shut_by n (since n told) ≡ None) here (sym are.last.half.shut ∙ open-unshut seat.half parts.1),
+      )
+
+  pub fed-some : (told : List Step) (id place : ℕ) (d : Seat H hand) (slots : Slots H hand) → Kept names told slots
+      → position (λ (seat : Seat H hand). feeds id seat) slots.seats.items ≡ Some place → is_fed id told ≡ true
+  fed-some told id place d slots kept found =
+      let both = fed-both told id place d slots kept found in
+      ap (λ (b : Bool). b && is_none (shut_by id (since id told))) both.0 ∙ none-is (shut_by id (since id told)) both.1
 
 -- ---- streams that were begun
 
@@ -92,24 +99,52 @@ module _ {H : Type 0} {hand : Ghosts H} where
   pub counts-none : (reading : Reading H hand) → reading.last ≡ 0 → reading.begun ≡ 0 → Counts [] reading
   counts-none reading last count = record { last = last; count = count }
 
+-- ---- what was told
+
+pub told-more : (event : InEvent) (step : Step) (told : List Step) → WasTold event told → WasTold event (step ∷ told)
+told-more event (Told other fate) told (before, after, is) =
+    (before, after ++ other ∷ [], ap (λ (es : List InEvent). es ++ other ∷ []) is ∙ append_assoc before (event ∷ after) (other ∷ []))
+told-more event (CutOff id why) told was = was
+
+module _ {H : Type 0} {hand : Ghosts H} where
+  heeds-same : (told : List Step) (old new : Reading H hand) → new.peer_goaway ≡ old.peer_goaway → Heeds told old → Heeds told new
+  heeds-same told old new same heeds is = heeds (sym same ∙ is)
+
+  heeds-more : (told : List Step) (step : Step) (old new : Reading H hand) → new.peer_goaway ≡ old.peer_goaway → Heeds told old → Heeds (step ∷ told) new
+  heeds-more told step old new same heeds is = told-more events.PeerGoaway step told (heeds (sym same ∙ is))
+
 -- ---- the reading side
 
 module _ {H : Type 0} {hand : Ghosts H} {names : List ℕ → ℕ → Type 0} where
   -- a step that begins no stream
-  pub reads-step : (told : List Step) (step : Step) (old new : Reading H hand) → begun_at step ≡ [] → new.last ≡ old.last → new.begun ≡ old.begun
+  pub reads-step : (told : List Step) (step : Step) (old new : Reading H hand) → begun_at step ≡ [] → new.last ≡ old.last → new.begun ≡ old.begun → new.peer_goaway ≡ old.peer_goaway
       → Hears names step old.slots new.slots → Reads names told old → Reads names (step ∷ told) new
-  reads-step told step old new none last count hears reads = record {
+  reads-step told step old new none last count same hears reads = record {
     slots = hears told reads.slots;
     counts = counts-step step told new none (counts-same (begun told) old new last count reads.counts);
+    heeds = heeds-more told step old new same reads.heeds;
+  }
+
+  -- the peer opens no more streams
+  pub reads-goaway : (told : List Step) (fate : Fate) (old new : Reading H hand) → new.last ≡ old.last → new.begun ≡ old.begun
+      → Hears names (Told events.PeerGoaway fate) old.slots new.slots → Reads names told old → Reads names (Told events.PeerGoaway fate ∷ told) new
+  reads-goaway told fate old new last count hears reads = record {
+    slots = hears told reads.slots;
+    counts = counts-step (Told events.PeerGoaway fate) told new refl (counts-same (begun told) old new last count reads.counts);
+    heeds = λ is. (events_of told, [], refl);
   }
 
   -- a step that is nothing to any call, and begins no stream
   pub reads-idle : (told : List Step) (step : Step) (reading : Reading H hand) → begun_at step ≡ [] → IsIdle step → Reads names told reading → Reads names (step ∷ told) reading
   reads-idle told step reading none idle reads =
-      reads-step told step reading reading none refl refl (λ told_now kept. kept-idle told_now step reading.slots idle kept) reads
+      reads-step told step reading reading none refl refl refl (λ told_now kept. kept-idle told_now step reading.slots idle kept) reads
 
-  pub stays-same : (old new : Reading H hand) → new.last ≡ old.last → new.begun ≡ old.begun → Keeps names old.slots new.slots → Stays names old new
-  stays-same old new last count keeps told reads = record { slots = keeps told reads.slots; counts = counts-same (begun told) old new last count reads.counts }
+  pub stays-same : (old new : Reading H hand) → new.last ≡ old.last → new.begun ≡ old.begun → new.peer_goaway ≡ old.peer_goaway → Keeps names old.slots new.slots → Stays names old new
+  stays-same old new last count same keeps told reads = record {
+    slots = keeps told reads.slots;
+    counts = counts-same (begun told) old new last count reads.counts;
+    heeds = heeds-same told old new same reads.heeds;
+  }
 
   -- a half that is to be shut
   pub awaits-cut : (told : List Step) (step : Step) (cut : Cut) (reading : Reading H hand) → begun_at step ≡ [] → Concerns cut.id step → shut_at cut.id step ≡ Some cut.kind
@@ -117,15 +152,17 @@ module _ {H : Type 0} {hand : Ghosts H} {names : List ℕ → ℕ → Type 0} wh
   awaits-cut told step cut reading none concerns shuts reads = record {
     slots = reads.slots;
     counts = counts-step step told reading none reads.counts;
+    heeds = reads.heeds;
     concerns = concerns;
     shuts = shuts;
   }
 
-  pub shuts-awaited : (told : List Step) (step : Step) (cut : Cut) (old new : Reading H hand) → new.last ≡ old.last → new.begun ≡ old.begun
+  pub shuts-awaited : (told : List Step) (step : Step) (cut : Cut) (old new : Reading H hand) → new.last ≡ old.last → new.begun ≡ old.begun → new.peer_goaway ≡ old.peer_goaway
       → ((s : Step) → Concerns cut.id s → shut_at cut.id s ≡ Some cut.kind → Hears names s old.slots new.slots) → Awaits names told step cut old → Reads names (step ∷ told) new
-  shuts-awaited told step cut old new last count hears awaits = record {
+  shuts-awaited told step cut old new last count same hears awaits = record {
     slots = hears step awaits.concerns awaits.shuts told awaits.slots;
     counts = counts-same (begun (step ∷ told)) old new last count awaits.counts;
+    heeds = heeds-more told step old new same awaits.heeds;
   }
 
   -- a stream that begins, where the step is nothing to any call
@@ -133,15 +170,17 @@ module _ {H : Type 0} {hand : Ghosts H} {names : List ℕ → ℕ → Type 0} wh
   begins-idle told step id reading begins idle reads = record {
     slots = kept-idle told step reading.slots idle reads.slots;
     counts = reads.counts;
+    heeds = reads.heeds;
     begins = ap (λ (ids : List ℕ). ids ++ begun told) begins;
   }
 
   -- where it is a call's
-  pub begins-call : (told : List Step) (step : Step) (id : ℕ) (old new : Reading H hand) → begun_at step ≡ id ∷ [] → new.last ≡ old.last → new.begun ≡ old.begun
+  pub begins-call : (told : List Step) (step : Step) (id : ℕ) (old new : Reading H hand) → begun_at step ≡ id ∷ [] → new.last ≡ old.last → new.begun ≡ old.begun → new.peer_goaway ≡ old.peer_goaway
       → Hears names step old.slots new.slots → Reads names told old → Begins names told step id new
-  begins-call told step id old new begins last count hears reads = record {
+  begins-call told step id old new begins last count same hears reads = record {
     slots = hears told reads.slots;
     counts = counts-same (begun told) old new last count reads.counts;
+    heeds = heeds-same told old new same reads.heeds;
     begins = ap (λ (ids : List ℕ). ids ++ begun told) begins;
   }
 
@@ -164,10 +203,10 @@ module _ {H : Type 0} {hand : Ghosts H} {names : List ℕ → ℕ → Type 0} wh
   decides-cut told step decided cut reading orders ends some awaits = record { orders = orders; ends = ends; stands = stands-some told step decided.cut cut reading some awaits }
 
   -- a stream begins
-  pub decides-begun : (told : List Step) (step : Step) (id : ℕ) (decided : Decided) (order : Order) (old new : Reading H hand) → new.slots ≡ old.slots
+  pub decides-begun : (told : List Step) (step : Step) (id : ℕ) (decided : Decided) (order : Order) (old new : Reading H hand) → new.slots ≡ old.slots → new.peer_goaway ≡ old.peer_goaway
       → ((ids : List ℕ) → Counts ids old → Counts (id ∷ ids) new × (order_in decided.first ≡ last_stream id ids)) → order_in decided.second ≡ order ∷ []
       → orders_at told step ≡ last_stream id (begun told) ++ order ∷ [] → decided.ends ≡ ends_at step → decided.cut ≡ None → Begins names told step id old → Decides names told step decided new
-  decides-begun told step id decided order old new same counts second orders ends none begins =
+  decides-begun told step id decided order old new same heeded counts second orders ends none begins =
       let count = counts (begun told) begins.counts in
       decides-now told step decided new
       (ap (λ (os : List Order). os ++ order_in decided.second) count.1 ∙ (ap (λ (os : List Order). last_stream id (begun told) ++ os) second ∙ sym orders))
@@ -175,6 +214,22 @@ module _ {H : Type 0} {hand : Ghosts H} {names : List ℕ → ℕ → Type 0} wh
       (record {
         slots = subst (λ (slots : Slots H hand). Kept names (step ∷ told) slots) (sym same) begins.slots;
         counts = subst (λ (ids : List ℕ). Counts ids new) (sym begins.begins) count.0;
+        heeds = heeds-more told step old new heeded begins.heeds;
+      })
+
+  -- a stream begins, and no more is ordered
+  pub decides-passed : (told : List Step) (step : Step) (id : ℕ) (decided : Decided) (old new : Reading H hand) → new.slots ≡ old.slots → new.peer_goaway ≡ old.peer_goaway
+      → ((ids : List ℕ) → Counts ids old → Counts (id ∷ ids) new × (order_in decided.first ≡ last_stream id ids)) → decided.second ≡ None
+      → orders_at told step ≡ last_stream id (begun told) ++ [] → decided.ends ≡ ends_at step → decided.cut ≡ None → Begins names told step id old → Decides names told step decided new
+  decides-passed told step id decided old new same heeded counts second orders ends none begins =
+      let count = counts (begun told) begins.counts in
+      decides-now told step decided new
+      (ap (λ (found : Option (Control Opened)). order_in decided.first ++ order_in found) second ∙ (ap (λ (os : List Order). os ++ []) count.1 ∙ sym orders))
+      ends none
+      (record {
+        slots = subst (λ (slots : Slots H hand). Kept names (step ∷ told) slots) (sym same) begins.slots;
+        counts = subst (λ (ids : List ℕ). Counts ids new) (sym begins.begins) count.0;
+        heeds = heeds-more told step old new heeded begins.heeds;
       })
 
 -- ---- more of them
@@ -195,9 +250,15 @@ module _ {H : Type 0} {hand : Ghosts H} {names : List ℕ → ℕ → Type 0} wh
   pub reads-unfed : (told : List Step) (step : Step) (id : ℕ) (reading : Reading H hand) → begun_at step ≡ [] → position (λ (seat : Seat H hand). feeds id seat) reading.slots.seats.items ≡ None
       → Concerns id step → Reads names told reading → Reads names (step ∷ told) reading
   reads-unfed told step id reading none unfed concerns reads = record {
-    slots = kept-none told step reading.slots id unfed concerns reads.slots;
+    slots = kept-none told step reading.slots id unfed (unfed-shut told id reading.slots reads.slots unfed) concerns reads.slots;
     counts = counts-step step told reading none reads.counts;
+    heeds = heeds-more told step reading reading refl reads.heeds;
   }
+
+-- the order that ends the connection names this stream
+pub goaway-order : (order : Control Opened) (last id : ℕ) (code : ErrorCode) → order ≡ Goaway last code → last ≡ id → order_in (Some order) ≡ Goaway id code ∷ []
+goaway-order order last id code is same =
+    ap (λ (one : Control Opened). order_in (Some one)) is ∙ ap (λ (n : ℕ). order_in (Some (Goaway n code))) same
 
 -- one order, or none
 pub one-order : (decided : Decided) (order : Control Opened) → decided.first ≡ None → decided.second ≡ Some order → orders_in decided ≡ order_of order ∷ []

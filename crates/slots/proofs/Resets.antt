@@ -18,7 +18,7 @@ use Rattle.connbook.specs.declared.answers.AdmitFault.{AdmitFault}
 use Rattle.connbook.specs.declared.answers.AdmitFault.TheVariants as refused
 use Rattle.slots.specs.Orders.{IsReset, cut_code, ends_at, ends_by, ends_if_refused, is_fed, orders_at, orders_by}
 use Rattle.slots.specs.Reports.{AreCalm, WasResetFor, is_heard_out}
-use Rattle.slots.specs.Steps.{Fate, Plain, Admitted, Unknown, TurnedAway, Received, Missed, Lacking, Cause, Step, Told, CutOff, admitted_by, events_of, is_of, lets_go, lost, shut_by, since}
+use Rattle.slots.specs.Steps.{NoWorker, Stopped, Fate, Plain, Admitted, Unserved, Unknown, TurnedAway, Received, Missed, Lacking, Cause, Step, Told, CutOff, admitted_by, events_of, is_of, lets_go, lost, shut_by, since}
 use Rattle.slots.proofs.LetGo.{let-go-before}
 
 -- ---- among orders
@@ -50,6 +50,7 @@ data-resets id piece counted Plain before fed lets calm = absurd cc
 data-resets id piece counted Admitted before fed lets calm = absurd cc
 data-resets id piece counted Unknown before fed lets calm = absurd cc
 data-resets id piece counted (TurnedAway fault) before fed lets calm = absurd cc
+data-resets id piece counted (Unserved why) before fed lets calm = absurd cc
 data-resets id piece counted Lacking before fed lets calm = absurd cc
 
 cut-resets : (id : ℕ) (why : Cause) (before : List Step) → is_fed id before ≡ true → IsReset id (orders_at before (CutOff id why))
@@ -158,6 +159,8 @@ by-harsh (Received CallWindow) = tt
 by-harsh (Received Overrun) = refl
 by-harsh Missed = tt
 by-harsh Lacking = refl
+by-harsh (Unserved NoWorker) = refl
+by-harsh (Unserved Stopped) = tt
 
 pub ends-harsh : (step : Step) → IfSome (ends_at step) (λ end. is_heard_out end ≡ false)
 ends-harsh (Told (events.Fatal code) fate) = refl

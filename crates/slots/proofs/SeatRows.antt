@@ -1,8 +1,9 @@
 -- The rows of a slot's calls, each on what was heard of its stream.
-use Rattle.std.proofs.Common.{◌≡◌, ◌∙◌, ap, arith, refl, subst, sym, ℕ, ◌+◌, zero, suc, Bool, true, List, [], ◌∷◌, ◌++◌, Option, None, Some, All, length, map, slice_get}
+use Rattle.std.proofs.Common.{◌≡◌, ◌∙◌, ◌⊎◌, inl, inr, ap, arith, refl, subst, sym, ℕ, ◌≤◌, zero, suc, Bool, true, List, [], ◌∷◌, ◌++◌, Option, None, Some, length, slice_get}
 use Rattle.std.specs.Prelude.{IfSome, IsSomeAnd}
-use Rattle.std.proofs.lemmas.List.Elements.{All-cons, All-nil}
+use Rattle.std.proofs.lemmas.List.Elements.{All-weaker}
 use Rattle.lane.specs.Cuts.{segment}
+use Rattle.lane.specs.Lawful.{count_of}
 use Rattle.lane.specs.RingLane.{past_in, past_shut, put_in, put_shut}
 use Rattle.account.specs.declared.call.OutItem.{OutItem}
 use Rattle.account.specs.declared.call.Shut.{Shut}
@@ -16,11 +17,11 @@ use Rattle.slots.specs.declared.half.Half.{Half}
 use Rattle.slots.specs.declared.half.Half.TheVariants.{Open, Shut as Closed, Moving}
 use Rattle.callslot.specs.declared.report.CallReport.{CallReport}
 use Rattle.callslot.specs.declared.slot.Job.{Job}
-use Rattle.callslot.specs.Accounts.{unanswered, unsent}
+use Rattle.callslot.specs.Accounts.{IsAnswered, IsGivenAs, unsent}
 use Rattle.slots.specs.Calls.{AreCalls, ArePast, IsCall, IsPast, is_admitted}
-use Rattle.slots.specs.Reports.{AreRows, IsAccounted}
-use Rattle.callslot.specs.Workers.{Answers, HaveRows}
-use Rattle.slots.proofs.NoneAnswered.{none_answered}
+use Rattle.slots.specs.Reports.{AreAnswered, HasHalf, IsAccounted, IsServed}
+use Rattle.callslot.specs.Workers.{Answers, HasRow, HaveRows, IsOfJob}
+use Rattle.slots.proofs.NoneAnswered.{bare-answered, took-nothing}
 
 -- ---- what was heard of each call
 
@@ -76,65 +77,47 @@ module _ (names : List ℕ → ℕ → Type 0) (told : List Step) where
       (heard-now are.job (record { there = true; items = put_shut end.shut; shut = Some end.kind }) tells are.last))
   seat-heard Moving jobs id tells are = absurd are.before
 
--- ---- a row for each job
+-- ---- a job of some
 
--- row number n is as this says of job number n
-abbrev pub EachRow : (ℕ → Job → CallReport → Type 0) → List Job → List CallReport → Type 0
-EachRow P jobs rows = (n : ℕ) → IfSome (slice_get jobs n) (λ job. IsSomeAnd (slice_get rows n) (λ row. P n job row))
+get-left : {A : Type 0} (xs ys : List A) (n : ℕ) (x : A) → slice_get xs n ≡ Some x → slice_get (xs ++ ys) n ≡ Some x
+get-left [] ys n x is = absurd cc
+get-left (a ∷ xs) ys zero x is = is
+get-left (a ∷ xs) ys (suc n) x is = get-left xs ys n x is
 
-each-append : (P : ℕ → Job → CallReport → Type 0) (jobs left : List Job) (rows more : List CallReport) → length rows ≡ length jobs → EachRow P jobs rows
-    → ((n k : ℕ) → k ≡ length jobs + n → IfSome (slice_get left n) (λ job. IsSomeAnd (slice_get more n) (λ row. P k job row))) → EachRow P (jobs ++ left) (rows ++ more)
-each-append P [] left [] more count first rest n = rest n n (omega arith)
-each-append P [] left (row ∷ rows) more count first rest n = absurd (omega (arith, count))
-each-append P (job ∷ jobs) left [] more count first rest n = absurd (omega (arith, count))
-each-append P (job ∷ jobs) left (row ∷ rows) more count first rest zero = first 0
-each-append P (job ∷ jobs) left (row ∷ rows) more count first rest (suc n) =
-    each-append (λ k. P (suc k)) jobs left rows more (omega (arith, count)) (λ k. first (suc k)) (λ m k is. rest m (suc k) (omega (arith, is))) n
+if-at : {A : Type 0} (P : A → Type 0) (found : Option A) (value : A) → found ≡ Some value → IfSome found P → P value
+if-at {A} P found value is has = subst (λ (o : Option A). IfSome o P) is has
 
-each-map : (P : ℕ → Job → CallReport → Type 0) (row_of : Job → CallReport) (jobs : List Job) → ((n : ℕ) (job : Job) → P n job (row_of job)) → EachRow P jobs (map row_of jobs)
-each-map P row_of [] every zero = tt
-each-map P row_of [] every (suc n) = tt
-each-map P row_of (job ∷ jobs) every zero = every 0 job
-each-map P row_of (job ∷ jobs) every (suc n) = each-map (λ k. P (suc k)) row_of jobs (λ k. every (suc k)) n
-
-length-more : (rows : List CallReport) (jobs left : List Job) (row_of : Job → CallReport) → length rows ≡ length jobs → length (rows ++ map row_of left) ≡ length (jobs ++ left)
-length-more [] [] [] row_of count = refl
-length-more [] [] (job ∷ left) row_of count = ap (λ (n : ℕ). suc n) (length-more [] [] left row_of refl)
-length-more [] (job ∷ jobs) left row_of count = absurd (omega (arith, count))
-length-more (row ∷ rows) [] left row_of count = absurd (omega (arith, count))
-length-more (row ∷ rows) (job ∷ jobs) left row_of count = ap (λ (n : ℕ). suc n) (length-more rows jobs left row_of (omega (arith, count)))
-
--- what is so of each row and its job
-all-rows : (Q : CallReport → Type 0) (R : ℕ → Job → Type 0) (P : ℕ → Job → CallReport → Type 0) (jobs : List Job) (rows : List CallReport) → length rows ≡ length jobs
-    → ((n : ℕ) → IfSome (slice_get jobs n) (R n)) → EachRow P jobs rows → ((n : ℕ) (job : Job) (row : CallReport) → R n job → P n job row → Q row × (row.id ≡ job.id))
-    → All Q rows × (map (λ (row : CallReport). row.id) rows ≡ map (λ (job : Job). job.id) jobs)
-all-rows Q R P [] [] count heard each says = (All-nil Q, refl)
-all-rows Q R P [] (row ∷ rows) count heard each says = absurd (omega (arith, count))
-all-rows Q R P (job ∷ jobs) [] count heard each says = absurd (omega (arith, count))
-all-rows Q R P (job ∷ jobs) (row ∷ rows) count heard each says =
-    let first = says 0 job row (heard 0) (each 0) in
-    let rest = all-rows Q (λ n. R (suc n)) (λ n. P (suc n)) jobs rows (omega (arith, count)) (λ n. heard (suc n)) (λ n. each (suc n)) (λ n. says (suc n)) in
-    (All-cons Q row rows first.0 rest.0, same-cons row.id job.id (map (λ (r : CallReport). r.id) rows) (map (λ (j : Job). j.id) jobs) first.1 rest.1)
+-- of each of some jobs, where it is so of each of the first of them, and of each behind these
+each-append : (P : ℕ → Job → Type 0) (jobs left : List Job) → ((n : ℕ) → IfSome (slice_get jobs n) (P n)) → ((n : ℕ) (job : Job) → length jobs ≤ n → P n job)
+    → (n : ℕ) → IfSome (slice_get (jobs ++ left) n) (P n)
+each-append P [] left first rest n = each-past P left rest n
   where
-    same-cons : (x y : ℕ) (xs ys : List ℕ) → x ≡ y → xs ≡ ys → (x ∷ xs) ≡ (y ∷ ys)
-    same-cons x y xs ys same rest = cc
+    each-past : (P : ℕ → Job → Type 0) (left : List Job) → ((n : ℕ) (job : Job) → 0 ≤ n → P n job) → (n : ℕ) → IfSome (slice_get left n) (P n)
+    each-past P left rest n = of-found (slice_get left n)
+      where
+        of-found : (found : Option Job) → IfSome found (P n)
+        of-found None = tt
+        of-found (Some job) = rest n job (omega arith)
+each-append P (job ∷ jobs) left first rest zero = first 0
+each-append P (job ∷ jobs) left first rest (suc n) =
+    each-append (λ k. P (suc k)) jobs left (λ k. first (suc k)) (λ k j past. rest (suc k) j (omega (arith, past))) n
+
+-- what is so of each place is so where there is one
+both-at : {A : Type 0} (P Q : ℕ → A → Type 0) (xs : List A) → ((n : ℕ) (x : A) → slice_get xs n ≡ Some x → P n x → Q n x) → ((n : ℕ) → IfSome (slice_get xs n) (P n)) → (n : ℕ) → IfSome (slice_get xs n) (Q n)
+both-at {A} P Q xs follows at n = among (slice_get xs n) refl (at n)
+  where
+    among : (found : Option A) → slice_get xs n ≡ found → IfSome found (P n) → IfSome found (Q n)
+    among None is p = tt
+    among (Some x) is p = follows n x is p
 
 -- ---- the accounts
 
 module _ (answers : ℕ → List (List ℕ) → Bool → Answer → Type 0) where
-  -- the rows of a worker, and those of the calls that it didn't take
-  have-rest : (gots : List (List InPiece)) (gives : List (List OutItem)) (jobs left : List Job) (rows : List CallReport) → HaveRows answers gots gives jobs rows
-      → EachRow (λ n. Answers answers (segment gots n) (segment gives n)) (jobs ++ left) (rows ++ map (λ job. unanswered job.id job.index) left)
-  have-rest gots gives jobs left rows has =
-      each-append (λ n. Answers answers (segment gots n) (segment gives n)) jobs left rows (map (λ job. unanswered job.id job.index) left) has.count has.each
-      (λ n k is. each-map (λ m. Answers answers (segment gots k) (segment gives k)) (λ job. unanswered job.id job.index) left
-      (λ m job. none_answered answers (segment gots k) (segment gives k) job (has.beyond k (omega (arith, is)))) n)
-
   module _ (names : List ℕ → ℕ → Type 0) (told : List Step) where
-    -- a row on what was heard of its call
-    accounted : (fed got : List InPiece) (given : List OutItem) (job : Job) (row : CallReport) → IsUnsent fed got given → IsHeard names told job fed → Answers answers got given job row
-        → IsAccounted answers names told row
-    accounted fed got given job row lawful heard has = record {
+    -- a row on what was heard of its call, with what was noted of the half
+    accounted : (fed got : List InPiece) (given : List OutItem) (job : Job) (row half : CallReport) → IsUnsent fed got given → IsHeard names told job fed → Answers answers got given job row
+        → HasHalf told half → half.id ≡ row.id → IsAccounted answers names told (record row { fed = half.fed; shut = half.shut })
+    accounted fed got given job row half lawful heard has noted same = record {
       account = unsent fed has.messages has.said given;
       head = job.head;
       known = subst (λ (id : ℕ). is_admitted id told ≡ true) (sym has.id) heard.known;
@@ -142,42 +125,83 @@ module _ (answers : ℕ → List (List ℕ) → Bool → Answer → Type 0) wher
       named = subst (λ (index : ℕ). names job.head.path index) (sym has.method) heard.named;
       fed = subst (λ (id : ℕ). bytes_of fed ≡ fed_by id (since id told)) (sym has.id) heard.fed;
       shut = subst (λ (id : ℕ). shut_of fed ≡ shut_by id (since id told)) (sym has.id) heard.shut;
-      stands = record { lawful = lawful has.messages has.said has.took; answered = has.answered };
+      counted = subst (λ (id : ℕ). half.fed ≡ count_of (fed_by id (since id told))) (same ∙ has.id) noted.0 ∙ sym (ap (λ (bytes : List ℕ). count_of bytes) heard.fed);
+      kind = subst (λ (id : ℕ). half.shut ≡ shut_by id (since id told)) (same ∙ has.id) noted.1 ∙ sym heard.shut;
+      stands = record {
+        lawful = lawful has.messages has.said has.took;
+        answered = record {
+          overdue = has.answered.overdue;
+          timed = has.answered.timed;
+          items = has.answered.items;
+          outcome = has.answered.outcome;
+          ends = has.answered.ends;
+          taken = has.answered.taken;
+          told = has.answered.told;
+        };
+      };
     }
 
-    -- the rows of all calls of a slot
-    slot-rows : (feds gots : List (List InPiece)) (gives : List (List OutItem)) (all jobs left : List Job) (rows new : List CallReport) → jobs ++ left ≡ all
-        → ((n : ℕ) → IsUnsent (segment feds n) (segment gots n) (segment gives n)) → EachHeard names told (λ n. segment feds n) all
-        → HaveRows answers gots gives jobs rows → new ≡ rows ++ map (λ job. unanswered job.id job.index) left → AreRows answers names told (map (λ job. job.id) all) new
-    slot-rows feds gots gives all jobs left rows new parts lawful heard has is =
-        let both = all-rows (IsAccounted answers names told) (λ n job. IsHeard names told job (segment feds n)) (λ n. Answers answers (segment gots n) (segment gives n))
-        (jobs ++ left) (rows ++ map (λ job. unanswered job.id job.index) left) (length-more rows jobs left (λ job. unanswered job.id job.index) has.count)
-        (subst (λ (js : List Job). EachHeard names told (λ n. segment feds n) js) (sym parts) heard) (have-rest gots gives jobs left rows has)
-        (λ n job row hears answer. (accounted (segment feds n) (segment gots n) (segment gives n) job row (lawful n) hears answer, answer.id)) in
-        subst (λ (rs : List CallReport). AreRows answers names told (map (λ job. job.id) all) rs) (sym is)
-        (record { each = both.0; streams = both.1 ∙ ap (λ (js : List Job). map (λ (job : Job). job.id) js) parts })
+    -- the row of a call of which nothing was taken
+    bare : (fed got : List InPiece) (given : List OutItem) (job : Job) (row : CallReport) → IsUnsent fed got given → IsHeard names told job fed → IsGivenAs [] given → IsServed names told row → row.id ≡ job.id
+        → IsAccounted answers names told row
+    bare fed got given job row lawful heard none served same = record {
+      account = unsent fed [] None given;
+      head = served.head;
+      known = served.known;
+      opened = served.opened;
+      named = served.named;
+      fed = subst (λ (id : ℕ). bytes_of fed ≡ fed_by id (since id told)) (sym same) heard.fed;
+      shut = subst (λ (id : ℕ). shut_of fed ≡ shut_by id (since id told)) (sym same) heard.shut;
+      counted = ap (λ (r : CallReport). r.fed) served.bare ∙ (ap (λ (id : ℕ). count_of (fed_by id (since id told))) same ∙ sym (ap (λ (bytes : List ℕ). count_of bytes) heard.fed));
+      kind = ap (λ (r : CallReport). r.shut) served.bare ∙ (ap (λ (id : ℕ). shut_by id (since id told)) same ∙ sym heard.shut);
+      stands = record {
+        lawful = lawful [] None (took-nothing got);
+        answered = subst (λ (r : CallReport). IsAnswered answers served.head [] None given r) (sym served.bare) (bare-answered answers served.head given (since row.id told) row.id row.method none);
+      };
+    }
 
-    settled-rows : (feds : Option (List (List InPiece))) (gots : List (List InPiece)) (gives : List (List OutItem)) (all jobs left : List Job) (rows new : List CallReport) → jobs ++ left ≡ all
+    -- of a job without a row
+    abbrev Rest : List CallReport → Job → Type 0
+    Rest rows job = HasRow rows job ⊎ ((row : CallReport) → IsServed names told row → row.id ≡ job.id → IsAccounted answers names told row)
+
+    -- the rows of a slot's worker
+    slot-rows : (feds gots : List (List InPiece)) (gives : List (List OutItem)) (all jobs left : List Job) (rows : List CallReport) → jobs ++ left ≡ all
+        → ((n : ℕ) → IsUnsent (segment feds n) (segment gots n) (segment gives n)) → EachHeard names told (λ n. segment feds n) all
+        → HaveRows answers gots gives jobs rows → AreAnswered answers names told all rows
+    slot-rows feds gots gives all jobs left rows parts lawful heard has = record {
+      each = All-weaker (IsOfJob answers gots gives jobs)
+          (λ row. (is_admitted row.id told ≡ true) × ((half : CallReport) → HasHalf told half → half.id ≡ row.id → IsAccounted answers names told (record row { fed = half.fed; shut = half.shut })))
+          (λ row one.
+          let hears = if-at (λ job. IsHeard names told job (segment feds one.number)) _ one.job
+          (subst (λ (js : List Job). slice_get js one.number ≡ Some one.job) parts (get-left jobs left one.number one.job one.at)) (heard one.number) in (
+            subst (λ (id : ℕ). is_admitted id told ≡ true) (sym one.stands.id) hears.known,
+            λ half noted same. accounted (segment feds one.number) (segment gots one.number) (segment gives one.number) one.job row half (lawful one.number) hears one.stands noted same,
+          )) rows has.each;
+      rest = both-at (λ n job. IsHeard names told job (segment feds n)) (λ n job. Rest rows job) all (λ n job at hears. elim (left-of n job at) [
+        | inl row ↦ inl row
+        | inr none ↦ inr (λ row served same. bare (segment feds n) (segment gots n) (segment gives n) job row (lawful n) hears none served same)
+      ]) heard;
+    }
+      where
+        left-of : (n : ℕ) (job : Job) → slice_get all n ≡ Some job → HasRow rows job ⊎ IsGivenAs [] (segment gives n)
+        left-of n job at =
+            if-at (λ j. HasRow rows j ⊎ IsGivenAs [] (segment gives n)) _ job (subst (λ (js : List Job). slice_get js n ≡ Some job) (sym parts) at)
+            (each-append (λ k j. HasRow rows j ⊎ IsGivenAs [] (segment gives k)) jobs left has.left (λ k j past. inr (inl (has.beyond k past))) n)
+
+    settled-rows : (feds : Option (List (List InPiece))) (gots : List (List InPiece)) (gives : List (List OutItem)) (all jobs left : List Job) (rows : List CallReport) → jobs ++ left ≡ all
         → IsSomeAnd feds (λ fs. (n : ℕ) → IsUnsent (segment fs n) (segment gots n) (segment gives n)) → IsSomeAnd feds (λ fs. EachHeard names told (λ n. segment fs n) all)
-        → HaveRows answers gots gives jobs rows → new ≡ rows ++ map (λ job. unanswered job.id job.index) left → AreRows answers names told (map (λ job. job.id) all) new
-    settled-rows None gots gives all jobs left rows new parts lawful heard has is = absurd lawful
-    settled-rows (Some feds) gots gives all jobs left rows new parts lawful heard has is = slot-rows feds gots gives all jobs left rows new parts lawful heard has is
+        → HaveRows answers gots gives jobs rows → AreAnswered answers names told all rows
+    settled-rows None gots gives all jobs left rows parts lawful heard has = absurd lawful
+    settled-rows (Some feds) gots gives all jobs left rows parts lawful heard has = slot-rows feds gots gives all jobs left rows parts lawful heard has
 
     -- the rows of a slot whose ends were brought together
-    pub seat-rows : (half : Half) (id : ℕ) (gots : List (List InPiece)) (gives : List (List OutItem)) (all jobs left : List Job) (rows new : List CallReport) → jobs ++ left ≡ all
+    pub seat-rows : (half : Half) (id : ℕ) (gots : List (List InPiece)) (gives : List (List OutItem)) (all jobs left : List Job) (rows : List CallReport) → jobs ++ left ≡ all
         → IsSomeAnd (fed_of half) (λ fs. (n : ℕ) → IsUnsent (segment fs n) (segment gots n) (segment gives n))
-        → TellsShut (shown half) → HaveRows answers gots gives jobs rows → new ≡ rows ++ map (λ job. unanswered job.id job.index) left
-        → AreCalls names told all (past_of half) id (shown half) → AreRows answers names told (map (λ job. job.id) all) new
-    seat-rows half id gots gives all jobs left rows new parts lawful tells has is are =
-        settled-rows (fed_of half) gots gives all jobs left rows new parts lawful (seat-heard names told half all id tells are) has is
+        → TellsShut (shown half) → HaveRows answers gots gives jobs rows
+        → AreCalls names told all (past_of half) id (shown half) → AreAnswered answers names told all rows
+    seat-rows half id gots gives all jobs left rows parts lawful tells has are =
+        settled-rows (fed_of half) gots gives all jobs left rows parts lawful (seat-heard names told half all id tells are) has
 
 -- what is left in a ring stands behind what was taken
 pub met-parts : {A : Type 0} (taken after left put_after put : List A) → after ≡ taken → after ++ left ≡ put_after → put_after ≡ put → taken ++ left ≡ put
 met-parts {A} taken after left put_after put same all put_same = ap (λ (xs : List A). xs ++ left) (sym same) ∙ (all ∙ put_same)
-
-pub at-some : {A : Type 0} (P : A → Type 0) (found : Option A) (v : A) → found ≡ Some v → IfSome found P → P v
-at-some {A} P found v is has = subst (λ (o : Option A). IfSome o P) is has
-
-pub if-follows : {A : Type 0} (found : Option A) (P Q : A → Type 0) → ((v : A) → P v → Q v) → IfSome found P → IfSome found Q
-if-follows None P Q follows has = tt
-if-follows (Some v) P Q follows has = follows v has

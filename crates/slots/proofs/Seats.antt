@@ -31,7 +31,7 @@ more-than : (found : Option ℕ) (id last : ℕ) → MatchOption found (Unit {0}
 more-than None id last rises low = low
 more-than (Some now) id last rises low = omega (arith, rises, low)
 
-known-step : (told : List Step) (step : Step) (id : ℕ) → is_admitted id told ≡ true → is_admitted id (step ∷ told) ≡ true
+pub known-step : (told : List Step) (step : Step) (id : ℕ) → is_admitted id told ≡ true → is_admitted id (step ∷ told) ≡ true
 known-step told step id known =
     list_any-append (nat_eq id) (admitted told) (once (admitted_by step)) ∙ ap (λ (b : Bool). b || list_any (nat_eq id) (once (admitted_by step))) known
 

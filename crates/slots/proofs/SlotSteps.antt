@@ -3,7 +3,7 @@ use Rattle.std.proofs.Common.{◌≡◌, ◌≢◌, ◌∙◌, ℕ, zero, suc, �
 use Rattle.std.specs.Prelude.{◌&&◌, nat_eq, nat_lt, position, Result, Ok, Err, OnOk, OnErr}
 use Rattle.std.specs.List.{position_or_len}
 use Rattle.std.proofs.lemmas.Bool.{and_left, and_parts, cases_Bool, cases_eq, cases_lt, cond-true, lt-ltb, ne_eqb}
-use Rattle.std.proofs.lemmas.List.{get_or-map, get_or-set_same, get_or-set_other, get_or_append_left, get_or_push, length-map, length-set, length_push, map-append, map-set, map_push}
+use Rattle.std.proofs.lemmas.List.{get_or-map, get_or-set_same, get_or-set_other, get_or_append_left, get_or_push, length-map, length-set, length_push, map-append, map-set, map_push, same_from_push}
 use Rattle.std.proofs.lemmas.List.Elements.{All-nil, All-push, All-weaker}
 use Rattle.std.proofs.lemmas.List.Quantifiers.{position-Some}
 use Rattle.std.proofs.lemmas.List.Sums.{fails_before_first}
@@ -11,18 +11,23 @@ use Rattle.std.proofs.Math.Seq.{map-set_same}
 use Rattle.callbox.specs.declared.piece.InPiece.{InPiece}
 use Rattle.account.specs.declared.call.Shut.{Shut}
 use Rattle.slots.specs.Concerns.{Concerns, IsIdle}
-use Rattle.slots.specs.Steps.{Step, admitted, admitted_by, last_of}
+use Rattle.slots.specs.Steps.{Lack, Step, Told, Unserved, admitted, admitted_by, last_of, shut_by, since}
+use Rattle.session.specs.declared.event.InEvent.TheVariants as events
+use Rattle.callhead.specs.declared.head.CallHead.{CallHead}
+use Rattle.callslot.specs.declared.report.CallReport.{CallReport}
+use Rattle.callslot.specs.Accounts.{unanswered}
 use Rattle.slots.specs.declared.half.Half.{Half}
 use Rattle.slots.specs.declared.half.Half.TheVariants.{Open, Shut as Closed, Moving}
 use Rattle.slots.specs.declared.seat.Seat.{Seat}
 use Rattle.slots.specs.declared.worker.Worker.{Ghosts}
 use Rattle.callslot.specs.declared.slot.Job.{Job}
 use Rattle.slots.specs.declared.slots.Slots.{Slots}
-use Rattle.slots.specs.Calls.{Rises}
+use Rattle.slots.specs.Calls.{Rises, is_admitted}
 use Rattle.slots.specs.Halves.{is_open, shown}
 use Rattle.slots.specs.Ids.{times}
-use Rattle.slots.specs.Seats.{AreApart, IsSeat, Kept, feeds, ids_of, jobs_of, times_in}
+use Rattle.slots.specs.Seats.{AreApart, HaveRows, IsSeat, Kept, feeds, ids_of, jobs_of, times_in}
 use Rattle.slots.proofs.Ids.{times-append}
+use Rattle.slots.proofs.ListedRows.{rows-none, rows-open, rows-step, rows-unfed, rows-unserved}
 use Rattle.slots.proofs.Seats.{opening, seat-passes, seat-shut}
 
 -- ---- a slot that a step passes by
@@ -194,7 +199,8 @@ module _ {H : Type 0} {hand : Ghosts H} {names : List ℕ → ℕ → Type 0} wh
   pub kept-idle : (told : List Step) (step : Step) (slots : Slots H hand) → IsIdle step → Kept names told slots → Kept names (step ∷ told) slots
   kept-idle told step slots idle k = record {
     rising = (rises-not told step idle.admits, k.rising);
-    last = k.last ∙ sym (last-not told step idle.admits);
+    last = subst (λ (n : ℕ). n ≤ slots.last) (sym (last-not told step idle.admits)) k.last;
+    rows = rows-step told step slots.last slots.rows.items idle k.rows;
     each = All-weaker (IsSeat names told) (IsSeat names (step ∷ told)) (λ seat are. seat-idle told step seat idle are) slots.seats.items k.each;
     apart = k.apart;
     all = all-not (λ id. times_in id slots.seats.items) told step idle.admits k.all;
@@ -213,11 +219,13 @@ none-at p xs n d none within = fails_before_first p xs n d (omega (arith, within
 
 module _ {H : Type 0} {hand : Ghosts H} {names : List ℕ → ℕ → Type 0} where
   -- a step that concerns a call that isn't fed
-  pub kept-none : (told : List Step) (step : Step) (slots : Slots H hand) (id : ℕ) → position (λ (seat : Seat H hand). feeds id seat) slots.seats.items ≡ None → Concerns id step
+  pub kept-none : (told : List Step) (step : Step) (slots : Slots H hand) (id : ℕ) → position (λ (seat : Seat H hand). feeds id seat) slots.seats.items ≡ None
+      → (is_admitted id told ≡ true → shut_by id (since id told) ≢ None) → Concerns id step
       → Kept names told slots → Kept names (step ∷ told) slots
-  kept-none told step slots id none concerns k = record {
+  kept-none told step slots id none closed concerns k = record {
     rising = (rises-not told step concerns.admits, k.rising);
-    last = k.last ∙ sym (last-not told step concerns.admits);
+    last = subst (λ (n : ℕ). n ≤ slots.last) (sym (last-not told step concerns.admits)) k.last;
+    rows = rows-unfed told step slots.last id slots.rows.items concerns closed k.rows;
     each = λ n d within.
         seat-by told step id (get_or slots.seats.items n d) concerns (none-at (λ (seat : Seat H hand). feeds id seat) slots.seats.items n d none within) (k.each n d within);
     apart = k.apart;
@@ -264,12 +272,17 @@ module _ {H : Type 0} {hand : Ghosts H} {names : List ℕ → ℕ → Type 0} (o
   was : (told : List Step) → Kept names told old → IsSeat names told seat
   was told k = subst (λ (s : Seat H hand). IsSeat names told s) (sym is) (k.each place seat there)
 
+  rows-same : (old new : Slots H hand) (told : List Step) → new.last ≡ old.last → new.rows ≡ old.rows → HaveRows names told old.last old.rows.items → HaveRows names told new.last new.rows.items
+  rows-same old new told last still has =
+      subst (λ (n : ℕ). HaveRows names told n new.rows.items) (sym last) (subst (λ (all : List CallReport). HaveRows names told old.last all) (sym (ap (λ v. v.items) still)) has)
+
   -- a step that concerns its call
-  pub kept-set : (told : List Step) (step : Step) (id : ℕ) → new.last ≡ old.last → moved.id ≡ seat.id → jobs_of moved ≡ jobs_of seat → nat_eq seat.id id ≡ true → Concerns id step
+  pub kept-set : (told : List Step) (step : Step) (id : ℕ) → new.last ≡ old.last → HaveRows names (step ∷ told) old.last new.rows.items → moved.id ≡ seat.id → jobs_of moved ≡ jobs_of seat → nat_eq seat.id id ≡ true → Concerns id step
       → (IsSeat names told seat → IsSeat names (step ∷ told) moved) → Kept names told old → Kept names (step ∷ told) new
-  kept-set told step id last same jobs of concerns goes k = record {
+  kept-set told step id last still same jobs of concerns goes k = record {
     rising = (rises-not told step concerns.admits, k.rising);
-    last = last ∙ (k.last ∙ sym (last-not told step concerns.admits));
+    last = subst (λ (n : ℕ). last_of (step ∷ told) ≤ n) (sym last) (subst (λ (n : ℕ). n ≤ old.last) (sym (last-not told step concerns.admits)) k.last);
+    rows = subst (λ (n : ℕ). HaveRows names (step ∷ told) n new.rows.items) (sym last) still;
     each = subst (λ (seats : List (Seat H hand)). All (λ (s : Seat H hand). IsSeat names (step ∷ told) s) seats) (sym items)
         (set-each (IsSeat names told) (IsSeat names (step ∷ told)) old.seats.items place moved there (goes (was told k))
         (λ n d within away one. seat-by told step id (get_or old.seats.items n d) concerns (unfed-there old new place seat moved there is items n id d k.apart of within away) one) k.each);
@@ -278,10 +291,11 @@ module _ {H : Type 0} {hand : Ghosts H} {names : List ℕ → ℕ → Type 0} (o
   }
 
   -- no step
-  pub keeps-set : (told : List Step) → new.last ≡ old.last → moved.id ≡ seat.id → jobs_of moved ≡ jobs_of seat → (IsSeat names told seat → IsSeat names told moved) → Kept names told old → Kept names told new
-  keeps-set told last same jobs stays k = record {
+  pub keeps-set : (told : List Step) → new.last ≡ old.last → new.rows ≡ old.rows → moved.id ≡ seat.id → jobs_of moved ≡ jobs_of seat → (IsSeat names told seat → IsSeat names told moved) → Kept names told old → Kept names told new
+  keeps-set told last still same jobs stays k = record {
     rising = k.rising;
-    last = last ∙ k.last;
+    last = subst (λ (n : ℕ). last_of told ≤ n) (sym last) k.last;
+    rows = rows-same old new told last still k.rows;
     each = subst (λ (seats : List (Seat H hand)). All (λ (s : Seat H hand). IsSeat names told s) seats) (sym items)
         (set-each (IsSeat names told) (IsSeat names told) old.seats.items place moved there (stays (was told k)) (λ n d within away one. one) k.each);
     apart = still-apart old new place seat moved there is items same k.apart;
@@ -289,15 +303,16 @@ module _ {H : Type 0} {hand : Ghosts H} {names : List ℕ → ℕ → Type 0} (o
   }
 
   -- it begins the next call
-  pub kept-begins : (told : List Step) (job : Job) → old.last < job.id → new.last ≡ job.id → moved.id ≡ job.id → jobs_of moved ≡ jobs_of seat ++ job ∷ []
+  pub kept-begins : (told : List Step) (job : Job) → names job.head.path job.index → old.last < job.id → new.last ≡ job.id → new.rows.items ≡ old.rows.items ++ unanswered job.id job.index ∷ [] → moved.id ≡ job.id → jobs_of moved ≡ jobs_of seat ++ job ∷ []
       → (last_of told < job.id → IsSeat names told seat → IsSeat names (opening job ∷ told) moved) → Kept names told old → Kept names (opening job ∷ told) new
-  kept-begins told job above last next jobs begins k =
-      let higher : last_of told < job.id = subst (λ (n : ℕ). n < job.id) k.last above in
+  kept-begins told job named above last row next jobs begins k =
+      let higher : last_of told < job.id = omega (arith, k.last, above) in
       let set_at : ids new.seats.items ≡ set (ids old.seats.items) place job.id =
       ap ids items ∙ (map-set (λ (s : Seat H hand). s.id) old.seats.items place moved ∙ ap (λ (n : ℕ). set (ids old.seats.items) place n) next) in
       record {
         rising = (higher, k.rising);
-        last = last;
+        last = omega (arith, last);
+        rows = subst (λ (n : ℕ). HaveRows names (opening job ∷ told) n new.rows.items) (sym last) (rows-open told job old.last old.rows.items new.rows.items named above row k.rows);
         each = subst (λ (seats : List (Seat H hand)). All (λ (s : Seat H hand). IsSeat names (opening job ∷ told) s) seats) (sym items)
             (set-each (IsSeat names told) (IsSeat names (opening job ∷ told)) old.seats.items place moved there (begins higher (was told k))
             (λ n d within away one. seat-other told job (get_or old.seats.items n d) higher one) k.each);
@@ -306,16 +321,38 @@ module _ {H : Type 0} {hand : Ghosts H} {names : List ℕ → ℕ → Type 0} (o
       }
 
 module _ {H : Type 0} {hand : Ghosts H} {names : List ℕ → ℕ → Type 0} where
+  -- its first call names its method
+  first-named : (told : List Step) (seat : Seat H hand) (job : Job) → jobs_of seat ≡ job ∷ [] → IsSeat names told seat → names job.head.path job.index
+  first-named told seat job jobs are = let same = same_from_push [] are.earlier job are.job (sym jobs ∙ are.all) in subst (λ (j : Job). names j.head.path j.index) (sym same.1) are.last.named
+
+  -- no worker serves a call
+  pub kept-unserved : (old new : Slots H hand) (told : List Step) (id method : ℕ) (head : CallHead) (why : Lack) → names head.path method → new.seats ≡ old.seats → old.last < id → new.last ≡ id
+      → new.rows.items ≡ old.rows.items ++ unanswered id method ∷ [] → Kept names told old → Kept names (Told (events.Open id head) (Unserved why) ∷ told) new
+  kept-unserved old new told id method head why named seats above last row k =
+      let step = Told (events.Open id head) (Unserved why) in
+      record {
+        rising = (tt, k.rising);
+        last = omega (arith, last, above, k.last);
+        rows = subst (λ (n : ℕ). HaveRows names (step ∷ told) n new.rows.items) (sym last) (rows-unserved told id method old.last head why old.rows.items new.rows.items named k.rising k.last above row k.rows);
+        each = subst (λ (all : List (Seat H hand)). All (λ (s : Seat H hand). IsSeat names (step ∷ told) s) all) (sym (ap (λ v. v.items) seats))
+            (All-weaker (IsSeat names told) (IsSeat names (step ∷ told)) (λ s are. seat-passes told step _ _ s.id (shown s.half) tt (record { shuts = refl; feeds = refl }) are) old.seats.items k.each);
+        apart = subst (λ (all : List (Seat H hand)). AreApart (ids all)) (sym (ap (λ v. v.items) seats)) k.apart;
+        all = λ other. ap (λ (v : List (Seat H hand)). times_in other v) (ap (λ v. v.items) seats) ∙ (k.all other ∙ ap (λ (all : List ℕ). times other all) (sym (append-nil (admitted told))));
+      }
+
   -- a slot is made for a call
-  pub kept-pushed : (old new : Slots H hand) (seat : Seat H hand) (told : List Step) (job : Job) → new.seats.items ≡ old.seats.items ++ seat ∷ [] → old.last < job.id → new.last ≡ job.id → seat.id ≡ job.id
+  pub kept-pushed : (old new : Slots H hand) (seat : Seat H hand) (told : List Step) (job : Job) → new.seats.items ≡ old.seats.items ++ seat ∷ [] → old.last < job.id → new.last ≡ job.id
+      → new.rows.items ≡ old.rows.items ++ unanswered job.id job.index ∷ [] → seat.id ≡ job.id
       → jobs_of seat ≡ job ∷ [] → IsSeat names (opening job ∷ told) seat → Kept names told old → Kept names (opening job ∷ told) new
-  kept-pushed old new seat told job items above last next jobs one k =
-      let higher : last_of told < job.id = subst (λ (n : ℕ). n < job.id) k.last above in
+  kept-pushed old new seat told job items above last row next jobs one k =
+      let higher : last_of told < job.id = omega (arith, k.last, above) in
+      let named : names job.head.path job.index = first-named (opening job ∷ told) seat job jobs one in
       let pushed : ids new.seats.items ≡ ids old.seats.items ++ job.id ∷ [] =
       ap ids items ∙ (map_push (λ (s : Seat H hand). s.id) old.seats.items seat ∙ ap (λ (n : ℕ). ids old.seats.items ++ n ∷ []) next) in
       record {
         rising = (higher, k.rising);
-        last = last;
+        last = omega (arith, last);
+        rows = subst (λ (n : ℕ). HaveRows names (opening job ∷ told) n new.rows.items) (sym last) (rows-open told job old.last old.rows.items new.rows.items named above row k.rows);
         each = subst (λ (seats : List (Seat H hand)). All (λ (s : Seat H hand). IsSeat names (opening job ∷ told) s) seats) (sym items)
             (All-push (IsSeat names (opening job ∷ told)) old.seats.items seat
             (All-weaker (IsSeat names told) (IsSeat names (opening job ∷ told)) (λ s are. seat-other told job s higher are) old.seats.items k.each) one);
@@ -326,10 +363,11 @@ module _ {H : Type 0} {hand : Ghosts H} {names : List ℕ → ℕ → Type 0} wh
       }
 
   -- no slot is there yet
-  pub kept-none-yet : (slots : Slots H hand) → slots.seats.items ≡ [] → slots.last ≡ 0 → Kept names [] slots
-  kept-none-yet slots none last = record {
+  pub kept-none-yet : (slots : Slots H hand) → slots.seats.items ≡ [] → slots.last ≡ 0 → slots.rows.items ≡ [] → Kept names [] slots
+  kept-none-yet slots none last no_rows = record {
     rising = tt;
-    last = last;
+    last = omega arith;
+    rows = subst (λ (n : ℕ). HaveRows names [] n slots.rows.items) (sym last) (rows-none slots.rows.items no_rows);
     each = subst (λ (seats : List (Seat H hand)). All (λ (s : Seat H hand). IsSeat names [] s) seats) (sym none) (All-nil (λ (s : Seat H hand). IsSeat names [] s));
     apart = subst (λ (seats : List (Seat H hand)). AreApart (ids seats)) (sym none) (λ one other lt more same. absurd (omega (arith, lt)));
     all = λ id. ap (λ (seats : List (Seat H hand)). times_in id seats) none;

@@ -24,7 +24,7 @@ among-with : (here : Bool) (rest : Bool) (n : ℕ) → (here || rest) ≡ true �
 among-with true rest n is behind = omega arith
 among-with false rest n is behind = let some = behind is in omega (arith, some)
 
-among : (id : ℕ) (ids : List ℕ) → list_any (nat_eq id) ids ≡ true → 0 < times id ids
+pub among : (id : ℕ) (ids : List ℕ) → list_any (nat_eq id) ids ≡ true → 0 < times id ids
 among id [] is = absurd cc
 among id (first ∷ ids) is =
     subst (λ (n : ℕ). 0 < n) (sym (times-cons id first ids)) (among-with (nat_eq id first) (list_any (nat_eq id) ids) (times id ids) is (among id ids))
@@ -34,10 +34,10 @@ first-or : (id first : ℕ) (here : Bool) (n : ℕ) → nat_eq id first ≡ here
 first-or id first true n is some = inl (eqb-true id first is)
 first-or id first false n is some = inr (omega (arith, some))
 
-split-first : (id first : ℕ) (ids : List ℕ) → 0 < times id (first ∷ ids) → (id ≡ first) ⊎ (0 < times id ids)
+pub split-first : (id first : ℕ) (ids : List ℕ) → 0 < times id (first ∷ ids) → (id ≡ first) ⊎ (0 < times id ids)
 split-first id first ids some = first-or id first (nat_eq id first) (times id ids) refl (subst (λ (n : ℕ). 0 < n) (times-cons id first ids) some)
 
-either : (n m : ℕ) → 0 < n + m → (0 < n) ⊎ (0 < m)
+pub either : (n m : ℕ) → 0 < n + m → (0 < n) ⊎ (0 < m)
 either zero m some = inr (omega (arith, some))
 either (suc n) m some = inl (omega arith)
 

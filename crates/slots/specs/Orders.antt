@@ -19,7 +19,7 @@ use Rattle.session.specs.declared.event.Control.{Control}
 use Rattle.session.specs.declared.event.Control.TheVariants as controls
 use Rattle.session.specs.declared.event.InEvent.TheVariants as events
 use Rattle.slots.specs.Calls.{is_admitted}
-use Rattle.slots.specs.Steps.{Fate, Admitted, Unknown, TurnedAway, Received, Missed, Lacking, Cause, AtEnd, NotLive, Step, Told, CutOff, shut_by, since}
+use Rattle.slots.specs.Steps.{Lack, NoWorker, Stopped, Fate, Admitted, Unserved, Unknown, TurnedAway, Received, Missed, Lacking, Cause, AtEnd, NotLive, Step, Told, CutOff, shut_by, since}
 
 -- ---- streams that were begun
 
@@ -71,6 +71,8 @@ opened last id Admitted = Open id tt ∷ []
 opened last id Unknown = Refuse id unknown_method ∷ []
 opened last id (TurnedAway fault) = turned_away last id fault ∷ []
 opened last id Lacking = Goaway last InternalError ∷ []
+opened last id (Unserved NoWorker) = Goaway last InternalError ∷ []
+opened last id (Unserved Stopped) = []
 opened last id _ = []
 
 -- a malformed request is an error of its stream, others are refused with a block
@@ -137,6 +139,7 @@ abbrev pub ends_by : Fate → Option Ending
 ends_by (TurnedAway fault) = ends_if_refused fault
 ends_by (Received Overrun) = Some (Failed FlowControlError)
 ends_by Lacking = Some RanOut
+ends_by (Unserved NoWorker) = Some RanOut
 ends_by _ = None
 
 abbrev pub ends_at : Step → Option Ending

@@ -1,5 +1,5 @@
 -- The reading side of a connection, as it is by what it heard, and what it decides of each step.
-use Rattle.std.specs.Prelude.{◌≡◌, ℕ, List, [], ◌∷◌, ◌++◌, length, min, Option, None, Some}
+use Rattle.std.specs.Prelude.{◌≡◌, ℕ, true, List, [], ◌∷◌, ◌++◌, length, min, Option, None, Some}
 use Rattle.callslot.specs.declared.order.Opened.{Opened}
 use Rattle.callslot.specs.declared.report.Ending.{Ending}
 use Rattle.connbook.specs.declared.answers.Receipt.{Receipt}
@@ -13,7 +13,8 @@ use Rattle.slots.specs.declared.worker.Worker.{Ghosts}
 use Rattle.slots.specs.Concerns.{Concerns}
 use Rattle.slots.specs.Orders.{begun, ends_at, greatest, most_streams, orders_at}
 use Rattle.slots.specs.Seats.{Kept}
-use Rattle.slots.specs.Steps.{Fate, Received, Missed, Lacking, Step, shut_at}
+use Rattle.session.specs.declared.event.InEvent.TheVariants.{PeerGoaway}
+use Rattle.slots.specs.Steps.{Fate, Received, Missed, Lacking, Step, WasTold, shut_at}
 
 -- ---- what is decided
 
@@ -45,16 +46,22 @@ module _ {H : Type 0} {hand : Ghosts H} where
     pub last : reading.last ≡ greatest ids
     pub count : reading.begun ≡ min most_streams (length ids)
 
+  -- it counts the peer as one that opens no more streams only where that was told
+  abbrev pub Heeds : List Step → Reading H hand → Type 0
+  Heeds told reading = reading.peer_goaway ≡ true → WasTold PeerGoaway told
+
 module _ {H : Type 0} {hand : Ghosts H} (names : List ℕ → ℕ → Type 0) where
   -- These steps led to the reading side.
   pub record Reads (told : List Step) (reading : Reading H hand) : Type 0 where
     pub slots : Kept names told reading.slots
     pub counts : Counts (begun told) reading
+    pub heeds : Heeds told reading
 
   -- These steps led to it, and this one does once the half is shut as it says.
   pub record Awaits (told : List Step) (step : Step) (cut : Cut) (reading : Reading H hand) : Type 0 where
     pub slots : Kept names told reading.slots
     pub counts : Counts (begun (step ∷ told)) reading
+    pub heeds : Heeds told reading
     pub concerns : Concerns cut.id step
     pub shuts : shut_at cut.id step ≡ Some cut.kind
 
@@ -62,6 +69,7 @@ module _ {H : Type 0} {hand : Ghosts H} (names : List ℕ → ℕ → Type 0) wh
   pub record Begins (told : List Step) (step : Step) (id : ℕ) (reading : Reading H hand) : Type 0 where
     pub slots : Kept names (step ∷ told) reading.slots
     pub counts : Counts (begun told) reading
+    pub heeds : Heeds told reading
     pub begins : begun (step ∷ told) ≡ id ∷ begun told
 
   abbrev pub Stands : List Step → Step → Option Cut → Reading H hand → Type 0

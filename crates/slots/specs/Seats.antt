@@ -1,6 +1,8 @@
 -- The slots of a connection, as they are by what its reading side heard.
-use Rattle.std.specs.Prelude.{◌≡◌, ◌<◌, ◌&&◌, ◌+◌, ℕ, Bool, nat_eq, List, [], ◌++◌, ◌∷◌, map, length, get_or, All}
+use Rattle.std.specs.Prelude.{◌≡◌, ◌⊎◌, ◌<◌, ◌≤◌, ◌&&◌, ◌+◌, ℕ, Bool, nat_eq, List, [], ◌++◌, ◌∷◌, map, length, get_or, All, vec_capacity, vec_len}
+use Rattle.std.specs.List.{AllPairs}
 use Rattle.lane.specs.Ring as ring
+use Rattle.callslot.specs.declared.report.CallReport.{CallReport}
 use Rattle.callslot.specs.declared.slot.Job.{Job}
 use Rattle.slots.specs.declared.seat.Seat.{Seat}
 use Rattle.slots.specs.declared.slots.Slots.{Slots}
@@ -8,7 +10,8 @@ use Rattle.slots.specs.declared.worker.Worker.{Ghosts}
 use Rattle.slots.specs.Calls.{AreCalls}
 use Rattle.slots.specs.Halves.{is_open, past_of, shown}
 use Rattle.slots.specs.Ids.{times}
-use Rattle.slots.specs.Steps.{Step, admitted, last_of, IsRising}
+use Rattle.slots.specs.Reports.{IsServed, IsUnserved}
+use Rattle.slots.specs.Steps.{Step, admitted, last_of, reported, IsRising}
 
 -- no two are at the same stream
 abbrev pub AreApart : List ℕ → Type 0
@@ -28,19 +31,35 @@ module _ {H : Type 0} {hand : Ghosts H} where
   times_in id [] = 0
   times_in id (seat ∷ seats) = times id (ids_of seat) + times_in id seats
 
+  -- a call of this stream may be admitted: it is above those before it, and there is room for its row
+  abbrev pub IsNext : ℕ → Slots H hand → Type 0
+  IsNext id slots = (slots.last < id) × (vec_len slots.rows < vec_capacity slots.rows)
+
+  abbrev pub KeepsNext : Slots H hand → Slots H hand → Type 0
+  KeepsNext old new = (id : ℕ) → IsNext id old → IsNext id new
+
   -- a slot is at a call of this stream, to which more may be fed
   abbrev pub feeds : ℕ → Seat H hand → Bool
   feeds id seat = nat_eq seat.id id && is_open seat.half
+
+-- There is a row for each call that was admitted, in their order: of one that a worker serves, as it is before the worker's end is
+-- seen, or of one that none serves.
+pub record HaveRows (names : List ℕ → ℕ → Type 0) (told : List Step) (last : ℕ) (rows : List CallReport) : Type 0 where
+  pub each : All (λ row. IsServed names told row ⊎ IsUnserved names told row) rows
+  pub streams : map (λ row. row.id) rows ≡ reported told
+  pub rise : AllPairs (λ row later. row.id < later.id) rows
+  pub within : All (λ row. row.id ≤ last) rows
 
 module _ {H : Type 0} {hand : Ghosts H} (names : List ℕ → ℕ → Type 0) where
   -- these steps led to a slot
   abbrev pub IsSeat : List Step → Seat H hand → Type 0
   IsSeat told seat = AreCalls names told (jobs_of seat) (past_of seat.half) seat.id (shown seat.half)
 
-  -- These steps led to the slots: each has its calls, and their calls are those that were admitted, each once.
+  -- These steps led to the slots: each has its calls, and their calls are those that workers serve, each once.
   pub record Kept (told : List Step) (slots : Slots H hand) : Type 0 where
     pub rising : IsRising told
-    pub last : slots.last ≡ last_of told
+    pub last : last_of told ≤ slots.last
+    pub rows : HaveRows names told slots.last slots.rows.items
     pub each : All (λ seat. IsSeat told seat) slots.seats.items
     pub apart : AreApart (map (λ seat. seat.id) slots.seats.items)
     pub all : (id : ℕ) → times_in id slots.seats.items ≡ times id (admitted told)

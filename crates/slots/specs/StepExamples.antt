@@ -5,12 +5,12 @@ use Rattle.account.specs.declared.call.Shut.TheVariants as shut
 use Rattle.callhead.specs.declared.head.CallHead.{CallHead}
 use Rattle.connbook.specs.declared.answers.AdmitFault.TheVariants as refused
 use Rattle.connbook.specs.declared.answers.Receipt.TheVariants.{Feed, Discard, Overrun}
-use Rattle.h2frame.specs.declared.error_code.ErrorCode.TheVariants.{FlowControlError, RefusedStream, Cancel, EnhanceYourCalm}
+use Rattle.h2frame.specs.declared.error_code.ErrorCode.TheVariants.{FlowControlError, InternalError, RefusedStream, Cancel, EnhanceYourCalm}
 use Rattle.callhead.specs.StatusFields.{unknown_method}
 use Rattle.outwriter.specs.declared.control.Control.TheVariants.{Open, Refuse, Reset, Goaway}
 use Rattle.session.specs.declared.event.InEvent.TheVariants as events
 use Rattle.slots.specs.Orders.{orders_at, orders_by}
-use Rattle.slots.specs.Steps.{Plain, Admitted, Unknown, TurnedAway, Received, Missed, Step, Told, CutOff, AtEnd, admitted, head_of, last_of, IsRising, since, shut_by, fed_by, lets_go, WasLetGo}
+use Rattle.slots.specs.Steps.{NoWorker, Stopped, Plain, Admitted, Unserved, Unknown, TurnedAway, Received, Missed, Step, Told, CutOff, AtEnd, admitted, reported, head_of, last_of, IsRising, since, shut_by, fed_by, lets_go, WasLetGo}
 
 -- call 1 is fed four bytes in two pieces, and its half ends
 abbrev pub one_call : CallHead → List Step
@@ -71,6 +71,17 @@ fifth_is_last head = refl
 
 pub two_rise : (head : CallHead) → IsRising (two_calls head)
 two_rise head = (tt, (lit< tt, (tt, (lit< tt, tt))))
+
+-- a call that no worker serves has a row
+pub three_have_rows : (head : CallHead) → reported (Told (events.Open 9 head) (Unserved NoWorker) ∷ two_calls head) ≡ 1 ∷ 5 ∷ 9 ∷ []
+three_have_rows head = refl
+
+-- for want of a worker the connection ends; where the writing side has stopped nothing is ordered
+pub unstarted_ends : (head : CallHead) → orders_at (two_calls head) (Told (events.Open 9 head) (Unserved NoWorker)) ≡ Goaway 9 InternalError ∷ []
+unstarted_ends head = refl
+
+pub stopped_orders_none : (head : CallHead) → orders_at (two_calls head) (Told (events.Open 9 head) (Unserved Stopped)) ≡ []
+stopped_orders_none head = refl
 
 -- a head that was turned away is that of no call
 pub first_head : (head : CallHead) → head_of 1 (two_calls head) ≡ Some head

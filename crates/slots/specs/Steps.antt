@@ -16,12 +16,18 @@ use Rattle.session.specs.declared.event.InEvent.{InEvent}
 use Rattle.session.specs.declared.event.InEvent.TheVariants as events
 use Rattle.session.specs.StreamData.{Finished, ending_told, piece_of}
 
--- What became of an event: nothing was to be answered; of a call that begins, the lock admitted it, its path names no method,
--- or the lock turned it away; of bytes that came, what the lock said of them, or that they were to be fed and the call's lane
+-- Why no worker serves a call that the lock admitted: there was no memory for one, or no thread; or the writing side had stopped.
+pub data Lack : Type 0 where
+  NoWorker : Lack
+  Stopped : Lack
+
+-- What became of an event: nothing was to be answered; of a call that begins, the lock admitted it, and a worker serves it or none
+-- does, its path names no method, or the lock turned it away; of bytes that came, what the lock said of them, or that they were to be fed and the call's lane
 -- refused them; or there was no memory for what it leads to.
 pub data Fate : Type 0 where
   Plain : Fate
   Admitted : Fate
+  Unserved : Lack → Fate
   Unknown : Fate
   TurnedAway : AdmitFault → Fate
   Received : Receipt → Fate
@@ -41,6 +47,13 @@ pub data Step : Type 0 where
 
 -- ---- calls that were admitted
 
+-- by the lock; each has a row in the report
+abbrev pub reported_by : Step → Option ℕ
+reported_by (Told (events.Open id head) Admitted) = Some id
+reported_by (Told (events.Open id head) (Unserved why)) = Some id
+reported_by _ = None
+
+-- and served by a worker: those that are meant below
 abbrev pub admitted_by : Step → Option ℕ
 admitted_by (Told (events.Open id head) Admitted) = Some id
 admitted_by _ = None
@@ -53,7 +66,16 @@ abbrev pub once : {A : Type 0} → Option A → List A
 once None = []
 once (Some x) = x ∷ []
 
--- their ids, the earliest first, and the latest of them, 0 for none
+-- the ids of all that have a row, the earliest first
+abbrev pub reported : List Step → List ℕ
+reported [] = []
+reported (step ∷ before) = reported before ++ once (reported_by step)
+
+-- a call was admitted with this head, and no worker serves it
+abbrev pub WasUnserved : ℕ → CallHead → List Step → Type 0
+WasUnserved id head told = (before : List Step) × (after : List Step) × (why : Lack) × (told ≡ after ++ Told (events.Open id head) (Unserved why) ∷ before)
+
+-- the ids of those that are served, the earliest first, and the latest of them, 0 for none
 abbrev pub admitted : List Step → List ℕ
 admitted [] = []
 admitted (step ∷ before) = admitted before ++ once (admitted_by step)
@@ -134,6 +156,10 @@ abbrev pub events_of : List Step → List InEvent
 events_of [] = []
 events_of (Told event fate ∷ before) = events_of before ++ event ∷ []
 events_of (CutOff id why ∷ before) = events_of before
+
+-- this event was told
+abbrev pub WasTold : InEvent → List Step → Type 0
+WasTold event told = (before : List InEvent) × (after : List InEvent) × (events_of told ≡ before ++ event ∷ after)
 
 -- ---- what lets a call's half go
 

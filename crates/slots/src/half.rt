@@ -76,7 +76,8 @@ impl Half {
             (λ past. past_of self.new ≡ Some (past ++ (shown self.old).items ∷ [])) }
         ensures was_shut { result ≡ true → IsSomeAnd (shown self.old).shut
             (λ kind. shut_of (shown self.old).items ≡ Some kind) }
-        ensures stays { result ≡ false → (shown self.new ≡ shown self.old) × (past_of self.new ≡ past_of self.old) }
+        ensures stays { result ≡ false
+            → (shown self.new ≡ shown self.old) × (past_of self.new ≡ past_of self.old) }
     {
         let shut = match mem::replace(self, Half::Moving) {
             Half::Shut(shut) => shut,

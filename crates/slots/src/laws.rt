@@ -23,7 +23,8 @@ ghost use Rattle.slots.specs.Streams.{HasEnd, HasStreamData};
 
 /// As long as a half isn't shut, it is fed what the events tell of its stream's data.
 pub fn fed_while_open()
-    ensures { (id : ℕ) (told : List Step) → shut_by id told ≡ None → fed_by id told ≡ pieces id (events_of told) }
+    ensures { (id : ℕ) (told : List Step) → shut_by id told ≡ None
+        → fed_by id told ≡ pieces id (events_of told) }
 {}
 
 /// However it was shut, what it is fed begins the data that the events tell of its stream.
@@ -34,43 +35,50 @@ pub fn fed_front()
 /// A half that ends was fed all data that were told before the end, and no other end was told before it.
 pub fn ended_whole()
     ensures { (id : ℕ) (told : List Step) → shut_by id told ≡ Some shut.End →
-        (before : List InEventOf) × (after : List InEventOf) × (events_of told ≡ before ++ events.End id ∷ after)
+        (before : List InEventOf) × (after : List InEventOf)
+        × (events_of told ≡ before ++ events.End id ∷ after)
         × (fed_by id told ≡ pieces id before) × (ending_told id (events_of told) ≡ Finished) }
 {}
 
 /// Where END_STREAM is the first end that is told of a call, its half was let go before, if it was reset.
 pub fn let_go_before()
     ensures { (id code : ℕ) (told : List Step) → list_any (nat_eq id) (admitted told) ≡ true →
-        ending_told id (events_of (since id told)) ≡ Finished → shut_by id (since id told) ≡ Some (shut.Reset code) → WasLetGo id code told }
+        ending_told id (events_of (since id told)) ≡ Finished
+        → shut_by id (since id told) ≡ Some (shut.Reset code) → WasLetGo id code told }
 {}
 
 /// What was heard since a call was admitted are the events behind the one that its stream begins with.
 pub fn since_opening()
     ensures { (id : ℕ) (told : List Step) → list_any (nat_eq id) (admitted told) ≡ true →
-        (before : List InEventOf) × (head : Head) × (events_of told ≡ before ++ events.Open id head ∷ events_of (since id told)) }
+        (before : List InEventOf) × (head : Head)
+        × (events_of told ≡ before ++ events.Open id head ∷ events_of (since id told)) }
 {}
 
 /// A call that was admitted has a head.
 pub fn admitted_head()
-    ensures { (id : ℕ) (told : List Step) → list_any (nat_eq id) (admitted told) ≡ true → IsSome (head_of id told) }
+    ensures { (id : ℕ) (told : List Step) → list_any (nat_eq id) (admitted told) ≡ true
+        → IsSome (head_of id told) }
 {}
 
 /// Where ids rise, a stream has no other call: the head with which one was admitted stays that of its call.
 pub fn one_head()
-    ensures { (id : ℕ) (head : Head) (later before : List Step) → IsRising (later ++ Told (events.Open id head) Admitted ∷ before) →
+    ensures { (id : ℕ) (head : Head) (later before : List Step)
+        → IsRising (later ++ Told (events.Open id head) Admitted ∷ before) →
         head_of id (later ++ Told (events.Open id head) Admitted ∷ before) ≡ Some head }
 {}
 
 /// The head of a call is that of the event that its stream begins with.
 pub fn head_opens()
     ensures { (id : ℕ) (head : Head) (told : List Step) → head_of id told ≡ Some head →
-        (before : List InEventOf) × (events_of told ≡ before ++ events.Open id head ∷ events_of (since id told)) }
+        (before : List InEventOf)
+        × (events_of told ≡ before ++ events.Open id head ∷ events_of (since id told)) }
 {}
 
 /// What a call was fed since it was admitted begins the data of its stream, by the frames of the bytes that came, and is all of
 /// them where its half ended; so it is wherever the reader stopped hearing the events of these bytes.
 pub fn call_data()
-    ensures { (came : List ℕ) (given : List InEventOf) (entries : List Entry) (told : List Step) (id : ℕ) →
+    ensures { (came : List ℕ) (given : List InEventOf) (entries : List Entry) (told : List Step)
+        (id : ℕ) →
         Framed came given entries → IsPrefix (events_of told) given →
         list_any (nat_eq id) (admitted told) ≡ true → HasStreamData id (since id told) entries }
 {}
@@ -79,17 +87,21 @@ pub fn call_data()
 /// data, or a step before END_STREAM reset it: a piece of its data was lost, or no more of it was heard; or it was reset, and its
 /// trailers are malformed. No RST_STREAM of the client did, and no other error of the stream.
 pub fn call_end()
-    ensures { (came : List ℕ) (given : List InEventOf) (entries : List Entry) (told : List Step) (id : ℕ) →
+    ensures { (came : List ℕ) (given : List InEventOf) (entries : List Entry) (told : List Step)
+        (id : ℕ) →
         Framed came given entries → events_of told ≡ given →
-        list_any (nat_eq id) (admitted told) ≡ true → ending_of id entries ≡ Finished → HasEnd id told entries }
+        list_any (nat_eq id) (admitted told) ≡ true → ending_of id entries ≡ Finished
+        → HasEnd id told entries }
 {}
 
 /// Of the call of a row, by the fields of `AreAccounted`: its account was fed a front of its stream's data, by the frames that
 /// count, and all of them where its half ended. Where END_STREAM ended the stream and all that came was heard, the half ended, or
 /// it was reset, and a reset of the stream that is to be written was ordered.
 pub fn account_by_frames()
-    ensures { (end : Ended) (came : List ℕ) (told : List Step) (orders : List Order) (given : List InEventOf) (entries : List Entry) (id : ℕ) (account : Account) →
-        AreHeard end came (events_of told) → (is_heard_out end ≡ true → WasResetFor told orders id) → is_admitted id told ≡ true →
+    ensures { (end : Ended) (came : List ℕ) (told : List Step) (orders : List Order)
+        (given : List InEventOf) (entries : List Entry) (id : ℕ) (account : Account) →
+        AreHeard end came (events_of told) → (is_heard_out end ≡ true → WasResetFor told orders id)
+        → is_admitted id told ≡ true →
         account.fed ≡ fed_by id (since id told) → account.shut ≡ shut_by id (since id told) →
         Events came given → Framed came given entries → HasFrames end entries orders id account }
 {}
@@ -97,5 +109,6 @@ pub fn account_by_frames()
 /// Where the half of a call was reset, though END_STREAM or an error of its stream was told, a reset of the stream that is to be written is among the
 /// orders that the steps lead to, as long as none of them ends the connection.
 pub fn reset_is_ordered()
-    ensures { (told : List Step) (id : ℕ) → AreCalm told → is_admitted id told ≡ true → WasResetFor told (orders_by told) id }
+    ensures { (told : List Step) (id : ℕ) → AreCalm told → is_admitted id told ≡ true
+        → WasResetFor told (orders_by told) id }
 {}

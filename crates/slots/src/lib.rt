@@ -7,13 +7,13 @@
 //!
 //! - `half`: the half of a slot's call; `worker`: what a slot's worker is; `seat`: a slot with both; `slots`: all of them.
 //! - `reading`: what is decided of each event; `visit`: workers that no thread runs.
-//! - `row_order`: the rows of the calls in order; `laws`: what follows from the definitions.
+//! - `rows`: the rows of a report, where those of a worker come in; `laws`: what follows from the definitions.
 #![tactic(auto)]
 
 pub mod half;
 pub mod laws;
 pub mod reading;
-mod row_order;
+mod rows;
 pub mod seat;
 pub mod slots;
 mod visit;

@@ -7,7 +7,7 @@
 //! An order that resets a stream is to be put before its call sees the reset. So the half that a decision shuts is named in it
 //! (`Decided::cut`), and shut by `Reading::shut` once the orders were put.
 
-ghost use Rattle.std.specs.Prelude.{◌≡◌, ◌<◌, ℕ, List, [], ◌∷◌, ◌++◌, Option, None, Some, IfErr, IfOk, IfSome, OnErr, OnOk, vec_capacity, vec_len};
+ghost use Rattle.std.specs.Prelude.{◌≡◌, ◌⊎◌, ◌<◌, ℕ, List, [], ◌∷◌, ◌++◌, Option, None, Some, IfErr, IfOk, IfSome, OnErr, OnOk, vec_capacity, vec_len};
 ghost use Rattle.callhead.specs.declared.head.CallHead.{CallHead as Head};
 ghost use Rattle.callhead.specs.StatusFields.{refusal_of, unknown_method as unknown_fields};
 ghost use Rattle.callslot.specs.declared.report.Ending.TheVariants as ending;
@@ -21,8 +21,8 @@ ghost use Rattle.session.specs.declared.event.InEvent.TheVariants as events;
 ghost use Rattle.slots.specs.Orders.{begun, ends_at, cut_code, greatest, last_stream, news_of, orders_at, without_head};
 ghost use Rattle.slots.specs.Readings.{Awaits, Begins, Counts, Decides, DecidesOn, Reads, ReadsOn, Stays, fate_of, order_in, unless_ended};
 ghost use Rattle.slots.specs.Reports.{AreRows};
-ghost use Rattle.slots.specs.Seats.{IsSeat, jobs_of};
-ghost use Rattle.slots.specs.Steps.{Admitted, AtEnd, Cause, CutOff, Lacking, NotLive, Plain, Received, Step, Told, TurnedAway, Unknown, admitted};
+ghost use Rattle.slots.specs.Seats.{IsNext, IsSeat, KeepsNext, jobs_of};
+ghost use Rattle.slots.specs.Steps.{Admitted, AtEnd, Cause, CutOff, Lacking, NoWorker, NotLive, Plain, Received, Step, Stopped, Told, TurnedAway, Unknown, Unserved, WasTold, reported};
 
 use crate::seat::Seat;
 use crate::slots::Slots;
@@ -63,7 +63,8 @@ pub struct Decided {
 impl Decided {
     /// Nothing is ordered.
     fn nothing() -> Decided
-        ensures { (result.first ≡ None) × (result.second ≡ None) × (result.cut ≡ None) × (result.ends ≡ None) }
+        ensures { (result.first ≡ None) × (result.second ≡ None) × (result.cut ≡ None)
+            × (result.ends ≡ None) }
     {
         Decided {
             first: None,
@@ -75,7 +76,8 @@ impl Decided {
 
     /// This is ordered.
     fn order(order: Order) -> Decided
-        ensures { (result.first ≡ None) × (result.second ≡ Some order) × (result.cut ≡ None) × (result.ends ≡ None) }
+        ensures { (result.first ≡ None) × (result.second ≡ Some order) × (result.cut ≡ None)
+            × (result.ends ≡ None) }
     {
         Decided {
             second: Some(order),
@@ -85,8 +87,10 @@ impl Decided {
 
     /// A stream is reset, of which the peer is told, unless it did so; and so is the half of its call, with this code.
     fn reset(id: StreamId, code: ErrorCode, written: bool, kind: ErrorCode) -> Decided
-        ensures orders { (result.first ≡ None) × (result.second ≡ Some (orders.Reset id code written)) }
-        ensures cut { result.cut ≡ Some (record { id = id; kind = shut.Reset (error_number kind) }) }
+        ensures orders { (result.first ≡ None)
+            × (result.second ≡ Some (orders.Reset id code written)) }
+        ensures cut { result.cut ≡ Some
+            (record { id = id; kind = shut.Reset (error_number kind) }) }
         ensures ends { result.ends ≡ None }
     {
         let kind = Shut::Reset(kind.code());
@@ -108,7 +112,7 @@ pub struct Reading<H: Worker> {
     /// How many were begun, up to `STREAMS`.
     pub(crate) begun: u32,
     /// Whether the peer opens no more streams.
-    peer_goaway: bool,
+    pub(crate) peer_goaway: bool,
 }
 
 impl<H: Worker> Reading<H> {
@@ -128,7 +132,7 @@ impl<H: Worker> Reading<H> {
     // ---- a stream that begins
 
     /// A stream begins with the head of a call. `index` is the method that its path names, if one has it, `opened` the moment. A call
-    /// of a method is to be admitted by the lock; any other is refused.
+    /// of a method is to be admitted by the lock, and there is room for its row; any other is refused.
     pub fn open(
         &mut self,
         id: StreamId,
@@ -137,11 +141,13 @@ impl<H: Worker> Reading<H> {
         opened: u64,
     ) -> Result<Job, Decided>
         requires named { IfSome index (λ index. H.names head.path index) }
-        ensures job { IfOk result (λ job. (job.id ≡ id) × (job.head ≡ head) × (index ≡ Some job.index)) }
-        ensures above { OnOk result (self.new.slots.last < id) }
-        ensures stays { OnOk result (self.new ≡ self.old) }
+        ensures job { IfOk result (λ job. (job.id ≡ id) × (job.head ≡ head)
+            × (index ≡ Some job.index)) }
+        ensures next { OnOk result (IsNext id self.new.slots) }
+        ensures stays { OnOk result (Stays H.names self.old self.new) }
         ensures refused { IfErr result (λ decided. DecidesOn H.names
-            (Told (events.Open id head) (unless_ended decided.ends Unknown)) decided self.old self.new) }
+            (Told (events.Open id head) (unless_ended decided.ends Unknown)) decided self.old
+            self.new) }
     {
         if id <= self.slots.last {
             return Err(self.lack(id));
@@ -149,6 +155,9 @@ impl<H: Worker> Reading<H> {
         let Some(index) = index else {
             return Err(self.refuse_unknown(id));
         };
+        if let Err(AllocError) = self.slots.reserve_row() {
+            return Err(self.lack(id));
+        }
         Ok(Job {
             id,
             index,
@@ -160,7 +169,8 @@ impl<H: Worker> Reading<H> {
     /// Refuses a call whose path no method has.
     fn refuse_unknown(&mut self, id: StreamId) -> Decided
         ensures { (head : Head) → DecidesOn H.names
-            (Told (events.Open id head) (unless_ended result.ends Unknown)) result self.old self.new }
+            (Told (events.Open id head) (unless_ended result.ends Unknown)) result self.old
+            self.new }
     {
         match unknown(self.alloc, id) {
             Ok(order) => self.begin(id, order),
@@ -186,12 +196,12 @@ impl<H: Worker> Reading<H> {
     /// Hands a call that was admitted to a free slot. Where none is free the call is handed back.
     pub fn engage(&mut self, job: Job) -> Result<Decided, Job>
         requires named { H.names job.head.path job.index }
-        requires above { self.old.slots.last < job.id }
+        requires next { IsNext job.id self.old.slots }
         ensures engaged { IfOk result (λ decided. DecidesOn H.names
             (Told (events.Open job.id job.head) Admitted) decided self.old self.new) }
         ensures handed_back { IfErr result (λ back. back ≡ job) }
         ensures stays { OnErr result (Stays H.names self.old self.new) }
-        ensures last { OnErr result (self.new.slots.last ≡ self.old.slots.last) }
+        ensures next { OnErr result (KeepsNext self.old.slots self.new.slots) }
     {
         let id = job.id;
         let place = self.slots.engage(job)?;
@@ -200,30 +210,59 @@ impl<H: Worker> Reading<H> {
 
     /// Room for one slot more.
     pub fn reserve(&mut self) -> Result<(), AllocError>
-        ensures room { OnOk result (vec_len self.new.slots.seats < vec_capacity self.new.slots.seats) }
+        ensures room { OnOk result (vec_len self.new.slots.seats
+            < vec_capacity self.new.slots.seats) }
         ensures stays { Stays H.names self.old self.new }
-        ensures last { self.new.slots.last ≡ self.old.slots.last }
+        ensures next { KeepsNext self.old.slots self.new.slots }
     {
         self.slots.reserve()
     }
 
-    /// A call that was admitted begins in a new slot, whose worker was handed it.
-    pub fn add(&mut self, seat: Seat<H>, fresh: Fresh) -> Decided
+    /// A call that was admitted begins in a new slot, whose worker was handed it. This is its method.
+    pub fn add(&mut self, seat: Seat<H>, method: usize, fresh: Fresh) -> Decided
         requires room { vec_len self.old.slots.seats < vec_capacity self.old.slots.seats }
-        requires above { self.old.slots.last < seat.id }
-        ensures { (job : Job) → seat.id ≡ job.id → jobs_of seat ≡ job ∷ []
-            → ((told : List Step) → IsSeat H.names (Told (events.Open job.id job.head) Admitted ∷ told) seat)
-            → DecidesOn H.names (Told (events.Open job.id job.head) Admitted) result self.old self.new }
+        requires next { IsNext seat.id self.old.slots }
+        ensures { (job : Job) → seat.id ≡ job.id → method ≡ job.index → jobs_of seat ≡ job ∷ []
+            → ((told : List Step) → IsSeat H.names
+            (Told (events.Open job.id job.head) Admitted ∷ told) seat)
+            → DecidesOn H.names (Told (events.Open job.id job.head) Admitted) result self.old
+            self.new }
     {
         let id = seat.id;
-        self.slots.add(seat);
+        self.slots.add(seat, method);
         self.begin(id, Control::Open(id, Opened::New(fresh)))
+    }
+
+    /// No worker could be started for a call of this method, which was admitted: its row stays, and the connection ends.
+    pub fn lose(&mut self, id: StreamId, method: usize) -> Decided
+        requires next { IsNext id self.old.slots }
+        ensures memory { result.ends ≡ Some ending.OutOfMemory }
+        ensures unserved { (head : Head) → H.names head.path method → DecidesOn H.names
+            (Told (events.Open id head) (Unserved NoWorker)) result self.old self.new }
+    {
+        self.slots.pass_over(id, method);
+        self.end_at(id)
+    }
+
+    /// A call of this method was admitted, and the writing side has stopped: its row stays.
+    pub fn pass_over(&mut self, id: StreamId, method: usize) -> Decided
+        requires next { IsNext id self.old.slots }
+        ensures { (head : Head) → H.names head.path method → DecidesOn H.names
+            (Told (events.Open id head) (Unserved Stopped)) result self.old self.new }
+    {
+        self.slots.pass_over(id, method);
+        let first = self.count(id);
+        Decided {
+            first,
+            ..Decided::nothing()
+        }
     }
 
     /// A stream begins without the head of a call.
     pub fn refuse(&mut self, id: StreamId, fault: HeadFault) -> Decided
         ensures { DecidesOn H.names
-            (Told (events.BadHead id fault) (unless_ended result.ends Plain)) result self.old self.new }
+            (Told (events.BadHead id fault) (unless_ended result.ends Plain)) result self.old
+            self.new }
     {
         match without_head(self.alloc, id, fault) {
             Ok(order) => self.begin(id, order),
@@ -234,7 +273,8 @@ impl<H: Worker> Reading<H> {
     /// A stream begins, and this is ordered.
     fn begin(&mut self, id: StreamId, order: Order) -> Decided
         ensures ends { result.ends ≡ None }
-        ensures decides { (told : List Step) (step : Step) → Begins H.names told step id self.old → ends_at step ≡ None
+        ensures decides { (told : List Step) (step : Step) → Begins H.names told step id self.old
+            → ends_at step ≡ None
             → orders_at told step ≡ last_stream id (begun told) ++ order_of order ∷ []
             → Decides H.names told step result self.new }
     {
@@ -248,7 +288,8 @@ impl<H: Worker> Reading<H> {
     /// A stream begins for which there is no memory, or no thread: the connection ends.
     pub fn lack(&mut self, id: StreamId) -> Decided
         ensures memory { result.ends ≡ Some ending.OutOfMemory }
-        ensures lacking { (head : Head) → DecidesOn H.names (Told (events.Open id head) Lacking) result self.old self.new }
+        ensures lacking { (head : Head)
+            → DecidesOn H.names (Told (events.Open id head) Lacking) result self.old self.new }
     {
         self.end_at(id)
     }
@@ -258,7 +299,8 @@ impl<H: Worker> Reading<H> {
         ensures memory { result.ends ≡ Some ending.OutOfMemory }
         ensures ends { (told : List Step) (step : Step) → Begins H.names told step id self.old
             → ends_at step ≡ Some ending.OutOfMemory
-            → orders_at told step ≡ last_stream id (begun told) ++ orders.Goaway (greatest (id ∷ begun told)) InternalError ∷ []
+            → orders_at told step ≡ last_stream id (begun told)
+            ++ orders.Goaway (greatest (id ∷ begun told)) InternalError ∷ []
             → Decides H.names told step result self.new }
     {
         let first = self.count(id);
@@ -275,6 +317,7 @@ impl<H: Worker> Reading<H> {
         ensures slots { self.new.slots ≡ self.old.slots }
         ensures counts { (ids : List ℕ) → Counts ids self.old
             → Counts (id ∷ ids) self.new × (order_in result ≡ last_stream id ids) }
+        ensures heeds { self.new.peer_goaway ≡ self.old.peer_goaway }
     {
         self.last = self.last.max(id);
         if self.begun >= STREAMS {
@@ -293,7 +336,8 @@ impl<H: Worker> Reading<H> {
     /// DATA came on a stream, of which the lock said this.
     pub fn data(&mut self, id: StreamId, piece: Bytes, receipt: Receipt) -> Decided
         ensures { (counted : ℕ) → DecidesOn H.names
-            (Told (events.Data id piece counted) (fate_of receipt result.second)) result self.old self.new }
+            (Told (events.Data id piece counted) (fate_of receipt result.second)) result self.old
+            self.new }
     {
         match receipt {
             Receipt::Feed => self.feed(id, piece),
@@ -316,7 +360,8 @@ impl<H: Worker> Reading<H> {
     /// Feeds a piece to its call. One that its lane doesn't take resets the stream.
     fn feed(&mut self, id: StreamId, piece: Bytes) -> Decided
         ensures { (counted : ℕ) → DecidesOn H.names
-            (Told (events.Data id piece counted) (fate_of Feed result.second)) result self.old self.new }
+            (Told (events.Data id piece counted) (fate_of Feed result.second)) result self.old
+            self.new }
     {
         match self.slots.feed(id, piece) {
             Ok(()) => Decided::nothing(),
@@ -369,7 +414,8 @@ impl<H: Worker> Reading<H> {
 
     /// The client has made an error on a stream (RFC 9113, section 5.4.2).
     pub fn fail(&self, id: StreamId, code: ErrorCode) -> Decided
-        ensures { DecidesOn H.names (Told (events.StreamError id code) Plain) result self.now self.now }
+        ensures { DecidesOn H.names (Told (events.StreamError id code) Plain) result self.now
+            self.now }
     {
         Decided::reset(id, code, true, code)
     }
@@ -378,7 +424,7 @@ impl<H: Worker> Reading<H> {
     pub fn shut(&mut self, cut: Cut)
         ensures heard { (told : List Step) (step : Step) → Awaits H.names told step cut self.old
             → Reads H.names (step ∷ told) self.new }
-        ensures last { self.new.slots.last ≡ self.old.slots.last }
+        ensures next { KeepsNext self.old.slots self.new.slots }
     {
         self.slots.shut(cut.id, cut.kind);
     }
@@ -401,9 +447,11 @@ impl<H: Worker> Reading<H> {
 
     /// The client has made an error that ends the connection (RFC 9113, section 5.4.1).
     pub fn fatal(&self, code: ErrorCode) -> Decided
-        ensures orders { (result.first ≡ None) × (result.second ≡ Some (orders.Goaway self.now.last code)) }
+        ensures orders { (result.first ≡ None)
+            × (result.second ≡ Some (orders.Goaway self.now.last code)) }
         ensures ends { (result.cut ≡ None) × (result.ends ≡ Some (ending.ProtocolError code)) }
-        ensures decides { DecidesOn H.names (Told (events.Fatal code) Plain) result self.now self.now }
+        ensures decides { DecidesOn H.names
+            (Told (events.Fatal code) Plain) result self.now self.now }
     {
         Decided {
             ends: Some(Ending::ProtocolError(code)),
@@ -414,7 +462,8 @@ impl<H: Worker> Reading<H> {
     /// The order that ends the connection with this error: where it is that for want of memory, no event needs to tell it.
     pub fn goaway(&self, code: ErrorCode) -> Order
         ensures order { result ≡ orders.Goaway self.now.last code }
-        ensures last { (told : List Step) → Reads H.names told self.now → result ≡ orders.Goaway (greatest (begun told)) code }
+        ensures last { (told : List Step) → Reads H.names told self.now
+            → result ≡ orders.Goaway (greatest (begun told)) code }
     {
         Control::Goaway {
             last: self.last,
@@ -436,7 +485,8 @@ impl<H: Worker> Reading<H> {
 
     /// Behind the end of the input: a slot's call that its client neither ended nor reset is cancelled.
     pub fn cut_off(&self, place: usize) -> Option<Decided>
-        ensures { IfSome result (λ decided. (id : ℕ) × DecidesOn H.names (CutOff id AtEnd) decided self.now self.now) }
+        ensures { IfSome result (λ decided. (id : ℕ)
+            × DecidesOn H.names (CutOff id AtEnd) decided self.now self.now) }
     {
         let id = self.slots.fed(place)?;
         Some(self.cut_call(id, ErrorCode::Cancel))
@@ -463,7 +513,8 @@ impl<H: Worker> Reading<H> {
 
     /// A call hears no more of its client: its stream is reset with this code, where more could be fed to it.
     fn cut_call(&self, id: StreamId, code: ErrorCode) -> Decided
-        ensures { (why : Cause) → cut_code why ≡ code → DecidesOn H.names (CutOff id why) result self.now self.now }
+        ensures { (why : Cause) → cut_code why ≡ code
+            → DecidesOn H.names (CutOff id why) result self.now self.now }
     {
         let kind = ErrorCode::Cancel;
         if self.slots.is_fed(id) {
@@ -479,7 +530,12 @@ impl<H: Worker> Reading<H> {
     // ---- the end
 
     /// How the connection has ended where its input has.
-    pub fn ending(&self) -> Ending {
+    pub fn ending(&self) -> Ending
+        ensures input { (result ≡ ending.InputEnded) ⊎ (result ≡ ending.PeerGoaway) }
+        ensures goaway { result ≡ ending.PeerGoaway → (told : List Step)
+            → Reads H.names told self.now
+            → WasTold events.PeerGoaway told }
+    {
         if self.peer_goaway {
             Ending::PeerGoaway
         } else {
@@ -492,11 +548,11 @@ impl<H: Worker> Reading<H> {
         self.slots.ring_noted();
     }
 
-    /// Has each worker answer its call to the end, and waits for all: the rows of all calls, in the order in which these were begun, or
-    /// none for want of memory.
-    pub fn end(self) -> Option<Vec<CallReport>>
-        ensures rows { (told : List Step) → Reads H.names told self
-            → IfSome result (λ rows. AreRows H.known H.names told (admitted told) rows.items) }
+    /// Has each worker answer its call to the end, and waits for all: a row for each call that was admitted, in the order in which these
+    /// were.
+    pub fn end(self) -> Vec<CallReport>
+        ensures rows { (told : List Step) → H.tells → Reads H.names told self
+            → AreRows H.known H.names told (reported told) result.items }
     {
         self.slots.end()
     }

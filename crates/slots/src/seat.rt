@@ -14,7 +14,7 @@ use bytes::Bytes;
 use callbox::{FeedFault, Feeder};
 use callslot::{CallReport, InLane, Job, Seen, Slot};
 use h2frame::StreamId;
-use lane::{Ring, RingIn, RingOut};
+use lane::{Ring, RingIn};
 use std::sync::Arc;
 
 /// A slot, and what the reading side has of it: the half of its call, and its worker.
@@ -34,13 +34,13 @@ pub struct Seat<H: Worker> {
 }
 
 impl<H: Worker> Seat<H> {
-    ghost use Rattle.std.specs.Prelude.{◌<◌, ℕ, List, [], ◌∷◌, ◌++◌, IfSome, IfErr, OnErr, OnOk};
+    ghost use Rattle.std.specs.Prelude.{◌<◌, ℕ, List, [], ◌∷◌, ◌++◌, IfErr, OnErr, OnOk};
     ghost use Rattle.connbook.specs.declared.answers.Receipt.TheVariants.{Feed};
     ghost use Rattle.lane.specs.RingLane.{in_name, past_in, put_in, ring_of};
     ghost use Rattle.session.specs.declared.event.InEvent.TheVariants as events;
     ghost use Rattle.slots.specs.Calls.{Rises};
-    ghost use Rattle.slots.specs.Reports.{AreRows};
-    ghost use Rattle.slots.specs.Seats.{IsSeat, ids_of, jobs_of};
+    ghost use Rattle.slots.specs.Reports.{AreAnswered};
+    ghost use Rattle.slots.specs.Seats.{IsSeat, jobs_of};
     ghost use Rattle.slots.specs.Steps.{Admitted, Received, Step, Told, last_of, shut_at};
 
     /// A slot whose worker was handed its first call.
@@ -56,7 +56,8 @@ impl<H: Worker> Seat<H> {
         ensures id { result.id ≡ id }
         ensures jobs { jobs_of result ≡ ring.put_in jobs }
         // Of the first call, of which nothing was fed yet.
-        ensures heard { (told : List Step) (job : Job) → H.names job.head.path job.index → job.id ≡ id
+        ensures heard { (told : List Step) (job : Job) → H.names job.head.path job.index
+            → job.id ≡ id
             → ring.put_in jobs ≡ job ∷ [] → past_in feeder.tx ≡ [] → put_in feeder.tx ≡ []
             → IsSeat H.names (Told (events.Open job.id job.head) Admitted ∷ told) result }
     {
@@ -72,12 +73,14 @@ impl<H: Worker> Seat<H> {
     /// Where the slot is free its worker is handed this call; its bell is still to be rung. Else the call is handed back.
     pub(crate) fn begin(&mut self, job: Job) -> Result<(), Job>
         requires named { H.names job.head.path job.index }
-        ensures heard { OnOk result ((told : List Step) → last_of told < job.id → IsSeat H.names told self.old
+        ensures heard { OnOk result ((told : List Step) → last_of told < job.id
+            → IsSeat H.names told self.old
             → IsSeat H.names (Told (events.Open job.id job.head) Admitted ∷ told) self.new) }
         ensures id { OnOk result (self.new.id ≡ job.id) }
         ensures jobs { OnOk result (jobs_of self.new ≡ jobs_of self.old ++ job ∷ []) }
         ensures handed_back { IfErr result (λ back. back ≡ job) }
-        ensures stays { OnErr result ((told : List Step) → IsSeat H.names told self.old → IsSeat H.names told self.new) }
+        ensures stays { OnErr result ((told : List Step) → IsSeat H.names told self.old
+            → IsSeat H.names told self.new) }
         ensures id_stays { OnErr result (self.new.id ≡ self.old.id) }
         ensures jobs_stay { OnErr result (jobs_of self.new ≡ jobs_of self.old) }
     {
@@ -102,8 +105,10 @@ impl<H: Worker> Seat<H> {
     /// Feeds a piece to its call, where the half is open. Its bell is to be rung once all that came with it is there.
     pub(crate) fn feed(&mut self, piece: Bytes) -> Result<(), FeedFault>
         ensures heard { OnOk result ((told : List Step) (counted : ℕ) → IsSeat H.names told self.old
-            → IsSeat H.names (Told (events.Data self.old.id piece counted) (Received Feed) ∷ told) self.new) }
-        ensures stays { OnErr result ((told : List Step) → IsSeat H.names told self.old → IsSeat H.names told self.new) }
+            → IsSeat H.names (Told (events.Data self.old.id piece counted) (Received Feed) ∷ told)
+            self.new) }
+        ensures stays { OnErr result ((told : List Step) → IsSeat H.names told self.old
+            → IsSeat H.names told self.new) }
         ensures id { self.new.id ≡ self.old.id }
         ensures jobs { jobs_of self.new ≡ jobs_of self.old }
     {
@@ -114,7 +119,8 @@ impl<H: Worker> Seat<H> {
 
     /// Shuts the half of its call in this way, which its worker is to see.
     pub(crate) fn shut(&mut self, kind: Shut)
-        ensures heard { (told : List Step) (step : Step) → Rises told step → shut_at self.old.id step ≡ Some kind
+        ensures heard { (told : List Step) (step : Step) → Rises told step
+            → shut_at self.old.id step ≡ Some kind
             → IsSeat H.names told self.old → IsSeat H.names (step ∷ told) self.new }
         ensures id { self.new.id ≡ self.old.id }
         ensures jobs { jobs_of self.new ≡ jobs_of self.old }
@@ -123,11 +129,10 @@ impl<H: Worker> Seat<H> {
         self.slot.note();
     }
 
-    /// Waits for the worker, and brings the half and what the worker had together: the rows of the slot's calls, in order. None
-    /// where there was no memory for them.
-    pub(crate) fn end(self) -> Option<Vec<CallReport>>
-        ensures rows { (told : List Step) → IsSeat H.names told self
-            → IfSome result (λ rows. AreRows H.known H.names told (ids_of self) rows.items) }
+    /// Waits for the worker, and brings the half and what the worker had together: the rows of the calls that it answered.
+    pub(crate) fn end(self) -> Vec<CallReport>
+        ensures rows { (told : List Step) → H.tells → IsSeat H.names told self
+            → AreAnswered H.known H.names told (jobs_of self) result.items }
     {
         let Seat {
             half,
@@ -141,31 +146,8 @@ impl<H: Worker> Seat<H> {
             jobs: mut rest,
             calls,
         } = worker.end();
-        let count = Ring::meet(&mut jobs, &mut rest);
+        let _left = Ring::meet(&mut jobs, &mut rest);
         half.settle(taker, end);
-        with_rest(calls?, rest, count)
+        calls
     }
-}
-
-ghost use Rattle.std.specs.Prelude.{◌++◌, IfSome, length, map};
-ghost use Rattle.callslot.specs.Accounts.{unanswered};
-
-/// The rows with one for each of the calls that are left in the ring, so many: no worker began them. None where there is no memory for them.
-fn with_rest(rows: Vec<CallReport>, jobs: RingOut<Job>, count: u64) -> Option<Vec<CallReport>>
-    requires { count ≡ length (ring.ahead jobs) }
-    ensures { IfSome result (λ all. all.items ≡ rows.items ++ map (λ job. unanswered job.id job.index) (ring.ahead jobs)) }
-{
-    let mut rows = rows;
-    let mut jobs = jobs;
-    let mut left = count;
-    'rest: while left > 0 {
-        let Some(job) = jobs.take() else {
-            unreachable!();
-        };
-        if let Err(_e) = rows.push(CallReport::unanswered(job.id, job.index)) {
-            return None;
-        }
-        left -= 1;
-    }
-    Some(rows)
 }

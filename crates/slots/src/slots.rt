@@ -1,14 +1,15 @@
 //! The slots of a connection, as its reading side has them.
 
-ghost use Rattle.std.specs.Prelude.{◌≡◌, ◌<◌, ℕ, List, [], ◌∷◌, ◌++◌, Bool, None, Some, IfErr, IfSome, IsSomeAnd, OnErr, OnOk, is_some, position, vec_capacity, vec_len};
+ghost use Rattle.std.specs.Prelude.{◌≡◌, ◌<◌, ℕ, List, [], ◌∷◌, ◌++◌, Bool, None, Some, IfErr, OnErr, OnOk, is_some, position, vec_capacity, vec_len};
+ghost use Rattle.callhead.specs.declared.head.CallHead.{CallHead as Head};
 ghost use Rattle.connbook.specs.declared.answers.Receipt.TheVariants.{Feed};
 ghost use Rattle.session.specs.declared.event.InEvent.TheVariants as events;
 ghost use Rattle.slots.specs.Concerns.{Concerns};
 ghost use Rattle.slots.specs.Reports.{AreRows};
-ghost use Rattle.slots.specs.Seats.{Hears, IsSeat, Keeps, Kept, feeds, jobs_of};
-ghost use Rattle.slots.specs.Steps.{Admitted, Received, Step, Told, admitted, shut_at};
+ghost use Rattle.slots.specs.Seats.{Hears, IsNext, IsSeat, Keeps, KeepsNext, Kept, feeds, jobs_of};
+ghost use Rattle.slots.specs.Steps.{Admitted, Lack, Received, Step, Told, Unserved, reported, shut_at};
 
-use crate::row_order::in_order;
+use crate::rows::{note_fed, note_shut, put_all};
 use crate::seat::Seat;
 use crate::worker::Worker;
 use account::Shut;
@@ -24,8 +25,10 @@ use std::alloc::{AllocError, Global};
 pub struct Slots<H: Worker> {
     alloc: Global,
     pub(crate) seats: Vec<Seat<H>>,
-    /// The stream of the call that was begun last, 0 for none.
+    /// The stream of the call that was admitted last, 0 for none.
     pub(crate) last: StreamId,
+    /// A row for each call that was admitted, by rising stream, as of one of which nothing was taken yet.
+    pub(crate) rows: Vec<CallReport>,
 }
 
 impl<H: Worker> Slots<H> {
@@ -36,6 +39,7 @@ impl<H: Worker> Slots<H> {
             alloc,
             seats: Vec::new(alloc),
             last: 0,
+            rows: Vec::new(alloc),
         }
     }
 
@@ -43,11 +47,12 @@ impl<H: Worker> Slots<H> {
     /// handed back.
     pub(crate) fn engage(&mut self, job: Job) -> Result<usize, Job>
         requires named { H.names job.head.path job.index }
-        requires above { self.old.last < job.id }
-        ensures heard { OnOk result (Hears H.names (Told (events.Open job.id job.head) Admitted) self.old self.new) }
+        requires next { IsNext job.id self.old }
+        ensures heard { OnOk result
+            (Hears H.names (Told (events.Open job.id job.head) Admitted) self.old self.new) }
         ensures handed_back { IfErr result (λ back. back ≡ job) }
         ensures stays { OnErr result (Keeps H.names self.old self.new) }
-        ensures last { OnErr result (self.new.last ≡ self.old.last) }
+        ensures next { OnErr result (KeepsNext self.old self.new) }
     {
         let mut job = job;
         'places: for place in 0..self.seats.len() {
@@ -62,39 +67,71 @@ impl<H: Worker> Slots<H> {
     /// The same for the slot of this number.
     fn engage_at(&mut self, place: usize, job: Job) -> Result<(), Job>
         requires named { H.names job.head.path job.index }
-        requires above { self.old.last < job.id }
-        ensures heard { OnOk result (Hears H.names (Told (events.Open job.id job.head) Admitted) self.old self.new) }
+        requires next { IsNext job.id self.old }
+        ensures heard { OnOk result
+            (Hears H.names (Told (events.Open job.id job.head) Admitted) self.old self.new) }
         ensures handed_back { IfErr result (λ back. back ≡ job) }
         ensures stays { OnErr result (Keeps H.names self.old self.new) }
-        ensures last_stays { OnErr result (self.new.last ≡ self.old.last) }
+        ensures next_stays { OnErr result (KeepsNext self.old self.new) }
     {
         let Some(seat) = self.seats.get_mut(place) else {
             return Err(job);
         };
-        let id = job.id;
+        let row = CallReport::unanswered(job.id, job.index);
         seat.begin(job)?;
-        self.last = id;
+        self.report(row);
         Ok(())
+    }
+
+    /// Room for the row of one call more.
+    pub(crate) fn reserve_row(&mut self) -> Result<(), AllocError>
+        ensures room { OnOk result (vec_len self.new.rows < vec_capacity self.new.rows) }
+        ensures stays { Keeps H.names self.old self.new }
+        ensures last { self.new.last ≡ self.old.last }
+    {
+        self.rows.reserve(1)
+    }
+
+    /// A call was admitted, whose row this is.
+    fn report(&mut self, row: CallReport)
+        requires room { vec_len self.old.rows < vec_capacity self.old.rows }
+        ensures last { self.new.last ≡ row.id }
+        ensures rows { self.new.rows.items ≡ self.old.rows.items ++ row ∷ [] }
+        ensures seats { self.new.seats ≡ self.old.seats }
+    {
+        self.last = row.id;
+        self.rows.push_reserved(row);
+    }
+
+    /// A call of this method was admitted, and no worker serves it.
+    pub(crate) fn pass_over(&mut self, id: StreamId, method: usize)
+        requires next { IsNext id self.old }
+        ensures heard { (head : Head) (why : Lack) → H.names head.path method
+            → Hears H.names (Told (events.Open id head) (Unserved why)) self.old self.new }
+    {
+        self.report(CallReport::unanswered(id, method));
     }
 
     /// Room for one slot more.
     pub(crate) fn reserve(&mut self) -> Result<(), AllocError>
         ensures room { OnOk result (vec_len self.new.seats < vec_capacity self.new.seats) }
         ensures stays { Keeps H.names self.old self.new }
-        ensures last { self.new.last ≡ self.old.last }
+        ensures next { KeepsNext self.old self.new }
     {
         self.seats.reserve(1)
     }
 
-    /// One slot more, whose worker was handed its first call.
-    pub(crate) fn add(&mut self, seat: Seat<H>)
+    /// One slot more, whose worker was handed its first call, of this method.
+    pub(crate) fn add(&mut self, seat: Seat<H>, method: usize)
         requires room { vec_len self.old.seats < vec_capacity self.old.seats }
-        requires above { self.old.last < seat.id }
-        ensures heard { (job : Job) → seat.id ≡ job.id → jobs_of seat ≡ job ∷ []
-            → ((told : List Step) → IsSeat H.names (Told (events.Open job.id job.head) Admitted ∷ told) seat)
+        requires next { IsNext seat.id self.old }
+        ensures heard { (job : Job) → seat.id ≡ job.id → method ≡ job.index
+            → jobs_of seat ≡ job ∷ []
+            → ((told : List Step) → IsSeat H.names
+            (Told (events.Open job.id job.head) Admitted ∷ told) seat)
             → Hears H.names (Told (events.Open job.id job.head) Admitted) self.old self.new }
     {
-        self.last = seat.id;
+        self.report(CallReport::unanswered(seat.id, method));
         self.seats.push_reserved(seat);
     }
 
@@ -110,9 +147,10 @@ impl<H: Worker> Slots<H> {
     /// Feeds a piece to the call of this stream, if more may be fed to it. Its bell is to be rung once all that came with it is there.
     pub(crate) fn feed(&mut self, id: StreamId, piece: Bytes) -> Result<(), FeedFault>
         ensures heard { OnOk result ((counted : ℕ)
-            → Hears H.names (Told (events.Data id piece counted) (Received Feed)) self.old self.new) }
+            → Hears H.names (Told (events.Data id piece counted) (Received Feed)) self.old
+            self.new) }
         ensures stays { OnErr result (Keeps H.names self.old self.new) }
-        ensures last { self.new.last ≡ self.old.last }
+        ensures next { KeepsNext self.old self.new }
     {
         let Some(place) = self.find(id) else {
             return Ok(());
@@ -120,13 +158,17 @@ impl<H: Worker> Slots<H> {
         let Some(seat) = self.seats.get_mut(place) else {
             return Ok(());
         };
-        seat.feed(piece)
+        let count = piece.len();
+        seat.feed(piece)?;
+        note_fed(&mut self.rows, id, count);
+        Ok(())
     }
 
     /// Shuts the half of the call of this stream in this way, which its worker is to see. Where it was shut before nothing changes.
     pub(crate) fn shut(&mut self, id: StreamId, kind: Shut)
-        ensures heard { (step : Step) → Concerns id step → shut_at id step ≡ Some kind → Hears H.names step self.old self.new }
-        ensures last { self.new.last ≡ self.old.last }
+        ensures heard { (step : Step) → Concerns id step → shut_at id step ≡ Some kind
+            → Hears H.names step self.old self.new }
+        ensures next { KeepsNext self.old self.new }
     {
         let Some(place) = self.find(id) else {
             return;
@@ -135,6 +177,7 @@ impl<H: Worker> Slots<H> {
             return;
         };
         seat.shut(kind);
+        note_shut(&mut self.rows, id, kind);
     }
 
     /// How many there are.
@@ -179,33 +222,21 @@ impl<H: Worker> Slots<H> {
         }
     }
 
-    /// Has each worker answer its call to the end, and waits for all: the rows of all calls, in the order in which these were begun, or
-    /// none for want of memory.
-    pub(crate) fn end(self) -> Option<Vec<CallReport>>
-        ensures rows { (told : List Step) → Kept H.names told self
-            → IfSome result (λ rows. AreRows H.known H.names told (admitted told) rows.items) }
+    /// Has each worker answer its call to the end, and waits for all: a row for each call that was admitted, in the order in which these
+    /// were. It takes no memory.
+    pub(crate) fn end(self) -> Vec<CallReport>
+        ensures rows { (told : List Step) → H.tells → Kept H.names told self
+            → AreRows H.known H.names told (reported told) result.items }
     {
-        let Slots { alloc, seats, .. } = self;
+        let Slots { seats, rows, .. } = self;
         for seat in &seats {
             seat.slot.end();
         }
         let mut rest = seats;
-        let mut all = Some(Vec::new(alloc));
+        let mut rows = rows;
         'seats: while let Some(seat) = rest.pop() {
-            all = joined(all, seat.end());
+            put_all(&mut rows, seat.end());
         }
-        Some(in_order(all?))
-    }
-}
-
-/// All rows, where there are both and memory for them.
-fn joined(all: Option<Vec<CallReport>>, rows: Option<Vec<CallReport>>) -> Option<Vec<CallReport>>
-    ensures { IfSome result (λ both. IsSomeAnd all (λ before. IsSomeAnd rows (λ more. both.items ≡ before.items ++ more.items))) }
-{
-    let mut all = all?;
-    let mut rows = rows?;
-    match all.append(&mut rows) {
-        Ok(()) => Some(all),
-        Err(_e) => None,
+        rows
     }
 }

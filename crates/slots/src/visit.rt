@@ -3,7 +3,7 @@
 ghost use Rattle.std.specs.Prelude.{◌≡◌, List};
 ghost use Rattle.std.specs.Fn.{FnOnceReturnsAtMut};
 ghost use Rattle.slots.specs.Readings.{Stays};
-ghost use Rattle.slots.specs.Seats.{IsSeat, Keeps, jobs_of};
+ghost use Rattle.slots.specs.Seats.{IsSeat, Keeps, KeepsNext, jobs_of};
 ghost use Rattle.slots.specs.Steps.{Step};
 
 use crate::reading::Reading;
@@ -17,10 +17,11 @@ impl<H: Worker> Reading<H> {
     pub fn visit<T, F: FnOnce(&mut H) -> T>(&mut self, place: usize, visit: F) -> Option<T>
         requires callable { F.IsAlwaysCallable visit }
         // It takes of the same rings afterwards.
-        requires keeps { (old : H) (came : T) (new : H) → FnOnceReturnsAtMut F.FnOnce visit old came new
+        requires keeps { (old : H) (came : T) (new : H)
+            → FnOnceReturnsAtMut F.FnOnce visit old came new
             → (H.lane new ≡ H.lane old) × (H.jobs new ≡ H.jobs old) }
         ensures stays { Stays H.names self.old self.new }
-        ensures last { self.new.slots.last ≡ self.old.slots.last }
+        ensures next { KeepsNext self.old.slots self.new.slots }
     {
         self.slots.visit(place, visit)
     }
@@ -30,10 +31,11 @@ impl<H: Worker> Slots<H> {
     /// The same.
     fn visit<T, F: FnOnce(&mut H) -> T>(&mut self, place: usize, visit: F) -> Option<T>
         requires callable { F.IsAlwaysCallable visit }
-        requires keeps { (old : H) (came : T) (new : H) → FnOnceReturnsAtMut F.FnOnce visit old came new
+        requires keeps { (old : H) (came : T) (new : H)
+            → FnOnceReturnsAtMut F.FnOnce visit old came new
             → (H.lane new ≡ H.lane old) × (H.jobs new ≡ H.jobs old) }
         ensures stays { Keeps H.names self.old self.new }
-        ensures last { self.new.last ≡ self.old.last }
+        ensures next { KeepsNext self.old self.new }
     {
         let Some(seat) = self.seats.get_mut(place) else {
             return None;
@@ -46,9 +48,11 @@ impl<H: Worker> Seat<H> {
     /// The same.
     fn visit<T, F: FnOnce(&mut H) -> T>(&mut self, visit: F) -> T
         requires callable { F.IsAlwaysCallable visit }
-        requires keeps { (old : H) (came : T) (new : H) → FnOnceReturnsAtMut F.FnOnce visit old came new
+        requires keeps { (old : H) (came : T) (new : H)
+            → FnOnceReturnsAtMut F.FnOnce visit old came new
             → (H.lane new ≡ H.lane old) × (H.jobs new ≡ H.jobs old) }
-        ensures stays { (told : List Step) → IsSeat H.names told self.old → IsSeat H.names told self.new }
+        ensures stays { (told : List Step) → IsSeat H.names told self.old
+            → IsSeat H.names told self.new }
         ensures id { self.new.id ≡ self.old.id }
         ensures jobs { jobs_of self.new ≡ jobs_of self.old }
     {

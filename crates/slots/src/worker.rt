@@ -1,6 +1,6 @@
 //! The worker of a slot, as the reading side has it.
 
-ghost use Rattle.std.specs.Prelude.{◌≡◌, ℕ, Bool, List, [], ◌∷◌, ◌++◌, IfSome};
+ghost use Rattle.std.specs.Prelude.{◌≡◌, ℕ, Bool, List, [], ◌∷◌, ◌++◌};
 ghost use Rattle.callslot.specs.Workers.{HaveRows};
 ghost use Rattle.handlers.specs.declared.step.Step.{Step};
 ghost use Rattle.lane.specs.End.{of_end};
@@ -24,13 +24,16 @@ pub trait Worker: Drop {
     /// By which path a call names a method.
     ghost names: { List ℕ → ℕ → Type 0 };
 
+    /// That it keeps a row of each call. Where it hands its rows out otherwise, as one of a test may, nothing is said of them.
+    ghost tells: { Type 0 };
+
     /// Waits until it has answered its calls, of which no more come, and gives back what it has.
     fn end(self) -> Seen
         ensures lane { ring_of (out_name result.taker.rx) ≡ lane self }
         ensures jobs { ring.out_name result.jobs ≡ jobs self }
-        ensures rows { IfSome result.calls (λ rows. HaveRows known
+        ensures rows { tells → HaveRows known
             (past_out result.taker.rx ++ got result.taker.rx ∷ [])
             (of_end (λ g. past_in g.tx) (λ s. past_shut s.shut) result.end
             ++ of_end (λ g. put_in g.tx) (λ s. put_shut s.shut) result.end ∷ [])
-            (ring.taken result.jobs) rows.items) };
+            (ring.taken result.jobs) result.calls.items };
 }

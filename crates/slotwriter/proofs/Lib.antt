@@ -1,3 +1,4 @@
 pub mod OrderSteps
 pub mod WrittenSteps
 pub mod SentPlaces
+pub mod ToldLines

@@ -1,25 +1,33 @@
 -- What each step of a connection's writer does to what it wrote.
-use Rattle.std.proofs.Common.{◌≡◌, ◌≢◌, ◌∙◌, ℕ, zero, suc, Bool, true, false, true≢false, List, [], ◌∷◌, ◌++◌, Option, None, Some, IfSome, ap, append-nil, sym, refl, map, subst}
+use Rattle.std.proofs.Common.{◌≡◌, ◌≢◌, ◌∙◌, ℕ, zero, suc, Bool, true, false, true≢false, List, [], ◌∷◌, ◌++◌, Option, None, Some, IfSome, ap, append-nil, append_assoc, sym, refl, map, subst}
 use Rattle.std.specs.Prelude.{◌||◌, All, Result, Ok, Err, OnOk, OnErr, get_or}
 use Rattle.std.specs.List.{list_any}
 use Rattle.std.proofs.lemmas.List.Elements.{All-append, All-from_get_or, All-get_or, All-nil, All-set}
 use Rattle.account.specs.declared.call.OutItem.{OutItem}
-use Rattle.outwriter.specs.Calls.{TellOthers}
+use Rattle.outwriter.specs.Calls.{TellFronts, TellOthers, TellReturned}
+use Rattle.outwriter.specs.Cores.{calls, lane_and_past, lanes}
+use Rattle.outwriter.specs.declared.control.OutFault.TheVariants.{PeerWindow}
+use Rattle.outwriter.specs.RunState.{Concerns}
+use Rattle.outwriter.specs.Runs.{opens_stream}
+use Rattle.h2frame.specs.declared.frame.Frame.{Frame}
 use Rattle.outwriter.specs.Polls.{coming}
 use Rattle.outwriter.specs.declared.control.Control.{Control}
 use Rattle.outwriter.specs.declared.control.Control.TheVariants as control
 use Rattle.h2frame.specs.declared.error_code.ErrorCode.TheVariants.{InternalError}
-use Rattle.outwriter.specs.Steps.{Order, Step, Granted, Returned, Written, frames_of, order_of}
+use Rattle.outwriter.specs.Steps.{Order, Step, Taken, Granted, Returned, Written, frames_of, order_of}
 use Rattle.connwriter.specs.declared.filled.Filled.{Filled}
 use Rattle.connwriter.specs.declared.filled.Filled.TheVariants.{Over, Stopped}
 use Rattle.connwriter.specs.declared.standing.Standing.{Standing}
 use Rattle.connwriter.specs.declared.standing.Standing.TheVariants as stands
 use Rattle.connwriter.specs.Spelled.{IsFront, IsWhole, IsAll}
 use Rattle.connwriter.specs.declared.taking.Taking.{Taking}
-use Rattle.connwriter.specs.Orders.{Blamed, parting, steps_of}
-use Rattle.connwriter.specs.Wrote.{Wrote, WritesOn, Fills}
+use Rattle.connwriter.specs.declared.taking.Taking.TheVariants.{Done, Ended, Unanswered, HandedBack}
+use Rattle.connwriter.specs.Orders.{Blamed, own_order, parting, steps_of}
+use Rattle.connwriter.specs.Wrote.{Wrote, WritesOn, BringsBy, Fills}
+use Rattle.connwriter.proofs.SentSteps.{On, on-taken}
 use Rattle.lane.specs.Ring.{out_name, taken}
-use Rattle.lane.specs.RingLane.{got, ahead}
+use Rattle.lane.specs.RingLane.{got, ahead, past_out}
+use Rattle.lane.specs.RingLane as ring_lane
 use Rattle.callslot.specs.declared.order.Opened.{Opened}
 use Rattle.callslot.specs.declared.order.Opened.TheVariants.{New, Again}
 use Rattle.callslot.specs.declared.report.Ending.{Ending}
@@ -28,9 +36,10 @@ use Rattle.slotwriter.specs.declared.inbox.Inbox.{Inbox}
 use Rattle.slotwriter.specs.declared.slot_writer.SlotWriter.{SlotWriter}
 use Rattle.slotwriter.specs.declared.senders.Place.{Place}
 use Rattle.slotwriter.specs.Orders.{Gives, HasGiven, IsAmong, Keeps, Obeys, ends_input, order_in, orders_of, loses_by}
-use Rattle.slotwriter.specs.Sent.{HasStream, MakesOf, SlotSender, ids_of}
-use Rattle.slotwriter.specs.Written.{FrameWriter, HasWritten, IsFlushed, Runs, Ends, RunsOn, RunsOut, StaysOn, Takes, PassesOver, Parts, Heeds, Knows, SameCalls, Led, LedOut, LeadsOn, LeadsOut, Stays}
+use Rattle.slotwriter.specs.Sent.{AreFresh, AreKept, AreUnopened, HandsHome, HasStream, HaveTold, KeepsOn, MakesOf, PlacesBy, SamePlaces, SlotSender, TakesAllHome, held_of, ids_of, lines_of}
+use Rattle.slotwriter.specs.Written.{FrameWriter, HasKept, HasSent, HasWritten, IsFlushed, Runs, Ends, RunsOn, RunsOut, SendsOn, StaysOn, Takes, PassesOver, Parts, Heeds, Knows, SameCalls, Led, LedOut, LeadsOn, LeadsOut, Stays, core_of, places_of}
 use Rattle.slotwriter.proofs.OrderSteps.{all-given, among-last, among-more, given-all, given-next, obeys-closing, obeys-frames, obeys-granted, obeys-last-word, obeys-lost, obeys-more, obeys-parting, obeys-reset, obeys-returned, obeys-taking}
+use Rattle.slotwriter.proofs.SentPlaces.{brings-plain, brings-same, fresh-parts, keeps-same, kept-back-more, kept-frames, kept-more, kept-none, kept-same, kept-still, kept-tells, makes-then, on-steps, own-plain, same-places, unopened-by}
 
 memory-going : stands.OutOfMemory ≢ stands.Going
 memory-going e = cc
@@ -117,122 +126,301 @@ module _ {W : Type 0} where
   knows-stream orders writer id (n, within, at) knows =
       subst (λ (k : ℕ). IsAmong (control.Open k tt) orders) at (All-get_or (λ (k : ℕ). IsAmong (control.Open k tt) orders) (ids_of writer.senders.places.items) n 0 within knows.opened)
 
+module _ {W : Type 0} where
+  -- ---- the senders
+
+  -- a further order is lost
+  pub kept-lost : (lost : Bool) (orders more : List (Control Opened)) (run : List Step) (writer : SlotWriter W) → HasKept lost orders run writer → HasKept true (orders ++ more) run writer
+  kept-lost false orders more run writer kept = (orders, more, refl, kept)
+  kept-lost true orders more run writer kept = (
+    kept.0,
+    kept.1 ++ more,
+    ap (λ (os : List (Control Opened)). os ++ more) kept.2 ∙ append_assoc kept.0 kept.1 more,
+    kept.3,
+  )
+
+  rest-none : (lost : Bool) (orders more : List (Control Opened)) (run : List Step) (writer : SlotWriter W) (kept : HasKept lost orders run writer) → lost ≡ false → more ≡ []
+      → (kept-lost lost orders more run writer kept).1 ≡ []
+  unfolding kept-lost
+  rest-none false orders more run writer kept spared none = none
+  rest-none true orders more run writer kept spared none = absurd (true≢false spared)
+
+  -- none is
+  kept-here : (lost : Bool) (orders : List (Control Opened)) (run : List Step) (writer : SlotWriter W) → HasKept lost orders run writer → HasKept true orders run writer
+  kept-here lost orders run writer kept = subst (λ (os : List (Control Opened)). HasKept true os run writer) (append-nil orders) (kept-lost lost orders [] run writer kept)
+
+  -- no order is taken
+  pub kept-on : (lost : Bool) (orders : List (Control Opened)) (run steps : List Step) (old new : SlotWriter W) → SendsOn steps old new → HasKept lost orders run old
+      → HasKept lost orders (steps ++ run) new
+  kept-on false orders run steps old new sends kept = λ fresh. sends run (lines_of orders) (kept fresh)
+  kept-on true orders run steps old new sends kept = (kept.0, kept.1, kept.2, λ fresh. sends run (lines_of kept.0) (kept.3 fresh))
+
+  -- steps that open no stream, with the same senders in the core
+  pub sends-still : (steps : List Step) (old new : SlotWriter W) → ((run : List Step) (id : ℕ) → On run (steps ++ run) id) → core_of new ≡ core_of old → SamePlaces (places_of old) (places_of new)
+      → SendsOn steps old new
+  sends-still steps old new on core same run lines kept = kept-still run (steps ++ run) lines (places_of old) (places_of new) (core_of old) (core_of new) (on run) core same kept
+
+  -- an order that opens nothing, and the writer's own behind it
+  pub sends-plain : (order : Order) (last : ℕ) (taking : Taking SlotSender) (old new : SlotWriter W) → ((k : ℕ) → opens_stream k order ≡ false) → core_of new ≡ core_of old
+      → SamePlaces (places_of old) (places_of new) → SendsOn (steps_of order last taking) old new
+  sends-plain order last taking old new plain core same = sends-still (steps_of order last taking) old new (λ run k. on-steps order last taking run k (plain k)) core same
+
+  pub sends-none : (old new : SlotWriter W) → core_of new ≡ core_of old → KeepsOn (places_of old) (places_of new) → SendsOn [] old new
+  sends-none old new core keeps run lines kept =
+      subst (λ (senders : List (ℕ × SlotSender)). AreKept run lines (places_of new) senders) (sym core) (keeps run lines (core_of old) kept)
+
+  pub sends-frames : (frames : List Frame) (old new : SlotWriter W) → lanes (lane_and_past ring_lane.out_name past_out) (core_of new) ≡ lanes (lane_and_past ring_lane.out_name past_out) (core_of old)
+      → places_of new ≡ places_of old → SendsOn (map Written frames) old new
+  sends-frames frames old new same places run lines kept =
+      subst (λ (ps : List Place). AreKept (map Written frames ++ run) lines ps (core_of new)) (sym places)
+      (kept-frames run frames lines (places_of old) (core_of old) (core_of new) same kept)
+
+  -- by an order for a window no call begins
+  kept-first : (one : Control SlotSender) (id : ℕ) (order : Control Opened) (orders : List (Control Opened)) (run : List Step) (first old : SlotWriter W) → order_of one ≡ order_of order
+      → MakesOf order one (places_of first) (places_of old) → core_of first ≡ core_of old → Concerns (PeerWindow id) one → HasKept false orders run first → AreFresh [] (orders ++ order ∷ [])
+      → AreKept (Taken (order_of one) ∷ run) (lines_of (orders ++ order ∷ [])) (places_of old) (core_of old)
+  kept-first one id order orders run first old is made core concerns kept fresh =
+      subst (λ (o : Order). AreKept (Taken o ∷ run) (lines_of (orders ++ order ∷ [])) (places_of old) (core_of old)) (sym is)
+      (kept-more run orders order (places_of first) (places_of old) (core_of old) (core_of old) one made (brings-same id one (core_of old) concerns)
+      (λ before. subst (λ (senders : List (ℕ × SlotSender)). AreKept run (lines_of orders) (places_of first) senders) core (kept before)) fresh)
+
+  -- an order that was given
+  kept-taking : (one : Control SlotSender) (last : ℕ) (taking : Taking SlotSender) (order : Control Opened) (orders : List (Control Opened)) (run : List Step) (first old new : SlotWriter W)
+      → order_of one ≡ order_of order → MakesOf order one (places_of first) (places_of old) → core_of first ≡ core_of old → Blamed taking one run
+      → BringsBy taking one (core_of old) (core_of new) → PlacesBy taking (places_of old) (places_of new) → HasKept false orders run first
+      → HasKept (loses_by taking) (orders ++ order ∷ []) (steps_of (order_of one) last taking ++ run) new
+  kept-taking one last Done order orders run first old new is made core blamed brings places kept = λ fresh.
+      subst (λ (o : Order). AreKept (Taken o ∷ run) (lines_of (orders ++ order ∷ [])) (places_of new) (core_of new)) (sym is)
+      (kept-same (Taken (order_of order) ∷ run) (lines_of (orders ++ order ∷ [])) (places_of old) (places_of new) (core_of new) places
+      (kept-more run orders order (places_of first) (places_of old) (core_of old) (core_of new) one made brings
+      (λ before. subst (λ (senders : List (ℕ × SlotSender)). AreKept run (lines_of orders) (places_of first) senders) core (kept before)) fresh))
+  kept-taking one last (Ended id) order orders run first old new is made core blamed brings places kept = λ fresh.
+      kept-still (Taken (order_of one) ∷ run) (Taken (own_order last id) ∷ Taken (order_of one) ∷ run) (lines_of (orders ++ order ∷ [])) (places_of old) (places_of new) (core_of old) (core_of new)
+      (λ k. on-taken (own_order last id) (Taken (order_of one) ∷ run) k (own-plain last id k)) brings places
+      (kept-first one id order orders run first old is made core blamed.0 kept fresh)
+  kept-taking one last (Unanswered id) order orders run first old new is made core blamed brings places kept = (
+    orders ++ order ∷ [],
+    [],
+    sym (append-nil (orders ++ order ∷ [])),
+    λ fresh.
+        kept-still (Taken (order_of one) ∷ run) (Taken (order_of one) ∷ run) (lines_of (orders ++ order ∷ [])) (places_of old) (places_of new) (core_of old) (core_of new)
+        (λ k. (λ never. never, λ items r. r)) brings places
+        (kept-first one id order orders run first old is made core blamed.0 kept fresh),
+  )
+  kept-taking one last (HandedBack back) order orders run first old new is made core blamed brings places kept = (
+    orders ++ order ∷ [],
+    [],
+    sym (append-nil (orders ++ order ∷ [])),
+    λ fresh.
+        subst (λ (senders : List (ℕ × SlotSender)). AreKept run (lines_of (orders ++ order ∷ [])) (places_of new) senders) (core ∙ sym brings)
+        (kept-back-more run orders order (places_of first) (places_of old) (places_of new) (core_of first) one made
+        (subst (λ (c : Control SlotSender). HandsHome c (places_of old) (places_of new)) blamed places) kept fresh),
+  )
+
 module _ {W : Type 0} (contents : W → Option (List ℕ)) (failed : W → Bool) where
   -- ---- frames
 
   -- frames are put into the buffer
-  pub fills-on : (filled : Option Filled) (old new : FrameWriter W) → Fills got (coming got ahead) contents failed filled old new → RunsOn contents failed old new
-  fills-on filled old new fills lost orders before runs =
-      let found = fills before runs.0 runs.1 in (map Written found.0 ++ runs.0, found.1, obeys-frames lost orders found.0 runs.0 runs.2)
-
-  over-filled : (old new : FrameWriter W) → Fills got (coming got ahead) contents failed (Some Over) old new → RunsOut contents failed old new
-  over-filled old new fills lost orders before runs =
+  pub fills-on : (filled : Option Filled) (old new : SlotWriter W) → Fills got (coming got ahead) contents failed filled old.frames new.frames
+      → ((frames : List Frame) → SendsOn (map Written frames) old new) → RunsOn contents failed old new
+  fills-on filled old new fills sends lost orders before runs =
       let found = fills before runs.0 runs.1 in
-      let rest = found.2 in
-      (map Written found.0 ++ runs.0, found.1, obeys-frames lost orders found.0 runs.0 runs.2, λ going. record { closed = found.1.leads.closed ∙ rest.1; answered = rest.0.answered })
+      (map Written found.0 ++ runs.0, found.1, obeys-frames lost (orders_of orders) found.0 runs.0 runs.2, kept-on lost orders runs.0 (map Written found.0) old new (sends found.0) runs.3)
 
-  stopped-filled : (old new : FrameWriter W) → Fills got (coming got ahead) contents failed (Some Stopped) old new → RunsOut contents failed old new
-  stopped-filled old new fills lost orders before runs =
-      let found = fills before runs.0 runs.1 in (map Written found.0 ++ runs.0, found.1, obeys-frames lost orders found.0 runs.0 runs.2, λ going. absurd (found.2 going))
+  over-filled : (old new : SlotWriter W) → Fills got (coming got ahead) contents failed (Some Over) old.frames new.frames
+      → ((frames : List Frame) → SendsOn (map Written frames) old new) → RunsOut contents failed old new
+  over-filled old new fills sends lost orders before runs =
+      let found = fills before runs.0 runs.1 in
+      let rest = found.2 in (
+        map Written found.0 ++ runs.0,
+        found.1,
+        obeys-frames lost (orders_of orders) found.0 runs.0 runs.2,
+        kept-on lost orders runs.0 (map Written found.0) old new (sends found.0) runs.3,
+        λ going. record { closed = found.1.leads.closed ∙ rest.1; answered = rest.0.answered },
+      )
+
+  stopped-filled : (old new : SlotWriter W) → Fills got (coming got ahead) contents failed (Some Stopped) old.frames new.frames
+      → ((frames : List Frame) → SendsOn (map Written frames) old new) → RunsOut contents failed old new
+  stopped-filled old new fills sends lost orders before runs =
+      let found = fills before runs.0 runs.1 in (
+        map Written found.0 ++ runs.0,
+        found.1,
+        obeys-frames lost (orders_of orders) found.0 runs.0 runs.2,
+        kept-on lost orders runs.0 (map Written found.0) old new (sends found.0) runs.3,
+        λ going. absurd (found.2 going),
+      )
 
   -- so many that nothing is left to be written
-  pub fills-over : (filled : Filled) (old new : FrameWriter W) → Fills got (coming got ahead) contents failed (Some filled) old new → filled ≡ Over → RunsOut contents failed old new
-  fills-over filled old new fills over = over-filled old new (subst (λ (found : Filled). Fills got (coming got ahead) contents failed (Some found) old new) over fills)
+  pub fills-over : (filled : Filled) (old new : SlotWriter W) → Fills got (coming got ahead) contents failed (Some filled) old.frames new.frames
+      → ((frames : List Frame) → SendsOn (map Written frames) old new) → filled ≡ Over → RunsOut contents failed old new
+  fills-over filled old new fills sends over =
+      over-filled old new (subst (λ (found : Filled). Fills got (coming got ahead) contents failed (Some found) old.frames new.frames) over fills) sends
 
   -- the writer makes no more
-  pub fills-stopped : (filled : Filled) (old new : FrameWriter W) → Fills got (coming got ahead) contents failed (Some filled) old new → filled ≡ Stopped
-      → RunsOut contents failed old new
-  fills-stopped filled old new fills stopped =
-      stopped-filled old new (subst (λ (found : Filled). Fills got (coming got ahead) contents failed (Some found) old new) stopped fills)
+  pub fills-stopped : (filled : Filled) (old new : SlotWriter W) → Fills got (coming got ahead) contents failed (Some filled) old.frames new.frames
+      → ((frames : List Frame) → SendsOn (map Written frames) old new) → filled ≡ Stopped → RunsOut contents failed old new
+  fills-stopped filled old new fills sends stopped =
+      stopped-filled old new (subst (λ (found : Filled). Fills got (coming got ahead) contents failed (Some found) old.frames new.frames) stopped fills) sends
 
   -- credit is owed
-  pub grants-on : (id n : ℕ) (old new : FrameWriter W) → WritesOn got contents failed (Granted id n ∷ []) old new → RunsOn contents failed old new
-  grants-on id n old new on lost orders before runs = (Granted id n ∷ runs.0, on before runs.0 runs.1, obeys-granted lost orders id n runs.0 runs.2)
+  pub grants-on : (id n : ℕ) (old new : SlotWriter W) → WritesOn got contents failed (Granted id n ∷ []) old.frames new.frames → SendsOn (Granted id n ∷ []) old new
+      → RunsOn contents failed old new
+  grants-on id n old new on sends lost orders before runs = (
+    Granted id n ∷ runs.0,
+    on before runs.0 runs.1,
+    obeys-granted lost (orders_of orders) id n runs.0 runs.2,
+    kept-on lost orders runs.0 (Granted id n ∷ []) old new sends runs.3,
+  )
+
+  -- no step
+  pub runs-same : (lost : Bool) (old new : SlotWriter W) → WritesOn got contents failed [] old.frames new.frames → SendsOn [] old new
+      → (orders : List (Control Opened)) (before : Option (List ℕ)) → Runs contents failed lost orders before old → Runs contents failed lost orders before new
+  runs-same lost old new on sends orders before runs = (runs.0, on before runs.0 runs.1, runs.2, kept-on lost orders runs.0 [] old new sends runs.3)
 
   -- no step, of a writer that stands as it did
-  pub still-on : (lost : Bool) (old new : FrameWriter W) → WritesOn got contents failed [] old new → (new.standing ≡ stands.Going → old.standing ≡ stands.Going)
-      → StaysOn contents failed lost lost old new
-  still-on lost old new on still = record {
-    runs = λ orders before runs. (runs.0, on before runs.0 runs.1, runs.2);
-    ends = λ orders before ends. (ends.0, on before ends.0 ends.1, ends.2, λ going. ends.3 (still going));
+  pub still-on : (lost : Bool) (old new : SlotWriter W) → WritesOn got contents failed [] old.frames new.frames → SendsOn [] old new
+      → (new.frames.standing ≡ stands.Going → old.frames.standing ≡ stands.Going) → StaysOn contents failed lost lost old new
+  still-on lost old new on sends still = record {
+    runs = runs-same lost old new on sends;
+    ends = λ orders before ends. (ends.0, on before ends.0 ends.1, ends.2, kept-on lost orders ends.0 [] old new sends ends.3, λ going. ends.4 (still going));
   }
 
   -- the buffer is written, or that failed
-  pub flushes-on : {A E : Type 0} (lost : Bool) (result : Result A E) (old new : FrameWriter W) → WritesOn got contents failed [] old new → OnOk result (new.standing ≡ old.standing)
-      → OnErr result (new.standing ≡ stands.Broken) → StaysOn contents failed lost lost old new
-  flushes-on lost (Ok one) old new on stands broken = still-on lost old new on (λ going. sym stands ∙ going)
-  flushes-on lost (Err fault) old new on stands broken = still-on lost old new on (λ going. absurd (broken-going (sym broken ∙ going)))
+  pub flushes-on : {A E : Type 0} (lost : Bool) (result : Result A E) (old new : SlotWriter W) → WritesOn got contents failed [] old.frames new.frames → SendsOn [] old new
+      → OnOk result (new.frames.standing ≡ old.frames.standing) → OnErr result (new.frames.standing ≡ stands.Broken) → StaysOn contents failed lost lost old new
+  flushes-on lost (Ok one) old new on sends stands broken = still-on lost old new on sends (λ going. sym stands ∙ going)
+  flushes-on lost (Err fault) old new on sends stands broken = still-on lost old new on sends (λ going. absurd (broken-going (sym broken ∙ going)))
 
   -- a sender is given back
-  pub returns-on : (lost : Bool) (id : ℕ) (items : List OutItem) (old new : FrameWriter W) → WritesOn got contents failed (Returned id items ∷ []) old new
-      → new.standing ≡ old.standing → StaysOn contents failed lost lost old new
-  returns-on lost id items old new on still = record {
-    runs = λ orders before runs. (Returned id items ∷ runs.0, on before runs.0 runs.1, obeys-returned lost orders id items runs.0 runs.2);
+  pub returns-on : (lost : Bool) (id : ℕ) (items : List OutItem) (old new : SlotWriter W) → WritesOn got contents failed (Returned id items ∷ []) old.frames new.frames
+      → SendsOn (Returned id items ∷ []) old new → new.frames.standing ≡ old.frames.standing → StaysOn contents failed lost lost old new
+  returns-on lost id items old new on sends still = record {
+    runs = λ orders before runs. (
+      Returned id items ∷ runs.0,
+      on before runs.0 runs.1,
+      obeys-returned lost (orders_of orders) id items runs.0 runs.2,
+      kept-on lost orders runs.0 (Returned id items ∷ []) old new sends runs.3,
+    );
     ends = λ orders before ends. (
       Returned id items ∷ ends.0,
       on before ends.0 ends.1,
-      obeys-returned lost orders id items ends.0 ends.2,
-      λ going. let over = ends.3 (sym still ∙ going) in record { closed = over.closed; answered = over.answered },
+      obeys-returned lost (orders_of orders) id items ends.0 ends.2,
+      kept-on lost orders ends.0 (Returned id items ∷ []) old new sends ends.3,
+      λ going. let over = ends.4 (sym still ∙ going) in record { closed = over.closed; answered = over.answered },
     );
   }
 
   -- the last word of a core
-  pub parts-on : (last : ℕ) (lost : Bool) (old new : FrameWriter W) → WritesOn got contents failed (parting last true) old new → old.standing ≡ stands.OutOfMemory
-      → new.standing ≡ old.standing → StaysOn contents failed lost true old new
-  parts-on last lost old new on memory still = record {
-    runs = λ orders before runs. (parting last true ++ runs.0, on before runs.0 runs.1, obeys-last-word last lost orders runs.0 runs.2);
-    ends = λ orders before ends. (
-      parting last true ++ ends.0,
-      on before ends.0 ends.1,
-      obeys-last-word last lost orders ends.0 ends.2,
-      λ going. absurd (memory-going (sym memory ∙ (sym still ∙ going))),
-    );
-  }
+  pub parts-on : (last : ℕ) (lost : Bool) (old new : SlotWriter W) → WritesOn got contents failed (parting last true) old.frames new.frames → core_of new ≡ core_of old
+      → places_of new ≡ places_of old → old.frames.standing ≡ stands.OutOfMemory → new.frames.standing ≡ old.frames.standing → StaysOn contents failed lost true old new
+  parts-on last lost old new on core places memory still =
+      let sends : SendsOn (parting last true) old new = sends-still (parting last true) old new (λ run k. on-taken (control.Goaway last InternalError) run k refl) core (same-places places) in record {
+        runs = λ orders before runs. (
+          parting last true ++ runs.0,
+          on before runs.0 runs.1,
+          obeys-last-word last lost (orders_of orders) runs.0 runs.2,
+          kept-on true orders runs.0 (parting last true) old new sends (kept-here lost orders runs.0 old runs.3),
+        );
+        ends = λ orders before ends. (
+          parting last true ++ ends.0,
+          on before ends.0 ends.1,
+          obeys-last-word last lost (orders_of orders) ends.0 ends.2,
+          kept-on true orders ends.0 (parting last true) old new sends (kept-here lost orders ends.0 old ends.3),
+          λ going. absurd (memory-going (sym memory ∙ (sym still ∙ going))),
+        );
+      }
+
+  -- between writers of the same frames
+  runs-between : (lost : Bool) (old new : SlotWriter W) → new.frames ≡ old.frames → KeepsOn (places_of old) (places_of new)
+      → (orders : List (Control Opened)) (before : Option (List ℕ)) → Runs contents failed lost orders before old → Runs contents failed lost orders before new
+  runs-between lost old new same keeps orders before runs = (
+    runs.0,
+    subst (λ (frames : FrameWriter W). Wrote got contents failed before runs.0 frames) (sym same) runs.1,
+    runs.2,
+    kept-on lost orders runs.0 [] old new (sends-none old new (ap (λ (frames : FrameWriter W). frames.core.sending.senders.items) same) keeps) runs.3,
+  )
+
+  ends-between : (lost : Bool) (old new : SlotWriter W) → new.frames ≡ old.frames → KeepsOn (places_of old) (places_of new)
+      → (orders : List (Control Opened)) (before : Option (List ℕ)) → Ends contents failed lost orders before old → Ends contents failed lost orders before new
+  ends-between lost old new same keeps orders before ends = (
+    ends.0,
+    subst (λ (frames : FrameWriter W). Wrote got contents failed before ends.0 frames) (sym same) ends.1,
+    ends.2,
+    kept-on lost orders ends.0 [] old new (sends-none old new (ap (λ (frames : FrameWriter W). frames.core.sending.senders.items) same) keeps) ends.3,
+    λ going. ends.4 (sym (ap (λ (frames : FrameWriter W). frames.standing) same) ∙ going),
+  )
 
   -- ---- orders
 
   -- the core was given an order, and none was lost before
-  pub given-on : {S : Type 0} (one : Control S) (last : ℕ) (taking : Taking S) (loses : Bool) (old new : FrameWriter W) → WritesOn got contents failed (steps_of (order_of one) last taking) old new
-      → ((before : Option (List ℕ)) (run : List Step) → Wrote got contents failed before run old → Blamed taking one run) → loses ≡ loses_by taking
-      → Takes contents failed (order_of one) loses old new
-  given-on one last taking loses old new on blamed lost orders before runs = (
-    steps_of (order_of one) last taking ++ runs.0,
-    on before runs.0 runs.1,
-    subst (λ (found : Bool). Obeys found (orders ++ order_of one ∷ []) (steps_of (order_of one) last taking ++ runs.0)) (sym lost)
-        (obeys-taking one last taking orders runs.0 (blamed before runs.0 runs.1) runs.2),
-  )
+  pub given-on : (one : Control SlotSender) (last : ℕ) (taking : Taking SlotSender) (old : SlotWriter W) (mid : FrameWriter W) (new : SlotWriter W) → new.frames ≡ mid
+      → WritesOn got contents failed (steps_of (order_of one) last taking) old.frames mid
+      → ((before : Option (List ℕ)) (run : List Step) → Wrote got contents failed before run old.frames → Blamed taking one run)
+      → BringsBy taking one (core_of old) mid.core.sending.senders.items → PlacesBy taking (places_of old) (places_of new) → new.inbox.has_lost ≡ loses_by taking
+      → Takes contents failed one old new
+  given-on one last taking old mid new to on blamed brings places lost order first is made same orders before runs =
+      let wrote : Wrote got contents failed before runs.0 old.frames = subst (λ (frames : FrameWriter W). Wrote got contents failed before runs.0 frames) same runs.1 in
+      let steps : List Step = steps_of (order_of one) last taking in
+      subst (λ (found : Bool). Runs contents failed found (orders ++ order ∷ []) before new) (sym lost) (
+        steps ++ runs.0,
+        subst (λ (frames : FrameWriter W). Wrote got contents failed before (steps ++ runs.0) frames) (sym to) (on before runs.0 wrote),
+        subst (λ (os : List Order). Obeys (loses_by taking) os (steps ++ runs.0)) (ap (λ (o : Order). orders_of orders ++ o ∷ []) is ∙ sym (given-next orders order))
+            (obeys-taking one last taking (orders_of orders) runs.0 (blamed before runs.0 wrote) runs.2),
+        kept-taking one last taking order orders runs.0 first old new is made (ap (λ (frames : FrameWriter W). frames.core.sending.senders.items) same) (blamed before runs.0 wrote)
+            (subst (λ (frames : FrameWriter W). BringsBy taking one (core_of old) frames.core.sending.senders.items) (sym to) brings) places runs.3,
+      )
+
+  -- the places' senders are the same before
+  pub takes-from : (one : Control SlotSender) (old mid new : SlotWriter W) → mid.frames ≡ old.frames → SamePlaces (places_of old) (places_of mid) → Takes contents failed one mid new
+      → Takes contents failed one old new
+  takes-from one old mid new frames places takes order first is made same =
+      takes order first is (makes-then order one (places_of first) (places_of old) (places_of mid) made places) (same ∙ sym frames)
 
   -- a GOAWAY of the writer's own
-  pub parting-on : {S : Type 0} (last : ℕ) (taking : Taking S) (old new : FrameWriter W) → WritesOn got contents failed (steps_of (control.Goaway last InternalError) last taking) old new
-      → ((before : Option (List ℕ)) (run : List Step) → Wrote got contents failed before run old → Blamed taking (control.Goaway last InternalError) run) → Parts contents failed old new
-  parting-on last taking old new on blamed orders before runs =
-      (steps_of (control.Goaway last InternalError) last taking ++ runs.0, on before runs.0 runs.1, obeys-parting last taking orders runs.0 (blamed before runs.0 runs.1) runs.2)
+  pub parting-on : (last : ℕ) (taking : Taking SlotSender) (old new : SlotWriter W) → WritesOn got contents failed (steps_of (control.Goaway last InternalError) last taking) old.frames new.frames
+      → ((before : Option (List ℕ)) (run : List Step) → Wrote got contents failed before run old.frames → Blamed taking (control.Goaway last InternalError) run)
+      → BringsBy taking (control.Goaway last InternalError) (core_of old) (core_of new) → places_of new ≡ places_of old → Parts contents failed old new
+  parting-on last taking old new on blamed brings places orders before runs = (
+    steps_of (control.Goaway last InternalError) last taking ++ runs.0,
+    on before runs.0 runs.1,
+    obeys-parting last taking (orders_of orders) runs.0 (blamed before runs.0 runs.1) runs.2,
+    kept-on true orders runs.0 (steps_of (control.Goaway last InternalError) last taking) old new
+        (sends-plain (control.Goaway last InternalError) last taking old new (λ k. refl) (brings-plain taking (control.Goaway last InternalError) (core_of old) (core_of new) tt brings) (same-places places)) runs.3,
+  )
 
   -- a Close where orders were lost
-  pub closing-on : {S : Type 0} (last : ℕ) (taking : Taking S) (old new : FrameWriter W) → WritesOn got contents failed (steps_of control.Close last taking) old new
-      → ((before : Option (List ℕ)) (run : List Step) → Wrote got contents failed before run old → Blamed taking control.Close run) → PassesOver contents failed control.Close old new
-  closing-on last taking old new on blamed orders before runs =
-      (steps_of control.Close last taking ++ runs.0, on before runs.0 runs.1, obeys-closing last taking orders runs.0 (blamed before runs.0 runs.1) runs.2)
+  pub closing-on : (last : ℕ) (taking : Taking SlotSender) (old new : SlotWriter W) → WritesOn got contents failed (steps_of control.Close last taking) old.frames new.frames
+      → ((before : Option (List ℕ)) (run : List Step) → Wrote got contents failed before run old.frames → Blamed taking control.Close run)
+      → BringsBy taking control.Close (core_of old) (core_of new) → places_of new ≡ places_of old → PassesOver contents failed control.Close old new
+  closing-on last taking old new on blamed brings places orders before runs = (
+    steps_of control.Close last taking ++ runs.0,
+    on before runs.0 runs.1,
+    subst (λ (os : List Order). Obeys true os (steps_of control.Close last taking ++ runs.0)) (sym (given-next orders control.Close))
+        (obeys-closing last taking (orders_of orders) runs.0 (blamed before runs.0 runs.1) runs.2),
+    kept-lost true orders (control.Close ∷ []) (steps_of control.Close last taking ++ runs.0) new
+        (kept-on true orders runs.0 (steps_of control.Close last taking) old new (sends-plain control.Close last taking old new (λ k. refl) (brings-plain taking control.Close (core_of old) (core_of new) tt brings) (same-places places)) runs.3),
+  )
 
   -- a reset of the writer's own
-  pub resetting-on : {S : Type 0} (id last : ℕ) (taking : Taking S) (old new : FrameWriter W)
-      → WritesOn got contents failed (steps_of (control.Reset id InternalError true) last taking) old new
-      → ((before : Option (List ℕ)) (run : List Step) → Wrote got contents failed before run old → Blamed taking (control.Reset id InternalError true) run)
-      → (orders : List Order) (before : Option (List ℕ)) → IsAmong (control.Open id tt) orders → list_any ends_input orders ≡ false
+  pub resetting-on : (id last : ℕ) (taking : Taking SlotSender) (old new : SlotWriter W)
+      → WritesOn got contents failed (steps_of (control.Reset id InternalError true) last taking) old.frames new.frames
+      → ((before : Option (List ℕ)) (run : List Step) → Wrote got contents failed before run old.frames → Blamed taking (control.Reset id InternalError true) run)
+      → BringsBy taking (control.Reset id InternalError true) (core_of old) (core_of new) → SamePlaces (places_of old) (places_of new)
+      → (orders : List (Control Opened)) (before : Option (List ℕ)) → IsAmong (control.Open id tt) (orders_of orders) → list_any ends_input (orders_of orders) ≡ false
       → Runs contents failed false orders before old → Runs contents failed false orders before new
-  resetting-on id last taking old new on blamed orders before among goes_on runs =
-      (steps_of (control.Reset id InternalError true) last taking ++ runs.0, on before runs.0 runs.1, obeys-reset id last taking orders runs.0 (blamed before runs.0 runs.1) among goes_on runs.2)
+  resetting-on id last taking old new on blamed brings places orders before among goes_on runs = (
+    steps_of (control.Reset id InternalError true) last taking ++ runs.0,
+    on before runs.0 runs.1,
+    obeys-reset id last taking (orders_of orders) runs.0 (blamed before runs.0 runs.1) among goes_on runs.2,
+    kept-on false orders runs.0 (steps_of (control.Reset id InternalError true) last taking) old new
+        (sends-plain (control.Reset id InternalError true) last taking old new (λ k. refl) (brings-plain taking (control.Reset id InternalError true) (core_of old) (core_of new) tt brings) places) runs.3,
+  )
 
   -- another order there
-  pub passes-by : (order : Order) (old new : FrameWriter W) → new ≡ old → PassesOver contents failed order old new
-  passes-by order old new same orders before runs =
-      subst (λ (frames : FrameWriter W). Runs contents failed true (orders ++ order ∷ []) before frames) (sym same) (runs.0, runs.1, obeys-more orders (order ∷ []) runs.0 runs.2)
-
-  -- between writers that are these
-  pub takes-between : (order : Order) (loses : Bool) (one old mid new : FrameWriter W) → one ≡ old → new ≡ mid → Takes contents failed order loses one mid → Takes contents failed order loses old new
-  takes-between order loses one old mid new from to takes orders before runs =
-      subst (λ (frames : FrameWriter W). Runs contents failed loses (orders ++ order ∷ []) before frames) (sym to)
-      (takes orders before (subst (λ (frames : FrameWriter W). Runs contents failed false orders before frames) (sym from) runs))
+  pub passes-by : (order : Control Opened) (old new : SlotWriter W) → new.frames ≡ old.frames → places_of new ≡ places_of old → PassesOver contents failed order old new
+  passes-by order old new same places orders before runs =
+      let kept = runs-between true old new same (keeps-same (places_of old) (places_of new) (same-places places)) orders before runs in
+      (kept.0, kept.1, subst (λ (os : List Order). Obeys true os kept.0) (sym (given-next orders order)) (obeys-more (orders_of orders) (order_of order ∷ []) kept.0 kept.2), kept-lost true orders (order ∷ []) kept.0 new kept.3)
 
   -- ---- with the inbox
 
@@ -255,179 +443,183 @@ module _ {W : Type 0} (contents : W → Option (List ℕ)) (failed : W → Bool)
   out-then old mid out new first leads then before led = then.out before (leads before (first.on before led))
 
   -- no order is taken
-  pub leads-still : (old new : SlotWriter W) → new.inbox ≡ old.inbox → SameCalls old new → RunsOn contents failed old.frames new.frames → LeadsOn contents failed old new
+  pub leads-still : (old new : SlotWriter W) → new.inbox ≡ old.inbox → SameCalls old new → RunsOn contents failed old new → LeadsOn contents failed old new
   leads-still old new same calls on = record {
     name = ap (λ (inbox : Inbox). out_name inbox.ring) same;
     on = λ before led. (
       led.0,
       subst (λ (inbox : Inbox). HasGiven led.0 inbox) (sym same) led.1,
-      subst (λ (inbox : Inbox). Runs contents failed inbox.has_lost (orders_of led.0) before new.frames) (sym same) (on old.inbox.has_lost (orders_of led.0) before led.2),
+      subst (λ (inbox : Inbox). Runs contents failed inbox.has_lost led.0 before new) (sym same) (on old.inbox.has_lost led.0 before led.2),
       λ kept. knows-same (orders_of led.0) old new calls (led.3 (sym (ap (λ (inbox : Inbox). inbox.has_lost) same) ∙ kept)),
     );
   }
 
-  pub leads-out : (old new : SlotWriter W) → new.inbox ≡ old.inbox → RunsOut contents failed old.frames new.frames → LeadsOut contents failed old new
+  pub leads-out : (old new : SlotWriter W) → new.inbox ≡ old.inbox → RunsOut contents failed old new → LeadsOut contents failed old new
   leads-out old new same out before led =
-      subst (λ (inbox : Inbox). (given : List (Control Opened)) × HasGiven given inbox × Ends contents failed inbox.has_lost (orders_of given) before new.frames) (sym same)
-      (led.0, led.1, out old.inbox.has_lost (orders_of led.0) before led.2)
+      subst (λ (inbox : Inbox). (given : List (Control Opened)) × HasGiven given inbox × Ends contents failed inbox.has_lost given before new) (sym same)
+      (led.0, led.1, out old.inbox.has_lost led.0 before led.2)
 
   -- the same, and more may be lost
   pub stays-by : (old new : SlotWriter W) → new.inbox ≡ record old.inbox { has_lost = new.inbox.has_lost }
       → (new.inbox.has_lost ≡ false → old.inbox.has_lost ≡ false) → SameCalls old new
-      → StaysOn contents failed old.inbox.has_lost new.inbox.has_lost old.frames new.frames → Stays contents failed old new
+      → StaysOn contents failed old.inbox.has_lost new.inbox.has_lost old new → Stays contents failed old new
   stays-by old new same kept_too calls on = record {
     leads = record {
       name = ap (λ (inbox : Inbox). out_name inbox.ring) same;
       on = λ before led. (
         led.0,
         given-on-to led.0 led.1,
-        on.runs (orders_of led.0) before led.2,
+        on.runs led.0 before led.2,
         λ kept. knows-same (orders_of led.0) old new calls (led.3 (kept_too kept)),
       );
     };
-    out = λ before led. (led.0, given-on-to led.0 led.1, on.ends (orders_of led.0) before led.2);
+    out = λ before led. (led.0, given-on-to led.0 led.1, on.ends led.0 before led.2);
   }
     where
       given-on-to : (given : List (Control Opened)) → HasGiven given old.inbox → HasGiven given new.inbox
       given-on-to given has = subst (λ (inbox : Inbox). HasGiven given inbox) (sym same) has
 
   -- an order is looked at
-  pub stays-with : (old new : SlotWriter W) → Keeps old.inbox new.inbox → SameCalls old new → new.frames ≡ old.frames → Stays contents failed old new
-  stays-with old new keeps calls frames = record {
+  pub stays-with : (old new : SlotWriter W) → Keeps old.inbox new.inbox → SameCalls old new → KeepsOn (places_of old) (places_of new) → new.frames ≡ old.frames → Stays contents failed old new
+  stays-with old new keeps calls places frames = record {
     leads = record {
       name = keeps.name;
       on = λ before led. (
         led.0,
         keeps.given led.0 led.1,
-        subst (λ (lost : Bool). Runs contents failed lost (orders_of led.0) before new.frames) (sym keeps.lost)
-            (subst (λ (writing : FrameWriter W). Runs contents failed old.inbox.has_lost (orders_of led.0) before writing) (sym frames) led.2),
+        subst (λ (lost : Bool). Runs contents failed lost led.0 before new) (sym keeps.lost) (runs-between old.inbox.has_lost old new frames places led.0 before led.2),
         λ kept. knows-same (orders_of led.0) old new calls (led.3 (sym keeps.lost ∙ kept)),
       );
     };
     out = λ before led. (
       led.0,
       keeps.given led.0 led.1,
-      subst (λ (lost : Bool). Ends contents failed lost (orders_of led.0) before new.frames) (sym keeps.lost)
-          (subst (λ (writing : FrameWriter W). Ends contents failed old.inbox.has_lost (orders_of led.0) before writing) (sym frames) led.2),
+      subst (λ (lost : Bool). Ends contents failed lost led.0 before new) (sym keeps.lost) (ends-between old.inbox.has_lost old new frames places led.0 before led.2),
     );
   }
 
   -- nothing is done
-  pub stays-same : (old new : SlotWriter W) → new.inbox ≡ old.inbox → SameCalls old new → new.frames ≡ old.frames → Stays contents failed old new
-  stays-same old new inbox calls frames =
-      stays-with old new (record { name = ap (λ (i : Inbox). out_name i.ring) inbox; lost = ap (λ (i : Inbox). i.has_lost) inbox; given = λ given has. subst (λ (i : Inbox). HasGiven given i) (sym inbox) has }) calls frames
+  pub stays-same : (old new : SlotWriter W) → new.inbox ≡ old.inbox → SameCalls old new → KeepsOn (places_of old) (places_of new) → new.frames ≡ old.frames → Stays contents failed old new
+  stays-same old new inbox calls places frames =
+      stays-with old new (record { name = ap (λ (i : Inbox). out_name i.ring) inbox; lost = ap (λ (i : Inbox). i.has_lost) inbox; given = λ given has. subst (λ (i : Inbox). HasGiven given i) (sym inbox) has }) calls places frames
 
   -- ---- an order is looked for
 
   -- it gives none
-  pub leads-none : (old new : SlotWriter W) → Gives None old.inbox new.inbox → SameCalls old new → new.frames ≡ old.frames → LeadsOn contents failed old new
-  leads-none old new gives calls frames = (stays-with old new (record {
+  pub leads-none : (old new : SlotWriter W) → Gives None old.inbox new.inbox → SameCalls old new → KeepsOn (places_of old) (places_of new) → new.frames ≡ old.frames → LeadsOn contents failed old new
+  leads-none old new gives calls places frames = (stays-with old new (record {
     name = gives.name;
     lost = gives.lost;
     given = λ given has. subst (λ (all : List (Control Opened)). HasGiven all new.inbox) (append-nil given) (gives.given given has);
-  }) calls frames).leads
+  }) calls places frames).leads
 
   -- what is given comes back
   pub leads-back : (next back : Control Opened) (old new : SlotWriter W) (mid : Inbox) → Gives (Some next) old.inbox mid → new.inbox ≡ record mid { set_aside = Some back } → back ≡ next
-      → SameCalls old new → new.frames ≡ old.frames → LeadsOn contents failed old new
-  leads-back next back old new mid gives same is calls frames = (stays-with old new (record {
+      → SameCalls old new → KeepsOn (places_of old) (places_of new) → new.frames ≡ old.frames → LeadsOn contents failed old new
+  leads-back next back old new mid gives same is calls places frames = (stays-with old new (record {
     name = ap (λ (inbox : Inbox). out_name inbox.ring) same ∙ gives.name;
     lost = ap (λ (inbox : Inbox). inbox.has_lost) same ∙ gives.lost;
     given = λ given has. subst (λ (inbox : Inbox). HasGiven given inbox) (sym same) (ap (λ (one : Control Opened). given ++ one ∷ []) is ∙ aside given (gives.given given has));
-  }) calls frames).leads
+  }) calls places frames).leads
     where
       aside : (given : List (Control Opened)) → HasGiven (given ++ next ∷ []) mid → given ++ next ∷ [] ≡ taken mid.ring
       aside given has = sym (append-nil (given ++ next ∷ [])) ∙ (ap (λ (one : Option (Control Opened)). (given ++ next ∷ []) ++ order_in one) (sym gives.none_aside) ∙ has)
 
   led-next : (next : Control Opened) (old new : SlotWriter W) (mid : Inbox) (before : Option (List ℕ)) → Gives (Some next) old.inbox mid
       → new.inbox ≡ record mid { has_lost = new.inbox.has_lost } → (led : Led contents failed before old)
-      → Runs contents failed new.inbox.has_lost (orders_of led.0 ++ order_of next ∷ []) before new.frames
+      → Runs contents failed new.inbox.has_lost (led.0 ++ next ∷ []) before new
       → (new.inbox.has_lost ≡ false → Knows (orders_of led.0 ++ order_of next ∷ []) new) → Led contents failed before new
   led-next next old new mid before gives same led runs knows = (
     led.0 ++ next ∷ [],
     subst (λ (inbox : Inbox). HasGiven (led.0 ++ next ∷ []) inbox) (sym same) (gives.given led.0 led.1),
-    subst (λ (orders : List Order). Runs contents failed new.inbox.has_lost orders before new.frames) (sym (given-next led.0 next)) runs,
+    runs,
     λ kept. subst (λ (orders : List Order). Knows orders new) (sym (given-next led.0 next)) (knows kept),
   )
 
   -- the next order is taken
-  pub leads-taken : (next : Control Opened) (order : Order) (old new : SlotWriter W) (mid : Inbox) → Gives (Some next) old.inbox mid → order ≡ order_of next → mid.has_lost ≡ false
-      → new.inbox ≡ record mid { has_lost = new.inbox.has_lost } → Takes contents failed order new.inbox.has_lost old.frames new.frames
+  pub leads-taken : (next : Control Opened) (old new : SlotWriter W) (mid : Inbox) → Gives (Some next) old.inbox mid → mid.has_lost ≡ false
+      → new.inbox ≡ record mid { has_lost = new.inbox.has_lost }
+      → ((orders : List (Control Opened)) (before : Option (List ℕ)) → Runs contents failed false orders before old → Runs contents failed new.inbox.has_lost (orders ++ next ∷ []) before new)
       → (new.inbox.has_lost ≡ false → (orders : List Order) → Knows orders old → Knows (orders ++ order_of next ∷ []) new) → LeadsOn contents failed old new
-  leads-taken next order old new mid gives is kept same takes learns = record {
+  leads-taken next old new mid gives kept same takes learns = record {
     name = ap (λ (inbox : Inbox). out_name inbox.ring) same ∙ gives.name;
     on = λ before led.
         led-next next old new mid before gives same led
-        (subst (λ (one : Order). Runs contents failed new.inbox.has_lost (orders_of led.0 ++ one ∷ []) before new.frames) is
-        (takes (orders_of led.0) before (subst (λ (lost : Bool). Runs contents failed lost (orders_of led.0) before old.frames) (sym gives.lost ∙ kept) led.2)))
+        (takes led.0 before (subst (λ (lost : Bool). Runs contents failed lost led.0 before old) (sym gives.lost ∙ kept) led.2))
         (λ still. learns still (orders_of led.0) (led.3 (sym gives.lost ∙ kept)));
   }
 
   -- it is passed over
   pub leads-passed : (next : Control Opened) (old new : SlotWriter W) (mid : Inbox) → Gives (Some next) old.inbox mid → mid.has_lost ≡ true → new.inbox ≡ mid
-      → PassesOver contents failed (order_of next) old.frames new.frames → LeadsOn contents failed old new
+      → PassesOver contents failed next old new → LeadsOn contents failed old new
   leads-passed next old new mid gives lost same passes = record {
     name = ap (λ (inbox : Inbox). out_name inbox.ring) same ∙ gives.name;
     on = λ before led.
-        let runs = passes (orders_of led.0) before (subst (λ (was : Bool). Runs contents failed was (orders_of led.0) before old.frames) (sym gives.lost ∙ lost) led.2) in
+        let runs = passes led.0 before (subst (λ (was : Bool). Runs contents failed was led.0 before old) (sym gives.lost ∙ lost) led.2) in
         led-next next old new mid before gives (same ∙ ap (λ (was : Bool). record mid { has_lost = was }) (sym (ap (λ (inbox : Inbox). inbox.has_lost) same))) led
-        (subst (λ (was : Bool). Runs contents failed was (orders_of led.0 ++ order_of next ∷ []) before new.frames) (sym (ap (λ (inbox : Inbox). inbox.has_lost) same ∙ lost)) runs)
+        (subst (λ (was : Bool). Runs contents failed was (led.0 ++ next ∷ []) before new) (sym (ap (λ (inbox : Inbox). inbox.has_lost) same ∙ lost)) runs)
         (λ kept. absurd (true≢false (sym (ap (λ (inbox : Inbox). inbox.has_lost) same ∙ lost) ∙ kept)));
   }
 
   -- it is lost
   pub leads-lost : (next : Control Opened) (old new : SlotWriter W) (mid : Inbox) → Gives (Some next) old.inbox mid → new.inbox ≡ record mid { has_lost = true }
-      → new.frames ≡ old.frames → LeadsOn contents failed old new
-  leads-lost next old new mid gives same frames = record {
+      → KeepsOn (places_of old) (places_of new) → new.frames ≡ old.frames → LeadsOn contents failed old new
+  leads-lost next old new mid gives same places frames = record {
     name = ap (λ (inbox : Inbox). out_name inbox.ring) same ∙ gives.name;
     on = λ before led.
         let lost : new.inbox.has_lost ≡ true = ap (λ (inbox : Inbox). inbox.has_lost) same in
-        let runs = subst (λ (writing : FrameWriter W). Runs contents failed old.inbox.has_lost (orders_of led.0) before writing) (sym frames) led.2 in
+        let runs = runs-between old.inbox.has_lost old new frames places led.0 before led.2 in
         led-next next old new mid before gives (same ∙ ap (λ (was : Bool). record mid { has_lost = was }) (sym lost)) led
-        (subst (λ (was : Bool). Runs contents failed was (orders_of led.0 ++ order_of next ∷ []) before new.frames) (sym lost)
-        (runs.0, runs.1, obeys-more (orders_of led.0) (order_of next ∷ []) runs.0 (obeys-lost old.inbox.has_lost (orders_of led.0) runs.0 runs.2)))
+        (subst (λ (was : Bool). Runs contents failed was (led.0 ++ next ∷ []) before new) (sym lost) (
+          runs.0,
+          runs.1,
+          subst (λ (os : List Order). Obeys true os runs.0) (sym (given-next led.0 next))
+              (obeys-more (orders_of led.0) (order_of next ∷ []) runs.0 (obeys-lost old.inbox.has_lost (orders_of led.0) runs.0 runs.2)),
+          kept-lost old.inbox.has_lost led.0 (next ∷ []) runs.0 new runs.3,
+        ))
         (λ kept. absurd (true≢false (sym lost ∙ kept)));
   }
 
   -- a GOAWAY of the writer's own, where orders were lost
-  pub leads-parting : (old new : SlotWriter W) → old.inbox.has_lost ≡ true → new.inbox ≡ old.inbox → Parts contents failed old.frames new.frames → LeadsOn contents failed old new
+  pub leads-parting : (old new : SlotWriter W) → old.inbox.has_lost ≡ true → new.inbox ≡ old.inbox → Parts contents failed old new → LeadsOn contents failed old new
   leads-parting old new lost same parts = record {
     name = ap (λ (inbox : Inbox). out_name inbox.ring) same;
     on = λ before led. (
       led.0,
       subst (λ (inbox : Inbox). HasGiven led.0 inbox) (sym same) led.1,
-      subst (λ (was : Bool). Runs contents failed was (orders_of led.0) before new.frames) (sym (ap (λ (inbox : Inbox). inbox.has_lost) same ∙ lost))
-          (parts (orders_of led.0) before (subst (λ (was : Bool). Runs contents failed was (orders_of led.0) before old.frames) lost led.2)),
+      subst (λ (was : Bool). Runs contents failed was led.0 before new) (sym (ap (λ (inbox : Inbox). inbox.has_lost) same ∙ lost))
+          (parts led.0 before (subst (λ (was : Bool). Runs contents failed was led.0 before old) lost led.2)),
       λ kept. absurd (true≢false (sym (ap (λ (inbox : Inbox). inbox.has_lost) same ∙ lost) ∙ kept)),
     );
   }
 
   -- a reset of the writer's own, where none was lost and the input goes on
-  pub leads-reset : {S : Type 0} (id last : ℕ) (taking : Taking S) (old new : SlotWriter W) → old.inbox.has_lost ≡ false → old.input_ended ≡ false
+  pub leads-reset : (id last : ℕ) (taking : Taking SlotSender) (old new : SlotWriter W) → old.inbox.has_lost ≡ false → old.input_ended ≡ false
       → HasStream id old.senders.places.items → new.inbox ≡ old.inbox → SameCalls old new
       → WritesOn got contents failed (steps_of (control.Reset id InternalError true) last taking) old.frames new.frames
       → ((before : Option (List ℕ)) (run : List Step) → Wrote got contents failed before run old.frames → Blamed taking (control.Reset id InternalError true) run)
+      → BringsBy taking (control.Reset id InternalError true) (core_of old) (core_of new) → SamePlaces (places_of old) (places_of new)
       → LeadsOn contents failed old new
-  leads-reset id last taking old new kept going whose same calls on blamed = record {
+  leads-reset id last taking old new kept going whose same calls on blamed brings places = record {
     name = ap (λ (inbox : Inbox). out_name inbox.ring) same;
     on = λ before led.
         let knows : Knows (orders_of led.0) old = led.3 kept in (
           led.0,
           subst (λ (inbox : Inbox). HasGiven led.0 inbox) (sym same) led.1,
-          subst (λ (was : Bool). Runs contents failed was (orders_of led.0) before new.frames) (sym (ap (λ (inbox : Inbox). inbox.has_lost) same ∙ kept))
-              (resetting-on id last taking old.frames new.frames on blamed (orders_of led.0) before (knows-stream (orders_of led.0) old id whose knows) (sym knows.input ∙ going)
-              (subst (λ (was : Bool). Runs contents failed was (orders_of led.0) before old.frames) kept led.2)),
+          subst (λ (was : Bool). Runs contents failed was led.0 before new) (sym (ap (λ (inbox : Inbox). inbox.has_lost) same ∙ kept))
+              (resetting-on id last taking old new on blamed brings places led.0 before (knows-stream (orders_of led.0) old id whose knows) (sym knows.input ∙ going)
+              (subst (λ (was : Bool). Runs contents failed was led.0 before old) kept led.2)),
           λ still. knows-same (orders_of led.0) old new calls knows,
         );
   }
 
   -- a writer that has taken nothing
   pub led-none : (before : Option (List ℕ)) (writer : SlotWriter W) → taken writer.inbox.ring ≡ [] → writer.inbox.set_aside ≡ None → writer.inbox.has_lost ≡ false
-      → writer.senders.places.items ≡ [] → writer.input_ended ≡ false → Wrote got contents failed before [] writer.frames → Led contents failed before writer
-  led-none before writer none aside kept empty going wrote = (
+      → writer.senders.places.items ≡ [] → core_of writer ≡ [] → writer.input_ended ≡ false → Wrote got contents failed before [] writer.frames → Led contents failed before writer
+  led-none before writer none aside kept empty core going wrote = (
     [],
     all-given writer.inbox aside none,
-    subst (λ (lost : Bool). Runs contents failed lost [] before writer.frames) (sym kept) ([], wrote, (refl, tt)),
+    subst (λ (lost : Bool). Runs contents failed lost [] before writer) (sym kept) ([], wrote, (refl, tt), λ fresh. kept-none (places_of writer) (core_of writer) empty core),
     λ still. record {
       opened = subst (λ (places : List Place). All (λ id. IsAmong (control.Open id tt) []) (ids_of places)) (sym empty) (All-nil (λ (id : ℕ). IsAmong (control.Open id tt) []));
       input = going;
@@ -442,38 +634,69 @@ module _ {W : Type 0} (contents : W → Option (List ℕ)) (failed : W → Bool)
       → (writer.frames.standing ≢ stands.Broken → writer.frames.buffer.items ≡ [] → IsWhole (frames_of led.2.0) before (contents device))
       → (writer.frames.standing ≡ stands.Going → writer.frames.buffer.items ≡ [] → IsAll (frames_of led.2.0) before (contents device))
       → (writer.frames.standing ≡ stands.OutOfMemory → told ≡ Some ending.OutOfMemory)
+      → (told ≡ Some ending.WriteFailed → writer.frames.standing ≡ stands.Broken)
       → (told ≢ Some ending.OutOfMemory → told ≢ Some ending.WriteFailed → (writer.inbox.has_lost ≡ false) × (writer.inbox.set_aside ≡ None))
-      → HasWritten contents failed before (orders_of (taken writer.inbox.ring)) told device
-  has-written before writer device told same flushed led others front whole all memory each =
+      → (written : HasWritten contents failed before (orders_of (taken writer.inbox.ring)) told device) × (written.run ≡ led.2.0)
+  has-written before writer device told same flushed led others front whole all memory broken each =
       let ends = led.2 in
       let standing = writer.frames.standing in
-      let sound : failed device ≡ false → standing ≢ stands.Broken = λ unmarked stood. true≢false (sym (ap failed same ∙ ends.1.marked stood) ∙ unmarked) in
-      record {
-        run = ends.0;
-        lawful = ends.1.leads.lawful;
-        some =
-            subst (λ (orders : List Order). Obeys true orders ends.0) (sym (given-all led.0 writer.inbox led.1))
-            (obeys-more (orders_of led.0) (orders_of (order_in writer.inbox.set_aside)) ends.0 (obeys-lost writer.inbox.has_lost (orders_of led.0) ends.0 ends.2));
+      let sound : failed device ≡ false → standing ≢ stands.Broken = λ unmarked stood. true≢false (sym (ap failed same ∙ ends.1.marked stood) ∙ unmarked) in (
+        record {
+          run = ends.0;
+          lawful = ends.1.leads.lawful;
+          some =
+              subst (λ (orders : List Order). Obeys true orders ends.0) (sym (given-all led.0 writer.inbox led.1))
+              (obeys-more (orders_of led.0) (orders_of (order_in writer.inbox.set_aside)) ends.0 (obeys-lost writer.inbox.has_lost (orders_of led.0) ends.0 ends.2));
+          each = λ spared sent.
+              let found = each spared sent in
+              let none : orders_of led.0 ≡ orders_of (taken writer.inbox.ring) =
+              sym (given-all led.0 writer.inbox led.1 ∙ (ap (λ (aside : Option (Control Opened)). orders_of led.0 ++ orders_of (order_in aside)) found.1 ∙ append-nil (orders_of led.0))) in
+              subst (λ (orders : List Order). Obeys false orders ends.0) none (subst (λ (lost : Bool). Obeys lost (orders_of led.0) ends.0) found.0 ends.2);
+          others = others;
+          marked = λ sent. ap failed same ∙ ends.1.marked (broken sent);
+          front = front;
+          whole = λ unmarked. whole (sound unmarked) (flushed (sound unmarked));
+          all = λ unmarked other. unless-lost standing told memory (sound unmarked) (λ going. all going (flushed (sound unmarked))) other;
+          over = λ unmarked other. unless-lost standing told memory (sound unmarked) ends.4 other;
+        },
+        refl,
+      )
+
+  -- what is left of its orders and senders too
+  pub has-sent : (before : Option (List ℕ)) (writer : SlotWriter W) (places : List Place) (device : W) (told : Option Ending) (led : LedOut contents failed before writer)
+      → (written : HasWritten contents failed before (orders_of (taken writer.inbox.ring)) told device) → written.run ≡ led.2.0
+      → TellFronts led.2.0 (calls got (core_of writer)) → TellReturned led.2.0 → TakesAllHome (core_of writer) (places_of writer) places
+      → (told ≢ Some ending.OutOfMemory → told ≢ Some ending.WriteFailed → (writer.inbox.has_lost ≡ false) × (writer.inbox.set_aside ≡ None))
+      → HasSent contents failed before (taken writer.inbox.ring) (held_of places) told device
+  has-sent before writer places device told led written same fronts returned home each =
+      let aside : List (Control Opened) = order_in writer.inbox.set_aside in
+      let kept : HasKept true (led.0 ++ aside) led.2.0 writer = kept-lost writer.inbox.has_lost led.0 aside led.2.0 writer led.2.3 in
+      let are : taken writer.inbox.ring ≡ kept.0 ++ kept.1 = sym led.1 ∙ kept.2 in record {
+        written = written;
+        front = kept.0;
+        rest = kept.1;
+        orders_are = are;
+        told = λ fresh.
+            subst (λ (run : List Step). HaveTold run (lines_of kept.0) (held_of places)) (sym same)
+            (home led.2.0 (lines_of kept.0)
+            (kept-tells led.2.0 (lines_of kept.0) (places_of writer) (core_of writer) fronts returned (kept.3 (fresh-parts (taken writer.inbox.ring) kept.0 kept.1 are fresh).0))).told;
+        unopened = λ fresh.
+            let parts = fresh-parts (taken writer.inbox.ring) kept.0 kept.1 are fresh in
+            subst (λ (run : List Step). AreUnopened run kept.1) (sym same)
+            (unopened-by led.2.0 (lines_of kept.0) (lines_of kept.0) kept.1 (kept.3 parts.0).sent.opened_old (λ k old. old) parts.1);
         each = λ spared sent.
-            let found = each spared sent in
-            let none : orders_of led.0 ≡ orders_of (taken writer.inbox.ring) =
-            sym (given-all led.0 writer.inbox led.1 ∙ (ap (λ (aside : Option (Control Opened)). orders_of led.0 ++ orders_of (order_in aside)) found.1 ∙ append-nil (orders_of led.0))) in
-            subst (λ (orders : List Order). Obeys false orders ends.0) none (subst (λ (lost : Bool). Obeys lost (orders_of led.0) ends.0) found.0 ends.2);
-        others = others;
-        front = front;
-        whole = λ unmarked. whole (sound unmarked) (flushed (sound unmarked));
-        all = λ unmarked other. unless-lost standing told memory (sound unmarked) (λ going. all going (flushed (sound unmarked))) other;
-        over = λ unmarked other. unless-lost standing told memory (sound unmarked) ends.3 other;
+            let found = each spared sent in rest-none writer.inbox.has_lost led.0 aside led.2.0 writer led.2.3 found.0 (ap (λ (one : Option (Control Opened)). order_in one) found.1);
       }
 
 -- the ending that is told names want of memory, a failed write or that orders are left where there is one
 pub told-on : {W : Type 0} (contents : W → Option (List ℕ)) (failed : W → Bool) (before : Option (List ℕ)) (took put : List Order) (one other : Option Ending) (device : W)
     → (one ≡ Some ending.OutOfMemory → other ≡ Some ending.OutOfMemory)
     → (one ≡ Some ending.WriteFailed → other ≢ Some ending.OutOfMemory → other ≡ Some ending.WriteFailed)
+    → (other ≡ Some ending.WriteFailed → one ≡ Some ending.WriteFailed)
     → (left : List Order) → took ++ left ≡ put
     → (other ≢ Some ending.OutOfMemory → other ≢ Some ending.WriteFailed → left ≡ [])
     → HasWritten contents failed before took one device → HasWritten contents failed before put other device
-told-on contents failed before took put one other device memory failing left parts none h = record {
+told-on contents failed before took put one other device memory failing broken left parts none h = record {
   run = h.run;
   lawful = h.lawful;
   some = subst (λ (orders : List Order). Obeys true orders h.run) parts (obeys-more took left h.run h.some);
@@ -481,6 +704,7 @@ told-on contents failed before took put one other device memory failing left par
       subst (λ (orders : List Order). Obeys false orders h.run) (sym (append-nil took) ∙ (ap (λ (os : List Order). took ++ os) (sym (none spared sent)) ∙ parts))
       (h.each (λ lacked. spared (memory lacked)) (λ broke. sent (failing broke spared)));
   others = h.others;
+  marked = λ sent. h.marked (broken sent);
   front = h.front;
   whole = h.whole;
   all = λ unmarked spared. h.all unmarked (λ lacked. spared (memory lacked));

@@ -1,17 +1,22 @@
 -- The lines of a connection's calls: by the orders that its writer took, and with the senders of its slots.
 use mathlib.Core.List.{IsPrefix}
-use Rattle.std.specs.Prelude.{◌≡◌, ◌⊎◌, ◌<◌, ℕ, length, List, [], ◌∷◌, ◌++◌, map, get_or, set, Option, None, Some}
+use Rattle.std.specs.Prelude.{◌≡◌, ◌⊎◌, ◌<◌, ℕ, false, nat_eq, length, List, [], ◌∷◌, ◌++◌, map, get_or, set, Option, None, Some}
+use Rattle.std.specs.List.{IsDistinct}
 use Rattle.account.specs.declared.call.OutItem.{OutItem}
 use Rattle.callbox.specs.declared.sender.Sender.{Sender}
 use Rattle.lane.specs.declared.ring_lane.RingLane.{RingLane}
 use Rattle.lane.specs.declared.ring_lane.RingLaneIn.{RingLaneIn}
 use Rattle.lane.specs.declared.ring_lane.RingLaneOut.{RingLaneOut}
 use Rattle.lane.specs.declared.ring_lane.RingLaneShut.{RingLaneShut}
+use Rattle.lane.specs.Cuts.{segment}
 use Rattle.lane.specs.RingLane.{LaneName, got, out_name, past_out, ring_of}
 use Rattle.outwriter.specs.declared.control.Control.{Control}
 use Rattle.outwriter.specs.declared.control.Control.TheVariants.{Settings, Ping, Window, Open, Refuse, Reset, Goaway, InputEnded, Close}
+use Rattle.outwriter.specs.Runs.{is_opened}
 use Rattle.outwriter.specs.Steps.{Step}
-use Rattle.connwriter.specs.Sent.{Line, AreSent, IsOld, again_at, begun, last_ids}
+use Rattle.connwriter.specs.declared.taking.Taking.{Taking}
+use Rattle.connwriter.specs.declared.taking.Taking.TheVariants.{HandedBack}
+use Rattle.connwriter.specs.Sent.{Line, AreSent, AreTold, IsOld, IsTold, again_at, begun, core_ids, last_ids}
 use Rattle.callslot.specs.declared.order.Opened.{Opened}
 use Rattle.callslot.specs.declared.order.Opened.TheVariants.{New, Again}
 use Rattle.slotwriter.specs.declared.senders.Place.{Place}
@@ -133,6 +138,53 @@ abbrev pub TakesHome : ℕ → SlotSender → List Place → List Place → Type
 TakesHome id sender old new =
     ((n : ℕ) × Waits id n old × (held_of new ≡ set (held_of old) n (Some sender)) × (ids_of new ≡ ids_of old))
     ⊎ (NoneWaits id (length old) old × SamePlaces old new)
+
+-- what isn't taken is handed back, and the sender of an Open is held again
+abbrev pub HandsHome : Control SlotSender → List Place → List Place → Type 0
+HandsHome (Open id sender) old new = TakesHome id sender old new
+HandsHome _ old new = SamePlaces old new
+
+-- what becomes of the places by an order that the core was given
+abbrev pub PlacesBy : Taking SlotSender → List Place → List Place → Type 0
+PlacesBy (HandedBack back) old new = HandsHome back old new
+PlacesBy _ old new = SamePlaces old new
+
+-- ---- at the end
+
+-- what the frames of each call's stream tell begins what its line's sender got of it; the senders are in the places, and in the core
+pub record Tells (run : List Step) (lines : Lines) (places : List Place) (core : List (ℕ × SlotSender)) : Type 0 where
+  pub told : AreTold out_name past_out got ring_of run core lines (held_of places)
+  pub ids : ids_of places ≡ last_ids lines
+  pub apart : IsDistinct nat_eq (last_ids lines)
+  pub core_apart : IsDistinct nat_eq (core_ids core)
+
+-- the senders of whatever lines that were in the places and in the core are in the places then
+abbrev pub TakesAllHome : List (ℕ × SlotSender) → List Place → List Place → Type 0
+TakesAllHome core old new = (run : List Step) (lines : Lines) → Tells run lines old core → Tells run lines new []
+
+-- Each of these lines has its sender here, an end of its lane; and what the frames of each call's stream tell begins what that got of it, or
+-- is a front of that with a reset behind it.
+abbrev pub HaveTold : List Step → Lines → List (Option SlotSender) → Type 0
+HaveTold run lines held = AreTold out_name past_out got ring_of run [] lines held
+
+-- the run opened no stream of these orders
+abbrev pub AreUnopened : List Step → List (Control Opened) → Type 0
+AreUnopened run [] = Unit {0}
+AreUnopened run (Open id opened ∷ orders) = (is_opened id run ≡ false) × AreUnopened run orders
+AreUnopened run (order ∷ orders) = AreUnopened run orders
+
+-- the streams of a line's calls, the earliest first
+abbrev pub streams_of : Line LaneName → List ℕ
+streams_of line = line.before ++ line.id ∷ []
+
+-- Line number n has this sender: it is an end of the line's lane. Where what that got of call number k begins what was given of the call, so does
+-- what the call's frames tell, or that is a front of it with a reset behind.
+abbrev pub TellsWhatWasGiven : Type 0
+TellsWhatWasGiven = (run : List Step) (lines : Lines) (held : List (Option SlotSender)) (n : ℕ) (line : Line LaneName) (sender : SlotSender) → HaveTold run lines held
+    → line ≡ get_or lines n line → get_or held n None ≡ Some sender
+    → (ring_of (out_name sender.rx) ≡ line.ring)
+    × ((given : List (List OutItem)) (k : ℕ) → IsPrefix (segment (past_out sender.rx ++ got sender.rx ∷ []) k) (segment given k)
+    → k < length (streams_of line) → IsTold run (get_or (streams_of line) k 0) (segment given k))
 
 -- ---- what is left is got
 

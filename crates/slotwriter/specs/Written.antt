@@ -13,7 +13,7 @@ use Rattle.outwriter.specs.declared.control.Control.TheVariants.{Open}
 use Rattle.outwriter.specs.Calls.{TellOthers, is_closed}
 use Rattle.outwriter.specs.Runs.{IsLawful}
 use Rattle.outwriter.specs.RunState.{IsAnswered}
-use Rattle.outwriter.specs.Steps.{Step, Order, frames_of}
+use Rattle.outwriter.specs.Steps.{Step, Order, frames_of, order_of}
 use Rattle.connwriter.specs.declared.standing.Standing.TheVariants.{Going, Broken}
 use Rattle.connwriter.specs.declared.writer.ConnWriter.{ConnWriter}
 use Rattle.connwriter.specs.Spelled.{IsFront, IsWhole, IsAll}
@@ -21,15 +21,20 @@ use Rattle.connwriter.specs.Wrote.{Wrote}
 use Rattle.callslot.specs.declared.order.Opened.{Opened}
 use Rattle.callslot.specs.declared.report.Ending.{Ending}
 use Rattle.callslot.specs.declared.report.Ending.TheVariants.{OutOfMemory, WriteFailed}
+use Rattle.slotwriter.specs.declared.senders.Place.{Place}
 use Rattle.slotwriter.specs.declared.slot_writer.SlotWriter.{SlotWriter}
 use Rattle.slotwriter.specs.Orders.{HasGiven, IsAmong, Obeys, ends_input, orders_of}
-use Rattle.slotwriter.specs.Sent.{ids_of}
+use Rattle.slotwriter.specs.Sent.{AreFresh, AreKept, AreUnopened, HaveTold, Lines, MakesOf, SlotSender, ids_of, lines_of}
 
 -- No more orders come, and all that they obliged to is among the frames: each SETTINGS and each PING is acknowledged, and each header
 -- block is whole, or else the last frame is a GOAWAY with an error.
 pub record IsOver (run : List Step) : Type 0 where
   pub closed : is_closed run ≡ true
   pub answered : IsAnswered run
+
+-- what writes the frames of a connection whose calls are answered over rings
+abbrev pub FrameWriter : Type 0 → Type 0
+FrameWriter W = ConnWriter (RingLane OutItem) W (RingLaneIn OutItem) (RingLaneOut OutItem) (RingLaneShut OutItem)
 
 module _ {W : Type 0} where
   -- the slots' calls are those of the same streams, and the input has ended or not as before
@@ -47,58 +52,78 @@ module _ {W : Type 0} where
     pub opened : All (λ id. IsAmong (Open id tt) orders) (ids_of writer.senders.places.items)
     pub input : writer.input_ended ≡ list_any ends_input orders
 
--- what writes the frames of a connection whose calls are answered over rings
-abbrev pub FrameWriter : Type 0 → Type 0
-FrameWriter W = ConnWriter (RingLane OutItem) W (RingLaneIn OutItem) (RingLaneOut OutItem) (RingLaneShut OutItem)
+  -- ---- the senders
+
+  abbrev pub places_of : SlotWriter W → List Place
+  places_of writer = writer.senders.places.items
+
+  -- those that the core has, with the streams of their calls
+  abbrev pub core_of : SlotWriter W → List (ℕ × SlotSender)
+  core_of writer = writer.frames.core.sending.senders.items
+
+  -- the senders of these orders' lines are in the places and in the core; where orders were lost, those of a front of them
+  abbrev pub HasKept : Bool → List (Control Opened) → List Step → SlotWriter W → Type 0
+  HasKept false orders run writer = AreFresh [] orders → AreKept run (lines_of orders) (places_of writer) (core_of writer)
+  HasKept true orders run writer = (front : List (Control Opened)) × (rest : List (Control Opened)) × (orders ≡ front ++ rest)
+      × (AreFresh [] front → AreKept run (lines_of front) (places_of writer) (core_of writer))
+
+  -- whatever lines' senders the writer had before, by these steps it has them after
+  abbrev pub SendsOn : List Step → SlotWriter W → SlotWriter W → Type 0
+  SendsOn steps old new = (run : List Step) (lines : Lines) → AreKept run lines (places_of old) (core_of old)
+      → AreKept (steps ++ run) lines (places_of new) (core_of new)
 
 module _ {W : Type 0} (contents : W → Option (List ℕ)) (failed : W → Bool) where
-  -- some run led to the writer, whose device had something before; it obeyed these orders, unless some were lost
-  abbrev pub Runs : Bool → List Order → Option (List ℕ) → FrameWriter W → Type 0
-  Runs lost orders before frames = (run : List Step) × Wrote got contents failed before run frames × Obeys lost orders run
+  -- Some run led to the writer, whose device had something before. It obeyed these orders, and the writer has the senders of their lines,
+  -- unless some were lost.
+  abbrev pub Runs : Bool → List (Control Opened) → Option (List ℕ) → SlotWriter W → Type 0
+  Runs lost orders before writer =
+      (run : List Step) × Wrote got contents failed before run writer.frames × Obeys lost (orders_of orders) run × HasKept lost orders run writer
 
   -- and it is over, unless the writer makes no more frames
-  abbrev pub Ends : Bool → List Order → Option (List ℕ) → FrameWriter W → Type 0
-  Ends lost orders before frames =
-      (run : List Step) × Wrote got contents failed before run frames × Obeys lost orders run × (frames.standing ≡ Going → IsOver run)
+  abbrev pub Ends : Bool → List (Control Opened) → Option (List ℕ) → SlotWriter W → Type 0
+  Ends lost orders before writer =
+      (run : List Step) × Wrote got contents failed before run writer.frames × Obeys lost (orders_of orders) run × HasKept lost orders run writer
+      × (writer.frames.standing ≡ Going → IsOver run)
 
   -- the run that led to the writer before leads on to the writer after, and takes no order
-  abbrev pub RunsOn : FrameWriter W → FrameWriter W → Type 0
-  RunsOn old new = (lost : Bool) (orders : List Order) (before : Option (List ℕ)) → Runs lost orders before old → Runs lost orders before new
+  abbrev pub RunsOn : SlotWriter W → SlotWriter W → Type 0
+  RunsOn old new = (lost : Bool) (orders : List (Control Opened)) (before : Option (List ℕ)) → Runs lost orders before old → Runs lost orders before new
 
   -- it leads to its end
-  abbrev pub RunsOut : FrameWriter W → FrameWriter W → Type 0
-  RunsOut old new = (lost : Bool) (orders : List Order) (before : Option (List ℕ)) → Runs lost orders before old → Ends lost orders before new
+  abbrev pub RunsOut : SlotWriter W → SlotWriter W → Type 0
+  RunsOut old new = (lost : Bool) (orders : List (Control Opened)) (before : Option (List ℕ)) → Runs lost orders before old → Ends lost orders before new
 
   -- it goes on, and where it was over it is
-  pub record StaysOn (lost loses : Bool) (old new : FrameWriter W) : Type 0 where
-    pub runs : (orders : List Order) (before : Option (List ℕ)) → Runs lost orders before old → Runs loses orders before new
-    pub ends : (orders : List Order) (before : Option (List ℕ)) → Ends lost orders before old → Ends loses orders before new
+  pub record StaysOn (lost loses : Bool) (old new : SlotWriter W) : Type 0 where
+    pub runs : (orders : List (Control Opened)) (before : Option (List ℕ)) → Runs lost orders before old → Runs loses orders before new
+    pub ends : (orders : List (Control Opened)) (before : Option (List ℕ)) → Ends lost orders before old → Ends loses orders before new
 
-  -- it takes this order, unless that is lost; none was before
-  abbrev pub Takes : Order → Bool → FrameWriter W → FrameWriter W → Type 0
-  Takes order loses old new = (orders : List Order) (before : Option (List ℕ)) → Runs false orders before old
-      → Runs loses (orders ++ order ∷ []) before new
+  -- It takes the order of which this control was made, unless that is lost; none was before. Where a call begins by it, the sender of its
+  -- slot is with the control.
+  abbrev pub Takes : Control SlotSender → SlotWriter W → SlotWriter W → Type 0
+  Takes control old new = (order : Control Opened) (first : SlotWriter W) → order_of control ≡ order_of order
+      → MakesOf order control (places_of first) (places_of old) → first.frames ≡ old.frames
+      → (orders : List (Control Opened)) (before : Option (List ℕ)) → Runs false orders before first
+      → Runs new.inbox.has_lost (orders ++ order ∷ []) before new
 
   -- orders were lost, and this one is too, or it is a Close
-  abbrev pub PassesOver : Order → FrameWriter W → FrameWriter W → Type 0
-  PassesOver order old new = (orders : List Order) (before : Option (List ℕ)) → Runs true orders before old
+  abbrev pub PassesOver : Control Opened → SlotWriter W → SlotWriter W → Type 0
+  PassesOver order old new = (orders : List (Control Opened)) (before : Option (List ℕ)) → Runs true orders before old
       → Runs true (orders ++ order ∷ []) before new
 
   -- orders were lost
-  abbrev pub Parts : FrameWriter W → FrameWriter W → Type 0
-  Parts old new = (orders : List Order) (before : Option (List ℕ)) → Runs true orders before old → Runs true orders before new
+  abbrev pub Parts : SlotWriter W → SlotWriter W → Type 0
+  Parts old new = (orders : List (Control Opened)) (before : Option (List ℕ)) → Runs true orders before old → Runs true orders before new
 
   -- ---- with the inbox
 
-  -- some run led to the writer, and obeyed the orders that its inbox has given; these it knows, unless some were lost
+  -- some run led to the writer, by the orders that its inbox has given; these it knows, unless some were lost
   abbrev pub Led : Option (List ℕ) → SlotWriter W → Type 0
-  Led before writer = (given : List (Control Opened)) × HasGiven given writer.inbox
-      × Runs writer.inbox.has_lost (orders_of given) before writer.frames
+  Led before writer = (given : List (Control Opened)) × HasGiven given writer.inbox × Runs writer.inbox.has_lost given before writer
       × (writer.inbox.has_lost ≡ false → Knows (orders_of given) writer)
 
   abbrev pub LedOut : Option (List ℕ) → SlotWriter W → Type 0
-  LedOut before writer = (given : List (Control Opened)) × HasGiven given writer.inbox
-      × Ends writer.inbox.has_lost (orders_of given) before writer.frames
+  LedOut before writer = (given : List (Control Opened)) × HasGiven given writer.inbox × Ends writer.inbox.has_lost given before writer
 
   -- so it is after, where it was before; the orders come from the same ring
   pub record LeadsOn (old new : SlotWriter W) : Type 0 where
@@ -128,8 +153,24 @@ pub record HasWritten {W : Type 0} (contents : W → Option (List ℕ)) (failed 
   pub each : ending ≢ Some OutOfMemory → ending ≢ Some WriteFailed → Obeys false orders run
   -- of a stream that was never opened nothing is told, a reset, or what it was refused with
   pub others : TellOthers run
+  -- it ends by a failed write only where the device has that mark
+  pub marked : ending ≡ Some WriteFailed → failed device ≡ true
   pub front : IsFront (frames_of run) before (contents device)
   -- where no write failed, whole frames; and where memory didn't run out, all of them, and the run is over
   pub whole : failed device ≡ false → IsWhole (frames_of run) before (contents device)
   pub all : failed device ≡ false → ending ≢ Some OutOfMemory → IsAll (frames_of run) before (contents device)
   pub over : failed device ≡ false → ending ≢ Some OutOfMemory → IsOver run
+
+-- A device has that, and these senders of the slots tell what was sent of each call. The slots' lines are by a front of the orders, and of the
+-- others, which were lost, none opened a stream.
+pub record HasSent {W : Type 0} (contents : W → Option (List ℕ)) (failed : W → Bool) (before : Option (List ℕ)) (orders : List (Control Opened))
+    (held : List (Option SlotSender)) (ending : Option Ending) (device : W) : Type 0 where
+  pub written : HasWritten contents failed before (orders_of orders) ending device
+  pub front : List (Control Opened)
+  pub rest : List (Control Opened)
+  pub orders_are : orders ≡ front ++ rest
+  -- what the frames of each call's stream tell begins what its sender got of it
+  pub told : AreFresh [] orders → HaveTold written.run (lines_of front) held
+  pub unopened : AreFresh [] orders → AreUnopened written.run rest
+  -- where memory didn't run out and no write failed, none was lost
+  pub each : ending ≢ Some OutOfMemory → ending ≢ Some WriteFailed → rest ≡ []

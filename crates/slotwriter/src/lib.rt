@@ -8,7 +8,7 @@
 //! are to be rung, which calls are to be cut, whether the connection is to be stopped.
 //!
 //! - `inbox`: the writing side's end of the ring of orders; `senders`: the senders of the slots.
-//! - `steps`: what a step answers; `slot_writer`: the machine.
+//! - `steps`: what a step answers; `slot_writer`: the machine; `laws`: what follows of its end.
 //!
 //! `specs/Orders.antt` says when a run of the core obeys orders, and `specs/Written.antt` what of
 //! its frames was written: each step leads on by these. `specs/Sent.antt` says whose sender sends a
@@ -16,10 +16,12 @@
 #![tactic(auto)]
 
 pub mod inbox;
+pub mod laws;
 pub mod senders;
 pub mod slot_writer;
 pub mod steps;
 
 pub use inbox::Inbox;
+pub use senders::Senders;
 pub use slot_writer::{SlotWriter, Written};
 pub use steps::{Rest, Took, Waiting};

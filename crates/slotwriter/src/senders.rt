@@ -45,7 +45,8 @@ pub struct Senders {
 }
 
 impl Senders {
-    ghost use Rattle.std.specs.Prelude.{◌≡◌, [], IfOk, IfErr, IfSome, IfNone, OnErr, length};
+    ghost use Rattle.std.specs.Prelude.{◌≡◌, [], IfOk, IfErr, IfSome, IfNone, None, OnErr};
+    ghost use Rattle.std.specs.Prelude.{get_or, length, set};
     ghost use Rattle.lane.specs.RingLane.{got};
     ghost use Rattle.outwriter.specs.declared.control.Control.TheVariants as orders;
     ghost use Rattle.outwriter.specs.Cores.{IsUnused};
@@ -53,7 +54,8 @@ impl Senders {
     ghost use Rattle.callslot.specs.declared.order.Opened.TheVariants as opens;
     ghost use Rattle.slotwriter.specs.Orders.{IsBack};
     ghost use Rattle.slotwriter.specs.Sent.{Adds, Begins, HasStream, KeepsOn, MakesOf, NoneWaits};
-    ghost use Rattle.slotwriter.specs.Sent.{SamePlaces, TakesHome, Waits, ids_of};
+    ghost use Rattle.slotwriter.specs.Sent.{SamePlaces, TakesAllHome, TakesHome, Waits, held_of};
+    ghost use Rattle.slotwriter.specs.Sent.{ids_of};
 
     pub(crate) fn new(alloc: Global) -> Senders
         ensures { result.places.items ≡ [] }
@@ -122,6 +124,25 @@ impl Senders {
         }
         self.are_some_behind = self.are_some_behind || !is_at_end;
         is_at_end
+    }
+
+    /// Keeps the senders that the core has at the end.
+    pub(crate) fn keep_all(&mut self, core: Vec<(StreamId, Sender<OutLane>)>)
+        ensures home { TakesAllHome core.items self.old.places.items self.new.places.items }
+    {
+        let mut rest = core;
+        'calls: while let Some((id, sender)) = rest.pop() {
+            self.keep(id, sender, false);
+        }
+    }
+
+    /// The sender that is held of the slot of this number.
+    pub fn take(&mut self, number: usize) -> Option<Sender<OutLane>>
+        ensures held { result ≡ get_or (held_of self.old.places.items) number None }
+        ensures rest { held_of self.new.places.items
+            ≡ set (held_of self.old.places.items) number None }
+    {
+        self.places.get_mut(number)?.sender.take()
     }
 
     /// The first place that is at the call of this stream and holds no sender.

@@ -15,9 +15,10 @@ ghost use Rattle.slotwriter.specs.declared.steps.Rest.TheVariants as rest;
 ghost use Rattle.slotwriter.specs.declared.steps.Took.TheVariants as took;
 ghost use Rattle.slotwriter.specs.declared.steps.Waiting.TheVariants as waiting;
 ghost use Rattle.slotwriter.specs.Orders.{TakesNoWindow, ends_input, orders_of};
-ghost use Rattle.slotwriter.specs.Sent.{HasStream};
-ghost use Rattle.slotwriter.specs.Written.{HasWritten, Heeds, IsFlushed, Led, LedOut, LeadsOn};
-ghost use Rattle.slotwriter.specs.Written.{LeadsOut, Parts, PassesOver, SameCalls, Stays, Takes};
+ghost use Rattle.slotwriter.specs.Sent.{HandsHome, HasStream, SamePlaces, held_of};
+ghost use Rattle.slotwriter.specs.Written.{HasSent, HasWritten, Heeds, IsFlushed, Led, LedOut};
+ghost use Rattle.slotwriter.specs.Written.{LeadsOn, LeadsOut, Parts, PassesOver, SameCalls, Stays};
+ghost use Rattle.slotwriter.specs.Written.{Takes, places_of};
 
 use crate::inbox::Inbox;
 use crate::senders::{Senders, Untaken};
@@ -47,13 +48,14 @@ pub struct SlotWriter<W: ConnWrite> {
     failed: Option<ErrorCode>,
 }
 
-/// What a writer hands back: how the connection ended as far as it sees, what it wrote to, and its
-/// end of the ring of orders.
+/// What a writer hands back: how the connection ended as far as it sees, what it wrote to, its end
+/// of the ring of orders, and the senders of the slots.
 #[derive(Drop)]
 pub struct Written<W: ConnWrite + Drop> {
     pub ending: Option<Ending>,
     pub device: W,
     pub orders: RingOut<Order>,
+    pub senders: Senders,
 }
 
 impl<W: ConnWrite + Drop> SlotWriter<W> {
@@ -128,8 +130,7 @@ impl<W: ConnWrite + Drop> SlotWriter<W> {
     fn take(&mut self, order: Control<Sender<OutLane>>, last: StreamId) -> Took
         requires unused { IsUnused got order }
         requires kept { self.old.inbox.has_lost ≡ false }
-        ensures takes { Takes W.contents W.failed (order_of order) self.new.inbox.has_lost
-            self.old.frames self.new.frames }
+        ensures takes { Takes W.contents W.failed order self.old self.new }
         ensures inbox { self.new.inbox
             ≡ record self.old.inbox { has_lost = self.new.inbox.has_lost } }
         ensures heeds { self.new.inbox.has_lost ≡ false
@@ -150,8 +151,7 @@ impl<W: ConnWrite + Drop> SlotWriter<W> {
 
     /// Takes an order behind one that was lost: only a Close, and else that is lost too.
     fn pass_over(&mut self, order: &Order, last: StreamId) -> Took
-        ensures passes { PassesOver W.contents W.failed (order_of order.now)
-            self.old.frames self.new.frames }
+        ensures passes { PassesOver W.contents W.failed order.now self.old self.new }
         ensures inbox { self.new.inbox ≡ self.old.inbox }
         ensures one { result ≡ took.One }
     {
@@ -163,8 +163,7 @@ impl<W: ConnWrite + Drop> SlotWriter<W> {
 
     /// No more orders come, behind one that was lost. Whether the core took that.
     fn close(&mut self, last: StreamId) -> bool
-        ensures passes { PassesOver W.contents W.failed orders.Close
-            self.old.frames self.new.frames }
+        ensures passes { PassesOver W.contents W.failed orders.Close self.old self.new }
         ensures inbox { self.new.inbox ≡ self.old.inbox }
     {
         self.closed = true;
@@ -175,6 +174,7 @@ impl<W: ConnWrite + Drop> SlotWriter<W> {
     /// Notes what ends by an order.
     fn note(&mut self, order: &Control<Sender<OutLane>>)
         ensures heeds { Heeds (order_of order.now) self.old self.new }
+        ensures places { SamePlaces (places_of self.old) (places_of self.new) }
         ensures frames { self.new.frames ≡ self.old.frames }
         ensures inbox { self.new.inbox ≡ self.old.inbox }
     {
@@ -189,6 +189,7 @@ impl<W: ConnWrite + Drop> SlotWriter<W> {
     /// The writer has ended a stream, or at 0 the connection.
     fn end(&mut self, id: StreamId) -> Took
         ensures calls { SameCalls self.old self.new }
+        ensures places { SamePlaces (places_of self.old) (places_of self.new) }
         ensures frames { self.new.frames ≡ self.old.frames }
         ensures inbox { self.new.inbox ≡ self.old.inbox }
         ensures ends { result ≢ took.Lost }
@@ -205,6 +206,7 @@ impl<W: ConnWrite + Drop> SlotWriter<W> {
     fn lose(&mut self) -> Took
         ensures lost { result ≡ took.Lost }
         ensures frames { self.new.frames ≡ self.old.frames }
+        ensures senders { self.new.senders ≡ self.old.senders }
         ensures inbox { self.new.inbox ≡ record self.old.inbox { has_lost = true } }
     {
         self.inbox.has_lost = true;
@@ -213,6 +215,7 @@ impl<W: ConnWrite + Drop> SlotWriter<W> {
 
     /// Keeps the sender of a call that could not begin.
     fn keep(&mut self, order: Control<Sender<OutLane>>)
+        ensures home { HandsHome order (places_of self.old) (places_of self.new) }
         ensures frames { self.new.frames ≡ self.old.frames }
         ensures inbox { self.new.inbox ≡ self.old.inbox }
     {
@@ -234,7 +237,7 @@ impl<W: ConnWrite + Drop> SlotWriter<W> {
 
     /// Gives the core a GOAWAY of the writer's own. Whether it was taken.
     fn part(&mut self, last: StreamId) -> bool
-        ensures parts { Parts W.contents W.failed self.old.frames self.new.frames }
+        ensures parts { Parts W.contents W.failed self.old self.new }
         ensures inbox { self.new.inbox ≡ self.old.inbox }
     {
         let code = ErrorCode::InternalError;
@@ -475,21 +478,35 @@ impl<W: ConnWrite + Drop> SlotWriter<W> {
         ensures written { (before : Option (List ℕ)) → LedOut W.contents W.failed before self
             → HasWritten W.contents W.failed before (orders_of (taken result.orders))
             result.ending result.device }
+
+        // With the senders of all slots, which tell what was sent of each call.
+        ensures sent { (before : Option (List ℕ)) → LedOut W.contents W.failed before self
+            → HasSent W.contents W.failed before (taken result.orders)
+            (held_of result.senders.places.items) result.ending result.device }
         ensures ring { result.orders ≡ self.inbox.ring }
     {
         let ending = self.ending();
-        let SlotWriter { inbox, frames, .. } = self;
-        let (_senders, device) = frames.into_parts();
+        let SlotWriter {
+            inbox,
+            frames,
+            mut senders,
+            ..
+        } = self;
+        let (core, device) = frames.into_parts();
+        senders.keep_all(core);
         Written {
             ending,
             device,
             orders: inbox.ring,
+            senders,
         }
     }
 
     fn ending(&self) -> Option<Ending>
         ensures memory { self.now.frames.standing ≡ stands.OutOfMemory
             → result ≡ Some ending.OutOfMemory }
+        ensures broken { result ≡ Some ending.WriteFailed
+            → self.now.frames.standing ≡ stands.Broken }
         ensures each { result ≢ Some ending.OutOfMemory → result ≢ Some ending.WriteFailed
             → (self.now.inbox.has_lost ≡ false) × (self.now.inbox.set_aside ≡ None) }
     {
@@ -500,7 +517,7 @@ impl<W: ConnWrite + Drop> SlotWriter<W> {
             Standing::OutOfMemory => Some(Ending::OutOfMemory),
             Standing::Broken => Some(Ending::WriteFailed),
             // It doesn't come that an order is set aside still.
-            Standing::Going if self.inbox.set_aside.is_some() => Some(Ending::WriteFailed),
+            Standing::Going if self.inbox.set_aside.is_some() => Some(Ending::OutOfMemory),
             Standing::Going => match self.failed {
                 Some(code) => Some(Ending::ProtocolError(code)),
                 None => None,

@@ -1,11 +1,11 @@
-//! The two ends of the in side, over a ring.
+//! The two ends of the in side, over a ring, and over a row of cells.
 ghost use Rattle.std.specs.Prelude.{◌≡◌, OnOk};
 
 use account::{Shut, Told};
 use anyhow::Result;
 use bytes::Bytes;
 use callbox::{Feeder, InAccount, InPiece, Taken, Taker, open_in, settle_in};
-use lane::{End, Lane, RingLane};
+use lane::{End, Lane, RingLane, RowLane};
 use lpm::LpmFault;
 use std::alloc::Global;
 
@@ -60,4 +60,18 @@ pub fn keep_what_was_polled(alloc: Global) -> Result<bool> {
     };
     let is_settled = settle_in(End::Shut(shut), taker) == wanted;
     Ok(are_fed && is_first && is_second && is_third && is_end && is_settled)
+}
+
+/// A message in two pieces, and a piece of the next, which isn't polled for it: the bytes of two return.
+fn credits_what_was_polled<L: Lane<Item = InPiece>>(alloc: Global) -> Result<bool> {
+    let (mut feeder, mut taker) = open_in::<L>(alloc, 3)?;
+    let are_fed = feeds(alloc, &mut feeder, &[0, 0, 0])?
+        && feeds(alloc, &mut feeder, &[0, 1, 0x41])?
+        && feeds(alloc, &mut feeder, &[0])?;
+    Ok(are_fed && takes(&mut taker, 1, 6))
+}
+
+pub fn credit_what_was_polled(alloc: Global) -> Result<bool> {
+    let of_rings = credits_what_was_polled::<RingLane<InPiece>>(alloc)?;
+    Ok(credits_what_was_polled::<RowLane<InPiece>>(alloc)? && of_rings)
 }

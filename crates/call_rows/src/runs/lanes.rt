@@ -9,26 +9,43 @@ use std::thread::Threads;
 /// Items that cross from one thread to another.
 const CROSSING: u64 = 65_536;
 
-/// Room for one: a second item comes back, and the last one is placed.
+/// Room for two: the third item comes back with how many wait, the last one is placed, and the others are found before it.
 fn fills_and_empties<L: Lane<Item = u64>>(alloc: Global) -> Result<bool> {
-    let (mut tx, mut rx) = L::open(alloc, 1)?;
-    let first = L::put(&mut tx, 10).is_ok();
-    let Err(fault) = L::put(&mut tx, 12) else {
-        return Ok(false);
-    };
+    let (mut tx, mut rx) = L::open(alloc, 2)?;
+    let are_put = L::put(&mut tx, 10).is_ok() && L::put(&mut tx, 11).is_ok();
+    let is_full = is_full(&L::put(&mut tx, 12), 12, 2);
     let shut = L::last(tx, 13);
-    let is_placed = first && L::placed(&shut) && fault.code() == 1;
-    let polled = poll_copy::<u64, L>(&mut rx);
+    let is_placed = L::placed(&shut);
+    let first = poll_copy::<u64, L>(&mut rx);
     let again = L::again(&mut rx).copied();
+    let second = poll_copy::<u64, L>(&mut rx);
     let last = poll_copy::<u64, L>(&mut rx);
+    let nothing = poll_copy::<u64, L>(&mut rx);
     let settled = L::settle(End::Shut(shut), rx);
-    let is_got = polled == Some(10) && again == Some(10) && last == Some(13);
-    Ok(is_placed && is_got && settled.put == 2 && settled.left == 0)
+    let are_got = first == Some(10) && again == Some(10) && second == Some(11);
+    let is_end = last == Some(13) && nothing.is_none();
+    let is_settled = settled.put == 3 && settled.got == 3 && settled.left == 0;
+    Ok(are_put && is_full && is_placed && are_got && is_end && is_settled)
+}
+
+/// Whether a queue handed this item back, as so many waited.
+fn is_full(put: &Result<(), PutFault<u64>>, refused: u64, wait: u64) -> bool {
+    matches!(put, Err(PutFault::Full { item, waiting }) if *item == refused && *waiting == wait)
 }
 
 pub fn fill_and_empty(alloc: Global) -> Result<bool> {
     let of_rings = fills_and_empties::<RingLane<u64>>(alloc)?;
     Ok(fills_and_empties::<RowLane<u64>>(alloc)? && of_rings)
+}
+
+/// The writing end of a row of cells sees no taking.
+pub fn rows_stay_full(alloc: Global) -> Result<bool> {
+    let (mut tx, mut rx) = RowLane::open(alloc, 2)?;
+    let are_put = RowLane::put(&mut tx, 10).is_ok() && RowLane::put(&mut tx, 11).is_ok();
+    let are_got = poll_copy::<u64, RowLane<u64>>(&mut rx) == Some(10)
+        && poll_copy::<u64, RowLane<u64>>(&mut rx) == Some(11);
+    let is_refused = is_full(&RowLane::put(&mut tx, 12), 12, 2);
+    Ok(are_put && are_got && is_refused && RowLane::check_room(&mut tx) == Err(2))
 }
 
 /// Each item finds its place and is found there, the last one too.

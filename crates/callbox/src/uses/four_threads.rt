@@ -61,10 +61,13 @@ fn feed_all<L: Lane<Item = InPiece>>(
     stopped: &AtomicBool,
 ) -> Result<End<Feeder<L>, FedShut<L>>, AllocError>
     requires { L.put_in feeder.tx ≡ [] }
-    ensures name { IfOk result (λ end. of_end (λ f. L.in_name f.tx) (λ s. L.shut_name s.shut) end ≡ L.in_name feeder.tx) }
+    ensures name { IfOk result (λ end. of_end (λ f. L.in_name f.tx) (λ s. L.shut_name s.shut) end
+        ≡ L.in_name feeder.tx) }
     ensures fed { IfOk result (λ end. IsFed request.pieces.items request.shut
-        (pieces_of (of_end (λ f. L.put_in f.tx) (λ s. L.put_shut s.shut) end)) (of_end (λ _. None) (λ s. Some s.kind) end)) }
-    ensures room { IfOk result (λ end. L.only_fills ≡ true → length request.pieces.items ≤ L.room_of (L.in_name feeder.tx)
+        (pieces_of (of_end (λ f. L.put_in f.tx) (λ s. L.put_shut s.shut) end))
+        (of_end (λ _. None) (λ s. Some s.kind) end)) }
+    ensures room { IfOk result (λ end. L.only_fills ≡ true
+        → length request.pieces.items ≤ L.room_of (L.in_name feeder.tx)
         → of_end (λ _. None) (λ s. Some s.kind) end ≡ Some request.shut) }
 {
     let end = feed_half(feeder, request);
@@ -78,10 +81,13 @@ fn feed_half<L: Lane<Item = InPiece>>(
     request: Request,
 ) -> Result<End<Feeder<L>, FedShut<L>>, AllocError>
     requires { L.put_in feeder.tx ≡ [] }
-    ensures name { IfOk result (λ end. of_end (λ f. L.in_name f.tx) (λ s. L.shut_name s.shut) end ≡ L.in_name feeder.tx) }
+    ensures name { IfOk result (λ end. of_end (λ f. L.in_name f.tx) (λ s. L.shut_name s.shut) end
+        ≡ L.in_name feeder.tx) }
     ensures fed { IfOk result (λ end. IsFed request.pieces.items request.shut
-        (pieces_of (of_end (λ f. L.put_in f.tx) (λ s. L.put_shut s.shut) end)) (of_end (λ _. None) (λ s. Some s.kind) end)) }
-    ensures room { IfOk result (λ end. L.only_fills ≡ true → length request.pieces.items ≤ L.room_of (L.in_name feeder.tx)
+        (pieces_of (of_end (λ f. L.put_in f.tx) (λ s. L.put_shut s.shut) end))
+        (of_end (λ _. None) (λ s. Some s.kind) end)) }
+    ensures room { IfOk result (λ end. L.only_fills ≡ true
+        → length request.pieces.items ≤ L.room_of (L.in_name feeder.tx)
         → of_end (λ _. None) (λ s. Some s.kind) end ≡ Some request.shut) }
 {
     let Request { pieces, shut } = request;
@@ -99,9 +105,12 @@ fn feed_pieces<L: Lane<Item = InPiece>>(
 ) -> Result<bool, AllocError>
     requires { L.put_in feeder.old.tx ≡ [] }
     ensures name { IfOk result (λ _. L.in_name feeder.new.tx ≡ L.in_name feeder.old.tx) }
-    ensures some { IfOk result (λ _. (count : ℕ) × (L.put_in feeder.new.tx ≡ map in_piece.Bytes (take count pieces.now))) }
-    ensures all { IfOk result (λ all. all ≡ true → L.put_in feeder.new.tx ≡ map in_piece.Bytes pieces.now) }
-    ensures room { IfOk result (λ all. L.only_fills ≡ true → length pieces.now ≤ L.room_of (L.in_name feeder.old.tx)
+    ensures some { IfOk result (λ _. (count : ℕ)
+        × (L.put_in feeder.new.tx ≡ map in_piece.Bytes (take count pieces.now))) }
+    ensures all { IfOk result (λ all. all ≡ true
+        → L.put_in feeder.new.tx ≡ map in_piece.Bytes pieces.now) }
+    ensures room { IfOk result (λ all. L.only_fills ≡ true
+        → length pieces.now ≤ L.room_of (L.in_name feeder.old.tx)
         → all ≡ true) }
 {
     for piece in pieces {
@@ -150,7 +159,8 @@ pub(crate) fn give_all<L: Lane<Item = OutItem>>(
 ) -> End<Giver<L>, GivenShut<L>>
     requires first { L.put_in giver.tx ≡ [] }
     requires within { All (λ m. length m ≤ 4194304) answer.messages.items }
-    ensures name { of_end (λ g. L.in_name g.tx) (λ s. L.shut_name s.shut) result ≡ L.in_name giver.tx }
+    ensures name { of_end (λ g. L.in_name g.tx) (λ s. L.shut_name s.shut) result
+        ≡ L.in_name giver.tx }
     ensures given { IsPrefix (of_end (λ g. L.put_in g.tx) (λ s. L.put_shut s.shut) result)
         (answer_items answer.head answer.messages.items answer.trailers) }
 {
@@ -165,7 +175,8 @@ fn give_answer<L: Lane<Item = OutItem>>(
 ) -> End<Giver<L>, GivenShut<L>>
     requires first { L.put_in giver.tx ≡ [] }
     requires within { All (λ m. length m ≤ 4194304) answer.messages.items }
-    ensures name { of_end (λ g. L.in_name g.tx) (λ s. L.shut_name s.shut) result ≡ L.in_name giver.tx }
+    ensures name { of_end (λ g. L.in_name g.tx) (λ s. L.shut_name s.shut) result
+        ≡ L.in_name giver.tx }
     ensures given { IsPrefix (of_end (λ g. L.put_in g.tx) (λ s. L.put_shut s.shut) result)
         (answer_items answer.head answer.messages.items answer.trailers) }
 {
@@ -191,7 +202,8 @@ fn give_messages<L: Lane<Item = OutItem>>(giver: &mut Giver<L>, messages: &[Byte
     requires within { All (λ m. length m ≤ 4194304) messages.now }
     ensures name { L.in_name giver.new.tx ≡ L.in_name giver.old.tx }
     ensures given { (count : ℕ)
-        × (L.put_in giver.new.tx ≡ L.put_in giver.old.tx ++ message_items (take count messages.now)) }
+        × (L.put_in giver.new.tx ≡ L.put_in giver.old.tx
+        ++ message_items (take count messages.now)) }
     ensures all { result ≡ true
         → L.put_in giver.new.tx ≡ L.put_in giver.old.tx ++ message_items messages.now }
 {
@@ -261,7 +273,8 @@ fn run_in<L: Lane<Item = InPiece> + Send, R: Threads + Wait + Sync>(
     requires unfed { L.put_in feeder.tx ≡ [] }
     requires took { Took (L.got taker.rx) taker.progress [] }
     ensures account { IfOk result (λ r. RunsIn request.pieces.items request.shut r.1.items r.0) }
-    ensures room { IfOk result (λ r. L.only_fills ≡ true → length request.pieces.items ≤ L.room_of (L.in_name feeder.tx)
+    ensures room { IfOk result (λ r. L.only_fills ≡ true
+        → length request.pieces.items ≤ L.room_of (L.in_name feeder.tx)
         → r.0.shut ≡ Some request.shut) }
 {
     let stopped = AtomicBool::new(false);
@@ -269,10 +282,14 @@ fn run_in<L: Lane<Item = InPiece> + Send, R: Threads + Wait + Sync>(
         rt,
         || -> Result<End<Feeder<L>, FedShut<L>>, AllocError>
             requires { L.put_in feeder.tx ≡ [] }
-            ensures name { IfOk result (λ end. of_end (λ f. L.in_name f.tx) (λ s. L.shut_name s.shut) end ≡ L.in_name feeder.tx) }
+            ensures name { IfOk result
+                (λ end. of_end (λ f. L.in_name f.tx) (λ s. L.shut_name s.shut) end
+                ≡ L.in_name feeder.tx) }
             ensures fed { IfOk result (λ end. IsFed request.pieces.items request.shut
-                (pieces_of (of_end (λ f. L.put_in f.tx) (λ s. L.put_shut s.shut) end)) (of_end (λ _. None) (λ s. Some s.kind) end)) }
-            ensures room { IfOk result (λ end. L.only_fills ≡ true → length request.pieces.items ≤ L.room_of (L.in_name feeder.tx)
+                (pieces_of (of_end (λ f. L.put_in f.tx) (λ s. L.put_shut s.shut) end))
+                (of_end (λ _. None) (λ s. Some s.kind) end)) }
+            ensures room { IfOk result (λ end. L.only_fills ≡ true
+                → length request.pieces.items ≤ L.room_of (L.in_name feeder.tx)
                 → of_end (λ _. None) (λ s. Some s.kind) end ≡ Some request.shut) }
         { feed_all(feeder, request, &stopped) },
         || -> Result<(Taker<L>, Vec<Bytes>), AllocError>
@@ -308,7 +325,8 @@ fn run_out<L: Lane<Item = OutItem> + Send, R: Threads + Wait + Sync>(
         || -> End<Giver<L>, GivenShut<L>>
             requires first { L.put_in giver.tx ≡ [] }
             requires within { All (λ m. length m ≤ 4194304) answer.messages.items }
-            ensures name { of_end (λ g. L.in_name g.tx) (λ s. L.shut_name s.shut) result ≡ L.in_name giver.tx }
+            ensures name { of_end (λ g. L.in_name g.tx) (λ s. L.shut_name s.shut) result
+                ≡ L.in_name giver.tx }
             ensures given { IsPrefix (of_end (λ g. L.put_in g.tx) (λ s. L.put_shut s.shut) result)
                 (answer_items answer.head answer.messages.items answer.trailers) }
         { give_all(giver, answer, &stopped) },
@@ -338,7 +356,8 @@ pub fn run_call<
     answer: Answer,
 ) -> Result<Ran, AllocError>
     requires within { All (λ m. length m ≤ 4194304) answer.messages.items }
-    ensures in_side { IfOk result (λ r. RunsIn request.pieces.items request.shut r.taken.items r.input) }
+    ensures in_side { IfOk result
+        (λ r. RunsIn request.pieces.items request.shut r.taken.items r.input) }
     // Where there is room for all pieces, all are fed.
     ensures room { IfOk result (λ r. I.only_fills ≡ true → length request.pieces.items ≤ rooms.0
         → r.input.shut ≡ Some request.shut) }
@@ -353,8 +372,10 @@ pub fn run_call<
             requires one_call { I.in_name feeder.tx ≡ I.out_name taker.rx }
             requires unfed { I.put_in feeder.tx ≡ [] }
             requires took { Took (I.got taker.rx) taker.progress [] }
-            ensures account { IfOk result (λ r. RunsIn request.pieces.items request.shut r.1.items r.0) }
-            ensures room { IfOk result (λ r. I.only_fills ≡ true → length request.pieces.items ≤ I.room_of (I.in_name feeder.tx)
+            ensures account { IfOk result
+                (λ r. RunsIn request.pieces.items request.shut r.1.items r.0) }
+            ensures room { IfOk result (λ r. I.only_fills ≡ true
+                → length request.pieces.items ≤ I.room_of (I.in_name feeder.tx)
                 → r.0.shut ≡ Some request.shut) }
         { run_in(rt, alloc, feeder, taker, request) },
         || -> Result<(OutAccount, Vec<OutItem>), AllocError>

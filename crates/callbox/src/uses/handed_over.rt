@@ -34,7 +34,8 @@ fn give_over<L: Lane<Item = OutItem>>(
     requires within { All (λ m. length m ≤ 4194304) answer.messages.items }
     ensures ring { ring_in_name result.0 ≡ ring_in_name ring }
     ensures put { IsPrefix (put_in_ring result.0) (sender ∷ []) }
-    ensures name { of_end (λ g. L.in_name g.tx) (λ s. L.shut_name s.shut) result.1 ≡ L.in_name giver.tx }
+    ensures name { of_end (λ g. L.in_name g.tx) (λ s. L.shut_name s.shut) result.1
+        ≡ L.in_name giver.tx }
     ensures given { IsPrefix (of_end (λ g. L.put_in g.tx) (λ s. L.put_shut s.shut) result.1)
         (answer_items answer.head answer.messages.items answer.trailers) }
 {
@@ -65,7 +66,9 @@ fn send_handed<L: Lane<Item = OutItem>, R: Wait>(
 ) -> Result<(RingOut<Sender<L>>, Option<(Sender<L>, Vec<OutItem>)>), AllocError>
     requires { taken ring ≡ [] }
     ensures ring { IfOk result (λ r. ring_out_name r.0 ≡ ring_out_name ring) }
-    ensures name { IfOk result (λ r. IfSome r.1 (λ s. map (λ one. L.out_name one.rx) (taken r.0) ≡ L.out_name s.0.rx ∷ [])) }
+    ensures name { IfOk result
+        (λ r. IfSome r.1 (λ s. map (λ one. L.out_name one.rx) (taken r.0)
+        ≡ L.out_name s.0.rx ∷ [])) }
     ensures sent { IfOk result (λ r. IfSome r.1 (λ s.
         map (λ one. L.got one.rx ++ s.1.items) (taken r.0) ≡ L.got s.0.rx ∷ [])) }
 {
@@ -112,14 +115,17 @@ pub fn answer_elsewhere<L: Lane<Item = OutItem> + Send, R: Threads + Wait + Sync
             requires within { All (λ m. length m ≤ 4194304) answer.messages.items }
             ensures ring { ring_in_name result.0 ≡ ring_in_name tx }
             ensures put { IsPrefix (put_in_ring result.0) (sender ∷ []) }
-            ensures name { of_end (λ g. L.in_name g.tx) (λ s. L.shut_name s.shut) result.1 ≡ L.in_name giver.tx }
+            ensures name { of_end (λ g. L.in_name g.tx) (λ s. L.shut_name s.shut) result.1
+                ≡ L.in_name giver.tx }
             ensures given { IsPrefix (of_end (λ g. L.put_in g.tx) (λ s. L.put_shut s.shut) result.1)
                 (answer_items answer.head answer.messages.items answer.trailers) }
         { give_over(tx, sender, giver, answer, &stopped) },
         || -> Result<(RingOut<Sender<L>>, Option<(Sender<L>, Vec<OutItem>)>), AllocError>
             requires { taken rx ≡ [] }
             ensures ring { IfOk result (λ r. ring_out_name r.0 ≡ ring_out_name rx) }
-            ensures name { IfOk result (λ r. IfSome r.1 (λ s. map (λ one. L.out_name one.rx) (taken r.0) ≡ L.out_name s.0.rx ∷ [])) }
+            ensures name { IfOk result
+                (λ r. IfSome r.1 (λ s. map (λ one. L.out_name one.rx) (taken r.0)
+                ≡ L.out_name s.0.rx ∷ [])) }
             ensures sent { IfOk result (λ r. IfSome r.1 (λ s.
                 map (λ one. L.got one.rx ++ s.1.items) (taken r.0) ≡ L.got s.0.rx ∷ [])) }
         { send_handed(rt, alloc, rx, &stopped) },

@@ -4,8 +4,8 @@ ghost use Rattle.std.specs.Prelude.{◌≡◌, ℕ, None, true, false, List, [],
 ghost use mathlib.Core.List.{IsPrefix};
 ghost use Rattle.lane.specs.End.{of_end};
 ghost use Rattle.callbox.specs.InSides.{TellsFault, Took};
-ghost use Rattle.callbox.specs.Slots.{EachTook, TookOf};
-ghost use Rattle.callbox.specs.SlotRuns.{EachBegins, TookAll, asked_items, taken_call};
+ghost use Rattle.callbox.specs.Slots.{EachBegins, EachTook, TookOf};
+ghost use Rattle.callbox.specs.SlotRuns.{TookAll, asked_items, taken_call};
 ghost use Rattle.callbox.specs.declared.piece.InPiece.{InPiece};
 ghost use Rattle.callbox.specs.declared.piece.InPiece.TheVariants as in_piece;
 
@@ -59,7 +59,8 @@ fn feed_each<L: Lane<Item = InPiece>, R: Wait>(
     requires { L.put_in feeder.old.tx ≡ [] }
     ensures name { L.in_name feeder.new.tx ≡ L.in_name feeder.old.tx }
     ensures past { L.past_in feeder.new.tx ≡ L.past_in feeder.old.tx }
-    ensures some { (count : ℕ) × (L.put_in feeder.new.tx ≡ map in_piece.Bytes (take count pieces.now)) }
+    ensures some { (count : ℕ)
+        × (L.put_in feeder.new.tx ≡ map in_piece.Bytes (take count pieces.now)) }
     ensures all { result ≡ true → L.put_in feeder.new.tx ≡ map in_piece.Bytes pieces.now }
 {
     for piece in pieces {
@@ -84,7 +85,8 @@ fn feed_call<L: Lane<Item = InPiece>, R: Wait>(
     ensures ok_name { IfOk result (λ s. L.shut_name s.shut ≡ L.in_name feeder.tx) }
     ensures ok_past { IfOk result (λ s. L.past_shut s.shut ≡ L.past_in feeder.tx) }
     ensures ok_fed { IfOk result (λ s. IsPrefix (L.put_shut s.shut) (asked_items call.now)) }
-    ensures ok_all { IfOk result (λ s. L.was_placed s.shut ≡ true → L.put_shut s.shut ≡ asked_items call.now) }
+    ensures ok_all { IfOk result (λ s. L.was_placed s.shut ≡ true
+        → L.put_shut s.shut ≡ asked_items call.now) }
     ensures err_name { IfErr result (λ f. L.in_name f.tx ≡ L.in_name feeder.tx) }
     ensures err_past { IfErr result (λ f. L.past_in f.tx ≡ L.past_in feeder.tx) }
     ensures err_fed { IfErr result (λ f. IsPrefix (L.put_in f.tx) (asked_items call.now)) }
@@ -104,7 +106,8 @@ fn begin_feeding<L: Lane<Item = InPiece>, R: Wait>(
 ) -> Result<Feeder<L>, FedShut<L>>
     ensures placed { IfOk result (λ _. L.was_placed shut.shut ≡ true) }
     ensures name { IfOk result (λ f. L.in_name f.tx ≡ L.next_name (L.shut_name shut.shut)) }
-    ensures past { IfOk result (λ f. L.past_in f.tx ≡ L.past_shut shut.shut ++ L.put_shut shut.shut ∷ []) }
+    ensures past { IfOk result (λ f. L.past_in f.tx
+        ≡ L.past_shut shut.shut ++ L.put_shut shut.shut ∷ []) }
     ensures empty { IfOk result (λ f. L.put_in f.tx ≡ []) }
     ensures err_name { IfErr result (λ s. L.shut_name s.shut ≡ L.shut_name shut.shut) }
     ensures err_past { IfErr result (λ s. L.past_shut s.shut ≡ L.past_shut shut.shut) }
@@ -134,9 +137,11 @@ fn feed_list<L: Lane<Item = InPiece>, R: Wait>(
 ) -> End<Feeder<L>, FedShut<L>>
     requires fresh { (L.past_in feeder.tx ≡ []) × (L.put_in feeder.tx ≡ []) }
     requires one_ring { (n : L.Name) → L.ring_of (L.next_name n) ≡ L.ring_of n }
-    ensures ring { L.ring_of (of_end (λ f. L.in_name f.tx) (λ s. L.shut_name s.shut) result) ≡ L.ring_of (L.in_name feeder.tx) }
+    ensures ring { L.ring_of (of_end (λ f. L.in_name f.tx) (λ s. L.shut_name s.shut) result)
+        ≡ L.ring_of (L.in_name feeder.tx) }
     ensures fed { EachBegins
-        (of_end (λ f. L.past_in f.tx) (λ s. L.past_shut s.shut) result ++ of_end (λ f. L.put_in f.tx) (λ s. L.put_shut s.shut) result ∷ [])
+        (of_end (λ f. L.past_in f.tx) (λ s. L.past_shut s.shut) result
+        ++ of_end (λ f. L.put_in f.tx) (λ s. L.put_shut s.shut) result ∷ [])
         (map asked_items calls.now) }
 {
     let mut feeder = feeder;
@@ -162,9 +167,11 @@ pub(crate) fn feed_calls<L: Lane<Item = InPiece>, R: Wait>(
 ) -> End<Feeder<L>, FedShut<L>>
     requires fresh { (L.past_in feeder.tx ≡ []) × (L.put_in feeder.tx ≡ []) }
     requires one_ring { (n : L.Name) → L.ring_of (L.next_name n) ≡ L.ring_of n }
-    ensures ring { L.ring_of (of_end (λ f. L.in_name f.tx) (λ s. L.shut_name s.shut) result) ≡ L.ring_of (L.in_name feeder.tx) }
+    ensures ring { L.ring_of (of_end (λ f. L.in_name f.tx) (λ s. L.shut_name s.shut) result)
+        ≡ L.ring_of (L.in_name feeder.tx) }
     ensures fed { EachBegins
-        (of_end (λ f. L.past_in f.tx) (λ s. L.past_shut s.shut) result ++ of_end (λ f. L.put_in f.tx) (λ s. L.put_shut s.shut) result ∷ [])
+        (of_end (λ f. L.past_in f.tx) (λ s. L.past_shut s.shut) result
+        ++ of_end (λ f. L.put_in f.tx) (λ s. L.put_shut s.shut) result ∷ [])
         (map asked_items calls.now) }
 {
     let end = feed_list(rt, feeder, calls, gone);
@@ -267,11 +274,15 @@ fn take_turn<L: Lane<Item = InPiece>, R: Wait>(
     requires fresh { Took (L.got taker.old.rx) taker.old.progress [] }
     requires so_far { EachTook (L.past_out taker.old.rx) (map taken_call taken.old.items) }
     requires one_ring { (n : L.Name) → L.ring_of (L.next_name n) ≡ L.ring_of n }
-    ensures ring { IfOk result (λ _. L.ring_of (L.out_name taker.new.rx) ≡ L.ring_of (L.out_name taker.old.rx)) }
-    ensures fresh { IfOk result (λ more. more ≡ true → Took (L.got taker.new.rx) taker.new.progress []) }
-    ensures so_far { IfOk result (λ more. more ≡ true → EachTook (L.past_out taker.new.rx) (map taken_call taken.new.items)) }
+    ensures ring { IfOk result (λ _. L.ring_of (L.out_name taker.new.rx)
+        ≡ L.ring_of (L.out_name taker.old.rx)) }
+    ensures fresh { IfOk result (λ more. more ≡ true
+        → Took (L.got taker.new.rx) taker.new.progress []) }
+    ensures so_far { IfOk result (λ more. more ≡ true
+        → EachTook (L.past_out taker.new.rx) (map taken_call taken.new.items)) }
     ensures ends { IfOk result (λ more. more ≡ false
-        → EachTook (L.past_out taker.new.rx ++ L.got taker.new.rx ∷ []) (map taken_call taken.new.items)) }
+        → EachTook (L.past_out taker.new.rx ++ L.got taker.new.rx ∷ [])
+        (map taken_call taken.new.items)) }
 {
     let took = take_call(rt, alloc, taker, wanted, stopped)?;
     taken.push(took)?;
@@ -289,8 +300,10 @@ fn take_list<L: Lane<Item = InPiece>, R: Wait>(
     requires first { L.past_out taker.rx ≡ [] }
     requires fresh { Took (L.got taker.rx) taker.progress [] }
     requires one_ring { (n : L.Name) → L.ring_of (L.next_name n) ≡ L.ring_of n }
-    ensures ring { IfOk result (λ r. L.ring_of (L.out_name r.0.rx) ≡ L.ring_of (L.out_name taker.rx)) }
-    ensures took { IfOk result (λ r. TookAll (L.past_out r.0.rx ++ L.got r.0.rx ∷ []) (map taken_call r.1.items)) }
+    ensures ring { IfOk result (λ r. L.ring_of (L.out_name r.0.rx)
+        ≡ L.ring_of (L.out_name taker.rx)) }
+    ensures took { IfOk result
+        (λ r. TookAll (L.past_out r.0.rx ++ L.got r.0.rx ∷ []) (map taken_call r.1.items)) }
 {
     let mut taker = taker;
     let mut taken = Vec::new(alloc);
@@ -314,8 +327,10 @@ pub(crate) fn take_calls<L: Lane<Item = InPiece>, R: Wait>(
     requires first { L.past_out taker.rx ≡ [] }
     requires fresh { Took (L.got taker.rx) taker.progress [] }
     requires one_ring { (n : L.Name) → L.ring_of (L.next_name n) ≡ L.ring_of n }
-    ensures ring { IfOk result (λ r. L.ring_of (L.out_name r.0.rx) ≡ L.ring_of (L.out_name taker.rx)) }
-    ensures took { IfOk result (λ r. TookAll (L.past_out r.0.rx ++ L.got r.0.rx ∷ []) (map taken_call r.1.items)) }
+    ensures ring { IfOk result (λ r. L.ring_of (L.out_name r.0.rx)
+        ≡ L.ring_of (L.out_name taker.rx)) }
+    ensures took { IfOk result
+        (λ r. TookAll (L.past_out r.0.rx ++ L.got r.0.rx ∷ []) (map taken_call r.1.items)) }
 {
     let took = take_list(rt, alloc, taker, calls, stopped);
     gone.store(true, Ordering::SeqCst);

@@ -6,7 +6,8 @@ ghost use Rattle.lane.specs.Cuts.{segment};
 ghost use Rattle.lane.specs.End.{of_end};
 ghost use Rattle.lpm.specs.Messages.{frame};
 ghost use Rattle.callbox.specs.OutSides.{has_head, message_items};
-ghost use Rattle.callbox.specs.SlotRuns.{EachBegins, end_item, reply_items, sent_items};
+ghost use Rattle.callbox.specs.SlotRuns.{end_item, reply_items, sent_items};
+ghost use Rattle.callbox.specs.Slots.{EachBegins};
 ghost use Rattle.account.specs.declared.call.OutItem.TheVariants as out_item;
 
 use crate::uses::four_threads::next_copy;
@@ -64,7 +65,8 @@ fn give_each<L: Lane<Item = OutItem>, R: Wait>(
     ensures name { L.in_name giver.new.tx ≡ L.in_name giver.old.tx }
     ensures past { L.past_in giver.new.tx ≡ L.past_in giver.old.tx }
     ensures given { (count : ℕ)
-        × (L.put_in giver.new.tx ≡ L.put_in giver.old.tx ++ message_items (take count messages.now)) }
+        × (L.put_in giver.new.tx ≡ L.put_in giver.old.tx
+        ++ message_items (take count messages.now)) }
     ensures all { result ≡ true
         → L.put_in giver.new.tx ≡ L.put_in giver.old.tx ++ message_items messages.now }
 {
@@ -107,7 +109,8 @@ fn give_body<L: Lane<Item = OutItem>, R: Wait>(
     ensures past { L.past_in giver.new.tx ≡ L.past_in giver.old.tx }
     ensures given { IsPrefix (L.put_in giver.new.tx) (reply_items call.now) }
     ensures all { result ≡ true
-        → L.put_in giver.new.tx ≡ out_item.Head call.now.reply.head ∷ message_items call.now.reply.messages.items }
+        → L.put_in giver.new.tx ≡ out_item.Head call.now.reply.head
+        ∷ message_items call.now.reply.messages.items }
 {
     if !give_head(giver, call) {
         return false;
@@ -154,7 +157,8 @@ fn give_call<L: Lane<Item = OutItem>, R: Wait>(
     ensures ok_name { IfOk result (λ s. L.shut_name s.shut ≡ L.in_name giver.tx) }
     ensures ok_past { IfOk result (λ s. L.past_shut s.shut ≡ L.past_in giver.tx) }
     ensures ok_given { IfOk result (λ s. IsPrefix (L.put_shut s.shut) (reply_items call.now)) }
-    ensures ok_all { IfOk result (λ s. L.was_placed s.shut ≡ true → L.put_shut s.shut ≡ reply_items call.now) }
+    ensures ok_all { IfOk result (λ s. L.was_placed s.shut ≡ true
+        → L.put_shut s.shut ≡ reply_items call.now) }
     ensures err_name { IfErr result (λ g. L.in_name g.tx ≡ L.in_name giver.tx) }
     ensures err_past { IfErr result (λ g. L.past_in g.tx ≡ L.past_in giver.tx) }
     ensures err_given { IfErr result (λ g. IsPrefix (L.put_in g.tx) (reply_items call.now)) }
@@ -178,7 +182,8 @@ fn begin_giving<L: Lane<Item = OutItem>, R: Wait>(
 ) -> Result<Giver<L>, GivenShut<L>>
     ensures placed { IfOk result (λ _. L.was_placed shut.shut ≡ true) }
     ensures name { IfOk result (λ g. L.in_name g.tx ≡ L.next_name (L.shut_name shut.shut)) }
-    ensures past { IfOk result (λ g. L.past_in g.tx ≡ L.past_shut shut.shut ++ L.put_shut shut.shut ∷ []) }
+    ensures past { IfOk result (λ g. L.past_in g.tx
+        ≡ L.past_shut shut.shut ++ L.put_shut shut.shut ∷ []) }
     ensures empty { IfOk result (λ g. L.put_in g.tx ≡ []) }
     ensures err_name { IfErr result (λ s. L.shut_name s.shut ≡ L.shut_name shut.shut) }
     ensures err_past { IfErr result (λ s. L.past_shut s.shut ≡ L.past_shut shut.shut) }
@@ -210,9 +215,11 @@ fn give_list<L: Lane<Item = OutItem>, R: Wait>(
     requires fresh { (L.past_in giver.tx ≡ []) × (L.put_in giver.tx ≡ []) }
     requires within { All (λ c. All (λ m. length m ≤ 4194304) c.reply.messages.items) calls.now }
     requires one_ring { (n : L.Name) → L.ring_of (L.next_name n) ≡ L.ring_of n }
-    ensures ring { L.ring_of (of_end (λ g. L.in_name g.tx) (λ s. L.shut_name s.shut) result) ≡ L.ring_of (L.in_name giver.tx) }
+    ensures ring { L.ring_of (of_end (λ g. L.in_name g.tx) (λ s. L.shut_name s.shut) result)
+        ≡ L.ring_of (L.in_name giver.tx) }
     ensures given { EachBegins
-        (of_end (λ g. L.past_in g.tx) (λ s. L.past_shut s.shut) result ++ of_end (λ g. L.put_in g.tx) (λ s. L.put_shut s.shut) result ∷ [])
+        (of_end (λ g. L.past_in g.tx) (λ s. L.past_shut s.shut) result
+        ++ of_end (λ g. L.put_in g.tx) (λ s. L.put_shut s.shut) result ∷ [])
         (map reply_items calls.now) }
 {
     let mut giver = giver;
@@ -240,9 +247,11 @@ pub(crate) fn give_calls<L: Lane<Item = OutItem>, R: Wait>(
     requires fresh { (L.past_in giver.tx ≡ []) × (L.put_in giver.tx ≡ []) }
     requires within { All (λ c. All (λ m. length m ≤ 4194304) c.reply.messages.items) calls.now }
     requires one_ring { (n : L.Name) → L.ring_of (L.next_name n) ≡ L.ring_of n }
-    ensures ring { L.ring_of (of_end (λ g. L.in_name g.tx) (λ s. L.shut_name s.shut) result) ≡ L.ring_of (L.in_name giver.tx) }
+    ensures ring { L.ring_of (of_end (λ g. L.in_name g.tx) (λ s. L.shut_name s.shut) result)
+        ≡ L.ring_of (L.in_name giver.tx) }
     ensures given { EachBegins
-        (of_end (λ g. L.past_in g.tx) (λ s. L.past_shut s.shut) result ++ of_end (λ g. L.put_in g.tx) (λ s. L.put_shut s.shut) result ∷ [])
+        (of_end (λ g. L.past_in g.tx) (λ s. L.past_shut s.shut) result
+        ++ of_end (λ g. L.put_in g.tx) (λ s. L.put_shut s.shut) result ∷ [])
         (map reply_items calls.now) }
 {
     let end = give_list(rt, alloc, giver, calls, gone);
@@ -296,9 +305,11 @@ fn send_turn<L: Lane<Item = OutItem>, R: Wait>(
     requires fresh { L.got sender.old.rx ≡ [] }
     requires so_far { L.past_out sender.old.rx ≡ map sent_items sent.old.items }
     requires one_ring { (n : L.Name) → L.ring_of (L.next_name n) ≡ L.ring_of n }
-    ensures ring { IfOk result (λ _. L.ring_of (L.out_name sender.new.rx) ≡ L.ring_of (L.out_name sender.old.rx)) }
+    ensures ring { IfOk result (λ _. L.ring_of (L.out_name sender.new.rx)
+        ≡ L.ring_of (L.out_name sender.old.rx)) }
     ensures fresh { IfOk result (λ more. more ≡ true → L.got sender.new.rx ≡ []) }
-    ensures so_far { IfOk result (λ more. more ≡ true → L.past_out sender.new.rx ≡ map sent_items sent.new.items) }
+    ensures so_far { IfOk result (λ more. more ≡ true
+        → L.past_out sender.new.rx ≡ map sent_items sent.new.items) }
     ensures ends { IfOk result (λ more. more ≡ false
         → L.past_out sender.new.rx ++ L.got sender.new.rx ∷ [] ≡ map sent_items sent.new.items) }
 {
@@ -317,9 +328,11 @@ fn send_list<L: Lane<Item = OutItem>, R: Wait>(
 ) -> Result<(Sender<L>, Vec<SentCall>), AllocError>
     requires fresh { (L.past_out sender.rx ≡ []) × (L.got sender.rx ≡ []) }
     requires one_ring { (n : L.Name) → L.ring_of (L.next_name n) ≡ L.ring_of n }
-    ensures ring { IfOk result (λ r. L.ring_of (L.out_name r.0.rx) ≡ L.ring_of (L.out_name sender.rx)) }
+    ensures ring { IfOk result (λ r. L.ring_of (L.out_name r.0.rx)
+        ≡ L.ring_of (L.out_name sender.rx)) }
     ensures sent { IfOk result (λ r. (n : ℕ)
-        → segment (L.past_out r.0.rx ++ L.got r.0.rx ∷ []) n ≡ segment (map sent_items r.1.items) n) }
+        → segment (L.past_out r.0.rx ++ L.got r.0.rx ∷ []) n
+        ≡ segment (map sent_items r.1.items) n) }
 {
     let mut sender = sender;
     let mut sent = Vec::new(alloc);
@@ -343,9 +356,11 @@ pub(crate) fn send_calls<L: Lane<Item = OutItem>, R: Wait>(
 ) -> Result<(Sender<L>, Vec<SentCall>), AllocError>
     requires fresh { (L.past_out sender.rx ≡ []) × (L.got sender.rx ≡ []) }
     requires one_ring { (n : L.Name) → L.ring_of (L.next_name n) ≡ L.ring_of n }
-    ensures ring { IfOk result (λ r. L.ring_of (L.out_name r.0.rx) ≡ L.ring_of (L.out_name sender.rx)) }
+    ensures ring { IfOk result (λ r. L.ring_of (L.out_name r.0.rx)
+        ≡ L.ring_of (L.out_name sender.rx)) }
     ensures sent { IfOk result (λ r. (n : ℕ)
-        → segment (L.past_out r.0.rx ++ L.got r.0.rx ∷ []) n ≡ segment (map sent_items r.1.items) n) }
+        → segment (L.past_out r.0.rx ++ L.got r.0.rx ∷ []) n
+        ≡ segment (map sent_items r.1.items) n) }
 {
     let sent = send_list(rt, alloc, sender, calls, stopped);
     gone.store(true, Ordering::SeqCst);

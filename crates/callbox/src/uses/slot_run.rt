@@ -4,7 +4,8 @@ ghost use Rattle.std.specs.Prelude.{◌≡◌, ◌≤◌, ℕ, List, [], ◌∷�
 ghost use Rattle.lane.specs.Cuts.{segment};
 ghost use Rattle.lane.specs.End.{of_end};
 ghost use Rattle.callbox.specs.InSides.{Took};
-ghost use Rattle.callbox.specs.SlotRuns.{EachBegins, RunsCalls, TookAll, asked_items, reply_items, sent_items, taken_call};
+ghost use Rattle.callbox.specs.SlotRuns.{RunsCalls, TookAll, asked_items, reply_items, sent_items, taken_call};
+ghost use Rattle.callbox.specs.Slots.{EachBegins};
 
 use crate::uses::slot_call::{RanCalls, SentCall, SlotCall, TookCall};
 use crate::uses::slot_in::{feed_calls, take_calls};
@@ -33,11 +34,15 @@ fn run_in<L: Lane<Item = InPiece> + Send, R: Threads + Wait + Sync>(
     requires first { L.past_out taker.rx ≡ [] }
     requires took { Took (L.got taker.rx) taker.progress [] }
     requires one_ring { (n : L.Name) → L.ring_of (L.next_name n) ≡ L.ring_of n }
-    ensures ring { IfOk result (λ r. L.ring_of (of_end (λ f. L.in_name f.tx) (λ s. L.shut_name s.shut) r.0) ≡ L.ring_of (L.out_name r.1.rx)) }
+    ensures ring { IfOk result
+        (λ r. L.ring_of (of_end (λ f. L.in_name f.tx) (λ s. L.shut_name s.shut) r.0)
+        ≡ L.ring_of (L.out_name r.1.rx)) }
     ensures fed { IfOk result (λ r. EachBegins
-        (of_end (λ f. L.past_in f.tx) (λ s. L.past_shut s.shut) r.0 ++ of_end (λ f. L.put_in f.tx) (λ s. L.put_shut s.shut) r.0 ∷ [])
+        (of_end (λ f. L.past_in f.tx) (λ s. L.past_shut s.shut) r.0
+        ++ of_end (λ f. L.put_in f.tx) (λ s. L.put_shut s.shut) r.0 ∷ [])
         (map asked_items calls.now)) }
-    ensures took { IfOk result (λ r. TookAll (L.past_out r.1.rx ++ L.got r.1.rx ∷ []) (map taken_call r.2.items)) }
+    ensures took { IfOk result
+        (λ r. TookAll (L.past_out r.1.rx ++ L.got r.1.rx ∷ []) (map taken_call r.2.items)) }
 {
     let stopped = AtomicBool::new(false);
     let gone = AtomicBool::new(false);
@@ -46,17 +51,22 @@ fn run_in<L: Lane<Item = InPiece> + Send, R: Threads + Wait + Sync>(
         || -> End<Feeder<L>, FedShut<L>>
             requires fresh { (L.past_in feeder.tx ≡ []) × (L.put_in feeder.tx ≡ []) }
             requires one_ring { (n : L.Name) → L.ring_of (L.next_name n) ≡ L.ring_of n }
-            ensures ring { L.ring_of (of_end (λ f. L.in_name f.tx) (λ s. L.shut_name s.shut) result) ≡ L.ring_of (L.in_name feeder.tx) }
+            ensures ring { L.ring_of (of_end (λ f. L.in_name f.tx) (λ s. L.shut_name s.shut) result)
+                ≡ L.ring_of (L.in_name feeder.tx) }
             ensures fed { EachBegins
-                (of_end (λ f. L.past_in f.tx) (λ s. L.past_shut s.shut) result ++ of_end (λ f. L.put_in f.tx) (λ s. L.put_shut s.shut) result ∷ [])
+                (of_end (λ f. L.past_in f.tx) (λ s. L.past_shut s.shut) result
+                ++ of_end (λ f. L.put_in f.tx) (λ s. L.put_shut s.shut) result ∷ [])
                 (map asked_items calls.entry.now) }
         { feed_calls(rt, feeder, calls, &gone, &stopped) },
         || -> Result<(Taker<L>, Vec<TookCall>), AllocError>
             requires first { L.past_out taker.rx ≡ [] }
             requires fresh { Took (L.got taker.rx) taker.progress [] }
             requires one_ring { (n : L.Name) → L.ring_of (L.next_name n) ≡ L.ring_of n }
-            ensures ring { IfOk result (λ r. L.ring_of (L.out_name r.0.rx) ≡ L.ring_of (L.out_name taker.rx)) }
-            ensures took { IfOk result (λ r. TookAll (L.past_out r.0.rx ++ L.got r.0.rx ∷ []) (map taken_call r.1.items)) }
+            ensures ring { IfOk result (λ r. L.ring_of (L.out_name r.0.rx)
+                ≡ L.ring_of (L.out_name taker.rx)) }
+            ensures took { IfOk result
+                (λ r. TookAll (L.past_out r.0.rx ++ L.got r.0.rx ∷ [])
+                (map taken_call r.1.items)) }
         { take_calls(rt, alloc, taker, calls, &stopped, &gone) },
     );
     let (taker, taken) = took?;
@@ -76,12 +86,16 @@ fn run_out<L: Lane<Item = OutItem> + Send, R: Threads + Wait + Sync>(
     requires unsent { (L.past_out sender.rx ≡ []) × (L.got sender.rx ≡ []) }
     requires within { All (λ c. All (λ m. length m ≤ 4194304) c.reply.messages.items) calls.now }
     requires one_ring { (n : L.Name) → L.ring_of (L.next_name n) ≡ L.ring_of n }
-    ensures ring { IfOk result (λ r. L.ring_of (of_end (λ g. L.in_name g.tx) (λ s. L.shut_name s.shut) r.0) ≡ L.ring_of (L.out_name r.1.rx)) }
+    ensures ring { IfOk result
+        (λ r. L.ring_of (of_end (λ g. L.in_name g.tx) (λ s. L.shut_name s.shut) r.0)
+        ≡ L.ring_of (L.out_name r.1.rx)) }
     ensures given { IfOk result (λ r. EachBegins
-        (of_end (λ g. L.past_in g.tx) (λ s. L.past_shut s.shut) r.0 ++ of_end (λ g. L.put_in g.tx) (λ s. L.put_shut s.shut) r.0 ∷ [])
+        (of_end (λ g. L.past_in g.tx) (λ s. L.past_shut s.shut) r.0
+        ++ of_end (λ g. L.put_in g.tx) (λ s. L.put_shut s.shut) r.0 ∷ [])
         (map reply_items calls.now)) }
     ensures sent { IfOk result (λ r. (n : ℕ)
-        → segment (L.past_out r.1.rx ++ L.got r.1.rx ∷ []) n ≡ segment (map sent_items r.2.items) n) }
+        → segment (L.past_out r.1.rx ++ L.got r.1.rx ∷ []) n
+        ≡ segment (map sent_items r.2.items) n) }
 {
     let stopped = AtomicBool::new(false);
     let gone = AtomicBool::new(false);
@@ -89,19 +103,24 @@ fn run_out<L: Lane<Item = OutItem> + Send, R: Threads + Wait + Sync>(
         rt,
         || -> End<Giver<L>, GivenShut<L>>
             requires fresh { (L.past_in giver.tx ≡ []) × (L.put_in giver.tx ≡ []) }
-            requires within { All (λ c. All (λ m. length m ≤ 4194304) c.reply.messages.items) calls.now }
+            requires within { All (λ c. All (λ m. length m ≤ 4194304) c.reply.messages.items)
+                calls.now }
             requires one_ring { (n : L.Name) → L.ring_of (L.next_name n) ≡ L.ring_of n }
-            ensures ring { L.ring_of (of_end (λ g. L.in_name g.tx) (λ s. L.shut_name s.shut) result) ≡ L.ring_of (L.in_name giver.tx) }
+            ensures ring { L.ring_of (of_end (λ g. L.in_name g.tx) (λ s. L.shut_name s.shut) result)
+                ≡ L.ring_of (L.in_name giver.tx) }
             ensures given { EachBegins
-                (of_end (λ g. L.past_in g.tx) (λ s. L.past_shut s.shut) result ++ of_end (λ g. L.put_in g.tx) (λ s. L.put_shut s.shut) result ∷ [])
+                (of_end (λ g. L.past_in g.tx) (λ s. L.past_shut s.shut) result
+                ++ of_end (λ g. L.put_in g.tx) (λ s. L.put_shut s.shut) result ∷ [])
                 (map reply_items calls.entry.now) }
         { give_calls(rt, alloc, giver, calls, &gone, &stopped) },
         || -> Result<(Sender<L>, Vec<SentCall>), AllocError>
             requires fresh { (L.past_out sender.rx ≡ []) × (L.got sender.rx ≡ []) }
             requires one_ring { (n : L.Name) → L.ring_of (L.next_name n) ≡ L.ring_of n }
-            ensures ring { IfOk result (λ r. L.ring_of (L.out_name r.0.rx) ≡ L.ring_of (L.out_name sender.rx)) }
+            ensures ring { IfOk result (λ r. L.ring_of (L.out_name r.0.rx)
+                ≡ L.ring_of (L.out_name sender.rx)) }
             ensures sent { IfOk result (λ r. (n : ℕ)
-                → segment (L.past_out r.0.rx ++ L.got r.0.rx ∷ []) n ≡ segment (map sent_items r.1.items) n) }
+                → segment (L.past_out r.0.rx ++ L.got r.0.rx ∷ []) n
+                ≡ segment (map sent_items r.1.items) n) }
         { send_calls(rt, alloc, sender, calls, &stopped, &gone) },
     );
     let (sender, sent) = sent?;
@@ -134,24 +153,34 @@ pub fn run_calls<
             requires first { I.past_out taker.rx ≡ [] }
             requires took { Took (I.got taker.rx) taker.progress [] }
             requires one_ring { (n : I.Name) → I.ring_of (I.next_name n) ≡ I.ring_of n }
-            ensures ring { IfOk result (λ r. I.ring_of (of_end (λ f. I.in_name f.tx) (λ s. I.shut_name s.shut) r.0) ≡ I.ring_of (I.out_name r.1.rx)) }
+            ensures ring { IfOk result
+                (λ r. I.ring_of (of_end (λ f. I.in_name f.tx) (λ s. I.shut_name s.shut) r.0)
+                ≡ I.ring_of (I.out_name r.1.rx)) }
             ensures fed { IfOk result (λ r. EachBegins
-                (of_end (λ f. I.past_in f.tx) (λ s. I.past_shut s.shut) r.0 ++ of_end (λ f. I.put_in f.tx) (λ s. I.put_shut s.shut) r.0 ∷ [])
+                (of_end (λ f. I.past_in f.tx) (λ s. I.past_shut s.shut) r.0
+                ++ of_end (λ f. I.put_in f.tx) (λ s. I.put_shut s.shut) r.0 ∷ [])
                 (map asked_items calls.entry.now)) }
-            ensures took { IfOk result (λ r. TookAll (I.past_out r.1.rx ++ I.got r.1.rx ∷ []) (map taken_call r.2.items)) }
+            ensures took { IfOk result
+                (λ r. TookAll (I.past_out r.1.rx ++ I.got r.1.rx ∷ [])
+                (map taken_call r.2.items)) }
         { run_in(rt, alloc, feeder, taker, calls) },
         || -> Result<(End<Giver<O>, GivenShut<O>>, Sender<O>, Vec<SentCall>), AllocError>
             requires one_call { O.in_name giver.tx ≡ O.out_name sender.rx }
             requires ungiven { (O.past_in giver.tx ≡ []) × (O.put_in giver.tx ≡ []) }
             requires unsent { (O.past_out sender.rx ≡ []) × (O.got sender.rx ≡ []) }
-            requires within { All (λ c. All (λ m. length m ≤ 4194304) c.reply.messages.items) calls.now }
+            requires within { All (λ c. All (λ m. length m ≤ 4194304) c.reply.messages.items)
+                calls.now }
             requires one_ring { (n : O.Name) → O.ring_of (O.next_name n) ≡ O.ring_of n }
-            ensures ring { IfOk result (λ r. O.ring_of (of_end (λ g. O.in_name g.tx) (λ s. O.shut_name s.shut) r.0) ≡ O.ring_of (O.out_name r.1.rx)) }
+            ensures ring { IfOk result
+                (λ r. O.ring_of (of_end (λ g. O.in_name g.tx) (λ s. O.shut_name s.shut) r.0)
+                ≡ O.ring_of (O.out_name r.1.rx)) }
             ensures given { IfOk result (λ r. EachBegins
-                (of_end (λ g. O.past_in g.tx) (λ s. O.past_shut s.shut) r.0 ++ of_end (λ g. O.put_in g.tx) (λ s. O.put_shut s.shut) r.0 ∷ [])
+                (of_end (λ g. O.past_in g.tx) (λ s. O.past_shut s.shut) r.0
+                ++ of_end (λ g. O.put_in g.tx) (λ s. O.put_shut s.shut) r.0 ∷ [])
                 (map reply_items calls.entry.now)) }
             ensures sent { IfOk result (λ r. (n : ℕ)
-                → segment (O.past_out r.1.rx ++ O.got r.1.rx ∷ []) n ≡ segment (map sent_items r.2.items) n) }
+                → segment (O.past_out r.1.rx ++ O.got r.1.rx ∷ []) n
+                ≡ segment (map sent_items r.2.items) n) }
         { run_out(rt, alloc, giver, sender, calls) },
     );
     let (fed, taker, taken) = input?;

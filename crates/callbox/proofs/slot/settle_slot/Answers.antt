@@ -5,5 +5,5 @@ pub returns : goal.returns
 returns g c =
     record {
       accounts = λ calls took.
-          each_lawful _ _ _ _ _ _ calls c.meet_in.ensures.follows c.meet_in.ensures.shut c.meet_out.ensures.follows c.meet_out.ensures.given took;
+          each_lawful _ _ _ _ calls c.meet_in.ensures.taken c.meet_out.ensures.given c.meet_out.ensures.sent took;
     }

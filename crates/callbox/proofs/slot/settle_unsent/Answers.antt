@@ -1,5 +1,5 @@
-use Rattle.callbox.proofs.SlotLemmas.{each_unsent}
+use Rattle.std.proofs.Common.{refl}
 use Rattle.callbox.proofs.slot.settle_unsent.Goals as goal
 
 pub returns : goal.returns
-returns g c = record { accounts = λ n. each_unsent _ _ _ _ c.meet_in.ensures.follows c.meet_in.ensures.shut c.see_out.ensures.given n }
+returns g c = record { accounts = λ n messages said took. c.meet_in.ensures.taken n messages said _ _ took (c.see_out.ensures.given n) (_, refl) }

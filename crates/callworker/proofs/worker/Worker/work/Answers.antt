@@ -10,6 +10,6 @@ calls-init g c = record {
     ungiven = c.requires.unused.3;
     got_each = ap length c.requires.unused.1 ∙ sym (ap length c.requires.unused.4);
     gave_each = ap length c.requires.unused.2 ∙ sym (ap length c.requires.unused.4);
-    rows = no_rows g.M.Answering.known (λ v. v.items) _ c.new.result _ _ _ refl c.new.ensures.items c.requires.unused.1 c.requires.unused.2 c.requires.unused.4;
+    rows = no_rows g.M.Answering.known _ _ _ _ c.new.ensures.items c.requires.unused.1 c.requires.unused.2 c.requires.unused.4;
   };
 }

@@ -4,4 +4,4 @@ use Rattle.connection.proofs.Heard.{to-one}
 use Rattle.connection.proofs.reader.Reader.add.Goals as goal
 
 pub returns : goal.returns
-returns g c = record { reads = λ job same jobs is. to-one (events.Open job.id job.head) Admitted _ _ _ _ _ _ _ c.act.ensures.ends (c.add-decided.ensures job same jobs is) c.act.ensures.acts }
+returns g c = record { reads = λ job same index jobs is. to-one (events.Open job.id job.head) Admitted _ _ _ _ _ _ _ c.act.ensures.ends (c.add-decided.ensures job same index jobs is) c.act.ensures.acts }

@@ -1,27 +1,30 @@
-use Rattle.std.proofs.Common.{◌∙◌, List, [], ◌++◌, None, Some, Ok, ap, append-nil, refl, sym, take}
+use Rattle.std.proofs.Common.{◌≡◌, ◌∙◌, List, [], ◌++◌, None, Some, Result, Ok, Err, OnErr, ap, append-nil, refl, sym, take}
 use Rattle.session.specs.declared.event.InEvent.{InEvent}
 use Rattle.slots.specs.Steps.{events_of}
 use Rattle.slots.proofs.LetGo.{events-append}
 use Rattle.slots.proofs.Resets.{calm-more}
-use Rattle.callslot.specs.declared.report.Ending.TheVariants as ending
-use Rattle.connection.proofs.Heard.{all-read, consumes-then, none-more, none-read, read-failed, reads-same, some-read, to-end}
+use Rattle.connection.proofs.Heard.{consumes-then, failed-read, input-read, none-more, none-read, not-by-fault, read-failed, reads-same, some-read, some-sound, to-end}
 use Rattle.connection.proofs.reader.Reader.read.Goals as goal
+
+is-err : {A E P : Type 0} (result : Result A E) → ((a : A) → result ≡ Ok a → ⊥) → OnErr result P → P
+is-err (Ok a) not on = absurd (not a refl)
+is-err (Err fault) not on = on
 
 pub returns-in_default-clause-heard : goal.returns-in_default-clause-heard
 returns-in_default-clause-heard g c = λ none.
     let h = c.pieces.invariant.4 none in
-    (h.0 ++ [], consumes-then _ _ _ h.0 [] h.3 (read-failed _ _ _ _ c.in_default.not-Ok c.read.ensures.bytes), (h.2, all-read ending.ReadFailed h.1 h.2 h.0 (h.0 ++ []) _ _ _ (append-nil h.0) h.4 h.5 h.6 h.7))
+    (h.0 ++ [], consumes-then _ _ _ h.0 [] h.3 (read-failed _ _ _ _ c.in_default.not-Ok c.read.ensures.bytes), (h.2, failed-read h.1 h.2 h.0 (h.0 ++ []) _ _ _ (append-nil h.0) h.4 h.5 h.6 h.7))
 
 pub returns-then-has_stopped-clause-heard : goal.returns-then-has_stopped-clause-heard
 returns-then-has_stopped-clause-heard g c = λ none.
     let h = c.pieces.invariant.4 none in
-    (h.0, h.3, (h.2, all-read _ h.1 h.2 h.0 h.0 _ _ _ refl h.4 h.5 h.6 h.7))
+    (h.0, h.3, (h.2, input-read _ h.1 h.2 h.0 h.0 _ _ _ refl h.4 h.5 h.6 h.7 c.ending.ensures.input c.ending.ensures.goaway))
 
 pub returns-then-count-eq0-clause-heard : goal.returns-then-count-eq0-clause-heard
 returns-then-count-eq0-clause-heard g c = λ none.
     let h = c.pieces.invariant.4 none in
     let came = h.0 ++ take c.in-Ok.count c.read.new.buf in
-    (came, consumes-then _ _ _ h.0 _ h.3 c.in-Ok.ensures.bytes.0, (h.2, all-read _ h.1 h.2 h.0 came _ _ _ (none-more h.0 c.read.new.buf c.in-Ok.count c.if-count-eq0.true) h.4 h.5 h.6 h.7))
+    (came, consumes-then _ _ _ h.0 _ h.3 c.in-Ok.ensures.bytes.0, (h.2, input-read _ h.1 h.2 h.0 came _ _ _ (none-more h.0 c.read.new.buf c.in-Ok.count c.if-count-eq0.true) h.4 h.5 h.6 h.7 c.ending-then-count-eq0.ensures.input c.ending-then-count-eq0.ensures.goaway))
 
 pub pieces-preserved : goal.pieces-preserved
 pieces-preserved g c = (
@@ -60,6 +63,21 @@ returns-in-Err-clause-heard g c = λ none.
       consumes-then _ _ _ h.0 _ h.3 c.in-Ok.ensures.bytes.0,
       (
         h.2,
-        none-read h.1 h.2 h.0 _ _ ending.OutOfMemory _ _ refl h.4 h.5 (reads-same h.2 _ _ (c.lack.ensures.same ∙ c.in-Err.ensures.same.0) h.7.reads),
+        none-read h.1 h.2 h.0 _ _ _ _ h.4 h.5 (reads-same h.2 _ _ (c.lack.ensures.same ∙ c.in-Err.ensures.same.0) h.7.reads),
       ),
     )
+
+pub returns-in_default-clause-failed : goal.returns-in_default-clause-failed
+returns-in_default-clause-failed g c = λ none failed. is-err _ c.in_default.not-Ok c.read.ensures.marked
+
+pub returns-then-has_stopped-clause-failed : goal.returns-then-has_stopped-clause-failed
+returns-then-has_stopped-clause-failed g c = λ none failed. absurd (not-by-fault _ c.ending.ensures.input failed)
+
+pub returns-then-count-eq0-clause-failed : goal.returns-then-count-eq0-clause-failed
+returns-then-count-eq0-clause-failed g c = λ none failed. absurd (not-by-fault _ c.ending-then-count-eq0.ensures.input failed)
+
+pub returns-in-Ok-Some-clause-failed : goal.returns-in-Ok-Some-clause-failed
+returns-in-Ok-Some-clause-failed g c = λ none failed.
+    let h = c.pieces.invariant.4 none in
+    let on = c.in-Ok-Some.ensures.on h.0 h.1 h.4 in
+    absurd (some-sound c.in-Ok-Some.ending on.0 h.2 _ _ _ _ (to-end _ _ _ _ _ _ _ c.in-Ok-Some.field-0-is on.2) h.7 failed)

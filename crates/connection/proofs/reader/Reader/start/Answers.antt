@@ -1,11 +1,13 @@
-use Rattle.std.proofs.Common.{◌∷◌, ◌∙◌, [], refl}
+use Rattle.std.proofs.Common.{◌∷◌, ◌∙◌, [], ap, refl, subst, sym, ℕ}
+use Rattle.callslot.specs.declared.slot.Job.{Job}
+use Rattle.slots.specs.Seats.{IsNext}
 use Rattle.session.specs.declared.event.InEvent.TheVariants as events
 use Rattle.slots.specs.Steps.{Admitted}
 use Rattle.connection.proofs.Heard.{cuts-none, cuts-same, cuts-then, open-as, to-behind, to-one}
 use Rattle.connection.proofs.reader.Reader.start.Goals as goal
 
 pub looks-init : goal.looks-init
-looks-init g c = (cuts-none _ _, refl, refl)
+looks-init g c = (cuts-none _ _, λ id next. next, refl)
 
 pub returns-in-Ok : goal.returns-in-Ok
 returns-in-Ok g c = record {
@@ -24,12 +26,25 @@ pub returns-then-has_stopped : goal.returns-then-has_stopped
 returns-then-has_stopped g c = record {
   reads = to-behind _ _ _ _ _ _ _ _
       (cuts-then _ _ _ _ _ _ (cuts-then _ _ _ _ _ _ c.looks.invariant.0 (cuts-same _ _ _ _ c.in-Err.ensures.stays (λ all ordered. ordered))) c.abandon_all.ensures.cuts)
-      (c.turn_away.ensures.reads c.args.job.head);
+      (c.pass_over.ensures.reads c.args.job.head c.requires.named);
 }
 
 pub looks-preserved : goal.looks-preserved
 looks-preserved g c = (
   cuts-then _ _ _ _ _ _ (cuts-then _ _ _ _ _ _ c.looks.invariant.0 (cuts-same _ _ _ _ c.in-Err.ensures.stays (λ all ordered. ordered))) c.abandon_all.ensures.cuts,
-  c.abandon_all.ensures.last ∙ (c.in-Err.ensures.last ∙ c.looks.invariant.1),
+  λ id next. c.abandon_all.ensures.next id (c.in-Err.ensures.next id (c.looks.invariant.1 id next)),
   c.in-Err.ensures.handed_back ∙ c.looks.invariant.2,
 )
+
+pub engage-requires-clause-next : goal.engage-requires-clause-next
+engage-requires-clause-next g c =
+    subst (λ (n : ℕ). IsNext n c.looks.self.reading.slots) (sym (ap (λ (j : Job). j.id) c.looks.invariant.2)) (c.looks.invariant.1 c.args.job.id c.requires.next)
+
+pub open_slot-requires-clause-next : goal.open_slot-requires-clause-next
+open_slot-requires-clause-next g c = λ κs within.
+    subst (λ (n : ℕ). IsNext n c.abandon_all.new.self.reading.slots) (sym (ap (λ (j : Job). j.id) (c.in-Err.ensures.handed_back ∙ c.looks.invariant.2)))
+    (c.abandon_all.ensures.next c.args.job.id (c.in-Err.ensures.next c.args.job.id (c.looks.invariant.1 c.args.job.id c.requires.next)))
+
+pub pass_over-requires-clause-next : goal.pass_over-requires-clause-next
+pass_over-requires-clause-next g c = λ κs within.
+    c.abandon_all.ensures.next c.args.job.id (c.in-Err.ensures.next c.args.job.id (c.looks.invariant.1 c.args.job.id c.requires.next))

@@ -7,8 +7,8 @@ use Rattle.slots.proofs.ReadingSteps.{begins-call}
 use Rattle.slots.proofs.reading.Reading.add.Goals as goal
 
 pub returns : goal.returns
-returns g c = λ job same jobs is told reads.
+returns g c = λ job same method jobs is told reads.
     subst (λ (id : ℕ). Decides g.H.Worker.names told (Told (events.Open id job.head) Admitted) c.begin.result c.begin.new.self) same
     (c.begin.ensures.decides told (Told (events.Open c.args.seat.id job.head) Admitted)
-    (begins-call told _ c.args.seat.id c.args.self.now _ refl refl refl
-    (subst (λ (id : ℕ). Hears g.H.Worker.names (Told (events.Open id job.head) Admitted) c.args.self.now.slots c.add.new.self) (sym same) (c.add.ensures.heard job same jobs is)) reads) refl refl)
+    (begins-call told _ c.args.seat.id c.args.self.now _ refl refl refl refl
+    (subst (λ (id : ℕ). Hears g.H.Worker.names (Told (events.Open id job.head) Admitted) c.args.self.now.slots c.add.new.self) (sym same) (c.add.ensures.heard job same method jobs is)) reads) refl refl)

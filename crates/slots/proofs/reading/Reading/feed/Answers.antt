@@ -15,4 +15,4 @@ returns-in-Ok g c = λ counted told reads.
     as-step told (Told (events.Data c.args.id c.args.piece counted) (Received Feed)) _ c.nothing.result new
     (ap (λ (order : Option (Control Opened)). Told (events.Data c.args.id c.args.piece counted) (fate_of Feed order)) done.1)
     (decides-now told (Told (events.Data c.args.id c.args.piece counted) (Received Feed)) c.nothing.result new (no-order c.nothing.result done.0 done.1) done.3 done.2
-    (reads-step told _ c.args.self.now new refl refl refl (c.in-Ok.ensures.heard counted) reads))
+    (reads-step told _ c.args.self.now new refl refl refl refl (c.in-Ok.ensures.heard counted) reads))

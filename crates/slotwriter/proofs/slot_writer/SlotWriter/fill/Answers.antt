@@ -1,18 +1,21 @@
 use Rattle.std.proofs.Common.{refl, Some}
-use Rattle.slotwriter.proofs.WrittenSteps.{fills-on, fills-over, fills-stopped, leads-out, leads-still}
+use Rattle.slotwriter.proofs.WrittenSteps.{fills-on, fills-over, fills-stopped, leads-out, leads-still, sends-frames}
 use Rattle.slotwriter.proofs.slot_writer.SlotWriter.fill.Goals as goal
 
 pub returns-clause-leads : goal.returns-clause-leads
 returns-clause-leads g c =
-    leads-still g.W.ConnWrite.contents g.W.ConnWrite.failed c.args.self.now (record c.args.self.now { frames = c.fill.new.self }) refl (record { ids = refl; input = refl })
-    (fills-on g.W.ConnWrite.contents g.W.ConnWrite.failed (Some c.fill.result) c.args.self.now.frames c.fill.new.self c.fill.ensures.wrote)
+    let new = record c.args.self.now { frames = c.fill.new.self } in
+    leads-still g.W.ConnWrite.contents g.W.ConnWrite.failed c.args.self.now new refl (record { ids = refl; input = refl })
+    (fills-on g.W.ConnWrite.contents g.W.ConnWrite.failed (Some c.fill.result) c.args.self.now new c.fill.ensures.wrote (λ frames. sends-frames frames c.args.self.now new c.fill.ensures.senders refl))
 
 pub returns-clause-over : goal.returns-clause-over
 returns-clause-over g c = λ over.
-    leads-out g.W.ConnWrite.contents g.W.ConnWrite.failed c.args.self.now (record c.args.self.now { frames = c.fill.new.self }) refl
-    (fills-over g.W.ConnWrite.contents g.W.ConnWrite.failed c.fill.result c.args.self.now.frames c.fill.new.self c.fill.ensures.wrote over)
+    let new = record c.args.self.now { frames = c.fill.new.self } in
+    leads-out g.W.ConnWrite.contents g.W.ConnWrite.failed c.args.self.now new refl
+    (fills-over g.W.ConnWrite.contents g.W.ConnWrite.failed c.fill.result c.args.self.now new c.fill.ensures.wrote (λ frames. sends-frames frames c.args.self.now new c.fill.ensures.senders refl) over)
 
 pub returns-clause-stopped : goal.returns-clause-stopped
 returns-clause-stopped g c = λ stopped.
-    leads-out g.W.ConnWrite.contents g.W.ConnWrite.failed c.args.self.now (record c.args.self.now { frames = c.fill.new.self }) refl
-    (fills-stopped g.W.ConnWrite.contents g.W.ConnWrite.failed c.fill.result c.args.self.now.frames c.fill.new.self c.fill.ensures.wrote stopped)
+    let new = record c.args.self.now { frames = c.fill.new.self } in
+    leads-out g.W.ConnWrite.contents g.W.ConnWrite.failed c.args.self.now new refl
+    (fills-stopped g.W.ConnWrite.contents g.W.ConnWrite.failed c.fill.result c.args.self.now new c.fill.ensures.wrote (λ frames. sends-frames frames c.args.self.now new c.fill.ensures.senders refl) stopped)

@@ -1,14 +1,17 @@
-use Rattle.slotwriter.proofs.WrittenSteps.{leads-parting}
+use Rattle.std.proofs.Common.{ap, true}
+use Rattle.slotwriter.proofs.WrittenSteps.{leads-parting, runs-same, sends-none}
 use Rattle.slotwriter.proofs.slot_writer.SlotWriter.give_up.Goals as goal
 
 pub returns-then-not-part : goal.returns-then-not-part
-returns-then-not-part g c = record {
-  leads =
-      leads-parting g.W.ConnWrite.contents g.W.ConnWrite.failed c.args.self.now (record c.part.new.self { frames = c.stop.new.self }) c.requires.lost c.part.ensures.inbox
-      (λ orders before runs. let one = c.part.ensures.parts orders before runs in (one.0, c.stop.ensures.wrote before one.0 one.1, one.2));
-}
+returns-then-not-part g c =
+    let new = record c.part.new.self { frames = c.stop.new.self } in record {
+      leads =
+          leads-parting g.W.ConnWrite.contents g.W.ConnWrite.failed c.args.self.now new c.requires.lost c.part.ensures.inbox
+          (λ orders before runs.
+          runs-same g.W.ConnWrite.contents g.W.ConnWrite.failed true c.part.new.self new c.stop.ensures.wrote
+          (sends-none c.part.new.self new (ap (λ frames. frames.core.sending.senders.items) c.stop.ensures.rest) (λ run lines core kept. kept)) orders before
+          (c.part.ensures.parts orders before runs));
+    }
 
 pub returns-else-not-part : goal.returns-else-not-part
-returns-else-not-part g c = record {
-  leads = leads-parting g.W.ConnWrite.contents g.W.ConnWrite.failed c.args.self.now c.part.new.self c.requires.lost c.part.ensures.inbox c.part.ensures.parts;
-}
+returns-else-not-part g c = record { leads = leads-parting g.W.ConnWrite.contents g.W.ConnWrite.failed c.args.self.now c.part.new.self c.requires.lost c.part.ensures.inbox c.part.ensures.parts }

@@ -6,10 +6,11 @@ use Rattle.slotwriter.proofs.WrittenSteps.{parts-on, stays-by}
 use Rattle.slotwriter.proofs.slot_writer.SlotWriter.say_last.Goals as goal
 
 pub returns-then-part : goal.returns-then-part
-returns-then-part g c = record {
-  stays =
-      stays-by g.W.ConnWrite.contents g.W.ConnWrite.failed c.args.self.now (record c.args.self.now { frames = c.part.new.self; inbox = record c.args.self.now.inbox { has_lost = true } }) refl (λ kept. absurd (true≢false kept)) (record { ids = refl; input = refl })
-      (parts-on g.W.ConnWrite.contents g.W.ConnWrite.failed c.args.last c.args.self.now.inbox.has_lost c.args.self.now.frames c.part.new.self
-      (subst (λ (said : Bool). WritesOn got g.W.ConnWrite.contents g.W.ConnWrite.failed (parting c.args.last said) c.args.self.now.frames c.part.new.self) c.if-part.true c.part.ensures.wrote)
-      (c.part.ensures.dead c.if-part.true).0 (ap (λ w. w.standing) c.part.ensures.rest));
-}
+returns-then-part g c =
+    let new = record c.args.self.now { frames = c.part.new.self; inbox = record c.args.self.now.inbox { has_lost = true } } in record {
+      stays =
+          stays-by g.W.ConnWrite.contents g.W.ConnWrite.failed c.args.self.now new refl (λ kept. absurd (true≢false kept)) (record { ids = refl; input = refl })
+          (parts-on g.W.ConnWrite.contents g.W.ConnWrite.failed c.args.last c.args.self.now.inbox.has_lost c.args.self.now new
+          (subst (λ (said : Bool). WritesOn got g.W.ConnWrite.contents g.W.ConnWrite.failed (parting c.args.last said) c.args.self.now.frames c.part.new.self) c.if-part.true c.part.ensures.wrote)
+          (ap (λ senders. senders.items) c.part.ensures.senders) refl (c.part.ensures.dead c.if-part.true).0 (ap (λ w. w.standing) c.part.ensures.rest));
+    }

@@ -4,15 +4,17 @@ use Rattle.outwriter.specs.Steps.{order_of}
 use Rattle.callslot.specs.declared.order.Opened.{Opened}
 use Rattle.slotwriter.specs.declared.senders.Untaken.{Untaken}
 use Rattle.slotwriter.specs.Orders.{Gives, IsBack}
+use Rattle.slotwriter.proofs.SentPlaces.{keeps-same}
 use Rattle.slotwriter.proofs.WrittenSteps.{knows-taken, leads-back, leads-lost, leads-passed, leads-taken}
 use Rattle.slotwriter.proofs.slot_writer.SlotWriter.take_next.Goals as goal
 
 pub returns-in-Ok : goal.returns-in-Ok
 returns-in-Ok g c = record {
   leads =
-      leads-taken g.W.ConnWrite.contents g.W.ConnWrite.failed c.in-Some.order (order_of c.in-Ok.control) c.args.self.now c.take.new.self c.next.new.self
+      leads-taken g.W.ConnWrite.contents g.W.ConnWrite.failed c.in-Some.order c.args.self.now c.take.new.self c.next.new.self
       (subst (λ (next : Option (Control Opened)). Gives next c.args.self.now.inbox c.next.new.self) c.in-Some.is c.next.ensures.gives)
-      c.in-Ok.ensures.same c.if-self.false c.take.ensures.inbox c.take.ensures.takes
+      c.if-self.false c.take.ensures.inbox
+      (λ orders before runs. c.take.ensures.takes c.in-Some.order c.args.self.now c.in-Ok.ensures.same c.in-Ok.ensures.makes refl orders before runs)
       (λ still. knows-taken c.in-Some.order c.in-Ok.control (order_of c.in-Ok.control) c.args.self.now
       (record c.args.self.now { inbox = c.next.new.self; senders = c.control_of.new.self }) c.take.new.self c.in-Ok.ensures.same c.in-Ok.ensures.makes refl (c.take.ensures.heeds still));
   lost = c.take.ensures.lost;
@@ -23,7 +25,7 @@ returns-in-Err-OutOfMemory g c = record {
   leads =
       leads-lost g.W.ConnWrite.contents g.W.ConnWrite.failed c.in-Some.order c.args.self.now (record c.args.self.now { inbox = record c.next.new.self { has_lost = true }; senders = c.control_of.new.self }) c.next.new.self
       (subst (λ (next : Option (Control Opened)). Gives next c.args.self.now.inbox c.next.new.self) c.in-Some.is c.next.ensures.gives)
-      refl refl;
+      refl (keeps-same _ _ c.in-Err-OutOfMemory.ensures.stays) refl;
   lost = λ is. refl;
 }
 
@@ -38,4 +40,5 @@ returns-in-Err-Early-clause-leads g c =
     leads-back g.W.ConnWrite.contents g.W.ConnWrite.failed c.in-Some.order c.in-Err-Early.order c.args.self.now
     (record c.args.self.now { inbox = record c.next.new.self { set_aside = Some c.in-Err-Early.order }; senders = c.control_of.new.self }) c.next.new.self
     (subst (λ (next : Option (Control Opened)). Gives next c.args.self.now.inbox c.next.new.self) c.in-Some.is c.next.ensures.gives)
-    refl (subst (λ (untaken : Untaken). IsBack c.in-Some.order untaken) c.in-Err-Early.field-0-is c.in-Err-Early.ensures.back) (record { ids = c.in-Err-Early.ensures.stays.ids; input = refl }) refl
+    refl (subst (λ (untaken : Untaken). IsBack c.in-Some.order untaken) c.in-Err-Early.field-0-is c.in-Err-Early.ensures.back) (record { ids = c.in-Err-Early.ensures.stays.ids; input = refl })
+    (keeps-same _ _ c.in-Err-Early.ensures.stays) refl

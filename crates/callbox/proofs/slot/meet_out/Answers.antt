@@ -1,0 +1,5 @@
+use Rattle.callbox.proofs.SlotLemmas.{each_begins}
+use Rattle.callbox.proofs.slot.meet_out.Goals as goal
+
+pub returns : goal.returns
+returns g c = record { sent = each_begins _ _ _ c.follow_out.ensures.follows; given = c.see_out.ensures.given }

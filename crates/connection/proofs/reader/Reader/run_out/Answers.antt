@@ -1,8 +1,0 @@
-use Rattle.session.specs.declared.event.InEvent.TheVariants as events
-use Rattle.slots.specs.Steps.{Plain, TurnedAway, Lacking, Admitted}
-use Rattle.slots.specs.Readings.{unless_ended}
-use Rattle.connection.proofs.Heard.{to-one}
-use Rattle.connection.proofs.reader.Reader.run_out.Goals as goal
-
-pub returns : goal.returns
-returns g c = record { reads = λ head. to-one (events.Open c.args.id head) Lacking _ _ _ _ _ _ _ c.act.ensures.ends (c.lack-decided.ensures.lacking head) c.act.ensures.acts }

@@ -1,0 +1,48 @@
+-- What became of a connection: over one list of what was heard, one list of what was ordered, and one run of its writer.
+use Rattle.std.specs.Prelude.{◌≡◌, ◌≢◌, ◌⊎◌, ℕ, Bool, true, List, [], ◌∷◌, ◌++◌, Option, Some}
+use Rattle.callslot.specs.declared.report.CallReport.{CallReport}
+use Rattle.callslot.specs.declared.report.Ending.{Ending}
+use Rattle.callslot.specs.declared.report.Ending.TheVariants.{PeerGoaway, ProtocolError, ReadFailed, WriteFailed, OutOfMemory}
+use Rattle.h2frame.specs.declared.error_code.ErrorCode.{ErrorCode}
+use Rattle.h2frame.specs.declared.error_code.ErrorCode.TheVariants.{FlowControlError}
+use Rattle.handlers.specs.declared.step.Step.{Step as Answer}
+use Rattle.outwriter.specs.Steps.{Order}
+use Rattle.outwriter.specs.declared.control.Control.TheVariants.{InputEnded, Close}
+use Rattle.session.specs.declared.event.InEvent.TheVariants as events
+use Rattle.slots.specs.Calls.{is_admitted}
+use Rattle.slots.specs.Orders.{orders_by}
+use Rattle.slots.specs.Reports.{AreCalm, AreHeard, AreRows, WasResetFor, is_heard_out}
+use Rattle.slots.specs.Steps.{IsRising, Step, WasTold, events_of, reported}
+use Rattle.slotwriter.specs.Written.{HasWritten}
+use Rattle.connection.specs.Heard.{HasPut, IsEndedBy}
+
+-- An ending has its cause: a read failed, or a write; the peer told that it opens no more streams; a step that was heard ended the connection with this
+-- error, or the writer did, since a window of the peer's would be too large (RFC 9113, sections 5.4.1, 6.8 and 6.9.1).
+pub record HasCause (end : Ending) (told : List Step) (read_failed write_failed : Bool) : Type 0 where
+  pub unread : end ≡ ReadFailed → read_failed ≡ true
+  pub unsent : end ≡ WriteFailed → write_failed ≡ true
+  pub goaway : end ≡ PeerGoaway → WasTold events.PeerGoaway told
+  pub failed : (code : ErrorCode) → end ≡ ProtocolError code → IsEndedBy (ProtocolError code) told ⊎ (code ≡ FlowControlError)
+
+module _ {W V : Type 0} (items : V → List CallReport) (contents : W → Option (List ℕ)) (failed : W → Bool)
+    (answers : ℕ → List (List ℕ) → Bool → Answer → Type 0) (names : List ℕ → ℕ → Type 0) where
+  -- These bytes came. What was written before to the device, and what was written since; whether a read failed; how the connection ended; and
+  -- the rows of its calls.
+  pub record IsServed (came : List ℕ) (before : Option (List ℕ)) (read_failed : Bool) (end : Ending) (calls : V) (device : W) : Type 0 where
+    -- what was heard, and what was ordered
+    pub told : List Step
+    pub put : List Order
+    -- the first events of what came, all of them where all that came was heard; ids rise, and then no step ended the connection
+    pub heard : AreHeard end came (events_of told)
+    pub rising : IsRising told
+    pub calm : is_heard_out end ≡ true → AreCalm told
+    -- The orders are those that these steps lead to, one by one, or a beginning; and where all that came was heard, all of them. So a
+    -- half was reset, though END_STREAM came, only where a reset of the stream was ordered.
+    pub ordered : end ≢ OutOfMemory → HasPut (orders_by told ++ InputEnded ∷ []) put
+    pub whole : is_heard_out end ≡ true → put ≡ orders_by told ++ InputEnded ∷ Close ∷ []
+    pub resets : is_heard_out end ≡ true → (id : ℕ) → is_admitted id told ≡ true → WasResetFor told put id
+    -- a lawful run obeyed them, and what was written are its frames
+    pub written : HasWritten contents failed before put (Some end) device
+    -- a row for each call that was admitted, in order, on its lawful account; where no worker served it, nothing was fed, taken or given
+    pub rows : AreRows answers names told (reported told) (items calls)
+    pub cause : HasCause end told read_failed (failed device)

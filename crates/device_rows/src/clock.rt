@@ -1,0 +1,48 @@
+//! Clocks of a run.
+
+use std::io;
+use std::sync::Wait;
+use std::thread::Threads;
+use std::time::{Clock, Duration};
+
+/// How a clock goes.
+#[derive(Clone, Copy)]
+pub enum Pace {
+    /// As that of the system.
+    Steady,
+    Still,
+    /// A second in each nanosecond.
+    Leaping,
+}
+
+/// A runtime whose monotonic clock goes at a pace.
+#[derive(Clone, Copy)]
+pub struct Timed<R> {
+    pub rt: R,
+    pub pace: Pace,
+}
+
+impl<R: Wait> Wait for Timed<R> {}
+
+impl<R: Threads> Threads for Timed<R> {}
+
+impl<R: Clock> Clock for Timed<R> {
+    fn monotonic(&self) -> io::Result<Duration> {
+        let time = self.rt.monotonic()?;
+        Ok(match self.pace {
+            Pace::Steady => time,
+            Pace::Still => Duration::ZERO,
+            Pace::Leaping => {
+                Duration::from_secs(u64::try_from(time.as_nanos()).unwrap_or(u64::MAX))
+            }
+        })
+    }
+
+    fn since_1970(&self) -> io::Result<Duration> {
+        self.rt.since_1970()
+    }
+
+    fn sleep(&self, duration: Duration) {
+        self.rt.sleep(duration);
+    }
+}

@@ -1,0 +1,74 @@
+//! The runs that standard input asks for.
+
+use crate::clock::Pace;
+use crate::devices::{Limits, Sink, Source};
+use anyhow::{Context, Result, bail};
+use std::alloc::Global;
+
+/// How many bytes a run has room for that are written.
+const ROOM: usize = 65_536;
+
+/// A run: what is read and written, and how the clock goes.
+#[derive(Drop)]
+pub struct Plan {
+    pub source: Source,
+    pub sink: Sink,
+    pub pace: Pace,
+}
+
+impl Plan {
+    /// Reads a line: hexadecimal digits, and behind them words, of which each may be missing:
+    ///
+    /// - `read-good=K`, `write-good=K`: so many reads or writes go well, and each behind them fails;
+    /// - `read-most=N`, `write-most=N`: one moves at most so many bytes;
+    /// - `cut=N`: no read goes across the N-th byte;
+    /// - `clock=still`, `clock=leaping`.
+    pub fn read(alloc: Global, line: &str) -> Result<Plan> {
+        let (digits, words) = line.split_once(' ').context("no blank")?;
+        let unlimited = Limits {
+            good: u64::MAX,
+            most: usize::MAX,
+        };
+        let mut plan = Plan {
+            source: Source {
+                bytes: hex::decode(alloc, digits)?,
+                at: 0,
+                cut: 0,
+                limits: unlimited,
+                has_failed: false,
+            },
+            sink: Sink {
+                bytes: Vec::with_capacity(alloc, ROOM)?,
+                limits: unlimited,
+                has_failed: false,
+            },
+            pace: Pace::Steady,
+        };
+        for word in words.split_whitespace() {
+            plan.add(word)?;
+        }
+        Ok(plan)
+    }
+
+    fn add(&mut self, word: &str) -> Result<()> {
+        let (name, value) = word.split_once('=').context("no value")?;
+        match name {
+            "read-good" => self.source.limits.good = value.parse::<u64>()?,
+            "read-most" => self.source.limits.most = value.parse::<usize>()?,
+            "write-good" => self.sink.limits.good = value.parse::<u64>()?,
+            "write-most" => self.sink.limits.most = value.parse::<usize>()?,
+            "cut" => self.source.cut = value.parse::<usize>()?,
+            "clock" => self.pace = pace_of(value)?,
+            _ => bail!("an unknown word"),
+        }
+        Ok(())
+    }
+}
+
+fn pace_of(value: &str) -> Result<Pace> {
+    match value {
+        "still" => Ok(Pace::Still),
+        "leaping" => Ok(Pace::Leaping),
+        _ => bail!("an unknown clock"),
+    }
+}

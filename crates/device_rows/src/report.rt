@@ -1,0 +1,65 @@
+//! What became of a run.
+
+use crate::devices::{Sink, Source};
+use account::Told;
+use anyhow::Result;
+use connection::{CallReport, Served};
+use std::alloc::Global;
+
+/// Prints what became of a connection that was read from here. Where there is no memory for that it prints nothing.
+pub fn print_served(
+    rt: &impl Print,
+    alloc: Global,
+    source: &Source,
+    served: &Served<Sink>,
+) -> Result<()> {
+    print_written(rt, alloc, &served.output)?;
+    println!(rt; "read {}{}", source.at, failure(source.has_failed))?;
+    println!(rt; "ending {}", served.ending.code())?;
+    print_calls(rt, served.calls.as_slice())?;
+    println!(rt; "over")?;
+    Ok(())
+}
+
+fn print_written(rt: &impl Print, alloc: Global, sink: &Sink) -> Result<()> {
+    let digits = hex::encode(alloc, sink.bytes.as_slice())?;
+    println!(rt; "written {digits}")?;
+    println!(rt; "wrote {}{}", sink.bytes.len(), failure(sink.has_failed))?;
+    Ok(())
+}
+
+fn print_calls(rt: &impl Print, calls: &[CallReport]) -> Result<()> {
+    println!(rt; "calls {}", calls.len())?;
+    for call in calls {
+        print_call(rt, call)?;
+    }
+    Ok(())
+}
+
+fn failure(has_failed: bool) -> &'static str {
+    if has_failed { " failed" } else { "" }
+}
+
+fn print_call(rt: &impl Print, call: &CallReport) -> Result<()> {
+    let CallReport {
+        id,
+        method,
+        messages,
+        bytes,
+        given,
+        given_bytes,
+        ..
+    } = call;
+    let told = match call.told {
+        Some(Told::End) => "end",
+        Some(Told::Reset(_)) => "reset",
+        Some(Told::Fault(_)) => "fault",
+        None => "nothing",
+    };
+    print!(rt; "call {id} {method} {messages} {bytes} {told} {given} {given_bytes} ")?;
+    match call.status {
+        Some(status) => println!(rt; "{status}")?,
+        None => println!(rt; "left")?,
+    }
+    Ok(())
+}

@@ -1,0 +1,13 @@
+use Rattle.std.proofs.Common.{◌∷◌, refl, sym}
+use Rattle.h2frame.specs.declared.error_code.ErrorCode.TheVariants.{InternalError}
+use Rattle.outwriter.specs.declared.control.Control.TheVariants.{Goaway}
+use Rattle.slots.specs.Orders.{begun, greatest}
+use Rattle.slots.proofs.ReadingSteps.{decides-begun, goaway-order}
+use Rattle.slots.proofs.reading.Reading.end_at.Goals as goal
+
+pub returns-clause-ends : goal.returns-clause-ends
+returns-clause-ends g c = λ told step begins ends orders.
+    let count = c.count-first.ensures in
+    let counts = count.counts (begun told) begins.counts in
+    decides-begun told step c.args.id _ (Goaway (greatest (c.args.id ∷ begun told)) InternalError) c.args.self.now c.count-first.new.self count.slots count.heeds count.counts
+    (goaway-order c.goaway.result c.count-first.new.self.last (greatest (c.args.id ∷ begun told)) InternalError c.goaway.ensures.order counts.0.last) orders (sym ends) refl begins

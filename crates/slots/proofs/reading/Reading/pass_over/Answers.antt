@@ -1,0 +1,11 @@
+use Rattle.std.proofs.Common.{refl}
+use Rattle.session.specs.declared.event.InEvent.TheVariants as events
+use Rattle.slots.specs.Steps.{Stopped, Told, Unserved}
+use Rattle.slots.proofs.ReadingSteps.{begins-call, decides-passed}
+use Rattle.slots.proofs.reading.Reading.pass_over.Goals as goal
+
+pub returns : goal.returns
+returns g c = λ head named told reads.
+    let count = c.count-first.ensures in
+    decides-passed told (Told (events.Open c.args.id head) (Unserved Stopped)) c.args.id _ _ _ count.slots count.heeds count.counts c.nothing.ensures.1 refl c.nothing.ensures.3 c.nothing.ensures.2
+    (begins-call told _ c.args.id c.args.self.now _ refl refl refl refl (c.pass_over.ensures.heard head Stopped named) reads)
