@@ -68,7 +68,8 @@ impl SerialCall {
     /// One event more.
     fn step(&mut self, event: &CallEvent) -> Result<(), AllocError>
         requires { IsConsistent self.old }
-        ensures account { OnOk result (account_of self.new ≡ after (account_of self.old) event.now) }
+        ensures account { OnOk result
+            (account_of self.new ≡ after (account_of self.old) event.now) }
         ensures consistent { OnOk result (IsConsistent self.new) }
     {
         match event {
@@ -85,7 +86,8 @@ impl SerialCall {
 
     fn feed(&mut self, bytes: &Bytes) -> Result<(), AllocError>
         requires { IsConsistent self.old }
-        ensures account { OnOk result (account_of self.new ≡ after (account_of self.old) (event.Feed bytes.now)) }
+        ensures account { OnOk result
+            (account_of self.new ≡ after (account_of self.old) (event.Feed bytes.now)) }
         ensures consistent { OnOk result (IsConsistent self.new) }
     {
         if self.shut.is_some() {
@@ -110,7 +112,8 @@ impl SerialCall {
 
     fn take(&mut self) -> Result<(), AllocError>
         requires { IsConsistent self.old }
-        ensures account { OnOk result (account_of self.new ≡ after (account_of self.old) event.Take) }
+        ensures account { OnOk result
+            (account_of self.new ≡ after (account_of self.old) event.Take) }
         ensures consistent { OnOk result (IsConsistent self.new) }
     {
         if self.told.is_some() {
@@ -133,7 +136,8 @@ impl SerialCall {
 
     fn give(&mut self, item: &OutItem) -> Result<(), AllocError>
         requires { IsConsistent self.old }
-        ensures account { OnOk result (account_of self.new ≡ after (account_of self.old) (event.Give item.now)) }
+        ensures account { OnOk result
+            (account_of self.new ≡ after (account_of self.old) (event.Give item.now)) }
         ensures consistent { OnOk result (IsConsistent self.new) }
     {
         if may_follow(self.given.last(), item) {
@@ -144,7 +148,8 @@ impl SerialCall {
 
     fn send(&mut self) -> Result<(), AllocError>
         requires { IsConsistent self.old }
-        ensures account { OnOk result (account_of self.new ≡ after (account_of self.old) event.Send) }
+        ensures account { OnOk result
+            (account_of self.new ≡ after (account_of self.old) event.Send) }
         ensures consistent { OnOk result (IsConsistent self.new) }
     {
         if let Some(item) = self.given.get(self.sent.len()) {

@@ -24,7 +24,8 @@ pub fn bin_value(alloc: Global, value: &[u8]) -> Result<String, AllocError>
 /// The values that a `-bin` field carries: base64, padded or not, with commas between several. An empty part is the
 /// empty value. There is no answer where a part is no base64, is padded by half, or has bits left over that aren't 0.
 pub fn read_bin_values(alloc: Global, text: &[u8]) -> Result<Option<Values>, AllocError>
-    ensures { (values : List (List ℕ)) → IfOk result (λ found. (found ≡ Some values) ↔ IsBinValues text.now values) }
+    ensures { (values : List (List ℕ))
+        → IfOk result (λ found. (found ≡ Some values) ↔ IsBinValues text.now values) }
 {
     let mut values = Vec::new(alloc);
     let mut rest = text;
@@ -46,7 +47,8 @@ pub fn read_bin_values(alloc: Global, text: &[u8]) -> Result<Option<Values>, All
 fn first_comma(text: &[u8]) -> Option<usize>
     ensures none { IfNone result (IsWithout 0x2C text.now) }
     ensures without { IfSome result (λ at. IsWithout 0x2C (take at text.now)) }
-    ensures there { IfSome result (λ at. text.now ≡ take at text.now ++ 0x2C ∷ drop (at + 1) text.now) }
+    ensures there { IfSome result
+        (λ at. text.now ≡ take at text.now ++ 0x2C ∷ drop (at + 1) text.now) }
     ensures within { IfSome result (λ at. at < length text.now) }
     ensures fits { IfSome result (λ at. at + 1 < 2 ^ 64) }
 {
@@ -85,8 +87,12 @@ fn is_padded(part: &[u8]) -> bool
 /// What an engine decodes a part to.
 fn decode(alloc: Global, engine: &GeneralPurpose, part: &[u8]) -> Result<Option<Octets>, AllocError>
     requires strict { IsStrict engine.now }
-    ensures none { IfOk result (λ found. IfNone found ((value : List ℕ) → AreBytes value → part.now ≡ encode_of engine.now value → ⊥)) }
-    ensures some { IfOk result (λ found. IfSome found (λ value. AreBytes value × (part.now ≡ encode_of engine.now value))) }
+    ensures none { IfOk result
+        (λ found. IfNone found
+        ((value : List ℕ) → AreBytes value → part.now ≡ encode_of engine.now value → ⊥)) }
+    ensures some { IfOk result
+        (λ found. IfSome found
+        (λ value. AreBytes value × (part.now ≡ encode_of engine.now value))) }
 {
     match engine.decode(alloc, part) {
         Ok(bytes) => Ok(Some(Octets::from(bytes))),

@@ -45,7 +45,8 @@ pub fn push_known(
     name: &[u8],
     value: &[u8],
 ) -> Result<(), AllocError>
-    ensures { OnOk result (fields.new.items ≡ fields.old.items ++ field_of name.now value.now ∷ []) }
+    ensures { OnOk result
+        (fields.new.items ≡ fields.old.items ++ field_of name.now value.now ∷ []) }
 {
     fields.push(field(alloc, name, Vec::from_slice(alloc, value)?)?)?;
     Ok(())

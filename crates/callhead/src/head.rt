@@ -50,8 +50,10 @@ impl CallHead {
     /// The head of a call, or the first fault that stands. Only a head takes memory.
     pub fn read(alloc: Global, fields: &[Field]) -> Result<CallHead, HeadFault>
         ensures ok { IfOk result (λ head. IsHead fields.now head) }
-        ensures only { (head : CallHead) → IsHead fields.now head → (result ≡ Ok head) ⊎ (result ≡ Err OutOfMemory) }
-        ensures err { IfErr result (λ fault. IsFirstFault fields.now fault ⊎ (fault ≡ OutOfMemory)) }
+        ensures only { (head : CallHead) → IsHead fields.now head → (result ≡ Ok head)
+            ⊎ (result ≡ Err OutOfMemory) }
+        ensures err { IfErr result
+            (λ fault. IsFirstFault fields.now fault ⊎ (fault ≡ OutOfMemory)) }
         ensures first { (fault : HeadFault) → IsFirstFault fields.now fault → result ≡ Err fault }
     {
         let timeout = lawful_timeout(fields)?;
@@ -149,7 +151,8 @@ fn is_printable(value: &[u8]) -> bool
 }
 
 fn trailing_echoes(alloc: Global, fields: &[Field]) -> Result<Values, AllocError>
-    ensures { (values : List (List ℕ)) → IfOk result (λ echoes. (echoes ≡ values) ↔ AreTrailingEchoes fields.now values) }
+    ensures { (values : List (List ℕ))
+        → IfOk result (λ echoes. (echoes ≡ values) ↔ AreTrailingEchoes fields.now values) }
 {
     let mut echoes = Vec::new(alloc);
     for field in fields {
@@ -163,7 +166,8 @@ fn trailing_echoes(alloc: Global, fields: &[Field]) -> Result<Values, AllocError
 
 /// The values that go back for one field: those that it carries, and none where it carries none.
 fn echoes_of(alloc: Global, text: &[u8]) -> Result<Vec<Octets>, AllocError>
-    ensures { (values : List (List ℕ)) → IfOk result (λ echoes. (echoes.items ≡ values) ↔ AreEchoesOf text.now values) }
+    ensures { (values : List (List ℕ))
+        → IfOk result (λ echoes. (echoes.items ≡ values) ↔ AreEchoesOf text.now values) }
 {
     match read_bin_values(alloc, text)? {
         Some(values) => Ok(values.into_vec()),

@@ -19,5 +19,6 @@ pub fn one_answer()
 /// Each list of fields is a head of a call, or has a first fault.
 pub fn some_answer()
     ensures { (fields : List Field) →
-        ((head : CallHead) × IsHead fields head) ⊎ ((fault : HeadFault) × IsFirstFault fields fault) }
+        ((head : CallHead) × IsHead fields head)
+        ⊎ ((fault : HeadFault) × IsFirstFault fields fault) }
 {}

@@ -26,8 +26,13 @@ pub fn request_fields(
     requires path { IsPathText path.now }
     requires timeout { IsTimeoutText (option_copied timeout) }
     requires initial { All (λ value. IsTrue (is_text_value value.now)) initial.now }
-    ensures fields { IfOk result (λ fields. fields.items ≡ request_fields path.now (option_copied timeout.entry) (map (λ value. value.now) initial.now) (map (λ value. value.now) trailing.now)) }
-    ensures head { (head : CallHead) → AsksFor path.now (option_copied timeout.entry) (map (λ value. value.now) initial.now) (map (λ value. value.now) trailing.now) head
+    ensures fields { IfOk result
+        (λ fields. fields.items
+        ≡ request_fields path.now (option_copied timeout.entry)
+        (map (λ value. value.now) initial.now) (map (λ value. value.now) trailing.now)) }
+    ensures head { (head : CallHead)
+        → AsksFor path.now (option_copied timeout.entry) (map (λ value. value.now) initial.now)
+        (map (λ value. value.now) trailing.now) head
         → IfOk result (λ fields. IsHead fields.items head) }
 {
     let mut fields = opening_fields(alloc, path)?;
@@ -56,7 +61,8 @@ fn push_timeout(
     fields: &mut Vec<Field>,
     timeout: Option<&str>,
 ) -> Result<(), AllocError>
-    ensures { OnOk result (fields.new.items ≡ fields.old.items ++ timeout_fields (option_copied timeout.entry)) }
+    ensures { OnOk result
+        (fields.new.items ≡ fields.old.items ++ timeout_fields (option_copied timeout.entry)) }
 {
     if let Some(text) = timeout {
         push_known(alloc, fields, b"grpc-timeout", text.as_bytes())?;
@@ -65,7 +71,10 @@ fn push_timeout(
 }
 
 fn push_initial(alloc: Global, fields: &mut Vec<Field>, values: &[&str]) -> Result<(), AllocError>
-    ensures { OnOk result (fields.new.items ≡ fields.old.items ++ map (field_of (codes "x-grpc-test-echo-initial")) (map (λ value. value.now) values.now)) }
+    ensures { OnOk result
+        (fields.new.items ≡ fields.old.items
+        ++ map (field_of (codes "x-grpc-test-echo-initial"))
+        (map (λ value. value.now) values.now)) }
 {
     for value in values {
         push_known(alloc, fields, ECHO_INITIAL, value.as_bytes())?;
@@ -74,7 +83,10 @@ fn push_initial(alloc: Global, fields: &mut Vec<Field>, values: &[&str]) -> Resu
 }
 
 fn push_trailing(alloc: Global, fields: &mut Vec<Field>, values: &[&[u8]]) -> Result<(), AllocError>
-    ensures fields { OnOk result (fields.new.items ≡ fields.old.items ++ map (λ value. field_of (codes "x-grpc-test-echo-trailing-bin") (unpadded value)) (map (λ value. value.now) values.now)) }
+    ensures fields { OnOk result
+        (fields.new.items ≡ fields.old.items
+        ++ map (λ value. field_of (codes "x-grpc-test-echo-trailing-bin") (unpadded value))
+        (map (λ value. value.now) values.now)) }
     ensures bytes { OnOk result (All (λ value. AreBytes value.now) values.now) }
 {
     for value in values {

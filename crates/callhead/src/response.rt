@@ -65,7 +65,9 @@ impl HeadFault {
     /// The fields of the block that answers what is no head of a call. A malformed request is answered by none (its
     /// stream is reset), and that memory ran out isn't the client's fault.
     pub fn refusal(self, alloc: Global) -> Result<Option<Vec<Field>>, AllocError>
-        ensures { IfOk result (λ found. MatchOption found (refusal_of self ≡ None) (λ fields. refusal_of self ≡ Some fields.items)) }
+        ensures { IfOk result
+            (λ found. MatchOption found (refusal_of self ≡ None)
+            (λ fields. refusal_of self ≡ Some fields.items)) }
     {
         match self {
             HeadFault::Malformed | HeadFault::OutOfMemory => Ok(None),

@@ -14,8 +14,12 @@ const MAX_CODE: u32 = 16;
 /// The status that fields tell: its number and its text. There is none where the first `grpc-status` is missing or is
 /// no decimal number of 0 to 16. A missing text is the empty one.
 pub fn read_status(alloc: Global, fields: &[Field]) -> Result<Option<(u32, String)>, AllocError>
-    ensures some { IfOk result (λ found. IfSome found (λ status. TellsStatus fields.now status.0 (string_bytes status.1))) }
-    ensures none { IfOk result (λ found. IfNone found ((code : ℕ) (text : List ℕ) → TellsStatus fields.now code text → ⊥)) }
+    ensures some { IfOk result
+        (λ found. IfSome found
+        (λ status. TellsStatus fields.now status.0 (string_bytes status.1))) }
+    ensures none { IfOk result
+        (λ found. IfNone found
+        ((code : ℕ) (text : List ℕ) → TellsStatus fields.now code text → ⊥)) }
 {
     let Some(number) = first_value(fields, b"grpc-status") else {
         return Ok(None);

@@ -109,7 +109,8 @@ impl Credit {
     /// Counts bytes of DATA that came on a stream, which are taken at once. Those of a stream that the client has reset
     /// count on the connection alone.
     pub fn receive(&mut self, stream: StreamId, length: u32) -> Result<(), WindowViolation>
-        ensures stream { OnOk result (IsSome (call_at self.old.book stream) → length ≤ window_of self.old.book stream) }
+        ensures stream { OnOk result
+            (IsSome (call_at self.old.book stream) → length ≤ window_of self.old.book stream) }
         ensures connection { OnOk result (length ≤ window_of self.old.book 0) }
         ensures err { IfErr result IsPast }
     {

@@ -85,7 +85,8 @@ pub fn print_line<W: ConnWrite>(
     answer: Result<(), CaseFault>,
     output: &mut W,
 ) -> Result<(), ReportFault>
-    ensures line { OnOk result (Appends (W.contents output.old) (W.contents output.new) (line_of name.now answer)) }
+    ensures line { OnOk result
+        (Appends (W.contents output.old) (W.contents output.new) (line_of name.now answer)) }
     ensures write_failed { IsErrOf result WriteFailed → W.failed output.new ≡ true }
 {
     let mut text = Vec::new(alloc);
@@ -102,9 +103,11 @@ pub fn run_all<F: FnMut(Case) -> Result<(), CaseFault>, W: ConnWrite>(
     output: &mut W,
 ) -> Result<Vec<Outcome>, ReportFault>
     requires { F.IsAlwaysCallable run }
-    ensures order { IfOk result (λ outcomes. map (λ outcome. outcome.case) outcomes.items ≡ all_cases) }
+    ensures order { IfOk result
+        (λ outcomes. map (λ outcome. outcome.case) outcomes.items ≡ all_cases) }
     ensures ran { IfOk result (λ outcomes. (last : F)
-        × FoldsTo (λ before outcome after. F.step before outcome.case outcome.answer after) run outcomes.items last) }
+        × FoldsTo (λ before outcome after. F.step before outcome.case outcome.answer after) run
+        outcomes.items last) }
     ensures lines { IfOk result (λ outcomes.
         Appends (W.contents output.old) (W.contents output.new) (lines_of outcomes.items)) }
     ensures write_failed { IsErrOf result WriteFailed → W.failed output.new ≡ true }

@@ -81,7 +81,8 @@ impl<A: Ledger, B: Ledger, C: Ledger> ConnBook<A, B, C> {
     /// true of each book.
     pub fn last(&self) -> StreamId
         ensures last { result ≡ self.now.book.last }
-        ensures kept { IsKept self.now.book self.now.stopped self.now.received.total self.now.admitted.total self.now.announced.total }
+        ensures kept { IsKept self.now.book self.now.stopped self.now.received.total
+            self.now.admitted.total self.now.announced.total }
     {
         self.book.last()
     }
@@ -109,7 +110,8 @@ impl<A: Ledger, B: Ledger, C: Ledger> ConnBook<A, B, C> {
         requires whole { mine.old.parts ≡ B.parts }
         requires some { 0 < mine.old.parts }
         ensures cause { Admits self.old.book id result }
-        ensures book { OnOk result (self.new.book ≡ after_admission self.old.stopped self.old.book id) }
+        ensures book { OnOk result
+            (self.new.book ≡ after_admission self.old.stopped self.old.book id) }
         ensures unchanged { OnErr result (self.new.book ≡ self.old.book) }
         ensures counted { OnOk result (mine.new.amount ≡ mine.old.amount + 1) }
         ensures uncounted { OnErr result (mine.new.amount ≡ mine.old.amount) }
@@ -247,9 +249,12 @@ impl<A: Ledger, B: Ledger, C: Ledger> ConnBook<A, B, C> {
         requires calls { calls.old.parts ≡ B.parts }
         requires told { told.old.parts ≡ C.parts }
         ensures within { told.new.amount ≤ came.new.amount }
-        ensures came { (came.new.amount ≡ came.old.amount) × (self.new.book.connection.received ≡ came.new.amount) }
-        ensures told { (told.new.amount ≡ told.old.amount) × (self.new.book.connection.announced ≡ told.new.amount) }
-        ensures calls { (calls.new.amount ≡ calls.old.amount) × (length self.new.book.calls ≤ calls.new.amount) }
+        ensures came { (came.new.amount ≡ came.old.amount)
+            × (self.new.book.connection.received ≡ came.new.amount) }
+        ensures told { (told.new.amount ≡ told.old.amount)
+            × (self.new.book.connection.announced ≡ told.new.amount) }
+        ensures calls { (calls.new.amount ≡ calls.old.amount)
+            × (length self.new.book.calls ≤ calls.new.amount) }
         ensures book { self.new.book ≡ self.old.book }
         ensures stopped { self.new.stopped ≡ self.old.stopped }
     {

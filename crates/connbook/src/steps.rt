@@ -35,7 +35,8 @@ pub(crate) fn count(book: &mut Book, id: StreamId, flow: u32, padding: u32, rece
     requires receipt { receipt ≡ receipt_of book.old id flow }
     requires padding { padding ≤ flow }
     ensures value { book.new ≡ after_receipt book.old id flow padding receipt }
-    ensures received { book.new.connection.received ≡ book.old.connection.received + counted_of flow receipt }
+    ensures received { book.new.connection.received
+        ≡ book.old.connection.received + counted_of flow receipt }
     ensures announced { book.new.connection.announced ≡ book.old.connection.announced }
     ensures live { length book.new.calls ≡ length book.old.calls }
     ensures law { IsLawful book.new }
@@ -84,7 +85,8 @@ fn count_live(book: &mut Book, id: StreamId, n: u32)
 /// Returns bytes of a live call that hasn't returned so many.
 fn return_padding(book: &mut Book, id: StreamId, n: u32)
     requires law { IsLawful book.old }
-    requires live { MatchOption (call_at book.old id) ⊥ (λ call. call.counts.returned + n ≤ call.counts.received) }
+    requires live { MatchOption (call_at book.old id) ⊥
+        (λ call. call.counts.returned + n ≤ call.counts.received) }
     ensures value { book.new ≡ after_give_back book.old id n }
     ensures live { length book.new.calls ≡ length book.old.calls }
     ensures law { IsLawful book.new }
@@ -124,7 +126,8 @@ pub(crate) fn announce(book: &mut Book, id: StreamId) -> u32
     requires { IsLawful book.old }
     ensures increment { result ≡ credit_of book.old id }
     ensures value { book.new ≡ after_credit book.old id }
-    ensures announced { book.new.connection.announced ≡ book.old.connection.announced + (if nat_eq id 0 then result else 0) }
+    ensures announced { book.new.connection.announced
+        ≡ book.old.connection.announced + (if nat_eq id 0 then result else 0) }
     ensures received { book.new.connection.received ≡ book.old.connection.received }
     ensures live { length book.new.calls ≡ length book.old.calls }
     ensures law { IsLawful book.new }

@@ -94,9 +94,21 @@ impl Model for Book {
 
     ghost Value = { Books };
 
-    ghost view = { λ b. record { connection = b.connection; calls = b.calls.entries; last = b.last; closing = b.closing } };
+    ghost view = { λ b. record {
+      connection = b.connection;
+      calls = b.calls.entries;
+      last = b.last;
+      closing = b.closing;
+    } };
 
-    ghost invariant = { λ b. IsLawful (record { connection = b.connection; calls = b.calls.entries; last = b.last; closing = b.closing }) };
+    ghost invariant = { λ b. IsLawful
+        (record {
+          connection = b.connection;
+          calls = b.calls.entries;
+          last = b.last;
+          closing =
+              b.closing;
+        }) };
 }
 
 impl Book {
@@ -196,7 +208,8 @@ impl Book {
         ensures ok { OnOk result (self.new ≡ after_admit self.old id) }
         ensures unchanged { OnErr result (self.new ≡ self.old) }
         ensures fault { MeetsOrMemory (AdmitCause self.old) result }
-        ensures moves { OnOk result (Moves (record (no_change self.old) { admitted = 1; last = id }) self.old self.new) }
+        ensures moves { OnOk result
+            (Moves (record (no_change self.old) { admitted = 1; last = id }) self.old self.new) }
         ensures law { IsLawful self.new }
     {
         if self.closing {
@@ -216,7 +229,8 @@ impl Book {
         ensures ok { OnOk result (self.new ≡ after_receive self.old id n) }
         ensures unchanged { OnErr result (self.new ≡ self.old) }
         ensures fault { Meets (ReceiveCause self.old id n) result }
-        ensures moves { OnOk result (Moves (record (no_change self.old) { received = n }) self.old self.new) }
+        ensures moves { OnOk result
+            (Moves (record (no_change self.old) { received = n }) self.old self.new) }
         ensures law { IsLawful self.new }
     {
         let more = u64::from(n);
@@ -275,7 +289,9 @@ impl Book {
     pub fn announce(&mut self, id: StreamId) -> u32
         ensures increment { result ≡ announcement self.old id }
         ensures announced { self.new ≡ after_announce self.old id }
-        ensures moves { Moves (record (no_change self.old) { announced = if nat_eq id 0 then result else 0 }) self.old self.new }
+        ensures moves { Moves
+            (record (no_change self.old) { announced = if nat_eq id 0 then result else 0 }) self.old
+            self.new }
         ensures law { IsLawful self.new }
     {
         if id == 0 {
@@ -299,7 +315,11 @@ impl Book {
         ensures ok { OnOk result (self.new ≡ after_end_remote self.old id) }
         ensures unchanged { OnErr result (self.new ≡ self.old) }
         ensures fault { Meets (EndCause self.old id) result }
-        ensures moves { OnOk result (Moves (record (no_change self.old) { over = if is_marked (λ marks. marks.local) self.old id then 1 else 0 }) self.old self.new) }
+        ensures moves { OnOk result
+            (Moves (record (no_change self.old) {
+              over = if is_marked (λ marks. marks.local)
+                  self.old id then 1 else 0;
+            }) self.old self.new) }
         ensures law { IsLawful self.new }
     {
         let Some(call) = self.calls.get_mut(&id) else {
@@ -318,7 +338,11 @@ impl Book {
         ensures ok { OnOk result (self.new ≡ after_end_local self.old id) }
         ensures unchanged { OnErr result (self.new ≡ self.old) }
         ensures fault { Meets (EndCause self.old id) result }
-        ensures moves { OnOk result (Moves (record (no_change self.old) { over = if is_marked (λ marks. marks.remote) self.old id then 1 else 0 }) self.old self.new) }
+        ensures moves { OnOk result
+            (Moves (record (no_change self.old) {
+              over = if is_marked (λ marks. marks.remote)
+                  self.old id then 1 else 0;
+            }) self.old self.new) }
         ensures law { IsLawful self.new }
     {
         let Some(call) = self.calls.get_mut(&id) else {
@@ -339,7 +363,8 @@ impl Book {
         ensures ok { OnOk result (self.new ≡ after_cut self.old id) }
         ensures unchanged { OnErr result (self.new ≡ self.old) }
         ensures fault { Meets (EndCause self.old id) result }
-        ensures moves { OnOk result (Moves (record (no_change self.old) { over = 1 }) self.old self.new) }
+        ensures moves { OnOk result
+            (Moves (record (no_change self.old) { over = 1 }) self.old self.new) }
         ensures law { IsLawful self.new }
     {
         let Some(call) = self.calls.shift_remove(&id) else {

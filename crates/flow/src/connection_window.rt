@@ -62,7 +62,8 @@ impl Model for ConnectionWindow {
 
     ghost view = { λ s. record { connection = s.connection; initial = s.initial } };
 
-    ghost invariant = { λ s. AreLawful (record { connection = s.connection; initial = s.initial }) };
+    ghost invariant = { λ s. AreLawful
+        (record { connection = s.connection; initial = s.initial }) };
 }
 
 impl ConnectionWindow {
@@ -81,7 +82,8 @@ impl ConnectionWindow {
 
     /// Adds the increment of a WINDOW_UPDATE to the connection's window.
     pub fn credit(&mut self, increment: u32) -> Result<(), WindowFault>
-        ensures ok { OnOk result (self.new ≡ record self.old { connection = self.old.connection + increment }) }
+        ensures ok { OnOk result
+            (self.new ≡ record self.old { connection = self.old.connection + increment }) }
         ensures fits { OnOk result (self.old.connection + increment ≤ MAX_WINDOW) }
         ensures unchanged { OnErr result (self.new ≡ self.old) }
         ensures over { OnErr result (MAX_WINDOW < self.old.connection + increment) }
@@ -100,7 +102,8 @@ impl ConnectionWindow {
         ensures ok { OnOk result (balance.new ≡ balance.old +ℤ pos increment) }
         ensures fits { OnOk result (Fits ((pos self.now.initial +ℤ balance.old) +ℤ pos increment)) }
         ensures unchanged { OnErr result (balance.new ≡ balance.old) }
-        ensures over { OnErr result (pos MAX_WINDOW <ℤ ((pos self.now.initial +ℤ balance.old) +ℤ pos increment)) }
+        ensures over { OnErr result
+            (pos MAX_WINDOW <ℤ ((pos self.now.initial +ℤ balance.old) +ℤ pos increment)) }
         ensures fault { IfErr result (λ fault. fault ≡ Overflow) }
     {
         let raised = balance.bytes + i64::from(increment);
@@ -134,9 +137,11 @@ impl ConnectionWindow {
 
     /// Takes as many bytes as may be sent now, and at most so many, out of both windows. It answers how many these are.
     pub fn spend_up_to(&mut self, balance: &mut Balance, most: u32) -> u32
-        ensures value { result ≡ min (lesser self.old.connection (pos self.old.initial +ℤ balance.old)) most }
+        ensures value { result
+            ≡ min (lesser self.old.connection (pos self.old.initial +ℤ balance.old)) most }
         ensures within { result ≤ self.old.connection }
-        ensures connection { self.new ≡ record self.old { connection = self.old.connection - result } }
+        ensures connection { self.new
+            ≡ record self.old { connection = self.old.connection - result } }
         ensures balance { balance.new ≡ balance.old -ℤ pos result }
         ensures law { AreLawful self.new }
     {

@@ -78,16 +78,25 @@ impl Halves {
     /// Judges a frame by what came before it. Only the HEADERS that open a stream take memory.
     pub fn on(&mut self, head: &FrameHead) -> Result<HalfVerdict, AllocError>
         requires { IsJudged head.now }
-        ensures verdict { IfOk result (λ answer. (history : List Event) → Stands history self.old → answer ≡ verdict history head.now) }
-        ensures follows { IfOk result (λ _. (history : List Event) → Stands history self.old → Stands (Received head.now ∷ history) self.new) }
+        ensures verdict { IfOk result
+            (λ answer. (history : List Event) → Stands history self.old → answer
+            ≡ verdict history head.now) }
+        ensures follows { IfOk result
+            (λ _. (history : List Event) → Stands history self.old
+            → Stands (Received head.now ∷ history) self.new) }
         ensures error { IfOk result (λ answer. is_error answer ≡ true → self.new ≡ self.old) }
-        ensures begun { IfOk result (λ answer. may_be_unbegun answer ≡ false → IsSome (half_of self.new head.now.stream)) }
+        ensures begun { IfOk result
+            (λ answer. may_be_unbegun answer ≡ false → IsSome (half_of self.new head.now.stream)) }
 
         // Of a stream that wasn't begun nothing is kept but where it is opened, and no more than 4,096 are ever kept.
-        ensures forgets { IfOk result (λ answer. half_of self.old head.now.stream ≡ None → (answer ≡ Open) ⊎ (self.new ≡ self.old)) }
+        ensures forgets { IfOk result
+            (λ answer. half_of self.old head.now.stream ≡ None → (answer ≡ Open)
+            ⊎ (self.new ≡ self.old)) }
         ensures few { length self.new.halves ≤ MAX_STREAMS }
         ensures unchanged { OnErr result (self.new ≡ self.old) }
-        ensures memory { OnErr result ((history : List Event) → Stands history self.old → IsTrue (begins (Received head.now) (begun history))) }
+        ensures memory { OnErr result
+            ((history : List Event) → Stands history self.old
+            → IsTrue (begins (Received head.now) (begun history))) }
     {
         if let Some(verdict) = judge_begun(&mut self.halves, head) {
             return Ok(verdict);
@@ -109,7 +118,8 @@ impl Halves {
     /// Marks a begun stream as reset by the server.
     pub fn cut(&mut self, id: StreamId)
         requires { IsSome (half_of self.old id) }
-        ensures follows { (history : List Event) → Stands history self.old → Stands (Cut id ∷ history) self.new }
+        ensures follows { (history : List Event) → Stands history self.old
+            → Stands (Cut id ∷ history) self.new }
         ensures few { length self.new.halves ≤ MAX_STREAMS }
     {
         if let Some(half) = self.halves.get_mut(&id) {
@@ -120,9 +130,12 @@ impl Halves {
 
 /// Judges a frame on a begun stream, and moves its half on. On another stream there is no verdict.
 fn judge_begun(halves: &mut IndexMap<StreamId, Half>, head: &FrameHead) -> Option<HalfVerdict>
-    ensures begun { MatchOption (lookup (nat_eq head.now.stream) halves.old.entries) (result ≡ None) (λ half. result ≡ Some (on_begun half head.now)) }
-    ensures half { MatchOption (lookup (nat_eq head.now.stream) halves.old.entries) (halves.new.entries ≡ halves.old.entries) (λ half. halves.new.entries
-        ≡ set_value (nat_eq head.now.stream) halves.old.entries (half_after half (Received head.now))) }
+    ensures begun { MatchOption (lookup (nat_eq head.now.stream) halves.old.entries) (result ≡ None)
+        (λ half. result ≡ Some (on_begun half head.now)) }
+    ensures half { MatchOption (lookup (nat_eq head.now.stream) halves.old.entries)
+        (halves.new.entries ≡ halves.old.entries) (λ half. halves.new.entries
+        ≡ set_value (nat_eq head.now.stream) halves.old.entries
+        (half_after half (Received head.now))) }
 {
     let half = halves.get_mut(&head.stream)?;
     let verdict = half.verdict(head);

@@ -73,7 +73,11 @@ impl Model for SendWindows {
 
     ghost Value = { Windows };
 
-    ghost view = { λ s. record { connection = s.shared.connection; initial = s.shared.initial; balances = s.balances.entries } };
+    ghost view = { λ s. record {
+      connection = s.shared.connection;
+      initial = s.shared.initial;
+      balances = s.balances.entries;
+    } };
 
     ghost invariant = { λ s. IsWithin s.shared.connection s.shared.initial s.balances.entries };
 }
@@ -98,7 +102,9 @@ impl SendWindows {
         requires stream { 0 < id }
         requires not_open { balance self.old id ≡ None }
         ensures ok { OnOk result (self.new ≡ opened self.old id) }
-        ensures follows { OnOk result ((history : List Step) → Follows history self.old → Follows (Opening id ∷ history) self.new) }
+        ensures follows { OnOk result
+            ((history : List Step) → Follows history self.old
+            → Follows (Opening id ∷ history) self.new) }
         ensures unchanged { OnErr result (self.new ≡ self.old) }
         ensures memory { IfErr result (λ fault. fault ≡ OutOfMemory) }
         ensures law { IsLawful self.new }
@@ -109,13 +115,20 @@ impl SendWindows {
 
     /// Adds the increment of a WINDOW_UPDATE to a stream's window, or to the connection's where the id is 0.
     pub fn credit(&mut self, id: StreamId, increment: u32) -> Result<(), WindowFault>
-        ensures connection { OnOk result (id ≡ 0 → self.new ≡ record self.old { connection = self.old.connection + increment }) }
-        ensures stream { OnOk result (0 < id → MatchOption (balance self.old id) ⊥ (λ b. self.new ≡ with_balance self.old id (b +ℤ pos increment))) }
+        ensures connection { OnOk result
+            (id ≡ 0 → self.new ≡ record self.old { connection = self.old.connection + increment }) }
+        ensures stream { OnOk result
+            (0 < id → MatchOption (balance self.old id) ⊥
+            (λ b. self.new ≡ with_balance self.old id (b +ℤ pos increment))) }
         ensures unchanged { OnErr result (self.new ≡ self.old) }
         ensures fault { Meets (CreditFault self.old id increment) result }
-        ensures follows { OnOk result ((history : List Step) → Follows history self.old → Follows (Credit id increment ∷ history) self.new) }
-        ensures can { OnOk result ((history : List Step) → Follows history self.old → CanCredit history id increment) }
-        ensures cannot { OnErr result ((history : List Step) → Follows history self.old → ¬ CanCredit history id increment) }
+        ensures follows { OnOk result
+            ((history : List Step) → Follows history self.old
+            → Follows (Credit id increment ∷ history) self.new) }
+        ensures can { OnOk result
+            ((history : List Step) → Follows history self.old → CanCredit history id increment) }
+        ensures cannot { OnErr result
+            ((history : List Step) → Follows history self.old → ¬ CanCredit history id increment) }
         ensures law { IsLawful self.new }
     {
         if id == 0 {
@@ -133,12 +146,16 @@ impl SendWindows {
     /// The connection's window stays. It takes time in the number of open streams.
     pub fn initial(&mut self, size: u32) -> Result<(), WindowFault>
         ensures ok { OnOk result (self.new ≡ record self.old { initial = size }) }
-        ensures follows { OnOk result ((history : List Step) → Follows history self.old → Follows (Resizing size ∷ history) self.new) }
+        ensures follows { OnOk result
+            ((history : List Step) → Follows history self.old
+            → Follows (Resizing size ∷ history) self.new) }
         ensures fits { OnOk result (FitsAt self.old size) }
-        ensures can { OnOk result ((history : List Step) → Follows history self.old → CanResize history size) }
+        ensures can { OnOk result
+            ((history : List Step) → Follows history self.old → CanResize history size) }
         ensures unchanged { OnErr result (self.new ≡ self.old) }
         ensures overflow { OnErr result (¬ FitsAt self.old size) }
-        ensures cannot { OnErr result ((history : List Step) → Follows history self.old → ¬ CanResize history size) }
+        ensures cannot { OnErr result
+            ((history : List Step) → Follows history self.old → ¬ CanResize history size) }
         ensures fault { IfErr result (λ fault. fault ≡ Overflow) }
         ensures law { IsLawful self.new }
     {
@@ -156,10 +173,15 @@ impl SendWindows {
     /// Takes bytes of DATA that are sent on a stream out of its window and the connection's.
     pub fn spend(&mut self, id: StreamId, len: u32) -> Result<(), WindowFault>
         ensures ok { OnOk result (MatchOption (balance self.old id) ⊥ (λ b. self.new
-            ≡ record (with_balance self.old id (b -ℤ pos len)) { connection = self.old.connection - len })) }
+            ≡ record (with_balance self.old id (b -ℤ pos len)) {
+              connection = self.old.connection -
+                  len;
+            })) }
         ensures unchanged { OnErr result (self.new ≡ self.old) }
         ensures fault { Meets (SpendFault self.old id len) result }
-        ensures follows { OnOk result ((history : List Step) → Follows history self.old → Follows (Spending id len ∷ history) self.new) }
+        ensures follows { OnOk result
+            ((history : List Step) → Follows history self.old
+            → Follows (Spending id len ∷ history) self.new) }
         ensures law { IsLawful self.new }
     {
         let Some(balance) = self.balances.get_mut(&id) else {
@@ -175,11 +197,16 @@ impl SendWindows {
     /// The same for as many bytes as may be sent now, and at most so many. It answers how many these are: 0 where `room` is 0.
     pub fn spend_up_to(&mut self, id: StreamId, most: u32) -> u32
         ensures value { result ≡ min (room self.old id) most }
-        ensures room { 0 < id → (history : List Step) → Follows history self.old → result ≡ min (room_after history id) most }
+        ensures room { 0 < id → (history : List Step) → Follows history self.old → result
+            ≡ min (room_after history id) most }
         ensures spent { MatchOption (balance self.old id) (self.new ≡ self.old) (λ b. self.new
-            ≡ record (with_balance self.old id (b -ℤ pos result)) { connection = self.old.connection - result }) }
+            ≡ record (with_balance self.old id (b -ℤ pos result)) {
+              connection =
+                  self.old.connection - result;
+            }) }
         ensures unchanged { result ≡ 0 → self.new ≡ self.old }
-        ensures follows { (history : List Step) → Follows history self.old → Follows (Spending id result ∷ history) self.new }
+        ensures follows { (history : List Step) → Follows history self.old
+            → Follows (Spending id result ∷ history) self.new }
         ensures law { IsLawful self.new }
     {
         let Some(balance) = self.balances.get_mut(&id) else {
@@ -192,7 +219,8 @@ impl SendWindows {
     /// the stream isn't open.
     pub fn room(&self, id: StreamId) -> u32
         ensures value { result ≡ room self.now id }
-        ensures follows { 0 < id → (history : List Step) → Follows history self.now → result ≡ room_after history id }
+        ensures follows { 0 < id → (history : List Step) → Follows history self.now → result
+            ≡ room_after history id }
     {
         match self.balances.get(&id).copied() {
             Some(balance) => self.shared.room(balance),
@@ -210,7 +238,8 @@ impl SendWindows {
     /// Closes a stream. One that isn't open is none to close, and nothing changes.
     pub fn close(&mut self, id: StreamId)
         ensures value { self.new ≡ closed self.old id }
-        ensures follows { (history : List Step) → Follows history self.old → Follows (Closing id ∷ history) self.new }
+        ensures follows { (history : List Step) → Follows history self.old
+            → Follows (Closing id ∷ history) self.new }
         ensures law { IsLawful self.new }
     {
         self.balances.shift_remove(&id);
@@ -219,7 +248,9 @@ impl SendWindows {
 
 /// Whether each stream's window with this initial size is at most 2^31 - 1 bytes.
 fn all_fit(balances: &IndexMap<StreamId, Balance>, size: u32) -> bool
-    ensures value { result ≡ list_all (λ balance. int_le (pos size +ℤ balance) (pos MAX_WINDOW)) (values_of balances.now.entries) }
+    ensures value { result
+        ≡ list_all (λ balance. int_le (pos size +ℤ balance) (pos MAX_WINDOW))
+        (values_of balances.now.entries) }
     ensures unique { IsUnique nat_eq balances.now }
 {
     // That no key stands twice is said by `len`.

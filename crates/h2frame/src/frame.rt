@@ -99,7 +99,8 @@ impl FrameHead {
         ensures fault { result ≡ head_fault self.now }
         ensures short { IfNone result (self.now.length ≤ 16384) }
         ensures room { IfNone result (overhead self.now ≤ self.now.length) }
-        ensures credit { IfNone result (self.now.kind ≡ FrameKind.WindowUpdate → self.now.length ≡ 4) }
+        ensures credit { IfNone result
+            (self.now.kind ≡ FrameKind.WindowUpdate → self.now.length ≡ 4) }
     {
         if self.length > MAX_PAYLOAD {
             return Some(FrameFault::TooLong);

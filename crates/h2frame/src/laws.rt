@@ -11,7 +11,8 @@ ghost use Rattle.h2frame.specs.Spelling.{spelled};
 pub fn one_reading()
     ensures one { (bytes : List ℕ) (entries others : List Entry)
         (end last : Option FrameFault) →
-        FrameList bytes entries end → FrameList bytes others last → (entries ≡ others) × (end ≡ last) }
+        FrameList bytes entries end → FrameList bytes others last → (entries ≡ others)
+        × (end ≡ last) }
     ensures some { (bytes : List ℕ) → All (λ byte. byte < 256) bytes →
         (entries : List Entry) × (end : Option FrameFault) × FrameList bytes entries end }
 {}
@@ -31,7 +32,8 @@ pub fn goes_on()
 /// Entries that follow one another are joined.
 pub fn joins()
     ensures joined { (bytes : List ℕ) (entries others : List Entry) (rest last : List ℕ) →
-        Joined bytes entries rest → Joined rest others last → Joined bytes (entries ++ others) last }
+        Joined bytes entries rest → Joined rest others last
+        → Joined bytes (entries ++ others) last }
     ensures longer { (bytes : List ℕ) (entries : List Entry) (rest piece : List ℕ) →
         Joined bytes entries rest → Joined (bytes ++ piece) entries (rest ++ piece) }
 

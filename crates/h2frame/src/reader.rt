@@ -176,7 +176,8 @@ fn cut(buffer: &mut BytesMut, span: &Span) -> Result<Bytes, AllocError>
     requires whole { 9 + span.now.head.length ≤ length buffer.old.items }
     ensures content { IfOk result
         (λ content. content ≡ take span.now.len (drop span.now.start buffer.old.items)) }
-    ensures rest { OnOk result (buffer.new.items ≡ drop (9 + span.now.head.length) buffer.old.items) }
+    ensures rest { OnOk result
+        (buffer.new.items ≡ drop (9 + span.now.head.length) buffer.old.items) }
     ensures err { OnErr result (buffer.new.items ≡ buffer.old.items) }
     ensures some { OnErr result (0 < span.now.len) }
 {

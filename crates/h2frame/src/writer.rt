@@ -26,7 +26,8 @@ pub fn write_frame(frame: &Frame, out: &mut Vec<u8>) -> Result<(), FrameFault>
 
     // A reader of those bytes has this frame.
     ensures read_back { OnOk result (Spells (spelled frame.now) (Whole frame.now)) }
-    ensures refused { (fault : FrameFault) → frame_fault frame.now ≡ Some fault → result ≡ Err fault }
+    ensures refused { (fault : FrameFault) → frame_fault frame.now ≡ Some fault → result
+        ≡ Err fault }
     ensures cause { IfErr result
         (λ fault. (fault ≡ FrameFault.OutOfMemory) ⊎ (frame_fault frame.now ≡ Some fault)) }
     ensures err { OnErr result (out.new.items ≡ out.old.items) }

@@ -87,7 +87,8 @@ fn answer_one(alloc: Global, message: &[u8]) -> Result<Step, MethodFault>
 /// Holds what one more request is answered, unless one before it ends the call. Where memory runs out, what is held is of
 /// no more use.
 fn hold_more(alloc: Global, held: &mut Step, message: &[u8]) -> Result<(), MethodFault>
-    ensures { OnOk result ((messages : List (List ℕ)) → AnswersFull OutputVerdict messages false held.old
+    ensures { OnOk result
+        ((messages : List (List ℕ)) → AnswersFull OutputVerdict messages false held.old
         → AnswersFull OutputVerdict (messages ++ message.now ∷ []) false held.new) }
 {
     if held.ends.is_none() {

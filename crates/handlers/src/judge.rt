@@ -36,7 +36,9 @@ pub(crate) fn read<'a, M: Message<'a>>(
 
 /// The verdict on a message without fields: nothing, or the status that ends the call.
 pub(crate) fn judge_empty(alloc: Global, bytes: &[u8]) -> Result<Result<(), Status>, MethodFault>
-    ensures { IfOk result (λ verdict. MatchResult verdict (λ _. EmptyVerdict bytes.now (Ok (EmptyReply ∷ []))) (λ status. EmptyVerdict bytes.now (Err status))) }
+    ensures { IfOk result
+        (λ verdict. MatchResult verdict (λ _. EmptyVerdict bytes.now (Ok (EmptyReply ∷ [])))
+        (λ status. EmptyVerdict bytes.now (Err status))) }
 {
     match read::<Empty>(alloc, bytes)? {
         Some(_) => Ok(Ok(())),
@@ -46,7 +48,9 @@ pub(crate) fn judge_empty(alloc: Global, bytes: &[u8]) -> Result<Result<(), Stat
 
 /// The verdict on a request for one payload: its length, or the status that ends the call.
 pub(crate) fn judge_unary(alloc: Global, bytes: &[u8]) -> Result<Result<u32, Status>, MethodFault>
-    ensures { IfOk result (λ verdict. MatchResult verdict (λ size. SimpleVerdict bytes.now (Ok (Zeros size ∷ []))) (λ status. SimpleVerdict bytes.now (Err status))) }
+    ensures { IfOk result
+        (λ verdict. MatchResult verdict (λ size. SimpleVerdict bytes.now (Ok (Zeros size ∷ [])))
+        (λ status. SimpleVerdict bytes.now (Err status))) }
 {
     match read::<SimpleRequest>(alloc, bytes)? {
         Some(request) => unary_verdict(alloc, &request),
@@ -56,7 +60,9 @@ pub(crate) fn judge_unary(alloc: Global, bytes: &[u8]) -> Result<Result<u32, Sta
 
 /// What a request for one payload asks for, the causes in their order.
 fn unary_verdict(alloc: Global, request: &SimpleRequest) -> Result<Result<u32, Status>, MethodFault>
-    ensures { IfOk result (λ verdict. MatchResult verdict (λ size. judge_simple request.now ≡ Ok (Zeros size ∷ [])) (λ status. judge_simple request.now ≡ Err status)) }
+    ensures { IfOk result
+        (λ verdict. MatchResult verdict (λ size. judge_simple request.now ≡ Ok (Zeros size ∷ []))
+        (λ status. judge_simple request.now ≡ Err status)) }
 {
     if is_true(&request.expect_compressed) {
         return Ok(Err(Refusal::NotCompressed.status()));
@@ -114,7 +120,8 @@ fn known_code(number: i32) -> StatusCode
 
 /// The length that is asked for, where it is answered.
 fn size_of(size: i32) -> Option<u32>
-    ensures out_of_range { MatchOption result (is_size size ≡ false) (λ length. is_size size ≡ true) }
+    ensures out_of_range { MatchOption result (is_size size ≡ false)
+        (λ length. is_size size ≡ true) }
     ensures size { MatchOption result (is_size size ≡ false) (λ length. zeros size ≡ Zeros length) }
 {
     if 0 <= size && size <= MAX_SIZE {
@@ -129,7 +136,9 @@ pub(crate) fn judge_output_call(
     alloc: Global,
     bytes: &[u8],
 ) -> Result<Result<Replies, Status>, MethodFault>
-    ensures { IfOk result (λ verdict. MatchResult verdict (λ replies. OutputVerdict bytes.now (Ok replies)) (λ status. OutputVerdict bytes.now (Err status))) }
+    ensures { IfOk result
+        (λ verdict. MatchResult verdict (λ replies. OutputVerdict bytes.now (Ok replies))
+        (λ status. OutputVerdict bytes.now (Err status))) }
 {
     match read::<StreamingOutputCallRequest>(alloc, bytes)? {
         Some(request) => output_verdict(alloc, &request),
@@ -142,7 +151,9 @@ fn output_verdict(
     alloc: Global,
     request: &StreamingOutputCallRequest,
 ) -> Result<Result<Replies, Status>, MethodFault>
-    ensures { IfOk result (λ verdict. MatchResult verdict (λ replies. judge_output request.now ≡ Ok replies) (λ status. judge_output request.now ≡ Err status)) }
+    ensures { IfOk result
+        (λ verdict. MatchResult verdict (λ replies. judge_output request.now ≡ Ok replies)
+        (λ status. judge_output request.now ≡ Err status)) }
 {
     if let Some(status) = asked_status(alloc, &request.response_status)? {
         return Ok(Err(status));
@@ -161,8 +172,12 @@ fn replies_to(
     alloc: Global,
     parameters: &[ResponseParameters],
 ) -> Result<Option<Replies>, MethodFault>
-    ensures out_of_range { IfOk result (λ found. MatchOption found (all_sizes parameters.now ≡ false) (λ replies. all_sizes parameters.now ≡ true)) }
-    ensures replies { IfOk result (λ found. MatchOption found (all_sizes parameters.now ≡ false) (λ replies. replies ≡ map zeros_of parameters.now)) }
+    ensures out_of_range { IfOk result
+        (λ found. MatchOption found (all_sizes parameters.now ≡ false)
+        (λ replies. all_sizes parameters.now ≡ true)) }
+    ensures replies { IfOk result
+        (λ found. MatchOption found (all_sizes parameters.now ≡ false)
+        (λ replies. replies ≡ map zeros_of parameters.now)) }
 {
     let mut replies = Replies::new(alloc);
     for asked in parameters {
@@ -179,7 +194,9 @@ pub(crate) fn judge_input_call(
     alloc: Global,
     bytes: &[u8],
 ) -> Result<Result<usize, Status>, MethodFault>
-    ensures { IfOk result (λ verdict. MatchResult verdict (λ length. InputVerdict bytes.now (Ok length)) (λ status. InputVerdict bytes.now (Err status))) }
+    ensures { IfOk result
+        (λ verdict. MatchResult verdict (λ length. InputVerdict bytes.now (Ok length))
+        (λ status. InputVerdict bytes.now (Err status))) }
 {
     match read::<StreamingInputCallRequest>(alloc, bytes)? {
         Some(request) => Ok(input_verdict(&request)),
@@ -189,7 +206,8 @@ pub(crate) fn judge_input_call(
 
 /// What a request whose body counts adds.
 fn input_verdict(request: &StreamingInputCallRequest) -> Result<usize, Status>
-    ensures { MatchResult result (λ length. judge_input request.now ≡ Ok length) (λ status. judge_input request.now ≡ Err status) }
+    ensures { MatchResult result (λ length. judge_input request.now ≡ Ok length)
+        (λ status. judge_input request.now ≡ Err status) }
 {
     if is_true(&request.expect_compressed) {
         return Err(Refusal::NotCompressed.status());

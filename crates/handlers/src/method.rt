@@ -55,17 +55,24 @@ pub trait Method: Send + Sync + Drop {
         state: &mut MethodState,
         message: &[u8],
     ) -> Result<Step, MethodFault>
-        ensures stands { IfOk result (λ step. (messages : List (List ℕ)) (given : Given) → stands self.now state.old messages given
+        ensures stands { IfOk result
+            (λ step. (messages : List (List ℕ)) (given : Given)
+            → stands self.now state.old messages given
             → stands self.now state.new (messages ++ message.now ∷ []) (joined given step)) }
-        ensures answers { IfOk result (λ step. (messages : List (List ℕ)) (given : Given) → stands self.now state.old messages given
+        ensures answers { IfOk result
+            (λ step. (messages : List (List ℕ)) (given : Given)
+            → stands self.now state.old messages given
             → answers self.now (messages ++ message.now ∷ []) false (joined given step)) }
         // A status is given once, and nothing behind it.
         ensures ends { IfOk result (λ step. IsSome step.ends → state.new ≡ Ended) }
-        ensures ended { IfOk result (λ step. state.old ≡ Ended → (step ≡ nothing) × (state.new ≡ Ended)) };
+        ensures ended { IfOk result
+            (λ step. state.old ≡ Ended → (step ≡ nothing) × (state.new ≡ Ended)) };
 
     /// Is told that no message follows.
     fn end(&self, alloc: Global, state: &mut MethodState) -> Result<Step, MethodFault>
-        ensures answers { IfOk result (λ step. (messages : List (List ℕ)) (given : Given) → stands self.now state.old messages given
+        ensures answers { IfOk result
+            (λ step. (messages : List (List ℕ)) (given : Given)
+            → stands self.now state.old messages given
             → answers self.now messages true (joined given step)) }
         // The call has its status now.
         ensures ends { OnOk result (state.new ≡ Ended) }

@@ -33,9 +33,13 @@ impl Methods {
     /// The least index of a method with that path, and none only where no method has it.
     pub fn find(&self, path: &[u8]) -> Option<usize>
         ensures within { IfSome result (λ index. index < length (listed self.now)) }
-        ensures found { IfSome result (λ index. HoldsAt (λ method. name method ≡ path.now) (listed self.now) index) }
-        ensures least { IfSome result (λ index. AllWithin (λ method. name method ≢ path.now) (listed self.now) 0 index) }
-        ensures none { IfNone result (AllWithin (λ method. name method ≢ path.now) (listed self.now) 0 (length (listed self.now))) }
+        ensures found { IfSome result
+            (λ index. HoldsAt (λ method. name method ≡ path.now) (listed self.now) index) }
+        ensures least { IfSome result
+            (λ index. AllWithin (λ method. name method ≢ path.now) (listed self.now) 0 index) }
+        ensures none { IfNone result
+            (AllWithin (λ method. name method ≢ path.now) (listed self.now) 0
+            (length (listed self.now))) }
     {
         for (index, method) in self.items.iter().enumerate() {
             if method.path().as_bytes() == path {
@@ -55,9 +59,12 @@ impl Methods {
     /// The state of a call of the method at this index, without a message yet.
     pub fn first(&self, index: usize) -> MethodState
         requires { index < length (listed self.now) }
-        ensures stands { IfSome (slice_get (listed self.now) index) (λ method. stands method result [] nothing) }
-        ensures answers { IfSome (slice_get (listed self.now) index) (λ method. answers method [] false nothing) }
-        ensures lawful { IfSome (slice_get (listed self.now) index) (λ method. IsLawful (answers method)) }
+        ensures stands { IfSome (slice_get (listed self.now) index)
+            (λ method. stands method result [] nothing) }
+        ensures answers { IfSome (slice_get (listed self.now) index)
+            (λ method. answers method [] false nothing) }
+        ensures lawful { IfSome (slice_get (listed self.now) index)
+            (λ method. IsLawful (answers method)) }
     {
         let method = &self.items[index];
         first_of(method)
@@ -72,12 +79,17 @@ impl Methods {
         message: &[u8],
     ) -> Result<Step, MethodFault>
         requires { index < length (listed self.now) }
-        ensures stands { IfSome (slice_get (listed self.now) index) (λ method. IfOk result (λ step. (messages : List (List ℕ)) (given : Given)
-            → stands method state.old messages given → stands method state.new (messages ++ message.now ∷ []) (joined given step))) }
-        ensures answers { IfSome (slice_get (listed self.now) index) (λ method. IfOk result (λ step. (messages : List (List ℕ)) (given : Given)
-            → stands method state.old messages given → answers method (messages ++ message.now ∷ []) false (joined given step))) }
+        ensures stands { IfSome (slice_get (listed self.now) index)
+            (λ method. IfOk result (λ step. (messages : List (List ℕ)) (given : Given)
+            → stands method state.old messages given
+            → stands method state.new (messages ++ message.now ∷ []) (joined given step))) }
+        ensures answers { IfSome (slice_get (listed self.now) index)
+            (λ method. IfOk result (λ step. (messages : List (List ℕ)) (given : Given)
+            → stands method state.old messages given
+            → answers method (messages ++ message.now ∷ []) false (joined given step))) }
         ensures ends { IfOk result (λ step. IsSome step.ends → state.new ≡ Ended) }
-        ensures ended { IfOk result (λ step. state.old ≡ Ended → (step ≡ nothing) × (state.new ≡ Ended)) }
+        ensures ended { IfOk result
+            (λ step. state.old ≡ Ended → (step ≡ nothing) × (state.new ≡ Ended)) }
     {
         let method = &self.items[index];
         message_of(method, alloc, state, message)
@@ -91,8 +103,10 @@ impl Methods {
         state: &mut MethodState,
     ) -> Result<Step, MethodFault>
         requires { index < length (listed self.now) }
-        ensures answers { IfSome (slice_get (listed self.now) index) (λ method. IfOk result (λ step. (messages : List (List ℕ)) (given : Given)
-            → stands method state.old messages given → answers method messages true (joined given step))) }
+        ensures answers { IfSome (slice_get (listed self.now) index)
+            (λ method. IfOk result (λ step. (messages : List (List ℕ)) (given : Given)
+            → stands method state.old messages given
+            → answers method messages true (joined given step))) }
         ensures ends { OnOk result (state.new ≡ Ended) }
         ensures ended { IfOk result (λ step. state.old ≡ Ended → step ≡ nothing) }
     {
@@ -120,11 +134,14 @@ fn message_of(
     message: &[u8],
 ) -> Result<Step, MethodFault>
     ensures stands { IfOk result (λ step. (messages : List (List ℕ)) (given : Given)
-        → stands method.now state.old messages given → stands method.now state.new (messages ++ message.now ∷ []) (joined given step)) }
+        → stands method.now state.old messages given
+        → stands method.now state.new (messages ++ message.now ∷ []) (joined given step)) }
     ensures answers { IfOk result (λ step. (messages : List (List ℕ)) (given : Given)
-        → stands method.now state.old messages given → answers method.now (messages ++ message.now ∷ []) false (joined given step)) }
+        → stands method.now state.old messages given
+        → answers method.now (messages ++ message.now ∷ []) false (joined given step)) }
     ensures ends { IfOk result (λ step. IsSome step.ends → state.new ≡ Ended) }
-    ensures ended { IfOk result (λ step. state.old ≡ Ended → (step ≡ nothing) × (state.new ≡ Ended)) }
+    ensures ended { IfOk result
+        (λ step. state.old ≡ Ended → (step ≡ nothing) × (state.new ≡ Ended)) }
 {
     method.message(alloc, state, message)
 }
@@ -135,7 +152,8 @@ fn end_of(
     state: &mut MethodState,
 ) -> Result<Step, MethodFault>
     ensures answers { IfOk result (λ step. (messages : List (List ℕ)) (given : Given)
-        → stands method.now state.old messages given → answers method.now messages true (joined given step)) }
+        → stands method.now state.old messages given
+        → answers method.now messages true (joined given step)) }
     ensures ends { OnOk result (state.new ≡ Ended) }
     ensures ended { IfOk result (λ step. state.old ≡ Ended → step ≡ nothing) }
 {

@@ -57,7 +57,8 @@ impl Reply {
     pub fn write(&self, out: &mut Vec<u8>) -> Result<(), AllocError>
         ensures ok { OnOk result (out.new.items ≡ out.old.items ++ reply_bytes self.now) }
         ensures err { OnErr result (out.new.items ≡ out.old.items) }
-        ensures full { OnErr result (vec_capacity out.old < vec_len out.old + length (reply_bytes self.now)) }
+        ensures full { OnErr result
+            (vec_capacity out.old < vec_len out.old + length (reply_bytes self.now)) }
     {
         out.reserve(self.len())?;
         match *self {
@@ -121,8 +122,10 @@ fn put_zeros(size: u32, out: &mut Vec<u8>)
 
 /// Appends a payload of that many zeros, for which there is room.
 fn put_body(size: u32, out: &mut Vec<u8>)
-    requires { vec_len out.old + length (spelling_of_all (payload_fields (zero_payload size))) ≤ vec_capacity out.old }
-    ensures items { out.new.items ≡ out.old.items ++ spelling_of_all (payload_fields (zero_payload size)) }
+    requires { vec_len out.old + length (spelling_of_all (payload_fields (zero_payload size)))
+        ≤ vec_capacity out.old }
+    ensures items { out.new.items ≡ out.old.items
+        ++ spelling_of_all (payload_fields (zero_payload size)) }
     ensures capacity { vec_capacity out.old ≤ vec_capacity out.new }
 {
     if size == 0 {

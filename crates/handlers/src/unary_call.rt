@@ -85,12 +85,15 @@ impl Method for CacheableUnaryCall {
 
 /// Judges the first request, and keeps the length that it asks for; a second one ends the call.
 fn take_request(alloc: Global, state: &mut MethodState, message: &[u8]) -> Result<Step, MethodFault>
-    ensures stands { IfOk result (λ step. (messages : List (List ℕ)) (given : Given) → StandsUnary state.old messages given
+    ensures stands { IfOk result
+        (λ step. (messages : List (List ℕ)) (given : Given) → StandsUnary state.old messages given
         → StandsUnary state.new (messages ++ message.now ∷ []) (joined given step)) }
-    ensures answers { IfOk result (λ step. (messages : List (List ℕ)) (given : Given) → StandsUnary state.old messages given
+    ensures answers { IfOk result
+        (λ step. (messages : List (List ℕ)) (given : Given) → StandsUnary state.old messages given
         → AnswersSingle SimpleVerdict (messages ++ message.now ∷ []) false (joined given step)) }
     ensures ends { IfOk result (λ step. IsSome step.ends → state.new ≡ Ended) }
-    ensures ended { IfOk result (λ step. state.old ≡ Ended → (step ≡ nothing) × (state.new ≡ Ended)) }
+    ensures ended { IfOk result
+        (λ step. state.old ≡ Ended → (step ≡ nothing) × (state.new ≡ Ended)) }
 {
     match state {
         MethodState::Fresh => match judge_unary(alloc, message)? {
@@ -109,7 +112,8 @@ fn take_request(alloc: Global, state: &mut MethodState, message: &[u8]) -> Resul
 
 /// Answers the request at the end; without one the number of messages is wrong.
 fn answer_request(alloc: Global, state: &mut MethodState) -> Result<Step, MethodFault>
-    ensures answers { IfOk result (λ step. (messages : List (List ℕ)) (given : Given) → StandsUnary state.old messages given
+    ensures answers { IfOk result
+        (λ step. (messages : List (List ℕ)) (given : Given) → StandsUnary state.old messages given
         → AnswersSingle SimpleVerdict messages true (joined given step)) }
     ensures ends { OnOk result (state.new ≡ Ended) }
     ensures ended { IfOk result (λ step. state.old ≡ Ended → step ≡ nothing) }

@@ -58,11 +58,14 @@ impl Decoder {
         ensures err { IfErr result (λ fault. IsFirstFault fault self.old block.now) }
 
         // What is in the block is read, unless memory runs out.
-        ensures only { (fields : List FieldOf) (kept : Option Table) → Reads self.old block.now fields kept
-            → MatchResult result (λ read. (read.items ≡ fields) × (self.new ≡ kept)) (λ fault. fault ≡ HpackFault.OutOfMemory) }
+        ensures only { (fields : List FieldOf) (kept : Option Table)
+            → Reads self.old block.now fields kept
+            → MatchResult result (λ read. (read.items ≡ fields) × (self.new ≡ kept))
+            (λ fault. fault ≡ HpackFault.OutOfMemory) }
 
         // The first fault of the block is answered, unless memory runs out.
-        ensures first { (fault : HpackFault) → fault ≢ HpackFault.OutOfMemory → IsFirstFault fault self.old block.now
+        ensures first { (fault : HpackFault) → fault ≢ HpackFault.OutOfMemory
+            → IsFirstFault fault self.old block.now
             → (result ≡ Err fault) ⊎ (result ≡ Err HpackFault.OutOfMemory) }
 
         // After any fault the decoder is dead.
@@ -190,7 +193,8 @@ fn indexed<'b>(
 ) -> Result<(Field, &'b [u8]), HpackFault>
     requires { flags_of 7 bytes.now ≡ 128 }
     ensures ok { IfOk result (λ taken. TakesIndexed table.now bytes.now taken.0 taken.1.now) }
-    ensures err { IfErr result (λ fault. OrMemory fault (IsIndexedFault fault table.now bytes.now)) }
+    ensures err { IfErr result
+        (λ fault. OrMemory fault (IsIndexedFault fault table.now bytes.now)) }
 {
     let (index, rest) = integer(INDEXED_PREFIX, bytes)?;
     let Some((name, value)) = table.get(index) else {
@@ -208,7 +212,8 @@ fn literal<'b>(
     bytes: &'b [u8],
 ) -> Result<(Field, &'b [u8]), HpackFault>
     requires { prefix_bits < 8 }
-    ensures ok { IfOk result (λ taken. TakesLiteral prefix_bits table.now bytes.now taken.0 taken.1.now) }
+    ensures ok { IfOk result
+        (λ taken. TakesLiteral prefix_bits table.now bytes.now taken.0 taken.1.now) }
     ensures err { IfErr result (λ fault. OrMemory fault
         (IsLiteralFault fault prefix_bits (flags_of prefix_bits bytes.now) table.now bytes.now)) }
 {
@@ -225,7 +230,8 @@ fn literal_name<'b>(
     bytes: &'b [u8],
 ) -> Result<(Octets, &'b [u8]), HpackFault>
     ensures ok { IfOk result (λ taken. TakesName table.now index bytes.now taken.0 taken.1.now) }
-    ensures err { IfErr result (λ fault. OrMemory fault (IsNameFault fault table.now index bytes.now)) }
+    ensures err { IfErr result
+        (λ fault. OrMemory fault (IsNameFault fault table.now index bytes.now)) }
 {
     if index == NEW_NAME {
         return string(alloc, bytes);

@@ -45,7 +45,8 @@ impl Model for Encoder {
 
     ghost view = { λ e. encoding_of e.table e.least };
 
-    ghost invariant = { λ e. IfSome e.table (λ table. (e.least ≤ table.limit) × (table.limit ≤ 4096)) };
+    ghost invariant = { λ e. IfSome e.table
+        (λ table. (e.least ≤ table.limit) × (table.limit ≤ 4096)) };
 }
 
 impl Encoder {
@@ -73,7 +74,8 @@ impl Encoder {
         ensures ok { IfOk result (λ block. Writes self.old fields.now block.items self.new) }
 
         // Only a name or a value of more than 4,294,967,295 bytes can't be written.
-        ensures too_large { IsErrOf result HpackFault.TooLarge ↔ (IsSome self.old × Any IsTooLong fields.now) }
+        ensures too_large { IsErrOf result HpackFault.TooLarge
+            ↔ (IsSome self.old × Any IsTooLong fields.now) }
         ensures dead { IsErrOf result HpackFault.Dead ↔ (self.old ≡ None) }
         ensures else_memory { IfErr result (λ fault. (fault ≡ HpackFault.TooLarge)
             ⊎ ((fault ≡ HpackFault.Dead) ⊎ (fault ≡ HpackFault.OutOfMemory))) }
@@ -119,7 +121,8 @@ fn most_bytes(fields: &[Field]) -> usize
 fn push_update(out: &mut Vec<u8>, table: &mut SearchTable, least: u32) -> Result<(), AllocError>
     requires lower { least ≤ table.old.limit }
     requires lawful { table.old.limit ≤ 4096 }
-    ensures text { OnOk result (Appends out.old.items out.new.items (λ text. Changes table.old text table.new)) }
+    ensures text { OnOk result
+        (Appends out.old.items out.new.items (λ text. Changes table.old text table.new)) }
     ensures limit { OnOk result (table.new.limit ≡ least) }
     ensures private { NonePrivate table.old → NonePrivate table.new }
 {
@@ -136,7 +139,9 @@ fn push_fields(
     fields: &[Field],
 ) -> Result<(), AllocError>
     requires { Any IsTooLong fields.now → ⊥ }
-    ensures text { OnOk result (Appends out.old.items out.new.items (λ text. AreFields table.old text fields.now table.new)) }
+    ensures text { OnOk result
+        (Appends out.old.items out.new.items
+        (λ text. AreFields table.old text fields.now table.new)) }
     ensures limit { OnOk result (table.new.limit ≡ table.old.limit) }
     ensures private { OnOk result (NonePrivate table.old → NonePrivate table.new) }
 {
@@ -149,7 +154,9 @@ fn push_fields(
 fn push_field(out: &mut Vec<u8>, table: &mut SearchTable, field: &Field) -> Result<(), AllocError>
     requires name { length field.now.name < 2 ^ 32 }
     requires value { length field.now.value < 2 ^ 32 }
-    ensures text { OnOk result (Appends out.old.items out.new.items (λ text. Represents table.old text field.now table.new)) }
+    ensures text { OnOk result
+        (Appends out.old.items out.new.items
+        (λ text. Represents table.old text field.now table.new)) }
     ensures limit { OnOk result (table.new.limit ≡ table.old.limit) }
     ensures private { OnOk result (NonePrivate table.old → NonePrivate table.new) }
 {
@@ -171,7 +178,9 @@ fn push_literal(
     requires name { length field.now.name < 2 ^ 32 }
     requires value { length field.now.value < 2 ^ 32 }
     requires index { IsNameAt table.old index field.now.name }
-    ensures text { OnOk result (Appends out.old.items out.new.items (λ text. Represents table.old text field.now table.new)) }
+    ensures text { OnOk result
+        (Appends out.old.items out.new.items
+        (λ text. Represents table.old text field.now table.new)) }
     ensures limit { OnOk result (table.new.limit ≡ table.old.limit) }
     ensures large { table.old.limit < size_of field.now → table.new ≡ table.old }
     ensures private { IsPrivate field.now.name → table.new ≡ table.old }
@@ -205,7 +214,8 @@ fn push_pair(
     requires name { length field.now.name < 2 ^ 32 }
     requires value { length field.now.value < 2 ^ 32 }
     ensures { (table : Table) → IsNameAt table index field.now.name
-        → OnOk result (Appends out.old.items out.new.items (λ text. IsLiteral prefix_bits flags table text field.now)) }
+        → OnOk result (Appends out.old.items out.new.items
+        (λ text. IsLiteral prefix_bits flags table text field.now)) }
 {
     push_integer(out, flags, prefix_bits, index)?;
     if index == NEW_NAME {

@@ -173,7 +173,8 @@ fn symbol_at(register: u64, count: u32) -> Option<(u8, u32)>
     requires { count < 64 }
     ensures octet { IfSome result (λ found. found.0 < 256) }
     ensures len { IfSome result (λ found. (found.1 ≤ count) × (code_length found.0 ≡ found.1)) }
-    ensures number { IfSome result (λ found. register / 2 ^ (count - found.1) ≡ code_number found.0) }
+    ensures number { IfSome result
+        (λ found. register / 2 ^ (count - found.1) ≡ code_number found.0) }
     ensures none { IfNone result ((symbol : ℕ) → symbol < 256 → code_length symbol ≤ count
         → register / 2 ^ (count - code_length symbol) ≡ code_number symbol → ⊥) }
 {
@@ -185,7 +186,8 @@ fn symbol_by(codes: &[Codes], symbols: &[u8], register: u64, count: u32) -> Opti
     requires count { count < 64 }
     ensures octet { IfSome result (λ found. found.0 < 256) }
     ensures len { IfSome result (λ found. (found.1 ≤ count) × (code_length found.0 ≡ found.1)) }
-    ensures number { IfSome result (λ found. register / 2 ^ (count - found.1) ≡ code_number found.0) }
+    ensures number { IfSome result
+        (λ found. register / 2 ^ (count - found.1) ≡ code_number found.0) }
     ensures none { IfNone result ((symbol : ℕ) → symbol < 256 → code_length symbol ≤ count
         → register / 2 ^ (count - code_length symbol) ≡ code_number symbol → ⊥) }
 {
@@ -206,7 +208,8 @@ fn symbol_by(codes: &[Codes], symbols: &[u8], register: u64, count: u32) -> Opti
 fn drain(octets: &mut Vec<u8>, mut register: u64, mut count: u32) -> Result<(u64, u32), AllocError>
     requires count { count < 64 }
     requires register { register < 2 ^ count }
-    ensures { IfOk result (λ left. Drains octets.old.items octets.new.items count register left.1 left.0) }
+    ensures { IfOk result
+        (λ left. Drains octets.old.items octets.new.items count register left.1 left.0) }
 {
     while let Some((symbol, len)) = symbol_at(register, count) {
         octets.push(symbol)?;

@@ -102,7 +102,8 @@ pub fn push_text(out: &mut Vec<u8>, octets: &[u8]) -> Result<(), AllocError>
 fn flush(out: &mut Vec<u8>, mut register: u64, mut count: u32) -> Result<(u64, u32), AllocError>
     requires count { count < 64 }
     requires register { register < 2 ^ count }
-    ensures { IfOk result (λ left. Flushes out.old.items out.new.items count register left.1 left.0) }
+    ensures { IfOk result
+        (λ left. Flushes out.old.items out.new.items count register left.1 left.0) }
 {
     while count >= 8 {
         count -= 8;

@@ -63,7 +63,8 @@ pub fn push_integer(
 ) -> Result<(), AllocError>
     requires prefix { prefix_bits < 8 }
     requires flags { flags + 2 ^ prefix_bits ≤ 256 }
-    ensures { OnOk result (Appends out.old.items out.new.items (λ text. IsInteger prefix_bits flags text number)) }
+    ensures { OnOk result
+        (Appends out.old.items out.new.items (λ text. IsInteger prefix_bits flags text number)) }
 {
     let most = (1u32 << prefix_bits) - 1;
     if number < most {

@@ -13,13 +13,16 @@ ghost use Rattle.hpack_codec.specs.Codec.{Reads, IsFirstFault};
 pub fn one_answer()
     // A block spells one list of fields over a table, and leads to one table, whatever its fields' sizes.
     ensures block { (table next other : Table) (block : List ℕ) (fields others : List Field)
-        → IsBlock table block fields next → IsBlock table block others other → (fields ≡ others) × (next ≡ other) }
+        → IsBlock table block fields next → IsBlock table block others other → (fields ≡ others)
+        × (next ≡ other) }
     ensures reading { (kept next other : Option Table) (block : List ℕ) (fields others : List Field)
-        → Reads kept block fields next → Reads kept block others other → (fields ≡ others) × (next ≡ other) }
+        → Reads kept block fields next → Reads kept block others other → (fields ≡ others)
+        × (next ≡ other) }
     ensures fault { (kept : Option Table) (block : List ℕ) (fault other : HpackFault)
         → fault ≢ OutOfMemory → other ≢ OutOfMemory
         → IsFirstFault fault kept block → IsFirstFault other kept block → fault ≡ other }
-    ensures never_both { (kept next : Option Table) (block : List ℕ) (fields : List Field) (fault : HpackFault)
+    ensures never_both { (kept next : Option Table) (block : List ℕ) (fields : List Field)
+        (fault : HpackFault)
         → fault ≢ OutOfMemory → Reads kept block fields next → IsFirstFault fault kept block → ⊥ }
 {}
 

@@ -86,7 +86,8 @@ pub fn static_entry(place: usize) -> Pair
 
 fn pair_at(pairs: &[Pair], place: usize) -> Pair
     requires { place < length pairs.now }
-    ensures { slice_get (map (λ pair. entry pair.0.now pair.1.now) pairs.now) place ≡ Some (entry result.0.now result.1.now) }
+    ensures { slice_get (map (λ pair. entry pair.0.now pair.1.now) pairs.now) place
+        ≡ Some (entry result.0.now result.1.now) }
 {
     pairs[place]
 }

@@ -40,7 +40,8 @@ pub(crate) fn set_at<T: Drop>(
 ) -> Result<Known<T>, Box<Option<T>>>
     requires at { at < vec_len cells.now }
     requires holds { holds_item (Some item.value) ≡ true }
-    ensures cell { IfOk result (λ known. cell_of known ≡ slice_index (names_of cells.now.items) at) }
+    ensures cell { IfOk result
+        (λ known. cell_of known ≡ slice_index (names_of cells.now.items) at) }
     ensures item { IfOk result (λ known. item_of known ≡ known_item (Some item.value)) }
     ensures handed_back { IfErr result (λ back. back.value ≡ item.value) }
 {

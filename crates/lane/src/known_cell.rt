@@ -16,7 +16,8 @@ impl<T: Drop> Known<T> {
 
     /// The same knowledge once more.
     pub(crate) fn again(&mut self) -> Known<T>
-        ensures unchanged { (cell_of self.new ≡ cell_of self.old) × (item_of self.new ≡ item_of self.old) }
+        ensures unchanged { (cell_of self.new ≡ cell_of self.old)
+            × (item_of self.new ≡ item_of self.old) }
         ensures same { (cell_of result ≡ cell_of self.old) × (item_of result ≡ item_of self.old) }
     {
         let note = self.note.again();

@@ -125,8 +125,10 @@ pub trait Lane {
         ensures past { past_in tx.new ≡ past_in tx.old }
         ensures seen { seen_taken tx.old ≤ seen_taken tx.new }
         ensures unchanged { put_in tx.new ≡ put_in tx.old }
-        ensures room { OnOk result (length (put_in tx.new) < room_of (in_name tx.new) + seen_taken tx.new) }
-        ensures full { IfErr result (λ waiting. (waiting + seen_taken tx.new ≡ length (put_in tx.new))
+        ensures room { OnOk result
+            (length (put_in tx.new) < room_of (in_name tx.new) + seen_taken tx.new) }
+        ensures full { IfErr result
+            (λ waiting. (waiting + seen_taken tx.new ≡ length (put_in tx.new))
             × (room_of (in_name tx.new) ≤ waiting)) };
 
     /// Puts the item behind all others, or hands it back.
@@ -158,7 +160,8 @@ pub trait Lane {
         // Once the item is looked at, the end is some `n` for which this holds.
         ensures* after { sem 𝓛
             (follows_so Self.Out.row Self.Out.row rx.entry.ghost_name none (λ _ _. ⊤)
-            (λ n. (out_name n ≡ out_name rx.old) × (past_out n ≡ past_out rx.old) × MatchOption result
+            (λ n. (out_name n ≡ out_name rx.old) × (past_out n ≡ past_out rx.old)
+            × MatchOption result
             ((got n ≡ got rx.old) × (ahead rx.old ≡ []) × (ahead n ≡ []))
             (λ r. (got n ≡ got rx.old ++ r.now ∷ [])
             × (0 < length (ahead rx.old) → ahead rx.old ≡ r.now ∷ ahead n)))) };
@@ -167,7 +170,8 @@ pub trait Lane {
     fn again(rx: &mut Self::Out) -> Option<&Self::Item>
         ensures* after { sem 𝓛
             (follows_so Self.Out.row Self.Out.row rx.entry.ghost_name none (λ _ _. ⊤)
-            (λ n. (out_name n ≡ out_name rx.old) × (past_out n ≡ past_out rx.old) × (got n ≡ got rx.old) × (ahead n ≡ ahead rx.old)
+            (λ n. (out_name n ≡ out_name rx.old) × (past_out n ≡ past_out rx.old)
+            × (got n ≡ got rx.old) × (ahead n ≡ ahead rx.old)
             × MatchOption result (got rx.old ≡ []) (λ r. last_of (got rx.old) ≡ Some r.now))) };
 
     /// Goes on to the next segment, where `last` put its item and all that was put is seen taken. It takes no memory.
@@ -178,7 +182,8 @@ pub trait Lane {
         ensures name { IfOk result (λ tx. in_name tx ≡ next_name (shut_name shut)) }
         ensures past { IfOk result (λ tx. past_in tx ≡ past_shut shut ++ put_shut shut ∷ []) }
         ensures empty { IfOk result (λ tx. (put_in tx ≡ []) × (seen_taken tx ≡ 0)) }
-        ensures err { IfErr result (λ s. (shut_name s ≡ shut_name shut) × (past_shut s ≡ past_shut shut)
+        ensures err { IfErr result
+            (λ s. (shut_name s ≡ shut_name shut) × (past_shut s ≡ past_shut shut)
             × (put_shut s ≡ put_shut shut) × (was_placed s ≡ was_placed shut)) };
 
     /// Goes on to the next segment, where the item of `last` was got of this one. It takes no memory.
@@ -192,7 +197,8 @@ pub trait Lane {
     fn settle_all(end: End<Self::In, Self::Shut>, rx: Self::Out)
         requires { ring_of (of_end in_name shut_name end) ≡ ring_of (out_name rx) }
         // A segment that the reader went on from was ended by the writer.
-        ensures ended { IsPrefix (past_out rx) (of_end past_in (λ s. past_shut s ++ put_shut s ∷ []) end) }
+        ensures ended { IsPrefix (past_out rx)
+            (of_end past_in (λ s. past_shut s ++ put_shut s ∷ []) end) }
         ensures follows { Follows (of_end past_in past_shut end ++ of_end put_in put_shut end ∷ [])
             (past_out rx) (got rx) };
 

@@ -67,7 +67,8 @@ impl<T> RingIn<T> {
         ensures put { put_in self.new ≡ put_in self.old }
         ensures seen { seen_taken self.old ≤ seen_taken self.new }
         ensures free { result ≡ true → HasRoom self.new }
-        ensures full { result ≡ false → length (put_in self.new) ≡ seen_taken self.new + slots_of (in_name self.new) }
+        ensures full { result ≡ false → length (put_in self.new)
+            ≡ seen_taken self.new + slots_of (in_name self.new) }
     {
         !self.producer.is_full()
     }
@@ -80,7 +81,8 @@ impl<T> RingIn<T> {
         ensures unchanged { OnErr result (put_in self.new ≡ put_in self.old) }
         ensures handed_back { IfErr result (λ e. item_of e ≡ item) }
         ensures full { IfErr result
-            (IsFull (slots_of (in_name self.old)) (length (put_in self.old)) (seen_taken self.new)) }
+            (IsFull (slots_of (in_name self.old)) (length (put_in self.old))
+            (seen_taken self.new)) }
         ensures succeeds { HasRoom self.old → IsOk result }
     {
         if self.producer.is_full() {

@@ -222,7 +222,8 @@ impl<T: Send + Sync + Drop> Lane for RingLane<T> {
 
     fn settle_all(end: End<RingLaneIn<T>, RingLaneShut<T>>, rx: RingLaneOut<T>)
         requires { ring_of (of_end in_name shut_name end) ≡ ring_of (out_name rx) }
-        ensures ended { IsPrefix (past_out rx) (of_end past_in (λ s. past_shut s ++ put_shut s ∷ []) end) }
+        ensures ended { IsPrefix (past_out rx)
+            (of_end past_in (λ s. past_shut s ++ put_shut s ∷ []) end) }
         ensures follows { Follows (of_end past_in past_shut end ++ of_end put_in put_shut end ∷ [])
             (past_out rx) (got rx) }
     {
@@ -266,7 +267,8 @@ fn compare<T: Drop>(mut producer: Producer<T>, mut consumer: Consumer<T>) -> u64
     requires { producer_name producer ≡ consumer_name consumer }
     ensures begins { IsPrefix (received consumer) (sent producer) }
     ensures left { length (sent producer) ≡ length (received consumer) + result }
-    ensures within { length (sent producer) + known_free producer ≤ length (received consumer) + producer_capacity producer }
+    ensures within { length (sent producer) + known_free producer
+        ≤ length (received consumer) + producer_capacity producer }
 {
     producer.slots_beside(&mut consumer);
     consumer.slots_beside(&mut producer) as u64
@@ -283,7 +285,8 @@ impl<T> RingLaneIn<T> {
         ensures kept { self.new.room ≡ self.old.room }
         ensures seen { seen_taken self.old ≤ seen_taken self.new }
         ensures free { result ≡ true → 1 < known_free self.new.producer }
-        ensures full { result ≡ false → self.new.room + seen_taken self.new ≡ length (put_in self.new) }
+        ensures full { result ≡ false → self.new.room + seen_taken self.new
+            ≡ length (put_in self.new) }
     {
         self.producer.cached_slots() >= 2 || self.producer.slots() >= 2
     }
@@ -317,7 +320,8 @@ impl<T: Drop> RingLaneOut<T> {
         ensures past { past_out self.new ≡ past_out self.old }
         ensures got { got self.new ≡ got self.old }
         ensures ahead { 0 < length (ahead self.old) → ahead self.new ≡ ahead self.old }
-        ensures known { result ≡ true → (0 < length (known_items self.new.consumer)) × (self.new.ended ≡ false) }
+        ensures known { result ≡ true → (0 < length (known_items self.new.consumer))
+            × (self.new.ended ≡ false) }
         ensures none { result ≡ false → (ahead self.old ≡ []) × (ahead self.new ≡ []) }
     {
         if self.ended {

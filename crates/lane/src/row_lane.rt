@@ -250,7 +250,8 @@ impl<T: Send + Sync + Drop> Lane for RowLane<T> {
     fn settle_all(end: End<RowLaneIn<T>, RowLaneShut<T>>, rx: RowLaneOut<T>)
         requires { of_end in_name shut_name end ≡ out_name rx }
         ensures ended { IsPrefix [] (of_end (λ _. []) (λ s. put_shut s ∷ []) end) }
-        ensures follows { Follows (of_end (λ _. []) (λ _. []) end ++ of_end put_in put_shut end ∷ []) [] (got rx) }
+        ensures follows { Follows
+            (of_end (λ _. []) (λ _. []) end ++ of_end put_in put_shut end ∷ []) [] (got rx) }
     {
         Self::settle(end, rx);
     }

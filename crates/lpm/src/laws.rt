@@ -12,12 +12,14 @@ pub fn one_reading()
     ensures some { (bytes : List ℕ) → AreBytes bytes → MatchOption (fault_of bytes)
         (Spells bytes (messages_of bytes) (rest_of bytes))
         (IsFaultyAfter bytes (messages_of bytes)) }
-    ensures spelled { (bytes : List ℕ) (messages : List (List ℕ)) (rest : List ℕ) → Spells bytes messages rest
+    ensures spelled { (bytes : List ℕ) (messages : List (List ℕ)) (rest : List ℕ)
+        → Spells bytes messages rest
         → (messages_of bytes ≡ messages) × (rest_of bytes ≡ rest) × (fault_of bytes ≡ None) }
     ensures faulty { (bytes : List ℕ) (messages : List (List ℕ)) (fault : LpmFault)
         → IsFaultyAfter bytes messages fault
         → (messages_of bytes ≡ messages) × (fault_of bytes ≡ Some fault) }
-    ensures never_both { (bytes : List ℕ) (messages others : List (List ℕ)) (rest : List ℕ) (fault : LpmFault)
+    ensures never_both { (bytes : List ℕ) (messages others : List (List ℕ)) (rest : List ℕ)
+        (fault : LpmFault)
         → Spells bytes messages rest → IsFaultyAfter bytes others fault → ⊥ }
 {}
 

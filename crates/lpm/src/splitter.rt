@@ -148,11 +148,13 @@ impl Splitter {
 
 /// One step of `next`: an answer, or more bytes are ready to be looked at.
 fn turn(joined: &mut BytesMut, piece: &mut Bytes, later: &mut VecDeque<Bytes>) -> Option<Split>
-    ensures answer { IfSome result (λ split. Answers (waiting joined.old.items piece.old later.old.items)
+    ensures answer { IfSome result
+        (λ split. Answers (waiting joined.old.items piece.old later.old.items)
         split (waiting joined.new.items piece.new later.new.items)) }
     ensures same { IfNone result (waiting joined.new.items piece.new later.new.items
         ≡ waiting joined.old.items piece.old later.old.items) }
-    ensures smaller { IfNone result (left_over piece.new later.new.items < left_over piece.old later.old.items) }
+    ensures smaller { IfNone result
+        (left_over piece.new later.new.items < left_over piece.old later.old.items) }
 {
     let len = match frame_len(joined.as_slice()) {
         Ok(len) => len,
@@ -178,7 +180,8 @@ fn turn(joined: &mut BytesMut, piece: &mut Bytes, later: &mut VecDeque<Bytes>) -
 fn start(joined: &mut BytesMut, piece: &mut Bytes) -> Option<Split>
     requires begins { joined.old.items ≡ [] }
     requires some { 0 < length piece.old }
-    ensures answer { (rest : List ℕ) → IfSome result (λ split. Answers (joined.old.items ++ (piece.old ++ rest))
+    ensures answer { (rest : List ℕ)
+        → IfSome result (λ split. Answers (joined.old.items ++ (piece.old ++ rest))
         split (joined.new.items ++ (piece.new ++ rest))) }
     ensures same { IfNone result (joined.new.items ++ piece.new ≡ joined.old.items ++ piece.old) }
     ensures smaller { IfNone result (length piece.new < length piece.old) }

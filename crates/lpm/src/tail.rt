@@ -97,7 +97,8 @@ impl Tail {
         ensures some { IfOk result (λ count. (0 < count) × (count ≤ length piece.now)) }
         ensures ok { (bytes : List ℕ) → Leaves bytes self.old
             → IfOk result (λ count. Leaves (bytes ++ take count piece.now) self.new) }
-        ensures fault { (bytes : List ℕ) → Leaves bytes self.old → IfErr result (IsFaultySomewhere bytes) }
+        ensures fault { (bytes : List ℕ) → Leaves bytes self.old
+            → IfErr result (IsFaultySomewhere bytes) }
     {
         let total = frame_len(self.known())?;
         if total <= self.len {

@@ -13,7 +13,8 @@ pub fn one_reading()
     ensures some { (input : List ℕ) →
         (fields : List Field) × (fault : Option Fault) × IsReading input fields fault }
     ensures no_other { (input : List ℕ) (fields others : List Field) (fault other : Option Fault) →
-        IsReading input fields fault → IsReading input others other → (fields ≡ others) × (fault ≡ other) }
+        IsReading input fields fault → IsReading input others other → (fields ≡ others)
+        × (fault ≡ other) }
 {}
 
 /// What is written is read again, whatever follows it.
@@ -24,7 +25,8 @@ pub fn written_is_read()
 
 /// Fields that are read one after another are the fields of the whole.
 pub fn fields_join()
-    ensures { (input : List ℕ) (fields : List Field) (middle : List ℕ) (field : Field) (rest : List ℕ) →
+    ensures { (input : List ℕ) (fields : List Field) (middle : List ℕ) (field : Field)
+        (rest : List ℕ) →
         StartsWithFields input fields middle → StartsWithField middle field rest →
         StartsWithFields input (fields ++ field ∷ []) rest }
 {}

@@ -18,7 +18,8 @@ use std::marker::Model;
 /// The content at the front, and the bytes behind it.
 #[tactic(auto, unfolding(crate::specs::Reading::content_at))]
 fn split_content(kind: WireType, bytes: &[u8]) -> Result<(FieldValue<'_>, &[u8]), WireFault>
-    ensures { Gives (λ parts. (content_of parts.0, parts.1.now)) result (content_at kind bytes.now) }
+    ensures { Gives (λ parts. (content_of parts.0, parts.1.now)) result
+        (content_at kind bytes.now) }
 {
     match kind {
         WireType::Varint => {
@@ -97,7 +98,8 @@ impl<'a> Fields<'a> {
         ensures every_fault { (fault : Fault) → FaultAt self.old fault → result ≡ Some (Err fault) }
 
         // Only a field is used up, so that a fault is told again, and so is the end.
-        ensures shorter { IfSome result (λ answer. OnOk answer (length self.new < length self.old)) }
+        ensures shorter { IfSome result
+            (λ answer. OnOk answer (length self.new < length self.old)) }
         ensures repeats { IfSome result (λ answer. OnErr answer (self.new ≡ self.old)) }
         ensures stays_empty { IfNone result (self.new ≡ []) }
     {

@@ -26,7 +26,8 @@ pub fn read_varint(bytes: &[u8]) -> Result<(u64, usize), WireFault>
     ensures err { IfErr result (λ fault. VarintFault bytes.now fault) }
 
     // What is spelled so is read, and what is wrong is told.
-    ensures every_varint { (number len : ℕ) → len ≤ length bytes.now → IsVarint (take len bytes.now) number
+    ensures every_varint { (number len : ℕ) → len ≤ length bytes.now
+        → IsVarint (take len bytes.now) number
         → result ≡ Ok (number, len) }
     ensures every_fault { (fault : Fault) → VarintFault bytes.now fault → result ≡ Err fault }
 {

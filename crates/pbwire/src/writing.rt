@@ -22,7 +22,8 @@ fn push_varint(number: u64, out: &mut Vec<u8>) -> Result<(), AllocError>
     ensures ok { OnOk result (out.new.items ≡ out.old.items ++ varint_spelling number) }
     ensures err { OnErr result (take (vec_len out.old) out.new.items ≡ out.old.items) }
     ensures capacity { vec_capacity out.old ≤ vec_capacity out.new }
-    ensures full { OnErr result (vec_capacity out.old < vec_len out.old + length (varint_spelling number)) }
+    ensures full { OnErr result
+        (vec_capacity out.old < vec_len out.old + length (varint_spelling number)) }
 {
     let mut rest = number;
     while rest >= GROUPS {
@@ -35,7 +36,8 @@ fn push_varint(number: u64, out: &mut Vec<u8>) -> Result<(), AllocError>
 
 /// Appends what stands behind a field's tag.
 fn push_content(value: &FieldValue<'_>, out: &mut Vec<u8>) -> Result<(), AllocError>
-    ensures ok { OnOk result (out.new.items ≡ out.old.items ++ content_spelling (content_of value.now)) }
+    ensures ok { OnOk result
+        (out.new.items ≡ out.old.items ++ content_spelling (content_of value.now)) }
     ensures err { OnErr result (take (vec_len out.old) out.new.items ≡ out.old.items) }
     ensures capacity { vec_capacity out.old ≤ vec_capacity out.new }
     ensures full { OnErr result (vec_capacity out.old
@@ -87,7 +89,8 @@ pub fn write_varint(number: u64, out: &mut Vec<u8>) -> Result<(), WireFault>
     ensures err { OnErr result (out.new.items ≡ out.old.items) }
     ensures memory { IfErr result (λ fault. fault ≡ OutOfMemory) }
     ensures capacity { vec_capacity out.old ≤ vec_capacity out.new }
-    ensures full { OnErr result (vec_capacity out.old < vec_len out.old + length (varint_spelling number)) }
+    ensures full { OnErr result
+        (vec_capacity out.old < vec_len out.old + length (varint_spelling number)) }
 {
     let len = out.len();
     if push_varint(number, out).is_err() {

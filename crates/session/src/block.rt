@@ -28,7 +28,8 @@ pub fn block_events(
 ) -> Result<(), AllocError>
     requires { is_accepted verdict ≡ true → IsSome (half_of halves.old head.now.stream) }
     ensures ok { OnOk result ((history : List Event) → Stands history halves.old
-        → (given : List InEvent) × (next : List Event) × BlockGives decoder.old head.now verdict block.now history given next decoder.new
+        → (given : List InEvent) × (next : List Event)
+        × BlockGives decoder.old head.now verdict block.now history given next decoder.new
         × (events.new.items ≡ events.old.items ++ given) × Stands next halves.new) }
 {
     let fields = match decoder.block(block) {
@@ -66,7 +67,8 @@ fn head_events(
 ) -> Result<(), AllocError>
     requires { IsSome (half_of halves.old head.now.stream) }
     ensures { OnOk result ((history : List Event) → Stands history halves.old
-        → (given : List InEvent) × (next : List Event) × HeadGives head.now fields.now history given next
+        → (given : List InEvent) × (next : List Event)
+        × HeadGives head.now fields.now history given next
         × (events.new.items ≡ events.old.items ++ given) × Stands next halves.new) }
 {
     match CallHead::read(alloc, fields) {
@@ -84,7 +86,8 @@ fn bad_head_events(
     events: &mut Vec<InEvent>,
 ) -> Result<(), AllocError>
     requires { IsSome (half_of halves.old head.now.stream) }
-    ensures events { OnOk result (events.new.items ≡ events.old.items ++ bad_head_events fault head.now) }
+    ensures events { OnOk result
+        (events.new.items ≡ events.old.items ++ bad_head_events fault head.now) }
     ensures follows { OnOk result ((history : List Event) → Stands history halves.old
         → Stands (after_bad_head fault head.now.stream history) halves.new) }
 {
@@ -107,7 +110,8 @@ fn trailer_events(
     ensures events { OnOk result (events.new.items
         ≡ events.old.items ++ trailer_events (are_malformed_trailers fields.now) head.now) }
     ensures follows { OnOk result ((history : List Event) → Stands history halves.old
-        → Stands (after_trailers (are_malformed_trailers fields.now) head.now.stream history) halves.new) }
+        → Stands (after_trailers (are_malformed_trailers fields.now) head.now.stream history)
+        halves.new) }
 {
     if are_malformed_trailers(fields) {
         halves.cut(head.stream);

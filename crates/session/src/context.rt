@@ -63,12 +63,15 @@ impl Context {
         requires lawful { IfOk answer IsLawful }
         requires sound { IsSound at self.old.halves }
         ensures sound { IfOk result (λ next. IsSoundNext next self.new.halves) }
-        ensures entry { IfOk result (λ next. answered (Some answer) ≢ [] → Advances at self.old.halves self.old.decoder events.old.items
+        ensures entry { IfOk result
+            (λ next. answered (Some answer) ≢ []
+            → Advances at self.old.halves self.old.decoder events.old.items
             (answered (Some answer)) next self.new.halves self.new.decoder events.new.items) }
 
         // A fault that is no entry of the frame list ends the connection.
         ensures none { IfOk result (λ next. answered (Some answer) ≡ [] → next ≡ None) }
-        ensures fatal { IfOk result (λ _. answered (Some answer) ≡ [] → IsEnd answer events.old.items events.new.items) }
+        ensures fatal { IfOk result
+            (λ _. answered (Some answer) ≡ [] → IsEnd answer events.old.items events.new.items) }
     {
         match answer {
             Ok(frame) => self.frame(at, frame, events),
@@ -86,7 +89,9 @@ impl Context {
         requires lawful { IsLawful frame }
         requires sound { IsSound at self.old.halves }
         ensures sound { IfOk result (λ next. IsSoundNext next self.new.halves) }
-        ensures follows { IfOk result (λ next. Advances at self.old.halves self.old.decoder events.old.items (Whole frame ∷ [])
+        ensures follows { IfOk result
+            (λ next. Advances at self.old.halves self.old.decoder events.old.items
+            (Whole frame ∷ [])
             next self.new.halves self.new.decoder events.new.items) }
     {
         match at {
@@ -112,10 +117,14 @@ impl Context {
         ensures sound { IfOk result (λ next. IsSoundNext next self.new.halves) }
 
         // Where it is an entry of the frame list, as a frame is.
-        ensures entry { IfOk result (λ next. refused fault ≢ [] → Advances at self.old.halves self.old.decoder events.old.items (refused fault)
+        ensures entry { IfOk result
+            (λ next. refused fault ≢ []
+            → Advances at self.old.halves self.old.decoder events.old.items (refused fault)
             next self.new.halves self.new.decoder events.new.items) }
         ensures none { IfOk result (λ next. refused fault ≡ [] → next ≡ None) }
-        ensures fatal { IfOk result (λ _. refused fault ≡ [] → events.new.items ≡ events.old.items ++ fatal (fault_error fault)) }
+        ensures fatal { IfOk result
+            (λ _. refused fault ≡ [] → events.new.items ≡ events.old.items
+            ++ fatal (fault_error fault)) }
         ensures memory { IfOk result (λ _. fault ≢ OutOfMemory) }
     {
         match fault {
@@ -134,7 +143,9 @@ impl Context {
     ) -> Result<Option<Position>, AllocError>
         requires { 0 < id }
         ensures sound { IfOk result (λ next. IsSoundNext next self.new.halves) }
-        ensures follows { IfOk result (λ next. Advances at self.old.halves self.old.decoder events.old.items (NoIncrement id ∷ [])
+        ensures follows { IfOk result
+            (λ next. Advances at self.old.halves self.old.decoder events.old.items
+            (NoIncrement id ∷ [])
             next self.new.halves self.new.decoder events.new.items) }
     {
         let Position::Between = at else {
@@ -153,7 +164,8 @@ impl Context {
     ) -> Result<Option<Position>, AllocError>
         requires { IsLawful frame }
         ensures sound { IfOk result (λ next. IsSoundNext next self.new.halves) }
-        ensures follows { IfOk result (λ next. Begins self.old.halves self.old.decoder events.old.items frame
+        ensures follows { IfOk result
+            (λ next. Begins self.old.halves self.old.decoder events.old.items frame
             next self.new.halves self.new.decoder events.new.items) }
     {
         if frame.head.kind != FrameKind::Headers {
@@ -181,7 +193,9 @@ impl Context {
     ) -> Result<Option<Position>, AllocError>
         requires { IsSound (Inside block verdict) self.old.halves }
         ensures sound { IfOk result (λ next. IsSoundNext next self.new.halves) }
-        ensures follows { IfOk result (λ next. Advances (Inside block verdict) self.old.halves self.old.decoder events.old.items (Whole frame.now ∷ [])
+        ensures follows { IfOk result
+            (λ next. Advances (Inside block verdict) self.old.halves self.old.decoder
+            events.old.items (Whole frame.now ∷ [])
             next self.new.halves self.new.decoder events.new.items) }
     {
         let mut block = block;
@@ -203,7 +217,8 @@ impl Context {
     ) -> Result<Option<Position>, AllocError>
         requires { is_accepted verdict ≡ true → IsSome (half_of self.old.halves block.head.stream) }
         ensures sound { IfOk result (λ next. IsSoundNext next self.new.halves) }
-        ensures follows { IfOk result (λ next. Collected block verdict self.old.halves self.old.decoder events.old.items
+        ensures follows { IfOk result
+            (λ next. Collected block verdict self.old.halves self.old.decoder events.old.items
             next self.new.halves self.new.decoder events.new.items) }
     {
         if !block.is_whole() {
@@ -222,8 +237,10 @@ impl Context {
     ) -> Result<Option<Position>, AllocError>
         requires { is_accepted verdict ≡ true → IsSome (half_of self.old.halves head.now.stream) }
         ensures sound { IfOk result (λ next. IsSoundNext next self.new.halves) }
-        ensures follows { IfOk result (λ next. Collected (record { head = head.now; block = block.now; whole = true }) verdict
-            self.old.halves self.old.decoder events.old.items next self.new.halves self.new.decoder events.new.items) }
+        ensures follows { IfOk result
+            (λ next. Collected (record { head = head.now; block = block.now; whole = true }) verdict
+            self.old.halves self.old.decoder events.old.items next self.new.halves self.new.decoder
+            events.new.items) }
     {
         block_events(
             self.alloc,

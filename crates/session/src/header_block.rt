@@ -82,7 +82,9 @@ impl HeaderBlock {
     /// Takes the next frame of the connection, which has to go on with the block.
     pub fn add(&mut self, frame: &Frame) -> Result<(), FragmentFault>
         requires { self.old.whole ≡ false }
-        ensures ok { OnOk result ((frames : List FrameOf) → Collects frames self.old → Collects (frames ++ frame.now ∷ []) self.new) }
+        ensures ok { OnOk result
+            ((frames : List FrameOf) → Collects frames self.old
+            → Collects (frames ++ frame.now ∷ []) self.new) }
         ensures err { IfErr result (λ fault. Stands fault self.old frame.now) }
         ensures head { self.new.head ≡ self.old.head }
         ensures unchanged { OnErr result (self.new ≡ self.old) }

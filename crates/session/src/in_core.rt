@@ -40,7 +40,12 @@ impl Model for InCore {
 
     ghost Value = { Core };
 
-    ghost view = { λ c. record { stage = c.stage; waiting = c.reader; streams = c.context.halves; kept = c.context.decoder } };
+    ghost view = { λ c. record {
+      stage = c.stage;
+      waiting = c.reader;
+      streams = c.context.halves;
+      kept = c.context.decoder;
+    } };
 
     ghost invariant = { λ c. IsSoundStage c.stage c.context.halves };
 }
@@ -61,8 +66,10 @@ impl InCore {
     pub fn feed(&mut self, piece: &[u8]) -> Result<Vec<InEvent>, AllocError>
         // However the bytes before it were cut, they and the piece have the events before and these.
         ensures events { IfOk result (λ given. (bytes : List ℕ) (before : List InEventOf) →
-            Reached bytes before self.old → Reached (bytes ++ piece.now) (before ++ given.items) self.new) }
-        ensures dead { self.old.stage ≡ Dead → IsOk result × IfOk result (λ given. (given.items ≡ []) × (self.new.stage ≡ Dead)) }
+            Reached bytes before self.old
+            → Reached (bytes ++ piece.now) (before ++ given.items) self.new) }
+        ensures dead { self.old.stage ≡ Dead → IsOk result
+            × IfOk result (λ given. (given.items ≡ []) × (self.new.stage ≡ Dead)) }
         ensures err { OnErr result (self.new.stage ≡ Dead) }
     {
         let mut events = Vec::new(self.context.alloc);
@@ -87,9 +94,12 @@ fn advance(
     events: &mut Vec<InEvent>,
 ) -> Result<Stage, AllocError>
     requires { IsSoundStage stage context.old.halves }
-    ensures feeds { IfOk result (λ next. Feeds (core_of stage reader.old context.old.halves context.old.decoder) piece.now events.old.items
+    ensures feeds { IfOk result
+        (λ next. Feeds (core_of stage reader.old context.old.halves context.old.decoder) piece.now
+        events.old.items
         (core_of next reader.new context.new.halves context.new.decoder) events.new.items) }
-    ensures dead { stage ≡ Dead → IsOk result × IfOk result (λ next. (next ≡ Dead) × (events.new.items ≡ events.old.items)) }
+    ensures dead { stage ≡ Dead → IsOk result
+        × IfOk result (λ next. (next ≡ Dead) × (events.new.items ≡ events.old.items)) }
 {
     match stage {
         Stage::Greeting(preface) => greet(preface, reader, context, piece, events),
@@ -106,7 +116,9 @@ fn greet(
     piece: &[u8],
     events: &mut Vec<InEvent>,
 ) -> Result<Stage, AllocError>
-    ensures feeds { IfOk result (λ next. Feeds (core_of (Greeting preface) reader.old context.old.halves context.old.decoder) piece.now events.old.items
+    ensures feeds { IfOk result
+        (λ next. Feeds (core_of (Greeting preface) reader.old context.old.halves
+        context.old.decoder) piece.now events.old.items
         (core_of next reader.new context.new.halves context.new.decoder) events.new.items) }
 {
     let mut preface = preface;
@@ -129,7 +141,9 @@ fn read(
     events: &mut Vec<InEvent>,
 ) -> Result<Stage, AllocError>
     requires { IsSound position context.old.halves }
-    ensures feeds { IfOk result (λ next. Feeds (core_of (Reading position) reader.old context.old.halves context.old.decoder) piece.now events.old.items
+    ensures feeds { IfOk result
+        (λ next. Feeds (core_of (Reading position) reader.old context.old.halves
+        context.old.decoder) piece.now events.old.items
         (core_of next reader.new context.new.halves context.new.decoder) events.new.items) }
 {
     let Ok(()) = reader.feed(piece) else {

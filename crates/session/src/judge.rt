@@ -21,10 +21,13 @@ use std::alloc::{AllocError, Global};
 #[tactic(auto, using(crate::proofs::LawfulFrames::accepted_begun))]
 pub fn judge(halves: &mut Halves, head: &FrameHead) -> Result<HalfVerdict, AllocError>
     requires { IsJudged head.now }
-    ensures verdict { IfOk result (λ answer. (history : List Event) → Stands history halves.old → answer ≡ verdict history head.now) }
+    ensures verdict { IfOk result
+        (λ answer. (history : List Event) → Stands history halves.old → answer
+        ≡ verdict history head.now) }
     ensures follows { IfOk result (λ answer. (history : List Event) → Stands history halves.old
         → Stands (after_frame answer head.now history) halves.new) }
-    ensures begun { IfOk result (λ answer. is_accepted answer ≡ true → IsSome (half_of halves.new head.now.stream)) }
+    ensures begun { IfOk result
+        (λ answer. is_accepted answer ≡ true → IsSome (half_of halves.new head.now.stream)) }
 {
     let verdict = halves.on(head)?;
     if let HalfVerdict::StreamError(_) = verdict {
@@ -37,7 +40,9 @@ pub fn judge(halves: &mut Halves, head: &FrameHead) -> Result<HalfVerdict, Alloc
 #[tactic(auto, using(crate::proofs::LawfulFrames::not_fatal))]
 pub fn judge_credit(halves: &mut Halves, id: StreamId) -> Result<HalfVerdict, AllocError>
     requires { 0 < id }
-    ensures verdict { IfOk result (λ answer. (history : List Event) → Stands history halves.old → answer ≡ credit_verdict history id) }
+    ensures verdict { IfOk result
+        (λ answer. (history : List Event) → Stands history halves.old → answer
+        ≡ credit_verdict history id) }
     ensures follows { IfOk result (λ answer. (history : List Event) → Stands history halves.old
         → Stands (after_frame answer (credit_head id) history) halves.new) }
 {
@@ -205,7 +210,8 @@ fn window_events(
     requires lawful { IsLawful frame }
     requires kind { frame.head.kind ≡ WindowUpdate }
     ensures ok { OnOk result ((history : List Event) → Stands history halves.old
-        → (given : List InEvent) × (next : List Event) × WindowGives (frame.head.stream == 0) history frame given next
+        → (given : List InEvent) × (next : List Event)
+        × WindowGives (frame.head.stream == 0) history frame given next
         × (events.new.items ≡ events.old.items ++ given) × Stands next halves.new) }
 {
     if frame.head.stream == 0 {
@@ -237,7 +243,8 @@ fn window_of(
 fn settings_events(alloc: Global, frame: Frame, events: &mut Vec<InEvent>) -> Result<(), AllocError>
     requires lawful { IsLawful frame }
     requires kind { frame.head.kind ≡ Settings }
-    ensures { OnOk result ((given : List InEvent) × SettingsGive (has ack frame.head.flags) frame.content given
+    ensures { OnOk result
+        ((given : List InEvent) × SettingsGive (has ack frame.head.flags) frame.content given
         × (events.new.items ≡ events.old.items ++ given)) }
 {
     if frame.head.flags.contains(Flags::ACK) {
@@ -256,7 +263,9 @@ fn settings_events(alloc: Global, frame: Frame, events: &mut Vec<InEvent>) -> Re
 fn ping_events(frame: Frame, events: &mut Vec<InEvent>) -> Result<(), AllocError>
     requires lawful { IsLawful frame }
     requires kind { frame.head.kind ≡ Ping }
-    ensures { OnOk result (events.new.items ≡ events.old.items ++ ping_events (has ack frame.head.flags) frame.content) }
+    ensures { OnOk result
+        (events.new.items ≡ events.old.items
+        ++ ping_events (has ack frame.head.flags) frame.content) }
 {
     if !frame.head.flags.contains(Flags::ACK) {
         let bytes = ping_bytes(frame.content.as_slice());

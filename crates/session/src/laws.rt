@@ -14,7 +14,8 @@ ghost use Rattle.session.specs.CoreStates.{Core, Reached};
 
 /// What a core has answered are the events of the bytes that it was fed.
 pub fn answers()
-    ensures { (bytes : List ℕ) (given : List InEventOf) (core : Core) → Reached bytes given core → Events bytes given }
+    ensures { (bytes : List ℕ) (given : List InEventOf) (core : Core) → Reached bytes given core
+        → Events bytes given }
 {}
 
 /// Behind a fatal event there are no others, whatever bytes follow.
@@ -26,25 +27,29 @@ pub fn ends()
 /// One list of frames counts for all streams of a connection: those of the whole groups behind its preface. What else the
 /// bytes hold is a header block that isn't whole, a fault, or what ends the connection.
 pub fn one_frame_list()
-    ensures { (bytes : List ℕ) (given : List InEventOf) → Events bytes given → (entries : List Entry) × Framed bytes given entries }
+    ensures { (bytes : List ℕ) (given : List InEventOf) → Events bytes given
+        → (entries : List Entry) × Framed bytes given entries }
 {}
 
 /// The pieces of data that are told of a stream whose head isn't malformed are, joined, its data by the frames that count.
 pub fn stream_data()
     ensures { (bytes : List ℕ) (given : List InEventOf) (entries : List Entry) (id : ℕ) →
-        Framed bytes given entries → list_any (is_opening id) given ≡ true → pieces id given ≡ data_of id entries }
+        Framed bytes given entries → list_any (is_opening id) given ≡ true → pieces id given
+        ≡ data_of id entries }
 {}
 
 /// The first end that is told of such a stream is the one by the frames that count; or, where END_STREAM came with malformed
 /// trailers, an error of the stream.
 pub fn stream_end()
     ensures { (bytes : List ℕ) (given : List InEventOf) (entries : List Entry) (id : ℕ) →
-        Framed bytes given entries → list_any (is_opening id) given ≡ true → EndsAs id entries given }
+        Framed bytes given entries → list_any (is_opening id) given ≡ true
+        → EndsAs id entries given }
 {}
 
 /// The numbers of the streams that are told to begin rise, also of those without the head of a call.
 pub fn openings_rise()
-    ensures { (bytes : List ℕ) (given : List InEventOf) → Events bytes given → AreRising (openings given) }
+    ensures { (bytes : List ℕ) (given : List InEventOf) → Events bytes given
+        → AreRising (openings given) }
 {}
 
 /// The bytes that are told for flow control, on streams and on the connection alone, are at most those of the payloads of the
@@ -56,22 +61,26 @@ pub fn flow_bytes()
 
 /// Before a stream begins, unless its head is malformed, neither data nor an end of it are told.
 pub fn before_opening()
-    ensures { (bytes : List ℕ) (given before : List InEventOf) (event : InEventOf) (after : List InEventOf) (id : ℕ) →
+    ensures { (bytes : List ℕ) (given before : List InEventOf) (event : InEventOf)
+        (after : List InEventOf) (id : ℕ) →
         Events bytes given → given ≡ before ++ event ∷ after → is_opening id event ≡ true →
         (pieces id before ≡ []) × (ending_told id before ≡ Unended) }
 {}
 
 /// Behind an end that is told of such a stream no data of it are told.
 pub fn behind_end()
-    ensures { (bytes : List ℕ) (given before : List InEventOf) (event : InEventOf) (after : List InEventOf) (id : ℕ) →
+    ensures { (bytes : List ℕ) (given before : List InEventOf) (event : InEventOf)
+        (after : List InEventOf) (id : ℕ) →
         Events bytes given → list_any (is_opening id) given ≡ true →
         given ≡ before ++ event ∷ after → end_told id event ≢ Unended → pieces id after ≡ [] }
 {}
 
 /// The data of a stream by whole groups of frames, whatever stands behind them.
 pub fn group_data()
-    ensures { (text : List ℕ) (entries behind : List Entry) (rest : List ℕ) (given : List InEventOf) (now : Situation) (id : ℕ) →
-        Joined text entries rest → Passes entries behind given now → list_any (is_opening id) given ≡ true →
+    ensures { (text : List ℕ) (entries behind : List Entry) (rest : List ℕ) (given : List InEventOf)
+        (now : Situation) (id : ℕ) →
+        Joined text entries rest → Passes entries behind given now → list_any (is_opening id) given
+        ≡ true →
         (front : List Entry) × (entries ≡ front ++ behind) × (pieces id given ≡ data_of id front) }
 {}
 
@@ -93,15 +102,18 @@ pub fn one_outcome()
 /// The events of a longer input begin with those of a shorter one: no byte that is to come changes what was told.
 pub fn goes_on()
     ensures { (bytes more : List ℕ) (given longer : List InEventOf) →
-        Events bytes given → Events (bytes ++ more) longer → (rest : List InEventOf) × (longer ≡ given ++ rest) }
+        Events bytes given → Events (bytes ++ more) longer → (rest : List InEventOf)
+        × (longer ≡ given ++ rest) }
 {}
 
 /// A byte list has one list of events and no other.
 pub fn one_list()
-    ensures { (bytes : List ℕ) (one other : List InEventOf) → Events bytes one → Events bytes other → one ≡ other }
+    ensures { (bytes : List ℕ) (one other : List InEventOf) → Events bytes one → Events bytes other
+        → one ≡ other }
 {}
 
 /// Each list of bytes has a list of events.
 pub fn some_list()
-    ensures { (bytes : List ℕ) → All (λ byte. byte < 256) bytes → (given : List InEventOf) × Events bytes given }
+    ensures { (bytes : List ℕ) → All (λ byte. byte < 256) bytes → (given : List InEventOf)
+        × Events bytes given }
 {}

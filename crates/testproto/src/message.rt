@@ -42,7 +42,8 @@ pub trait Message<'a>: Drop {
         ensures value { OnOk result ((before : List Field) → is_value before self.old
             → is_value (before ++ field_of item.now ∷ []) self.new) }
         ensures accepted { OnOk result (accepts (field_of item.now)) }
-        ensures refused { IfErr result (λ fault. fault ≢ OutOfMemory → refuses (field_of item.now) fault) };
+        ensures refused { IfErr result
+            (λ fault. fault ≢ OutOfMemory → refuses (field_of item.now) fault) };
 
     /// How many bytes are written of the message, or none where no buffer could hold them.
     fn size(&self) -> Option<usize>
@@ -53,7 +54,8 @@ pub trait Message<'a>: Drop {
     /// Appends the fields of the message, by ascending number, defaults left out. Where that fails, some of their bytes
     /// may stand at the end of the buffer.
     fn put_fields(&self, out: &mut Vec<u8>) -> Result<(), ProtoFault>
-        ensures ok { OnOk result (out.new.items ≡ out.old.items ++ spelling_of_all (fields_of self.now)) }
+        ensures ok { OnOk result
+            (out.new.items ≡ out.old.items ++ spelling_of_all (fields_of self.now)) }
         ensures kept { take (length out.old.items) out.new.items ≡ out.old.items }
         ensures memory { IfErr result (λ fault. fault ≡ OutOfMemory) };
 
@@ -75,7 +77,8 @@ pub trait Message<'a>: Drop {
     final fn decode(alloc: Global, bytes: &'a [u8]) -> Result<Self, ProtoFault>
         // What is answered is the value of the bytes, or the fault that stands in them.
         ensures ok { IfOk result (λ message. IsValueOf accepts is_value bytes.now message) }
-        ensures err { IfErr result (λ fault. fault ≢ OutOfMemory → HasFault accepts refuses bytes.now fault) }
+        ensures err { IfErr result
+            (λ fault. fault ≢ OutOfMemory → HasFault accepts refuses bytes.now fault) }
 
         // Bytes that have a value are read, memory aside.
         ensures every_value { (value : Self) → IsValueOf accepts is_value bytes.now value
@@ -86,7 +89,8 @@ pub trait Message<'a>: Drop {
 
     /// Appends the fields of the message, by ascending number, defaults left out.
     final fn put(&self, out: &mut Vec<u8>) -> Result<(), ProtoFault>
-        ensures ok { OnOk result (out.new.items ≡ out.old.items ++ spelling_of_all (fields_of self.now)) }
+        ensures ok { OnOk result
+            (out.new.items ≡ out.old.items ++ spelling_of_all (fields_of self.now)) }
         ensures unchanged { OnErr result (out.new.items ≡ out.old.items) }
         ensures memory { IfErr result (λ fault. fault ≡ OutOfMemory) }
     {
@@ -113,7 +117,8 @@ pub(crate) fn merge<'a, M: Message<'a>>(
     bytes: &'a [u8],
 ) -> Result<(), ProtoFault>
     ensures ok { OnOk result (Adds M.accepts M.is_value bytes.now message.old message.new) }
-    ensures err { IfErr result (λ fault. fault ≢ OutOfMemory → HasFault M.accepts M.refuses bytes.now fault) }
+    ensures err { IfErr result
+        (λ fault. fault ≢ OutOfMemory → HasFault M.accepts M.refuses bytes.now fault) }
 {
     let mut fields = Fields::new(bytes);
     while let Some(answer) = fields.next() {
@@ -132,7 +137,8 @@ pub(crate) fn decode_message<'a, M: Message<'a>>(
 ) -> Result<M, ProtoFault>
     // What is answered is the value of the bytes, or a fault that stands in them.
     ensures ok { IfOk result (λ message. IsValueOf M.accepts M.is_value bytes.now message) }
-    ensures err { IfErr result (λ fault. fault ≢ OutOfMemory → HasFault M.accepts M.refuses bytes.now fault) }
+    ensures err { IfErr result
+        (λ fault. fault ≢ OutOfMemory → HasFault M.accepts M.refuses bytes.now fault) }
 
     // Bytes that have a value are read, memory aside.
     ensures every_value { (value : M) → IsValueOf M.accepts M.is_value bytes.now value
@@ -148,7 +154,8 @@ pub(crate) fn append_message<'a, M: Message<'a>>(
     message: &M,
     out: &mut Vec<u8>,
 ) -> Result<(), ProtoFault>
-    ensures ok { OnOk result (out.new.items ≡ out.old.items ++ spelling_of_all (M.fields_of message.now)) }
+    ensures ok { OnOk result
+        (out.new.items ≡ out.old.items ++ spelling_of_all (M.fields_of message.now)) }
     ensures unchanged { OnErr result (out.new.items ≡ out.old.items) }
     ensures memory { IfErr result (λ fault. fault ≡ OutOfMemory) }
 {
@@ -169,7 +176,8 @@ pub(crate) fn encode_message<'a, M: Message<'a>>(
 ) -> Result<Vec<u8>, ProtoFault>
     ensures ok { IfOk result (λ bytes. bytes.items ≡ spelling_of_all (M.fields_of message.now)) }
     // So they are read as this message again.
-    ensures read_back { IfOk result (λ bytes. IsValueOf M.accepts M.is_value bytes.items message.now) }
+    ensures read_back { IfOk result
+        (λ bytes. IsValueOf M.accepts M.is_value bytes.items message.now) }
     ensures memory { IfErr result (λ fault. fault ≡ OutOfMemory) }
 {
     let Some(size) = message.size() else {

@@ -20,8 +20,10 @@ const DELIMITED: u64 = 2;
 
 /// Adds the length of a field with a varint.
 fn add_varint(total: usize, number: u32, n: u64) -> Option<usize>
-    ensures len { IfSome result (λ size. size ≡ total + length (spelling_of (field_with number (varint n)))) }
-    ensures too_long { IfNone result (2 ^ 64 ≤ total + length (spelling_of (field_with number (varint n)))) }
+    ensures len { IfSome result
+        (λ size. size ≡ total + length (spelling_of (field_with number (varint n)))) }
+    ensures too_long { IfNone result
+        (2 ^ 64 ≤ total + length (spelling_of (field_with number (varint n)))) }
 {
     total.checked_add(varint_len(u64::from(number) * WIRE_TYPES) + varint_len(n))
 }
@@ -36,8 +38,10 @@ fn add_delimited(total: usize, number: u32, len: usize) -> Option<usize>
 }
 
 pub(crate) fn add_int32(total: usize, number: u32, value: i32) -> Option<usize>
-    ensures len { IfSome result (λ size. size ≡ total + length (spelling_of_all (int32_fields number value))) }
-    ensures too_long { IfNone result (2 ^ 64 ≤ total + length (spelling_of_all (int32_fields number value))) }
+    ensures len { IfSome result
+        (λ size. size ≡ total + length (spelling_of_all (int32_fields number value))) }
+    ensures too_long { IfNone result
+        (2 ^ 64 ≤ total + length (spelling_of_all (int32_fields number value))) }
 {
     if value == 0 {
         return Some(total);
@@ -46,8 +50,10 @@ pub(crate) fn add_int32(total: usize, number: u32, value: i32) -> Option<usize>
 }
 
 pub(crate) fn add_bool(total: usize, number: u32, value: bool) -> Option<usize>
-    ensures len { IfSome result (λ size. size ≡ total + length (spelling_of_all (bool_fields number value))) }
-    ensures too_long { IfNone result (2 ^ 64 ≤ total + length (spelling_of_all (bool_fields number value))) }
+    ensures len { IfSome result
+        (λ size. size ≡ total + length (spelling_of_all (bool_fields number value))) }
+    ensures too_long { IfNone result
+        (2 ^ 64 ≤ total + length (spelling_of_all (bool_fields number value))) }
 {
     if value {
         add_varint(total, number, 1)
@@ -57,8 +63,10 @@ pub(crate) fn add_bool(total: usize, number: u32, value: bool) -> Option<usize>
 }
 
 pub(crate) fn add_bytes(total: usize, number: u32, bytes: &[u8]) -> Option<usize>
-    ensures len { IfSome result (λ size. size ≡ total + length (spelling_of_all (bytes_fields number bytes.now))) }
-    ensures too_long { IfNone result (2 ^ 64 ≤ total + length (spelling_of_all (bytes_fields number bytes.now))) }
+    ensures len { IfSome result
+        (λ size. size ≡ total + length (spelling_of_all (bytes_fields number bytes.now))) }
+    ensures too_long { IfNone result
+        (2 ^ 64 ≤ total + length (spelling_of_all (bytes_fields number bytes.now))) }
 {
     if bytes.is_empty() {
         return Some(total);
@@ -67,8 +75,11 @@ pub(crate) fn add_bytes(total: usize, number: u32, bytes: &[u8]) -> Option<usize
 }
 
 pub(crate) fn add_one<'a, M: Message<'a>>(total: usize, number: u32, message: &M) -> Option<usize>
-    ensures len { IfSome result (λ size. size ≡ total + length (spelling_of (message_field M.fields_of number message.now))) }
-    ensures too_long { IfNone result (2 ^ 64 ≤ total + length (spelling_of (message_field M.fields_of number message.now))) }
+    ensures len { IfSome result
+        (λ size. size ≡ total + length
+        (spelling_of (message_field M.fields_of number message.now))) }
+    ensures too_long { IfNone result
+        (2 ^ 64 ≤ total + length (spelling_of (message_field M.fields_of number message.now))) }
     ensures fits { IfSome result (λ size. M.fits message.now) }
 {
     let size = message.size()?;
@@ -80,8 +91,11 @@ pub(crate) fn add_message<'a, M: Message<'a>>(
     number: u32,
     held: &Option<M>,
 ) -> Option<usize>
-    ensures len { IfSome result (λ size. size ≡ total + length (spelling_of_all (message_fields M.fields_of number held.now))) }
-    ensures too_long { IfNone result (2 ^ 64 ≤ total + length (spelling_of_all (message_fields M.fields_of number held.now))) }
+    ensures len { IfSome result
+        (λ size. size ≡ total + length
+        (spelling_of_all (message_fields M.fields_of number held.now))) }
+    ensures too_long { IfNone result
+        (2 ^ 64 ≤ total + length (spelling_of_all (message_fields M.fields_of number held.now))) }
     ensures fits { IfSome result (λ size. IfSome held.now M.fits) }
 {
     match held {
@@ -93,7 +107,8 @@ pub(crate) fn add_message<'a, M: Message<'a>>(
 /// Appends a field. It fails for memory alone.
 fn put(number: u32, value: &FieldValue<'_>, out: &mut Vec<u8>) -> Result<(), ProtoFault>
     requires { IsFieldNumber number }
-    ensures ok { OnOk result (out.new.items ≡ out.old.items ++ spelling_of (field_with number (content_of value.now))) }
+    ensures ok { OnOk result
+        (out.new.items ≡ out.old.items ++ spelling_of (field_with number (content_of value.now))) }
     ensures kept { take (length out.old.items) out.new.items ≡ out.old.items }
     ensures memory { IfErr result (λ fault. fault ≡ OutOfMemory) }
 {
@@ -116,7 +131,8 @@ fn put_varint(n: u64, out: &mut Vec<u8>) -> Result<(), ProtoFault>
 
 pub(crate) fn put_int32(number: u32, value: i32, out: &mut Vec<u8>) -> Result<(), ProtoFault>
     requires { IsFieldNumber number }
-    ensures ok { OnOk result (out.new.items ≡ out.old.items ++ spelling_of_all (int32_fields number value)) }
+    ensures ok { OnOk result
+        (out.new.items ≡ out.old.items ++ spelling_of_all (int32_fields number value)) }
     ensures kept { take (length out.old.items) out.new.items ≡ out.old.items }
     ensures memory { IfErr result (λ fault. fault ≡ OutOfMemory) }
 {
@@ -132,7 +148,8 @@ pub(crate) fn put_int32(number: u32, value: i32, out: &mut Vec<u8>) -> Result<()
 
 pub(crate) fn put_bool(number: u32, value: bool, out: &mut Vec<u8>) -> Result<(), ProtoFault>
     requires { IsFieldNumber number }
-    ensures ok { OnOk result (out.new.items ≡ out.old.items ++ spelling_of_all (bool_fields number value)) }
+    ensures ok { OnOk result
+        (out.new.items ≡ out.old.items ++ spelling_of_all (bool_fields number value)) }
     ensures kept { take (length out.old.items) out.new.items ≡ out.old.items }
     ensures memory { IfErr result (λ fault. fault ≡ OutOfMemory) }
 {
@@ -144,7 +161,8 @@ pub(crate) fn put_bool(number: u32, value: bool, out: &mut Vec<u8>) -> Result<()
 
 pub(crate) fn put_bytes(number: u32, bytes: &[u8], out: &mut Vec<u8>) -> Result<(), ProtoFault>
     requires { IsFieldNumber number }
-    ensures ok { OnOk result (out.new.items ≡ out.old.items ++ spelling_of_all (bytes_fields number bytes.now)) }
+    ensures ok { OnOk result
+        (out.new.items ≡ out.old.items ++ spelling_of_all (bytes_fields number bytes.now)) }
     ensures kept { take (length out.old.items) out.new.items ≡ out.old.items }
     ensures memory { IfErr result (λ fault. fault ≡ OutOfMemory) }
 {
@@ -161,7 +179,9 @@ pub(crate) fn put_one<'a, M: Message<'a>>(
     out: &mut Vec<u8>,
 ) -> Result<(), ProtoFault>
     requires { IsFieldNumber number }
-    ensures ok { OnOk result (out.new.items ≡ out.old.items ++ spelling_of (message_field M.fields_of number message.now)) }
+    ensures ok { OnOk result
+        (out.new.items ≡ out.old.items
+        ++ spelling_of (message_field M.fields_of number message.now)) }
     ensures kept { take (length out.old.items) out.new.items ≡ out.old.items }
     ensures memory { IfErr result (λ fault. fault ≡ OutOfMemory) }
 {
@@ -179,7 +199,9 @@ pub(crate) fn put_message<'a, M: Message<'a>>(
     out: &mut Vec<u8>,
 ) -> Result<(), ProtoFault>
     requires { IsFieldNumber number }
-    ensures ok { OnOk result (out.new.items ≡ out.old.items ++ spelling_of_all (message_fields M.fields_of number held.now)) }
+    ensures ok { OnOk result
+        (out.new.items ≡ out.old.items
+        ++ spelling_of_all (message_fields M.fields_of number held.now)) }
     ensures kept { take (length out.old.items) out.new.items ≡ out.old.items }
     ensures memory { IfErr result (λ fault. fault ≡ OutOfMemory) }
 {

@@ -560,11 +560,15 @@ fn take_parameters(
     number: u32,
     item: &FieldItem<'_>,
 ) -> Result<(), ProtoFault>
-    ensures value { OnOk result ((before : List Field) → AreRepeated IsResponseParameters (contents number before) held.old
-        → AreRepeated IsResponseParameters (contents number (before ++ field_of item.now ∷ [])) held.new) }
-    ensures accepted { OnOk result (AcceptsMessage AcceptsResponseParameters number (field_of item.now)) }
+    ensures value { OnOk result
+        ((before : List Field) → AreRepeated IsResponseParameters (contents number before) held.old
+        → AreRepeated IsResponseParameters (contents number (before ++ field_of item.now ∷ []))
+        held.new) }
+    ensures accepted { OnOk result
+        (AcceptsMessage AcceptsResponseParameters number (field_of item.now)) }
     ensures refused { IfErr result (λ fault. fault ≢ OutOfMemory →
-        RefusesMessage (HasFault AcceptsResponseParameters RefusesResponseParameters) number (field_of item.now) fault) }
+        RefusesMessage (HasFault AcceptsResponseParameters RefusesResponseParameters) number
+        (field_of item.now) fault) }
 {
     if let Some(parameters) = read_message(alloc, number, item)? {
         held.push(parameters)?;
@@ -574,9 +578,13 @@ fn take_parameters(
 
 /// Adds the length of the fields of the responses that are asked for.
 fn add_parameters(total: usize, number: u32, held: &ParameterList) -> Option<usize>
-    ensures len { IfSome result (λ size. size ≡ total + length (spelling_of_all (repeated_fields response_parameters_fields number held.now))) }
+    ensures len { IfSome result
+        (λ size. size ≡ total + length
+        (spelling_of_all (repeated_fields response_parameters_fields number held.now))) }
     ensures fits { IfSome result (λ size. AllByRecursion FitsResponseParameters held.now) }
-    ensures too_long { IfNone result (2 ^ 64 ≤ total + length (spelling_of_all (repeated_fields response_parameters_fields number held.now))) }
+    ensures too_long { IfNone result
+        (2 ^ 64 ≤ total + length
+        (spelling_of_all (repeated_fields response_parameters_fields number held.now))) }
 {
     let mut size = total;
     for parameters in held.as_slice() {
@@ -587,7 +595,9 @@ fn add_parameters(total: usize, number: u32, held: &ParameterList) -> Option<usi
 
 fn put_parameters(number: u32, held: &ParameterList, out: &mut Vec<u8>) -> Result<(), ProtoFault>
     requires { IsFieldNumber number }
-    ensures ok { OnOk result (out.new.items ≡ out.old.items ++ spelling_of_all (repeated_fields response_parameters_fields number held.now)) }
+    ensures ok { OnOk result
+        (out.new.items ≡ out.old.items
+        ++ spelling_of_all (repeated_fields response_parameters_fields number held.now)) }
     ensures kept { take (length out.old.items) out.new.items ≡ out.old.items }
     ensures memory { IfErr result (λ fault. fault ≡ OutOfMemory) }
 {

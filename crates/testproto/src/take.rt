@@ -102,7 +102,8 @@ pub(crate) fn take_message<'a, M: Message<'a>>(
     number: u32,
     item: &FieldItem<'a>,
 ) -> Result<(), ProtoFault>
-    ensures value { OnOk result ((before : List Field) → IsEmbedded M.is_value (contents number before) held.old
+    ensures value { OnOk result
+        ((before : List Field) → IsEmbedded M.is_value (contents number before) held.old
         → IsEmbedded M.is_value (contents number (before ++ field_of item.now ∷ [])) held.new) }
     ensures accepted { OnOk result (AcceptsMessage M.accepts number (field_of item.now)) }
     ensures refused { IfErr result (λ fault. fault ≢ OutOfMemory →
@@ -124,7 +125,9 @@ pub(crate) fn read_message<'a, M: Message<'a>>(
     item: &FieldItem<'a>,
 ) -> Result<Option<M>, ProtoFault>
     ensures none { IfOk result (λ read. IfNone read (content_in number (field_of item.now) ≡ [])) }
-    ensures some { IfOk result (λ read. IfSome read (λ message. (content : List ℕ) × (content_in number (field_of item.now) ≡ content ∷ [])
+    ensures some { IfOk result
+        (λ read. IfSome read (λ message. (content : List ℕ)
+        × (content_in number (field_of item.now) ≡ content ∷ [])
         × IsValueOf M.accepts M.is_value content message)) }
     ensures refused { IfErr result (λ fault. fault ≢ OutOfMemory →
         RefusesMessage (HasFault M.accepts M.refuses) number (field_of item.now) fault) }

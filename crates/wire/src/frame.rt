@@ -53,7 +53,8 @@ pub fn push_frame(
     stream: u32,
     payload: &[u8],
 ) -> Result<(), WireFault>
-    ensures { OnOk result (bytes.new.items ≡ bytes.old.items ++ frame_text kind flags stream payload.now) }
+    ensures { OnOk result
+        (bytes.new.items ≡ bytes.old.items ++ frame_text kind flags stream payload.now) }
 {
     let length = payload.len();
     if length > MOST {

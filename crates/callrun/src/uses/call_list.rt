@@ -88,21 +88,35 @@ fn take_turns<I: Lane<Item = InPiece>, O: Lane<Item = OutItem>, P: Pace>(
     turns: u64,
 ) -> (u64, Why)
     requires index { run.old.index < length (listed methods.now) }
-    ensures run { IfSome (slice_get (listed methods.now) run.old.index) (λ method. (messages : List (List ℕ))
+    ensures run { IfSome (slice_get (listed methods.now) run.old.index)
+        (λ method. (messages : List (List ℕ))
         → Took (I.got run.old.taker.rx) run.old.taker.progress messages
-        → HasCome ((⟦<dyn Method as Method>⟧ method.vtable).answers method.value) ((⟦<dyn Method as Method>⟧ method.vtable).stands method.value) run.old.taker.progress.told messages run.old.call run.old.in_hand (shown (λ g. O.put_in g.tx) (λ s. O.put_shut s.shut) (λ s. O.was_placed s.shut) run.old.response)
-        → (more : List (List ℕ)) × Took (I.got run.new.taker.rx) run.new.taker.progress (messages ++ more)
-        × HasCome ((⟦<dyn Method as Method>⟧ method.vtable).answers method.value) ((⟦<dyn Method as Method>⟧ method.vtable).stands method.value) run.new.taker.progress.told (messages ++ more) run.new.call run.new.in_hand (shown (λ g. O.put_in g.tx) (λ s. O.put_shut s.shut) (λ s. O.was_placed s.shut) run.new.response)) }
+        → HasCome ((⟦<dyn Method as Method>⟧ method.vtable).answers method.value)
+        ((⟦<dyn Method as Method>⟧ method.vtable).stands method.value) run.old.taker.progress.told
+        messages run.old.call run.old.in_hand
+        (shown (λ g. O.put_in g.tx) (λ s. O.put_shut s.shut) (λ s. O.was_placed s.shut)
+        run.old.response)
+        → (more : List (List ℕ))
+        × Took (I.got run.new.taker.rx) run.new.taker.progress (messages ++ more)
+        × HasCome ((⟦<dyn Method as Method>⟧ method.vtable).answers method.value)
+        ((⟦<dyn Method as Method>⟧ method.vtable).stands method.value) run.new.taker.progress.told
+        (messages ++ more) run.new.call run.new.in_hand
+        (shown (λ g. O.put_in g.tx) (λ s. O.put_shut s.shut) (λ s. O.was_placed s.shut)
+        run.new.response)) }
     ensures in_name { I.out_name run.new.taker.rx ≡ I.out_name run.old.taker.rx }
-    ensures name { name_by (λ g. O.in_name g.tx) (λ s. O.shut_name s.shut) run.new.response ≡ name_by (λ g. O.in_name g.tx) (λ s. O.shut_name s.shut) run.old.response }
-    ensures same { (run.new.index ≡ run.old.index) × (run.new.call.head ≡ run.old.call.head) × (run.new.call.deadline ≡ run.old.call.deadline) }
-    ensures overdue { run.new.call.overdue ≡ true → (run.old.call.overdue ≡ true) ⊎ IsSomeAnd run.old.call.deadline (λ deadline. deadline ≤ P.latest pace.new) }
+    ensures name { name_by (λ g. O.in_name g.tx) (λ s. O.shut_name s.shut) run.new.response
+        ≡ name_by (λ g. O.in_name g.tx) (λ s. O.shut_name s.shut) run.old.response }
+    ensures same { (run.new.index ≡ run.old.index) × (run.new.call.head ≡ run.old.call.head)
+        × (run.new.call.deadline ≡ run.old.call.deadline) }
+    ensures overdue { run.new.call.overdue ≡ true → (run.old.call.overdue ≡ true)
+        ⊎ IsSomeAnd run.old.call.deadline (λ deadline. deadline ≤ P.latest pace.new) }
     ensures stays { P.latest pace.old ≤ P.latest pace.new }
     ensures turns { CountsOn (P.turns pace.old) (P.turns pace.new) result.0 }
     ensures lefts { CountsOn (P.lefts pace.old) (P.lefts pace.new) (leaves result.1) }
     ensures why { IsWhy turns result.0 result.1 }
     ensures over { result.1 ≡ why.Over → is_open run.new.response ≡ false }
-    ensures left { is_left run.new.response ≡ true → (is_left run.old.response ≡ true) ⊎ (lacks_memory run.new.call.handling.ending ≡ true) ⊎ (O.only_fills ≡ false) }
+    ensures left { is_left run.new.response ≡ true → (is_left run.old.response ≡ true)
+        ⊎ (lacks_memory run.new.call.handling.ending ≡ true) ⊎ (O.only_fills ≡ false) }
 {
     let mut last = Turn::Went;
     for had in 0..turns {
@@ -126,17 +140,22 @@ pub fn run_call<I: Lane<Item = InPiece>, O: Lane<Item = OutItem>, P: Pace>(
     turns: u64,
 ) -> Ended<I, O>
     requires index { call.index < length (listed methods.now) }
-    requires untouched { IsUntouched (I.got call.taker.rx) call.taker.progress (O.put_in call.giver.tx) }
+    requires untouched { IsUntouched (I.got call.taker.rx) call.taker.progress
+        (O.put_in call.giver.tx) }
     ensures run { IfSome (slice_get (listed methods.now) call.index) (λ method.
-        WasRun ((⟦<dyn Method as Method>⟧ method.vtable).answers method.value) call.head call.opened (P.latest pace.new)
-        (I.got result.taker.rx) result.taker.progress (of_end (λ g. O.put_in g.tx) (λ s. O.put_shut s.shut) result.end) result.code) }
+        WasRun ((⟦<dyn Method as Method>⟧ method.vtable).answers method.value) call.head call.opened
+        (P.latest pace.new)
+        (I.got result.taker.rx) result.taker.progress
+        (of_end (λ g. O.put_in g.tx) (λ s. O.put_shut s.shut) result.end) result.code) }
     ensures in_name { I.out_name result.taker.rx ≡ I.out_name call.taker.rx }
-    ensures name { of_end (λ g. O.in_name g.tx) (λ s. O.shut_name s.shut) result.end ≡ O.in_name call.giver.tx }
+    ensures name { of_end (λ g. O.in_name g.tx) (λ s. O.shut_name s.shut) result.end
+        ≡ O.in_name call.giver.tx }
     ensures stays { P.latest pace.old ≤ P.latest pace.new }
     // It is left only where its pace had it left, or its pace had as many turns as it may have.
     ensures turns { CountsOn (P.turns pace.old) (P.turns pace.new) result.turns }
     ensures lefts { CountsOn (P.lefts pace.old) (P.lefts pace.new) (leaves result.why) }
-    ensures had { HadTurns turns result.turns result.why (of_end (λ g. false) (λ s. true) result.end) result.ran_out O.only_fills }
+    ensures had { HadTurns turns result.turns result.why
+        (of_end (λ g. false) (λ s. true) result.end) result.ran_out O.only_fills }
 {
     let Opened {
         index,
@@ -170,15 +189,31 @@ pub fn run_list<I: Lane<Item = InPiece>, O: Lane<Item = OutItem>, P: Pace>(
     turns: u64,
 ) -> Result<Vec<Ended<I, O>>, AllocError>
     requires index { All (λ call. call.index < length (listed methods.now)) calls.items }
-    requires untouched { All (λ call. IsUntouched (I.got call.taker.rx) call.taker.progress (O.put_in call.giver.tx)) calls.items }
-    ensures run { IfOk result (λ ended. AllZip (λ call end. IfSome (slice_get (listed methods.now) call.index) (λ method.
-        WasRun ((⟦<dyn Method as Method>⟧ method.vtable).answers method.value) call.head call.opened (P.latest pace.new)
-        (I.got end.taker.rx) end.taker.progress (of_end (λ g. O.put_in g.tx) (λ s. O.put_shut s.shut) end.end) end.code)) calls.items ended.items) }
-    ensures in_names { IfOk result (λ ended. AllZip (λ call end. I.out_name end.taker.rx ≡ I.out_name call.taker.rx) calls.items ended.items) }
-    ensures names { IfOk result (λ ended. AllZip (λ call end. of_end (λ g. O.in_name g.tx) (λ s. O.shut_name s.shut) end.end ≡ O.in_name call.giver.tx) calls.items ended.items) }
-    ensures turns { IfOk result (λ ended. CountsOn (P.turns pace.old) (P.turns pace.new) (sum_by (λ end. end.turns) ended.items)) }
-    ensures lefts { IfOk result (λ ended. CountsOn (P.lefts pace.old) (P.lefts pace.new) (sum_by (λ end. leaves end.why) ended.items)) }
-    ensures had { IfOk result (λ ended. All (λ end. HadTurns turns end.turns end.why (of_end (λ g. false) (λ s. true) end.end) end.ran_out O.only_fills) ended.items) }
+    requires untouched { All
+        (λ call. IsUntouched (I.got call.taker.rx) call.taker.progress (O.put_in call.giver.tx))
+        calls.items }
+    ensures run { IfOk result
+        (λ ended. AllZip (λ call end. IfSome (slice_get (listed methods.now) call.index) (λ method.
+        WasRun ((⟦<dyn Method as Method>⟧ method.vtable).answers method.value) call.head call.opened
+        (P.latest pace.new)
+        (I.got end.taker.rx) end.taker.progress
+        (of_end (λ g. O.put_in g.tx) (λ s. O.put_shut s.shut) end.end) end.code)) calls.items
+        ended.items) }
+    ensures in_names { IfOk result
+        (λ ended. AllZip (λ call end. I.out_name end.taker.rx ≡ I.out_name call.taker.rx)
+        calls.items ended.items) }
+    ensures names { IfOk result
+        (λ ended. AllZip (λ call end. of_end (λ g. O.in_name g.tx) (λ s. O.shut_name s.shut) end.end
+        ≡ O.in_name call.giver.tx) calls.items ended.items) }
+    ensures turns { IfOk result
+        (λ ended. CountsOn (P.turns pace.old) (P.turns pace.new)
+        (sum_by (λ end. end.turns) ended.items)) }
+    ensures lefts { IfOk result
+        (λ ended. CountsOn (P.lefts pace.old) (P.lefts pace.new)
+        (sum_by (λ end. leaves end.why) ended.items)) }
+    ensures had { IfOk result
+        (λ ended. All (λ end. HadTurns turns end.turns end.why
+        (of_end (λ g. false) (λ s. true) end.end) end.ran_out O.only_fills) ended.items) }
 {
     let mut waiting = calls;
     let mut ended = Vec::with_capacity(alloc, waiting.len())?;

@@ -29,7 +29,8 @@ fn read<A: Ledger, B: Ledger, C: Ledger, R: Wait>(
 ) -> (Share<A>, Share<B>)
     requires came { (came.parts ≡ A.parts) × (0 < came.parts) }
     requires calls { (calls.parts ≡ B.parts) × (0 < calls.parts) }
-    ensures came { (result.0.parts ≡ came.parts) × (result.0.amount ≤ came.amount + sum pieces.now) }
+    ensures came { (result.0.parts ≡ came.parts)
+        × (result.0.amount ≤ came.amount + sum pieces.now) }
     ensures calls { result.1.parts ≡ calls.parts }
 {
     let mut came = came;
@@ -95,7 +96,8 @@ fn run_over<
         || -> (Share<A>, Share<B>)
             requires came { (came.parts ≡ A.parts) × (0 < came.parts) }
             requires calls { (calls.parts ≡ B.parts) × (0 < calls.parts) }
-            ensures came { (result.0.parts ≡ came.parts) × (result.0.amount ≤ came.amount + sum pieces.entry.now) }
+            ensures came { (result.0.parts ≡ came.parts)
+                × (result.0.amount ≤ came.amount + sum pieces.entry.now) }
             ensures calls { result.1.parts ≡ calls.parts }
         { read(rt, shared, came, calls, pieces) },
         || -> (Share<C>, u64)

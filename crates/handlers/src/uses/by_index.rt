@@ -16,7 +16,8 @@ pub fn run_one(
     message: &[u8],
 ) -> Result<Step, MethodFault>
     requires { index < length (listed methods.now) }
-    ensures { IfSome (slice_get (listed methods.now) index) (λ method. IfOk result (λ answer. answers method (message.now ∷ []) true answer)) }
+    ensures { IfSome (slice_get (listed methods.now) index)
+        (λ method. IfOk result (λ answer. answers method (message.now ∷ []) true answer)) }
 {
     let mut state = methods.first(index);
     let mut given = Step::nothing(alloc);

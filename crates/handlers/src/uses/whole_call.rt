@@ -18,8 +18,12 @@ pub fn run(
     messages: &[&[u8]],
     ended: bool,
 ) -> Result<Step, MethodFault>
-    ensures answer { IfOk result (λ answer. answers method.now (map (λ message. message.now) messages.now) ended answer) }
-    ensures only { IfOk result (λ answer. (other : Given) → answers method.now (map (λ message. message.now) messages.now) ended other → other ≡ answer) }
+    ensures answer { IfOk result
+        (λ answer. answers method.now (map (λ message. message.now) messages.now) ended answer) }
+    ensures only { IfOk result
+        (λ answer. (other : Given)
+        → answers method.now (map (λ message. message.now) messages.now) ended other → other
+        ≡ answer) }
     ensures status { IfOk result (λ answer. IsTrue ended → IsSome answer.ends) }
 {
     let mut state = method.first();

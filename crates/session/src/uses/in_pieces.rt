@@ -9,7 +9,8 @@ use std::alloc::{AllocError, Global};
 
 /// The events of these pieces, one list of them all: those of the joined pieces, however they are cut.
 pub fn events_of(alloc: Global, pieces: &[&[u8]]) -> Result<Vec<InEvent>, AllocError>
-    ensures { IfOk result (λ events. Events (flat_map (λ piece. piece.now) pieces.now) events.items) }
+    ensures { IfOk result
+        (λ events. Events (flat_map (λ piece. piece.now) pieces.now) events.items) }
 {
     let mut core = InCore::new(alloc);
     let mut events = Vec::new(alloc);
