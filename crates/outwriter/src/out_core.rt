@@ -7,7 +7,7 @@
 //! `control`: A dead core hands each control back, since nothing that it keeps is known to follow from its run; what
 //! was told of each call stays a prefix, so its senders can be brought back.
 
-ghost use Rattle.std.specs.Prelude.{◌≡◌, List, [], ◌∷◌, Some, None, Err, false, true, OnOk, IfErr, IfSome};
+ghost use Rattle.std.specs.Prelude.{◌≡◌, List, [], ◌∷◌, Some, None, Err, false, true, IsOk, OnOk, IfErr, IfSome};
 ghost use Rattle.outwriter.specs.CallState.{Takes, none_is_new};
 ghost use Rattle.outwriter.specs.Cores.{Brings, Leads, LeadsControl, LeadsOn, LeadsStill, calls, open_stream};
 ghost use Rattle.outwriter.specs.declared.control.OutFault.TheVariants as out_fault;
@@ -58,7 +58,7 @@ impl<L: Lane<Item = OutItem>> OutCore<L> {
 
     /// Takes a control. Out of memory, it hands the control back and changes nothing; a window that would be over
     /// 2^31 - 1 bytes is a fault of the peer, of which no window changes, and the control counts as taken. A dead core
-    /// hands each back.
+    /// hands each back. InputEnded and Close take no memory.
     pub fn control(&mut self, control: Control<Sender<L>>) -> Result<(), OutFault<Sender<L>>>
         // The control is the next step of the run, unless it is handed back. An Open brings a sender of which nothing was got.
         ensures leads { LeadsControl L.got result control self.old self.new }
@@ -76,6 +76,8 @@ impl<L: Lane<Item = OutItem>> OutCore<L> {
         // It is that of the stream to which the peer gave credit, or of the connection where its SETTINGS are.
         ensures whose { IfErr result (λ fault. Concerns fault control) }
         ensures alive { self.new.is_dead ≡ self.old.is_dead }
+        ensures ended { self.old.is_dead ≡ false → control ≡ order.InputEnded → IsOk result }
+        ensures closes { self.old.is_dead ≡ false → control ≡ order.Close → IsOk result }
         ensures dead { self.old.is_dead ≡ true
             → result ≡ Err (out_fault.OutOfMemory (Some control)) }
         ensures dead_stays { self.old.is_dead ≡ true → self.new ≡ self.old }
@@ -87,9 +89,10 @@ impl<L: Lane<Item = OutItem>> OutCore<L> {
         if self.is_dead {
             return Err(OutFault::OutOfMemory(Some(control)));
         }
-        let Ok(()) = self.sending.outbound.make_room() else {
+        let takes_room = !matches!(control, Control::InputEnded | Control::Close);
+        if takes_room && self.sending.outbound.make_room().is_err() {
             return Err(OutFault::OutOfMemory(Some(control)));
-        };
+        }
         match control {
             Control::Settings(settings) => {
                 match self.sending.outbound.take_settings(&settings) {
