@@ -2,11 +2,20 @@
 use Rattle.std.specs.Prelude.{◌≡◌, ◌⊎◌, ◌≤◌, ℕ, Bool, true, nat_eq, List, [], ◌∷◌, ◌++◌, length, Option, None, Some, IfSome, slice_get, All}
 use Rattle.std.specs.List.{list_any}
 use Rattle.lane.specs.Cuts.{segment}
+use Rattle.lane.specs.contracts.ring_lane.RingLaneLane.TheImpl.{ghosts, no_dict}
+use Rattle.lane.specs.declared.lane.End.{End}
+use Rattle.lane.specs.declared.ring_lane.RingLane.{RingLane}
+use Rattle.lane.specs.declared.ring_lane.RingLaneIn.{RingLaneIn}
+use Rattle.lane.specs.declared.ring_lane.RingLaneOut.{RingLaneOut}
+use Rattle.lane.specs.declared.ring_lane.RingLaneShut.{RingLaneShut}
 use Rattle.lane.specs.End.{of_end}
 use Rattle.lane.specs.Ring.{taken}
-use Rattle.lane.specs.RingLane.{got, past_in, past_out, past_shut, put_in, put_shut}
+use Rattle.lane.specs.RingLane.{LaneName, got, in_name, past_in, past_out, past_shut, put_in, put_shut, ring_of, shut_name}
+use Rattle.account.specs.contracts.call.OutItem as out_item
 use Rattle.account.specs.declared.call.OutItem.{OutItem}
 use Rattle.account.specs.declared.call.Told.{Told}
+use Rattle.callbox.specs.declared.giver.Giver.{Giver}
+use Rattle.callbox.specs.declared.giver.GivenShut.{GivenShut}
 use Rattle.callbox.specs.declared.piece.InPiece.{InPiece}
 use Rattle.callbox.specs.declared.taker.Progress.{Progress}
 use Rattle.callbox.specs.InSides.{Took}
@@ -48,6 +57,25 @@ module _ (answers : ℕ → List (List ℕ) → Bool → Step → Type 0) where
 abbrev pub IsFresh : List InPiece → Progress → Type 0
 IsFresh got progress = (got ≡ []) × Took [] progress [] × (progress.told ≡ None)
 
+-- ---- the giving end of a slot, at a call or behind one
+
+abbrev pub SlotGiver : Type 0
+SlotGiver = Giver (RingLane OutItem) (RingLaneIn OutItem) (RingLaneOut OutItem) (RingLaneShut OutItem) (ghosts out_item.the_row no_dict)
+
+abbrev pub SlotGiven : Type 0
+SlotGiven = GivenShut (RingLane OutItem) (RingLaneIn OutItem) (RingLaneOut OutItem) (RingLaneShut OutItem) (ghosts out_item.the_row no_dict)
+
+abbrev pub GivingEnd : Type 0
+GivingEnd = End SlotGiver SlotGiven
+
+abbrev pub giving_ring : GivingEnd → LaneName
+giving_ring end = ring_of (of_end (λ g. in_name g.tx) (λ s. shut_name s.shut) end)
+
+-- what was given by it, call by call
+abbrev pub given_at : GivingEnd → List (List OutItem)
+given_at end = of_end (λ g. past_in g.tx) (λ s. past_shut s.shut) end
+    ++ of_end (λ g. put_in g.tx) (λ s. put_shut s.shut) end ∷ []
+
 -- ---- a worker's ends at its end
 
 -- what it got of its calls, call by call, and what it gave
@@ -55,8 +83,7 @@ abbrev pub got_by : Seen → List (List InPiece)
 got_by seen = past_out seen.taker.rx ++ got seen.taker.rx ∷ []
 
 abbrev pub given_by : Seen → List (List OutItem)
-given_by seen = of_end (λ g. past_in g.tx) (λ s. past_shut s.shut) seen.end
-    ++ of_end (λ g. put_in g.tx) (λ s. put_shut s.shut) seen.end ∷ []
+given_by seen = given_at seen.end
 
 -- what its rows say of the jobs that it took
 abbrev pub HasRows : (ℕ → List (List ℕ) → Bool → Step → Type 0) → Seen → Type 0

@@ -15,5 +15,5 @@ pub mod slot;
 
 pub use order::{Fresh, Opened, Order};
 pub use report::{CallReport, Ending};
-pub use seen::Seen;
+pub use seen::{GivingEnd, Seen};
 pub use slot::{InLane, Job, OutLane, Slot};

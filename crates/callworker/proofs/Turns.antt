@@ -22,8 +22,8 @@ use Rattle.callrun.proofs.Listing.{closed_run}
 use Rattle.callslot.specs.declared.report.CallReport.{CallReport}
 use Rattle.callslot.specs.declared.slot.Job.{Job}
 use Rattle.callslot.specs.Accounts.{IsGivenAs, answers_by, unanswered}
-use Rattle.callslot.specs.Workers.{Answers}
-use Rattle.callworker.specs.Runs.{EndsAs, GoesOn, IsOneCall, IsRowOf, LeadsOn, SlotGiven, SlotGiver, SlotRun, given_past, giver_name, shown_by, shows}
+use Rattle.callslot.specs.Workers.{Answers, SlotGiven, SlotGiver}
+use Rattle.callworker.specs.Runs.{EndsAs, GoesOn, IsOneCall, IsRowOf, LeadsOn, SlotRun, given_past, giver_name, shown_by, shows}
 
 owes_less : (items : List InPiece) (p q : Progress) (messages : List (List ℕ)) → q ≡ record p { owed = 0 } → Took items p messages → Took items q messages
 owes_less items p q messages less took = subst (λ (r : Progress). Took items r messages) (sym less) (record {

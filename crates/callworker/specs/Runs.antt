@@ -9,8 +9,6 @@ use Rattle.lane.specs.RingLane.{LaneName, got, in_name, out_name, past_in, past_
 use Rattle.account.specs.contracts.call.OutItem as out_item
 use Rattle.account.specs.declared.call.OutItem.{OutItem}
 use Rattle.callbox.specs.contracts.piece.InPiece as in_piece
-use Rattle.callbox.specs.declared.giver.Giver.{Giver}
-use Rattle.callbox.specs.declared.giver.GivenShut.{GivenShut}
 use Rattle.callbox.specs.declared.piece.InPiece.{InPiece}
 use Rattle.callbox.specs.declared.taker.Progress.{Progress}
 use Rattle.callbox.specs.InSides.{Took}
@@ -23,16 +21,9 @@ use Rattle.callrun.specs.Runs.{GivesOf, HasCome}
 use Rattle.callrun.specs.Sides.{Shown, name_by, shown}
 use Rattle.callslot.specs.declared.report.CallReport.{CallReport}
 use Rattle.callslot.specs.Accounts.{IsGivenAs}
+use Rattle.callslot.specs.Workers.{SlotGiven, SlotGiver}
 
--- ---- the types of a slot's ends, over its two lanes
-
-abbrev pub SlotGiver : Type 0
-SlotGiver = Giver (RingLane OutItem) (RingLaneIn OutItem) (RingLaneOut OutItem) (RingLaneShut OutItem) (ghosts out_item.the_row no_dict)
-
-abbrev pub SlotGiven : Type 0
-SlotGiven = GivenShut (RingLane OutItem) (RingLaneIn OutItem) (RingLaneOut OutItem) (RingLaneShut OutItem) (ghosts out_item.the_row no_dict)
-
--- a call over them
+-- a call over the two lanes of a slot
 abbrev pub SlotRun : Type 0
 SlotRun = CallRun (RingLane InPiece) (RingLane OutItem)
     (RingLaneIn InPiece) (RingLaneOut InPiece) (RingLaneShut InPiece)

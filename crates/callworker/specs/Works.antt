@@ -1,16 +1,14 @@
 -- What a worker has between two calls, and at its end.
 use Rattle.std.specs.Prelude.{◌≡◌, ℕ, Bool, List, [], ◌∷◌, ◌++◌, length}
 use Rattle.lane.specs.End.{of_end}
-use Rattle.lane.specs.declared.lane.End.{End}
 use Rattle.lane.specs.Ring as ring
-use Rattle.lane.specs.RingLane.{LaneName, got, in_name, out_name, past_in, past_out, past_shut, put_in, put_shut, ring_of, shut_name}
+use Rattle.lane.specs.RingLane.{got, in_name, out_name, past_in, past_out, past_shut, put_in, put_shut, ring_of}
 use Rattle.account.specs.declared.call.OutItem.{OutItem}
 use Rattle.handlers.specs.declared.step.Step.{Step}
 use Rattle.callslot.specs.declared.seen.Seen.{Seen}
 use Rattle.callslot.specs.Accounts.{IsWithin, answers_by}
-use Rattle.callslot.specs.Workers.{HasRows, HaveRows, IsFresh}
+use Rattle.callslot.specs.Workers.{GivingEnd, HasRows, HaveRows, IsFresh, giving_ring}
 use Rattle.callworker.specs.declared.ends.Ends.{Ends}
-use Rattle.callworker.specs.Runs.{SlotGiven, SlotGiver}
 
 -- what each of these methods answers is known
 abbrev pub IsKnown : {A : Type 0} → (ℕ → List (List ℕ) → Bool → Step → Type 0)
@@ -18,12 +16,6 @@ abbrev pub IsKnown : {A : Type 0} → (ℕ → List (List ℕ) → Bool → Step
 IsKnown known of_method methods = IsWithin known (answers_by of_method methods)
 
 -- ---- the giving end of a slot, at a call or behind one
-
-abbrev pub GivingEnd : Type 0
-GivingEnd = End SlotGiver SlotGiven
-
-abbrev pub giving_ring : GivingEnd → LaneName
-giving_ring end = ring_of (of_end (λ g. in_name g.tx) (λ s. shut_name s.shut) end)
 
 -- what was given for the calls before the next
 abbrev pub given_before : GivingEnd → List (List OutItem)

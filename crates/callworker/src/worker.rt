@@ -10,9 +10,9 @@ ghost use Rattle.callbox.specs.declared.piece.InPiece.{InPiece};
 ghost use Rattle.handlers.specs.Listed.{listed};
 ghost use Rattle.callrun.specs.Sides.{is_open};
 ghost use Rattle.callslot.specs.Accounts.{IsGivenAs, answers_by, unanswered};
-ghost use Rattle.callslot.specs.Workers.{Answers, HasRows, IsFresh};
+ghost use Rattle.callslot.specs.Workers.{Answers, HasRows, IsFresh, giving_ring};
 ghost use Rattle.callworker.specs.Runs.{EndsAs, GoesOn, IsOneCall, IsRowOf, given_past, giver_name};
-ghost use Rattle.callworker.specs.Works.{AreEndsOf, AreSameEnds, IsIdle, IsKnown, IsUnused, given_before, given_now, giving_ring};
+ghost use Rattle.callworker.specs.Works.{AreEndsOf, AreSameEnds, IsIdle, IsKnown, IsUnused, given_before, given_now};
 
 use crate::answering::Answering;
 use crate::ends::Ends;

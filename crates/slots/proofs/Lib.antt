@@ -9,6 +9,9 @@ pub mod Seats
 pub mod SlotSteps
 pub mod Unfed
 pub mod Ids
+pub mod Lines
+pub mod EndSteps
+pub mod Opens
 pub mod NoneAnswered
 pub mod SeatRows
 pub mod SlotRows

@@ -5,6 +5,7 @@ use Rattle.std.proofs.lemmas.List.Elements.{All-weaker}
 use Rattle.lane.specs.Cuts.{segment}
 use Rattle.lane.specs.Lawful.{count_of}
 use Rattle.lane.specs.RingLane.{past_in, past_shut, put_in, put_shut}
+use Rattle.account.specs.declared.call.Account.{Account}
 use Rattle.account.specs.declared.call.OutItem.{OutItem}
 use Rattle.account.specs.declared.call.Shut.{Shut}
 use Rattle.callbox.specs.declared.piece.InPiece.{InPiece}
@@ -112,12 +113,13 @@ both-at {A} P Q xs follows at n = among (slice_get xs n) refl (at n)
 
 -- ---- the accounts
 
-module _ (answers : ℕ → List (List ℕ) → Bool → Answer → Type 0) where
+module _ (answers : ℕ → List (List ℕ) → Bool → Answer → Type 0) (carries : ℕ → Account → Type 0) where
   module _ (names : List ℕ → ℕ → Type 0) (told : List Step) where
     -- a row on what was heard of its call, with what was noted of the half
     accounted : (fed got : List InPiece) (given : List OutItem) (job : Job) (row half : CallReport) → IsUnsent fed got given → IsHeard names told job fed → Answers answers got given job row
-        → HasHalf told half → half.id ≡ row.id → IsAccounted answers names told (record row { fed = half.fed; shut = half.shut })
-    accounted fed got given job row half lawful heard has noted same = record {
+        → HasHalf told half → half.id ≡ row.id → ((account : Account) → account.given ≡ given → carries job.id account)
+        → IsAccounted answers names carries told (record row { fed = half.fed; shut = half.shut })
+    accounted fed got given job row half lawful heard has noted same gave = record {
       account = unsent fed has.messages has.said given;
       head = job.head;
       known = subst (λ (id : ℕ). is_admitted id told ≡ true) (sym has.id) heard.known;
@@ -139,12 +141,13 @@ module _ (answers : ℕ → List (List ℕ) → Bool → Answer → Type 0) wher
           told = has.answered.told;
         };
       };
+      carried = subst (λ (id : ℕ). carries id (unsent fed has.messages has.said given)) (sym has.id) (gave (unsent fed has.messages has.said given) refl);
     }
 
     -- the row of a call of which nothing was taken
     bare : (fed got : List InPiece) (given : List OutItem) (job : Job) (row : CallReport) → IsUnsent fed got given → IsHeard names told job fed → IsGivenAs [] given → IsServed names told row → row.id ≡ job.id
-        → IsAccounted answers names told row
-    bare fed got given job row lawful heard none served same = record {
+        → ((account : Account) → account.given ≡ given → carries job.id account) → IsAccounted answers names carries told row
+    bare fed got given job row lawful heard none served same gave = record {
       account = unsent fed [] None given;
       head = served.head;
       known = served.known;
@@ -158,28 +161,35 @@ module _ (answers : ℕ → List (List ℕ) → Bool → Answer → Type 0) wher
         lawful = lawful [] None (took-nothing got);
         answered = subst (λ (r : CallReport). IsAnswered answers served.head [] None given r) (sym served.bare) (bare-answered answers served.head given (since row.id told) row.id row.method none);
       };
+      carried = subst (λ (id : ℕ). carries id (unsent fed [] None given)) (sym same) (gave (unsent fed [] None given) refl);
     }
+
+    -- what is known of the call of each job, by what was given of it
+    abbrev pub EachCarried : List Job → List (List OutItem) → Type 0
+    EachCarried jobs gives = (n : ℕ) (job : Job) (account : Account) → slice_get jobs n ≡ Some job → account.given ≡ segment gives n → carries job.id account
 
     -- of a job without a row
     abbrev Rest : List CallReport → Job → Type 0
-    Rest rows job = HasRow rows job ⊎ ((row : CallReport) → IsServed names told row → row.id ≡ job.id → IsAccounted answers names told row)
+    Rest rows job = HasRow rows job ⊎ ((row : CallReport) → IsServed names told row → row.id ≡ job.id → IsAccounted answers names carries told row)
 
     -- the rows of a slot's worker
     slot-rows : (feds gots : List (List InPiece)) (gives : List (List OutItem)) (all jobs left : List Job) (rows : List CallReport) → jobs ++ left ≡ all
         → ((n : ℕ) → IsUnsent (segment feds n) (segment gots n) (segment gives n)) → EachHeard names told (λ n. segment feds n) all
-        → HaveRows answers gots gives jobs rows → AreAnswered answers names told all rows
-    slot-rows feds gots gives all jobs left rows parts lawful heard has = record {
+        → HaveRows answers gots gives jobs rows → EachCarried all gives → AreAnswered answers names carries told all rows
+    slot-rows feds gots gives all jobs left rows parts lawful heard has gave = record {
       each = All-weaker (IsOfJob answers gots gives jobs)
-          (λ row. (is_admitted row.id told ≡ true) × ((half : CallReport) → HasHalf told half → half.id ≡ row.id → IsAccounted answers names told (record row { fed = half.fed; shut = half.shut })))
+          (λ row. (is_admitted row.id told ≡ true) × ((half : CallReport) → HasHalf told half → half.id ≡ row.id → IsAccounted answers names carries told (record row { fed = half.fed; shut = half.shut })))
           (λ row one.
-          let hears = if-at (λ job. IsHeard names told job (segment feds one.number)) _ one.job
-          (subst (λ (js : List Job). slice_get js one.number ≡ Some one.job) parts (get-left jobs left one.number one.job one.at)) (heard one.number) in (
+          let at = subst (λ (js : List Job). slice_get js one.number ≡ Some one.job) parts (get-left jobs left one.number one.job one.at) in
+          let hears = if-at (λ job. IsHeard names told job (segment feds one.number)) _ one.job at (heard one.number) in (
             subst (λ (id : ℕ). is_admitted id told ≡ true) (sym one.stands.id) hears.known,
-            λ half noted same. accounted (segment feds one.number) (segment gots one.number) (segment gives one.number) one.job row half (lawful one.number) hears one.stands noted same,
+            λ half noted same.
+                accounted (segment feds one.number) (segment gots one.number) (segment gives one.number) one.job row half (lawful one.number) hears one.stands noted same
+                (λ account is. gave one.number one.job account at is),
           )) rows has.each;
       rest = both-at (λ n job. IsHeard names told job (segment feds n)) (λ n job. Rest rows job) all (λ n job at hears. elim (left-of n job at) [
         | inl row ↦ inl row
-        | inr none ↦ inr (λ row served same. bare (segment feds n) (segment gots n) (segment gives n) job row (lawful n) hears none served same)
+        | inr none ↦ inr (λ row served same. bare (segment feds n) (segment gots n) (segment gives n) job row (lawful n) hears none served same (λ account is. gave n job account at is))
       ]) heard;
     }
       where
@@ -190,17 +200,17 @@ module _ (answers : ℕ → List (List ℕ) → Bool → Answer → Type 0) wher
 
     settled-rows : (feds : Option (List (List InPiece))) (gots : List (List InPiece)) (gives : List (List OutItem)) (all jobs left : List Job) (rows : List CallReport) → jobs ++ left ≡ all
         → IsSomeAnd feds (λ fs. (n : ℕ) → IsUnsent (segment fs n) (segment gots n) (segment gives n)) → IsSomeAnd feds (λ fs. EachHeard names told (λ n. segment fs n) all)
-        → HaveRows answers gots gives jobs rows → AreAnswered answers names told all rows
-    settled-rows None gots gives all jobs left rows parts lawful heard has = absurd lawful
-    settled-rows (Some feds) gots gives all jobs left rows parts lawful heard has = slot-rows feds gots gives all jobs left rows parts lawful heard has
+        → HaveRows answers gots gives jobs rows → EachCarried all gives → AreAnswered answers names carries told all rows
+    settled-rows None gots gives all jobs left rows parts lawful heard has gave = absurd lawful
+    settled-rows (Some feds) gots gives all jobs left rows parts lawful heard has gave = slot-rows feds gots gives all jobs left rows parts lawful heard has gave
 
     -- the rows of a slot whose ends were brought together
     pub seat-rows : (half : Half) (id : ℕ) (gots : List (List InPiece)) (gives : List (List OutItem)) (all jobs left : List Job) (rows : List CallReport) → jobs ++ left ≡ all
         → IsSomeAnd (fed_of half) (λ fs. (n : ℕ) → IsUnsent (segment fs n) (segment gots n) (segment gives n))
         → TellsShut (shown half) → HaveRows answers gots gives jobs rows
-        → AreCalls names told all (past_of half) id (shown half) → AreAnswered answers names told all rows
-    seat-rows half id gots gives all jobs left rows parts lawful tells has are =
-        settled-rows (fed_of half) gots gives all jobs left rows parts lawful (seat-heard names told half all id tells are) has
+        → AreCalls names told all (past_of half) id (shown half) → EachCarried all gives → AreAnswered answers names carries told all rows
+    seat-rows half id gots gives all jobs left rows parts lawful tells has are gave =
+        settled-rows (fed_of half) gots gives all jobs left rows parts lawful (seat-heard names told half all id tells are) has gave
 
 -- what is left in a ring stands behind what was taken
 pub met-parts : {A : Type 0} (taken after left put_after put : List A) → after ≡ taken → after ++ left ≡ put_after → put_after ≡ put → taken ++ left ≡ put

@@ -1,9 +1,10 @@
 -- The rows of all calls, where the ends of the workers are seen one after another.
-use Rattle.std.proofs.Common.{◌≡◌, ◌∙◌, ◌⊎◌, inl, inr, ap, arith, eq-eqb, refl, subst, sym, ℕ, ◌+◌, ◌<◌, zero, suc, Bool, true, false, true≢false, nat_eq, List, [], ◌∷◌, ◌++◌, Option, None, Some, All, length, map, slice_get}
+use Rattle.std.proofs.Common.{◌≡◌, ◌∙◌, ◌⊎◌, inl, inr, ap, arith, eq-eqb, refl, subst, sym, ℕ, ◌+◌, ◌<◌, zero, suc, Bool, true, false, true≢false, nat_eq, List, [], ◌∷◌, ◌++◌, Option, None, Some, All, get_or, length, map, slice_get}
 use Rattle.std.specs.Prelude.{◌||◌, if◌then◌else◌, IfSome}
 use Rattle.std.specs.List.{list_any}
 use Rattle.std.proofs.lemmas.Bool.{eqb-true}
 use Rattle.std.proofs.lemmas.List.Elements.{All-map}
+use Rattle.account.specs.declared.call.Account.{Account}
 use Rattle.callslot.specs.declared.report.CallReport.{CallReport}
 use Rattle.callslot.specs.declared.slot.Job.{Job}
 use Rattle.callslot.specs.Workers.{HasRow}
@@ -16,7 +17,6 @@ use Rattle.slots.specs.Reports.{AreAnswered, AreRows, HasHalf, IsAccounted, IsRe
 use Rattle.slots.specs.Calls.{is_admitted}
 use Rattle.slots.specs.Seats.{HaveRows, ids_of, jobs_of, times_in}
 use Rattle.slots.specs.Steps.{Step, admitted, fed_by, reported, shut_by, since}
-use Rattle.slots.proofs.SlotSteps.{times-pushed}
 use Rattle.slots.proofs.Unfed.{among, either, split-first}
 use Rattle.slots.proofs.Updates.{streams-updated, updated_by-id}
 
@@ -86,10 +86,10 @@ job-at id (job ∷ jobs) some = elim (split-first id job.id (map (λ (j : Job). 
 if-at : {A : Type 0} (P : A → Type 0) (found : Option A) (value : A) → found ≡ Some value → IfSome found P → P value
 if-at {A} P found value is has = subst (λ (o : Option A). IfSome o P) is has
 
-module _ {H : Type 0} {hand : Ghosts H} (answers : ℕ → List (List ℕ) → Bool → Answer → Type 0) (names : List ℕ → ℕ → Type 0) (told : List Step) where
+module _ {H : Type 0} {hand : Ghosts H} (answers : ℕ → List (List ℕ) → Bool → Answer → Type 0) (names : List ℕ → ℕ → Type 0) (carries : ℕ → Account → Type 0) (told : List Step) where
   -- a row is settled, or its call is one of the slots that are left
   abbrev IsSettled : List (Seat H hand) → CallReport → Type 0
-  IsSettled rest row = IsReported answers names told row ⊎ (IsServed names told row × (0 < times_in row.id rest))
+  IsSettled rest row = IsReported answers names carries told row ⊎ (IsServed names told row × (0 < times_in row.id rest))
 
   pub record AreSoFar (rest : List (Seat H hand)) (rows : List CallReport) : Type 0 where
     pub each : All (λ row. IsSettled rest row) rows
@@ -109,25 +109,25 @@ module _ {H : Type 0} {hand : Ghosts H} (answers : ℕ → List (List ℕ) → B
       ]
 
   -- the end of one worker more
-  more-row : (before rest : List (Seat H hand)) (seat : Seat H hand) (answered : List CallReport) (row : CallReport) → before ≡ rest ++ seat ∷ [] → AreAnswered answers names told (jobs_of seat) answered
+  more-row : (before rest : List (Seat H hand)) (seat : Seat H hand) (answered : List CallReport) (row : CallReport) → before ≡ seat ∷ rest → AreAnswered answers names carries told (jobs_of seat) answered
       → IsSettled before row → IsSettled rest (updated_by answered row)
   more-row before rest seat answered row popped says was = elim was [
     | inl done ↦ inl (elim done [
-      | inl accounted ↦ elim (updated-or told (IsAccounted answers names told) answered row (half-of accounted) says.each) [
+      | inl accounted ↦ elim (updated-or told (IsAccounted answers names carries told) answered row (half-of accounted) says.each) [
         | inl now ↦ inl now
-        | inr left ↦ inl (subst (λ (r : CallReport). IsAccounted answers names told r) (sym left.0) accounted)
+        | inr left ↦ inl (subst (λ (r : CallReport). IsAccounted answers names carries told r) (sym left.0) accounted)
       ]
-      | inr none ↦ inr (subst (λ (r : CallReport). IsUnserved names told r) (sym (updated-apart told (IsAccounted answers names told) answered row none.apart says.each)) none)
+      | inr none ↦ inr (subst (λ (r : CallReport). IsUnserved names told r) (sym (updated-apart told (IsAccounted answers names carries told) answered row none.apart says.each)) none)
     ])
-    | inr waits ↦ elim (updated-or told (IsAccounted answers names told) answered row (noted waits.0) says.each) [
+    | inr waits ↦ elim (updated-or told (IsAccounted answers names carries told) answered row (noted waits.0) says.each) [
       | inl done ↦ inl (inl done)
       | inr left ↦ subst (λ (r : CallReport). IsSettled rest r) (sym left.0) (
-          let count : times_in row.id before ≡ times_in row.id rest + times row.id (ids_of seat) = ap (λ (seats : List (Seat H hand)). times_in row.id seats) popped ∙ times-pushed row.id rest seat in
-          elim (either (times_in row.id rest) (times row.id (ids_of seat)) (subst (λ (n : ℕ). 0 < n) count waits.1)) [
+          let count : times_in row.id before ≡ times row.id (ids_of seat) + times_in row.id rest = ap (λ (seats : List (Seat H hand)). times_in row.id seats) popped in
+          elim (either (times_in row.id rest) (times row.id (ids_of seat)) (omega (arith, count, waits.1))) [
             | inl later ↦ inr (waits.0, later)
             | inr here ↦
                 let found = job-at row.id (jobs_of seat) here in
-                let rest_says = if-at (λ job. HasRow answered job ⊎ ((r : CallReport) → IsServed names told r → r.id ≡ job.id → IsAccounted answers names told r)) _ found.1 found.2 (says.rest found.0) in
+                let rest_says = if-at (λ job. HasRow answered job ⊎ ((r : CallReport) → IsServed names told r → r.id ≡ job.id → IsAccounted answers names carries told r)) _ found.1 found.2 (says.rest found.0) in
                 elim rest_says [
                   | inl has ↦
                       let none = sym has ∙ (ap (λ (id : ℕ). list_any (λ (r : CallReport). nat_eq r.id id) answered) (sym found.3) ∙ left.1) in
@@ -138,14 +138,14 @@ module _ {H : Type 0} {hand : Ghosts H} (answers : ℕ → List (List ℕ) → B
     ]
   ]
     where
-      half-of : IsAccounted answers names told row → HasHalf told row
+      half-of : IsAccounted answers names carries told row → HasHalf told row
       half-of is = (is.counted ∙ ap (λ (bytes : List ℕ). count_of bytes) is.fed, is.kind ∙ is.shut)
 
       noted : IsServed names told row → HasHalf told row
       noted served = (ap (λ (r : CallReport). r.fed) served.bare, ap (λ (r : CallReport). r.shut) served.bare)
 
-  pub more-so-far : (before rest : List (Seat H hand)) (seat : Seat H hand) (answered rows new : List CallReport) → before ≡ rest ++ seat ∷ [] → new ≡ map (updated_by answered) rows
-      → AreAnswered answers names told (jobs_of seat) answered → AreSoFar before rows → AreSoFar rest new
+  pub more-so-far : (before rest : List (Seat H hand)) (seat : Seat H hand) (answered rows new : List CallReport) → before ≡ seat ∷ rest → new ≡ map (updated_by answered) rows
+      → AreAnswered answers names carries told (jobs_of seat) answered → AreSoFar before rows → AreSoFar rest new
   more-so-far before rest seat answered rows new popped is says so_far = subst (λ (all : List CallReport). AreSoFar rest all) (sym is) (record {
     each = All-map (λ row. IsSettled rest row) (updated_by answered) rows (λ n d within. let was = so_far.each n d within in more-row before rest seat answered _ popped says was);
     streams = streams-updated answered rows ∙ so_far.streams;
@@ -156,14 +156,60 @@ module _ {H : Type 0} {hand : Ghosts H} (answers : ℕ → List (List ℕ) → B
   times-none id (seat ∷ rest) none = absurd (omega (arith, none))
 
   -- all are settled
-  pub all-rows : (rest : List (Seat H hand)) (rows : List CallReport) → length rest ≡ 0 → AreSoFar rest rows → AreRows answers names told (reported told) rows
+  pub all-rows : (rest : List (Seat H hand)) (rows : List CallReport) → length rest ≡ 0 → AreSoFar rest rows → AreRows answers names carries told (reported told) rows
   all-rows rest rows none so_far = record {
     each = λ n d within. let is = so_far.each n d within in done _ is;
     streams = so_far.streams;
   }
     where
-      done : (row : CallReport) → IsSettled rest row → IsReported answers names told row
+      done : (row : CallReport) → IsSettled rest row → IsReported answers names carries told row
       done row is = elim is [
         | inl reported ↦ reported
         | inr waits ↦ absurd (let nothing = times-none row.id rest none in omega (arith, nothing, waits.1))
       ]
+
+-- ---- what is known of each account
+
+module _ (answers : ℕ → List (List ℕ) → Bool → Answer → Type 0) (names : List ℕ → ℕ → Type 0) (one other : ℕ → Account → Type 0) (follows : (id : ℕ) (account : Account) → one id account → other id account) (told : List Step) where
+  pub accounted-as : (row : CallReport) → IsAccounted answers names one told row → IsAccounted answers names other told row
+  accounted-as row is = record {
+    account = is.account;
+    head = is.head;
+    known = is.known;
+    opened = is.opened;
+    named = is.named;
+    fed = is.fed;
+    shut = is.shut;
+    counted = is.counted;
+    kind = is.kind;
+    stands = is.stands;
+    carried = follows row.id is.account is.carried;
+  }
+
+  pub answered-as : (jobs : List Job) (rows : List CallReport) → AreAnswered answers names one told jobs rows → AreAnswered answers names other told jobs rows
+  answered-as jobs rows is = record {
+    each = λ n d within.
+        let was = is.each n d within in
+        (was.0, λ row noted same. accounted-as (record (get_or rows n d) { fed = row.fed; shut = row.shut }) (was.1 row noted same));
+    rest = λ n. of-rest (slice_get jobs n) (is.rest n);
+  }
+    where
+      abbrev Rest : (ℕ → Account → Type 0) → Job → Type 0
+      Rest carries job = HasRow rows job ⊎ ((row : CallReport) → IsServed names told row → row.id ≡ job.id → IsAccounted answers names carries told row)
+
+      of-rest : (found : Option Job) → IfSome found (Rest one) → IfSome found (Rest other)
+      of-rest None was = tt
+      of-rest (Some job) (inl has) = inl has
+      of-rest (Some job) (inr gives) = inr (λ row served same. accounted-as row (gives row served same))
+
+  pub so-far-as : {H : Type 0} {hand : Ghosts H} (rest : List (Seat H hand)) (rows : List CallReport) → AreSoFar answers names one told rest rows → AreSoFar answers names other told rest rows
+  so-far-as rest rows is = record {
+    each = λ n d within. let was = is.each n d within in of-row (get_or rows n d) was;
+    streams = is.streams;
+  }
+    where
+      of-row : (row : CallReport) → IsReported answers names one told row ⊎ (IsServed names told row × (0 < times_in row.id rest))
+          → IsReported answers names other told row ⊎ (IsServed names told row × (0 < times_in row.id rest))
+      of-row row (inl (inl accounted)) = inl (inl (accounted-as row accounted))
+      of-row row (inl (inr none)) = inl (inr none)
+      of-row row (inr waits) = inr waits

@@ -9,5 +9,6 @@ pub mod SeatExamples
 pub mod Orders
 pub mod Readings
 pub mod Streams
+pub mod Lines
 pub mod Reports
 pub mod AccountFrames

@@ -98,9 +98,10 @@ pub record IsServed (names : List ℕ → ℕ → Type 0) (told : List Step) (ro
 abbrev pub HasHalf : List Step → CallReport → Type 0
 HasHalf told row = (row.fed ≡ count_of (fed_by row.id (since row.id told))) × (row.shut ≡ shut_by row.id (since row.id told))
 
-module _ (answers : ℕ → List (List ℕ) → Bool → Answer → Type 0) (names : List ℕ → ℕ → Type 0) where
+module _ (answers : ℕ → List (List ℕ) → Bool → Answer → Type 0) (names : List ℕ → ℕ → Type 0) (carries : ℕ → Account → Type 0) where
   -- A call of the row's stream was admitted with a head whose path names the row's method. The row stands on the call's lawful account: what it
-  -- was fed is what was heard of it, and how it was shut is what was heard first (`calltable`'s `fed_by` and `shut_by`).
+  -- was fed is what was heard of it, and how it was shut is what was heard first (`fed_by` and `shut_by`). Besides, this is known of the
+  -- account of a call of that stream.
   pub record IsAccounted (told : List Step) (row : CallReport) : Type 0 where
     pub account : Account
     pub head : CallHead
@@ -113,6 +114,7 @@ module _ (answers : ℕ → List (List ℕ) → Bool → Answer → Type 0) (nam
     pub counted : row.fed ≡ count_of account.fed
     pub kind : row.shut ≡ account.shut
     pub stands : StandsOn answers head account row
+    pub carried : carries row.id account
 
   -- The row of a call that was admitted: a worker served it, or none did.
   abbrev pub IsReported : List Step → CallReport → Type 0

@@ -7,8 +7,8 @@ ghost use Rattle.slots.specs.Steps.{Step, shut_at};
 
 use account::Shut;
 use bytes::Bytes;
-use callbox::{FedShut, FeedFault, Feeder, GivenShut, Giver, Taker, settle_unsent};
-use callslot::{InLane, OutLane};
+use callbox::{FedShut, FeedFault, Feeder, Taker, meet_in, see_out};
+use callslot::{GivingEnd, InLane};
 use lane::End;
 use std::mem;
 
@@ -25,8 +25,8 @@ pub enum Half {
 
 impl Half {
     ghost use Rattle.lane.specs.Cuts.{segment};
-    ghost use Rattle.lane.specs.End.{of_end};
     ghost use Rattle.callbox.specs.Slots.{IsUnsent};
+    ghost use Rattle.callslot.specs.Workers.{given_at};
     ghost use Rattle.slots.specs.Halves.{IsHalf, fed_of, grown, is_open, past_of, ring_in, shown, unfed};
 
     /// Whether the client may send more.
@@ -98,18 +98,18 @@ impl Half {
         }
     }
 
-    /// Brings the half and what its slot's worker had together.
-    pub fn settle(self, taker: Taker<InLane>, given: End<Giver<OutLane>, GivenShut<OutLane>>)
+    /// Brings the half and what its slot's worker took together; what the worker gave is looked at.
+    pub fn settle(self, taker: Taker<InLane>, given: &GivingEnd)
         requires one_ring { IsSomeAnd (ring_in self) (λ ring. ring ≡ ring_of (out_name taker.rx)) }
         ensures accounts { IsSomeAnd (fed_of self) (λ feds. (n : ℕ) → IsUnsent (segment feds n)
             (segment (past_out taker.rx ++ got taker.rx ∷ []) n)
-            (segment (of_end (λ g. past_in g.tx) (λ s. past_shut s.shut) given
-            ++ of_end (λ g. put_in g.tx) (λ s. put_shut s.shut) given ∷ []) n)) }
+            (segment (given_at given.now) n)) }
         ensures shut { shut_of (shown self).items ≡ (shown self).shut }
     {
+        see_out(given);
         match self {
-            Half::Open(feeder) => settle_unsent(End::Open(feeder), taker, given),
-            Half::Shut(shut) => settle_unsent(End::Shut(shut), taker, given),
+            Half::Open(feeder) => meet_in(End::Open(feeder), taker),
+            Half::Shut(shut) => meet_in(End::Shut(shut), taker),
             Half::Moving => unreachable!(),
         }
     }

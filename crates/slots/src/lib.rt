@@ -7,6 +7,7 @@
 //!
 //! - `half`: the half of a slot's call; `worker`: what a slot's worker is; `seat`: a slot with both; `slots`: all of them.
 //! - `reading`: what is decided of each event; `visit`: workers that no thread runs.
+//! - `specs/Lines.antt`: which calls each slot has, by the orders too, and what was given of each.
 //! - `rows`: the rows of a report, where those of a worker come in; `laws`: what follows from the definitions.
 #![tactic(auto)]
 
@@ -22,5 +23,5 @@ pub mod worker;
 pub use half::Half;
 pub use reading::{Cut, Decided, Reading};
 pub use seat::Seat;
-pub use slots::Slots;
+pub use slots::{Ended, Slots};
 pub use worker::Worker;

@@ -7,7 +7,7 @@
 //! An order that resets a stream is to be put before its call sees the reset. So the half that a decision shuts is named in it
 //! (`Decided::cut`), and shut by `Reading::shut` once the orders were put.
 
-ghost use Rattle.std.specs.Prelude.{◌≡◌, ◌⊎◌, ◌<◌, ℕ, List, [], ◌∷◌, ◌++◌, Option, None, Some, IfErr, IfOk, IfSome, OnErr, OnOk, vec_capacity, vec_len};
+ghost use Rattle.std.specs.Prelude.{◌≡◌, ◌⊎◌, ◌<◌, ℕ, List, [], ◌∷◌, ◌++◌, Option, None, Some, IfErr, IfOk, IfSome, OnErr, OnOk};
 ghost use Rattle.callhead.specs.declared.head.CallHead.{CallHead as Head};
 ghost use Rattle.callhead.specs.StatusFields.{refusal_of, unknown_method as unknown_fields};
 ghost use Rattle.callslot.specs.declared.report.Ending.TheVariants as ending;
@@ -21,16 +21,18 @@ ghost use Rattle.session.specs.declared.event.InEvent.TheVariants as events;
 ghost use Rattle.slots.specs.Orders.{begun, ends_at, cut_code, greatest, last_stream, news_of, orders_at, without_head};
 ghost use Rattle.slots.specs.Readings.{Awaits, Begins, Counts, Decides, DecidesOn, Reads, ReadsOn, Stays, fate_of, order_in, unless_ended};
 ghost use Rattle.slots.specs.Reports.{AreRows};
-ghost use Rattle.slots.specs.Seats.{IsNext, IsSeat, KeepsNext, jobs_of};
+ghost use Rattle.lane.specs.RingLane.{out_name, ring_of};
+ghost use Rattle.slots.specs.Lines.{Aligns, AreEndsOf, HasRoom, IsGivenIn, SlotCalls, calls_from, calls_of, calls_step, raw_in, raw_orders, ring_at};
+ghost use Rattle.slots.specs.Seats.{IsNext, IsSeat, KeepsNext, ids_of, jobs_of};
 ghost use Rattle.slots.specs.Steps.{Admitted, AtEnd, Cause, CutOff, Lacking, NoWorker, NotLive, Plain, Received, Step, Stopped, Told, TurnedAway, Unknown, Unserved, WasTold, reported};
 
 use crate::seat::Seat;
-use crate::slots::Slots;
+use crate::slots::{Ended, Slots};
 use crate::worker::Worker;
 use account::Shut;
 use bytes::Bytes;
 use callhead::{CallHead, HeadFault, unknown_method};
-use callslot::{CallReport, Ending, Fresh, Job, Opened, Order};
+use callslot::{Ending, Fresh, Job, Opened, Order};
 use connbook::{AdmitFault, Receipt};
 use h2frame::{ErrorCode, StreamId};
 use lists::Sequence;
@@ -145,9 +147,11 @@ impl<H: Worker> Reading<H> {
             × (index ≡ Some job.index)) }
         ensures next { OnOk result (IsNext id self.new.slots) }
         ensures stays { OnOk result (Stays H.names self.old self.new) }
+        ensures calls { OnOk result (calls_of self.new.slots ≡ calls_of self.old.slots) }
         ensures refused { IfErr result (λ decided. DecidesOn H.names
             (Told (events.Open id head) (unless_ended decided.ends Unknown)) decided self.old
             self.new) }
+        ensures aligns { IfErr result (λ decided. Aligns decided self.old self.new) }
     {
         if id <= self.slots.last {
             return Err(self.lack(id));
@@ -168,9 +172,10 @@ impl<H: Worker> Reading<H> {
 
     /// Refuses a call whose path no method has.
     fn refuse_unknown(&mut self, id: StreamId) -> Decided
-        ensures { (head : Head) → DecidesOn H.names
+        ensures decides { (head : Head) → DecidesOn H.names
             (Told (events.Open id head) (unless_ended result.ends Unknown)) result self.old
             self.new }
+        ensures aligns { Aligns result self.old self.new }
     {
         match unknown(self.alloc, id) {
             Ok(order) => self.begin(id, order),
@@ -180,8 +185,9 @@ impl<H: Worker> Reading<H> {
 
     /// The lock didn't admit a call. Want of memory ends the connection.
     pub fn turn_away(&mut self, id: StreamId, fault: AdmitFault) -> Decided
-        ensures { (head : Head) → DecidesOn H.names
+        ensures decides { (head : Head) → DecidesOn H.names
             (Told (events.Open id head) (TurnedAway fault)) result self.old self.new }
+        ensures aligns { Aligns result self.old self.new }
     {
         let code = ErrorCode::RefusedStream;
         let written = true;
@@ -199,8 +205,10 @@ impl<H: Worker> Reading<H> {
         requires next { IsNext job.id self.old.slots }
         ensures engaged { IfOk result (λ decided. DecidesOn H.names
             (Told (events.Open job.id job.head) Admitted) decided self.old self.new) }
+        ensures aligns { IfOk result (λ decided. Aligns decided self.old self.new) }
         ensures handed_back { IfErr result (λ back. back ≡ job) }
         ensures stays { OnErr result (Stays H.names self.old self.new) }
+        ensures calls { OnErr result (calls_of self.new.slots ≡ calls_of self.old.slots) }
         ensures next { OnErr result (KeepsNext self.old.slots self.new.slots) }
     {
         let id = job.id;
@@ -210,9 +218,9 @@ impl<H: Worker> Reading<H> {
 
     /// Room for one slot more.
     pub fn reserve(&mut self) -> Result<(), AllocError>
-        ensures room { OnOk result (vec_len self.new.slots.seats
-            < vec_capacity self.new.slots.seats) }
+        ensures room { OnOk result (HasRoom self.new.slots) }
         ensures stays { Stays H.names self.old self.new }
+        ensures calls { calls_of self.new.slots ≡ calls_of self.old.slots }
         ensures next { KeepsNext self.old.slots self.new.slots }
     {
         self.slots.reserve()
@@ -220,13 +228,17 @@ impl<H: Worker> Reading<H> {
 
     /// A call that was admitted begins in a new slot, whose worker was handed it. This is its method.
     pub fn add(&mut self, seat: Seat<H>, method: usize, fresh: Fresh) -> Decided
-        requires room { vec_len self.old.slots.seats < vec_capacity self.old.slots.seats }
+        requires room { HasRoom self.old.slots }
         requires next { IsNext seat.id self.old.slots }
-        ensures { (job : Job) → seat.id ≡ job.id → method ≡ job.index → jobs_of seat ≡ job ∷ []
+        ensures decides { (job : Job) → seat.id ≡ job.id → method ≡ job.index
+            → jobs_of seat ≡ job ∷ []
             → ((told : List Step) → IsSeat H.names
             (Told (events.Open job.id job.head) Admitted ∷ told) seat)
             → DecidesOn H.names (Told (events.Open job.id job.head) Admitted) result self.old
             self.new }
+        // Where its worker gives over the lane of which the writing side has the other end.
+        ensures aligns { ids_of seat ≡ seat.id ∷ []
+            → ring_at seat ≡ ring_of (out_name fresh.sender.rx) → Aligns result self.old self.new }
     {
         let id = seat.id;
         self.slots.add(seat, method);
@@ -239,6 +251,7 @@ impl<H: Worker> Reading<H> {
         ensures memory { result.ends ≡ Some ending.OutOfMemory }
         ensures unserved { (head : Head) → H.names head.path method → DecidesOn H.names
             (Told (events.Open id head) (Unserved NoWorker)) result self.old self.new }
+        ensures aligns { Aligns result self.old self.new }
     {
         self.slots.pass_over(id, method);
         self.end_at(id)
@@ -247,8 +260,9 @@ impl<H: Worker> Reading<H> {
     /// A call of this method was admitted, and the writing side has stopped: its row stays.
     pub fn pass_over(&mut self, id: StreamId, method: usize) -> Decided
         requires next { IsNext id self.old.slots }
-        ensures { (head : Head) → H.names head.path method → DecidesOn H.names
+        ensures decides { (head : Head) → H.names head.path method → DecidesOn H.names
             (Told (events.Open id head) (Unserved Stopped)) result self.old self.new }
+        ensures aligns { Aligns result self.old self.new }
     {
         self.slots.pass_over(id, method);
         let first = self.count(id);
@@ -260,9 +274,10 @@ impl<H: Worker> Reading<H> {
 
     /// A stream begins without the head of a call.
     pub fn refuse(&mut self, id: StreamId, fault: HeadFault) -> Decided
-        ensures { DecidesOn H.names
+        ensures decides { DecidesOn H.names
             (Told (events.BadHead id fault) (unless_ended result.ends Plain)) result self.old
             self.new }
+        ensures aligns { Aligns result self.old self.new }
     {
         match without_head(self.alloc, id, fault) {
             Ok(order) => self.begin(id, order),
@@ -277,6 +292,9 @@ impl<H: Worker> Reading<H> {
             → ends_at step ≡ None
             → orders_at told step ≡ last_stream id (begun told) ++ order_of order ∷ []
             → Decides H.names told step result self.new }
+        ensures slots { self.new.slots ≡ self.old.slots }
+        ensures calls { (slots : List SlotCalls)
+            → calls_from slots (raw_orders result) ≡ calls_step slots order }
     {
         let first = self.count(id);
         Decided {
@@ -290,6 +308,7 @@ impl<H: Worker> Reading<H> {
         ensures memory { result.ends ≡ Some ending.OutOfMemory }
         ensures lacking { (head : Head)
             → DecidesOn H.names (Told (events.Open id head) Lacking) result self.old self.new }
+        ensures aligns { Aligns result self.old self.new }
     {
         self.end_at(id)
     }
@@ -302,6 +321,7 @@ impl<H: Worker> Reading<H> {
             → orders_at told step ≡ last_stream id (begun told)
             ++ orders.Goaway (greatest (id ∷ begun told)) InternalError ∷ []
             → Decides H.names told step result self.new }
+        ensures aligns { Aligns result self.old self.new }
     {
         let first = self.count(id);
         Decided {
@@ -317,6 +337,7 @@ impl<H: Worker> Reading<H> {
         ensures slots { self.new.slots ≡ self.old.slots }
         ensures counts { (ids : List ℕ) → Counts ids self.old
             → Counts (id ∷ ids) self.new × (order_in result ≡ last_stream id ids) }
+        ensures none { (slots : List SlotCalls) → calls_from slots (raw_in result) ≡ slots }
         ensures heeds { self.new.peer_goaway ≡ self.old.peer_goaway }
     {
         self.last = self.last.max(id);
@@ -335,9 +356,10 @@ impl<H: Worker> Reading<H> {
 
     /// DATA came on a stream, of which the lock said this.
     pub fn data(&mut self, id: StreamId, piece: Bytes, receipt: Receipt) -> Decided
-        ensures { (counted : ℕ) → DecidesOn H.names
+        ensures decides { (counted : ℕ) → DecidesOn H.names
             (Told (events.Data id piece counted) (fate_of receipt result.second)) result self.old
             self.new }
+        ensures aligns { Aligns result self.old self.new }
     {
         match receipt {
             Receipt::Feed => self.feed(id, piece),
@@ -359,9 +381,10 @@ impl<H: Worker> Reading<H> {
 
     /// Feeds a piece to its call. One that its lane doesn't take resets the stream.
     fn feed(&mut self, id: StreamId, piece: Bytes) -> Decided
-        ensures { (counted : ℕ) → DecidesOn H.names
+        ensures decides { (counted : ℕ) → DecidesOn H.names
             (Told (events.Data id piece counted) (fate_of Feed result.second)) result self.old
             self.new }
+        ensures aligns { Aligns result self.old self.new }
     {
         match self.slots.feed(id, piece) {
             Ok(()) => Decided::nothing(),
@@ -375,8 +398,9 @@ impl<H: Worker> Reading<H> {
     /// A piece came that no call takes. Where it isn't padding alone, and its call's half is open still, the call would miss it: its
     /// stream is reset.
     fn discard(&self, id: StreamId, piece: &Bytes) -> Decided
-        ensures { (counted : ℕ) → DecidesOn H.names
+        ensures decides { (counted : ℕ) → DecidesOn H.names
             (Told (events.Data id piece.now counted) (Received Discard)) result self.now self.now }
+        ensures aligns { Aligns result self.now self.now }
     {
         if piece.is_empty() {
             return Decided::nothing();
@@ -389,8 +413,9 @@ impl<H: Worker> Reading<H> {
 
     /// Bytes came that count on the connection alone, of which the lock said this.
     pub fn loose(&self, receipt: Receipt) -> Decided
-        ensures { (counted : ℕ) → DecidesOn H.names
+        ensures decides { (counted : ℕ) → DecidesOn H.names
             (Told (events.Loose counted) (Received receipt)) result self.now self.now }
+        ensures aligns { Aligns result self.now self.now }
     {
         match receipt {
             Receipt::Overrun => self.fatal(ErrorCode::FlowControlError),
@@ -400,22 +425,26 @@ impl<H: Worker> Reading<H> {
 
     /// The client has ended its half of a stream.
     pub fn end_half(&mut self, id: StreamId)
-        ensures { ReadsOn H.names (Told (events.End id) Plain) self.old self.new }
+        ensures reads { ReadsOn H.names (Told (events.End id) Plain) self.old self.new }
+        ensures calls { calls_of self.new.slots ≡ calls_of self.old.slots }
     {
         self.slots.shut(id, Shut::End);
     }
 
     /// The client has reset a stream.
     pub fn reset(&self, id: StreamId, code: ErrorCode) -> Decided
-        ensures { DecidesOn H.names (Told (events.Reset id code) Plain) result self.now self.now }
+        ensures decides { DecidesOn H.names
+            (Told (events.Reset id code) Plain) result self.now self.now }
+        ensures aligns { Aligns result self.now self.now }
     {
         Decided::reset(id, code, false, code)
     }
 
     /// The client has made an error on a stream (RFC 9113, section 5.4.2).
     pub fn fail(&self, id: StreamId, code: ErrorCode) -> Decided
-        ensures { DecidesOn H.names (Told (events.StreamError id code) Plain) result self.now
-            self.now }
+        ensures decides { DecidesOn H.names
+            (Told (events.StreamError id code) Plain) result self.now self.now }
+        ensures aligns { Aligns result self.now self.now }
     {
         Decided::reset(id, code, true, code)
     }
@@ -424,6 +453,7 @@ impl<H: Worker> Reading<H> {
     pub fn shut(&mut self, cut: Cut)
         ensures heard { (told : List Step) (step : Step) → Awaits H.names told step cut self.old
             → Reads H.names (step ∷ told) self.new }
+        ensures calls { calls_of self.new.slots ≡ calls_of self.old.slots }
         ensures next { KeepsNext self.old.slots self.new.slots }
     {
         self.slots.shut(cut.id, cut.kind);
@@ -433,14 +463,17 @@ impl<H: Worker> Reading<H> {
 
     /// What the peer tells the writing side.
     pub fn pass_on(&self, news: PeerControl) -> Decided
-        ensures { DecidesOn H.names (Told (events.Control news) Plain) result self.now self.now }
+        ensures decides { DecidesOn H.names
+            (Told (events.Control news) Plain) result self.now self.now }
+        ensures aligns { Aligns result self.now self.now }
     {
         Decided::order(order_of_news(news))
     }
 
     /// The peer opens no more streams.
     pub fn hear_goaway(&mut self)
-        ensures { ReadsOn H.names (Told events.PeerGoaway Plain) self.old self.new }
+        ensures reads { ReadsOn H.names (Told events.PeerGoaway Plain) self.old self.new }
+        ensures calls { calls_of self.new.slots ≡ calls_of self.old.slots }
     {
         self.peer_goaway = true;
     }
@@ -452,6 +485,7 @@ impl<H: Worker> Reading<H> {
         ensures ends { (result.cut ≡ None) × (result.ends ≡ Some (ending.ProtocolError code)) }
         ensures decides { DecidesOn H.names
             (Told (events.Fatal code) Plain) result self.now self.now }
+        ensures aligns { Aligns result self.now self.now }
     {
         Decided {
             ends: Some(Ending::ProtocolError(code)),
@@ -485,8 +519,9 @@ impl<H: Worker> Reading<H> {
 
     /// Behind the end of the input: a slot's call that its client neither ended nor reset is cancelled.
     pub fn cut_off(&self, place: usize) -> Option<Decided>
-        ensures { IfSome result (λ decided. (id : ℕ)
+        ensures decides { IfSome result (λ decided. (id : ℕ)
             × DecidesOn H.names (CutOff id AtEnd) decided self.now self.now) }
+        ensures aligns { IfSome result (λ decided. Aligns decided self.now self.now) }
     {
         let id = self.slots.fed(place)?;
         Some(self.cut_call(id, ErrorCode::Cancel))
@@ -501,7 +536,9 @@ impl<H: Worker> Reading<H> {
     /// A call is no longer live, though its client neither ended nor reset it; it was answered with trailers or not. Its stream was reset by
     /// the writing side.
     pub fn abandon(&self, id: StreamId, has_trailers: bool) -> Decided
-        ensures { DecidesOn H.names (CutOff id (NotLive has_trailers)) result self.now self.now }
+        ensures decides { DecidesOn H.names
+            (CutOff id (NotLive has_trailers)) result self.now self.now }
+        ensures aligns { Aligns result self.now self.now }
     {
         let code = if has_trailers {
             ErrorCode::FlowControlError
@@ -513,8 +550,9 @@ impl<H: Worker> Reading<H> {
 
     /// A call hears no more of its client: its stream is reset with this code, where more could be fed to it.
     fn cut_call(&self, id: StreamId, code: ErrorCode) -> Decided
-        ensures { (why : Cause) → cut_code why ≡ code
+        ensures decides { (why : Cause) → cut_code why ≡ code
             → DecidesOn H.names (CutOff id why) result self.now self.now }
+        ensures aligns { Aligns result self.now self.now }
     {
         let kind = ErrorCode::Cancel;
         if self.slots.is_fed(id) {
@@ -548,11 +586,12 @@ impl<H: Worker> Reading<H> {
         self.slots.ring_noted();
     }
 
-    /// Has each worker answer its call to the end, and waits for all: a row for each call that was admitted, in the order in which these
-    /// were.
-    pub fn end(self) -> Vec<CallReport>
+    /// Has each worker answer its call to the end, and waits for all.
+    pub fn end(self) -> Ended
         ensures rows { (told : List Step) → H.tells → Reads H.names told self
-            → AreRows H.known H.names told (reported told) result.items }
+            → AreRows H.known H.names (IsGivenIn (calls_of self.slots) result.ends.items)
+            told (reported told) result.calls.items }
+        ensures ends { H.tells → AreEndsOf (calls_of self.slots) result.ends.items }
     {
         self.slots.end()
     }

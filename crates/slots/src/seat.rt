@@ -12,7 +12,7 @@ use crate::worker::Worker;
 use account::Shut;
 use bytes::Bytes;
 use callbox::{FeedFault, Feeder};
-use callslot::{CallReport, InLane, Job, Seen, Slot};
+use callslot::{CallReport, GivingEnd, InLane, Job, Seen, Slot};
 use h2frame::StreamId;
 use lane::{Ring, RingIn};
 use std::sync::Arc;
@@ -40,6 +40,8 @@ impl<H: Worker> Seat<H> {
     ghost use Rattle.session.specs.declared.event.InEvent.TheVariants as events;
     ghost use Rattle.slots.specs.Calls.{Rises};
     ghost use Rattle.slots.specs.Reports.{AreAnswered};
+    ghost use Rattle.callslot.specs.Workers.{giving_ring};
+    ghost use Rattle.slots.specs.Lines.{IsGivenIn, calls_at, ring_at};
     ghost use Rattle.slots.specs.Seats.{IsSeat, jobs_of};
     ghost use Rattle.slots.specs.Steps.{Admitted, Received, Step, Told, last_of, shut_at};
 
@@ -78,6 +80,7 @@ impl<H: Worker> Seat<H> {
             → IsSeat H.names (Told (events.Open job.id job.head) Admitted ∷ told) self.new) }
         ensures id { OnOk result (self.new.id ≡ job.id) }
         ensures jobs { OnOk result (jobs_of self.new ≡ jobs_of self.old ++ job ∷ []) }
+        ensures ring { ring_at self.new ≡ ring_at self.old }
         ensures handed_back { IfErr result (λ back. back ≡ job) }
         ensures stays { OnErr result ((told : List Step) → IsSeat H.names told self.old
             → IsSeat H.names told self.new) }
@@ -111,6 +114,7 @@ impl<H: Worker> Seat<H> {
             → IsSeat H.names told self.new) }
         ensures id { self.new.id ≡ self.old.id }
         ensures jobs { jobs_of self.new ≡ jobs_of self.old }
+        ensures ring { ring_at self.new ≡ ring_at self.old }
     {
         self.half.feed(piece)?;
         self.slot.note();
@@ -124,15 +128,19 @@ impl<H: Worker> Seat<H> {
             → IsSeat H.names told self.old → IsSeat H.names (step ∷ told) self.new }
         ensures id { self.new.id ≡ self.old.id }
         ensures jobs { jobs_of self.new ≡ jobs_of self.old }
+        ensures ring { ring_at self.new ≡ ring_at self.old }
     {
         self.half.shut(kind);
         self.slot.note();
     }
 
-    /// Waits for the worker, and brings the half and what the worker had together: the rows of the calls that it answered.
-    pub(crate) fn end(self) -> Vec<CallReport>
+    /// Waits for the worker, and brings the half and what the worker had together: the rows of the calls that it answered, and the end
+    /// by which it gave.
+    pub(crate) fn end(self) -> (Vec<CallReport>, GivingEnd)
         ensures rows { (told : List Step) → H.tells → IsSeat H.names told self
-            → AreAnswered H.known H.names told (jobs_of self) result.items }
+            → AreAnswered H.known H.names (IsGivenIn (calls_at self ∷ []) (result.1 ∷ []))
+            told (jobs_of self) result.0.items }
+        ensures end { H.tells → giving_ring result.1 ≡ ring_at self }
     {
         let Seat {
             half,
@@ -147,7 +155,7 @@ impl<H: Worker> Seat<H> {
             calls,
         } = worker.end();
         let _left = Ring::meet(&mut jobs, &mut rest);
-        half.settle(taker, end);
-        calls
+        half.settle(taker, &end);
+        (calls, end)
     }
 }

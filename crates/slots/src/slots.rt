@@ -1,10 +1,11 @@
 //! The slots of a connection, as its reading side has them.
 
-ghost use Rattle.std.specs.Prelude.{◌≡◌, ◌<◌, ℕ, List, [], ◌∷◌, ◌++◌, Bool, None, Some, IfErr, OnErr, OnOk, is_some, position, vec_capacity, vec_len};
+ghost use Rattle.std.specs.Prelude.{◌≡◌, ◌<◌, ◌≤◌, ℕ, List, [], ◌∷◌, ◌++◌, Bool, None, Some, IfErr, IfOk, OnErr, OnOk, is_some, position, vec_capacity, vec_len};
 ghost use Rattle.callhead.specs.declared.head.CallHead.{CallHead as Head};
 ghost use Rattle.connbook.specs.declared.answers.Receipt.TheVariants.{Feed};
 ghost use Rattle.session.specs.declared.event.InEvent.TheVariants as events;
 ghost use Rattle.slots.specs.Concerns.{Concerns};
+ghost use Rattle.slots.specs.Lines.{AreEndsOf, HasRoom, IsGivenIn, calls_at, calls_of, goes_on};
 ghost use Rattle.slots.specs.Reports.{AreRows};
 ghost use Rattle.slots.specs.Seats.{Hears, IsNext, IsSeat, Keeps, KeepsNext, Kept, feeds, jobs_of};
 ghost use Rattle.slots.specs.Steps.{Admitted, Lack, Received, Step, Told, Unserved, reported, shut_at};
@@ -15,7 +16,7 @@ use crate::worker::Worker;
 use account::Shut;
 use bytes::Bytes;
 use callbox::FeedFault;
-use callslot::{CallReport, Job};
+use callslot::{CallReport, GivingEnd, Job};
 use flow::MAX_LIVE;
 use h2frame::StreamId;
 use std::alloc::{AllocError, Global};
@@ -25,10 +26,23 @@ use std::alloc::{AllocError, Global};
 pub struct Slots<H: Worker> {
     alloc: Global,
     pub(crate) seats: Vec<Seat<H>>,
+    /// Room for the ends that their workers hand back.
+    pub(crate) ends: Vec<GivingEnd>,
     /// The stream of the call that was admitted last, 0 for none.
     pub(crate) last: StreamId,
     /// A row for each call that was admitted, by rising stream, as of one of which nothing was taken yet.
     pub(crate) rows: Vec<CallReport>,
+    ghost none_ended: { vec_len ends ≤ 0 },
+    ghost ends_room: { vec_len seats ≤ vec_capacity ends },
+}
+
+/// What is there once each worker has answered its calls.
+#[derive(Drop)]
+pub struct Ended {
+    /// A row for each call that was admitted, in the order in which these were.
+    pub calls: Vec<CallReport>,
+    /// The ends by which the slots' workers gave, by the slots' numbers.
+    pub ends: Vec<GivingEnd>,
 }
 
 impl<H: Worker> Slots<H> {
@@ -38,6 +52,7 @@ impl<H: Worker> Slots<H> {
         Slots {
             alloc,
             seats: Vec::new(alloc),
+            ends: Vec::new(alloc),
             last: 0,
             rows: Vec::new(alloc),
         }
@@ -50,8 +65,11 @@ impl<H: Worker> Slots<H> {
         requires next { IsNext job.id self.old }
         ensures heard { OnOk result
             (Hears H.names (Told (events.Open job.id job.head) Admitted) self.old self.new) }
+        ensures calls { IfOk result
+            (λ place. calls_of self.new ≡ goes_on (calls_of self.old) place job.id) }
         ensures handed_back { IfErr result (λ back. back ≡ job) }
         ensures stays { OnErr result (Keeps H.names self.old self.new) }
+        ensures calls_stay { OnErr result (calls_of self.new ≡ calls_of self.old) }
         ensures next { OnErr result (KeepsNext self.old self.new) }
     {
         let mut job = job;
@@ -70,8 +88,11 @@ impl<H: Worker> Slots<H> {
         requires next { IsNext job.id self.old }
         ensures heard { OnOk result
             (Hears H.names (Told (events.Open job.id job.head) Admitted) self.old self.new) }
+        ensures calls { OnOk result
+            (calls_of self.new ≡ goes_on (calls_of self.old) place job.id) }
         ensures handed_back { IfErr result (λ back. back ≡ job) }
         ensures stays { OnErr result (Keeps H.names self.old self.new) }
+        ensures calls_stay { OnErr result (calls_of self.new ≡ calls_of self.old) }
         ensures next_stays { OnErr result (KeepsNext self.old self.new) }
     {
         let Some(seat) = self.seats.get_mut(place) else {
@@ -87,6 +108,7 @@ impl<H: Worker> Slots<H> {
     pub(crate) fn reserve_row(&mut self) -> Result<(), AllocError>
         ensures room { OnOk result (vec_len self.new.rows < vec_capacity self.new.rows) }
         ensures stays { Keeps H.names self.old self.new }
+        ensures calls { calls_of self.new ≡ calls_of self.old }
         ensures last { self.new.last ≡ self.old.last }
     {
         self.rows.reserve(1)
@@ -108,28 +130,33 @@ impl<H: Worker> Slots<H> {
         requires next { IsNext id self.old }
         ensures heard { (head : Head) (why : Lack) → H.names head.path method
             → Hears H.names (Told (events.Open id head) (Unserved why)) self.old self.new }
+        ensures calls { calls_of self.new ≡ calls_of self.old }
     {
         self.report(CallReport::unanswered(id, method));
     }
 
     /// Room for one slot more.
     pub(crate) fn reserve(&mut self) -> Result<(), AllocError>
-        ensures room { OnOk result (vec_len self.new.seats < vec_capacity self.new.seats) }
+        ensures room { OnOk result (HasRoom self.new) }
         ensures stays { Keeps H.names self.old self.new }
+        ensures calls { calls_of self.new ≡ calls_of self.old }
         ensures next { KeepsNext self.old self.new }
     {
+        let count = self.seats.len().saturating_add(1);
+        self.ends.reserve(count)?;
         self.seats.reserve(1)
     }
 
     /// One slot more, whose worker was handed its first call, of this method.
     pub(crate) fn add(&mut self, seat: Seat<H>, method: usize)
-        requires room { vec_len self.old.seats < vec_capacity self.old.seats }
+        requires room { HasRoom self.old }
         requires next { IsNext seat.id self.old }
         ensures heard { (job : Job) → seat.id ≡ job.id → method ≡ job.index
             → jobs_of seat ≡ job ∷ []
             → ((told : List Step) → IsSeat H.names
             (Told (events.Open job.id job.head) Admitted ∷ told) seat)
             → Hears H.names (Told (events.Open job.id job.head) Admitted) self.old self.new }
+        ensures calls { calls_of self.new ≡ calls_of self.old ++ calls_at seat ∷ [] }
     {
         self.report(CallReport::unanswered(seat.id, method));
         self.seats.push_reserved(seat);
@@ -150,6 +177,7 @@ impl<H: Worker> Slots<H> {
             → Hears H.names (Told (events.Data id piece counted) (Received Feed)) self.old
             self.new) }
         ensures stays { OnErr result (Keeps H.names self.old self.new) }
+        ensures calls { calls_of self.new ≡ calls_of self.old }
         ensures next { KeepsNext self.old self.new }
     {
         let Some(place) = self.find(id) else {
@@ -168,6 +196,7 @@ impl<H: Worker> Slots<H> {
     pub(crate) fn shut(&mut self, id: StreamId, kind: Shut)
         ensures heard { (step : Step) → Concerns id step → shut_at id step ≡ Some kind
             → Hears H.names step self.old self.new }
+        ensures calls { calls_of self.new ≡ calls_of self.old }
         ensures next { KeepsNext self.old self.new }
     {
         let Some(place) = self.find(id) else {
@@ -222,21 +251,27 @@ impl<H: Worker> Slots<H> {
         }
     }
 
-    /// Has each worker answer its call to the end, and waits for all: a row for each call that was admitted, in the order in which these
-    /// were. It takes no memory.
-    pub(crate) fn end(self) -> Vec<CallReport>
+    /// Has each worker answer its call to the end, and waits for all. It takes no memory.
+    pub(crate) fn end(self) -> Ended
         ensures rows { (told : List Step) → H.tells → Kept H.names told self
-            → AreRows H.known H.names told (reported told) result.items }
+            → AreRows H.known H.names (IsGivenIn (calls_of self) result.ends.items)
+            told (reported told) result.calls.items }
+        ensures ends { H.tells → AreEndsOf (calls_of self) result.ends.items }
     {
-        let Slots { seats, rows, .. } = self;
+        let Slots {
+            seats,
+            mut ends,
+            mut rows,
+            ..
+        } = self;
         for seat in &seats {
             seat.slot.end();
         }
-        let mut rest = seats;
-        let mut rows = rows;
-        'seats: while let Some(seat) = rest.pop() {
-            put_all(&mut rows, seat.end());
+        'seats: for seat in seats {
+            let (answered, end) = seat.end();
+            put_all(&mut rows, answered);
+            ends.push_reserved(end);
         }
-        rows
+        Ended { calls: rows, ends }
     }
 }

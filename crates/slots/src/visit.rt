@@ -2,6 +2,7 @@
 
 ghost use Rattle.std.specs.Prelude.{◌≡◌, List};
 ghost use Rattle.std.specs.Fn.{FnOnceReturnsAtMut};
+ghost use Rattle.slots.specs.Lines.{calls_of, ring_at};
 ghost use Rattle.slots.specs.Readings.{Stays};
 ghost use Rattle.slots.specs.Seats.{IsSeat, Keeps, KeepsNext, jobs_of};
 ghost use Rattle.slots.specs.Steps.{Step};
@@ -19,8 +20,9 @@ impl<H: Worker> Reading<H> {
         // It takes of the same rings afterwards.
         requires keeps { (old : H) (came : T) (new : H)
             → FnOnceReturnsAtMut F.FnOnce visit old came new
-            → (H.lane new ≡ H.lane old) × (H.jobs new ≡ H.jobs old) }
+            → (H.lane new ≡ H.lane old) × (H.jobs new ≡ H.jobs old) × (H.gives new ≡ H.gives old) }
         ensures stays { Stays H.names self.old self.new }
+        ensures calls { calls_of self.new.slots ≡ calls_of self.old.slots }
         ensures next { KeepsNext self.old.slots self.new.slots }
     {
         self.slots.visit(place, visit)
@@ -33,8 +35,9 @@ impl<H: Worker> Slots<H> {
         requires callable { F.IsAlwaysCallable visit }
         requires keeps { (old : H) (came : T) (new : H)
             → FnOnceReturnsAtMut F.FnOnce visit old came new
-            → (H.lane new ≡ H.lane old) × (H.jobs new ≡ H.jobs old) }
+            → (H.lane new ≡ H.lane old) × (H.jobs new ≡ H.jobs old) × (H.gives new ≡ H.gives old) }
         ensures stays { Keeps H.names self.old self.new }
+        ensures calls { calls_of self.new ≡ calls_of self.old }
         ensures next { KeepsNext self.old self.new }
     {
         let Some(seat) = self.seats.get_mut(place) else {
@@ -50,11 +53,12 @@ impl<H: Worker> Seat<H> {
         requires callable { F.IsAlwaysCallable visit }
         requires keeps { (old : H) (came : T) (new : H)
             → FnOnceReturnsAtMut F.FnOnce visit old came new
-            → (H.lane new ≡ H.lane old) × (H.jobs new ≡ H.jobs old) }
+            → (H.lane new ≡ H.lane old) × (H.jobs new ≡ H.jobs old) × (H.gives new ≡ H.gives old) }
         ensures stays { (told : List Step) → IsSeat H.names told self.old
             → IsSeat H.names told self.new }
         ensures id { self.new.id ≡ self.old.id }
         ensures jobs { jobs_of self.new ≡ jobs_of self.old }
+        ensures ring { ring_at self.new ≡ ring_at self.old }
     {
         visit(&mut self.worker)
     }

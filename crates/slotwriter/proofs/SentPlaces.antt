@@ -29,7 +29,7 @@ use Rattle.connwriter.proofs.SentSteps.{On, home-away, home-one, on-taken, sent-
 use Rattle.callslot.specs.declared.order.Opened.{Opened}
 use Rattle.callslot.specs.declared.order.Opened.TheVariants.{New, Again}
 use Rattle.slotwriter.specs.declared.senders.Place.{Place}
-use Rattle.slotwriter.specs.Sent.{AreFresh, AreUnopened, HandsHome, Tells, OpensRise, lines_from, lines_of, GetsRest, KeepsOn, NoneWaits, TakesHome, Waits, SlotSender, Lines, line_step, IsFresh, ids_of, held_of, HasStream, AreKept, SamePlaces, Begins, MakesOf, IsPlain}
+use Rattle.slotwriter.specs.Sent.{AreFresh, HandsHome, Tells, OpensRise, lines_from, lines_of, GetsRest, KeepsOn, NoneWaits, TakesHome, Waits, SlotSender, Lines, line_step, IsFresh, ids_of, held_of, HasStream, AreKept, SamePlaces, Begins, MakesOf, IsPlain}
 
 ids-again : (lines : Lines) (n id : ℕ) → last_ids (again_at lines n id) ≡ set (last_ids lines) n id
 ids-again [] n id = refl
@@ -637,52 +637,6 @@ fresh-front lines (order ∷ front) rest fresh = let more = fresh-front (line_st
 
 pub fresh-parts : (orders front rest : List (Control Opened)) → orders ≡ front ++ rest → AreFresh [] orders → AreFresh [] front × AreFresh (lines_of front) rest
 fresh-parts orders front rest are fresh = fresh-front [] front rest (subst (λ (os : List (Control Opened)). AreFresh [] os) are fresh)
-
-in-then : (k : ℕ) (ids : List ℕ) (last : ℕ) → IsIn k ids → IsIn k (ids ++ last ∷ [])
-in-then k [] last is = absurd is
-in-then k (id ∷ ids) last (inl e) = inl e
-in-then k (id ∷ ids) last (inr is) = inr (in-then k ids last is)
-
-in-last : (k : ℕ) (ids : List ℕ) → IsIn k (ids ++ k ∷ [])
-in-last k [] = inl refl
-in-last k (id ∷ ids) = inr (in-last k ids)
-
--- a stream of a call stays that of a call
-old-begun : (lines : Lines) (line : Line LaneName) (k : ℕ) → IsOld k lines → IsOld k (lines ++ line ∷ [])
-old-begun [] line k old = absurd old
-old-begun (one ∷ lines) line k (inl e) = inl e
-old-begun (one ∷ lines) line k (inr (inl is)) = inr (inl is)
-old-begun (one ∷ lines) line k (inr (inr old)) = inr (inr (old-begun lines line k old))
-
-old-again : (lines : Lines) (n id k : ℕ) → IsOld k lines → IsOld k (again_at lines n id)
-old-again [] n id k old = absurd old
-old-again (line ∷ lines) zero id k (inl e) = inr (inl (subst (λ (one : ℕ). IsIn one (line.before ++ line.id ∷ [])) (sym e) (in-last line.id line.before)))
-old-again (line ∷ lines) zero id k (inr (inl is)) = inr (inl (in-then k line.before line.id is))
-old-again (line ∷ lines) zero id k (inr (inr old)) = inr (inr old)
-old-again (line ∷ lines) (suc n) id k (inl e) = inl e
-old-again (line ∷ lines) (suc n) id k (inr (inl is)) = inr (inl is)
-old-again (line ∷ lines) (suc n) id k (inr (inr old)) = inr (inr (old-again lines n id k old))
-
--- of orders behind these lines no stream was opened
-pub unopened-by : (run : List Step) (first lines : Lines) (rest : List (Control Opened)) → ((k : ℕ) → (IsOld k first → ⊥) → is_opened k run ≡ false)
-    → ((k : ℕ) → IsOld k first → IsOld k lines) → AreFresh lines rest → AreUnopened run rest
-unopened-by run first lines [] never more fresh = tt
-unopened-by run first lines (Open id (New fresh_slot) ∷ rest) never more fresh = (
-  never id (λ old. fresh.0 (more id old)),
-  unopened-by run first (line_step lines (Open id (New fresh_slot))) rest never (λ k old. old-begun lines (begun (ring_of (out_name fresh_slot.sender.rx)) id) k (more k old)) fresh.1,
-)
-unopened-by run first lines (Open id (Again n) ∷ rest) never more fresh = (
-  never id (λ old. fresh.0 (more id old)),
-  unopened-by run first (line_step lines (Open id (Again n))) rest never (λ k old. old-again lines n id k (more k old)) fresh.1,
-)
-unopened-by run first lines (Settings settings ∷ rest) never more fresh = unopened-by run first lines rest never more fresh.1
-unopened-by run first lines (Ping bytes ∷ rest) never more fresh = unopened-by run first lines rest never more fresh.1
-unopened-by run first lines (Window id n ∷ rest) never more fresh = unopened-by run first lines rest never more fresh.1
-unopened-by run first lines (Refuse id fields ∷ rest) never more fresh = unopened-by run first lines rest never more fresh.1
-unopened-by run first lines (Reset id code written ∷ rest) never more fresh = unopened-by run first lines rest never more fresh.1
-unopened-by run first lines (Goaway last code ∷ rest) never more fresh = unopened-by run first lines rest never more fresh.1
-unopened-by run first lines (InputEnded ∷ rest) never more fresh = unopened-by run first lines rest never more fresh.1
-unopened-by run first lines (Close ∷ rest) never more fresh = unopened-by run first lines rest never more fresh.1
 
 -- the senders of a core in another order
 told-move : (run : List Step) (core cores : List (ℕ × SlotSender)) (lines : Lines) (held : List (Option SlotSender))

@@ -8,7 +8,7 @@ use Rattle.outwriter.specs.Calls.{TellFronts, TellOthers, TellReturned}
 use Rattle.outwriter.specs.Cores.{calls, lane_and_past, lanes}
 use Rattle.outwriter.specs.declared.control.OutFault.TheVariants.{PeerWindow}
 use Rattle.outwriter.specs.RunState.{Concerns}
-use Rattle.outwriter.specs.Runs.{opens_stream}
+use Rattle.outwriter.specs.Runs.{is_opened, opens_stream}
 use Rattle.h2frame.specs.declared.frame.Frame.{Frame}
 use Rattle.outwriter.specs.Polls.{coming}
 use Rattle.outwriter.specs.declared.control.Control.{Control}
@@ -36,10 +36,10 @@ use Rattle.slotwriter.specs.declared.inbox.Inbox.{Inbox}
 use Rattle.slotwriter.specs.declared.slot_writer.SlotWriter.{SlotWriter}
 use Rattle.slotwriter.specs.declared.senders.Place.{Place}
 use Rattle.slotwriter.specs.Orders.{Gives, HasGiven, IsAmong, Keeps, Obeys, ends_input, order_in, orders_of, loses_by}
-use Rattle.slotwriter.specs.Sent.{AreFresh, AreKept, AreUnopened, HandsHome, HasStream, HaveTold, KeepsOn, MakesOf, PlacesBy, SamePlaces, SlotSender, TakesAllHome, held_of, ids_of, lines_of}
+use Rattle.slotwriter.specs.Sent.{AreFresh, AreKept, HandsHome, HasStream, HaveTold, KeepsOn, MakesOf, PlacesBy, SamePlaces, SlotSender, TakesAllHome, held_of, ids_of, lines_of}
 use Rattle.slotwriter.specs.Written.{FrameWriter, HasKept, HasSent, HasWritten, IsFlushed, Runs, Ends, RunsOn, RunsOut, SendsOn, StaysOn, Takes, PassesOver, Parts, Heeds, Knows, SameCalls, Led, LedOut, LeadsOn, LeadsOut, Stays, core_of, places_of}
 use Rattle.slotwriter.proofs.OrderSteps.{all-given, among-last, among-more, given-all, given-next, obeys-closing, obeys-frames, obeys-granted, obeys-last-word, obeys-lost, obeys-more, obeys-parting, obeys-reset, obeys-returned, obeys-taking}
-use Rattle.slotwriter.proofs.SentPlaces.{brings-plain, brings-same, fresh-parts, keeps-same, kept-back-more, kept-frames, kept-more, kept-none, kept-same, kept-still, kept-tells, makes-then, on-steps, own-plain, same-places, unopened-by}
+use Rattle.slotwriter.proofs.SentPlaces.{brings-plain, brings-same, fresh-parts, keeps-same, kept-back-more, kept-frames, kept-more, kept-none, kept-same, kept-still, kept-tells, makes-then, on-steps, own-plain, same-places}
 
 memory-going : stands.OutOfMemory ≢ stands.Going
 memory-going e = cc
@@ -680,10 +680,9 @@ module _ {W : Type 0} (contents : W → Option (List ℕ)) (failed : W → Bool)
             subst (λ (run : List Step). HaveTold run (lines_of kept.0) (held_of places)) (sym same)
             (home led.2.0 (lines_of kept.0)
             (kept-tells led.2.0 (lines_of kept.0) (places_of writer) (core_of writer) fronts returned (kept.3 (fresh-parts (taken writer.inbox.ring) kept.0 kept.1 are fresh).0))).told;
-        unopened = λ fresh.
-            let parts = fresh-parts (taken writer.inbox.ring) kept.0 kept.1 are fresh in
-            subst (λ (run : List Step). AreUnopened run kept.1) (sym same)
-            (unopened-by led.2.0 (lines_of kept.0) (lines_of kept.0) kept.1 (kept.3 parts.0).sent.opened_old (λ k old. old) parts.1);
+        unopened = λ fresh id other.
+            subst (λ (run : List Step). is_opened id run ≡ false) (sym same)
+            ((kept.3 (fresh-parts (taken writer.inbox.ring) kept.0 kept.1 are fresh).0).sent.opened_old id other);
         each = λ spared sent.
             let found = each spared sent in rest-none writer.inbox.has_lost led.0 aside led.2.0 writer led.2.3 found.0 (ap (λ (one : Option (Control Opened)). order_in one) found.1);
       }

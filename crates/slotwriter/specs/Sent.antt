@@ -167,12 +167,6 @@ TakesAllHome core old new = (run : List Step) (lines : Lines) → Tells run line
 abbrev pub HaveTold : List Step → Lines → List (Option SlotSender) → Type 0
 HaveTold run lines held = AreTold out_name past_out got ring_of run [] lines held
 
--- the run opened no stream of these orders
-abbrev pub AreUnopened : List Step → List (Control Opened) → Type 0
-AreUnopened run [] = Unit {0}
-AreUnopened run (Open id opened ∷ orders) = (is_opened id run ≡ false) × AreUnopened run orders
-AreUnopened run (order ∷ orders) = AreUnopened run orders
-
 -- the streams of a line's calls, the earliest first
 abbrev pub streams_of : Line LaneName → List ℕ
 streams_of line = line.before ++ line.id ∷ []

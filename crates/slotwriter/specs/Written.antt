@@ -11,12 +11,13 @@ use Rattle.lane.specs.RingLane.{got}
 use Rattle.outwriter.specs.declared.control.Control.{Control}
 use Rattle.outwriter.specs.declared.control.Control.TheVariants.{Open}
 use Rattle.outwriter.specs.Calls.{TellOthers, is_closed}
-use Rattle.outwriter.specs.Runs.{IsLawful}
+use Rattle.outwriter.specs.Runs.{IsLawful, is_opened}
 use Rattle.outwriter.specs.RunState.{IsAnswered}
 use Rattle.outwriter.specs.Steps.{Step, Order, frames_of, order_of}
 use Rattle.connwriter.specs.declared.standing.Standing.TheVariants.{Going, Broken}
 use Rattle.connwriter.specs.declared.writer.ConnWriter.{ConnWriter}
 use Rattle.connwriter.specs.Spelled.{IsFront, IsWhole, IsAll}
+use Rattle.connwriter.specs.Sent.{IsOld}
 use Rattle.connwriter.specs.Wrote.{Wrote}
 use Rattle.callslot.specs.declared.order.Opened.{Opened}
 use Rattle.callslot.specs.declared.report.Ending.{Ending}
@@ -24,7 +25,7 @@ use Rattle.callslot.specs.declared.report.Ending.TheVariants.{OutOfMemory, Write
 use Rattle.slotwriter.specs.declared.senders.Place.{Place}
 use Rattle.slotwriter.specs.declared.slot_writer.SlotWriter.{SlotWriter}
 use Rattle.slotwriter.specs.Orders.{HasGiven, IsAmong, Obeys, ends_input, orders_of}
-use Rattle.slotwriter.specs.Sent.{AreFresh, AreKept, AreUnopened, HaveTold, Lines, MakesOf, SlotSender, ids_of, lines_of}
+use Rattle.slotwriter.specs.Sent.{AreFresh, AreKept, HaveTold, Lines, MakesOf, SlotSender, ids_of, lines_of}
 
 -- No more orders come, and all that they obliged to is among the frames: each SETTINGS and each PING is acknowledged, and each header
 -- block is whole, or else the last frame is a GOAWAY with an error.
@@ -161,8 +162,8 @@ pub record HasWritten {W : Type 0} (contents : W → Option (List ℕ)) (failed 
   pub all : failed device ≡ false → ending ≢ Some OutOfMemory → IsAll (frames_of run) before (contents device)
   pub over : failed device ≡ false → ending ≢ Some OutOfMemory → IsOver run
 
--- A device has that, and these senders of the slots tell what was sent of each call. The slots' lines are by a front of the orders, and of the
--- others, which were lost, none opened a stream.
+-- A device has that, and these senders of the slots tell what was sent of each call. The slots' lines are by a front of the orders; the
+-- others were lost.
 pub record HasSent {W : Type 0} (contents : W → Option (List ℕ)) (failed : W → Bool) (before : Option (List ℕ)) (orders : List (Control Opened))
     (held : List (Option SlotSender)) (ending : Option Ending) (device : W) : Type 0 where
   pub written : HasWritten contents failed before (orders_of orders) ending device
@@ -171,6 +172,7 @@ pub record HasSent {W : Type 0} (contents : W → Option (List ℕ)) (failed : W
   pub orders_are : orders ≡ front ++ rest
   -- what the frames of each call's stream tell begins what its sender got of it
   pub told : AreFresh [] orders → HaveTold written.run (lines_of front) held
-  pub unopened : AreFresh [] orders → AreUnopened written.run rest
+  -- no other stream was opened
+  pub unopened : AreFresh [] orders → (id : ℕ) → (IsOld id (lines_of front) → ⊥) → is_opened id written.run ≡ false
   -- where memory didn't run out and no write failed, none was lost
   pub each : ending ≢ Some OutOfMemory → ending ≢ Some WriteFailed → rest ≡ []

@@ -4,8 +4,8 @@ use Rattle.slots.specs.Steps.{NotLive}
 use Rattle.slots.proofs.reading.Reading.abandon.Goals as goal
 use Rattle.slots.proofs.reading.Reading.abandon.Goals.{then-has_trailers, else-has_trailers}
 
-pub returns : goal.returns
-returns g c = c.cut_call.ensures (NotLive c.args.has_trailers) (elim c.if-has_trailers.branch [
+pub returns-clause-decides : goal.returns-clause-decides
+returns-clause-decides g c = c.cut_call.ensures.decides (NotLive c.args.has_trailers) (elim c.if-has_trailers.branch [
   | then-has_trailers w ↦ ap (λ (b : Bool). cut_code (NotLive b)) w.if-has_trailers.true ∙ sym w.code-is
   | else-has_trailers w ↦ ap (λ (b : Bool). cut_code (NotLive b)) w.if-has_trailers.false ∙ sym w.code-is
 ])

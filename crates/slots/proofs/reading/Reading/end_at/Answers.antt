@@ -1,8 +1,12 @@
-use Rattle.std.proofs.Common.{◌∷◌, refl, sym}
+use Rattle.std.proofs.Common.{◌∷◌, refl, sym, ◌∙◌, ap, Some}
 use Rattle.h2frame.specs.declared.error_code.ErrorCode.TheVariants.{InternalError}
 use Rattle.outwriter.specs.declared.control.Control.TheVariants.{Goaway}
 use Rattle.slots.specs.Orders.{begun, greatest}
 use Rattle.slots.proofs.ReadingSteps.{decides-begun, goaway-order}
+use Rattle.slots.proofs.Lines.{calls-both}
+use Rattle.callslot.specs.declared.order.Opened.{Opened}
+use Rattle.outwriter.specs.declared.control.Control.{Control}
+use Rattle.slots.specs.Lines.{calls_of}
 use Rattle.slots.proofs.reading.Reading.end_at.Goals as goal
 
 pub returns-clause-ends : goal.returns-clause-ends
@@ -11,3 +15,9 @@ returns-clause-ends g c = λ told step begins ends orders.
     let counts = count.counts (begun told) begins.counts in
     decides-begun told step c.args.id _ (Goaway (greatest (c.args.id ∷ begun told)) InternalError) c.args.self.now c.count-first.new.self count.slots count.heeds count.counts
     (goaway-order c.goaway.result c.count-first.new.self.last (greatest (c.args.id ∷ begun told)) InternalError c.goaway.ensures.order counts.0.last) orders (sym ends) refl begins
+
+pub returns-clause-aligns : goal.returns-clause-aligns
+returns-clause-aligns g c =
+    let slots = calls_of c.args.self.now.slots in
+    calls-both slots _ _ _ (c.count-first.ensures.none slots) (ap (λ (order : Control Opened). Some order) c.goaway.ensures.order)
+    ∙ ap (λ all. calls_of all) (sym c.count-first.ensures.slots)

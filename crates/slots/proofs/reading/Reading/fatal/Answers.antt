@@ -9,6 +9,8 @@ use Rattle.slots.specs.declared.reading.Decided.{Decided}
 use Rattle.slots.specs.Steps.{Plain, Told}
 use Rattle.slots.proofs.Heard.{idle-fatal}
 use Rattle.slots.proofs.ReadingSteps.{decides-now, one-order, reads-idle}
+use Rattle.slots.proofs.Lines.{calls-plain}
+use Rattle.slots.specs.Lines.{calls_of}
 use Rattle.slots.proofs.reading.Reading.fatal.Goals as goal
 
 pub returns-clause-decides : goal.returns-clause-decides
@@ -18,3 +20,7 @@ returns-clause-decides g c = λ told reads.
     decides-now told (Told (events.Fatal c.args.code) Plain) decided c.args.self.now
     (one-order decided _ done.0 done.1 ∙ (ap (λ (order : Control Opened). order_of order ∷ []) c.goaway.ensures.order ∙ ap (λ (last : ℕ). Goaway last c.args.code ∷ []) reads.counts.last))
     refl done.2 (reads-idle told _ _ refl (idle-fatal c.args.code) reads)
+
+pub returns-clause-aligns : goal.returns-clause-aligns
+returns-clause-aligns g c =
+    calls-plain (calls_of c.args.self.now.slots) _ _ _ c.order.ensures.0 (c.order.ensures.1 ∙ ap (λ (order : Control Opened). Some order) c.goaway.ensures.order) (λ id is. cc)

@@ -1,4 +1,4 @@
-use Rattle.std.proofs.Common.{refl, subst, sym}
+use Rattle.std.proofs.Common.{refl, subst, sym, ◌∙◌, ap}
 use Rattle.connbook.specs.declared.answers.AdmitFault.{AdmitFault}
 use Rattle.connbook.specs.declared.answers.AdmitFault.TheVariants as refused
 use Rattle.session.specs.declared.event.InEvent.TheVariants as events
@@ -6,24 +6,33 @@ use Rattle.slots.specs.Readings.{Decides}
 use Rattle.slots.specs.Steps.{Told, TurnedAway}
 use Rattle.slots.proofs.Heard.{idle-open}
 use Rattle.slots.proofs.ReadingSteps.{begins-idle}
+use Rattle.slots.specs.Lines.{calls_of}
 use Rattle.slots.proofs.reading.Reading.turn_away.Goals as goal
 
-pub returns-in-TooMany : goal.returns-in-TooMany
-returns-in-TooMany g c = λ head told reads.
+pub returns-in-TooMany-clause-decides : goal.returns-in-TooMany-clause-decides
+returns-in-TooMany-clause-decides g c = λ head told reads.
     subst (λ (fault : AdmitFault). Decides g.H.Worker.names told (Told (events.Open c.args.id head) (TurnedAway fault)) c.begin.result c.begin.new.self) (sym c.in-TooMany.is)
     (c.begin.ensures.decides told (Told (events.Open c.args.id head) (TurnedAway refused.TooMany)) (begins-idle told _ c.args.id _ refl (idle-open c.args.id head (TurnedAway refused.TooMany) refl) reads) refl refl)
 
-pub returns-in-Draining : goal.returns-in-Draining
-returns-in-Draining g c = λ head told reads.
+pub returns-in-Draining-clause-decides : goal.returns-in-Draining-clause-decides
+returns-in-Draining-clause-decides g c = λ head told reads.
     subst (λ (fault : AdmitFault). Decides g.H.Worker.names told (Told (events.Open c.args.id head) (TurnedAway fault)) c.begin-in-Draining.result c.begin-in-Draining.new.self) (sym c.in-Draining.is)
     (c.begin-in-Draining.ensures.decides told (Told (events.Open c.args.id head) (TurnedAway refused.Draining)) (begins-idle told _ c.args.id _ refl (idle-open c.args.id head (TurnedAway refused.Draining) refl) reads) refl refl)
 
-pub returns-in-NotNew : goal.returns-in-NotNew
-returns-in-NotNew g c = λ head told reads.
+pub returns-in-NotNew-clause-decides : goal.returns-in-NotNew-clause-decides
+returns-in-NotNew-clause-decides g c = λ head told reads.
     subst (λ (fault : AdmitFault). Decides g.H.Worker.names told (Told (events.Open c.args.id head) (TurnedAway fault)) c.end_at.result c.end_at.new.self) (sym c.in-NotNew.is)
     (c.end_at.ensures.ends told (Told (events.Open c.args.id head) (TurnedAway refused.NotNew)) (begins-idle told _ c.args.id _ refl (idle-open c.args.id head (TurnedAway refused.NotNew) refl) reads) refl refl)
 
-pub returns-in-OutOfMemory : goal.returns-in-OutOfMemory
-returns-in-OutOfMemory g c = λ head told reads.
+pub returns-in-OutOfMemory-clause-decides : goal.returns-in-OutOfMemory-clause-decides
+returns-in-OutOfMemory-clause-decides g c = λ head told reads.
     subst (λ (fault : AdmitFault). Decides g.H.Worker.names told (Told (events.Open c.args.id head) (TurnedAway fault)) c.end_at-in-OutOfMemory.result c.end_at-in-OutOfMemory.new.self) (sym c.in-OutOfMemory.is)
     (c.end_at-in-OutOfMemory.ensures.ends told (Told (events.Open c.args.id head) (TurnedAway refused.OutOfMemory)) (begins-idle told _ c.args.id _ refl (idle-open c.args.id head (TurnedAway refused.OutOfMemory) refl) reads) refl refl)
+
+pub returns-in-TooMany-clause-aligns : goal.returns-in-TooMany-clause-aligns
+returns-in-TooMany-clause-aligns g c =
+    c.begin.ensures.calls (calls_of c.args.self.now.slots) ∙ ap (λ slots. calls_of slots) (sym c.begin.ensures.slots)
+
+pub returns-in-Draining-clause-aligns : goal.returns-in-Draining-clause-aligns
+returns-in-Draining-clause-aligns g c =
+    c.begin-in-Draining.ensures.calls (calls_of c.args.self.now.slots) ∙ ap (λ slots. calls_of slots) (sym c.begin-in-Draining.ensures.slots)

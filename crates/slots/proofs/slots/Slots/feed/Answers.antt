@@ -10,6 +10,7 @@ use Rattle.slots.proofs.StepLemmas.{concerns-data}
 use Rattle.slots.specs.Seats.{IsSeat}
 use Rattle.slots.proofs.SlotSteps.{kept-none, kept-set, keeps-set, is-at}
 use Rattle.slots.proofs.Unfed.{unfed-shut}
+use Rattle.slots.proofs.Lines.{calls-set, ids-same}
 use Rattle.slots.proofs.slots.Slots.feed.Goals as goal
 
 pub returns-in_default-clause-heard : goal.returns-in_default-clause-heard
@@ -35,3 +36,15 @@ returns-in_err-feed-clause-stays g c = err-any c.from_residual.result _ (λ told
 
 pub returns-clause-next : goal.returns-clause-next
 returns-clause-next g c = λ id next. (next.0, omega (arith, next.1, c.note_fed.ensures.room.0, c.note_fed.ensures.room.1))
+
+pub returns-clause-calls : goal.returns-clause-calls
+returns-clause-calls g c =
+    let seat = c.in-Some-get_mut.seat.now in
+    let moved = c.feed.new.self in
+    calls-set c.args.self.now.seats.items c.in-Some.place seat moved c.in-Some-get_mut.ensures.item.3.0 c.in-Some-get_mut.ensures.value c.feed.ensures.ring (ids-same seat moved c.feed.ensures.jobs)
+
+pub returns-in_err-feed-clause-calls : goal.returns-in_err-feed-clause-calls
+returns-in_err-feed-clause-calls g c =
+    let seat = c.in-Some-get_mut.seat.now in
+    let moved = c.feed.new.self in
+    calls-set c.args.self.now.seats.items c.in-Some.place seat moved c.in-Some-get_mut.ensures.item.3.0 c.in-Some-get_mut.ensures.value c.feed.ensures.ring (ids-same seat moved c.feed.ensures.jobs)

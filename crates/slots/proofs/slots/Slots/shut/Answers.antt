@@ -4,6 +4,7 @@ use Rattle.slots.proofs.ListedRows.{rows-cut}
 use Rattle.slots.proofs.ReadingSteps.{fed-both}
 use Rattle.slots.proofs.SlotSteps.{kept-none, kept-set, is-at, rises-not}
 use Rattle.slots.proofs.Unfed.{unfed-shut}
+use Rattle.slots.proofs.Lines.{calls-set, ids-same}
 use Rattle.slots.proofs.slots.Slots.shut.Goals as goal
 
 pub returns-in_default-clause-heard : goal.returns-in_default-clause-heard
@@ -21,3 +22,9 @@ returns-clause-heard g c = λ step concerns by_step told k.
 
 pub returns-clause-next : goal.returns-clause-next
 returns-clause-next g c = λ id next. (next.0, omega (arith, next.1, c.note_shut.ensures.room.0, c.note_shut.ensures.room.1))
+
+pub returns-clause-calls : goal.returns-clause-calls
+returns-clause-calls g c =
+    let seat = c.in-Some-get_mut.seat.now in
+    let moved = c.shut.new.self in
+    calls-set c.args.self.now.seats.items c.in-Some.place seat moved c.in-Some-get_mut.ensures.item.3.0 c.in-Some-get_mut.ensures.value c.shut.ensures.ring (ids-same seat moved c.shut.ensures.jobs)
