@@ -1,3 +1,4 @@
 pub mod Puts
 pub mod Heard
 pub mod Served
+pub mod Sent

@@ -19,6 +19,10 @@ split-all {A} P old rest one is each =
     let all : All P (one ∷ rest) = subst (λ (xs : List A). All P xs) is each in
     (all 0 one (omega arith), λ n d within. all (suc n) d (omega (arith, within)))
 
+pub pushed : {A : Type 0} (xs : List A) (x : A) → length (xs ++ x ∷ []) ≡ suc (length xs)
+pushed [] x = refl
+pushed (a ∷ xs) x = ap (λ (n : ℕ). suc n) (pushed xs x)
+
 module _ {H : Type 0} {hand : Ghosts H} where
   pub rows-more : (answers : ℕ → List (List ℕ) → Bool → Answer → Type 0) (names : List ℕ → ℕ → Type 0) (told : List Step) (yielded old rest : List (Seat H hand)) (ends ends_new : List GivingEnd) (seat : Seat H hand)
       (end : GivingEnd) (answered rows rows_new : List CallReport) → old ≡ seat ∷ rest → ends_new ≡ ends ++ end ∷ [] → length ends ≡ length (calls_in yielded) → rows_new ≡ map (updated_by answered) rows
@@ -43,10 +47,6 @@ module _ {H : Type 0} {hand : Ghosts H} where
       → length ends_new ≡ length (calls_in (yielded ++ seat ∷ []))
   counts-more yielded ends ends_new seat end is same =
       ap (λ (es : List GivingEnd). length es) is ∙ (pushed ends end ∙ (ap (λ (n : ℕ). suc n) same ∙ (sym (pushed (calls_in yielded) (calls_at seat)) ∙ ap (λ (slots : List SlotCalls). length slots) (sym (calls-push yielded seat)))))
-    where
-      pushed : {A : Type 0} (xs : List A) (x : A) → length (xs ++ x ∷ []) ≡ suc (length xs)
-      pushed [] x = refl
-      pushed (a ∷ xs) x = ap (λ (n : ℕ). suc n) (pushed xs x)
 
   pub yields-more : (yielded old rest all : List (Seat H hand)) (seat : Seat H hand) → yielded ++ old ≡ all → old ≡ seat ∷ rest → (yielded ++ seat ∷ []) ++ rest ≡ all
   yields-more yielded old rest all seat parts is = append_assoc yielded (seat ∷ []) rest ∙ (ap (λ (seats : List (Seat H hand)). yielded ++ seats) (sym is) ∙ parts)

@@ -20,8 +20,11 @@ use Rattle.slots.specs.Lines.{AreEndsOf, IsGivenIn, SlotCalls, calls_at, calls_f
 use Rattle.slots.specs.Orders.{news_of, without_head}
 use Rattle.slots.specs.Seats.{ids_of, jobs_of}
 
-same-calls : (ring other : LaneName) (ids more : List ℕ) → ring ≡ other → ids ≡ more → record { ring = ring; ids = ids } ≡ record { ring = other; ids = more }
-same-calls ring other ids more one two = ap (λ (name : LaneName). record { ring = name; ids = ids }) one ∙ ap (λ (all : List ℕ). record { ring = other; ids = all }) two
+abbrev slot_of : LaneName → List ℕ → SlotCalls
+slot_of ring ids = record { ring = ring; ids = ids }
+
+same-calls : (ring other : LaneName) (ids more : List ℕ) → ring ≡ other → ids ≡ more → slot_of ring ids ≡ slot_of other more
+same-calls ring other ids more one two = ap (λ (name : LaneName). slot_of name ids) one ∙ ap (λ (all : List ℕ). slot_of other all) two
 
 -- ---- orders
 
@@ -119,7 +122,7 @@ module _ {H : Type 0} {hand : Ghosts H} where
 
   -- one slot more
   pub calls-new : (slots : List SlotCalls) (seat : Seat H hand) (ring : LaneName) (id : ℕ) → ids_of seat ≡ id ∷ [] → ring_at seat ≡ ring
-      → slots ++ record { ring = ring; ids = id ∷ [] } ∷ [] ≡ slots ++ calls_at seat ∷ []
+      → slots ++ slot_of ring (id ∷ []) ∷ [] ≡ slots ++ calls_at seat ∷ []
   calls-new slots seat ring id ids is = ap (λ (slot : SlotCalls). slots ++ slot ∷ []) (same-calls _ _ _ _ (sym is) (sym ids))
 
 -- ---- what was given

@@ -188,19 +188,19 @@ new-by slots (Goaway last code ∷ orders) found is new = (tt, new-by slots orde
 new-by slots (InputEnded ∷ orders) found is new = (tt, new-by slots orders found is new)
 new-by slots (Close ∷ orders) found is new = (tt, new-by slots orders found is new)
 
+times-below : (id last : ℕ) (ids : List ℕ) → All (λ (other : ℕ). other ≤ last) ids → 0 < times id ids → id ≤ last
+times-below id last [] each some = absurd (omega (arith, some))
+times-below id last (first ∷ ids) each some = elim (split-first id first ids some) [
+  | inl same ↦ let low = each 0 first (omega arith) in omega (arith, low, same)
+  | inr rest ↦ times-below id last ids (λ n d within. each (suc n) d (omega (arith, within))) rest
+]
+
 module _ {H : Type 0} {hand : Ghosts H} where
   -- the call of a stream is one of the slots' as often as it was admitted
   call-times : (id : ℕ) (seats : List (Seat H hand)) → HasCall id (calls_in seats) → 0 < times_in id seats
   call-times id [] has = absurd has
   call-times id (seat ∷ seats) (inl here) = let some = among id (ids_of seat) here in omega (arith, some)
   call-times id (seat ∷ seats) (inr there) = let some = call-times id seats there in omega (arith, some)
-
-  times-below : (id last : ℕ) (ids : List ℕ) → All (λ (other : ℕ). other ≤ last) ids → 0 < times id ids → id ≤ last
-  times-below id last [] each some = absurd (omega (arith, some))
-  times-below id last (first ∷ ids) each some = elim (split-first id first ids some) [
-    | inl same ↦ let low = each 0 first (omega arith) in omega (arith, low, same)
-    | inr rest ↦ times-below id last ids (λ n d within. each (suc n) d (omega (arith, within))) rest
-  ]
 
   -- a call that is admitted now has none before
   pub opens-new : (names : List ℕ → ℕ → Type 0) (told : List Step) (step : Step) (decided : Decided) (slots : Slots H hand) → Kept names told slots → IsRising (step ∷ told) → orders_in decided ≡ orders_at told step

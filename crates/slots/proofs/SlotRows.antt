@@ -186,6 +186,9 @@ module _ (answers : ℕ → List (List ℕ) → Bool → Answer → Type 0) (nam
     carried = follows row.id is.account is.carried;
   }
 
+  abbrev Rest : (ℕ → Account → Type 0) → List CallReport → Job → Type 0
+  Rest carries rows job = HasRow rows job ⊎ ((row : CallReport) → IsServed names told row → row.id ≡ job.id → IsAccounted answers names carries told row)
+
   pub answered-as : (jobs : List Job) (rows : List CallReport) → AreAnswered answers names one told jobs rows → AreAnswered answers names other told jobs rows
   answered-as jobs rows is = record {
     each = λ n d within.
@@ -194,10 +197,7 @@ module _ (answers : ℕ → List (List ℕ) → Bool → Answer → Type 0) (nam
     rest = λ n. of-rest (slice_get jobs n) (is.rest n);
   }
     where
-      abbrev Rest : (ℕ → Account → Type 0) → Job → Type 0
-      Rest carries job = HasRow rows job ⊎ ((row : CallReport) → IsServed names told row → row.id ≡ job.id → IsAccounted answers names carries told row)
-
-      of-rest : (found : Option Job) → IfSome found (Rest one) → IfSome found (Rest other)
+      of-rest : (found : Option Job) → IfSome found (Rest one rows) → IfSome found (Rest other rows)
       of-rest None was = tt
       of-rest (Some job) (inl has) = inl has
       of-rest (Some job) (inr gives) = inr (λ row served same. accounted-as row (gives row served same))

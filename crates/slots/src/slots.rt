@@ -1,14 +1,6 @@
 //! The slots of a connection, as its reading side has them.
 
-ghost use Rattle.std.specs.Prelude.{◌≡◌, ◌<◌, ◌≤◌, ℕ, List, [], ◌∷◌, ◌++◌, Bool, None, Some, IfErr, IfOk, OnErr, OnOk, is_some, position, vec_capacity, vec_len};
-ghost use Rattle.callhead.specs.declared.head.CallHead.{CallHead as Head};
-ghost use Rattle.connbook.specs.declared.answers.Receipt.TheVariants.{Feed};
-ghost use Rattle.session.specs.declared.event.InEvent.TheVariants as events;
-ghost use Rattle.slots.specs.Concerns.{Concerns};
-ghost use Rattle.slots.specs.Lines.{AreEndsOf, HasRoom, IsGivenIn, calls_at, calls_of, goes_on};
-ghost use Rattle.slots.specs.Reports.{AreRows};
-ghost use Rattle.slots.specs.Seats.{Hears, IsNext, IsSeat, Keeps, KeepsNext, Kept, feeds, jobs_of};
-ghost use Rattle.slots.specs.Steps.{Admitted, Lack, Received, Step, Told, Unserved, reported, shut_at};
+ghost use Rattle.std.specs.Prelude.{◌≤◌, vec_capacity, vec_len};
 
 use crate::rows::{note_fed, note_shut, put_all};
 use crate::seat::Seat;
@@ -46,6 +38,16 @@ pub struct Ended {
 }
 
 impl<H: Worker> Slots<H> {
+    ghost use Rattle.std.specs.Prelude.{◌≡◌, ◌<◌, ℕ, List, [], ◌∷◌, ◌++◌, Bool, None, Some, IfErr, IfOk, OnErr, OnOk, is_some, position};
+    ghost use Rattle.callhead.specs.declared.head.CallHead.{CallHead as Head};
+    ghost use Rattle.connbook.specs.declared.answers.Receipt.TheVariants.{Feed};
+    ghost use Rattle.session.specs.declared.event.InEvent.TheVariants as events;
+    ghost use Rattle.slots.specs.Concerns.{Concerns};
+    ghost use Rattle.slots.specs.Lines.{AreEndsOf, HasRoom, IsGivenIn, calls_at, calls_of, goes_on};
+    ghost use Rattle.slots.specs.Reports.{AreRows};
+    ghost use Rattle.slots.specs.Seats.{Hears, IsNext, IsSeat, Keeps, KeepsNext, Kept, feeds, jobs_of};
+    ghost use Rattle.slots.specs.Steps.{Admitted, Lack, Received, Step, Told, Unserved, reported, shut_at};
+
     pub(crate) fn new(alloc: Global) -> Slots<H>
         ensures { Kept H.names [] result }
     {
@@ -120,6 +122,7 @@ impl<H: Worker> Slots<H> {
         ensures last { self.new.last ≡ row.id }
         ensures rows { self.new.rows.items ≡ self.old.rows.items ++ row ∷ [] }
         ensures seats { self.new.seats ≡ self.old.seats }
+        ensures ends { self.new.ends ≡ self.old.ends }
     {
         self.last = row.id;
         self.rows.push_reserved(row);

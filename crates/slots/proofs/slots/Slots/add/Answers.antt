@@ -1,4 +1,5 @@
-use Rattle.std.proofs.Common.{◌∙◌, ◌++◌, ◌∷◌, [], ℕ, ◌<◌, ap, refl, subst}
+use Rattle.std.specs.Prelude.{vec_capacity, vec_len}
+use Rattle.std.proofs.Common.{◌≤◌, ◌<◌, ◌∙◌, ◌++◌, ◌∷◌, [], ℕ, ap, arith, refl, subst, sym}
 use Rattle.callslot.specs.declared.report.CallReport.{CallReport}
 use Rattle.callslot.specs.Accounts.{unanswered}
 use Rattle.slots.proofs.SlotSteps.{kept-pushed}
@@ -17,3 +18,11 @@ pub returns-clause-calls : goal.returns-clause-calls
 returns-clause-calls g c =
     ap (λ seats. calls_in seats) (c.push_reserved.ensures.items ∙ ap (λ v. v.items ++ c.args.seat ∷ []) c.report.ensures.seats)
     ∙ calls-push c.args.self.now.seats.items c.args.seat
+
+pub invariant_of-self-clause-none_ended : goal.invariant_of-self-clause-none_ended
+invariant_of-self-clause-none_ended g c = subst (λ ends. vec_len ends ≤ 0) (sym c.report.ensures.ends) c.args.self.now.none_ended
+
+pub invariant_of-self-clause-ends_room : goal.invariant_of-self-clause-ends_room
+invariant_of-self-clause-ends_room g c =
+    subst (λ ends. vec_len c.push_reserved.new.self ≤ vec_capacity ends) (sym c.report.ensures.ends)
+    (omega (arith, c.push_reserved.ensures.len, c.requires.room.1, ap (λ seats. vec_len seats) c.report.ensures.seats))
