@@ -1,15 +1,18 @@
 -- What each step of a connection's writer does to what it wrote.
-use Rattle.std.proofs.Common.{◌≡◌, ◌≢◌, ◌∙◌, ℕ, zero, suc, Bool, true, false, true≢false, List, [], ◌∷◌, ◌++◌, Option, None, Some, IfSome, ap, append-nil, append_assoc, sym, refl, map, subst}
+use Rattle.std.proofs.Common.{◌≡◌, ◌≢◌, ◌∙◌, ◌+◌, arith, ℕ, zero, suc, Bool, true, false, true≢false, List, [], ◌∷◌, ◌++◌, Option, None, Some, IfSome, ap, append-nil, append_assoc, sym, refl, map, subst}
 use Rattle.std.specs.Prelude.{◌||◌, All, Result, Ok, Err, OnOk, OnErr, get_or}
 use Rattle.std.specs.List.{list_any}
+use Rattle.std.proofs.lemmas.List.Sums.{sum_by-cons}
 use Rattle.std.proofs.lemmas.List.Elements.{All-append, All-from_get_or, All-get_or, All-nil, All-set}
 use Rattle.account.specs.declared.call.OutItem.{OutItem}
 use Rattle.outwriter.specs.Calls.{TellFronts, TellOthers, TellReturned}
+use Rattle.outwriter.specs.Credit.{granted, granted_by}
 use Rattle.outwriter.specs.Cores.{calls, lane_and_past, lanes}
 use Rattle.outwriter.specs.declared.control.OutFault.TheVariants.{PeerWindow}
 use Rattle.outwriter.specs.RunState.{Concerns}
 use Rattle.outwriter.specs.Runs.{is_opened, opens_stream}
 use Rattle.h2frame.specs.declared.frame.Frame.{Frame}
+use Rattle.outwriter.specs.Frames.{goaway_frame}
 use Rattle.outwriter.specs.Polls.{coming}
 use Rattle.outwriter.specs.declared.control.Control.{Control}
 use Rattle.outwriter.specs.declared.control.Control.TheVariants as control
@@ -37,7 +40,7 @@ use Rattle.slotwriter.specs.declared.slot_writer.SlotWriter.{SlotWriter}
 use Rattle.slotwriter.specs.declared.senders.Place.{Place}
 use Rattle.slotwriter.specs.Orders.{Gives, HasGiven, IsAmong, Keeps, Obeys, ends_input, order_in, orders_of, loses_by}
 use Rattle.slotwriter.specs.Sent.{AreFresh, AreKept, HandsHome, HasStream, HaveTold, KeepsOn, MakesOf, PlacesBy, SamePlaces, SlotSender, TakesAllHome, held_of, ids_of, lines_of}
-use Rattle.slotwriter.specs.Written.{FrameWriter, HasKept, HasSent, HasWritten, IsFlushed, Runs, Ends, RunsOn, RunsOut, SendsOn, StaysOn, Takes, PassesOver, Parts, Heeds, Knows, SameCalls, Led, LedOut, LeadsOn, LeadsOut, Stays, core_of, places_of}
+use Rattle.slotwriter.specs.Written.{FrameWriter, HasKept, HasSent, HasWritten, IsFlushed, Runs, Ends, RunsOn, RunsOut, SendsOn, StaysOn, Takes, PassesOver, Parts, Heeds, Knows, SameCalls, Led, LedOut, LeadsOn, LeadsOut, LeadsOutTo, LeadsTo, Stays, core_of, places_of}
 use Rattle.slotwriter.proofs.OrderSteps.{all-given, among-last, among-more, given-all, given-next, obeys-closing, obeys-frames, obeys-granted, obeys-last-word, obeys-lost, obeys-more, obeys-parting, obeys-reset, obeys-returned, obeys-taking}
 use Rattle.slotwriter.proofs.SentPlaces.{brings-plain, brings-same, fresh-parts, keeps-same, kept-back-more, kept-frames, kept-more, kept-none, kept-same, kept-still, kept-tells, makes-then, on-steps, own-plain, same-places}
 
@@ -217,36 +220,63 @@ module _ {W : Type 0} where
         (subst (λ (c : Control SlotSender). HandsHome c (places_of old) (places_of new)) blamed places) kept fresh),
   )
 
+-- ---- the credit
+
+-- a step that grants none on the connection
+granted-none : (step : Step) (run : List Step) (credit : ℕ) → granted_by 0 step ≡ 0 → granted 0 run ≡ credit → granted 0 (step ∷ run) ≡ credit
+granted-none step run credit none is = omega (arith, sum_by-cons (granted_by 0) step run, none, is)
+
+granted-frames : (frames : List Frame) (run : List Step) (credit : ℕ) → granted 0 run ≡ credit → granted 0 (map Written frames ++ run) ≡ credit
+granted-frames [] run credit is = is
+granted-frames (frame ∷ frames) run credit is = granted-none (Written frame) (map Written frames ++ run) credit refl (granted-frames frames run credit is)
+
+granted-steps : (order : Order) (last : ℕ) (taking : Taking SlotSender) (run : List Step) (credit : ℕ) → granted 0 run ≡ credit → granted 0 (steps_of order last taking ++ run) ≡ credit
+granted-steps order last Done run credit is = granted-none (Taken order) run credit refl is
+granted-steps order last (Ended id) run credit is =
+    granted-none (Taken (own_order last id)) (Taken order ∷ run) credit refl (granted-none (Taken order) run credit refl is)
+granted-steps order last (Unanswered id) run credit is = granted-none (Taken order) run credit refl is
+granted-steps order last (HandedBack back) run credit is = is
+
+granted-parting : (last : ℕ) (run : List Step) (credit : ℕ) → granted 0 run ≡ credit → granted 0 (parting last true ++ run) ≡ credit
+granted-parting last run credit is =
+    granted-none (Written (goaway_frame last InternalError)) (Taken (control.Goaway last InternalError) ∷ run) credit refl
+    (granted-none (Taken (control.Goaway last InternalError)) run credit refl is)
+
+granted-more : (id n : ℕ) (run : List Step) (credit : ℕ) → granted 0 run ≡ credit → granted 0 (Granted id n ∷ run) ≡ credit + granted_by 0 (Granted id n)
+granted-more id n run credit is = omega (arith, sum_by-cons (granted_by 0) (Granted id n) run, is)
+
 module _ {W : Type 0} (contents : W → Option (List ℕ)) (failed : W → Bool) where
   -- ---- frames
 
   -- frames are put into the buffer
   pub fills-on : (filled : Option Filled) (old new : SlotWriter W) → Fills got (coming got ahead) contents failed filled old.frames new.frames
       → ((frames : List Frame) → SendsOn (map Written frames) old new) → RunsOn contents failed old new
-  fills-on filled old new fills sends lost orders before runs =
+  fills-on filled old new fills sends lost orders before credit runs =
       let found = fills before runs.0 runs.1 in
-      (map Written found.0 ++ runs.0, found.1, obeys-frames lost (orders_of orders) found.0 runs.0 runs.2, kept-on lost orders runs.0 (map Written found.0) old new (sends found.0) runs.3)
+      (map Written found.0 ++ runs.0, found.1, obeys-frames lost (orders_of orders) found.0 runs.0 runs.2, kept-on lost orders runs.0 (map Written found.0) old new (sends found.0) runs.3, granted-frames found.0 runs.0 credit runs.4)
 
   over-filled : (old new : SlotWriter W) → Fills got (coming got ahead) contents failed (Some Over) old.frames new.frames
       → ((frames : List Frame) → SendsOn (map Written frames) old new) → RunsOut contents failed old new
-  over-filled old new fills sends lost orders before runs =
+  over-filled old new fills sends lost orders before credit runs =
       let found = fills before runs.0 runs.1 in
       let rest = found.2 in (
         map Written found.0 ++ runs.0,
         found.1,
         obeys-frames lost (orders_of orders) found.0 runs.0 runs.2,
         kept-on lost orders runs.0 (map Written found.0) old new (sends found.0) runs.3,
+        granted-frames found.0 runs.0 credit runs.4,
         λ going. record { closed = found.1.leads.closed ∙ rest.1; answered = rest.0.answered },
       )
 
   stopped-filled : (old new : SlotWriter W) → Fills got (coming got ahead) contents failed (Some Stopped) old.frames new.frames
       → ((frames : List Frame) → SendsOn (map Written frames) old new) → RunsOut contents failed old new
-  stopped-filled old new fills sends lost orders before runs =
+  stopped-filled old new fills sends lost orders before credit runs =
       let found = fills before runs.0 runs.1 in (
         map Written found.0 ++ runs.0,
         found.1,
         obeys-frames lost (orders_of orders) found.0 runs.0 runs.2,
         kept-on lost orders runs.0 (map Written found.0) old new (sends found.0) runs.3,
+        granted-frames found.0 runs.0 credit runs.4,
         λ going. absurd (found.2 going),
       )
 
@@ -264,25 +294,27 @@ module _ {W : Type 0} (contents : W → Option (List ℕ)) (failed : W → Bool)
 
   -- credit is owed
   pub grants-on : (id n : ℕ) (old new : SlotWriter W) → WritesOn got contents failed (Granted id n ∷ []) old.frames new.frames → SendsOn (Granted id n ∷ []) old new
-      → RunsOn contents failed old new
-  grants-on id n old new on sends lost orders before runs = (
+      → (credit : ℕ) (lost : Bool) (orders : List (Control Opened)) (before : Option (List ℕ)) → Runs contents failed lost orders before credit old
+      → Runs contents failed lost orders before (credit + granted_by 0 (Granted id n)) new
+  grants-on id n old new on sends credit lost orders before runs = (
     Granted id n ∷ runs.0,
     on before runs.0 runs.1,
     obeys-granted lost (orders_of orders) id n runs.0 runs.2,
     kept-on lost orders runs.0 (Granted id n ∷ []) old new sends runs.3,
+    granted-more id n runs.0 credit runs.4,
   )
 
   -- no step
   pub runs-same : (lost : Bool) (old new : SlotWriter W) → WritesOn got contents failed [] old.frames new.frames → SendsOn [] old new
-      → (orders : List (Control Opened)) (before : Option (List ℕ)) → Runs contents failed lost orders before old → Runs contents failed lost orders before new
-  runs-same lost old new on sends orders before runs = (runs.0, on before runs.0 runs.1, runs.2, kept-on lost orders runs.0 [] old new sends runs.3)
+      → (orders : List (Control Opened)) (before : Option (List ℕ)) (credit : ℕ) → Runs contents failed lost orders before credit old → Runs contents failed lost orders before credit new
+  runs-same lost old new on sends orders before credit runs = (runs.0, on before runs.0 runs.1, runs.2, kept-on lost orders runs.0 [] old new sends runs.3, runs.4)
 
   -- no step, of a writer that stands as it did
   pub still-on : (lost : Bool) (old new : SlotWriter W) → WritesOn got contents failed [] old.frames new.frames → SendsOn [] old new
       → (new.frames.standing ≡ stands.Going → old.frames.standing ≡ stands.Going) → StaysOn contents failed lost lost old new
   still-on lost old new on sends still = record {
     runs = runs-same lost old new on sends;
-    ends = λ orders before ends. (ends.0, on before ends.0 ends.1, ends.2, kept-on lost orders ends.0 [] old new sends ends.3, λ going. ends.4 (still going));
+    ends = λ orders before credit ends. (ends.0, on before ends.0 ends.1, ends.2, kept-on lost orders ends.0 [] old new sends ends.3, ends.4, λ going. ends.5 (still going));
   }
 
   -- the buffer is written, or that failed
@@ -295,18 +327,20 @@ module _ {W : Type 0} (contents : W → Option (List ℕ)) (failed : W → Bool)
   pub returns-on : (lost : Bool) (id : ℕ) (items : List OutItem) (old new : SlotWriter W) → WritesOn got contents failed (Returned id items ∷ []) old.frames new.frames
       → SendsOn (Returned id items ∷ []) old new → new.frames.standing ≡ old.frames.standing → StaysOn contents failed lost lost old new
   returns-on lost id items old new on sends still = record {
-    runs = λ orders before runs. (
+    runs = λ orders before credit runs. (
       Returned id items ∷ runs.0,
       on before runs.0 runs.1,
       obeys-returned lost (orders_of orders) id items runs.0 runs.2,
       kept-on lost orders runs.0 (Returned id items ∷ []) old new sends runs.3,
+      granted-none (Returned id items) runs.0 credit refl runs.4,
     );
-    ends = λ orders before ends. (
+    ends = λ orders before credit ends. (
       Returned id items ∷ ends.0,
       on before ends.0 ends.1,
       obeys-returned lost (orders_of orders) id items ends.0 ends.2,
       kept-on lost orders ends.0 (Returned id items ∷ []) old new sends ends.3,
-      λ going. let over = ends.4 (sym still ∙ going) in record { closed = over.closed; answered = over.answered },
+      granted-none (Returned id items) ends.0 credit refl ends.4,
+      λ going. let over = ends.5 (sym still ∙ going) in record { closed = over.closed; answered = over.answered },
     );
   }
 
@@ -315,39 +349,43 @@ module _ {W : Type 0} (contents : W → Option (List ℕ)) (failed : W → Bool)
       → places_of new ≡ places_of old → old.frames.standing ≡ stands.OutOfMemory → new.frames.standing ≡ old.frames.standing → StaysOn contents failed lost true old new
   parts-on last lost old new on core places memory still =
       let sends : SendsOn (parting last true) old new = sends-still (parting last true) old new (λ run k. on-taken (control.Goaway last InternalError) run k refl) core (same-places places) in record {
-        runs = λ orders before runs. (
+        runs = λ orders before credit runs. (
           parting last true ++ runs.0,
           on before runs.0 runs.1,
           obeys-last-word last lost (orders_of orders) runs.0 runs.2,
           kept-on true orders runs.0 (parting last true) old new sends (kept-here lost orders runs.0 old runs.3),
+          granted-parting last runs.0 credit runs.4,
         );
-        ends = λ orders before ends. (
+        ends = λ orders before credit ends. (
           parting last true ++ ends.0,
           on before ends.0 ends.1,
           obeys-last-word last lost (orders_of orders) ends.0 ends.2,
           kept-on true orders ends.0 (parting last true) old new sends (kept-here lost orders ends.0 old ends.3),
+          granted-parting last ends.0 credit ends.4,
           λ going. absurd (memory-going (sym memory ∙ (sym still ∙ going))),
         );
       }
 
   -- between writers of the same frames
   runs-between : (lost : Bool) (old new : SlotWriter W) → new.frames ≡ old.frames → KeepsOn (places_of old) (places_of new)
-      → (orders : List (Control Opened)) (before : Option (List ℕ)) → Runs contents failed lost orders before old → Runs contents failed lost orders before new
-  runs-between lost old new same keeps orders before runs = (
+      → (orders : List (Control Opened)) (before : Option (List ℕ)) (credit : ℕ) → Runs contents failed lost orders before credit old → Runs contents failed lost orders before credit new
+  runs-between lost old new same keeps orders before credit runs = (
     runs.0,
     subst (λ (frames : FrameWriter W). Wrote got contents failed before runs.0 frames) (sym same) runs.1,
     runs.2,
     kept-on lost orders runs.0 [] old new (sends-none old new (ap (λ (frames : FrameWriter W). frames.core.sending.senders.items) same) keeps) runs.3,
+    runs.4,
   )
 
   ends-between : (lost : Bool) (old new : SlotWriter W) → new.frames ≡ old.frames → KeepsOn (places_of old) (places_of new)
-      → (orders : List (Control Opened)) (before : Option (List ℕ)) → Ends contents failed lost orders before old → Ends contents failed lost orders before new
-  ends-between lost old new same keeps orders before ends = (
+      → (orders : List (Control Opened)) (before : Option (List ℕ)) (credit : ℕ) → Ends contents failed lost orders before credit old → Ends contents failed lost orders before credit new
+  ends-between lost old new same keeps orders before credit ends = (
     ends.0,
     subst (λ (frames : FrameWriter W). Wrote got contents failed before ends.0 frames) (sym same) ends.1,
     ends.2,
     kept-on lost orders ends.0 [] old new (sends-none old new (ap (λ (frames : FrameWriter W). frames.core.sending.senders.items) same) keeps) ends.3,
-    λ going. ends.4 (sym (ap (λ (frames : FrameWriter W). frames.standing) same) ∙ going),
+    ends.4,
+    λ going. ends.5 (sym (ap (λ (frames : FrameWriter W). frames.standing) same) ∙ going),
   )
 
   -- ---- orders
@@ -358,16 +396,17 @@ module _ {W : Type 0} (contents : W → Option (List ℕ)) (failed : W → Bool)
       → ((before : Option (List ℕ)) (run : List Step) → Wrote got contents failed before run old.frames → Blamed taking one run)
       → BringsBy taking one (core_of old) mid.core.sending.senders.items → PlacesBy taking (places_of old) (places_of new) → new.inbox.has_lost ≡ loses_by taking
       → Takes contents failed one old new
-  given-on one last taking old mid new to on blamed brings places lost order first is made same orders before runs =
+  given-on one last taking old mid new to on blamed brings places lost order first is made same orders before credit runs =
       let wrote : Wrote got contents failed before runs.0 old.frames = subst (λ (frames : FrameWriter W). Wrote got contents failed before runs.0 frames) same runs.1 in
       let steps : List Step = steps_of (order_of one) last taking in
-      subst (λ (found : Bool). Runs contents failed found (orders ++ order ∷ []) before new) (sym lost) (
+      subst (λ (found : Bool). Runs contents failed found (orders ++ order ∷ []) before credit new) (sym lost) (
         steps ++ runs.0,
         subst (λ (frames : FrameWriter W). Wrote got contents failed before (steps ++ runs.0) frames) (sym to) (on before runs.0 wrote),
         subst (λ (os : List Order). Obeys (loses_by taking) os (steps ++ runs.0)) (ap (λ (o : Order). orders_of orders ++ o ∷ []) is ∙ sym (given-next orders order))
             (obeys-taking one last taking (orders_of orders) runs.0 (blamed before runs.0 wrote) runs.2),
         kept-taking one last taking order orders runs.0 first old new is made (ap (λ (frames : FrameWriter W). frames.core.sending.senders.items) same) (blamed before runs.0 wrote)
             (subst (λ (frames : FrameWriter W). BringsBy taking one (core_of old) frames.core.sending.senders.items) (sym to) brings) places runs.3,
+        granted-steps (order_of one) last taking runs.0 credit runs.4,
       )
 
   -- the places' senders are the same before
@@ -380,25 +419,27 @@ module _ {W : Type 0} (contents : W → Option (List ℕ)) (failed : W → Bool)
   pub parting-on : (last : ℕ) (taking : Taking SlotSender) (old new : SlotWriter W) → WritesOn got contents failed (steps_of (control.Goaway last InternalError) last taking) old.frames new.frames
       → ((before : Option (List ℕ)) (run : List Step) → Wrote got contents failed before run old.frames → Blamed taking (control.Goaway last InternalError) run)
       → BringsBy taking (control.Goaway last InternalError) (core_of old) (core_of new) → places_of new ≡ places_of old → Parts contents failed old new
-  parting-on last taking old new on blamed brings places orders before runs = (
+  parting-on last taking old new on blamed brings places orders before credit runs = (
     steps_of (control.Goaway last InternalError) last taking ++ runs.0,
     on before runs.0 runs.1,
     obeys-parting last taking (orders_of orders) runs.0 (blamed before runs.0 runs.1) runs.2,
     kept-on true orders runs.0 (steps_of (control.Goaway last InternalError) last taking) old new
         (sends-plain (control.Goaway last InternalError) last taking old new (λ k. refl) (brings-plain taking (control.Goaway last InternalError) (core_of old) (core_of new) tt brings) (same-places places)) runs.3,
+    granted-steps (control.Goaway last InternalError) last taking runs.0 credit runs.4,
   )
 
   -- a Close where orders were lost
   pub closing-on : (last : ℕ) (taking : Taking SlotSender) (old new : SlotWriter W) → WritesOn got contents failed (steps_of control.Close last taking) old.frames new.frames
       → ((before : Option (List ℕ)) (run : List Step) → Wrote got contents failed before run old.frames → Blamed taking control.Close run)
       → BringsBy taking control.Close (core_of old) (core_of new) → places_of new ≡ places_of old → PassesOver contents failed control.Close old new
-  closing-on last taking old new on blamed brings places orders before runs = (
+  closing-on last taking old new on blamed brings places orders before credit runs = (
     steps_of control.Close last taking ++ runs.0,
     on before runs.0 runs.1,
     subst (λ (os : List Order). Obeys true os (steps_of control.Close last taking ++ runs.0)) (sym (given-next orders control.Close))
         (obeys-closing last taking (orders_of orders) runs.0 (blamed before runs.0 runs.1) runs.2),
     kept-lost true orders (control.Close ∷ []) (steps_of control.Close last taking ++ runs.0) new
         (kept-on true orders runs.0 (steps_of control.Close last taking) old new (sends-plain control.Close last taking old new (λ k. refl) (brings-plain taking control.Close (core_of old) (core_of new) tt brings) (same-places places)) runs.3),
+    granted-steps control.Close last taking runs.0 credit runs.4,
   )
 
   -- a reset of the writer's own
@@ -406,58 +447,95 @@ module _ {W : Type 0} (contents : W → Option (List ℕ)) (failed : W → Bool)
       → WritesOn got contents failed (steps_of (control.Reset id InternalError true) last taking) old.frames new.frames
       → ((before : Option (List ℕ)) (run : List Step) → Wrote got contents failed before run old.frames → Blamed taking (control.Reset id InternalError true) run)
       → BringsBy taking (control.Reset id InternalError true) (core_of old) (core_of new) → SamePlaces (places_of old) (places_of new)
-      → (orders : List (Control Opened)) (before : Option (List ℕ)) → IsAmong (control.Open id tt) (orders_of orders) → list_any ends_input (orders_of orders) ≡ false
-      → Runs contents failed false orders before old → Runs contents failed false orders before new
-  resetting-on id last taking old new on blamed brings places orders before among goes_on runs = (
+      → (orders : List (Control Opened)) (before : Option (List ℕ)) (credit : ℕ) → IsAmong (control.Open id tt) (orders_of orders) → list_any ends_input (orders_of orders) ≡ false
+      → Runs contents failed false orders before credit old → Runs contents failed false orders before credit new
+  resetting-on id last taking old new on blamed brings places orders before credit among goes_on runs = (
     steps_of (control.Reset id InternalError true) last taking ++ runs.0,
     on before runs.0 runs.1,
     obeys-reset id last taking (orders_of orders) runs.0 (blamed before runs.0 runs.1) among goes_on runs.2,
     kept-on false orders runs.0 (steps_of (control.Reset id InternalError true) last taking) old new
         (sends-plain (control.Reset id InternalError true) last taking old new (λ k. refl) (brings-plain taking (control.Reset id InternalError true) (core_of old) (core_of new) tt brings) places) runs.3,
+    granted-steps (control.Reset id InternalError true) last taking runs.0 credit runs.4,
   )
 
   -- another order there
   pub passes-by : (order : Control Opened) (old new : SlotWriter W) → new.frames ≡ old.frames → places_of new ≡ places_of old → PassesOver contents failed order old new
-  passes-by order old new same places orders before runs =
-      let kept = runs-between true old new same (keeps-same (places_of old) (places_of new) (same-places places)) orders before runs in
-      (kept.0, kept.1, subst (λ (os : List Order). Obeys true os kept.0) (sym (given-next orders order)) (obeys-more (orders_of orders) (order_of order ∷ []) kept.0 kept.2), kept-lost true orders (order ∷ []) kept.0 new kept.3)
+  passes-by order old new same places orders before credit runs =
+      let kept = runs-between true old new same (keeps-same (places_of old) (places_of new) (same-places places)) orders before credit runs in
+      (kept.0, kept.1, subst (λ (os : List Order). Obeys true os kept.0) (sym (given-next orders order)) (obeys-more (orders_of orders) (order_of order ∷ []) kept.0 kept.2), kept-lost true orders (order ∷ []) kept.0 new kept.3, kept.4)
 
   -- ---- with the inbox
 
   pub leads-then : (old mid new : SlotWriter W) → LeadsOn contents failed old mid → LeadsOn contents failed mid new → LeadsOn contents failed old new
-  leads-then old mid new first second = record { name = second.name ∙ first.name; on = λ before led. second.on before (first.on before led) }
+  leads-then old mid new first second = record { name = second.name ∙ first.name; on = λ before credit led. second.on before credit (first.on before credit led) }
 
   pub leads-here : (writer : SlotWriter W) → LeadsOn contents failed writer writer
-  leads-here writer = record { name = refl; on = λ before led. led }
+  leads-here writer = record { name = refl; on = λ before credit led. led }
 
   pub stays-then : (old mid new : SlotWriter W) → Stays contents failed old mid → Stays contents failed mid new → Stays contents failed old new
   stays-then old mid new first second = record {
     leads = leads-then old mid new first.leads second.leads;
-    out = λ before led. second.out before (first.out before led);
+    out = λ before credit led. second.out before credit (first.out before credit led);
   }
 
   pub stays-here : (writer : SlotWriter W) → Stays contents failed writer writer
-  stays-here writer = record { leads = leads-here writer; out = λ before led. led }
+  stays-here writer = record { leads = leads-here writer; out = λ before credit led. led }
+
+  -- by so much credit
+  pub to-here : (credit : ℕ) (writer : SlotWriter W) → LeadsTo contents failed credit writer credit writer
+  to-here credit writer = record { name = refl; on = λ before led. led }
+
+  pub to-then : (had between has : ℕ) (old mid new : SlotWriter W) → LeadsTo contents failed had old between mid → LeadsTo contents failed between mid has new
+      → LeadsTo contents failed had old has new
+  to-then had between has old mid new first second = record { name = second.name ∙ first.name; on = λ before led. second.on before (first.on before led) }
+
+  -- before it no credit was granted, or behind it
+  pub to-behind : (had other has : ℕ) (old mid new : SlotWriter W) → LeadsOn contents failed old mid → other ≡ had → LeadsTo contents failed other mid has new
+      → LeadsTo contents failed had old has new
+  to-behind had other has old mid new first is second = record {
+    name = second.name ∙ first.name;
+    on = λ before led. second.on before (subst (λ (n : ℕ). Led contents failed before n mid) (sym is) (first.on before had led));
+  }
+
+  pub to-still : (had has other : ℕ) (old mid new : SlotWriter W) → LeadsTo contents failed had old has mid → LeadsOn contents failed mid new → other ≡ has
+      → LeadsTo contents failed had old other new
+  to-still had has other old mid new first second is = record {
+    name = second.name ∙ first.name;
+    on = λ before led. subst (λ (n : ℕ). Led contents failed before n new) (sym is) (second.on before has (first.on before led));
+  }
+
+  pub to-out : (had has other : ℕ) (old mid out new : SlotWriter W) → LeadsTo contents failed had old has mid → LeadsOut contents failed mid out → Stays contents failed out new
+      → other ≡ has → LeadsOutTo contents failed had old other new
+  to-out had has other old mid out new first leads then is before led =
+      subst (λ (n : ℕ). LedOut contents failed before n new) (sym is) (then.out before has (leads before has (first.on before led)))
 
   pub out-then : (old mid out new : SlotWriter W) → LeadsOn contents failed old mid → LeadsOut contents failed mid out → Stays contents failed out new → LeadsOut contents failed old new
-  out-then old mid out new first leads then before led = then.out before (leads before (first.on before led))
+  out-then old mid out new first leads then before credit led = then.out before credit (leads before credit (first.on before credit led))
 
   -- no order is taken
-  pub leads-still : (old new : SlotWriter W) → new.inbox ≡ old.inbox → SameCalls old new → RunsOn contents failed old new → LeadsOn contents failed old new
-  leads-still old new same calls on = record {
+  pub leads-to : (had has : ℕ) (old new : SlotWriter W) → new.inbox ≡ old.inbox → SameCalls old new
+      → ((lost : Bool) (orders : List (Control Opened)) (before : Option (List ℕ)) → Runs contents failed lost orders before had old → Runs contents failed lost orders before has new)
+      → LeadsTo contents failed had old has new
+  leads-to had has old new same calls on = record {
     name = ap (λ (inbox : Inbox). out_name inbox.ring) same;
     on = λ before led. (
       led.0,
       subst (λ (inbox : Inbox). HasGiven led.0 inbox) (sym same) led.1,
-      subst (λ (inbox : Inbox). Runs contents failed inbox.has_lost led.0 before new) (sym same) (on old.inbox.has_lost led.0 before led.2),
+      subst (λ (inbox : Inbox). Runs contents failed inbox.has_lost led.0 before has new) (sym same) (on old.inbox.has_lost led.0 before led.2),
       λ kept. knows-same (orders_of led.0) old new calls (led.3 (sym (ap (λ (inbox : Inbox). inbox.has_lost) same) ∙ kept)),
     );
   }
 
+  pub leads-still : (old new : SlotWriter W) → new.inbox ≡ old.inbox → SameCalls old new → RunsOn contents failed old new → LeadsOn contents failed old new
+  leads-still old new same calls on = record {
+    name = ap (λ (inbox : Inbox). out_name inbox.ring) same;
+    on = λ before credit. (leads-to credit credit old new same calls (λ lost orders began. on lost orders began credit)).on before;
+  }
+
   pub leads-out : (old new : SlotWriter W) → new.inbox ≡ old.inbox → RunsOut contents failed old new → LeadsOut contents failed old new
-  leads-out old new same out before led =
-      subst (λ (inbox : Inbox). (given : List (Control Opened)) × HasGiven given inbox × Ends contents failed inbox.has_lost given before new) (sym same)
-      (led.0, led.1, out old.inbox.has_lost led.0 before led.2)
+  leads-out old new same out before credit led =
+      subst (λ (inbox : Inbox). (given : List (Control Opened)) × HasGiven given inbox × Ends contents failed inbox.has_lost given before credit new) (sym same)
+      (led.0, led.1, out old.inbox.has_lost led.0 before credit led.2)
 
   -- the same, and more may be lost
   pub stays-by : (old new : SlotWriter W) → new.inbox ≡ record old.inbox { has_lost = new.inbox.has_lost }
@@ -466,14 +544,14 @@ module _ {W : Type 0} (contents : W → Option (List ℕ)) (failed : W → Bool)
   stays-by old new same kept_too calls on = record {
     leads = record {
       name = ap (λ (inbox : Inbox). out_name inbox.ring) same;
-      on = λ before led. (
+      on = λ before credit led. (
         led.0,
         given-on-to led.0 led.1,
-        on.runs led.0 before led.2,
+        on.runs led.0 before credit led.2,
         λ kept. knows-same (orders_of led.0) old new calls (led.3 (kept_too kept)),
       );
     };
-    out = λ before led. (led.0, given-on-to led.0 led.1, on.ends led.0 before led.2);
+    out = λ before credit led. (led.0, given-on-to led.0 led.1, on.ends led.0 before credit led.2);
   }
     where
       given-on-to : (given : List (Control Opened)) → HasGiven given old.inbox → HasGiven given new.inbox
@@ -484,17 +562,17 @@ module _ {W : Type 0} (contents : W → Option (List ℕ)) (failed : W → Bool)
   stays-with old new keeps calls places frames = record {
     leads = record {
       name = keeps.name;
-      on = λ before led. (
+      on = λ before credit led. (
         led.0,
         keeps.given led.0 led.1,
-        subst (λ (lost : Bool). Runs contents failed lost led.0 before new) (sym keeps.lost) (runs-between old.inbox.has_lost old new frames places led.0 before led.2),
+        subst (λ (lost : Bool). Runs contents failed lost led.0 before credit new) (sym keeps.lost) (runs-between old.inbox.has_lost old new frames places led.0 before credit led.2),
         λ kept. knows-same (orders_of led.0) old new calls (led.3 (sym keeps.lost ∙ kept)),
       );
     };
-    out = λ before led. (
+    out = λ before credit led. (
       led.0,
       keeps.given led.0 led.1,
-      subst (λ (lost : Bool). Ends contents failed lost led.0 before new) (sym keeps.lost) (ends-between old.inbox.has_lost old new frames places led.0 before led.2),
+      subst (λ (lost : Bool). Ends contents failed lost led.0 before credit new) (sym keeps.lost) (ends-between old.inbox.has_lost old new frames places led.0 before credit led.2),
     );
   }
 
@@ -525,11 +603,11 @@ module _ {W : Type 0} (contents : W → Option (List ℕ)) (failed : W → Bool)
       aside : (given : List (Control Opened)) → HasGiven (given ++ next ∷ []) mid → given ++ next ∷ [] ≡ taken mid.ring
       aside given has = sym (append-nil (given ++ next ∷ [])) ∙ (ap (λ (one : Option (Control Opened)). (given ++ next ∷ []) ++ order_in one) (sym gives.none_aside) ∙ has)
 
-  led-next : (next : Control Opened) (old new : SlotWriter W) (mid : Inbox) (before : Option (List ℕ)) → Gives (Some next) old.inbox mid
-      → new.inbox ≡ record mid { has_lost = new.inbox.has_lost } → (led : Led contents failed before old)
-      → Runs contents failed new.inbox.has_lost (led.0 ++ next ∷ []) before new
-      → (new.inbox.has_lost ≡ false → Knows (orders_of led.0 ++ order_of next ∷ []) new) → Led contents failed before new
-  led-next next old new mid before gives same led runs knows = (
+  led-next : (next : Control Opened) (old new : SlotWriter W) (mid : Inbox) (before : Option (List ℕ)) (credit : ℕ) → Gives (Some next) old.inbox mid
+      → new.inbox ≡ record mid { has_lost = new.inbox.has_lost } → (led : Led contents failed before credit old)
+      → Runs contents failed new.inbox.has_lost (led.0 ++ next ∷ []) before credit new
+      → (new.inbox.has_lost ≡ false → Knows (orders_of led.0 ++ order_of next ∷ []) new) → Led contents failed before credit new
+  led-next next old new mid before credit gives same led runs knows = (
     led.0 ++ next ∷ [],
     subst (λ (inbox : Inbox). HasGiven (led.0 ++ next ∷ []) inbox) (sym same) (gives.given led.0 led.1),
     runs,
@@ -539,13 +617,13 @@ module _ {W : Type 0} (contents : W → Option (List ℕ)) (failed : W → Bool)
   -- the next order is taken
   pub leads-taken : (next : Control Opened) (old new : SlotWriter W) (mid : Inbox) → Gives (Some next) old.inbox mid → mid.has_lost ≡ false
       → new.inbox ≡ record mid { has_lost = new.inbox.has_lost }
-      → ((orders : List (Control Opened)) (before : Option (List ℕ)) → Runs contents failed false orders before old → Runs contents failed new.inbox.has_lost (orders ++ next ∷ []) before new)
+      → ((orders : List (Control Opened)) (before : Option (List ℕ)) (credit : ℕ) → Runs contents failed false orders before credit old → Runs contents failed new.inbox.has_lost (orders ++ next ∷ []) before credit new)
       → (new.inbox.has_lost ≡ false → (orders : List Order) → Knows orders old → Knows (orders ++ order_of next ∷ []) new) → LeadsOn contents failed old new
   leads-taken next old new mid gives kept same takes learns = record {
     name = ap (λ (inbox : Inbox). out_name inbox.ring) same ∙ gives.name;
-    on = λ before led.
-        led-next next old new mid before gives same led
-        (takes led.0 before (subst (λ (lost : Bool). Runs contents failed lost led.0 before old) (sym gives.lost ∙ kept) led.2))
+    on = λ before credit led.
+        led-next next old new mid before credit gives same led
+        (takes led.0 before credit (subst (λ (lost : Bool). Runs contents failed lost led.0 before credit old) (sym gives.lost ∙ kept) led.2))
         (λ still. learns still (orders_of led.0) (led.3 (sym gives.lost ∙ kept)));
   }
 
@@ -554,10 +632,10 @@ module _ {W : Type 0} (contents : W → Option (List ℕ)) (failed : W → Bool)
       → PassesOver contents failed next old new → LeadsOn contents failed old new
   leads-passed next old new mid gives lost same passes = record {
     name = ap (λ (inbox : Inbox). out_name inbox.ring) same ∙ gives.name;
-    on = λ before led.
-        let runs = passes led.0 before (subst (λ (was : Bool). Runs contents failed was led.0 before old) (sym gives.lost ∙ lost) led.2) in
-        led-next next old new mid before gives (same ∙ ap (λ (was : Bool). record mid { has_lost = was }) (sym (ap (λ (inbox : Inbox). inbox.has_lost) same))) led
-        (subst (λ (was : Bool). Runs contents failed was (led.0 ++ next ∷ []) before new) (sym (ap (λ (inbox : Inbox). inbox.has_lost) same ∙ lost)) runs)
+    on = λ before credit led.
+        let runs = passes led.0 before credit (subst (λ (was : Bool). Runs contents failed was led.0 before credit old) (sym gives.lost ∙ lost) led.2) in
+        led-next next old new mid before credit gives (same ∙ ap (λ (was : Bool). record mid { has_lost = was }) (sym (ap (λ (inbox : Inbox). inbox.has_lost) same))) led
+        (subst (λ (was : Bool). Runs contents failed was (led.0 ++ next ∷ []) before credit new) (sym (ap (λ (inbox : Inbox). inbox.has_lost) same ∙ lost)) runs)
         (λ kept. absurd (true≢false (sym (ap (λ (inbox : Inbox). inbox.has_lost) same ∙ lost) ∙ kept)));
   }
 
@@ -566,16 +644,17 @@ module _ {W : Type 0} (contents : W → Option (List ℕ)) (failed : W → Bool)
       → KeepsOn (places_of old) (places_of new) → new.frames ≡ old.frames → LeadsOn contents failed old new
   leads-lost next old new mid gives same places frames = record {
     name = ap (λ (inbox : Inbox). out_name inbox.ring) same ∙ gives.name;
-    on = λ before led.
+    on = λ before credit led.
         let lost : new.inbox.has_lost ≡ true = ap (λ (inbox : Inbox). inbox.has_lost) same in
-        let runs = runs-between old.inbox.has_lost old new frames places led.0 before led.2 in
-        led-next next old new mid before gives (same ∙ ap (λ (was : Bool). record mid { has_lost = was }) (sym lost)) led
-        (subst (λ (was : Bool). Runs contents failed was (led.0 ++ next ∷ []) before new) (sym lost) (
+        let runs = runs-between old.inbox.has_lost old new frames places led.0 before credit led.2 in
+        led-next next old new mid before credit gives (same ∙ ap (λ (was : Bool). record mid { has_lost = was }) (sym lost)) led
+        (subst (λ (was : Bool). Runs contents failed was (led.0 ++ next ∷ []) before credit new) (sym lost) (
           runs.0,
           runs.1,
           subst (λ (os : List Order). Obeys true os runs.0) (sym (given-next led.0 next))
               (obeys-more (orders_of led.0) (order_of next ∷ []) runs.0 (obeys-lost old.inbox.has_lost (orders_of led.0) runs.0 runs.2)),
           kept-lost old.inbox.has_lost led.0 (next ∷ []) runs.0 new runs.3,
+          runs.4,
         ))
         (λ kept. absurd (true≢false (sym lost ∙ kept)));
   }
@@ -584,11 +663,11 @@ module _ {W : Type 0} (contents : W → Option (List ℕ)) (failed : W → Bool)
   pub leads-parting : (old new : SlotWriter W) → old.inbox.has_lost ≡ true → new.inbox ≡ old.inbox → Parts contents failed old new → LeadsOn contents failed old new
   leads-parting old new lost same parts = record {
     name = ap (λ (inbox : Inbox). out_name inbox.ring) same;
-    on = λ before led. (
+    on = λ before credit led. (
       led.0,
       subst (λ (inbox : Inbox). HasGiven led.0 inbox) (sym same) led.1,
-      subst (λ (was : Bool). Runs contents failed was led.0 before new) (sym (ap (λ (inbox : Inbox). inbox.has_lost) same ∙ lost))
-          (parts led.0 before (subst (λ (was : Bool). Runs contents failed was led.0 before old) lost led.2)),
+      subst (λ (was : Bool). Runs contents failed was led.0 before credit new) (sym (ap (λ (inbox : Inbox). inbox.has_lost) same ∙ lost))
+          (parts led.0 before credit (subst (λ (was : Bool). Runs contents failed was led.0 before credit old) lost led.2)),
       λ kept. absurd (true≢false (sym (ap (λ (inbox : Inbox). inbox.has_lost) same ∙ lost) ∙ kept)),
     );
   }
@@ -602,24 +681,24 @@ module _ {W : Type 0} (contents : W → Option (List ℕ)) (failed : W → Bool)
       → LeadsOn contents failed old new
   leads-reset id last taking old new kept going whose same calls on blamed brings places = record {
     name = ap (λ (inbox : Inbox). out_name inbox.ring) same;
-    on = λ before led.
+    on = λ before credit led.
         let knows : Knows (orders_of led.0) old = led.3 kept in (
           led.0,
           subst (λ (inbox : Inbox). HasGiven led.0 inbox) (sym same) led.1,
-          subst (λ (was : Bool). Runs contents failed was led.0 before new) (sym (ap (λ (inbox : Inbox). inbox.has_lost) same ∙ kept))
-              (resetting-on id last taking old new on blamed brings places led.0 before (knows-stream (orders_of led.0) old id whose knows) (sym knows.input ∙ going)
-              (subst (λ (was : Bool). Runs contents failed was led.0 before old) kept led.2)),
+          subst (λ (was : Bool). Runs contents failed was led.0 before credit new) (sym (ap (λ (inbox : Inbox). inbox.has_lost) same ∙ kept))
+              (resetting-on id last taking old new on blamed brings places led.0 before credit (knows-stream (orders_of led.0) old id whose knows) (sym knows.input ∙ going)
+              (subst (λ (was : Bool). Runs contents failed was led.0 before credit old) kept led.2)),
           λ still. knows-same (orders_of led.0) old new calls knows,
         );
   }
 
   -- a writer that has taken nothing
   pub led-none : (before : Option (List ℕ)) (writer : SlotWriter W) → taken writer.inbox.ring ≡ [] → writer.inbox.set_aside ≡ None → writer.inbox.has_lost ≡ false
-      → writer.senders.places.items ≡ [] → core_of writer ≡ [] → writer.input_ended ≡ false → Wrote got contents failed before [] writer.frames → Led contents failed before writer
+      → writer.senders.places.items ≡ [] → core_of writer ≡ [] → writer.input_ended ≡ false → Wrote got contents failed before [] writer.frames → Led contents failed before 0 writer
   led-none before writer none aside kept empty core going wrote = (
     [],
     all-given writer.inbox aside none,
-    subst (λ (lost : Bool). Runs contents failed lost [] before writer) (sym kept) ([], wrote, (refl, tt), λ fresh. kept-none (places_of writer) (core_of writer) empty core),
+    subst (λ (lost : Bool). Runs contents failed lost [] before 0 writer) (sym kept) ([], wrote, (refl, tt), (λ fresh. kept-none (places_of writer) (core_of writer) empty core), refl),
     λ still. record {
       opened = subst (λ (places : List Place). All (λ id. IsAmong (control.Open id tt) []) (ids_of places)) (sym empty) (All-nil (λ (id : ℕ). IsAmong (control.Open id tt) []));
       input = going;
@@ -627,8 +706,8 @@ module _ {W : Type 0} (contents : W → Option (List ℕ)) (failed : W → Bool)
   )
 
   -- what is left of a writer whose buffer is flushed
-  pub has-written : (before : Option (List ℕ)) (writer : SlotWriter W) (device : W) (told : Option Ending) → device ≡ writer.frames.device → IsFlushed writer
-      → (led : LedOut contents failed before writer)
+  pub has-written : (before : Option (List ℕ)) (credit : ℕ) (writer : SlotWriter W) (device : W) (told : Option Ending) → device ≡ writer.frames.device → IsFlushed writer
+      → (led : LedOut contents failed before credit writer)
       → TellOthers led.2.0
       → IsFront (frames_of led.2.0) before (contents device)
       → (writer.frames.standing ≢ stands.Broken → writer.frames.buffer.items ≡ [] → IsWhole (frames_of led.2.0) before (contents device))
@@ -636,14 +715,15 @@ module _ {W : Type 0} (contents : W → Option (List ℕ)) (failed : W → Bool)
       → (writer.frames.standing ≡ stands.OutOfMemory → told ≡ Some ending.OutOfMemory)
       → (told ≡ Some ending.WriteFailed → writer.frames.standing ≡ stands.Broken)
       → (told ≢ Some ending.OutOfMemory → told ≢ Some ending.WriteFailed → (writer.inbox.has_lost ≡ false) × (writer.inbox.set_aside ≡ None))
-      → (written : HasWritten contents failed before (orders_of (taken writer.inbox.ring)) told device) × (written.run ≡ led.2.0)
-  has-written before writer device told same flushed led others front whole all memory broken each =
+      → (written : HasWritten contents failed before credit (orders_of (taken writer.inbox.ring)) told device) × (written.run ≡ led.2.0)
+  has-written before credit writer device told same flushed led others front whole all memory broken each =
       let ends = led.2 in
       let standing = writer.frames.standing in
       let sound : failed device ≡ false → standing ≢ stands.Broken = λ unmarked stood. true≢false (sym (ap failed same ∙ ends.1.marked stood) ∙ unmarked) in (
         record {
           run = ends.0;
           lawful = ends.1.leads.lawful;
+          credited = ends.4;
           some =
               subst (λ (orders : List Order). Obeys true orders ends.0) (sym (given-all led.0 writer.inbox led.1))
               (obeys-more (orders_of led.0) (orders_of (order_in writer.inbox.set_aside)) ends.0 (obeys-lost writer.inbox.has_lost (orders_of led.0) ends.0 ends.2));
@@ -657,18 +737,18 @@ module _ {W : Type 0} (contents : W → Option (List ℕ)) (failed : W → Bool)
           front = front;
           whole = λ unmarked. whole (sound unmarked) (flushed (sound unmarked));
           all = λ unmarked other. unless-lost standing told memory (sound unmarked) (λ going. all going (flushed (sound unmarked))) other;
-          over = λ unmarked other. unless-lost standing told memory (sound unmarked) ends.4 other;
+          over = λ unmarked other. unless-lost standing told memory (sound unmarked) ends.5 other;
         },
         refl,
       )
 
   -- what is left of its orders and senders too
-  pub has-sent : (before : Option (List ℕ)) (writer : SlotWriter W) (places : List Place) (device : W) (told : Option Ending) (led : LedOut contents failed before writer)
-      → (written : HasWritten contents failed before (orders_of (taken writer.inbox.ring)) told device) → written.run ≡ led.2.0
+  pub has-sent : (before : Option (List ℕ)) (credit : ℕ) (writer : SlotWriter W) (places : List Place) (device : W) (told : Option Ending) (led : LedOut contents failed before credit writer)
+      → (written : HasWritten contents failed before credit (orders_of (taken writer.inbox.ring)) told device) → written.run ≡ led.2.0
       → TellFronts led.2.0 (calls got (core_of writer)) → TellReturned led.2.0 → TakesAllHome (core_of writer) (places_of writer) places
       → (told ≢ Some ending.OutOfMemory → told ≢ Some ending.WriteFailed → (writer.inbox.has_lost ≡ false) × (writer.inbox.set_aside ≡ None))
-      → HasSent contents failed before (taken writer.inbox.ring) (held_of places) told device
-  has-sent before writer places device told led written same fronts returned home each =
+      → HasSent contents failed before credit (taken writer.inbox.ring) (held_of places) told device
+  has-sent before credit writer places device told led written same fronts returned home each =
       let aside : List (Control Opened) = order_in writer.inbox.set_aside in
       let kept : HasKept true (led.0 ++ aside) led.2.0 writer = kept-lost writer.inbox.has_lost led.0 aside led.2.0 writer led.2.3 in
       let are : taken writer.inbox.ring ≡ kept.0 ++ kept.1 = sym led.1 ∙ kept.2 in record {
@@ -688,16 +768,17 @@ module _ {W : Type 0} (contents : W → Option (List ℕ)) (failed : W → Bool)
       }
 
 -- the ending that is told names want of memory, a failed write or that orders are left where there is one
-pub told-on : {W : Type 0} (contents : W → Option (List ℕ)) (failed : W → Bool) (before : Option (List ℕ)) (took put : List Order) (one other : Option Ending) (device : W)
+abbrev pub told-on : {W : Type 0} (contents : W → Option (List ℕ)) (failed : W → Bool) (before : Option (List ℕ)) (credit : ℕ) (took put : List Order) (one other : Option Ending) (device : W)
     → (one ≡ Some ending.OutOfMemory → other ≡ Some ending.OutOfMemory)
     → (one ≡ Some ending.WriteFailed → other ≢ Some ending.OutOfMemory → other ≡ Some ending.WriteFailed)
     → (other ≡ Some ending.WriteFailed → one ≡ Some ending.WriteFailed)
     → (left : List Order) → took ++ left ≡ put
     → (other ≢ Some ending.OutOfMemory → other ≢ Some ending.WriteFailed → left ≡ [])
-    → HasWritten contents failed before took one device → HasWritten contents failed before put other device
-told-on contents failed before took put one other device memory failing broken left parts none h = record {
+    → HasWritten contents failed before credit took one device → HasWritten contents failed before credit put other device
+told-on contents failed before credit took put one other device memory failing broken left parts none h = record {
   run = h.run;
   lawful = h.lawful;
+  credited = h.credited;
   some = subst (λ (orders : List Order). Obeys true orders h.run) parts (obeys-more took left h.run h.some);
   each = λ spared sent.
       subst (λ (orders : List Order). Obeys false orders h.run) (sym (append-nil took) ∙ (ap (λ (os : List Order). took ++ os) (sym (none spared sent)) ∙ parts))
@@ -711,7 +792,7 @@ told-on contents failed before took put one other device memory failing broken l
 }
 
 -- some orders are these
-pub some-orders : {W : Type 0} (contents : W → Option (List ℕ)) (failed : W → Bool) (before : Option (List ℕ)) (orders : List Order) (told : Option Ending) (output : Option W)
-    → IfSome output (HasWritten contents failed before orders told) → IfSome output (λ device. (put : List Order) × HasWritten contents failed before put told device)
-some-orders contents failed before orders told None written = written
-some-orders contents failed before orders told (Some device) written = (orders, written)
+pub some-orders : {W : Type 0} (contents : W → Option (List ℕ)) (failed : W → Bool) (before : Option (List ℕ)) (credit : ℕ) (orders : List Order) (told : Option Ending) (output : Option W)
+    → IfSome output (HasWritten contents failed before credit orders told) → IfSome output (λ device. (put : List Order) × HasWritten contents failed before credit put told device)
+some-orders contents failed before credit orders told None written = written
+some-orders contents failed before credit orders told (Some device) written = (orders, written)

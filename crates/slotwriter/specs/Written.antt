@@ -11,6 +11,7 @@ use Rattle.lane.specs.RingLane.{got}
 use Rattle.outwriter.specs.declared.control.Control.{Control}
 use Rattle.outwriter.specs.declared.control.Control.TheVariants.{Open}
 use Rattle.outwriter.specs.Calls.{TellOthers, is_closed}
+use Rattle.outwriter.specs.Credit.{granted}
 use Rattle.outwriter.specs.Runs.{IsLawful, is_opened}
 use Rattle.outwriter.specs.RunState.{IsAnswered}
 use Rattle.outwriter.specs.Steps.{Step, Order, frames_of, order_of}
@@ -74,81 +75,93 @@ module _ {W : Type 0} where
       → AreKept (steps ++ run) lines (places_of new) (core_of new)
 
 module _ {W : Type 0} (contents : W → Option (List ℕ)) (failed : W → Bool) where
-  -- Some run led to the writer, whose device had something before. It obeyed these orders, and the writer has the senders of their lines,
-  -- unless some were lost.
-  abbrev pub Runs : Bool → List (Control Opened) → Option (List ℕ) → SlotWriter W → Type 0
-  Runs lost orders before writer =
+  -- Some run led to the writer, whose device had something before, and granted so much credit on the connection. It obeyed these orders, and
+  -- the writer has the senders of their lines, unless some were lost.
+  abbrev pub Runs : Bool → List (Control Opened) → Option (List ℕ) → ℕ → SlotWriter W → Type 0
+  Runs lost orders before credit writer =
       (run : List Step) × Wrote got contents failed before run writer.frames × Obeys lost (orders_of orders) run × HasKept lost orders run writer
+      × (granted 0 run ≡ credit)
 
   -- and it is over, unless the writer makes no more frames
-  abbrev pub Ends : Bool → List (Control Opened) → Option (List ℕ) → SlotWriter W → Type 0
-  Ends lost orders before writer =
+  abbrev pub Ends : Bool → List (Control Opened) → Option (List ℕ) → ℕ → SlotWriter W → Type 0
+  Ends lost orders before credit writer =
       (run : List Step) × Wrote got contents failed before run writer.frames × Obeys lost (orders_of orders) run × HasKept lost orders run writer
-      × (writer.frames.standing ≡ Going → IsOver run)
+      × (granted 0 run ≡ credit) × (writer.frames.standing ≡ Going → IsOver run)
 
   -- the run that led to the writer before leads on to the writer after, and takes no order
   abbrev pub RunsOn : SlotWriter W → SlotWriter W → Type 0
-  RunsOn old new = (lost : Bool) (orders : List (Control Opened)) (before : Option (List ℕ)) → Runs lost orders before old → Runs lost orders before new
+  RunsOn old new = (lost : Bool) (orders : List (Control Opened)) (before : Option (List ℕ)) (credit : ℕ) → Runs lost orders before credit old → Runs lost orders before credit new
 
   -- it leads to its end
   abbrev pub RunsOut : SlotWriter W → SlotWriter W → Type 0
-  RunsOut old new = (lost : Bool) (orders : List (Control Opened)) (before : Option (List ℕ)) → Runs lost orders before old → Ends lost orders before new
+  RunsOut old new = (lost : Bool) (orders : List (Control Opened)) (before : Option (List ℕ)) (credit : ℕ) → Runs lost orders before credit old → Ends lost orders before credit new
 
   -- it goes on, and where it was over it is
   pub record StaysOn (lost loses : Bool) (old new : SlotWriter W) : Type 0 where
-    pub runs : (orders : List (Control Opened)) (before : Option (List ℕ)) → Runs lost orders before old → Runs loses orders before new
-    pub ends : (orders : List (Control Opened)) (before : Option (List ℕ)) → Ends lost orders before old → Ends loses orders before new
+    pub runs : (orders : List (Control Opened)) (before : Option (List ℕ)) (credit : ℕ) → Runs lost orders before credit old → Runs loses orders before credit new
+    pub ends : (orders : List (Control Opened)) (before : Option (List ℕ)) (credit : ℕ) → Ends lost orders before credit old → Ends loses orders before credit new
 
   -- It takes the order of which this control was made, unless that is lost; none was before. Where a call begins by it, the sender of its
   -- slot is with the control.
   abbrev pub Takes : Control SlotSender → SlotWriter W → SlotWriter W → Type 0
   Takes control old new = (order : Control Opened) (first : SlotWriter W) → order_of control ≡ order_of order
       → MakesOf order control (places_of first) (places_of old) → first.frames ≡ old.frames
-      → (orders : List (Control Opened)) (before : Option (List ℕ)) → Runs false orders before first
-      → Runs new.inbox.has_lost (orders ++ order ∷ []) before new
+      → (orders : List (Control Opened)) (before : Option (List ℕ)) (credit : ℕ) → Runs false orders before credit first
+      → Runs new.inbox.has_lost (orders ++ order ∷ []) before credit new
 
   -- orders were lost, and this one is too, or it is a Close
   abbrev pub PassesOver : Control Opened → SlotWriter W → SlotWriter W → Type 0
-  PassesOver order old new = (orders : List (Control Opened)) (before : Option (List ℕ)) → Runs true orders before old
-      → Runs true (orders ++ order ∷ []) before new
+  PassesOver order old new = (orders : List (Control Opened)) (before : Option (List ℕ)) (credit : ℕ) → Runs true orders before credit old
+      → Runs true (orders ++ order ∷ []) before credit new
 
   -- orders were lost
   abbrev pub Parts : SlotWriter W → SlotWriter W → Type 0
-  Parts old new = (orders : List (Control Opened)) (before : Option (List ℕ)) → Runs true orders before old → Runs true orders before new
+  Parts old new = (orders : List (Control Opened)) (before : Option (List ℕ)) (credit : ℕ) → Runs true orders before credit old → Runs true orders before credit new
 
   -- ---- with the inbox
 
-  -- some run led to the writer, by the orders that its inbox has given; these it knows, unless some were lost
-  abbrev pub Led : Option (List ℕ) → SlotWriter W → Type 0
-  Led before writer = (given : List (Control Opened)) × HasGiven given writer.inbox × Runs writer.inbox.has_lost given before writer
+  -- Some run led to the writer, by the orders that its inbox has given, and granted so much credit; these orders it knows, unless some were lost
+  abbrev pub Led : Option (List ℕ) → ℕ → SlotWriter W → Type 0
+  Led before credit writer = (given : List (Control Opened)) × HasGiven given writer.inbox × Runs writer.inbox.has_lost given before credit writer
       × (writer.inbox.has_lost ≡ false → Knows (orders_of given) writer)
 
-  abbrev pub LedOut : Option (List ℕ) → SlotWriter W → Type 0
-  LedOut before writer = (given : List (Control Opened)) × HasGiven given writer.inbox × Ends writer.inbox.has_lost given before writer
+  abbrev pub LedOut : Option (List ℕ) → ℕ → SlotWriter W → Type 0
+  LedOut before credit writer = (given : List (Control Opened)) × HasGiven given writer.inbox × Ends writer.inbox.has_lost given before credit writer
 
   -- so it is after, where it was before; the orders come from the same ring
   pub record LeadsOn (old new : SlotWriter W) : Type 0 where
     pub name : out_name new.inbox.ring ≡ out_name old.inbox.ring
-    pub on : (before : Option (List ℕ)) → Led before old → Led before new
+    pub on : (before : Option (List ℕ)) (credit : ℕ) → Led before credit old → Led before credit new
+
+  -- so it is after by so much credit, where it was before by so much
+  pub record LeadsTo (had : ℕ) (old : SlotWriter W) (has : ℕ) (new : SlotWriter W) : Type 0 where
+    pub name : out_name new.inbox.ring ≡ out_name old.inbox.ring
+    pub on : (before : Option (List ℕ)) → Led before had old → Led before has new
+
+  -- it leads to its end by that
+  abbrev pub LeadsOutTo : ℕ → SlotWriter W → ℕ → SlotWriter W → Type 0
+  LeadsOutTo had old has new = (before : Option (List ℕ)) → Led before had old → LedOut before has new
 
   -- it leads to its end
   abbrev pub LeadsOut : SlotWriter W → SlotWriter W → Type 0
-  LeadsOut old new = (before : Option (List ℕ)) → Led before old → LedOut before new
+  LeadsOut old new = (before : Option (List ℕ)) (credit : ℕ) → Led before credit old → LedOut before credit new
 
   -- it leads on, and where it was at its end it is
   pub record Stays (old new : SlotWriter W) : Type 0 where
     pub leads : LeadsOn old new
-    pub out : (before : Option (List ℕ)) → LedOut before old → LedOut before new
+    pub out : (before : Option (List ℕ)) (credit : ℕ) → LedOut before credit old → LedOut before credit new
 
 -- nothing is in its buffer, unless a write failed
 abbrev pub IsFlushed : {W : Type 0} → SlotWriter W → Type 0
 IsFlushed writer = writer.frames.standing ≢ Broken → writer.frames.buffer.items ≡ []
 
--- A device had something before, and has more now: a prefix of the bytes of a lawful run's frames (RFC 9113). The run obeyed these orders.
-pub record HasWritten {W : Type 0} (contents : W → Option (List ℕ)) (failed : W → Bool) (before : Option (List ℕ)) (orders : List Order) (ending : Option Ending)
+-- A device had something before, and has more now: a prefix of the bytes of a lawful run's frames (RFC 9113). The run granted so much credit on
+-- the connection, and obeyed these orders.
+pub record HasWritten {W : Type 0} (contents : W → Option (List ℕ)) (failed : W → Bool) (before : Option (List ℕ)) (credit : ℕ) (orders : List Order) (ending : Option Ending)
     (device : W) : Type 0 where
   pub run : List Step
   pub lawful : IsLawful run
+  pub credited : granted 0 run ≡ credit
   -- it took a beginning of the orders; and where memory didn't run out and no write failed, each of them
   pub some : Obeys true orders run
   pub each : ending ≢ Some OutOfMemory → ending ≢ Some WriteFailed → Obeys false orders run
@@ -164,9 +177,9 @@ pub record HasWritten {W : Type 0} (contents : W → Option (List ℕ)) (failed 
 
 -- A device has that, and these senders of the slots tell what was sent of each call. The slots' lines are by a front of the orders; the
 -- others were lost.
-pub record HasSent {W : Type 0} (contents : W → Option (List ℕ)) (failed : W → Bool) (before : Option (List ℕ)) (orders : List (Control Opened))
+pub record HasSent {W : Type 0} (contents : W → Option (List ℕ)) (failed : W → Bool) (before : Option (List ℕ)) (credit : ℕ) (orders : List (Control Opened))
     (held : List (Option SlotSender)) (ending : Option Ending) (device : W) : Type 0 where
-  pub written : HasWritten contents failed before (orders_of orders) ending device
+  pub written : HasWritten contents failed before credit (orders_of orders) ending device
   pub front : List (Control Opened)
   pub rest : List (Control Opened)
   pub orders_are : orders ≡ front ++ rest

@@ -1,12 +1,13 @@
 //! What the writing side of a connection has, and its steps.
 
-ghost use Rattle.std.specs.Prelude.{◌≡◌, ◌≢◌, ℕ, true, false, List, [], Option, None, Some, IfSome};
+ghost use Rattle.std.specs.Prelude.{◌≡◌, ◌≢◌, ◌+◌, ℕ, true, false, List, [], Option, None, Some, IfSome};
 ghost use Rattle.lane.specs.Ring.{taken};
 ghost use Rattle.lane.specs.RingLane.{got};
+ghost use Rattle.outwriter.specs.Credit.{granted_by};
 ghost use Rattle.outwriter.specs.Cores.{IsUnused, open_stream};
 ghost use Rattle.outwriter.specs.declared.control.Control.TheVariants as orders;
 ghost use Rattle.outwriter.specs.RunState.{is_held};
-ghost use Rattle.outwriter.specs.Steps.{order_of};
+ghost use Rattle.outwriter.specs.Steps.{Granted, order_of};
 ghost use Rattle.flow.specs.Windows.{room};
 ghost use Rattle.connwriter.specs.declared.filled.Filled.TheVariants as filling;
 ghost use Rattle.connwriter.specs.declared.standing.Standing.TheVariants as stands;
@@ -17,8 +18,8 @@ ghost use Rattle.slotwriter.specs.declared.steps.Waiting.TheVariants as waiting;
 ghost use Rattle.slotwriter.specs.Orders.{TakesNoWindow, ends_input, orders_of};
 ghost use Rattle.slotwriter.specs.Sent.{HandsHome, HasStream, SamePlaces, held_of};
 ghost use Rattle.slotwriter.specs.Written.{HasSent, HasWritten, Heeds, IsFlushed, Led, LedOut};
-ghost use Rattle.slotwriter.specs.Written.{LeadsOn, LeadsOut, Parts, PassesOver, SameCalls, Stays};
-ghost use Rattle.slotwriter.specs.Written.{Takes, places_of};
+ghost use Rattle.slotwriter.specs.Written.{LeadsOn, LeadsOut, LeadsTo, Parts, PassesOver, SameCalls};
+ghost use Rattle.slotwriter.specs.Written.{Stays, Takes, places_of};
 
 use crate::inbox::Inbox;
 use crate::senders::{Senders, Untaken};
@@ -63,7 +64,7 @@ impl<W: ConnWrite + Drop> SlotWriter<W> {
     pub fn new(alloc: Global, orders: RingOut<Order>, device: W, was: &Snapshot<W>) -> SlotWriter<W>
         requires was { was.now.value ≡ device }
         requires none { taken orders ≡ [] }
-        ensures led { Led W.contents W.failed (W.contents was.now.value) result }
+        ensures led { Led W.contents W.failed (W.contents was.now.value) 0 result }
         ensures ring { result.inbox.ring ≡ orders }
     {
         let frames = ConnWriter::new(alloc, device);
@@ -307,7 +308,8 @@ impl<W: ConnWrite + Drop> SlotWriter<W> {
 
     /// Owes the peer n bytes more of credit, on a stream, or on the connection where it is 0.
     pub fn grant(&mut self, id: StreamId, n: u32)
-        ensures leads { LeadsOn W.contents W.failed self.old self.new }
+        ensures leads { (credit : ℕ) → LeadsTo W.contents W.failed credit self.old
+            (credit + granted_by 0 (Granted id n)) self.new }
     {
         self.frames.grant(id, n);
     }
@@ -475,13 +477,15 @@ impl<W: ConnWrite + Drop> SlotWriter<W> {
     /// What is handed back once no more is to be written.
     pub fn into_end(self) -> Written<W>
         requires flushed { IsFlushed self }
-        ensures written { (before : Option (List ℕ)) → LedOut W.contents W.failed before self
-            → HasWritten W.contents W.failed before (orders_of (taken result.orders))
+        ensures written { (before : Option (List ℕ)) (credit : ℕ)
+            → LedOut W.contents W.failed before credit self
+            → HasWritten W.contents W.failed before credit (orders_of (taken result.orders))
             result.ending result.device }
 
         // With the senders of all slots, which tell what was sent of each call.
-        ensures sent { (before : Option (List ℕ)) → LedOut W.contents W.failed before self
-            → HasSent W.contents W.failed before (taken result.orders)
+        ensures sent { (before : Option (List ℕ)) (credit : ℕ)
+            → LedOut W.contents W.failed before credit self
+            → HasSent W.contents W.failed before credit (taken result.orders)
             (held_of result.senders.places.items) result.ending result.device }
         ensures ring { result.orders ≡ self.inbox.ring }
     {

@@ -7,10 +7,10 @@ returns-then-not-part g c =
     let new = record c.part.new.self { frames = c.stop.new.self } in record {
       leads =
           leads-parting g.W.ConnWrite.contents g.W.ConnWrite.failed c.args.self.now new c.requires.lost c.part.ensures.inbox
-          (λ orders before runs.
+          (λ orders before credit runs.
           runs-same g.W.ConnWrite.contents g.W.ConnWrite.failed true c.part.new.self new c.stop.ensures.wrote
-          (sends-none c.part.new.self new (ap (λ frames. frames.core.sending.senders.items) c.stop.ensures.rest) (λ run lines core kept. kept)) orders before
-          (c.part.ensures.parts orders before runs));
+          (sends-none c.part.new.self new (ap (λ frames. frames.core.sending.senders.items) c.stop.ensures.rest) (λ run lines core kept. kept)) orders before credit
+          (c.part.ensures.parts orders before credit runs));
     }
 
 pub returns-else-not-part : goal.returns-else-not-part

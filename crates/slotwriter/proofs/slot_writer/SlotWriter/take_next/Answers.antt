@@ -14,7 +14,7 @@ returns-in-Ok g c = record {
       leads-taken g.W.ConnWrite.contents g.W.ConnWrite.failed c.in-Some.order c.args.self.now c.take.new.self c.next.new.self
       (subst (λ (next : Option (Control Opened)). Gives next c.args.self.now.inbox c.next.new.self) c.in-Some.is c.next.ensures.gives)
       c.if-self.false c.take.ensures.inbox
-      (λ orders before runs. c.take.ensures.takes c.in-Some.order c.args.self.now c.in-Ok.ensures.same c.in-Ok.ensures.makes refl orders before runs)
+      (λ orders before credit runs. c.take.ensures.takes c.in-Some.order c.args.self.now c.in-Ok.ensures.same c.in-Ok.ensures.makes refl orders before credit runs)
       (λ still. knows-taken c.in-Some.order c.in-Ok.control (order_of c.in-Ok.control) c.args.self.now
       (record c.args.self.now { inbox = c.next.new.self; senders = c.control_of.new.self }) c.take.new.self c.in-Ok.ensures.same c.in-Ok.ensures.makes refl (c.take.ensures.heeds still));
   lost = c.take.ensures.lost;
