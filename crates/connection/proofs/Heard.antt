@@ -1,6 +1,7 @@
 -- What the reading thread has heard, one after another.
-use Rattle.std.proofs.Common.{◌≡◌, ◌≢◌, ◌∙◌, ◌⊎◌, inl, inr, ℕ, Bool, true, false, true≢false, List, [], ◌∷◌, ◌++◌, Option, None, Some, ap, append-nil, refl, subst, sym, map, take}
+use Rattle.std.proofs.Common.{◌≡◌, ◌≢◌, ◌∙◌, ◌⊎◌, ◌+◌, ◌≤◌, arith, inl, inr, ℕ, Bool, true, false, true≢false, List, [], ◌∷◌, ◌++◌, Option, None, Some, ap, append-nil, refl, subst, sym, map, take}
 use Rattle.std.proofs.lemmas.List.{append_assoc, map-append}
+use Rattle.std.proofs.lemmas.List.Sums.{sum_by-append, sum_by-cons}
 use Rattle.std.specs.Io.KnownBytes.{Consumes, Keeps, ReadConsumes}
 use Rattle.std.specs.Prelude.{IfSome, Result, Ok, Err, is_some}
 use mathlib.Core.List.{IsPrefix}
@@ -17,23 +18,29 @@ use Rattle.session.specs.declared.event.InEvent.TheVariants as events
 use Rattle.callslot.specs.declared.slot.Job.{Job}
 use Rattle.session.specs.CoreStates.{Core, Reached}
 use Rattle.session.specs.Events.{Events}
+use Rattle.session.specs.FlowBytes.{counted_by, counted_told}
 use Rattle.session.proofs.EventLaws.{reached_events}
 use Rattle.session.proofs.OneEvents.{events_go_on, events_one}
 use Rattle.slots.specs.declared.reading.Cut.{Cut}
 use Rattle.slots.specs.declared.reading.Decided.{Decided}
 use Rattle.slots.specs.declared.reading.Reading.{Reading}
 use Rattle.slots.specs.declared.worker.Worker.{Ghosts as Hands}
+use Rattle.slots.specs.Lines.{Aligns, AreNew, IsNewTo, SlotCalls, calls_from, calls_of, calls_step, raw_in}
 use Rattle.slots.specs.Orders.{ends_at, orders_at, orders_by}
 use Rattle.slots.specs.Readings.{Awaits, Decides, DecidesOn, Reads, ReadsOn, Stands, Stays, orders_in}
 use Rattle.slots.specs.Reports.{AreCalm, AreHeard, IsFront, is_heard_out}
 use Rattle.slots.specs.Steps.{Cause, CutOff, Fate, Step, Told, WasTold, events_of}
 use Rattle.slots.proofs.LetGo.{events-append}
+use Rattle.slots.proofs.Lines.{calls-append}
+use Rattle.slots.proofs.Opens.{opens-new}
 use Rattle.slots.proofs.Resets.{calm-more, ends-harsh}
 use Rattle.lane.specs.Ring.{put_in}
 use Rattle.connection.specs.declared.orders.Orders.{Orders}
 use Rattle.connection.specs.declared.orders.Outbox.{Outbox}
 use Rattle.connection.specs.declared.orders.Route.{Ghosts}
-use Rattle.connection.specs.Heard.{Acts, Cuts, CutsSome, HasPut, HasRead, IsEndedBy, KeptFor, ReadsTo, Tells}
+use Rattle.connection.specs.Heard.{Acts, CountsTo, Cuts, CutsSome, HasPut, HasRead, IsEndedBy, KeptFor, ReadsTo, Tells}
+use Rattle.connection.specs.Sent.{Lined, LinedTo}
+use Rattle.connection.proofs.Lines.{new-append, new-parts}
 use Rattle.connection.specs.Puts.{IsSame, Ordered, Puts, PutsAll, order_in, put_of, put_orders}
 
 -- what a core answered to the bytes before
@@ -150,6 +157,33 @@ ended-at : (step : Step) (end : Option Ending) → ends_at step ≡ end → IfSo
 ended-at step None is = tt
 ended-at step (Some ending) is = inl is
 
+-- a step that ends the connection was told
+ended-told : (ending : Ending) (more : List Step) → IsEndedBy ending more → (before : List InEvent) × (event : InEvent) × (events_of more ≡ before ++ event ∷ [])
+ended-told ending [] is = absurd is
+ended-told ending (Told event fate ∷ before) is = (events_of before, event, refl)
+ended-told ending (CutOff id why ∷ before) (inl is) = absurd cc
+ended-told ending (CutOff id why ∷ before) (inr is) = ended-told ending before is
+
+only-one : (before : List InEvent) (event one : InEvent) (rest : List InEvent) → (before ++ event ∷ []) ++ rest ≡ one ∷ [] → before ++ event ∷ [] ≡ one ∷ []
+only-one [] event one [] is = is
+only-one [] event one (other ∷ rest) is = absurd cc
+only-one (first ∷ []) event one rest is = absurd cc
+only-one (first ∷ (second ∷ before)) event one rest is = absurd cc
+
+-- steps that tell of one event tell of it
+pub one-told : (event : InEvent) (end : Option Ending) (more : List Step) → IsPrefix (events_of more) (event ∷ []) → (end ≡ None → events_of more ≡ event ∷ [])
+    → IfSome end (λ ending. IsEndedBy ending more) → events_of more ≡ event ∷ []
+one-told event None more front all ended = all refl
+one-told event (Some ending) more front all ended =
+    let found = ended-told ending more ended in
+    found.2 ∙ only-one found.0 found.1 event front.0 (ap (λ (es : List InEvent). es ++ front.0) (sym found.2) ∙ front.1)
+
+-- what was counted, with what these steps tell of more
+pub counted-more : (more told : List Step) (start had has : ℕ) → had ≤ start + counted_told (events_of told) → has ≤ had + counted_told (events_of more)
+    → has ≤ start + counted_told (events_of (more ++ told))
+counted-more more told start had has before behind =
+    omega (arith, before, behind, ap counted_told (events-append more told), sum_by-append counted_by (events_of told) (events_of more))
+
 -- the input ended
 pub not-by-error : (end : Ending) → (end ≡ InputEnded) ⊎ (end ≡ PeerGoaway) → (code : ErrorCode) → end ≢ ProtocolError code
 not-by-error end (inl is) code other = cc
@@ -158,6 +192,65 @@ not-by-error end (inr is) code other = cc
 pub not-by-fault : (end : Ending) → (end ≡ InputEnded) ⊎ (end ≡ PeerGoaway) → end ≢ ReadFailed
 not-by-fault end (inl is) other = cc
 not-by-fault end (inr is) other = cc
+
+-- ---- the slots' calls, by what was ordered
+
+module _ {A B C N : Type 0} {route : Ghosts N} where
+  lined-put : (slots : List SlotCalls) (order : Control Opened) (old new : Orders A B C N route) → Puts order old new → IsNewTo slots order → Lined slots old → Lined (calls_step slots order) new
+  lined-put slots order old new puts fresh lined = record {
+    all = lined.all ++ order ∷ [];
+    calls = calls-append [] lined.all (order ∷ []) ∙ ap (λ (calls : List SlotCalls). calls_step calls order) lined.calls;
+    fresh = new-append [] lined.all (order ∷ []) lined.fresh (subst (λ (calls : List SlotCalls). IsNewTo calls order) (sym lined.calls) fresh, tt);
+    front = front-of puts;
+    whole = whole-of puts;
+  }
+    where
+      front-of : Puts order old new → IsPrefix (put_of new) (lined.all ++ order ∷ [])
+      front-of (inl (put, had, has)) = ([], append-nil (put_of new) ∙ (put ∙ ap (λ (os : List (Control Opened)). os ++ order ∷ []) (lined.whole had)))
+      front-of (inr (same, drops)) = (
+        lined.front.0 ++ order ∷ [],
+        ap (λ (os : List (Control Opened)). os ++ (lined.front.0 ++ order ∷ [])) same
+            ∙ (sym (append_assoc (put_of old) lined.front.0 (order ∷ [])) ∙ ap (λ (os : List (Control Opened)). os ++ order ∷ []) lined.front.1),
+      )
+
+      whole-of : Puts order old new → new.has_dropped ≡ false → put_of new ≡ lined.all ++ order ∷ []
+      whole-of (inl (put, had, has)) none = put ∙ ap (λ (os : List (Control Opened)). os ++ order ∷ []) (lined.whole had)
+      whole-of (inr (same, drops)) none = undropped new.has_dropped drops none
+
+  -- one that opens no stream
+  pub lined-plain : (slots : List SlotCalls) (order : Control Opened) (old new : Orders A B C N route) → calls_step slots order ≡ slots → IsNewTo slots order → Puts order old new → Lined slots old → Lined slots new
+  lined-plain slots order old new same fresh puts lined = subst (λ (calls : List SlotCalls). Lined calls new) same (lined-put slots order old new puts fresh lined)
+
+  lined-some : (slots : List SlotCalls) (order : Option (Control Opened)) (old new : Orders A B C N route) → PutsAll order old new → AreNew slots (raw_in order) → Lined slots old
+      → Lined (calls_from slots (raw_in order)) new
+  lined-some slots None old new same fresh lined = subst (λ (orders : Orders A B C N route). Lined slots orders) (sym same) lined
+  lined-some slots (Some order) old new puts fresh lined = lined-put slots order old new puts fresh.0 lined
+
+  -- two, one after the other
+  pub lined-both : (slots : List SlotCalls) (first second : Option (Control Opened)) (old mid new : Orders A B C N route) → PutsAll first old mid → PutsAll second mid new
+      → AreNew slots (raw_in first ++ raw_in second) → Lined slots old → Lined (calls_from slots (raw_in first ++ raw_in second)) new
+  lined-both slots first second old mid new one two fresh lined =
+      let parts = new-parts slots (raw_in first) (raw_in second) fresh in
+      subst (λ (calls : List SlotCalls). Lined calls new) (sym (calls-append slots (raw_in first) (raw_in second)))
+      (lined-some (calls_from slots (raw_in first)) second mid new two parts.1 (lined-some slots first old mid one parts.0 lined))
+
+  pub lined-same : (slots : List SlotCalls) (old new : Orders A B C N route) → IsSame old new → Lined slots old → Lined slots new
+  lined-same slots old new same lined =
+      let is : put_of new ≡ put_of old = ap (λ (outbox : Outbox N route). put_in outbox.ring) same.0 in record {
+        all = lined.all;
+        calls = lined.calls;
+        fresh = lined.fresh;
+        front = subst (λ (os : List (Control Opened)). IsPrefix os lined.all) (sym is) lined.front;
+        whole = λ none. is ∙ lined.whole (sym same.1 ∙ none);
+      }
+
+  -- nothing was ordered, and no slot is there
+  pub lined-none : (slots : List SlotCalls) (orders : Orders A B C N route) → slots ≡ [] → put_of orders ≡ [] → Lined slots orders
+  lined-none slots orders empty none = record { all = []; calls = sym empty; fresh = tt; front = ([], append-nil (put_of orders) ∙ none); whole = λ undropped. none }
+
+  -- no more orders come
+  pub lined-closed : (slots : List SlotCalls) (old new : Orders A B C N route) → put_of new ≡ put_of old ++ orders.Close ∷ [] → Lined slots old → LinedTo slots (put_of new)
+  lined-closed slots old new put lined = record { all = lined.all; calls = lined.calls; fresh = lined.fresh; front = put_of old; begins = lined.front; closed = put }
 
 module _ {H : Type 0} {hand : Hands H} {names : List ℕ → ℕ → Type 0} where
   pub reads-same : (told : List Step) (one two : Reading H hand) → two ≡ one → Reads names told one → Reads names told two
@@ -172,18 +265,23 @@ module _ {H : Type 0} {hand : Hands H} {names : List ℕ → ℕ → Type 0} whe
 module _ {H : Type 0} {hand : Hands H} {A B C N : Type 0} {route : Ghosts N} {names : List ℕ → ℕ → Type 0} where
   -- what was decided is done: two orders, and the half
   pub acts-done : (decided : Decided) (reading reading_new : Reading H hand) (old mid new : Orders A B C N route) → PutsAll decided.first old mid → PutsAll decided.second mid new
-      → ((told : List Step) (step : Step) → Decides names told step decided reading → Reads names (step ∷ told) reading_new) → Acts names decided reading old reading_new new
-  acts-done decided reading reading_new old mid new first second reads told step decides = (
-    reads told step decides,
-    λ ordered.
-        subst (λ (os : List Order). Ordered os new) (append_assoc (orders_by told) (order_in decided.first) (order_in decided.second) ∙ ap (λ (os : List Order). orders_by told ++ os) decides.orders)
-        (ordered-some (orders_by told ++ order_in decided.first) decided.second mid new second (ordered-some (orders_by told) decided.first old mid first ordered)),
+      → ((told : List Step) (step : Step) → Decides names told step decided reading → Reads names (step ∷ told) reading_new) → calls_of reading_new.slots ≡ calls_of reading.slots
+      → Acts names decided reading old reading_new new
+  acts-done decided reading reading_new old mid new first second reads same = (
+    (λ told step decides. (
+      reads told step decides,
+      λ ordered.
+          subst (λ (os : List Order). Ordered os new) (append_assoc (orders_by told) (order_in decided.first) (order_in decided.second) ∙ ap (λ (os : List Order). orders_by told ++ os) decides.orders)
+          (ordered-some (orders_by told ++ order_in decided.first) decided.second mid new second (ordered-some (orders_by told) decided.first old mid first ordered)),
+    )),
+    λ slots calls fresh lined.
+        subst (λ (all : List SlotCalls). Lined all new) (calls ∙ sym same) (lined-both slots decided.first decided.second old mid new first second fresh lined),
   )
 
   -- ---- cuts
 
   pub cuts-none : (reading : Reading H hand) (orders : Orders A B C N route) → CutsSome names reading orders reading orders
-  cuts-none reading orders told reads = ([], record { silent = refl; calm = tt; reads = reads; ordered = λ ordered. ordered })
+  cuts-none reading orders told reads = ([], record { silent = refl; calm = tt; reads = reads; ordered = λ ordered. ordered; lined = λ lined. lined })
 
   pub cuts-then : (one two three : Reading H hand) (old mid new : Orders A B C N route) → CutsSome names one old two mid → CutsSome names two mid three new → CutsSome names one old three new
   cuts-then one two three old mid new first second told reads =
@@ -196,41 +294,54 @@ module _ {H : Type 0} {hand : Hands H} {A B C N : Type 0} {route : Ghosts N} {na
           calm = calm-more b.0 a.0 b.1.calm a.1.calm;
           reads = subst (λ (steps : List Step). Reads names steps three) same b.1.reads;
           ordered = λ ordered. subst (λ (steps : List Step). Ordered (orders_by steps) new) same (b.1.ordered (a.1.ordered ordered));
+          lined = λ lined. b.1.lined (a.1.lined lined);
         },
       )
 
   pub cuts-one : (decided : Decided) (id : ℕ) (why : Cause) (reading new_reading : Reading H hand) (old new : Orders A B C N route) → DecidesOn names (CutOff id why) decided reading reading
-      → Acts names decided reading old new_reading new → CutsSome names reading old new_reading new
-  cuts-one decided id why reading new_reading old new decides acts told reads =
-      let done = acts told (CutOff id why) (decides told reads) in
-      (CutOff id why ∷ [], record { silent = refl; calm = (refl, tt); reads = done.0; ordered = done.1 })
+      → Aligns decided reading reading → Acts names decided reading old new_reading new → CutsSome names reading old new_reading new
+  cuts-one decided id why reading new_reading old new decides aligns acts told reads =
+      let decision = decides told reads in
+      let done = acts.0 told (CutOff id why) decision in
+      let fresh = opens-new names told (CutOff id why) decided reading.slots reads.slots done.0.slots.rising decision.orders in
+      (CutOff id why ∷ [], record { silent = refl; calm = (refl, tt); reads = done.0; ordered = done.1; lined = λ lined. acts.1 (calls_of reading.slots) aligns fresh lined })
 
-  pub cuts-same : (reading new_reading : Reading H hand) (old new : Orders A B C N route) → Stays names reading new_reading → ((all : List Order) → Ordered all old → Ordered all new)
+  pub cuts-same : (reading new_reading : Reading H hand) (old new : Orders A B C N route) → Stays names reading new_reading → calls_of new_reading.slots ≡ calls_of reading.slots → IsSame old new
       → CutsSome names reading old new_reading new
-  cuts-same reading new_reading old new stays ordered told reads = ([], record { silent = refl; calm = tt; reads = stays told reads; ordered = ordered (orders_by told) })
+  cuts-same reading new_reading old new stays calls same told reads = (
+    [],
+    record {
+      silent = refl;
+      calm = tt;
+      reads = stays told reads;
+      ordered = λ ordered. ordered-same (orders_by told) old new same ordered;
+      lined = λ lined. subst (λ (slots : List SlotCalls). Lined slots new) (sym calls) (lined-same (calls_of reading.slots) old new same lined);
+    },
+  )
 
   -- ---- events
 
   -- one event, whose step is decided and done
   pub to-one : (event : InEvent) (fate : Fate) (decided : Decided) (end : Option Ending) (one two three : Reading H hand) (old new : Orders A B C N route) → end ≡ decided.ends
-      → DecidesOn names (Told event fate) decided one two → Acts names decided two old three new → ReadsTo names (event ∷ []) end one old three new
-  to-one event fate decided end one two three old new is decides acts told kept =
+      → DecidesOn names (Told event fate) decided one two → Aligns decided one two → Acts names decided two old three new → ReadsTo names (event ∷ []) end one old three new
+  to-one event fate decided end one two three old new is decides aligns acts told kept =
       let decision = decides told kept.reads in
-      let done = acts told (Told event fate) decision in (
+      let done = acts.0 told (Told event fate) decision in
+      let fresh = opens-new names told (Told event fate) decided one.slots kept.reads.slots done.0.slots.rising decision.orders in (
         Told event fate ∷ [],
         record {
           front = ([], refl);
           all = λ none. refl;
           calm = λ none. (sym decision.ends ∙ (sym is ∙ none), tt);
           ended = ended-at (Told event fate) end (sym (is ∙ decision.ends));
-          kept = record { reads = done.0; ordered = done.1 kept.ordered };
+          kept = record { reads = done.0; ordered = done.1 kept.ordered; lined = acts.1 (calls_of one.slots) aligns fresh kept.lined };
         },
       )
 
   -- one that leads to no order
   pub to-silent : (event : InEvent) (fate : Fate) (one two : Reading H hand) (old new : Orders A B C N route) → ((told : List Step) → orders_at told (Told event fate) ≡ []) → ends_at (Told event fate) ≡ None
-      → ReadsOn names (Told event fate) one two → IsSame old new → ReadsTo names (event ∷ []) None one old two new
-  to-silent event fate one two old new silent calm reads same told kept = (
+      → ReadsOn names (Told event fate) one two → calls_of two.slots ≡ calls_of one.slots → IsSame old new → ReadsTo names (event ∷ []) None one old two new
+  to-silent event fate one two old new silent calm reads calls same told kept = (
     Told event fate ∷ [],
     record {
       front = ([], refl);
@@ -241,6 +352,7 @@ module _ {H : Type 0} {hand : Hands H} {A B C N : Type 0} {route : Ghosts N} {na
         reads = reads told kept.reads;
         ordered = subst (λ (os : List Order). Ordered os new) (sym (ap (λ (os : List Order). orders_by told ++ os) (silent told) ∙ append-nil (orders_by told)))
             (ordered-same (orders_by told) old new same kept.ordered);
+        lined = subst (λ (slots : List SlotCalls). Lined slots new) (sym calls) (lined-same (calls_of one.slots) old new same kept.lined);
       };
     },
   )
@@ -249,7 +361,11 @@ module _ {H : Type 0} {hand : Hands H} {A B C N : Type 0} {route : Ghosts N} {na
   pub to-same : (given : List InEvent) (end : Option Ending) (one two three : Reading H hand) (old mid new : Orders A B C N route) → two ≡ one → IsSame old mid
       → ReadsTo names given end two mid three new → ReadsTo names given end one old three new
   to-same given end one two three old mid new is same reads told kept =
-      reads told (record { reads = subst (λ (r : Reading H hand). Reads names told r) (sym is) kept.reads; ordered = ordered-same (orders_by told) old mid same kept.ordered })
+      reads told (record {
+        reads = subst (λ (r : Reading H hand). Reads names told r) (sym is) kept.reads;
+        ordered = ordered-same (orders_by told) old mid same kept.ordered;
+        lined = subst (λ (r : Reading H hand). Lined (calls_of r.slots) mid) (sym is) (lined-same (calls_of one.slots) old mid same kept.lined);
+      })
 
   -- the event by another name
   pub to-as : (event given : InEvent) (end : Option Ending) (one two : Reading H hand) (old new : Orders A B C N route) → event ≡ given → ReadsTo names (given ∷ []) end one old two new
@@ -268,22 +384,12 @@ module _ {H : Type 0} {hand : Hands H} {A B C N : Type 0} {route : Ghosts N} {na
       subst (λ (n : ℕ). ReadsTo names (events.Open n head ∷ []) end one old two new) same
       (subst (λ (h : CallHead). ReadsTo names (events.Open job.id h ∷ []) end one old two new) is reads)
 
-  -- by another end
-  pub to-end : (given : List InEvent) (end other : Option Ending) (one two : Reading H hand) (old new : Orders A B C N route) → end ≡ other → ReadsTo names given end one old two new
-      → ReadsTo names given other one old two new
-  to-end given end other one two old new is reads = subst (λ (found : Option Ending). ReadsTo names given found one old two new) is reads
-
-  -- by other events
-  pub to-events : (given other : List InEvent) (end : Option Ending) (one two : Reading H hand) (old new : Orders A B C N route) → given ≡ other → ReadsTo names given end one old two new
-      → ReadsTo names other end one old two new
-  to-events given other end one two old new is reads = subst (λ (es : List InEvent). ReadsTo names es end one old two new) is reads
-
   -- calls were cut before it
   pub to-behind : (given : List InEvent) (end : Option Ending) (one two three : Reading H hand) (old mid new : Orders A B C N route) → CutsSome names one old two mid
       → ReadsTo names given end two mid three new → ReadsTo names given end one old three new
   to-behind given end one two three old mid new cuts reads told kept =
       let a = cuts told kept.reads in
-      let b = reads (a.0 ++ told) (record { reads = a.1.reads; ordered = a.1.ordered kept.ordered }) in
+      let b = reads (a.0 ++ told) (record { reads = a.1.reads; ordered = a.1.ordered kept.ordered; lined = a.1.lined kept.lined }) in
       let is : events_of (b.0 ++ a.0) ≡ events_of b.0 = events-append b.0 a.0 ∙ ap (λ (es : List InEvent). es ++ events_of b.0) a.1.silent in (
         b.0 ++ a.0,
         record {
@@ -295,16 +401,38 @@ module _ {H : Type 0} {hand : Hands H} {A B C N : Type 0} {route : Ghosts N} {na
         },
       )
 
-  pub to-none : (reading : Reading H hand) (orders : Orders A B C N route) → ReadsTo names [] None reading orders reading orders
-  to-none reading orders told kept = ([], record { front = ([], refl); all = λ none. refl; calm = λ none. tt; ended = tt; kept = kept })
+  -- ---- with what was counted
+
+  -- one event, of which at most as much was counted as it tells of
+  pub counts-one : (event : InEvent) (end : Option Ending) (had has : ℕ) (one two : Reading H hand) (old new : Orders A B C N route) → has ≤ had + counted_by event
+      → ReadsTo names (event ∷ []) end one old two new → CountsTo names (event ∷ []) end had one old has two new
+  counts-one event end had has one two old new counted reads told kept =
+      let a = reads told kept in
+      let is : events_of a.0 ≡ event ∷ [] = one-told event end a.0 a.1.front a.1.all a.1.ended in
+      (a.0, a.1, omega (arith, counted, ap counted_told is, sum_by-cons counted_by event []))
+
+  -- by another end
+  pub counts-end : (given : List InEvent) (end other : Option Ending) (had has : ℕ) (one two : Reading H hand) (old new : Orders A B C N route) → end ≡ other
+      → CountsTo names given end had one old has two new → CountsTo names given other had one old has two new
+  counts-end given end other had has one two old new is reads = subst (λ (found : Option Ending). CountsTo names given found had one old has two new) is reads
+
+  -- by other events
+  pub counts-events : (given other : List InEvent) (end : Option Ending) (had has : ℕ) (one two : Reading H hand) (old new : Orders A B C N route) → given ≡ other
+      → CountsTo names given end had one old has two new → CountsTo names other end had one old has two new
+  counts-events given other end had has one two old new is reads = subst (λ (es : List InEvent). CountsTo names es end had one old has two new) is reads
+
+  pub counts-none : (had : ℕ) (reading : Reading H hand) (orders : Orders A B C N route) → CountsTo names [] None had reading orders had reading orders
+  counts-none had reading orders told kept =
+      ([], record { front = ([], refl); all = λ none. refl; calm = λ none. tt; ended = tt; kept = kept }, omega arith)
 
   -- more events
-  pub to-then : (first more : List InEvent) (end : Option Ending) (one two three : Reading H hand) (old mid new : Orders A B C N route) → ReadsTo names first None one old two mid
-      → ReadsTo names more end two mid three new → ReadsTo names (first ++ more) end one old three new
-  to-then first more end one two three old mid new before behind told kept =
+  pub counts-then : (first more : List InEvent) (end : Option Ending) (had between has : ℕ) (one two three : Reading H hand) (old mid new : Orders A B C N route)
+      → CountsTo names first None had one old between two mid → CountsTo names more end between two mid has three new → CountsTo names (first ++ more) end had one old has three new
+  counts-then first more end had between has one two three old mid new before behind told kept =
       let a = before told kept in
       let b = behind (a.0 ++ told) a.1.kept in
-      let is : events_of (b.0 ++ a.0) ≡ first ++ events_of b.0 = events-append b.0 a.0 ∙ ap (λ (es : List InEvent). es ++ events_of b.0) (a.1.all refl) in (
+      let parts : events_of (b.0 ++ a.0) ≡ events_of a.0 ++ events_of b.0 = events-append b.0 a.0 in
+      let is : events_of (b.0 ++ a.0) ≡ first ++ events_of b.0 = parts ∙ ap (λ (es : List InEvent). es ++ events_of b.0) (a.1.all refl) in (
         b.0 ++ a.0,
         record {
           front = (b.1.front.0, ap (λ (es : List InEvent). es ++ b.1.front.0) is ∙ (append_assoc first (events_of b.0) b.1.front.0 ∙ ap (λ (es : List InEvent). first ++ es) b.1.front.1));
@@ -313,12 +441,13 @@ module _ {H : Type 0} {hand : Hands H} {A B C N : Type 0} {route : Ghosts N} {na
           ended = if-ended end b.0 a.0 b.1.ended;
           kept = subst (λ (steps : List Step). KeptFor names steps three new) (sym (append_assoc b.0 a.0 told)) b.1.kept;
         },
+        omega (arith, a.2, b.2, ap counted_told parts, sum_by-append counted_by (events_of a.0) (events_of b.0)),
       )
 
   -- an event ended the connection, so those behind it were not heard
-  pub to-stop : (given rest : List InEvent) (ending : Ending) (end : Option Ending) (one two : Reading H hand) (old new : Orders A B C N route) → end ≡ Some ending
-      → ReadsTo names given end one old two new → ReadsTo names (given ++ rest) end one old two new
-  to-stop given rest ending end one two old new is reads told kept =
+  pub counts-stop : (given rest : List InEvent) (ending : Ending) (end : Option Ending) (had has : ℕ) (one two : Reading H hand) (old new : Orders A B C N route) → end ≡ Some ending
+      → CountsTo names given end had one old has two new → CountsTo names (given ++ rest) end had one old has two new
+  counts-stop given rest ending end had has one two old new is reads told kept =
       let a = reads told kept in (
         a.0,
         record {
@@ -328,6 +457,7 @@ module _ {H : Type 0} {hand : Hands H} {A B C N : Type 0} {route : Ghosts N} {na
           ended = a.1.ended;
           kept = a.1.kept;
         },
+        a.2,
       )
     where
       not-both : (found : Option Ending) → found ≡ Some ending → found ≡ None → ⊥
@@ -348,6 +478,7 @@ module _ {H : Type 0} {hand : Hands H} {A B C N : Type 0} {route : Ghosts N} {na
     });
     calm = λ ended. calm;
     ordered = λ spared. kept.ordered;
+    lined = kept.lined;
     goaway = goaway;
     failed = λ code failed. absurd (unfailed code failed);
   }
@@ -365,10 +496,11 @@ module _ {H : Type 0} {hand : Hands H} {A B C N : Type 0} {route : Ghosts N} {na
       all-read ReadFailed before told bytes given core reading orders same reached is calm kept (λ gone. cc) (λ code failed. cc)
 
   -- some were, and one of them ended the connection
-  pub some-read : (end : Ending) (given before : List InEvent) (told : List Step) (bytes : List ℕ) (core : Core) (reading reading_new : Reading H hand) (orders orders_new : Orders A B C N route)
-      → Reached bytes (before ++ given) core → events_of told ≡ before → ReadsTo names given (Some end) reading orders reading_new orders_new
-      → KeptFor names told reading orders → (all : List Step) × HasRead names end bytes all reading_new orders_new
-  some-read end given before told bytes core reading reading_new orders orders_new reached is reads kept =
+  pub some-read : (end : Ending) (given before : List InEvent) (told : List Step) (bytes : List ℕ) (core : Core) (start had has : ℕ) (reading reading_new : Reading H hand) (orders orders_new : Orders A B C N route)
+      → Reached bytes (before ++ given) core → events_of told ≡ before → CountsTo names given (Some end) had reading orders has reading_new orders_new
+      → KeptFor names told reading orders → had ≤ start + counted_told (events_of told)
+      → (all : List Step) × HasRead names end bytes all reading_new orders_new × (has ≤ start + counted_told (events_of all))
+  some-read end given before told bytes core start had has reading reading_new orders orders_new reached is reads kept counted =
       let more = reads told kept in
       let not : is_heard_out end ≡ true → ⊥ = λ out. true≢false (sym out ∙ ended-harsh end more.0 more.1.ended) in (
         more.0 ++ told,
@@ -384,25 +516,28 @@ module _ {H : Type 0} {hand : Hands H} {A B C N : Type 0} {route : Ghosts N} {na
           };
           calm = λ ended. absurd (not ended);
           ordered = λ spared. more.1.kept.ordered;
+          lined = more.1.kept.lined;
           goaway = λ gone. absurd (not (ap (λ (e : Ending). is_heard_out e) gone));
           failed = λ code is_so. subst (λ (e : Ending). IsEndedBy e (more.0 ++ told)) is_so (ended-front end more.0 told more.1.ended);
         },
+        counted-more more.0 told start had has counted more.2,
       )
 
-  pub some-sound : (end : Ending) (given : List InEvent) (told : List Step) (reading reading_new : Reading H hand) (orders orders_new : Orders A B C N route)
-      → ReadsTo names given (Some end) reading orders reading_new orders_new → KeptFor names told reading orders → end ≢ ReadFailed
-  some-sound end given told reading reading_new orders orders_new reads kept is =
+  pub some-sound : (end : Ending) (given : List InEvent) (told : List Step) (had has : ℕ) (reading reading_new : Reading H hand) (orders orders_new : Orders A B C N route)
+      → CountsTo names given (Some end) had reading orders has reading_new orders_new → KeptFor names told reading orders → end ≢ ReadFailed
+  some-sound end given told had has reading reading_new orders orders_new reads kept is =
       let more = reads told kept in
       true≢false (sym (ap (λ (e : Ending). is_heard_out e) is) ∙ ended-harsh end more.0 more.1.ended)
 
   -- none of the last bytes were heard
   pub none-read : (before : List InEvent) (told : List Step) (bytes more : List ℕ) (core : Core) (reading : Reading H hand) (orders : Orders A B C N route)
-      → Reached bytes before core → events_of told ≡ before → Reads names told reading → HasRead names OutOfMemory (bytes ++ more) told reading orders
-  none-read before told bytes more core reading orders reached is reads = record {
+      → Reached bytes before core → events_of told ≡ before → Reads names told reading → Lined (calls_of reading.slots) orders → HasRead names OutOfMemory (bytes ++ more) told reading orders
+  none-read before told bytes more core reading orders reached is reads lined = record {
     reads = reads;
     heard = record { front = subst (λ (es : List InEvent). IsFront (bytes ++ more) es) (sym is) (front-before bytes more before core reached); whole = λ ended. absurd cc };
     calm = λ ended. absurd cc;
     ordered = λ spared. absurd (spared refl);
+    lined = lined;
     goaway = λ gone. absurd cc;
     failed = λ code failed. absurd cc;
   }
@@ -429,5 +564,5 @@ pub ordered-none : {A B C N : Type 0} {route : Ghosts N} (orders : Orders A B C 
 ordered-none orders none = record { front = ([], append-nil (put_orders orders) ∙ ap map_of none); whole = λ undropped. ap map_of none }
 
 pub kept-none : {H : Type 0} {hand : Hands H} {A B C N : Type 0} {route : Ghosts N} {names : List ℕ → ℕ → Type 0} (reading : Reading H hand) (orders : Orders A B C N route) → Reads names [] reading
-    → put_of orders ≡ [] → KeptFor names [] reading orders
-kept-none reading orders reads none = record { reads = reads; ordered = ordered-none orders none }
+    → calls_of reading.slots ≡ [] → put_of orders ≡ [] → KeptFor names [] reading orders
+kept-none reading orders reads calls none = record { reads = reads; ordered = ordered-none orders none; lined = lined-none (calls_of reading.slots) orders calls none }

@@ -1,3 +1,4 @@
+pub mod CreditSteps
 pub mod Heard
 pub mod Reports
 pub mod Lines

@@ -106,6 +106,10 @@ new-front : (slots : List SlotCalls) (orders more : List (Control Opened)) → A
 new-front slots [] more new = tt
 new-front slots (order ∷ orders) more new = (new.0, new-front (calls_step slots order) orders more new.1)
 
+pub new-parts : (slots : List SlotCalls) (orders more : List (Control Opened)) → AreNew slots (orders ++ more) → AreNew slots orders × AreNew (calls_from slots orders) more
+new-parts slots [] more new = (tt, new)
+new-parts slots (order ∷ orders) more new = let rest = new-parts (calls_step slots order) orders more new.1 in ((new.0, rest.0), rest.1)
+
 -- ---- each call once
 
 abbrev times_calls : ℕ → List SlotCalls → ℕ

@@ -1,6 +1,7 @@
 -- What the reading thread has heard, and had ordered.
 use mathlib.Core.List.{IsPrefix}
-use Rattle.std.specs.Prelude.{◌≡◌, ◌≢◌, ◌⊎◌, ℕ, Bool, true, false, IfSome, List, [], ◌∷◌, ◌++◌, Option, None, Some}
+use Rattle.std.specs.Prelude.{◌≡◌, ◌≢◌, ◌⊎◌, ◌+◌, ◌≤◌, ℕ, Bool, true, false, IfSome, List, [], ◌∷◌, ◌++◌, Option, None, Some}
+use Rattle.account.specs.declared.call.Account.{Account}
 use Rattle.callslot.specs.declared.report.CallReport.{CallReport}
 use Rattle.callslot.specs.declared.report.Ending.{Ending}
 use Rattle.callslot.specs.declared.report.Ending.TheVariants.{PeerGoaway, ProtocolError, OutOfMemory}
@@ -10,9 +11,11 @@ use Rattle.outwriter.specs.Steps.{Order}
 use Rattle.outwriter.specs.declared.control.Control.TheVariants.{InputEnded, Close}
 use Rattle.session.specs.declared.event.InEvent.{InEvent}
 use Rattle.session.specs.declared.event.InEvent.TheVariants as events
+use Rattle.session.specs.FlowBytes.{counted_told}
 use Rattle.slots.specs.declared.reading.Decided.{Decided}
 use Rattle.slots.specs.declared.reading.Reading.{Reading}
 use Rattle.slots.specs.declared.worker.Worker.{Ghosts as Hands}
+use Rattle.slots.specs.Lines.{AreNew, SlotCalls, calls_from, calls_of, raw_orders}
 use Rattle.slots.specs.Orders.{ends_at, orders_by}
 use Rattle.slots.specs.Readings.{Decides, Reads}
 use Rattle.slots.specs.Reports.{AreCalm, AreHeard, AreRows, is_heard_out}
@@ -20,6 +23,7 @@ use Rattle.slots.specs.Steps.{Step, WasTold, events_of, reported, IsRising}
 use Rattle.connection.specs.declared.orders.Orders.{Orders}
 use Rattle.connection.specs.declared.orders.Route.{Ghosts}
 use Rattle.connection.specs.Puts.{Ordered, put_orders}
+use Rattle.connection.specs.Sent.{Lined}
 
 -- one of these steps ended the connection so
 abbrev pub IsEndedBy : Ending → List Step → Type 0
@@ -31,22 +35,27 @@ module _ {H : Type 0} {hand : Hands H} {A B C N : Type 0} {route : Ghosts N} (na
   pub record KeptFor (told : List Step) (reading : Reading H hand) (orders : Orders A B C N route) : Type 0 where
     pub reads : Reads names told reading
     pub ordered : Ordered (orders_by told) orders
+    pub lined : Lined (calls_of reading.slots) orders
 
   -- what was decided of a step is done
   abbrev pub Acts : Decided → Reading H hand → Orders A B C N route → Reading H hand → Orders A B C N route → Type 0
-  Acts decided reading orders reading_new orders_new = (told : List Step) (step : Step) → Decides names told step decided reading
-      → Reads names (step ∷ told) reading_new × (Ordered (orders_by told) orders → Ordered (orders_by (step ∷ told)) orders_new)
+  Acts decided reading orders reading_new orders_new =
+      ((told : List Step) (step : Step) → Decides names told step decided reading
+      → Reads names (step ∷ told) reading_new × (Ordered (orders_by told) orders → Ordered (orders_by (step ∷ told)) orders_new))
+      × ((slots : List SlotCalls) → calls_from slots (raw_orders decided) ≡ calls_of reading.slots → AreNew slots (raw_orders decided)
+      → Lined slots orders → Lined (calls_of reading_new.slots) orders_new)
 
   -- With these steps, of which no event tells and none of which ends the connection, calls were cut.
-  pub record Cuts (told cuts : List Step) (reading_new : Reading H hand) (orders orders_new : Orders A B C N route) : Type 0 where
+  pub record Cuts (told cuts : List Step) (reading reading_new : Reading H hand) (orders orders_new : Orders A B C N route) : Type 0 where
     pub silent : events_of cuts ≡ []
     pub calm : AreCalm cuts
     pub reads : Reads names (cuts ++ told) reading_new
     pub ordered : Ordered (orders_by told) orders → Ordered (orders_by (cuts ++ told)) orders_new
+    pub lined : Lined (calls_of reading.slots) orders → Lined (calls_of reading_new.slots) orders_new
 
   abbrev pub CutsSome : Reading H hand → Orders A B C N route → Reading H hand → Orders A B C N route → Type 0
   CutsSome reading orders reading_new orders_new = (told : List Step) → Reads names told reading
-      → (cuts : List Step) × Cuts told cuts reading_new orders orders_new
+      → (cuts : List Step) × Cuts told cuts reading reading_new orders orders_new
 
   -- Whatever steps were heard before, with some that tell of these events they are those that were heard after; and they tell of
   -- them all, and none ends the connection, unless one of them does so.
@@ -61,6 +70,11 @@ module _ {H : Type 0} {hand : Hands H} {A B C N : Type 0} {route : Ghosts N} (na
   ReadsTo given end reading orders reading_new orders_new = (told : List Step) → KeptFor told reading orders
       → (more : List Step) × Tells given end told more reading_new orders_new
 
+  -- The same; and so many bytes of DATA were counted before, and after at most as many more as these steps tell of.
+  abbrev pub CountsTo : List InEvent → Option Ending → ℕ → Reading H hand → Orders A B C N route → ℕ → Reading H hand → Orders A B C N route → Type 0
+  CountsTo given end had reading orders has reading_new orders_new = (told : List Step) → KeptFor told reading orders
+      → (more : List Step) × Tells given end told more reading_new orders_new × (has ≤ had + counted_told (events_of more))
+
   -- These steps were heard of the bytes that came, all of them where all that came was heard, and then none ended the connection; but
   -- where memory ran out, what was ordered is what they lead to. The ending has its cause among them.
   pub record HasRead (end : Ending) (came : List ℕ) (told : List Step) (reading : Reading H hand) (orders : Orders A B C N route) : Type 0 where
@@ -68,16 +82,17 @@ module _ {H : Type 0} {hand : Hands H} {A B C N : Type 0} {route : Ghosts N} (na
     pub heard : AreHeard end came (events_of told)
     pub calm : is_heard_out end ≡ true → AreCalm told
     pub ordered : end ≢ OutOfMemory → Ordered (orders_by told) orders
+    pub lined : Lined (calls_of reading.slots) orders
     pub goaway : end ≡ PeerGoaway → WasTold events.PeerGoaway told
     pub failed : (code : ErrorCode) → end ≡ ProtocolError code → IsEndedBy (ProtocolError code) told
 
 -- The end of the reading: behind these steps all calls were cut with some more, and there is a row for each.
 pub record HasEnded {V : Type 0} (items : V → List CallReport) (answers : ℕ → List (List ℕ) → Bool → Answer → Type 0) (names : List ℕ → ℕ → Type 0)
-    (told cuts : List Step) (calls : V) : Type 0 where
+    (carries : ℕ → Account → Type 0) (told cuts : List Step) (calls : V) : Type 0 where
   pub silent : events_of cuts ≡ []
   pub calm : AreCalm cuts
   pub rising : IsRising (cuts ++ told)
-  pub rows : AreRows answers names (cuts ++ told) (reported (cuts ++ told)) (items calls)
+  pub rows : AreRows answers names carries (cuts ++ told) (reported (cuts ++ told)) (items calls)
 
 -- A beginning of these orders was put, and behind it that no more come.
 pub record HasPut (all put : List Order) : Type 0 where
