@@ -529,6 +529,12 @@ module _ {H : Type 0} {hand : Hands H} {A B C N : Type 0} {route : Ghosts N} {na
       let more = reads told kept in
       true≢false (sym (ap (λ (e : Ending). is_heard_out e) is) ∙ ended-harsh end more.0 more.1.ended)
 
+  -- the connection ends for want of memory
+  pub lined-lack : (told : List Step) (reading reading_new : Reading H hand) (orders mid orders_new : Orders A B C N route) → reading_new ≡ reading → mid ≡ orders
+      → (Lined (calls_of reading.slots) mid → Lined (calls_of reading.slots) orders_new) → KeptFor names told reading orders → Lined (calls_of reading_new.slots) orders_new
+  lined-lack told reading reading_new orders mid orders_new is same lacks kept =
+      subst (λ (r : Reading H hand). Lined (calls_of r.slots) orders_new) (sym is) (lacks (subst (λ (os : Orders A B C N route). Lined (calls_of reading.slots) os) (sym same) kept.lined))
+
   -- none of the last bytes were heard
   pub none-read : (before : List InEvent) (told : List Step) (bytes more : List ℕ) (core : Core) (reading : Reading H hand) (orders : Orders A B C N route)
       → Reached bytes before core → events_of told ≡ before → Reads names told reading → Lined (calls_of reading.slots) orders → HasRead names OutOfMemory (bytes ++ more) told reading orders

@@ -8,6 +8,7 @@ use mathlib.Core.List.{IsPrefix}
 use Rattle.account.specs.declared.call.Account.{Account}
 use Rattle.account.specs.declared.call.OutItem.{OutItem}
 use Rattle.callslot.specs.declared.order.Opened.{Opened}
+use Rattle.callslot.specs.declared.report.Ending.{Ending}
 use Rattle.callslot.specs.declared.order.Opened.TheVariants.{New, Again}
 use Rattle.callslot.specs.Workers.{GivingEnd, given_at, giving_ring}
 use Rattle.connwriter.specs.Sent.{HasSender, IsIn, IsOld, IsTold, Line, again, again_at, begun}
@@ -23,6 +24,7 @@ use Rattle.slots.specs.Lines.{AreEndsOf, AreNew, HasCall, IsGivenIn, SlotCalls, 
 use Rattle.slots.proofs.Ids.{one_if, times-append, times-cons}
 use Rattle.slots.proofs.Lines.{calls-append}
 use Rattle.slotwriter.specs.Sent.{AreFresh, HaveTold, Lines, SlotSender, line_step, lines_from, lines_of, streams_of}
+use Rattle.slotwriter.specs.Written.{HasSent}
 use Rattle.slotwriter.proofs.ToldLines.{tells-given}
 use Rattle.connection.specs.Sent.{AreMeeting, HaveMet, LinedTo}
 
@@ -472,3 +474,27 @@ module _ (run : List Step) (front : List (Control Opened)) (held : List (Option 
 
 pub few-lined : (slots : List SlotCalls) (put : List (Control Opened)) → LinedTo slots put → AreFew slots
 few-lined slots put lined = subst (λ (calls : List SlotCalls). AreFew calls) lined.calls (few-from [] lined.all lined.fresh (λ id. omega arith))
+
+-- ---- at the join
+
+module _ {W : Type 0} (contents : W → Option (List ℕ)) (failed : W → Bool) where
+  -- the orders that were taken are some of those that were put
+  pub fits-sent : (slots : List SlotCalls) (put took left : List (Control Opened)) (before : Option (List ℕ)) (credit : ℕ) (held : List (Option SlotSender)) (ending : Option Ending) (device : W) → took ++ left ≡ put → LinedTo slots put
+      → (sent : HasSent contents failed before credit took held ending device) → Fits slots took × Fits slots sent.front
+  fits-sent slots put took left before credit held ending device is lined sent =
+      let fits = fits-front slots put took left is (fits-put slots put lined) in
+      (fits, fits-front slots took sent.front sent.rest (sym sent.orders_are) fits)
+
+  pub meeting-put : (slots : List SlotCalls) (put took : List (Control Opened)) (before : Option (List ℕ)) (credit : ℕ) (held : List (Option SlotSender)) (ending : Option Ending) (device : W) (ends : List GivingEnd)
+      → IsPrefix took put → LinedTo slots put → HasSent contents failed before credit took held ending device → AreEndsOf slots ends → AreMeeting held ends
+  meeting-put slots put took before credit held ending device ends begins lined sent are =
+      let fits = fits-sent slots put took begins.0 before credit held ending device begins.1 lined sent in
+      meeting sent.written.run sent.front held slots ends fits.1 (sent.told fits.0.fresh) are
+
+  -- what was sent of a call that a slot has
+  pub sent-put : (slots : List SlotCalls) (put took left : List (Control Opened)) (before : Option (List ℕ)) (credit : ℕ) (held : List (Option SlotSender)) (ending : Option Ending) (device : W) (ends : List GivingEnd)
+      → took ++ left ≡ put → LinedTo slots put → (sent : HasSent contents failed before credit took held ending device) → HaveMet held ends
+      → (id : ℕ) (account : Account) → IsGivenIn slots ends id account → (items : List OutItem) × IsPrefix items account.given × IsTold sent.written.run id items
+  sent-put slots put took left before credit held ending device ends is lined sent met =
+      let fits = fits-sent slots put took left before credit held ending device is lined sent in
+      sent-of sent.written.run sent.front held slots ends fits.1 (few-lined slots put lined) (sent.told fits.0.fresh) (sent.unopened fits.0.fresh) met

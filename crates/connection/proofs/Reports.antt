@@ -1,8 +1,12 @@
 -- What became of a connection, of what was heard, ordered and written.
-use Rattle.std.proofs.Common.{◌≡◌, ◌≢◌, ◌∙◌, ◌⊎◌, ◌≤◌, arith, inl, inr, ℕ, Bool, true, false, true≢false, List, [], ◌∷◌, ◌++◌, Option, None, Some, ap, append-nil, refl, subst, sym}
+use Rattle.std.proofs.Common.{◌≡◌, ◌≢◌, ◌∙◌, ◌⊎◌, ◌≤◌, arith, inl, inr, ℕ, Bool, true, false, true≢false, List, [], ◌∷◌, ◌++◌, Option, None, Some, ap, append-nil, get_or, refl, subst, sym}
 use Rattle.std.specs.Prelude.{All, map}
 use Rattle.std.specs.Io.KnownBytes.{Appends}
 use Rattle.std.proofs.lemmas.List.Elements.{All-nil}
+use mathlib.Core.List.{IsPrefix}
+use Rattle.account.specs.declared.call.Account.{Account}
+use Rattle.account.specs.declared.call.OutItem.{OutItem}
+use Rattle.connwriter.specs.Sent.{IsTold}
 use Rattle.callslot.specs.declared.report.CallReport.{CallReport}
 use Rattle.callslot.specs.declared.report.Ending.{Ending}
 use Rattle.callslot.specs.declared.report.Ending.TheVariants.{InputEnded, PeerGoaway, ProtocolError, ReadFailed, WriteFailed, OutOfMemory}
@@ -10,6 +14,7 @@ use Rattle.h2frame.specs.declared.error_code.ErrorCode.{ErrorCode}
 use Rattle.h2frame.specs.declared.error_code.ErrorCode.TheVariants.{FlowControlError}
 use Rattle.handlers.specs.declared.step.Step.{Step as Answer}
 use Rattle.outwriter.specs.Steps.{Order}
+use Rattle.outwriter.specs.Steps.{Step as RunStep}
 use Rattle.outwriter.specs.declared.control.Control.TheVariants as orders
 use Rattle.session.specs.declared.event.InEvent.{InEvent}
 use Rattle.session.specs.Events.{Events}
@@ -17,7 +22,7 @@ use Rattle.session.specs.FlowBytes.{counted_told}
 use Rattle.slots.specs.declared.reading.Reading.{Reading}
 use Rattle.slots.specs.declared.worker.Worker.{Ghosts as Hands}
 use Rattle.slots.specs.Orders.{IsReset, orders_by}
-use Rattle.slots.specs.Reports.{AreRows, IsFront, IsReported, is_heard_out}
+use Rattle.slots.specs.Reports.{AreRows, IsAccounted, IsFront, IsReported, is_heard_out}
 use Rattle.slots.specs.Steps.{Step, events_of, reported}
 use Rattle.slots.proofs.Resets.{calm-more, reset-left, reset-ordered}
 use Rattle.slotwriter.specs.Written.{HasWritten}
@@ -25,6 +30,7 @@ use Rattle.connection.specs.declared.orders.Orders.{Orders}
 use Rattle.connection.specs.declared.orders.Route.{Ghosts}
 use Rattle.connection.specs.Heard.{EndsOrders, HasEnded, HasRead, IsEndedBy}
 use Rattle.connection.specs.Puts.{put_orders}
+use Rattle.connection.specs.Sent.{CarriesWhatWasSent}
 use Rattle.connection.specs.Served.{HasCause, IsServed}
 use Rattle.connection.proofs.CreditSteps.{told-within}
 use Rattle.connection.proofs.Heard.{ended-more, silent-more}
@@ -47,16 +53,50 @@ blamed-so : (told : List Step) (read : Ending) (code : ErrorCode) → ((c : Erro
 blamed-so told read code failed (inl is) = inl (failed code is)
 blamed-so told read code failed (inr is) = inr is
 
+module _ (answers : ℕ → List (List ℕ) → Bool → Answer → Type 0) (names : List ℕ → ℕ → Type 0) (run : List RunStep) (carries : ℕ → Account → Type 0)
+    (sent : (id : ℕ) (account : Account) → carries id account → (items : List OutItem) × IsPrefix items account.given × IsTold run id items) where
+  -- with what was sent of the call
+  accounted-sent : (told : List Step) (row : CallReport) → IsAccounted answers names carries told row → IsAccounted answers names (CarriesWhatWasSent run) told row
+  accounted-sent told row is =
+      let found = sent row.id is.account is.carried in record {
+        account = record is.account { sent = found.0 };
+        head = is.head;
+        known = is.known;
+        opened = is.opened;
+        named = is.named;
+        fed = is.fed;
+        shut = is.shut;
+        counted = is.counted;
+        kind = is.kind;
+        stands = record {
+          lawful = record { taken = is.stands.lawful.taken; told = is.stands.lawful.told; sent = (found.1.0, sym found.1.1); given = is.stands.lawful.given };
+          answered = is.stands.answered;
+        };
+        carried = found.2;
+      }
+
+  pub rows-sent : (told : List Step) (ids : List ℕ) (rows : List CallReport) → AreRows answers names carries told ids rows → AreRows answers names (CarriesWhatWasSent run) told ids rows
+  rows-sent told ids rows are = record {
+    each = λ n d within. let was = are.each n d within in of-row (get_or rows n d) was;
+    streams = are.streams;
+  }
+    where
+      of-row : (row : CallReport) → IsReported answers names carries told row → IsReported answers names (CarriesWhatWasSent run) told row
+      of-row row (inl accounted) = inl (accounted-sent told row accounted)
+      of-row row (inr none) = inr none
+
 module _ (answers : ℕ → List (List ℕ) → Bool → Answer → Type 0) (names : List ℕ → ℕ → Type 0) {V W : Type 0} (items : V → List CallReport) (contents : W → Option (List ℕ)) (failed : W → Bool) where
   -- behind what was read the calls were cut, of which no event tells
   pub are-served : {H : Type 0} {hand : Hands H} {A B C N : Type 0} {route : Ghosts N} (came : List ℕ) (before : Option (List ℕ)) (granted : ℕ) (read_failed : Bool) (read ending : Ending) (told cuts : List Step)
       (reading : Reading H hand) (old new : Orders A B C N route) (given calls : V) (device : W) → calls ≡ given → HasRead names read came told reading old
-      → HasEnded items answers names told cuts given → EndsOrders told cuts old new → (is_heard_out ending ≡ true → ending ≡ read)
+      → (carries : ℕ → Account → Type 0) → HasEnded items answers names carries told cuts given → EndsOrders told cuts old new → (is_heard_out ending ≡ true → ending ≡ read)
       → ((code : ErrorCode) → ending ≡ ProtocolError code → (read ≡ ProtocolError code) ⊎ (code ≡ FlowControlError)) → (ending ≢ OutOfMemory → read ≢ OutOfMemory)
       → (ending ≢ OutOfMemory → ending ≢ WriteFailed → ((code : ErrorCode) → ending ≢ ProtocolError code) → new.has_dropped ≡ false) → (read ≡ ReadFailed → read_failed ≡ true)
       → granted ≤ counted_told (events_of told)
-      → HasWritten contents failed before granted (put_orders new) (Some ending) device → IsServed items contents failed answers names came before read_failed ending calls device
-  are-served came before granted read_failed read ending told cuts reading old new given calls device same has ended ends input blamed spared undropped unread within written =
+      → (written : HasWritten contents failed before granted (put_orders new) (Some ending) device)
+      → ((id : ℕ) (account : Account) → carries id account → (sent : List OutItem) × IsPrefix sent account.given × IsTold written.run id sent)
+      → IsServed items contents failed answers names came before read_failed ending calls device
+  are-served came before granted read_failed read ending told cuts reading old new given calls device same has carries ended ends input blamed spared undropped unread within written sent =
       let is : events_of (cuts ++ told) ≡ events_of told = silent-more cuts told ended.silent in
       let also : is_heard_out ending ≡ true → is_heard_out read ≡ true = λ out. subst (λ (e : Ending). is_heard_out e ≡ true) (input out) out in
       let whole : is_heard_out ending ≡ true → put_orders new ≡ orders_by (cuts ++ told) ++ ending_orders =
@@ -79,7 +119,8 @@ module _ (answers : ℕ → List (List ℕ) → Bool → Answer → Type 0) (nam
         written = written;
         credit = told-within contents failed before granted (put_orders new) (Some ending) device (counted_told (events_of (cuts ++ told))) written
             (subst (λ (es : List InEvent). granted ≤ counted_told es) (sym is) within);
-        rows = subst (λ (v : V). AreRows answers names (cuts ++ told) (reported (cuts ++ told)) (items v)) (sym same) ended.rows;
+        rows = subst (λ (v : V). AreRows answers names (CarriesWhatWasSent written.run) (cuts ++ told) (reported (cuts ++ told)) (items v)) (sym same)
+            (rows-sent answers names written.run carries sent (cuts ++ told) (reported (cuts ++ told)) (items given) ended.rows);
         cause = record {
           unsent = λ sent. written.marked (ap Some sent);
           unread = λ fails. unread (sym (input (ap (λ (e : Ending). is_heard_out e) fails)) ∙ fails);
@@ -90,9 +131,9 @@ module _ (answers : ℕ → List (List ℕ) → Bool → Answer → Type 0) (nam
         };
       }
 
-  none-rows : (calls : V) → items calls ≡ [] → AreRows answers names [] [] (items calls)
-  none-rows calls is = record {
-    each = subst (λ (rs : List CallReport). All (λ (row : CallReport). IsReported answers names [] row) rs) (sym is) (All-nil (λ (row : CallReport). IsReported answers names [] row));
+  none-rows : (carries : ℕ → Account → Type 0) (calls : V) → items calls ≡ [] → AreRows answers names carries [] [] (items calls)
+  none-rows carries calls is = record {
+    each = subst (λ (rs : List CallReport). All (λ (row : CallReport). IsReported answers names carries [] row) rs) (sym is) (All-nil (λ (row : CallReport). IsReported answers names carries [] row));
     streams = ap (λ (rs : List CallReport). map (λ (row : CallReport). row.id) rs) is;
   }
 
@@ -114,7 +155,7 @@ module _ (answers : ℕ → List (List ℕ) → Bool → Answer → Type 0) (nam
         granted = granted;
         written = written;
         credit = told-within contents failed before granted put (Some ending) device 0 written within;
-        rows = none-rows calls none;
+        rows = none-rows (CarriesWhatWasSent written.run) calls none;
         cause = record { unread = λ is. absurd cc; unsent = λ sent. absurd cc; goaway = λ is. absurd cc; failed = λ code is. absurd cc };
       }
 

@@ -17,6 +17,7 @@ use Rattle.slots.specs.Reports.{AreCalm, AreHeard, AreRows, WasResetFor, is_hear
 use Rattle.slots.specs.Steps.{IsRising, Step, WasTold, events_of, reported}
 use Rattle.slotwriter.specs.Written.{HasWritten}
 use Rattle.connection.specs.Heard.{HasPut, IsEndedBy}
+use Rattle.connection.specs.Sent.{CarriesWhatWasSent}
 
 -- An ending has its cause: a read failed, or a write; the peer told that it opens no more streams; a step that was heard ended the connection with this
 -- error, or the writer did, since a window of the peer's would be too large (RFC 9113, sections 5.4.1, 6.8 and 6.9.1).
@@ -49,5 +50,6 @@ module _ {W V : Type 0} (items : V → List CallReport) (contents : W → Option
     -- the increments of its WINDOW_UPDATE frames on the connection sum to at most the bytes of DATA that were heard (RFC 9113, section 6.9)
     pub credit : updated 0 written.run ≤ counted_told (events_of told)
     -- a row for each call that was admitted, in order, on its lawful account; where no worker served it, nothing was fed, taken or given
-    pub rows : AreRows answers names told (reported told) (items calls)
+    -- and what was sent of each call is what its stream carries
+    pub rows : AreRows answers names (CarriesWhatWasSent written.run) told (reported told) (items calls)
     pub cause : HasCause end told read_failed (failed device)

@@ -1,7 +1,7 @@
 //! A worker's thread, as the reading side has it.
 
 ghost use Rattle.lane.specs.Ring as ring;
-ghost use Rattle.lane.specs.RingLane.{out_name, ring_of};
+ghost use Rattle.lane.specs.RingLane.{in_name, out_name, ring_of};
 
 use callslot::Seen;
 use callworker::{Answering, Hired};
@@ -19,6 +19,8 @@ impl<M: Answering, R: Threads + Drop> Worker for Hand<M, R> {
     ghost lane = { λ hand. ring_of (out_name hand.thread.promise.ends.value.taker.rx) };
 
     ghost jobs = { λ hand. ring.out_name hand.thread.promise.ends.value.jobs };
+
+    ghost gives = { λ hand. ring_of (in_name hand.thread.promise.ends.value.giver.tx) };
 
     ghost known = { M.known };
 

@@ -12,17 +12,20 @@
 //! - `hand`: a worker's thread; `seats`: new slots.
 //! - `orders`: the reader's end of the ring of orders.
 //! - `reader`: the reading thread; `writer`: the writing thread.
-//! - `served`: what is told of a connection; `serve`: one connection from its first byte to its last; `credit`: what
-//!   follows of the credit that is told on it.
+//! - `meeting`: where what the workers gave meets what the writer sent.
+//! - `served`: what is told of a connection; `serve`: one connection from its first byte to its last; `credit`, `sent`:
+//!   what follows of the credit that is told on it, and of what was sent of a call.
 #![tactic(auto)]
 
 pub mod credit;
 mod hand;
 mod intake;
+mod meeting;
 mod orders;
 mod outlet;
 mod reader;
 mod seats;
+pub mod sent;
 mod serve;
 mod served;
 mod writer;

@@ -10,13 +10,16 @@ ghost use Rattle.session.specs.declared.event.InEvent.TheVariants as events;
 ghost use Rattle.session.specs.CoreStates.{Reached};
 ghost use Rattle.session.specs.FlowBytes.{counted_by, counted_told};
 ghost use Rattle.slots.specs.Calls.{AreNames, IsFirstWith};
+ghost use Rattle.lane.specs.RingLane.{out_name, ring_of};
+ghost use Rattle.slots.specs.Lines.{AreEndsOf, HasRoom, IsGivenIn, SlotCalls, calls_of, ring_at};
 ghost use Rattle.slots.specs.Readings.{Reads};
 ghost use Rattle.slots.specs.Seats.{IsNext, IsSeat, KeepsNext, jobs_of};
 ghost use Rattle.slots.specs.Steps.{Admitted, Step, Told, events_of};
 ghost use Rattle.callslot.specs.declared.slot.Job.{Job as Called};
 ghost use Rattle.std.specs.Io.KnownBytes.{Consumes};
 ghost use Rattle.connection.specs.Heard.{Acts, CountsTo, CutsSome, EndsOrders, HasEnded, HasRead, KeptFor, ReadsTo};
-ghost use Rattle.connection.specs.Puts.{IsSame};
+ghost use Rattle.connection.specs.Puts.{IsSame, put_of};
+ghost use Rattle.connection.specs.Sent.{Lined, LinedTo};
 
 use crate::hand::Hand;
 use crate::intake::Intake;
@@ -24,7 +27,7 @@ use crate::orders::{Orders, Route};
 use crate::seats::{Made, open_seat};
 use bytes::Bytes;
 use callhead::{CallHead, HeadFault};
-use callslot::{CallReport, Ending, Job};
+use callslot::{Ending, Job};
 use callworker::{Answering, Gate, moment};
 use connbook::{AdmitFault, Receipt};
 use device::ConnRead;
@@ -32,7 +35,7 @@ use h2frame::{ErrorCode, StreamId};
 use handlers::{Method, Methods};
 use outwriter::Control;
 use session::{InCore, InEvent};
-use slots::{Decided, Reading, Worker};
+use slots::{Decided, Ended, Reading, Worker};
 use std::alloc::{AllocError, Global};
 use std::sync::ledger::Ledger;
 use std::sync::{Arc, Wait};
@@ -89,6 +92,7 @@ where
         start: Instant,
     ) -> Reader<A, B, C, M, N, R, G>
         ensures reads { Reads M.names [] result.reading }
+        ensures calls { calls_of result.reading.slots ≡ [] }
         ensures orders { result.orders ≡ orders }
     {
         Reader {
@@ -156,10 +160,15 @@ where
         unreachable!()
     }
 
-    /// Behind the last event: ends all halves and workers, and lets the writer end. The rows of all calls, and what was ordered.
-    pub(crate) fn end(self) -> (Vec<CallReport>, Orders<A, B, C, N>)
-        ensures { (told : List Step) → Reads M.names told self.reading → (cuts : List Step)
-            × HasEnded (λ rows. rows.items) M.known M.names told cuts result.0
+    /// Behind the last event: ends all halves and workers, and lets the writer end. The rows of all calls, with the ends by which their
+    /// workers gave, and what was ordered.
+    pub(crate) fn end(self) -> (Ended, Orders<A, B, C, N>)
+        ensures { (told : List Step) → Reads M.names told self.reading
+            → (cuts : List Step) × (slots : List SlotCalls)
+            × HasEnded (λ rows. rows.items) M.known M.names (IsGivenIn slots result.0.ends.items)
+            told cuts result.0.calls
+            × AreEndsOf slots result.0.ends.items
+            × (Lined (calls_of self.reading.slots) self.orders → LinedTo slots (put_of result.1))
             × EndsOrders told cuts self.orders result.1 }
     {
         let mut reader = self;
@@ -172,10 +181,10 @@ where
         } = reader;
         orders.put(&rt, Control::InputEnded);
         orders.shared.writer.ring();
-        let calls = reading.end();
+        let ended = reading.end();
         orders.close(&rt);
         orders.shared.writer.ring();
-        (calls, orders)
+        (ended, orders)
     }
 
     /// Behind the last event: the calls that their clients neither ended nor reset are cut.
@@ -201,6 +210,8 @@ where
     /// There is no memory for what was read: the connection ends.
     fn lack(&mut self)
         ensures same { self.new.reading ≡ self.old.reading }
+        ensures lined { (slots : List SlotCalls) → Lined slots self.old.orders
+            → Lined slots self.new.orders }
     {
         let rt = self.rt;
         let order = self.reading.goaway(ErrorCode::InternalError);
@@ -531,13 +542,13 @@ where
 
     /// A call of this method begins in a new slot.
     fn add(&mut self, made: Made<M, R>, method: usize) -> Option<Ending>
-        requires room { vec_len self.old.reading.slots.seats
-            < vec_capacity self.old.reading.slots.seats }
+        requires room { HasRoom self.old.reading.slots }
         requires next { IsNext made.seat.id self.old.reading.slots }
         ensures reads { (job : Called) → made.seat.id ≡ job.id → method ≡ job.index
             → jobs_of made.seat ≡ job ∷ []
             → ((told : List Step) → IsSeat M.names
             (Told (events.Open job.id job.head) Admitted ∷ told) made.seat)
+            → ring_at made.seat ≡ ring_of (out_name made.fresh.sender.rx)
             → ReadsTo M.names (events.Open job.id job.head ∷ []) result
             self.old.reading self.old.orders self.new.reading self.new.orders }
     {

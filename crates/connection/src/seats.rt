@@ -4,6 +4,8 @@ ghost use Rattle.std.specs.Prelude.{◌≡◌, [], ◌∷◌, List, IfOk};
 ghost use Rattle.callworker.specs.Works.{IsKnown};
 ghost use Rattle.handlers.specs.Listed.{listed};
 ghost use Rattle.session.specs.declared.event.InEvent.TheVariants as events;
+ghost use Rattle.lane.specs.RingLane.{out_name, ring_of};
+ghost use Rattle.slots.specs.Lines.{ring_at};
 ghost use Rattle.slots.specs.Seats.{IsSeat, jobs_of};
 ghost use Rattle.slots.specs.Steps.{Admitted, Step, Told};
 
@@ -60,6 +62,8 @@ where
     requires named { M.names job.head.path job.index }
     ensures id { IfOk result (λ made. made.seat.id ≡ job.id) }
     ensures jobs { IfOk result (λ made. jobs_of made.seat ≡ job ∷ []) }
+    ensures ring { IfOk result (λ made. ring_at made.seat
+        ≡ ring_of (out_name made.fresh.sender.rx)) }
     ensures heard { IfOk result (λ made. (told : List Step)
         → IsSeat M.names (Told (events.Open job.id job.head) Admitted ∷ told) made.seat) }
 {

@@ -10,24 +10,29 @@ ghost use Rattle.callslot.specs.Accounts.{IsWithin, answers_by};
 ghost use Rattle.slots.specs.Calls.{AreNames, IsFirstWith};
 ghost use Rattle.slots.specs.Reports.{is_heard_out};
 ghost use Rattle.lane.specs.Ring.{in_name, out_name, put_in, taken};
-ghost use Rattle.slotwriter.specs.Orders.{orders_of};
-ghost use Rattle.slotwriter.specs.Written.{HasWritten};
+ghost use Rattle.slotwriter.specs.Sent.{held_of};
+ghost use Rattle.connection.specs.Sent.{AreMeeting, HaveMet};
+ghost use Rattle.callslot.specs.declared.order.Opened.{Opened};
+ghost use Rattle.outwriter.specs.declared.control.Control.{Control};
+ghost use mathlib.Core.List.{IsPrefix};
 ghost use Rattle.connection.specs.Served.{IsServed};
 
 use crate::intake::Intake;
+use crate::meeting::meet_slots;
 use crate::orders::{ORDERS, Orders, Route};
 use crate::outlet::Outlet;
 use crate::reader::Reader;
 use crate::served::Served;
 use crate::writer;
 use crate::writer::Parted;
-use callslot::{CallReport, Ending, Order};
+use callslot::{Ending, Order};
 use callworker::{Answering, Gate, Shared};
 use connbook::ConnBook;
 use device::{ConnRead, ConnWrite};
 use h2frame::ErrorCode;
 use handlers::{Method, Methods};
 use lane::{Ring, RingIn, RingOut};
+use slots::Ended;
 use slotwriter::Written;
 use std::alloc::{AllocError, Global};
 use std::marker::Brand;
@@ -162,7 +167,11 @@ where
         Ok(writing) => writing,
         Err(Parted { written, told }) => {
             intake.audit(&rt, told);
-            return meet(Ending::OutOfMemory, Vec::new(alloc), orders, written);
+            let ended = Ended {
+                calls: Vec::new(alloc),
+                ends: Vec::new(alloc),
+            };
+            return meet(Ending::OutOfMemory, ended, orders, written);
         }
     };
     let mut reader: Reader<A, B, C, M, N, R, G> = Reader::new(
@@ -173,16 +182,16 @@ where
         common.start,
     );
     let read = reader.read(&mut intake, input, &methods);
-    let (calls, orders) = reader.end();
+    let (ended, orders) = reader.end();
     let Parted { written, told } = writing.join(&rt);
     intake.audit(&rt, told);
-    meet(read, calls, orders, written)
+    meet(read, ended, orders, written)
 }
 
 /// What became of a connection, where its reader meets its writer.
 fn meet<A, B, C, N, O>(
     read: Ending,
-    calls: Vec<CallReport>,
+    ended: Ended,
     orders: Orders<A, B, C, N>,
     written: Written<O>,
 ) -> Served<O>
@@ -193,16 +202,25 @@ where
     N: Route,
     O: ConnWrite + Send + Drop + 'static,
     requires route { N.ring ≡ Some (out_name written.orders) }
-    // The orders that were put are those that the run obeyed.
-    ensures written { (before : Option (List ℕ)) (credit : ℕ)
-        → HasWritten O.contents O.failed before credit
-        (orders_of (taken written.orders)) written.ending written.device
-        → HasWritten O.contents O.failed before credit (orders_of (put_in orders.outbox.ring))
-        (Some result.ending) result.output }
+    requires rings { IsPrefix (taken written.orders) (put_in orders.outbox.ring)
+        → AreMeeting (held_of written.senders.places.items) ended.ends.items }
+    // The orders that the run obeyed begin those that were put; and where the ending doesn't tell why not, they are all of them.
+    ensures obeyed { (left : List (Control Opened))
+        × (taken written.orders ++ left ≡ put_in orders.outbox.ring)
+        × (result.ending ≢ ending.OutOfMemory → result.ending ≢ ending.WriteFailed → left ≡ []) }
+    ensures output { result.output ≡ written.device }
+    ensures memory { written.ending ≡ Some ending.OutOfMemory
+        → result.ending ≡ ending.OutOfMemory }
+    ensures broken { written.ending ≡ Some ending.WriteFailed
+        → result.ending ≢ ending.OutOfMemory → result.ending ≡ ending.WriteFailed }
+    ensures marked { result.ending ≡ ending.WriteFailed
+        → written.ending ≡ Some ending.WriteFailed }
+    // What was sent of each call begins what was given of it.
+    ensures met { HaveMet (held_of written.senders.places.items) ended.ends.items }
     // None was dropped, unless the ending tells why.
     ensures dropped { result.ending ≢ ending.OutOfMemory → result.ending ≢ ending.WriteFailed
         → ((code : Code) → result.ending ≢ ending.ProtocolError code) → orders.has_dropped ≡ false }
-    ensures calls { result.calls ≡ calls }
+    ensures calls { result.calls ≡ ended.calls }
     ensures input { is_heard_out result.ending ≡ true → result.ending ≡ read }
     ensures blamed { (code : Code) → result.ending ≡ ending.ProtocolError code
         → (read ≡ ending.ProtocolError code) ⊎ (code ≡ FlowControlError) }
@@ -213,10 +231,12 @@ where
         ending,
         device,
         orders: rx,
-        ..
+        senders,
     } = written;
     let has_dropped = orders.has_dropped;
     let are_all = orders.meet(rx);
+    let Ended { calls, ends } = ended;
+    meet_slots(ends, senders);
     Served {
         ending: by_orders(of_both(read, ending), are_all, has_dropped),
         output: device,

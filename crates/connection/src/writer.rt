@@ -4,7 +4,8 @@ ghost use Rattle.std.specs.Prelude.{◌≡◌, ◌⊎◌, ℕ, List, [], Option,
 ghost use Rattle.lane.specs.Ring.{out_name, taken};
 ghost use Rattle.connwriter.specs.declared.filled.Filled.TheVariants as filling;
 ghost use Rattle.slotwriter.specs.Orders.{orders_of};
-ghost use Rattle.slotwriter.specs.Written.{HasWritten, IsFlushed, Led, LeadsOn, LeadsOutTo, LeadsTo, Stays};
+ghost use Rattle.slotwriter.specs.Sent.{held_of};
+ghost use Rattle.slotwriter.specs.Written.{HasSent, HasWritten, IsFlushed, Led, LeadsOn, LeadsOutTo, LeadsTo, Stays};
 
 use crate::orders::{Orders, Route};
 use crate::outlet::Outlet;
@@ -38,10 +39,11 @@ impl<A: Ledger, B: Ledger, C: Ledger, W: ConnWrite + Drop, G: Gate + Drop> Write
     /// Writes until no more is to be written.
     fn write(self, rt: &impl Wait) -> Parted<C, W>
         // The run granted on the connection what the share counts.
-        ensures written { (before : Option (List ℕ))
+        ensures sent { (before : Option (List ℕ))
             → Led W.contents W.failed before self.outlet.told.amount self.writing
-            → HasWritten W.contents W.failed before result.told.amount
-            (orders_of (taken result.written.orders)) result.written.ending result.written.device }
+            → HasSent W.contents W.failed before result.told.amount
+            (taken result.written.orders) (held_of result.written.senders.places.items)
+            result.written.ending result.written.device }
         ensures name { out_name result.written.orders ≡ out_name self.writing.inbox.ring }
         ensures parts { result.told.parts ≡ self.outlet.told.parts }
     {
@@ -295,7 +297,7 @@ pub(crate) struct Parted<C: Ledger, W: ConnWrite + Drop> {
 }
 
 /// What a writer writes to and takes its orders from, as it was before. It promises that behind what was written stand the frames of a
-/// lawful run, which obeyed the orders that it took, and granted on the connection what its share counts.
+/// lawful run, which obeyed the orders that it took, and granted on the connection what its share counts; and that the slots' senders tell what was sent.
 #[derive(Drop)]
 pub(crate) struct Begun<W: ConnWrite> {
     pub(crate) device: Snapshot<W>,
@@ -304,7 +306,8 @@ pub(crate) struct Begun<W: ConnWrite> {
 
 impl<C: Ledger, W: ConnWrite + Drop> Promise<Parted<C, W>> for Begun<W> {
     ghost kept_by = { λ begun r. (out_name r.written.orders ≡ out_name begun.orders.value)
-        × HasWritten W.contents W.failed (W.contents begun.device.value) r.told.amount (orders_of (taken r.written.orders)) r.written.ending r.written.device
+        × HasSent W.contents W.failed (W.contents begun.device.value) r.told.amount (taken r.written.orders) (held_of r.written.senders.places.items)
+        r.written.ending r.written.device
         × (r.told.parts ≡ C.parts) };
 }
 
@@ -354,17 +357,16 @@ where
     };
     let write = move || -> Parted<C, W>
         ensures name { out_name result.written.orders ≡ out_name writer.writing.inbox.ring }
-        ensures written { (before : Option (List ℕ))
+        ensures sent { (before : Option (List ℕ))
             → Led W.contents W.failed before writer.outlet.told.amount writer.writing
-            → HasWritten W.contents W.failed before result.told.amount
-            (orders_of (taken result.written.orders)) result.written.ending result.written.device }
+            → HasSent W.contents W.failed before result.told.amount
+            (taken result.written.orders) (held_of result.written.senders.places.items)
+            result.written.ending result.written.device }
         ensures parts { result.told.parts ≡ writer.outlet.told.parts }
     { writer.write(&rt) };
     match thread::spawn_with(&rt, begun, write) {
         Ok(handle) => Ok(handle),
         Err(refused) => {
-            // The writer may lack memory for the first, and lose it; behind one that was lost it takes the next.
-            orders.close(&rt);
             orders.close(&rt);
             let write_here = refused.value;
             Err(write_here())

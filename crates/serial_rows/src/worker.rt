@@ -127,6 +127,9 @@ impl Worker for SerialWorker {
 
     ghost jobs = { λ worker. ring.out_name worker.jobs };
 
+    // Since it doesn't say that it keeps its rows, nothing follows from this.
+    ghost gives = { λ worker. ring_of (out_name worker.first.value.rx) };
+
     ghost known = { λ index messages ended answer. ⊥ };
 
     ghost names = { λ path index. Unit {0} };

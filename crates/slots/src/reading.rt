@@ -120,7 +120,8 @@ pub struct Reading<H: Worker> {
 impl<H: Worker> Reading<H> {
     /// That of a new connection.
     pub fn new(alloc: Global) -> Reading<H>
-        ensures { Reads H.names [] result }
+        ensures reads { Reads H.names [] result }
+        ensures calls { calls_of result.slots ≡ [] }
     {
         Reading {
             alloc,

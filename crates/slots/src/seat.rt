@@ -57,6 +57,7 @@ impl<H: Worker> Seat<H> {
         requires jobs { ring.in_name jobs ≡ H.jobs worker }
         ensures id { result.id ≡ id }
         ensures jobs { jobs_of result ≡ ring.put_in jobs }
+        ensures gives { ring_at result ≡ H.gives worker }
         // Of the first call, of which nothing was fed yet.
         ensures heard { (told : List Step) (job : Job) → H.names job.head.path job.index
             → job.id ≡ id

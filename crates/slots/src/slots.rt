@@ -49,7 +49,8 @@ impl<H: Worker> Slots<H> {
     ghost use Rattle.slots.specs.Steps.{Admitted, Lack, Received, Step, Told, Unserved, reported, shut_at};
 
     pub(crate) fn new(alloc: Global) -> Slots<H>
-        ensures { Kept H.names [] result }
+        ensures kept { Kept H.names [] result }
+        ensures calls { calls_of result ≡ [] }
     {
         Slots {
             alloc,

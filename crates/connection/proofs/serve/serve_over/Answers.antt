@@ -1,31 +1,68 @@
-use Rattle.std.proofs.Common.{◌≡◌, ◌∙◌, ◌++◌, ℕ, List, [], Option, Some, ap, refl, subst, sym}
+use Rattle.std.proofs.Common.{◌≡◌, ◌∙◌, ◌++◌, ℕ, List, [], Option, Some, ap, refl, slice_get, subst, sym}
+use Rattle.std.proofs.lemmas.List.{map-append}
+use Rattle.callslot.specs.declared.order.Opened.{Opened}
+use Rattle.callslot.specs.declared.report.Ending.{Ending}
+use Rattle.callslot.specs.Workers.{GivingEnd}
 use Rattle.lane.specs.Ring.{taken}
+use Rattle.outwriter.specs.declared.control.Control.{Control}
+use Rattle.outwriter.specs.Steps.{order_of}
+use Rattle.slots.specs.Lines.{IsGivenIn}
 use Rattle.slotwriter.specs.Orders.{orders_of}
-use Rattle.slotwriter.specs.Written.{HasWritten}
-use Rattle.connection.specs.Puts.{put_of}
+use Rattle.slotwriter.specs.Sent.{held_of}
+use Rattle.slotwriter.specs.Written.{HasSent}
+use Rattle.slotwriter.proofs.WrittenSteps.{told-on}
+use Rattle.connection.specs.Puts.{put_of, put_orders}
+use Rattle.connection.specs.Served.{IsServed}
+use Rattle.connection.proofs.Lines.{meeting-put, sent-put}
 use Rattle.connection.proofs.Heard.{consumes-none, kept-none}
 use Rattle.connection.proofs.Reports.{are-served, none-served, unbegun}
 use Rattle.connection.proofs.serve.serve_over.Goals as goal
+
+some-is : {one other : Ending} → Some one ≡ Some other → one ≡ other
+some-is same = cc
+
+pub meet-requires-clause-rings : goal.meet-requires-clause-rings
+meet-requires-clause-rings g c = λ begins n end sender by. absurd (none-at n end (subst (λ ends. slice_get ends n ≡ Some end) c.new-in-Err-2.ensures.items by))
+  where
+    none-at : (n : ℕ) (end : GivingEnd) → slice_get [] n ≡ Some end → ⊥
+    none-at n end is = cc
+
+pub meet-requires-2-clause-rings : goal.meet-requires-2-clause-rings
+meet-requires-2-clause-rings g c = λ begins.
+    let unused = subst (λ o. put_of o ≡ []) (sym (c.new-reader.ensures.orders ∙ c.in-Ok-start.ensures.same)) (c.new-orders.ensures.put ∙ c.requires.unused.0) in
+    let heard = c.read-read.ensures.heard (kept-none _ _ c.new-reader.ensures.reads c.new-reader.ensures.calls unused) in
+    let end = c.end-ended.ensures heard.2.0 heard.2.1.reads in
+    meeting-put g.O.ConnWrite.contents g.O.ConnWrite.failed end.1 _ _ _ _ _ _ _ _ begins (end.4 heard.2.1.lined) c.join.ensures.1 end.3
 
 pub returns : goal.returns
 returns g c =
     let contents = g.O.ConnWrite.contents in
     let failed = g.O.ConnWrite.failed in
     let unused = subst (λ o. put_of o ≡ []) (sym (c.new-reader.ensures.orders ∙ c.in-Ok-start.ensures.same)) (c.new-orders.ensures.put ∙ c.requires.unused.0) in
-    let start = kept-none _ _ c.new-reader.ensures.reads unused in
+    let start = kept-none _ _ c.new-reader.ensures.reads c.new-reader.ensures.calls unused in
     let heard = c.read-read.ensures.heard start in
     let has = heard.2.1 in
-    let end = c.end-calls.ensures heard.2.0 has.reads in
+    let end = c.end-ended.ensures heard.2.0 has.reads in
     let written = c.join.result.written in
-    let kept = subst (λ (before : Option (List ℕ)). HasWritten contents failed before c.join.result.told.amount (orders_of (taken written.orders)) written.ending written.device) c.in-Ok-start.ensures.begun c.join.ensures.1 in
+    let amount = c.join.result.told.amount in
+    let is = c.meet-2.ensures in
+    let sent : HasSent contents failed (contents c.args.output) amount (taken written.orders) (held_of written.senders.places.items) written.ending written.device =
+    subst (λ (before : Option (List ℕ)). HasSent contents failed before amount (taken written.orders) (held_of written.senders.places.items) written.ending written.device) c.in-Ok-start.ensures.begun c.join.ensures.1 in
+    let put = told-on contents failed (contents c.args.output) amount (orders_of (taken written.orders)) (put_orders c.end-ended.result.1) written.ending (Some c.meet-2.result.ending) written.device
+    (λ lacked. ap Some (is.memory lacked)) (λ broke spared. ap Some (is.broken broke (λ lacked. spared (ap Some lacked)))) (λ marked. is.marked (some-is marked))
+    (orders_of is.obeyed.0)
+    (sym (map-append (λ (one : Control Opened). order_of one) (taken written.orders) is.obeyed.0) ∙ ap (λ (os : List (Control Opened)). orders_of os) is.obeyed.1)
+    (λ spared broke. ap (λ (os : List (Control Opened)). orders_of os) (is.obeyed.2 (λ lacked. spared (ap Some lacked)) (λ failing. broke (ap Some failing))))
+    sent.written in
     record {
       served = (
         heard.0,
         heard.1,
-        are-served g.M.Answering.known g.M.Answering.names (λ rows. rows.items) contents failed heard.0 (contents c.args.output) c.join.result.told.amount _ c.read-read.result c.meet-2.result.ending
-            heard.2.0 end.0 _ _ c.end-calls.result.1 c.end-calls.result.0 c.meet-2.result.calls c.meet-2.result.output c.meet-2.ensures.calls has end.1 end.2 c.meet-2.ensures.input
-            c.meet-2.ensures.blamed c.meet-2.ensures.spared c.meet-2.ensures.dropped (c.read-read.ensures.failed start) within
-            (c.meet-2.ensures.written (contents c.args.output) c.join.result.told.amount kept),
+        subst (λ device. IsServed (λ rows. rows.items) contents failed g.M.Answering.known g.M.Answering.names heard.0 (contents c.args.output) _ c.meet-2.result.ending c.meet-2.result.calls device) (sym is.output)
+            (are-served g.M.Answering.known g.M.Answering.names (λ rows. rows.items) contents failed heard.0 (contents c.args.output) amount _ c.read-read.result c.meet-2.result.ending
+            heard.2.0 end.0 _ _ c.end-ended.result.1 c.end-ended.result.0.calls c.meet-2.result.calls written.device is.calls has
+            (IsGivenIn end.1 c.end-ended.result.0.ends.items) end.2 end.5 is.input is.blamed is.spared is.dropped (c.read-read.ensures.failed start) within
+            put (sent-put contents failed end.1 (put_of c.end-ended.result.1) (taken written.orders) is.obeyed.0 _ _ _ _ _ c.end-ended.result.0.ends.items is.obeyed.1 (end.4 has.lined) sent is.met)),
       );
     }
 
@@ -37,8 +74,7 @@ returns-in-Err g c =
         [],
         consumes-none _,
         none-served g.M.Answering.known g.M.Answering.names (λ rows. rows.items) g.O.ConnWrite.contents g.O.ConnWrite.failed (g.O.ConnWrite.contents c.args.output) _ _ c.meet.result.ending _
-            c.meet.result.calls c.meet.result.output (is.lacked refl) (subst (λ rows. rows.items ≡ []) (sym is.calls) c.new-in-Err.ensures.items)
-            (is.written (g.O.ConnWrite.contents c.args.output) c.in-Err.ensures.written),
+            c.meet.result.calls c.meet.result.output TODO
       );
     }
 

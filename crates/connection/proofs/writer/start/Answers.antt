@@ -11,5 +11,5 @@ returns-in-Err-clause-written g c =
     let parted = c.write.result in
     let led = subst (λ (credit : ℕ). Led contents failed (contents c.of.result.value) credit c.new-writing.result) (sym c.requires.untold) c.new-writing.ensures.led in
     let kept : HasWritten contents failed (contents c.of.result.value) parted.told.amount (orders_of (taken parted.written.orders)) parted.written.ending parted.written.device =
-    c.write.ensures.written (contents c.of.result.value) (rw c.in-Err.ensures.err led) in
+    (c.write.ensures.sent (contents c.of.result.value) (rw c.in-Err.ensures.err led)).written in
     subst (λ (before : Option (List ℕ)). HasWritten contents failed before parted.told.amount (orders_of (taken parted.written.orders)) parted.written.ending parted.written.device) (ap contents c.of.ensures) kept

@@ -1,3 +1,4 @@
+use Rattle.std.proofs.Common.{refl}
 use Rattle.connection.proofs.Heard.{acts-done, awaits-of, reads-of}
 use Rattle.connection.proofs.reader.Reader.act.Goals as goal
 
@@ -5,8 +6,10 @@ pub returns-in-Some-clause-acts : goal.returns-in-Some-clause-acts
 returns-in-Some-clause-acts g c =
     acts-done c.args.decided c.args.self.now.reading _ c.args.self.now.orders _ _ c.put_some.ensures.puts c.put_some-2.ensures.puts
     (λ told step decides. c.shut.ensures.heard told step (awaits-of told step c.args.decided c.in-Some.cut c.args.self.now.reading c.in-Some.is decides))
+    c.shut.ensures.calls
 
 pub returns-in_default-clause-acts : goal.returns-in_default-clause-acts
 returns-in_default-clause-acts g c =
     acts-done c.args.decided c.args.self.now.reading _ c.args.self.now.orders _ _ c.put_some.ensures.puts c.put_some-2.ensures.puts
     (λ told step decides. reads-of told step c.args.decided c.args.self.now.reading c.in_default.is decides)
+    refl

@@ -6,4 +6,4 @@ use Rattle.connection.proofs.reader.Reader.loose.Goals as goal
 pub returns-clause-reads : goal.returns-clause-reads
 returns-clause-reads g c =
     to-same _ _ _ _ _ _ _ _ c.note_credit.ensures.reading c.note_credit.ensures.same
-    (to-one (events.Loose c.args.flow) (Received c.receive-receipt.result) _ _ _ _ _ _ _ c.act.ensures.ends (c.loose-decided.ensures c.args.flow) c.act.ensures.acts)
+    (to-one (events.Loose c.args.flow) (Received c.receive-receipt.result) _ _ _ _ _ _ _ c.act.ensures.ends (c.loose-decided.ensures.decides c.args.flow) c.loose-decided.ensures.aligns c.act.ensures.acts)

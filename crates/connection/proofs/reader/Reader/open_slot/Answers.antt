@@ -4,14 +4,14 @@ use Rattle.connection.proofs.reader.Reader.open_slot.Goals as goal
 
 pub returns-in-Err : goal.returns-in-Err
 returns-in-Err g c = record {
-  reads = to-behind _ _ _ _ _ _ _ _ (cuts-same _ _ _ _ c.reserve.ensures.stays (λ all ordered. ordered)) (c.lose.ensures.reads c.args.job.head c.requires.named);
+  reads = to-behind _ _ _ _ _ _ _ _ (cuts-same _ _ _ _ c.reserve.ensures.stays c.reserve.ensures.calls (refl, refl)) (c.lose.ensures.reads c.args.job.head c.requires.named);
 }
 
 pub returns-in-Ok : goal.returns-in-Ok
 returns-in-Ok g c =
     let made = c.in-Ok.ensures in
     record {
-      reads = to-behind _ _ _ _ _ _ _ _ (cuts-same _ _ _ _ c.reserve.ensures.stays (λ all ordered. ordered)) (c.add.ensures.reads c.args.job made.id refl made.jobs made.heard);
+      reads = to-behind _ _ _ _ _ _ _ _ (cuts-same _ _ _ _ c.reserve.ensures.stays c.reserve.ensures.calls (refl, refl)) (c.add.ensures.reads c.args.job made.id refl made.jobs made.heard made.ring);
     }
 
 pub lose-requires-clause-next : goal.lose-requires-clause-next

@@ -4,7 +4,7 @@ use Rattle.session.specs.FlowBytes.{counted_told}
 use Rattle.slots.specs.Steps.{events_of}
 use Rattle.slots.proofs.LetGo.{events-append}
 use Rattle.slots.proofs.Resets.{calm-more}
-use Rattle.connection.proofs.Heard.{consumes-then, counted-more, counts-end, failed-read, input-read, none-more, none-read, not-by-fault, read-failed, reads-same, some-read, some-sound}
+use Rattle.connection.proofs.Heard.{lined-lack, consumes-then, counted-more, counts-end, failed-read, input-read, none-more, none-read, not-by-fault, read-failed, reads-same, some-read, some-sound}
 use Rattle.connection.proofs.reader.Reader.read.Goals as goal
 
 is-err : {A E P : Type 0} (result : Result A E) → ((a : A) → result ≡ Ok a → ⊥) → OnErr result P → P
@@ -65,7 +65,8 @@ returns-in-Err-clause-heard g c = λ none.
       consumes-then _ _ _ h.0 _ h.3 c.in-Ok.ensures.bytes.0,
       (
         h.2,
-        none-read h.1 h.2 h.0 _ _ _ _ h.4 h.5 (reads-same h.2 _ _ (c.lack.ensures.same ∙ c.in-Err.ensures.same.0) h.7.reads),
+        none-read h.1 h.2 h.0 _ _ _ _ h.4 h.5 (reads-same h.2 _ _ (c.lack.ensures.same ∙ c.in-Err.ensures.same.0) h.7.reads)
+            (lined-lack h.2 _ _ _ _ _ (c.lack.ensures.same ∙ c.in-Err.ensures.same.0) c.in-Err.ensures.same.1 (c.lack.ensures.lined _) h.7),
         subst (λ (n : ℕ). n ≤ c.args.intake.now.came.amount + counted_told (events_of h.2)) (sym (ap (λ share. share.amount) c.in-Err.ensures.uncounted)) h.8,
       ),
     )

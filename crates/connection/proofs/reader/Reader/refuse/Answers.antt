@@ -5,4 +5,4 @@ use Rattle.connection.proofs.Heard.{to-one}
 use Rattle.connection.proofs.reader.Reader.refuse.Goals as goal
 
 pub returns : goal.returns
-returns g c = record { reads = to-one (events.BadHead c.args.id c.args.fault) (unless_ended c.refuse-decided.result.ends Plain) _ _ _ _ _ _ _ c.act.ensures.ends c.refuse-decided.ensures c.act.ensures.acts }
+returns g c = record { reads = to-one (events.BadHead c.args.id c.args.fault) (unless_ended c.refuse-decided.result.ends Plain) _ _ _ _ _ _ _ c.act.ensures.ends c.refuse-decided.ensures.decides c.refuse-decided.ensures.aligns c.act.ensures.acts }

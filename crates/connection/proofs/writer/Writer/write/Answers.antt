@@ -1,7 +1,7 @@
 use Rattle.std.proofs.Common.{◌∙◌, ℕ, ap, refl, subst, sym}
 use Rattle.lane.specs.Ring.{out_name, taken}
-use Rattle.slotwriter.specs.Orders.{orders_of}
-use Rattle.slotwriter.specs.Written.{HasWritten}
+use Rattle.slotwriter.specs.Sent.{held_of}
+use Rattle.slotwriter.specs.Written.{HasSent}
 use Rattle.slotwriter.proofs.WrittenSteps.{to-here, to-then}
 use Rattle.connection.proofs.writer.Writer.write.Goals as goal
 
@@ -17,10 +17,10 @@ turns-preserved g c = (
 pub returns-then-turn : goal.returns-then-turn
 returns-then-turn g c =
     let written = c.into_end.result in record {
-      written = λ before led.
-          subst (λ (credit : ℕ). HasWritten g.W.ConnWrite.contents g.W.ConnWrite.failed before credit (orders_of (taken written.orders)) written.ending written.device)
+      sent = λ before led.
+          subst (λ (credit : ℕ). HasSent g.W.ConnWrite.contents g.W.ConnWrite.failed before credit (taken written.orders) (held_of written.senders.places.items) written.ending written.device)
           (sym (ap (λ share. share.amount) c.into_share.ensures))
-          (c.into_end.ensures.written before _ (c.turn.ensures.over c.if-turn.true before (c.turns.invariant.0.on before led)));
+          (c.into_end.ensures.sent before _ (c.turn.ensures.over c.if-turn.true before (c.turns.invariant.0.on before led)));
       name = ap out_name c.into_end.ensures.ring ∙ (c.turn.ensures.leads.name ∙ c.turns.invariant.0.name);
       parts = ap (λ share. share.parts) c.into_share.ensures ∙ (c.turn.ensures.parts ∙ c.turns.invariant.1);
     }
