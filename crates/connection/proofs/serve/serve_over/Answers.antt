@@ -16,16 +16,16 @@ returns g c =
     let heard = c.read-read.ensures.heard start in
     let has = heard.2.1 in
     let end = c.end-calls.ensures heard.2.0 has.reads in
-    let written = c.join.result in
-    let kept = subst (λ (before : Option (List ℕ)). HasWritten contents failed before (orders_of (taken written.orders)) written.ending written.device) c.in-Ok-start.ensures.begun c.join.ensures.1 in
+    let written = c.join.result.written in
+    let kept = subst (λ (before : Option (List ℕ)). HasWritten contents failed before c.join.result.told.amount (orders_of (taken written.orders)) written.ending written.device) c.in-Ok-start.ensures.begun c.join.ensures.1 in
     record {
       served = (
         heard.0,
         heard.1,
-        are-served g.M.Answering.known g.M.Answering.names (λ rows. rows.items) contents failed heard.0 (contents c.args.output) _ c.read-read.result c.meet-2.result.ending
+        are-served g.M.Answering.known g.M.Answering.names (λ rows. rows.items) contents failed heard.0 (contents c.args.output) c.join.result.told.amount _ c.read-read.result c.meet-2.result.ending
             heard.2.0 end.0 _ _ c.end-calls.result.1 c.end-calls.result.0 c.meet-2.result.calls c.meet-2.result.output c.meet-2.ensures.calls has end.1 end.2 c.meet-2.ensures.input
-            c.meet-2.ensures.blamed c.meet-2.ensures.spared c.meet-2.ensures.dropped (c.read-read.ensures.failed start)
-            (c.meet-2.ensures.written (contents c.args.output) kept),
+            c.meet-2.ensures.blamed c.meet-2.ensures.spared c.meet-2.ensures.dropped (c.read-read.ensures.failed start) within
+            (c.meet-2.ensures.written (contents c.args.output) c.join.result.told.amount kept),
       );
     }
 
@@ -36,7 +36,7 @@ returns-in-Err g c =
       served = (
         [],
         consumes-none _,
-        none-served g.M.Answering.known g.M.Answering.names (λ rows. rows.items) g.O.ConnWrite.contents g.O.ConnWrite.failed (g.O.ConnWrite.contents c.args.output) _ c.meet.result.ending _
+        none-served g.M.Answering.known g.M.Answering.names (λ rows. rows.items) g.O.ConnWrite.contents g.O.ConnWrite.failed (g.O.ConnWrite.contents c.args.output) _ _ c.meet.result.ending _
             c.meet.result.calls c.meet.result.output (is.lacked refl) (subst (λ rows. rows.items ≡ []) (sym is.calls) c.new-in-Err.ensures.items)
             (is.written (g.O.ConnWrite.contents c.args.output) c.in-Err.ensures.written),
       );
