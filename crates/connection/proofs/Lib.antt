@@ -1,2 +1,5 @@
 pub mod Heard
 pub mod Reports
+pub mod RunOrders
+pub mod Causes
+pub mod News

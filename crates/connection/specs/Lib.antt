@@ -1,3 +1,5 @@
 pub mod Puts
 pub mod Heard
 pub mod Served
+pub mod Causes
+pub mod News

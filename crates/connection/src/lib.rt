@@ -12,11 +12,12 @@
 //! - `hand`: a worker's thread; `seats`: new slots.
 //! - `orders`: the reader's end of the ring of orders.
 //! - `reader`: the reading thread; `writer`: the writing thread.
-//! - `served`: what is told of a connection; `serve`: one connection from its first byte to its last.
+//! - `served`: what is told of a connection; `serve`: one connection from its first byte to its last; `laws`: what follows from that.
 #![tactic(auto)]
 
 mod hand;
 mod intake;
+pub mod laws;
 mod orders;
 mod outlet;
 mod reader;
