@@ -4,3 +4,6 @@ pub mod Reports
 pub mod Lines
 pub mod MeetSteps
 pub mod Whole
+pub mod RunOrders
+pub mod Causes
+pub mod News

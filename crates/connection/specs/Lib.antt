@@ -2,3 +2,5 @@ pub mod Puts
 pub mod Heard
 pub mod Served
 pub mod Sent
+pub mod Causes
+pub mod News

@@ -13,13 +13,14 @@
 //! - `orders`: the reader's end of the ring of orders.
 //! - `reader`: the reading thread; `writer`: the writing thread.
 //! - `meeting`: where what the workers gave meets what the writer sent.
-//! - `served`: what is told of a connection; `serve`: one connection from its first byte to its last; `credit`, `sent`:
-//!   what follows of the credit that is told on it, and of what was sent of a call.
+//! - `served`: what is told of a connection; `serve`: one connection from its first byte to its last.
+//! - `laws`, `credit`, `sent`: what follows from that.
 #![tactic(auto)]
 
 pub mod credit;
 mod hand;
 mod intake;
+pub mod laws;
 mod meeting;
 mod orders;
 mod outlet;

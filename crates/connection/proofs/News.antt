@@ -1,0 +1,278 @@
+-- What the peer tells the side that writes goes on to it in its order, and is acknowledged so.
+use Rattle.std.proofs.Common.{◌≡◌, ◌∙◌, ◌⊎◌, inl, inr, ℕ, Bool, true, false, List, [], ◌∷◌, ◌++◌, Option, None, Some, ap, append-nil, filter, flat_map, refl, subst, sym}
+use Rattle.std.specs.Prelude.{◌==◌, if◌then◌else◌, length}
+use Rattle.std.specs.List.{list_any}
+use Rattle.std.proofs.lemmas.List.{append_assoc}
+use Rattle.std.proofs.lemmas.List.Elements.{filter-append}
+use Rattle.std.proofs.lemmas.Grind.{flat_map-append}
+use mathlib.Core.List.{IsPrefix}
+use Rattle.account.specs.Accounts.{Begins}
+use Rattle.callhead.specs.StatusFields.{refusal_of}
+use Rattle.callhead.specs.declared.fault.HeadFault.{HeadFault}
+use Rattle.connbook.specs.declared.answers.AdmitFault.TheVariants as refused
+use Rattle.connbook.specs.declared.answers.Receipt.TheVariants.{Feed, Discard, CallWindow, Overrun}
+use Rattle.connwriter.specs.Orders.{own_order}
+use Rattle.h2frame.specs.declared.error_code.ErrorCode.{ErrorCode}
+use Rattle.h2frame.specs.declared.error_code.ErrorCode.TheVariants as error
+use Rattle.h2frame.specs.declared.frame.Frame.{Frame}
+use Rattle.lists.specs.declared.field.Field.{Field}
+use Rattle.outwriter.specs.declared.control.Control.TheVariants.{Settings, Ping, Window, Open, Refuse, Reset, Goaway, InputEnded, Close}
+use Rattle.outwriter.specs.Frames.{is_last}
+use Rattle.outwriter.specs.RunState.{IsAnswered}
+use Rattle.outwriter.specs.Runs.{IsLawful, due, due_by, has_begun, is_goaway, told_by, without_goaway}
+use Rattle.outwriter.specs.Runs.{told as duties_told}
+use Rattle.outwriter.specs.Steps.{Order, Taken, Granted, Written, Returned, frames_of}
+use Rattle.outwriter.specs.Steps.{Step as RunStep}
+use Rattle.session.specs.declared.event.Control.{Control}
+use Rattle.session.specs.declared.event.Control.TheVariants as controls
+use Rattle.session.specs.declared.event.InEvent.{InEvent}
+use Rattle.session.specs.declared.event.InEvent.TheVariants as events
+use Rattle.slots.specs.Orders.{begun, came, came_loose, cut_code, greatest, is_fed, last_stream, news_of, opened, orders_at, orders_by, refused_head, untaken, without_head}
+use Rattle.slots.specs.Steps.{Fate, Plain, Admitted, Unserved, NoWorker, Stopped, Unknown, TurnedAway, Received, Missed, Lacking, Step, Told, CutOff, events_of}
+use Rattle.slotwriter.specs.Orders.{AreLast, HasParted, HasTaken, IsAmong, IsAnswer, Obeys, ResetsCall}
+use Rattle.connection.specs.Heard.{HasPut}
+use Rattle.connection.specs.News.{answer_to, answers_to, is_news, news_at, news_in, news_told, taken_by}
+
+news-append : (first more : List Order) → news_in (first ++ more) ≡ news_in first ++ news_in more
+news-append first more = filter-append is_news first more
+
+-- ---- the order of a step
+
+last-news : (id : ℕ) (before : List ℕ) → news_in (last_stream id before) ≡ []
+last-news id before = by (length before == 4095)
+  where
+    by : (b : Bool) → news_in (if b then Goaway id error.NoError ∷ [] else []) ≡ []
+    by true = refl
+    by false = refl
+
+opened-news : (last id : ℕ) (fate : Fate) → news_in (opened last id fate) ≡ []
+opened-news last id (TurnedAway refused.TooMany) = refl
+opened-news last id (TurnedAway refused.Draining) = refl
+opened-news last id (TurnedAway refused.NotNew) = refl
+opened-news last id (TurnedAway refused.OutOfMemory) = refl
+opened-news last id Admitted = refl
+opened-news last id Unknown = refl
+opened-news last id Lacking = refl
+opened-news last id (Unserved NoWorker) = refl
+opened-news last id (Unserved Stopped) = refl
+opened-news last id Plain = refl
+opened-news last id (Received receipt) = refl
+opened-news last id Missed = refl
+
+without-news : (id : ℕ) (found : Option (List Field)) → news_in (without_head id found ∷ []) ≡ []
+without-news id None = refl
+without-news id (Some fields) = refl
+
+refused-news : (last id : ℕ) (fault : HeadFault) (fate : Fate) → news_in (refused_head last id fault fate) ≡ []
+refused-news last id fault Lacking = refl
+refused-news last id fault Plain = without-news id (refusal_of fault)
+refused-news last id fault Admitted = without-news id (refusal_of fault)
+refused-news last id fault (Unserved why) = without-news id (refusal_of fault)
+refused-news last id fault Unknown = without-news id (refusal_of fault)
+refused-news last id fault (TurnedAway why) = without-news id (refusal_of fault)
+refused-news last id fault (Received receipt) = without-news id (refusal_of fault)
+refused-news last id fault Missed = without-news id (refusal_of fault)
+
+untaken-news : (id : ℕ) (piece : List ℕ) (fed : Bool) → news_in (untaken id piece fed) ≡ []
+untaken-news id [] fed = refl
+untaken-news id (byte ∷ bytes) true = refl
+untaken-news id (byte ∷ bytes) false = refl
+
+came-news : (last id : ℕ) (piece : List ℕ) (fed : Bool) (fate : Fate) → news_in (came last id piece fed fate) ≡ []
+came-news last id piece fed (Received CallWindow) = refl
+came-news last id piece fed (Received Overrun) = refl
+came-news last id piece fed (Received Discard) = untaken-news id piece fed
+came-news last id piece fed (Received Feed) = refl
+came-news last id piece fed Missed = refl
+came-news last id piece fed Plain = refl
+came-news last id piece fed Admitted = refl
+came-news last id piece fed (Unserved why) = refl
+came-news last id piece fed Unknown = refl
+came-news last id piece fed (TurnedAway fault) = refl
+came-news last id piece fed Lacking = refl
+
+loose-news : (last : ℕ) (fate : Fate) → news_in (came_loose last fate) ≡ []
+loose-news last (Received Overrun) = refl
+loose-news last (Received CallWindow) = refl
+loose-news last (Received Discard) = refl
+loose-news last (Received Feed) = refl
+loose-news last Missed = refl
+loose-news last Plain = refl
+loose-news last Admitted = refl
+loose-news last (Unserved why) = refl
+loose-news last Unknown = refl
+loose-news last (TurnedAway fault) = refl
+loose-news last Lacking = refl
+
+control-news : (control : Control) → news_in (news_of control ∷ []) ≡ news_of control ∷ []
+control-news (controls.Settings settings) = refl
+control-news (controls.Ping bytes) = refl
+control-news (controls.Window id increment) = refl
+
+cut-news : (id : ℕ) (code : ErrorCode) (fed : Bool) → news_in (if fed then Reset id code true ∷ [] else []) ≡ []
+cut-news id code true = refl
+cut-news id code false = refl
+
+both-none : (first more : List Order) → news_in first ≡ [] → news_in more ≡ [] → news_in (first ++ more) ≡ []
+both-none first more one other = news-append first more ∙ (ap (λ (os : List Order). os ++ news_in more) one ∙ other)
+
+event-news : (before : List Step) (event : InEvent) (fate : Fate) → news_in (orders_at before (Told event fate)) ≡ news_at event
+event-news before (events.Open id head) fate =
+    both-none (last_stream id (begun before)) (opened (greatest (id ∷ begun before)) id fate) (last-news id (begun before)) (opened-news (greatest (id ∷ begun before)) id fate)
+event-news before (events.BadHead id fault) fate =
+    both-none (last_stream id (begun before)) (refused_head (greatest (id ∷ begun before)) id fault fate) (last-news id (begun before)) (refused-news (greatest (id ∷ begun before)) id fault fate)
+event-news before (events.Data id piece counted) fate = came-news (greatest (begun before)) id piece (is_fed id before) fate
+event-news before (events.Loose counted) fate = loose-news (greatest (begun before)) fate
+event-news before (events.Reset id code) fate = refl
+event-news before (events.StreamError id code) fate = refl
+event-news before (events.Control control) fate = control-news control
+event-news before (events.Fatal code) fate = refl
+event-news before (events.End id) fate = refl
+event-news before events.PeerGoaway fate = refl
+
+-- ---- of all steps
+
+pub orders-news : (told : List Step) → news_in (orders_by told) ≡ news_told (events_of told)
+orders-news [] = refl
+orders-news (Told event fate ∷ before) =
+    news-append (orders_by before) (orders_at before (Told event fate))
+    ∙ (ap (λ (os : List Order). os ++ news_in (orders_at before (Told event fate))) (orders-news before)
+    ∙ (ap (λ (os : List Order). news_told (events_of before) ++ os) (event-news before event fate ∙ sym (append-nil (news_at event)))
+    ∙ sym (flat_map-append news_at (events_of before) (event ∷ []))))
+orders-news (CutOff id why ∷ before) =
+    news-append (orders_by before) (orders_at before (CutOff id why))
+    ∙ (ap (λ (os : List Order). news_in (orders_by before) ++ os) (cut-news id (cut_code why) (is_fed id before))
+    ∙ (append-nil (news_in (orders_by before)) ∙ orders-news before))
+
+-- ---- of a run
+
+taken-more : (before : List RunStep) (order : Order) (told : List Order) → news_in (taken_by before) ≡ told → news_in (taken_by before ++ order ∷ []) ≡ told ++ news_in (order ∷ [])
+taken-more before order told is = news-append (taken_by before) (order ∷ []) ∙ ap (λ (os : List Order). os ++ news_in (order ∷ [])) is
+
+taken-silent : (before : List RunStep) (order : Order) (told : List Order) → news_in (order ∷ []) ≡ [] → news_in (taken_by before) ≡ told → news_in (taken_by before ++ order ∷ []) ≡ told
+taken-silent before order told none is = taken-more before order told is ∙ (ap (λ (os : List Order). told ++ os) none ∙ append-nil told)
+
+answer-silent : (last id : ℕ) → news_in (own_order last id ∷ []) ≡ []
+answer-silent last id = by (id == 0)
+  where
+    by : (b : Bool) → news_in ((if b then Goaway last error.FlowControlError else Reset id error.FlowControlError true) ∷ []) ≡ []
+    by true = refl
+    by false = refl
+
+own-silent : (order : Order) (before : List RunStep) (orders : List Order) → IsAnswer order before ⊎ ResetsCall order orders → news_in (order ∷ []) ≡ []
+own-silent order before orders (inr left) = ap (λ (o : Order). news_in (o ∷ [])) left.1
+own-silent order [] orders (inl answer) = absurd answer
+own-silent order (Taken blamed ∷ before) orders (inl answer) = ap (λ (o : Order). news_in (o ∷ [])) answer.2 ∙ answer-silent answer.0 answer.1
+own-silent order (Granted id n ∷ before) orders (inl answer) = absurd answer
+own-silent order (Written frame ∷ before) orders (inl answer) = absurd answer
+own-silent order (Returned id items ∷ before) orders (inl answer) = absurd answer
+
+took-news : (orders : List Order) (steps : List RunStep) → HasTaken orders steps → news_in (taken_by steps) ≡ news_in orders
+took-news orders [] took = sym (ap news_in took)
+took-news orders (Taken order ∷ before) (inl took) =
+    taken-more before order (news_in took.0) (took-news took.0 before took.2) ∙ sym (ap news_in took.1 ∙ news-append took.0 (order ∷ []))
+took-news orders (Taken order ∷ before) (inr took) = taken-silent before order (news_in orders) (own-silent order before orders took.0) (took-news orders before took.1)
+took-news orders (Granted id n ∷ before) took = took-news orders before took
+took-news orders (Written frame ∷ before) took = took-news orders before took
+took-news orders (Returned id items ∷ before) took = took-news orders before took
+
+last-silent : (order : Order) (rest : List Order) → ((last : ℕ) × (order ≡ Goaway last error.InternalError)) ⊎ ((order ≡ Close) × IsAmong order rest) → news_in (order ∷ []) ≡ []
+last-silent order rest (inl goaway) = ap (λ (o : Order). news_in (o ∷ [])) goaway.1
+last-silent order rest (inr close) = ap (λ (o : Order). news_in (o ∷ [])) close.0
+
+ends-news : (rest : List Order) (ends steps : List RunStep) → AreLast rest ends → news_in (taken_by (ends ++ steps)) ≡ news_in (taken_by steps)
+ends-news rest [] steps last = refl
+ends-news rest (Taken order ∷ before) steps last =
+    taken-silent (before ++ steps) order (news_in (taken_by steps)) (last-silent order rest last.0) (ends-news rest before steps last.1)
+ends-news rest (Granted id n ∷ before) steps last = ends-news rest before steps last
+ends-news rest (Written frame ∷ before) steps last = ends-news rest before steps last
+ends-news rest (Returned id items ∷ before) steps last = ends-news rest before steps last
+
+parted-news : (put : List Order) (run : List RunStep) (parted : HasParted put run) → news_in (taken_by run) ≡ news_in parted.front
+parted-news put run parted =
+    ap (λ (steps : List RunStep). news_in (taken_by steps)) parted.run_is ∙ (ends-news parted.rest parted.ends parted.steps parted.ended ∙ took-news parted.front parted.steps parted.took)
+
+-- what was put tells a beginning of the news
+put-news : (told : List Step) (put : List Order) → HasPut (orders_by told ++ InputEnded ∷ []) put → IsPrefix (news_in put) (news_told (events_of told))
+put-news told put has = (
+  news_in has.begins.0,
+  ap (λ (os : List Order). news_in os ++ news_in has.begins.0) has.closed
+      ∙ (ap (λ (os : List Order). os ++ news_in has.begins.0) (news-append has.front (Close ∷ []) ∙ append-nil (news_in has.front))
+      ∙ (sym (news-append has.front has.begins.0)
+      ∙ (ap news_in has.begins.1
+      ∙ (news-append (orders_by told) (InputEnded ∷ []) ∙ (append-nil (news_in (orders_by told)) ∙ orders-news told))))),
+)
+
+pub some-news : (told : List Step) (put : List Order) (run : List RunStep) → HasPut (orders_by told ++ InputEnded ∷ []) put → Obeys true put run → IsPrefix (news_in (taken_by run)) (news_told (events_of told))
+some-news told put run has parted =
+    let all = put-news told put has in (
+      news_in parted.rest ++ all.0,
+      ap (λ (os : List Order). os ++ (news_in parted.rest ++ all.0)) (parted-news put run parted)
+          ∙ (sym (append_assoc (news_in parted.front) (news_in parted.rest) all.0)
+          ∙ (ap (λ (os : List Order). os ++ all.0) (sym (news-append parted.front parted.rest) ∙ sym (ap news_in parted.orders_are)) ∙ all.1)),
+    )
+
+pub all-news : (told : List Step) (put : List Order) (run : List RunStep) → put ≡ orders_by told ++ InputEnded ∷ Close ∷ [] → Obeys false put run → news_in (taken_by run) ≡ news_told (events_of told)
+all-news told put run is obeys =
+    took-news put run obeys.0
+    ∙ (ap news_in is ∙ (news-append (orders_by told) (InputEnded ∷ Close ∷ []) ∙ (append-nil (news_in (orders_by told)) ∙ orders-news told)))
+
+-- ---- acknowledgements
+
+without-append : (first more : List Frame) → without_goaway (first ++ more) ≡ without_goaway first ++ without_goaway more
+without-append first more = filter-append _ first more
+
+one-due : (order : Order) → without_goaway (due_by order) ≡ answers_to (news_in (order ∷ []))
+one-due (Settings settings) = refl
+one-due (Ping bytes) = refl
+one-due (Window id increment) = refl
+one-due (Open id sender) = refl
+one-due (Refuse id fields) = refl
+one-due (Reset id code written) = refl
+one-due (Goaway last code) = refl
+one-due InputEnded = refl
+one-due Close = refl
+
+answers-append : (first more : List Order) → answers_to (first ++ more) ≡ answers_to first ++ answers_to more
+answers-append first more = flat_map-append answer_to first more
+
+due-answers : (run : List RunStep) → without_goaway (due run) ≡ answers_to (news_in (taken_by run))
+due-answers [] = refl
+due-answers (Taken order ∷ before) =
+    without-append (due before) (due_by order)
+    ∙ (ap (λ (fs : List Frame). fs ++ without_goaway (due_by order)) (due-answers before)
+    ∙ (ap (λ (fs : List Frame). answers_to (news_in (taken_by before)) ++ fs) (one-due order)
+    ∙ (sym (answers-append (news_in (taken_by before)) (news_in (order ∷ [])))
+    ∙ sym (ap answers_to (news-append (taken_by before) (order ∷ []))))))
+due-answers (Granted id n ∷ before) = due-answers before
+due-answers (Written frame ∷ before) = due-answers before
+due-answers (Returned id items ∷ before) = due-answers before
+
+told-due : (run : List RunStep) → IsLawful run → Begins (without_goaway (duties_told run)) (without_goaway (due run))
+told-due [] lawful = ([], refl)
+told-due (Taken order ∷ before) lawful =
+    let rest = told-due before lawful in (
+      rest.0 ++ without_goaway (due_by order),
+      without-append (due before) (due_by order)
+          ∙ (ap (λ (fs : List Frame). fs ++ without_goaway (due_by order)) rest.1 ∙ append_assoc (without_goaway (duties_told before)) rest.0 (without_goaway (due_by order))),
+    )
+told-due (Granted id n ∷ before) lawful = told-due before lawful
+told-due (Returned id items ∷ before) lawful = told-due before lawful
+told-due (Written frame ∷ before) lawful = lawful.1.answers
+
+pub some-answers : (told : List Step) (put : List Order) (run : List RunStep) → HasPut (orders_by told ++ InputEnded ∷ []) put → Obeys true put run → IsLawful run
+    → Begins (without_goaway (duties_told run)) (answers_to (news_told (events_of told)))
+some-answers told put run has obeys lawful =
+    let news = some-news told put run has obeys in
+    let written = told-due run lawful in (
+      written.0 ++ answers_to news.0,
+      ap answers_to (sym news.1)
+          ∙ (answers-append (news_in (taken_by run)) news.0
+          ∙ (ap (λ (fs : List Frame). fs ++ answers_to news.0) (sym (due-answers run) ∙ written.1)
+          ∙ append_assoc (without_goaway (duties_told run)) written.0 (answers_to news.0))),
+    )
+
+pub all-answers : (told : List Step) (put : List Order) (run : List RunStep) → put ≡ orders_by told ++ InputEnded ∷ Close ∷ [] → Obeys false put run → IsAnswered run
+    → list_any is_last (frames_of run) ≡ false → without_goaway (duties_told run) ≡ answers_to (news_told (events_of told))
+all-answers told put run is obeys (inl over) going = absurd cc
+all-answers told put run is obeys (inr answered) going = ap without_goaway answered.0 ∙ (due-answers run ∙ ap answers_to (all-news told put run is obeys))

@@ -1,0 +1,139 @@
+-- Why a stream is reset or refused: the cause of each error code of an RST_STREAM (RFC 9113, sections 5.4.2, 6.4 and 7), and of
+-- each refusal (RFC 9113, section 8.1; gRPC over HTTP/2, "Responses").
+-- Lists of steps and runs have the latest first, lists of orders the earliest.
+use Rattle.std.specs.Prelude.{◌≡◌, ◌≢◌, ◌⊎◌, ℕ, Bool, true, false, List, [], ◌∷◌, ◌++◌, Option, None, Some}
+use Rattle.std.specs.List.{list_any}
+use Rattle.callhead.specs.declared.fault.HeadFault.{HeadFault}
+use Rattle.callhead.specs.declared.head.CallHead.{CallHead}
+use Rattle.callhead.specs.StatusFields.{refusal_of, unknown_method}
+use Rattle.connbook.specs.declared.answers.AdmitFault.{AdmitFault}
+use Rattle.connbook.specs.declared.answers.AdmitFault.TheVariants as refused
+use Rattle.connbook.specs.declared.answers.Receipt.TheVariants.{Discard, CallWindow}
+use Rattle.h2frame.specs.declared.error_code.ErrorCode.{ErrorCode}
+use Rattle.h2frame.specs.declared.error_code.ErrorCode.TheVariants as error
+use Rattle.h2frame.specs.declared.frame.Frame.{Frame}
+use Rattle.lists.specs.declared.field.Field.{Field}
+use Rattle.outwriter.specs.declared.control.Control.TheVariants.{Open}
+use Rattle.outwriter.specs.declared.control.OutFault.TheVariants.{PeerWindow}
+use Rattle.outwriter.specs.Parts.{Mark, Fields, End, Reset}
+use Rattle.outwriter.specs.RunState.{Blames, Concerns}
+use Rattle.outwriter.specs.Steps.{Order, Taken, Granted, Written, Returned}
+use Rattle.outwriter.specs.Steps.{Step as RunStep}
+use Rattle.session.specs.declared.event.InEvent.TheVariants as events
+use Rattle.slots.specs.Orders.{is_fed}
+use Rattle.slots.specs.Steps.{Fate, Unknown, TurnedAway, Received, Missed, Cause, AtEnd, NotLive, Step, Told, CutOff, WasTold}
+use Rattle.slotwriter.specs.Orders.{IsAmong, ends_input}
+
+-- this step was heard, behind these
+abbrev pub WasHeard : Step → List Step → List Step → Type 0
+WasHeard step before told = (later : List Step) × (told ≡ later ++ step ∷ before)
+
+-- ---- what the side that reads resets a stream for
+
+-- Its call isn't admitted, since as many are live as may be, or no more are admitted.
+pub record WasTurnedAway (id : ℕ) (told : List Step) : Type 0 where
+  pub head : CallHead
+  pub fault : AdmitFault
+  pub before : List Step
+  pub heard : WasHeard (Told (events.Open id head) (TurnedAway fault)) before told
+  pub refuses : (fault ≡ refused.TooMany) ⊎ (fault ≡ refused.Draining)
+
+-- DATA came that its window doesn't let through.
+pub record IsOverWindow (id : ℕ) (told : List Step) : Type 0 where
+  pub piece : List ℕ
+  pub counted : ℕ
+  pub before : List Step
+  pub heard : WasHeard (Told (events.Data id piece counted) (Received CallWindow)) before told
+
+-- Data came that its call isn't fed: they were to be fed and weren't taken, or nobody takes them though the half is open.
+pub record LacksData (id : ℕ) (told : List Step) : Type 0 where
+  pub piece : List ℕ
+  pub counted : ℕ
+  pub fate : Fate
+  pub before : List Step
+  pub heard : WasHeard (Told (events.Data id piece counted) fate) before told
+  pub unfed : (fate ≡ Missed) ⊎ ((fate ≡ Received Discard) × (piece ≢ []) × (is_fed id before ≡ true))
+
+-- Its call hears no more of its client for this reason, and its half was open.
+pub record WasCut (why : Cause) (id : ℕ) (told : List Step) : Type 0 where
+  pub before : List Step
+  pub heard : WasHeard (CutOff id why) before told
+  pub open_half : is_fed id before ≡ true
+
+-- Its head is malformed (section 8.1.1).
+pub record IsMalformed (id : ℕ) (told : List Step) : Type 0 where
+  pub fault : HeadFault
+  pub heard : WasTold (events.BadHead id fault) told
+  pub unanswered : refusal_of fault ≡ None
+
+-- by the code, of those that an event of the stream doesn't name
+abbrev pub HasOwnCause : ErrorCode → ℕ → List Step → Type 0
+HasOwnCause error.ProtocolError id told = IsMalformed id told
+HasOwnCause error.InternalError id told = WasCut (NotLive false) id told
+HasOwnCause error.FlowControlError id told = IsOverWindow id told ⊎ WasCut (NotLive true) id told
+HasOwnCause error.RefusedStream id told = WasTurnedAway id told
+HasOwnCause error.Cancel id told = WasCut AtEnd id told
+HasOwnCause error.EnhanceYourCalm id told = LacksData id told
+HasOwnCause _ id told = ⊥
+
+-- The events tell of an error of the stream with this code, or the code has its cause.
+abbrev pub HasResetCause : ErrorCode → ℕ → List Step → Type 0
+HasResetCause code id told = WasTold (events.StreamError id code) told ⊎ HasOwnCause code id told
+
+-- ---- what the side that writes resets a stream for by itself
+
+-- With a control of the peer that was taken, the stream's window would be over 2^31 - 1 bytes (section 6.9.1).
+pub record WouldOverflow (id : ℕ) (run : List RunStep) : Type 0 where
+  pub order : Order
+  pub before : List RunStep
+  pub later : List RunStep
+  pub taken : run ≡ later ++ Taken order ∷ before
+  pub concerns : Concerns (PeerWindow id) order
+  pub blames : Blames (PeerWindow id) order before
+
+-- Its call was opened by the first of the orders, by which the input goes on.
+pub record WasOpened (id : ℕ) (put : List Order) : Type 0 where
+  pub front : List Order
+  pub rest : List Order
+  pub parts : put ≡ front ++ rest
+  pub opens : IsAmong (Open id tt) front
+  pub input : list_any ends_input front ≡ false
+
+abbrev pub HasWriterCause : ErrorCode → ℕ → List Order → List RunStep → Type 0
+HasWriterCause error.FlowControlError id put run = WouldOverflow id run
+HasWriterCause error.InternalError id put run = WasOpened id put
+HasWriterCause _ id put run = ⊥
+
+-- of either side
+abbrev pub HasCauseOf : ErrorCode → ℕ → List Step → List Order → List RunStep → Type 0
+HasCauseOf code id told put run = HasResetCause code id told ⊎ HasWriterCause code id put run
+
+-- ---- what a run took, and what it wrote
+
+-- the order was taken
+abbrev pub WasTaken : Order → List RunStep → Type 0
+WasTaken order [] = ⊥
+WasTaken order (Taken found ∷ before) = (order ≡ found) ⊎ WasTaken order before
+WasTaken order (Granted id n ∷ before) = WasTaken order before
+WasTaken order (Written frame ∷ before) = WasTaken order before
+WasTaken order (Returned id items ∷ before) = WasTaken order before
+
+-- the frame was written
+abbrev pub WasWritten : Frame → List RunStep → Type 0
+WasWritten frame [] = ⊥
+WasWritten frame (Taken order ∷ before) = WasWritten frame before
+WasWritten frame (Granted id n ∷ before) = WasWritten frame before
+WasWritten frame (Written found ∷ before) = (frame ≡ found) ⊎ WasWritten frame before
+WasWritten frame (Returned id items ∷ before) = WasWritten frame before
+
+-- ---- streams without a call
+
+-- The stream began with a head that is refused with these fields, or with one whose path names no method.
+abbrev pub IsRefusedWith : ℕ → List Field → List Step → Type 0
+IsRefusedWith id fields told = ((fault : HeadFault) × WasTold (events.BadHead id fault) told × (refusal_of fault ≡ Some fields))
+    ⊎ ((head : CallHead) × (before : List Step) × WasHeard (Told (events.Open id head) Unknown) before told × (fields ≡ unknown_method))
+
+-- What the frames of the stream tell is nothing, an RST_STREAM, or one header block with the fields of its refusal, which ends the stream.
+abbrev pub IsRefusal : ℕ → List Step → List Mark → Type 0
+IsRefusal id told part = (part ≡ [])
+    ⊎ (((code : ℕ) × (part ≡ Reset code ∷ [])) ⊎ ((fields : List Field) × IsRefusedWith id fields told × (part ≡ Fields fields ∷ End ∷ [])))

@@ -1,0 +1,45 @@
+-- What the peer tells the side that writes, in its order: SETTINGS, PING and WINDOW_UPDATE, and what acknowledges it (RFC 9113, sections
+-- 6.5.3, 6.7 and 6.9).
+use Rattle.std.specs.Prelude.{ℕ, Bool, true, false, List, [], ◌∷◌, ◌++◌, filter, flat_map}
+use Rattle.h2frame.specs.declared.frame.Frame.{Frame}
+use Rattle.outwriter.specs.declared.control.Control.TheVariants.{Settings, Ping, Window}
+use Rattle.outwriter.specs.Frames.{settings_ack, ping_ack}
+use Rattle.outwriter.specs.Steps.{Order, Taken, Granted, Written, Returned}
+use Rattle.outwriter.specs.Steps.{Step as RunStep}
+use Rattle.session.specs.declared.event.InEvent.{InEvent}
+use Rattle.session.specs.declared.event.InEvent.TheVariants as events
+use Rattle.slots.specs.Orders.{news_of}
+
+abbrev pub is_news : Order → Bool
+is_news (Settings settings) = true
+is_news (Ping bytes) = true
+is_news (Window id increment) = true
+is_news _ = false
+
+abbrev pub news_in : List Order → List Order
+news_in orders = filter is_news orders
+
+-- those that events tell, as orders
+abbrev pub news_at : InEvent → List Order
+news_at (events.Control control) = news_of control ∷ []
+news_at _ = []
+
+abbrev pub news_told : List InEvent → List Order
+news_told given = flat_map news_at given
+
+-- the orders that a run took, the earliest first
+abbrev pub taken_by : List RunStep → List Order
+taken_by [] = []
+taken_by (Taken order ∷ before) = taken_by before ++ order ∷ []
+taken_by (Granted id n ∷ before) = taken_by before
+taken_by (Written frame ∷ before) = taken_by before
+taken_by (Returned id items ∷ before) = taken_by before
+
+-- each SETTINGS has its acknowledgement, and each PING one with its bytes
+abbrev pub answer_to : Order → List Frame
+answer_to (Settings settings) = settings_ack ∷ []
+answer_to (Ping bytes) = ping_ack bytes ∷ []
+answer_to _ = []
+
+abbrev pub answers_to : List Order → List Frame
+answers_to orders = flat_map answer_to orders

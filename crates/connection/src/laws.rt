@@ -1,0 +1,85 @@
+//! Laws of what becomes of a connection, by the fields of its record (`IsServed`). None of them does anything.
+
+ghost use mathlib.Core.List.{IsPrefix};
+ghost use Rattle.std.specs.Prelude.{◌≡◌, ◌++◌, ◌∷◌, ℕ, List, [], false, true};
+ghost use Rattle.std.specs.List.{list_any};
+ghost use Rattle.account.specs.Accounts.{Begins};
+ghost use Rattle.h2frame.specs.declared.error_code.ErrorCode.{ErrorCode as Code};
+ghost use Rattle.h2frame.specs.declared.frame.Frame.{Frame};
+ghost use Rattle.h2frame.specs.declared.kind.FrameKind.TheVariants.{RstStream};
+ghost use Rattle.outwriter.specs.Calls.{TellOthers};
+ghost use Rattle.outwriter.specs.declared.control.Control.TheVariants.{Close, InputEnded, Reset};
+ghost use Rattle.outwriter.specs.Frames.{is_last, reset_frame};
+ghost use Rattle.outwriter.specs.Parts.{IsPart, Mark};
+ghost use Rattle.outwriter.specs.RunState.{IsAnswered};
+ghost use Rattle.outwriter.specs.Runs.{IsLawful, told as duties_told, without_goaway};
+ghost use Rattle.outwriter.specs.Steps.{Order, Step as RunStep, frames_of};
+ghost use Rattle.slots.specs.Calls.{is_admitted};
+ghost use Rattle.slots.specs.Orders.{orders_by};
+ghost use Rattle.slots.specs.Steps.{Step, events_of};
+ghost use Rattle.slotwriter.specs.Orders.{IsAmong, Obeys};
+ghost use Rattle.connection.specs.Causes.{HasCauseOf, HasResetCause, IsRefusal, WasTaken, WasWritten};
+ghost use Rattle.connection.specs.Heard.{HasPut};
+ghost use Rattle.connection.specs.News.{answers_to, news_in, news_told, taken_by};
+
+/// Each reset that is to be written was ordered for its cause, by what was heard: RFC 9113, section 5.4.2.
+pub fn ordered_resets()
+    ensures { (told : List Step) (put : List Order) (id : ℕ) (code : Code) →
+        HasPut (orders_by told ++ InputEnded ∷ []) put → IsAmong (Reset id code true) put
+        → HasResetCause code id told }
+{}
+
+/// So was each that the writer took, and each of its own has its cause among what it took before.
+pub fn taken_resets()
+    ensures { (told : List Step) (put : List Order) (run : List RunStep) (id : ℕ) (code : Code) →
+        HasPut (orders_by told ++ InputEnded ∷ []) put → Obeys true put run
+        → WasTaken (Reset id code true) run → HasCauseOf code id told put run }
+{}
+
+/// Each RST_STREAM that was written has the code of such a cause, and nothing else: section 6.4.
+pub fn written_resets()
+    ensures { (told : List Step) (put : List Order) (run : List RunStep) →
+        HasPut (orders_by told ++ InputEnded ∷ []) put → Obeys true put run → IsLawful run →
+        (frame : Frame) → WasWritten frame run → frame.head.kind ≡ RstStream →
+        (code : Code) × (frame ≡ reset_frame frame.head.stream code)
+        × HasCauseOf code frame.head.stream told put run }
+{}
+
+/// What is told on a stream whose call no worker serves: nothing, one RST_STREAM, or one header block that ends it, with the
+/// fields of its refusal.
+pub fn streams_without_a_call()
+    ensures { (told : List Step) (put : List Order) (run : List RunStep) →
+        HasPut (orders_by told ++ InputEnded ∷ []) put → Obeys true put run → TellOthers run →
+        (id : ℕ) → is_admitted id told ≡ false →
+        (part : List Mark) × IsPart id run part × IsRefusal id told part }
+{}
+
+/// The SETTINGS, PINGs and credit that the writer took begin those of the peer, in order.
+pub fn some_news()
+    ensures { (told : List Step) (put : List Order) (run : List RunStep) →
+        HasPut (orders_by told ++ InputEnded ∷ []) put → Obeys true put run
+        → IsPrefix (news_in (taken_by run)) (news_told (events_of told)) }
+{}
+
+/// Where all was ordered and the writer took each order, they are all of them.
+pub fn all_news()
+    ensures { (told : List Step) (put : List Order) (run : List RunStep) →
+        put ≡ orders_by told ++ InputEnded ∷ Close ∷ [] → Obeys false put run
+        → news_in (taken_by run) ≡ news_told (events_of told) }
+{}
+
+/// Behind the first SETTINGS come only acknowledgements, of each SETTINGS and of each PING with its bytes, once and in order, beside
+/// DATA, header blocks, RST_STREAM, GOAWAY and WINDOW_UPDATE: sections 6.5.3 and 6.7.
+pub fn some_answers()
+    ensures { (told : List Step) (put : List Order) (run : List RunStep) →
+        HasPut (orders_by told ++ InputEnded ∷ []) put → Obeys true put run → IsLawful run
+        → Begins (without_goaway (duties_told run)) (answers_to (news_told (events_of told))) }
+{}
+
+/// Where the writer took each order and all was written, each is acknowledged, unless the last frame is a GOAWAY with an error.
+pub fn all_answers()
+    ensures { (told : List Step) (put : List Order) (run : List RunStep) →
+        put ≡ orders_by told ++ InputEnded ∷ Close ∷ [] → Obeys false put run → IsAnswered run →
+        list_any is_last (frames_of run) ≡ false
+        → without_goaway (duties_told run) ≡ answers_to (news_told (events_of told)) }
+{}
