@@ -30,10 +30,12 @@ pub struct Job {
 /// How far a worker is with the calls of its slot.
 #[derive(Drop)]
 pub struct Slot {
-    /// Rung where something comes for the call, or a call comes.
+    /// Rung where something comes for the call, where there is room for what it gives, or a call comes.
     pub bell: Bell,
     /// Whether the bell is still to be rung.
     noted: AtomicBool,
+    /// Whether the worker waits for room for what it gives.
+    wants_room: AtomicBool,
     /// Whether the worker has given the last item of its call.
     answered: AtomicBool,
     /// Whether that was no trailers.
@@ -52,6 +54,7 @@ impl Slot {
         Slot {
             bell: Bell::new(),
             noted: AtomicBool::new(false),
+            wants_room: AtomicBool::new(false),
             answered: AtomicBool::new(false),
             left: AtomicBool::new(false),
             idle: AtomicBool::new(false),
@@ -82,6 +85,19 @@ impl Slot {
     pub fn ring_noted(&self) {
         if self.noted.load(Ordering::SeqCst) {
             self.noted.store(false, Ordering::SeqCst);
+            self.bell.ring();
+        }
+    }
+
+    /// The worker found no room for what it gives. It is to look once more before it sleeps: room that the writer made before
+    /// it saw this is there then, since both exchange the flag; room that it makes later it rings for.
+    pub fn want_room(&self) {
+        self.wants_room.swap(true, Ordering::SeqCst);
+    }
+
+    /// Rings the bell, where the worker waits for room.
+    pub fn ring_for_room(&self) {
+        if self.wants_room.swap(false, Ordering::SeqCst) {
             self.bell.ring();
         }
     }

@@ -48,6 +48,8 @@ pub struct ConnWriter<L: Lane<Item = OutItem>, W: ConnWrite> {
     pub(crate) ended: Vec<StreamId>,
     /// Those whose END_STREAM was written by the last flush.
     pub(crate) left: Vec<StreamId>,
+    /// Those of which DATA or HEADERS are in the buffer, each once.
+    pub(crate) streams: Vec<StreamId>,
     pub(crate) standing: Standing,
     pub(crate) device: W,
 }
@@ -66,6 +68,7 @@ impl<L: Lane<Item = OutItem>, W: ConnWrite> ConnWriter<L, W> {
             buffer: Vec::new(alloc),
             ended: Vec::new(alloc),
             left: Vec::new(alloc),
+            streams: Vec::new(alloc),
             standing: Standing::Going,
             device,
         }
@@ -90,6 +93,13 @@ impl<L: Lane<Item = OutItem>, W: ConnWrite> ConnWriter<L, W> {
         ensures { result.now ≡ self.now.left.items }
     {
         self.left.as_slice()
+    }
+
+    /// The streams of which DATA or HEADERS are in the buffer: of their calls items were taken.
+    pub fn streams(&self) -> &[StreamId]
+        ensures { result.now ≡ self.now.streams.items }
+    {
+        self.streams.as_slice()
     }
 
     /// Whether nothing is in the buffer.
@@ -221,6 +231,7 @@ impl<L: Lane<Item = OutItem>, W: ConnWrite> ConnWriter<L, W> {
             Ok(()) => {
                 self.buffer.clear();
                 self.left.clear();
+                self.streams.clear();
                 mem::swap(&mut self.left, &mut self.ended);
                 Ok(())
             }
@@ -367,7 +378,7 @@ impl<L: Lane<Item = OutItem>, W: ConnWrite> ConnWriter<L, W> {
         ensures device { self.new.device ≡ self.old.device }
         ensures left { self.new.left ≡ self.old.left }
     {
-        let Ok(()) = self.ended.reserve(1) else {
+        let Ok(()) = make_room(&mut self.ended, &mut self.streams) else {
             self.stop();
             return Some(Filled::Stopped);
         };
@@ -387,6 +398,7 @@ impl<L: Lane<Item = OutItem>, W: ConnWrite> ConnWriter<L, W> {
         requires sound { IsSound frame }
         requires going { self.old.standing ≡ stands.Going }
         requires room { vec_len self.old.ended < vec_capacity self.old.ended }
+        requires room_to_note { vec_len self.old.streams < vec_capacity self.old.streams }
         ensures puts { PutsOr frame result self.old self.new }
         ensures fits { length self.new.buffer.items ≤ length self.old.buffer.items + 16393 }
         ensures left { self.new.left ≡ self.old.left }
@@ -398,8 +410,35 @@ impl<L: Lane<Item = OutItem>, W: ConnWrite> ConnWriter<L, W> {
         if ends_stream(&frame) {
             self.ended.push_reserved(frame.head.stream);
         }
+        if carries_items(&frame) {
+            note(&mut self.streams, frame.head.stream);
+        }
         None
     }
+}
+
+/// Room for one stream more in both.
+fn make_room(ended: &mut Vec<StreamId>, streams: &mut Vec<StreamId>) -> Result<(), AllocError>
+    ensures items { ended.new.items ≡ ended.old.items }
+    ensures room { OnOk result (vec_len ended.new < vec_capacity ended.new) }
+    ensures room_to_note { OnOk result (vec_len streams.new < vec_capacity streams.new) }
+{
+    ended.reserve(1)?;
+    streams.reserve(1)
+}
+
+/// Notes a stream, unless it is noted.
+fn note(streams: &mut Vec<StreamId>, id: StreamId)
+    requires room { vec_len streams.old < vec_capacity streams.old }
+{
+    if !streams.as_slice().contains(&id) {
+        streams.push_reserved(id);
+    }
+}
+
+/// Whether a frame has something of an item of a call.
+fn carries_items(frame: &Frame) -> bool {
+    matches!(frame.head.kind, FrameKind::Data | FrameKind::Headers)
 }
 
 /// The order that ends a stream, or at 0 the connection.

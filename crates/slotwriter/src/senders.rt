@@ -42,6 +42,8 @@ pub struct Senders {
     are_some_behind: bool,
     /// Whether there may be calls that were called off.
     are_some_called_off: bool,
+    /// A slot for whose sender there was no memory.
+    lost: Option<Arc<Slot>>,
 }
 
 impl Senders {
@@ -64,6 +66,7 @@ impl Senders {
             places: Vec::new(alloc),
             are_some_behind: false,
             are_some_called_off: false,
+            lost: None,
         }
     }
 
@@ -257,6 +260,24 @@ impl Senders {
         }
     }
 
+    /// Wakes the worker of the call of this stream, where it waits for room.
+    pub(crate) fn wake_for_room(&self, id: StreamId) {
+        let found = self.places.iter().find(|place| place.id == id);
+        if let Some(place) = found {
+            place.slot.ring_for_room();
+        }
+    }
+
+    /// Wakes all workers that wait for room.
+    pub(crate) fn wake_all(&self) {
+        for place in &self.places {
+            place.slot.ring_for_room();
+        }
+        if let Some(slot) = &self.lost {
+            slot.ring_for_room();
+        }
+    }
+
     /// A slot's first call begins.
     fn add(&mut self, id: StreamId, fresh: Fresh) -> Result<Control<Sender<OutLane>>, Untaken>
         ensures unused { IfOk result (IsUnused got) }
@@ -277,7 +298,11 @@ impl Senders {
         };
         match self.places.push(place) {
             Ok(()) => Ok(Control::Open(id, sender)),
-            Err(_e) => Err(Untaken::OutOfMemory),
+            Err(refused) => {
+                let unplaced = refused.value;
+                self.lost = Some(unplaced.slot);
+                Err(Untaken::OutOfMemory)
+            }
         }
     }
 
@@ -316,12 +341,17 @@ impl Place {
         self.sender.is_some() && !self.is_at_end
     }
 
-    /// Gets what is left of the call, once the worker has given all of it. Answers whether it did.
+    /// Gets what is left of the call, once the worker has given all of it; before, the worker is
+    /// woken where it waits for room, of which there comes no more. Answers whether it got that.
     fn catch_up(&mut self) -> bool
         ensures id { self.new.id ≡ self.old.id }
         ensures rest { GetsRest self.old.sender self.new.sender }
     {
-        if !self.is_behind() || !self.slot.is_answered() {
+        if !self.is_behind() {
+            return false;
+        }
+        if !self.slot.is_answered() {
+            self.slot.ring_for_room();
             return false;
         }
         get_rest_of(&mut self.sender);

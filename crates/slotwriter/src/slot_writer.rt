@@ -25,7 +25,7 @@ use crate::inbox::Inbox;
 use crate::senders::{Senders, Untaken};
 use crate::steps::{Rest, Took, Waiting};
 use callbox::Sender;
-use callslot::{Ending, Order, OutLane};
+use callslot::{Ending, Opened, Order, OutLane};
 use connwriter::{ConnWriter, Filled, Standing, Taking};
 use device::{ConnWrite, DeviceFault};
 use h2frame::{ErrorCode, StreamId};
@@ -156,6 +156,7 @@ impl<W: ConnWrite + Drop> SlotWriter<W> {
         ensures inbox { self.new.inbox ≡ self.old.inbox }
         ensures one { result ≡ took.One }
     {
+        wake_new(order);
         if is_close(order) {
             self.close(last);
         }
@@ -250,6 +251,19 @@ impl<W: ConnWrite + Drop> SlotWriter<W> {
     /// so it sees that.
     pub fn wake(&self, id: StreamId) {
         self.senders.wake(id);
+    }
+
+    /// Wakes the workers that wait for room, where something of their calls is in the buffer: for
+    /// that items were taken.
+    pub fn wake_for_room(&self) {
+        for id in self.frames.streams() {
+            self.senders.wake_for_room(*id);
+        }
+    }
+
+    /// Wakes all workers that wait for room, once no call is live: so they see that.
+    pub fn wake_all(&self) {
+        self.senders.wake_all();
     }
 
     // ---- calls that were left
@@ -527,6 +541,13 @@ impl<W: ConnWrite + Drop> SlotWriter<W> {
                 None => None,
             },
         }
+    }
+}
+
+/// Wakes the worker of a new slot whose sender is lost, once no call is live: so it sees that.
+fn wake_new(order: &Order) {
+    if let Control::Open(_, Opened::New(fresh)) = order {
+        fresh.slot.ring_for_room();
     }
 }
 

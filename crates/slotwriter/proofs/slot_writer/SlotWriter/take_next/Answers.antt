@@ -5,8 +5,14 @@ use Rattle.callslot.specs.declared.order.Opened.{Opened}
 use Rattle.slotwriter.specs.declared.senders.Untaken.{Untaken}
 use Rattle.slotwriter.specs.Orders.{Gives, IsBack}
 use Rattle.slotwriter.proofs.SentPlaces.{keeps-same}
-use Rattle.slotwriter.proofs.WrittenSteps.{knows-taken, leads-back, leads-lost, leads-passed, leads-taken}
+use Rattle.slotwriter.proofs.WrittenSteps.{knows-taken, leads-back, leads-lost, leads-none, leads-passed, leads-taken}
 use Rattle.slotwriter.proofs.slot_writer.SlotWriter.take_next.Goals as goal
+
+pub returns-in_default-clause-leads : goal.returns-in_default-clause-leads
+returns-in_default-clause-leads g c =
+    leads-none g.W.ConnWrite.contents g.W.ConnWrite.failed c.args.self.now (record c.args.self.now { inbox = c.next.new.self })
+    (subst (λ (next : Option (Control Opened)). Gives next c.args.self.now.inbox c.next.new.self) c.in_default.is c.next.ensures.gives)
+    (record { ids = refl; input = refl }) (λ run lines core kept. kept) refl
 
 pub returns-in-Ok : goal.returns-in-Ok
 returns-in-Ok g c = record {
