@@ -425,6 +425,26 @@ module _ {H : Type 0} {hand : Hands H} {A B C N : Type 0} {route : Ghosts N} {na
   counts-none had reading orders told kept =
       ([], record { front = ([], refl); all = λ none. refl; calm = λ none. tt; ended = tt; kept = kept }, omega arith)
 
+  -- the writer was rung behind it
+  pub counts-rung : (given : List InEvent) (end : Option Ending) (had has : ℕ) (one two three : Reading H hand) (old mid new : Orders A B C N route) → three ≡ two → IsSame mid new
+      → CountsTo names given end had one old has two mid → CountsTo names given end had one old has three new
+  counts-rung given end had has one two three old mid new is same counts told kept =
+      let a = counts told kept in (
+        a.0,
+        record {
+          front = a.1.front;
+          all = a.1.all;
+          calm = a.1.calm;
+          ended = a.1.ended;
+          kept = record {
+            reads = reads-same (a.0 ++ told) two three is a.1.kept.reads;
+            ordered = ordered-same (orders_by (a.0 ++ told)) mid new same a.1.kept.ordered;
+            lined = subst (λ (r : Reading H hand). Lined (calls_of r.slots) new) (sym is) (lined-same (calls_of two.slots) mid new same a.1.kept.lined);
+          };
+        },
+        a.2,
+      )
+
   -- more events
   pub counts-then : (first more : List InEvent) (end : Option Ending) (had between has : ℕ) (one two three : Reading H hand) (old mid new : Orders A B C N route)
       → CountsTo names first None had one old between two mid → CountsTo names more end between two mid has three new → CountsTo names (first ++ more) end had one old has three new

@@ -122,7 +122,9 @@ times-none : (id : ℕ) (ids : List ℕ) → list_any (nat_eq id) ids ≡ false 
 times-none id [] is = refl
 times-none id (first ∷ ids) is =
     let parts = or-parts (nat_eq id first) (list_any (nat_eq id) ids) is in
-    times-cons id first ids ∙ (ap (λ (b : Bool). one_if b + times id ids) parts.0 ∙ times-none id ids parts.1)
+    let all = times-cons id first ids in
+    let here = ap (λ (b : Bool). one_if b) parts.0 in
+    let rest = times-none id ids parts.1 in omega (arith, all, here, rest)
   where
     or-parts : (a b : Bool) → (a || b) ≡ false → (a ≡ false) × (b ≡ false)
     or-parts true b is = absurd cc
@@ -262,13 +264,13 @@ abbrev Grow : List SlotCalls → List SlotCalls → Type 0
 Grow slots new = (n : ℕ) (slot : SlotCalls) → slice_get slots n ≡ Some slot → (later : SlotCalls) × (slice_get new n ≡ Some later) × GrowsTo slot later
 
 grow-same : (slots : List SlotCalls) → Grow slots slots
-grow-same slots n slot at = (slot, at, refl, [], append-nil slot.ids)
+grow-same slots n slot at = (slot, at, (refl, ([], append-nil slot.ids)))
 
 grow-then : (one two three : List SlotCalls) → Grow one two → Grow two three → Grow one three
 grow-then one two three first second n slot at =
     let a = first n slot at in
     let b = second n a.0 a.1 in
-    (b.0, b.1, b.2 ∙ a.2, a.3 ++ b.3, sym (append_assoc slot.ids a.3 b.3) ∙ (ap (λ (ids : List ℕ). ids ++ b.3) a.4 ∙ b.4))
+    (b.0, b.1, (b.2.0 ∙ a.2.0, (a.2.1.0 ++ b.2.1.0, sym (append_assoc slot.ids a.2.1.0 b.2.1.0) ∙ (ap (λ (ids : List ℕ). ids ++ b.2.1.0) a.2.1.1 ∙ b.2.1.1))))
 
 get-more : {A : Type 0} (xs ys : List A) (n : ℕ) (x : A) → slice_get xs n ≡ Some x → slice_get (xs ++ ys) n ≡ Some x
 get-more [] ys n x is = absurd cc
@@ -276,15 +278,15 @@ get-more (a ∷ xs) ys zero x is = is
 get-more (a ∷ xs) ys (suc n) x is = get-more xs ys n x is
 
 grow-push : (slots : List SlotCalls) (new : SlotCalls) → Grow slots (slots ++ new ∷ [])
-grow-push slots new n slot at = (slot, get-more slots (new ∷ []) n slot at, refl, [], append-nil slot.ids)
+grow-push slots new n slot at = (slot, get-more slots (new ∷ []) n slot at, (refl, ([], append-nil slot.ids)))
 
 grow-on : (slots : List SlotCalls) (m id : ℕ) → Grow slots (goes_on slots m id)
 grow-on [] m id n slot at = absurd cc
 grow-on (first ∷ slots) zero id zero slot at =
     let same : first ≡ slot = cc in
-    (record { ring = first.ring; ids = first.ids ++ id ∷ [] }, refl, ap (λ (s : SlotCalls). s.ring) same, id ∷ [], ap (λ (s : SlotCalls). s.ids ++ id ∷ []) (sym same))
-grow-on (first ∷ slots) zero id (suc n) slot at = (slot, at, refl, [], append-nil slot.ids)
-grow-on (first ∷ slots) (suc m) id zero slot at = (slot, at, refl, [], append-nil slot.ids)
+    (record { ring = first.ring; ids = first.ids ++ id ∷ [] }, refl, (ap (λ (s : SlotCalls). s.ring) same, (id ∷ [], ap (λ (s : SlotCalls). s.ids ++ id ∷ []) (sym same))))
+grow-on (first ∷ slots) zero id (suc n) slot at = (slot, at, (refl, ([], append-nil slot.ids)))
+grow-on (first ∷ slots) (suc m) id zero slot at = (slot, at, (refl, ([], append-nil slot.ids)))
 grow-on (first ∷ slots) (suc m) id (suc n) slot at = grow-on slots m id n slot at
 
 grow-step : (slots : List SlotCalls) (order : Control Opened) → Grow slots (calls_step slots order)
@@ -379,7 +381,7 @@ meeting run front held slots ends fits told are n end sender by has =
     let found = line-held run (lines_of front) held n sender told has in
     let ring = (tells-given run (lines_of front) held n found.0 sender told found.1 has).0 in
     let grown = fits.grow n (as_call found.0) (subst (λ (calls : List SlotCalls). slice_get calls n ≡ Some (as_call found.0)) (as-from [] front) found.2) in
-    ring-get slots ends n grown.0 end are grown.1 by ∙ (grown.2 ∙ sym ring)
+    ring-get slots ends n grown.0 end are grown.1 by ∙ (grown.2.0 ∙ sym ring)
 
 any-place : (id : ℕ) (ids : List ℕ) → list_any (nat_eq id) ids ≡ true → (j : ℕ) × (slice_get ids j ≡ Some id)
 any-place id [] is = absurd cc
@@ -432,7 +434,7 @@ module _ (run : List Step) (front : List (Control Opened)) (held : List (Option 
   place-of id n k slot at is old =
       let place = has-place id (as_calls (lines_of front)) (old-has (lines_of front) id old) in
       let grown = fits.grow place.0 place.1 (subst (λ (calls : List SlotCalls). slice_get calls place.0 ≡ Some place.1) (as-from [] front) place.3) in
-      let same = one-place id place.0 n place.2 k slots grown.0 slot (few id) grown.1 at (prefix-get place.1.ids grown.0.ids place.2 id (grown.3, grown.4) place.4) is in (
+      let same = one-place id place.0 n place.2 k slots grown.0 slot (few id) grown.1 at (prefix-get place.1.ids grown.0.ids place.2 id grown.2.1 place.4) is in (
         place.1,
         subst (λ (m : ℕ). slice_get (as_calls (lines_of front)) m ≡ Some place.1) same.0 place.3,
         subst (λ (j : ℕ). slice_get place.1.ids j ≡ Some id) same.1 place.4,
@@ -466,7 +468,7 @@ module _ (run : List Step) (front : List (Control Opened)) (held : List (Option 
       | inl there ↦
           let grown = fits.grow n some.0 (subst (λ (calls : List SlotCalls). slice_get calls n ≡ Some some.0) (as-from [] front) some.1) in
           let slot_is : grown.0 ≡ slot = same-some (slice_get slots n) grown.0 slot grown.1 at in
-          let other = prefix-get some.0.ids grown.0.ids k there.0 (grown.3, grown.4) there.1 in
+          let other = prefix-get some.0.ids grown.0.ids k there.0 grown.2.1 there.1 in
           let id_is : there.0 ≡ id = same-some (slice_get slot.ids k) there.0 id (subst (λ (s : SlotCalls). slice_get s.ids k ≡ Some there.0) slot_is other) is in
           told-there id n k slot some.0 end account by gave some.1 (subst (λ (m : ℕ). slice_get some.0.ids k ≡ Some m) id_is there.1)
     ]

@@ -1,5 +1,5 @@
 -- One slot more whose giving end met its sender.
-use Rattle.std.proofs.Common.{◌≡◌, ◌∙◌, ℕ, zero, suc, ◌<◌, ◌≤◌, List, [], ◌∷◌, ◌++◌, Option, None, Some, ap, append-nil, append_assoc, arith, get_or, length, refl, set, slice_get, subst, sym}
+use Rattle.std.proofs.Common.{◌≡◌, ◌∙◌, ℕ, zero, suc, ◌<◌, ◌≤◌, List, [], ◌∷◌, ◌++◌, Option, None, Some, ap, append-nil, append_assoc, arith, get_or, inl, inr, length, refl, set, slice_get, subst, sym}
 use Rattle.std.proofs.lemmas.Bool.{cases_eq}
 use Rattle.std.proofs.lemmas.List.{get_or-set_other}
 use Rattle.callbox.specs.Slots.{EachBegins}
@@ -16,6 +16,9 @@ MetFrom from held ends = (n : ℕ) (end : GivingEnd) (sender : SlotSender) → f
 -- the senders of the slots before it are there
 abbrev pub StandBefore : ℕ → List (Option SlotSender) → List (Option SlotSender) → Type 0
 StandBefore from now held = (n : ℕ) → n < from → get_or now n None ≡ get_or held n None
+
+pub some-one : {A : Type 0} {x y : A} → Some x ≡ Some y → x ≡ y
+some-one same = cc
 
 get-past : {A : Type 0} (xs : List A) (n : ℕ) (x : A) → length xs ≤ n → slice_get xs n ≡ Some x → ⊥
 get-past [] n x past is = cc
@@ -44,6 +47,17 @@ module _ (held now new : List (Option SlotSender)) (ends old rest met : List Giv
   longer : length old ≡ suc (length rest)
   longer = ap (λ (es : List GivingEnd). length es) popped ∙ pushed rest end
 
+  pub shorter : length rest < length old
+  shorter = let more = longer in omega (arith, more)
+
+  -- it is the end of the slot of this number
+  pub more-there : slice_get ends number ≡ Some end
+  more-there = subst (λ (m : ℕ). slice_get ends m ≡ Some end) (sym is) (subst (λ (es : List GivingEnd). slice_get es (length rest) ≡ Some end) (ap (λ (es : List GivingEnd). es ++ met) (sym popped) ∙ parts) (get-at rest met end))
+
+  -- and this the slot's sender
+  pub more-held : (sender : SlotSender) → StandBefore (length old) now held → taken ≡ Some sender → get_or held number None ≡ Some sender
+  more-held sender stand found = sym (stand number (omega (arith, longer, is))) ∙ (sym took ∙ found)
+
   pub more-stand : StandBefore (length old) now held → StandBefore (length rest) new held
   more-stand stand n before =
       ap (λ (senders : List (Option SlotSender)). get_or senders n None) left
@@ -55,11 +69,8 @@ module _ (held now new : List (Option SlotSender)) (ends old rest met : List Giv
     | inl same ↦
         let here : slice_get ends (length rest) ≡ Some end = subst (λ (es : List GivingEnd). slice_get es (length rest) ≡ Some end) (ap (λ (es : List GivingEnd). es ++ met) (sym popped) ∙ parts) (get-at rest met end) in
         let found : slice_get ends (length rest) ≡ Some one = subst (λ (m : ℕ). slice_get ends m ≡ Some one) same by in
-        let one_is : end ≡ one = some-same (sym here ∙ found) in
+        let one_is : end ≡ one = some-one (sym here ∙ found) in
         let there : taken ≡ Some sender = took ∙ (ap (λ (m : ℕ). get_or now m None) (is ∙ sym same) ∙ (stand n (omega (arith, longer, same)) ∙ has)) in
         subst (λ (e : GivingEnd). EachBegins (past_out sender.rx ++ got sender.rx ∷ []) (given_at e)) one_is (meets sender there)
     | inr other ↦ was n one sender (omega (arith, longer, from, other)) by has
   ]
-    where
-      some-same : {x y : GivingEnd} → Some x ≡ Some y → x ≡ y
-      some-same same = cc

@@ -72,7 +72,7 @@ none-front [] begins = refl
 none-front (item ∷ sent) begins = absurd cc
 
 tail-begins : (item other : OutItem) (sent given : List OutItem) → Begins (item ∷ sent) (other ∷ given) → (item ≡ other) × Begins sent given
-tail-begins item other sent given begins = (cc, begins.0, tail-same begins.1)
+tail-begins item other sent given begins = (cc, (begins.0, tail-same begins.1))
   where
     tail-same : (other ∷ given) ≡ (item ∷ (sent ++ begins.0)) → given ≡ sent ++ begins.0
     tail-same is = cc

@@ -6,10 +6,10 @@ use Rattle.connection.proofs.meeting.meet_slots.Given as goal
 
 -- the slots behind the rest have met, and of the rest each sender is there still
 abbrev pub invariant-slots : goal.invariant-slots
-invariant-slots g l =
+invariant-slots l =
     ((met : List GivingEnd) × (l.rest.items ++ met ≡ l.fn.ends.items))
     × StandBefore (length l.rest.items) (held_of l.senders.places.items) (held_of l.fn.senders.places.items)
     × MetFrom (length l.rest.items) (held_of l.fn.senders.places.items) l.fn.ends.items
 
 abbrev pub decreases-slots : goal.decreases-slots
-decreases-slots g l = length l.rest.items
+decreases-slots l = length l.rest.items

@@ -1,4 +1,4 @@
-use Rattle.std.proofs.Common.{◌≡◌, ◌∙◌, ◌++◌, ℕ, List, [], Option, Some, ap, refl, slice_get, subst, sym}
+use Rattle.std.proofs.Common.{◌≡◌, ◌∙◌, ◌++◌, ◌≤◌, arith, ℕ, List, [], Option, Some, ap, refl, slice_get, subst, sym}
 use Rattle.std.proofs.lemmas.List.{map-append}
 use Rattle.callslot.specs.declared.order.Opened.{Opened}
 use Rattle.callslot.specs.declared.report.Ending.{Ending}
@@ -6,7 +6,9 @@ use Rattle.callslot.specs.Workers.{GivingEnd}
 use Rattle.lane.specs.Ring.{taken}
 use Rattle.outwriter.specs.declared.control.Control.{Control}
 use Rattle.outwriter.specs.Steps.{order_of}
+use Rattle.session.specs.FlowBytes.{counted_told}
 use Rattle.slots.specs.Lines.{IsGivenIn}
+use Rattle.slots.specs.Steps.{events_of}
 use Rattle.slotwriter.specs.Orders.{orders_of}
 use Rattle.slotwriter.specs.Sent.{held_of}
 use Rattle.slotwriter.specs.Written.{HasSent}
@@ -43,6 +45,8 @@ returns g c =
     let heard = c.read-read.ensures.heard start in
     let has = heard.2.1 in
     let end = c.end-ended.ensures heard.2.0 has.reads in
+    let within : c.join.result.told.amount ≤ counted_told (events_of heard.2.0) =
+    omega (arith, c.audit-2.ensures.within, heard.2.2, ap (λ share. share.amount) c.new-intake.ensures.0, c.open.ensures.amount) in
     let written = c.join.result.written in
     let amount = c.join.result.told.amount in
     let is = c.meet-2.ensures in
@@ -68,13 +72,24 @@ returns g c =
 
 pub returns-in-Err : goal.returns-in-Err
 returns-in-Err g c =
+    let contents = g.O.ConnWrite.contents in
+    let failed = g.O.ConnWrite.failed in
     let is = c.meet.ensures in
+    let parted = c.in-Err.field-0 in
+    let written = parted.written in
+    let put = told-on contents failed (contents c.args.output) parted.told.amount (orders_of (taken written.orders)) (orders_of (taken written.orders) ++ orders_of is.obeyed.0) written.ending (Some c.meet.result.ending) written.device
+    (λ lacked. ap Some (is.memory lacked)) (λ broke spared. ap Some (is.broken broke (λ lacked. spared (ap Some lacked)))) (λ marked. is.marked (some-is marked))
+    (orders_of is.obeyed.0) refl
+    (λ spared broke. ap (λ (os : List (Control Opened)). orders_of os) (is.obeyed.2 (λ lacked. spared (ap Some lacked)) (λ failing. broke (ap Some failing))))
+    c.in-Err.ensures.written in
     record {
       served = (
         [],
         consumes-none _,
-        none-served g.M.Answering.known g.M.Answering.names (λ rows. rows.items) g.O.ConnWrite.contents g.O.ConnWrite.failed (g.O.ConnWrite.contents c.args.output) _ _ c.meet.result.ending _
-            c.meet.result.calls c.meet.result.output TODO
+        subst (λ device. IsServed (λ rows. rows.items) contents failed g.M.Answering.known g.M.Answering.names [] (contents c.args.output) _ c.meet.result.ending c.meet.result.calls device) (sym is.output)
+            (none-served g.M.Answering.known g.M.Answering.names (λ rows. rows.items) contents failed (contents c.args.output) _ _ c.meet.result.ending _
+            c.meet.result.calls written.device (is.lacked refl) (subst (λ rows. rows.items ≡ []) (sym is.calls) c.new-in-Err.ensures.items)
+            (omega (arith, c.audit.ensures.within, ap (λ share. share.amount) c.new-intake.ensures.0, c.open.ensures.amount)) put),
       );
     }
 

@@ -1,5 +1,5 @@
 use Rattle.std.proofs.Common.{◌∙◌, List, Option, ap, subst, sym, ℕ}
-use Rattle.lane.specs.Ring.{taken}
+use Rattle.lane.specs.Ring.{out_name, taken}
 use Rattle.slotwriter.specs.Orders.{orders_of}
 use Rattle.slotwriter.specs.Written.{HasWritten, Led}
 use Rattle.connection.proofs.writer.start.Goals as goal
@@ -13,3 +13,13 @@ returns-in-Err-clause-written g c =
     let kept : HasWritten contents failed (contents c.of.result.value) parted.told.amount (orders_of (taken parted.written.orders)) parted.written.ending parted.written.device =
     (c.write.ensures.sent (contents c.of.result.value) (rw c.in-Err.ensures.err led)).written in
     subst (λ (before : Option (List ℕ)). HasWritten contents failed before parted.told.amount (orders_of (taken parted.written.orders)) parted.written.ending parted.written.device) (ap contents c.of.ensures) kept
+
+pub spawn_with-requires-clause-keeps : goal.spawn_with-requires-clause-keeps
+spawn_with-requires-clause-keeps g c = λ r claims.
+    let contents = g.W.ConnWrite.contents in
+    let failed = g.W.ConnWrite.failed in (
+      claims.0 ∙ (ap out_name c.new-writing.ensures.ring ∙ ap out_name (sym c.of-2.ensures)),
+      claims.1.0 (contents c.of.result.value)
+          (subst (λ (credit : ℕ). Led contents failed (contents c.of.result.value) credit c.new-writing.result) (sym c.requires.untold) c.new-writing.ensures.led),
+      claims.1.1 ∙ c.requires.told,
+    )
