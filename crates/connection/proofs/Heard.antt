@@ -1,6 +1,7 @@
 -- What the reading thread has heard, one after another.
-use Rattle.std.proofs.Common.{◌≡◌, ◌≢◌, ◌∙◌, ◌⊎◌, inl, inr, ℕ, Bool, true, false, true≢false, List, [], ◌∷◌, ◌++◌, Option, None, Some, ap, append-nil, refl, subst, sym, map, take}
+use Rattle.std.proofs.Common.{◌≡◌, ◌≢◌, ◌∙◌, ◌⊎◌, ◌+◌, ◌≤◌, arith, inl, inr, ℕ, Bool, true, false, true≢false, List, [], ◌∷◌, ◌++◌, Option, None, Some, ap, append-nil, refl, subst, sym, map, take}
 use Rattle.std.proofs.lemmas.List.{append_assoc, map-append}
+use Rattle.std.proofs.lemmas.List.Sums.{sum_by-append, sum_by-cons}
 use Rattle.std.specs.Io.KnownBytes.{Consumes, Keeps, ReadConsumes}
 use Rattle.std.specs.Prelude.{IfSome, Result, Ok, Err, is_some}
 use mathlib.Core.List.{IsPrefix}
@@ -17,6 +18,7 @@ use Rattle.session.specs.declared.event.InEvent.TheVariants as events
 use Rattle.callslot.specs.declared.slot.Job.{Job}
 use Rattle.session.specs.CoreStates.{Core, Reached}
 use Rattle.session.specs.Events.{Events}
+use Rattle.session.specs.FlowBytes.{counted_by, counted_told}
 use Rattle.session.proofs.EventLaws.{reached_events}
 use Rattle.session.proofs.OneEvents.{events_go_on, events_one}
 use Rattle.slots.specs.declared.reading.Cut.{Cut}
@@ -33,7 +35,7 @@ use Rattle.lane.specs.Ring.{put_in}
 use Rattle.connection.specs.declared.orders.Orders.{Orders}
 use Rattle.connection.specs.declared.orders.Outbox.{Outbox}
 use Rattle.connection.specs.declared.orders.Route.{Ghosts}
-use Rattle.connection.specs.Heard.{Acts, Cuts, CutsSome, HasPut, HasRead, IsEndedBy, KeptFor, ReadsTo, Tells}
+use Rattle.connection.specs.Heard.{Acts, CountsTo, Cuts, CutsSome, HasPut, HasRead, IsEndedBy, KeptFor, ReadsTo, Tells}
 use Rattle.connection.specs.Puts.{IsSame, Ordered, Puts, PutsAll, order_in, put_of, put_orders}
 
 -- what a core answered to the bytes before
@@ -149,6 +151,33 @@ if-ended (Some ending) more told is = ended-front ending more told is
 ended-at : (step : Step) (end : Option Ending) → ends_at step ≡ end → IfSome end (λ e. IsEndedBy e (step ∷ []))
 ended-at step None is = tt
 ended-at step (Some ending) is = inl is
+
+-- a step that ends the connection was told
+ended-told : (ending : Ending) (more : List Step) → IsEndedBy ending more → (before : List InEvent) × (event : InEvent) × (events_of more ≡ before ++ event ∷ [])
+ended-told ending [] is = absurd is
+ended-told ending (Told event fate ∷ before) is = (events_of before, event, refl)
+ended-told ending (CutOff id why ∷ before) (inl is) = absurd cc
+ended-told ending (CutOff id why ∷ before) (inr is) = ended-told ending before is
+
+only-one : (before : List InEvent) (event one : InEvent) (rest : List InEvent) → (before ++ event ∷ []) ++ rest ≡ one ∷ [] → before ++ event ∷ [] ≡ one ∷ []
+only-one [] event one [] is = is
+only-one [] event one (other ∷ rest) is = absurd cc
+only-one (first ∷ []) event one rest is = absurd cc
+only-one (first ∷ (second ∷ before)) event one rest is = absurd cc
+
+-- steps that tell of one event tell of it
+pub one-told : (event : InEvent) (end : Option Ending) (more : List Step) → IsPrefix (events_of more) (event ∷ []) → (end ≡ None → events_of more ≡ event ∷ [])
+    → IfSome end (λ ending. IsEndedBy ending more) → events_of more ≡ event ∷ []
+one-told event None more front all ended = all refl
+one-told event (Some ending) more front all ended =
+    let found = ended-told ending more ended in
+    found.2 ∙ only-one found.0 found.1 event front.0 (ap (λ (es : List InEvent). es ++ front.0) (sym found.2) ∙ front.1)
+
+-- what was counted, with what these steps tell of more
+pub counted-more : (more told : List Step) (start had has : ℕ) → had ≤ start + counted_told (events_of told) → has ≤ had + counted_told (events_of more)
+    → has ≤ start + counted_told (events_of (more ++ told))
+counted-more more told start had has before behind =
+    omega (arith, before, behind, ap counted_told (events-append more told), sum_by-append counted_by (events_of told) (events_of more))
 
 -- the input ended
 pub not-by-error : (end : Ending) → (end ≡ InputEnded) ⊎ (end ≡ PeerGoaway) → (code : ErrorCode) → end ≢ ProtocolError code
@@ -268,16 +297,6 @@ module _ {H : Type 0} {hand : Hands H} {A B C N : Type 0} {route : Ghosts N} {na
       subst (λ (n : ℕ). ReadsTo names (events.Open n head ∷ []) end one old two new) same
       (subst (λ (h : CallHead). ReadsTo names (events.Open job.id h ∷ []) end one old two new) is reads)
 
-  -- by another end
-  pub to-end : (given : List InEvent) (end other : Option Ending) (one two : Reading H hand) (old new : Orders A B C N route) → end ≡ other → ReadsTo names given end one old two new
-      → ReadsTo names given other one old two new
-  to-end given end other one two old new is reads = subst (λ (found : Option Ending). ReadsTo names given found one old two new) is reads
-
-  -- by other events
-  pub to-events : (given other : List InEvent) (end : Option Ending) (one two : Reading H hand) (old new : Orders A B C N route) → given ≡ other → ReadsTo names given end one old two new
-      → ReadsTo names other end one old two new
-  to-events given other end one two old new is reads = subst (λ (es : List InEvent). ReadsTo names es end one old two new) is reads
-
   -- calls were cut before it
   pub to-behind : (given : List InEvent) (end : Option Ending) (one two three : Reading H hand) (old mid new : Orders A B C N route) → CutsSome names one old two mid
       → ReadsTo names given end two mid three new → ReadsTo names given end one old three new
@@ -295,16 +314,38 @@ module _ {H : Type 0} {hand : Hands H} {A B C N : Type 0} {route : Ghosts N} {na
         },
       )
 
-  pub to-none : (reading : Reading H hand) (orders : Orders A B C N route) → ReadsTo names [] None reading orders reading orders
-  to-none reading orders told kept = ([], record { front = ([], refl); all = λ none. refl; calm = λ none. tt; ended = tt; kept = kept })
+  -- ---- with what was counted
+
+  -- one event, of which at most as much was counted as it tells of
+  pub counts-one : (event : InEvent) (end : Option Ending) (had has : ℕ) (one two : Reading H hand) (old new : Orders A B C N route) → has ≤ had + counted_by event
+      → ReadsTo names (event ∷ []) end one old two new → CountsTo names (event ∷ []) end had one old has two new
+  counts-one event end had has one two old new counted reads told kept =
+      let a = reads told kept in
+      let is : events_of a.0 ≡ event ∷ [] = one-told event end a.0 a.1.front a.1.all a.1.ended in
+      (a.0, a.1, omega (arith, counted, ap counted_told is, sum_by-cons counted_by event []))
+
+  -- by another end
+  pub counts-end : (given : List InEvent) (end other : Option Ending) (had has : ℕ) (one two : Reading H hand) (old new : Orders A B C N route) → end ≡ other
+      → CountsTo names given end had one old has two new → CountsTo names given other had one old has two new
+  counts-end given end other had has one two old new is reads = subst (λ (found : Option Ending). CountsTo names given found had one old has two new) is reads
+
+  -- by other events
+  pub counts-events : (given other : List InEvent) (end : Option Ending) (had has : ℕ) (one two : Reading H hand) (old new : Orders A B C N route) → given ≡ other
+      → CountsTo names given end had one old has two new → CountsTo names other end had one old has two new
+  counts-events given other end had has one two old new is reads = subst (λ (es : List InEvent). CountsTo names es end had one old has two new) is reads
+
+  pub counts-none : (had : ℕ) (reading : Reading H hand) (orders : Orders A B C N route) → CountsTo names [] None had reading orders had reading orders
+  counts-none had reading orders told kept =
+      ([], record { front = ([], refl); all = λ none. refl; calm = λ none. tt; ended = tt; kept = kept }, omega arith)
 
   -- more events
-  pub to-then : (first more : List InEvent) (end : Option Ending) (one two three : Reading H hand) (old mid new : Orders A B C N route) → ReadsTo names first None one old two mid
-      → ReadsTo names more end two mid three new → ReadsTo names (first ++ more) end one old three new
-  to-then first more end one two three old mid new before behind told kept =
+  pub counts-then : (first more : List InEvent) (end : Option Ending) (had between has : ℕ) (one two three : Reading H hand) (old mid new : Orders A B C N route)
+      → CountsTo names first None had one old between two mid → CountsTo names more end between two mid has three new → CountsTo names (first ++ more) end had one old has three new
+  counts-then first more end had between has one two three old mid new before behind told kept =
       let a = before told kept in
       let b = behind (a.0 ++ told) a.1.kept in
-      let is : events_of (b.0 ++ a.0) ≡ first ++ events_of b.0 = events-append b.0 a.0 ∙ ap (λ (es : List InEvent). es ++ events_of b.0) (a.1.all refl) in (
+      let parts : events_of (b.0 ++ a.0) ≡ events_of a.0 ++ events_of b.0 = events-append b.0 a.0 in
+      let is : events_of (b.0 ++ a.0) ≡ first ++ events_of b.0 = parts ∙ ap (λ (es : List InEvent). es ++ events_of b.0) (a.1.all refl) in (
         b.0 ++ a.0,
         record {
           front = (b.1.front.0, ap (λ (es : List InEvent). es ++ b.1.front.0) is ∙ (append_assoc first (events_of b.0) b.1.front.0 ∙ ap (λ (es : List InEvent). first ++ es) b.1.front.1));
@@ -313,12 +354,13 @@ module _ {H : Type 0} {hand : Hands H} {A B C N : Type 0} {route : Ghosts N} {na
           ended = if-ended end b.0 a.0 b.1.ended;
           kept = subst (λ (steps : List Step). KeptFor names steps three new) (sym (append_assoc b.0 a.0 told)) b.1.kept;
         },
+        omega (arith, a.2, b.2, ap counted_told parts, sum_by-append counted_by (events_of a.0) (events_of b.0)),
       )
 
   -- an event ended the connection, so those behind it were not heard
-  pub to-stop : (given rest : List InEvent) (ending : Ending) (end : Option Ending) (one two : Reading H hand) (old new : Orders A B C N route) → end ≡ Some ending
-      → ReadsTo names given end one old two new → ReadsTo names (given ++ rest) end one old two new
-  to-stop given rest ending end one two old new is reads told kept =
+  pub counts-stop : (given rest : List InEvent) (ending : Ending) (end : Option Ending) (had has : ℕ) (one two : Reading H hand) (old new : Orders A B C N route) → end ≡ Some ending
+      → CountsTo names given end had one old has two new → CountsTo names (given ++ rest) end had one old has two new
+  counts-stop given rest ending end had has one two old new is reads told kept =
       let a = reads told kept in (
         a.0,
         record {
@@ -328,6 +370,7 @@ module _ {H : Type 0} {hand : Hands H} {A B C N : Type 0} {route : Ghosts N} {na
           ended = a.1.ended;
           kept = a.1.kept;
         },
+        a.2,
       )
     where
       not-both : (found : Option Ending) → found ≡ Some ending → found ≡ None → ⊥
@@ -365,10 +408,11 @@ module _ {H : Type 0} {hand : Hands H} {A B C N : Type 0} {route : Ghosts N} {na
       all-read ReadFailed before told bytes given core reading orders same reached is calm kept (λ gone. cc) (λ code failed. cc)
 
   -- some were, and one of them ended the connection
-  pub some-read : (end : Ending) (given before : List InEvent) (told : List Step) (bytes : List ℕ) (core : Core) (reading reading_new : Reading H hand) (orders orders_new : Orders A B C N route)
-      → Reached bytes (before ++ given) core → events_of told ≡ before → ReadsTo names given (Some end) reading orders reading_new orders_new
-      → KeptFor names told reading orders → (all : List Step) × HasRead names end bytes all reading_new orders_new
-  some-read end given before told bytes core reading reading_new orders orders_new reached is reads kept =
+  pub some-read : (end : Ending) (given before : List InEvent) (told : List Step) (bytes : List ℕ) (core : Core) (start had has : ℕ) (reading reading_new : Reading H hand) (orders orders_new : Orders A B C N route)
+      → Reached bytes (before ++ given) core → events_of told ≡ before → CountsTo names given (Some end) had reading orders has reading_new orders_new
+      → KeptFor names told reading orders → had ≤ start + counted_told (events_of told)
+      → (all : List Step) × HasRead names end bytes all reading_new orders_new × (has ≤ start + counted_told (events_of all))
+  some-read end given before told bytes core start had has reading reading_new orders orders_new reached is reads kept counted =
       let more = reads told kept in
       let not : is_heard_out end ≡ true → ⊥ = λ out. true≢false (sym out ∙ ended-harsh end more.0 more.1.ended) in (
         more.0 ++ told,
@@ -387,11 +431,12 @@ module _ {H : Type 0} {hand : Hands H} {A B C N : Type 0} {route : Ghosts N} {na
           goaway = λ gone. absurd (not (ap (λ (e : Ending). is_heard_out e) gone));
           failed = λ code is_so. subst (λ (e : Ending). IsEndedBy e (more.0 ++ told)) is_so (ended-front end more.0 told more.1.ended);
         },
+        counted-more more.0 told start had has counted more.2,
       )
 
-  pub some-sound : (end : Ending) (given : List InEvent) (told : List Step) (reading reading_new : Reading H hand) (orders orders_new : Orders A B C N route)
-      → ReadsTo names given (Some end) reading orders reading_new orders_new → KeptFor names told reading orders → end ≢ ReadFailed
-  some-sound end given told reading reading_new orders orders_new reads kept is =
+  pub some-sound : (end : Ending) (given : List InEvent) (told : List Step) (had has : ℕ) (reading reading_new : Reading H hand) (orders orders_new : Orders A B C N route)
+      → CountsTo names given (Some end) had reading orders has reading_new orders_new → KeptFor names told reading orders → end ≢ ReadFailed
+  some-sound end given told had has reading reading_new orders orders_new reads kept is =
       let more = reads told kept in
       true≢false (sym (ap (λ (e : Ending). is_heard_out e) is) ∙ ended-harsh end more.0 more.1.ended)
 

@@ -1,2 +1,3 @@
+pub mod CreditSteps
 pub mod Heard
 pub mod Reports

@@ -1,5 +1,5 @@
 -- What became of a connection, of what was heard, ordered and written.
-use Rattle.std.proofs.Common.{◌≡◌, ◌≢◌, ◌∙◌, ◌⊎◌, inl, inr, ℕ, Bool, true, false, true≢false, List, [], ◌∷◌, ◌++◌, Option, None, Some, ap, append-nil, refl, subst, sym}
+use Rattle.std.proofs.Common.{◌≡◌, ◌≢◌, ◌∙◌, ◌⊎◌, ◌≤◌, arith, inl, inr, ℕ, Bool, true, false, true≢false, List, [], ◌∷◌, ◌++◌, Option, None, Some, ap, append-nil, refl, subst, sym}
 use Rattle.std.specs.Prelude.{All, map}
 use Rattle.std.specs.Io.KnownBytes.{Appends}
 use Rattle.std.proofs.lemmas.List.Elements.{All-nil}
@@ -13,6 +13,7 @@ use Rattle.outwriter.specs.Steps.{Order}
 use Rattle.outwriter.specs.declared.control.Control.TheVariants as orders
 use Rattle.session.specs.declared.event.InEvent.{InEvent}
 use Rattle.session.specs.Events.{Events}
+use Rattle.session.specs.FlowBytes.{counted_told}
 use Rattle.slots.specs.declared.reading.Reading.{Reading}
 use Rattle.slots.specs.declared.worker.Worker.{Ghosts as Hands}
 use Rattle.slots.specs.Orders.{IsReset, orders_by}
@@ -25,6 +26,7 @@ use Rattle.connection.specs.declared.orders.Route.{Ghosts}
 use Rattle.connection.specs.Heard.{EndsOrders, HasEnded, HasRead, IsEndedBy}
 use Rattle.connection.specs.Puts.{put_orders}
 use Rattle.connection.specs.Served.{HasCause, IsServed}
+use Rattle.connection.proofs.CreditSteps.{told-within}
 use Rattle.connection.proofs.Heard.{ended-more, silent-more}
 
 -- what is so unless an error ended the connection
@@ -47,13 +49,14 @@ blamed-so told read code failed (inr is) = inr is
 
 module _ (answers : ℕ → List (List ℕ) → Bool → Answer → Type 0) (names : List ℕ → ℕ → Type 0) {V W : Type 0} (items : V → List CallReport) (contents : W → Option (List ℕ)) (failed : W → Bool) where
   -- behind what was read the calls were cut, of which no event tells
-  pub are-served : {H : Type 0} {hand : Hands H} {A B C N : Type 0} {route : Ghosts N} (came : List ℕ) (before : Option (List ℕ)) (read_failed : Bool) (read ending : Ending) (told cuts : List Step)
+  pub are-served : {H : Type 0} {hand : Hands H} {A B C N : Type 0} {route : Ghosts N} (came : List ℕ) (before : Option (List ℕ)) (granted : ℕ) (read_failed : Bool) (read ending : Ending) (told cuts : List Step)
       (reading : Reading H hand) (old new : Orders A B C N route) (given calls : V) (device : W) → calls ≡ given → HasRead names read came told reading old
       → HasEnded items answers names told cuts given → EndsOrders told cuts old new → (is_heard_out ending ≡ true → ending ≡ read)
       → ((code : ErrorCode) → ending ≡ ProtocolError code → (read ≡ ProtocolError code) ⊎ (code ≡ FlowControlError)) → (ending ≢ OutOfMemory → read ≢ OutOfMemory)
       → (ending ≢ OutOfMemory → ending ≢ WriteFailed → ((code : ErrorCode) → ending ≢ ProtocolError code) → new.has_dropped ≡ false) → (read ≡ ReadFailed → read_failed ≡ true)
-      → HasWritten contents failed before (put_orders new) (Some ending) device → IsServed items contents failed answers names came before read_failed ending calls device
-  are-served came before read_failed read ending told cuts reading old new given calls device same has ended ends input blamed spared undropped unread written =
+      → granted ≤ counted_told (events_of told)
+      → HasWritten contents failed before granted (put_orders new) (Some ending) device → IsServed items contents failed answers names came before read_failed ending calls device
+  are-served came before granted read_failed read ending told cuts reading old new given calls device same has ended ends input blamed spared undropped unread within written =
       let is : events_of (cuts ++ told) ≡ events_of told = silent-more cuts told ended.silent in
       let also : is_heard_out ending ≡ true → is_heard_out read ≡ true = λ out. subst (λ (e : Ending). is_heard_out e ≡ true) (input out) out in
       let whole : is_heard_out ending ≡ true → put_orders new ≡ orders_by (cuts ++ told) ++ ending_orders =
@@ -72,7 +75,10 @@ module _ (answers : ℕ → List (List ℕ) → Bool → Answer → Type 0) (nam
         resets = λ out id known code finished closed.
             subst (λ (os : List Order). IsReset id os) (sym (whole out))
             (reset-left id (orders_by (cuts ++ told)) ending_orders (reset-ordered (cuts ++ told) id (calm-more cuts told ended.calm (has.calm (also out))) known code finished closed));
+        granted = granted;
         written = written;
+        credit = told-within contents failed before granted (put_orders new) (Some ending) device (counted_told (events_of (cuts ++ told))) written
+            (subst (λ (es : List InEvent). granted ≤ counted_told es) (sym is) within);
         rows = subst (λ (v : V). AreRows answers names (cuts ++ told) (reported (cuts ++ told)) (items v)) (sym same) ended.rows;
         cause = record {
           unsent = λ sent. written.marked (ap Some sent);
@@ -91,10 +97,10 @@ module _ (answers : ℕ → List (List ℕ) → Bool → Answer → Type 0) (nam
   }
 
   -- no memory was there, and nothing was read
-  pub none-served : (before : Option (List ℕ)) (read_failed : Bool) (ending : Ending) (put : List Order) (calls : V) (device : W) → ending ≡ OutOfMemory
-      → items calls ≡ [] → HasWritten contents failed before put (Some ending) device
+  pub none-served : (before : Option (List ℕ)) (granted : ℕ) (read_failed : Bool) (ending : Ending) (put : List Order) (calls : V) (device : W) → ending ≡ OutOfMemory
+      → items calls ≡ [] → granted ≤ 0 → HasWritten contents failed before granted put (Some ending) device
       → IsServed items contents failed answers names [] before read_failed ending calls device
-  none-served before read_failed ending put calls device lacked none written =
+  none-served before granted read_failed ending put calls device lacked none within written =
       let not : is_heard_out ending ≡ true → ⊥ = λ out. true≢false (sym out ∙ ap (λ (e : Ending). is_heard_out e) lacked) in
       record {
         told = [];
@@ -105,7 +111,9 @@ module _ (answers : ℕ → List (List ℕ) → Bool → Answer → Type 0) (nam
         ordered = λ spared. absurd (spared lacked);
         whole = λ out. absurd (not out);
         resets = λ out. absurd (not out);
+        granted = granted;
         written = written;
+        credit = told-within contents failed before granted put (Some ending) device 0 written within;
         rows = none-rows calls none;
         cause = record { unread = λ is. absurd cc; unsent = λ sent. absurd cc; goaway = λ is. absurd cc; failed = λ code is. absurd cc };
       }
@@ -115,10 +123,11 @@ module _ (answers : ℕ → List (List ℕ) → Bool → Answer → Type 0) (nam
   appends-none (Some bytes) = sym (append-nil bytes)
 
   -- nothing was written either
-  pub none-written : (device : W) (ending : Ending) → ending ≡ OutOfMemory → HasWritten contents failed (contents device) [] (Some ending) device
+  pub none-written : (device : W) (ending : Ending) → ending ≡ OutOfMemory → HasWritten contents failed (contents device) 0 [] (Some ending) device
   none-written device ending lacked = record {
     run = [];
     lawful = tt;
+    credited = refl;
     some = record { front = []; rest = []; ends = []; steps = []; orders_are = refl; run_is = refl; took = refl; answered = tt; ended = tt };
     each = λ spared. absurd (spared (ap Some lacked));
     others = λ id unopened. ([], (_, [], (refl, refl), refl), inl refl);
@@ -133,5 +142,5 @@ module _ (answers : ℕ → List (List ℕ) → Bool → Answer → Type 0) (nam
   pub unbegun : (read_failed : Bool) (ending : Ending) (calls : V) (old device : W) → ending ≡ OutOfMemory → device ≡ old → items calls ≡ []
       → IsServed items contents failed answers names [] (contents old) read_failed ending calls device
   unbegun read_failed ending calls old device lacked same none =
-      none-served (contents old) read_failed ending [] calls device lacked none
-      (subst (λ (d : W). HasWritten contents failed (contents d) [] (Some ending) device) same (none-written device ending lacked))
+      none-served (contents old) 0 read_failed ending [] calls device lacked none (omega arith)
+      (subst (λ (d : W). HasWritten contents failed (contents d) 0 [] (Some ending) device) same (none-written device ending lacked))

@@ -1,6 +1,6 @@
 -- What the reading thread has heard, and had ordered.
 use mathlib.Core.List.{IsPrefix}
-use Rattle.std.specs.Prelude.{◌≡◌, ◌≢◌, ◌⊎◌, ℕ, Bool, true, false, IfSome, List, [], ◌∷◌, ◌++◌, Option, None, Some}
+use Rattle.std.specs.Prelude.{◌≡◌, ◌≢◌, ◌⊎◌, ◌+◌, ◌≤◌, ℕ, Bool, true, false, IfSome, List, [], ◌∷◌, ◌++◌, Option, None, Some}
 use Rattle.callslot.specs.declared.report.CallReport.{CallReport}
 use Rattle.callslot.specs.declared.report.Ending.{Ending}
 use Rattle.callslot.specs.declared.report.Ending.TheVariants.{PeerGoaway, ProtocolError, OutOfMemory}
@@ -10,6 +10,7 @@ use Rattle.outwriter.specs.Steps.{Order}
 use Rattle.outwriter.specs.declared.control.Control.TheVariants.{InputEnded, Close}
 use Rattle.session.specs.declared.event.InEvent.{InEvent}
 use Rattle.session.specs.declared.event.InEvent.TheVariants as events
+use Rattle.session.specs.FlowBytes.{counted_told}
 use Rattle.slots.specs.declared.reading.Decided.{Decided}
 use Rattle.slots.specs.declared.reading.Reading.{Reading}
 use Rattle.slots.specs.declared.worker.Worker.{Ghosts as Hands}
@@ -60,6 +61,11 @@ module _ {H : Type 0} {hand : Hands H} {A B C N : Type 0} {route : Ghosts N} (na
   abbrev pub ReadsTo : List InEvent → Option Ending → Reading H hand → Orders A B C N route → Reading H hand → Orders A B C N route → Type 0
   ReadsTo given end reading orders reading_new orders_new = (told : List Step) → KeptFor told reading orders
       → (more : List Step) × Tells given end told more reading_new orders_new
+
+  -- The same; and so many bytes of DATA were counted before, and after at most as many more as these steps tell of.
+  abbrev pub CountsTo : List InEvent → Option Ending → ℕ → Reading H hand → Orders A B C N route → ℕ → Reading H hand → Orders A B C N route → Type 0
+  CountsTo given end had reading orders has reading_new orders_new = (told : List Step) → KeptFor told reading orders
+      → (more : List Step) × Tells given end told more reading_new orders_new × (has ≤ had + counted_told (events_of more))
 
   -- These steps were heard of the bytes that came, all of them where all that came was heard, and then none ended the connection; but
   -- where memory ran out, what was ordered is what they lead to. The ending has its cause among them.

@@ -1,14 +1,16 @@
 -- What became of a connection: over one list of what was heard, one list of what was ordered, and one run of its writer.
-use Rattle.std.specs.Prelude.{◌≡◌, ◌≢◌, ◌⊎◌, ℕ, Bool, true, List, [], ◌∷◌, ◌++◌, Option, Some}
+use Rattle.std.specs.Prelude.{◌≡◌, ◌≢◌, ◌⊎◌, ◌≤◌, ℕ, Bool, true, List, [], ◌∷◌, ◌++◌, Option, Some}
 use Rattle.callslot.specs.declared.report.CallReport.{CallReport}
 use Rattle.callslot.specs.declared.report.Ending.{Ending}
 use Rattle.callslot.specs.declared.report.Ending.TheVariants.{PeerGoaway, ProtocolError, ReadFailed, WriteFailed, OutOfMemory}
 use Rattle.h2frame.specs.declared.error_code.ErrorCode.{ErrorCode}
 use Rattle.h2frame.specs.declared.error_code.ErrorCode.TheVariants.{FlowControlError}
 use Rattle.handlers.specs.declared.step.Step.{Step as Answer}
+use Rattle.outwriter.specs.Credit.{updated}
 use Rattle.outwriter.specs.Steps.{Order}
 use Rattle.outwriter.specs.declared.control.Control.TheVariants.{InputEnded, Close}
 use Rattle.session.specs.declared.event.InEvent.TheVariants as events
+use Rattle.session.specs.FlowBytes.{counted_told}
 use Rattle.slots.specs.Calls.{is_admitted}
 use Rattle.slots.specs.Orders.{orders_by}
 use Rattle.slots.specs.Reports.{AreCalm, AreHeard, AreRows, WasResetFor, is_heard_out}
@@ -41,8 +43,11 @@ module _ {W V : Type 0} (items : V → List CallReport) (contents : W → Option
     pub ordered : end ≢ OutOfMemory → HasPut (orders_by told ++ InputEnded ∷ []) put
     pub whole : is_heard_out end ≡ true → put ≡ orders_by told ++ InputEnded ∷ Close ∷ []
     pub resets : is_heard_out end ≡ true → (id : ℕ) → is_admitted id told ≡ true → WasResetFor told put id
-    -- a lawful run obeyed them, and what was written are its frames
-    pub written : HasWritten contents failed before put (Some end) device
+    -- a lawful run obeyed them, granted so much credit on the connection, and what was written are its frames
+    pub granted : ℕ
+    pub written : HasWritten contents failed before granted put (Some end) device
+    -- the increments of its WINDOW_UPDATE frames on the connection sum to at most the bytes of DATA that were heard (RFC 9113, section 6.9)
+    pub credit : updated 0 written.run ≤ counted_told (events_of told)
     -- a row for each call that was admitted, in order, on its lawful account; where no worker served it, nothing was fed, taken or given
     pub rows : AreRows answers names told (reported told) (items calls)
     pub cause : HasCause end told read_failed (failed device)

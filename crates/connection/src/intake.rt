@@ -1,6 +1,6 @@
 //! The reader's hold on the credit book.
 
-ghost use Rattle.std.specs.Prelude.{◌≡◌, ◌<◌, ◌≤◌};
+ghost use Rattle.std.specs.Prelude.{◌≡◌, ◌+◌, ◌<◌, ◌≤◌};
 
 use callworker::Shared;
 use connbook::{AdmitFault, Receipt};
@@ -53,9 +53,26 @@ impl<A: Ledger, B: Ledger, C: Ledger> Intake<A, B, C> {
         requires padding { padding ≤ flow }
         requires came { (self.old.came.parts ≡ A.parts) × (0 < A.parts) }
         ensures came { self.new.came.parts ≡ self.old.came.parts }
+        ensures counted { self.new.came.amount ≤ self.old.came.amount + flow }
         ensures calls { self.new.calls ≡ self.old.calls }
     {
         let Intake { shared, came, .. } = self;
         shared.book.lock(rt).receive(id, flow, padding, came)
+    }
+
+    /// Where the reader meets the writer, which hands in its share: no more was announced on the connection than came.
+    pub(crate) fn audit(&mut self, rt: &impl Wait, told: Share<C>)
+        requires came { self.old.came.parts ≡ A.parts }
+        requires calls { self.old.calls.parts ≡ B.parts }
+        requires told { told.parts ≡ C.parts }
+        ensures within { told.amount ≤ self.old.came.amount }
+    {
+        let mut told = told;
+        let Intake {
+            shared,
+            came,
+            calls,
+        } = self;
+        shared.book.lock(rt).audit(came, calls, &mut told);
     }
 }

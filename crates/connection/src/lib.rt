@@ -12,9 +12,11 @@
 //! - `hand`: a worker's thread; `seats`: new slots.
 //! - `orders`: the reader's end of the ring of orders.
 //! - `reader`: the reading thread; `writer`: the writing thread.
-//! - `served`: what is told of a connection; `serve`: one connection from its first byte to its last.
+//! - `served`: what is told of a connection; `serve`: one connection from its first byte to its last; `credit`: what
+//!   follows of the credit that is told on it.
 #![tactic(auto)]
 
+pub mod credit;
 mod hand;
 mod intake;
 mod orders;

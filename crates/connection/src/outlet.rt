@@ -1,7 +1,7 @@
 //! The writer's hold on the credit book.
 
 ghost use Rattle.std.specs.Prelude.{◌≡◌, ◌<◌};
-ghost use Rattle.slotwriter.specs.Written.{LeadsOn};
+ghost use Rattle.slotwriter.specs.Written.{LeadsTo};
 
 use callworker::Shared;
 use connbook::ConnBook;
@@ -16,15 +16,24 @@ use std::sync::{Arc, Wait};
 #[derive(Drop)]
 pub(crate) struct Outlet<A: Ledger, B: Ledger, C: Ledger> {
     pub(crate) shared: Arc<Shared<A, B, C>>,
-    told: Share<C>,
+    pub(crate) told: Share<C>,
     ghost some: { 0 < told.parts },
 }
 
 impl<A: Ledger, B: Ledger, C: Ledger> Outlet<A, B, C> {
     pub(crate) fn new(shared: Arc<Shared<A, B, C>>, told: Share<C>) -> Outlet<A, B, C>
         requires { 0 < told.parts }
+        ensures told { result.told ≡ told }
     {
         Outlet { shared, told }
+    }
+
+    /// The share of the one who announces credit.
+    pub(crate) fn into_share(self) -> Share<C>
+        ensures { result ≡ self.told }
+    {
+        let Outlet { told, .. } = self;
+        told
     }
 
     /// The greatest stream that was admitted.
@@ -32,13 +41,15 @@ impl<A: Ledger, B: Ledger, C: Ledger> Outlet<A, B, C> {
         self.shared.book.lock(rt).last()
     }
 
-    /// Has the writer owe the peer all credit that is due.
+    /// Has the writer owe the peer all credit that is due. What it owes on the connection by that counts in the share.
     pub(crate) fn announce<W: ConnWrite + Drop>(
         &mut self,
         rt: &impl Wait,
         writing: &mut SlotWriter<W>,
     )
-        ensures leads { LeadsOn W.contents W.failed writing.old writing.new }
+        ensures leads { LeadsTo W.contents W.failed self.old.told.amount writing.old
+            self.new.told.amount writing.new }
+        ensures parts { self.new.told.parts ≡ self.old.told.parts }
     {
         let Outlet { shared, told, .. } = self;
         let mut book = shared.book.lock(rt);
@@ -66,7 +77,8 @@ where
     W: ConnWrite + Drop,
     requires some { 0 < told.old.parts }
     ensures parts { told.new.parts ≡ told.old.parts }
-    ensures leads { LeadsOn W.contents W.failed writing.old writing.new }
+    ensures leads { LeadsTo W.contents W.failed told.old.amount writing.old
+        told.new.amount writing.new }
 {
     let increment = book.announce(id, told);
     if increment > 0 {

@@ -1,20 +1,21 @@
 //! The reading thread of a connection: it reads, asks the lock, and does what the reading side decides (the crate `slots`).
 
 ghost use Rattle.callhead.specs.declared.head.CallHead.{CallHead as Head};
-ghost use Rattle.std.specs.Prelude.{◌≡◌, ◌<◌, ◌++◌, ◌∷◌, ℕ, List, [], None, Some, Ok, IfOk, IfSome, OnErr, true, vec_capacity, vec_len};
+ghost use Rattle.std.specs.Prelude.{◌≡◌, ◌+◌, ◌<◌, ◌≤◌, ◌++◌, ◌∷◌, ℕ, List, [], None, Some, Ok, IfOk, IfSome, OnErr, true, vec_capacity, vec_len};
 ghost use Rattle.callslot.specs.declared.report.Ending.TheVariants as ending;
 ghost use Rattle.callworker.specs.Works.{IsKnown};
 ghost use Rattle.handlers.specs.Listed.{listed};
 ghost use Rattle.session.specs.declared.event.InEvent.{InEvent as Event};
 ghost use Rattle.session.specs.declared.event.InEvent.TheVariants as events;
 ghost use Rattle.session.specs.CoreStates.{Reached};
+ghost use Rattle.session.specs.FlowBytes.{counted_by, counted_told};
 ghost use Rattle.slots.specs.Calls.{AreNames, IsFirstWith};
 ghost use Rattle.slots.specs.Readings.{Reads};
 ghost use Rattle.slots.specs.Seats.{IsNext, IsSeat, KeepsNext, jobs_of};
 ghost use Rattle.slots.specs.Steps.{Admitted, Step, Told, events_of};
 ghost use Rattle.callslot.specs.declared.slot.Job.{Job as Called};
 ghost use Rattle.std.specs.Io.KnownBytes.{Consumes};
-ghost use Rattle.connection.specs.Heard.{Acts, CutsSome, EndsOrders, HasEnded, HasRead, KeptFor, ReadsTo};
+ghost use Rattle.connection.specs.Heard.{Acts, CountsTo, CutsSome, EndsOrders, HasEnded, HasRead, KeptFor, ReadsTo};
 ghost use Rattle.connection.specs.Puts.{IsSame};
 
 use crate::hand::Hand;
@@ -119,7 +120,9 @@ where
         ensures heard { KeptFor M.names [] self.old.reading self.old.orders → (came : List ℕ)
             × Consumes (I.remaining input.old) (I.remaining input.new) came
             × ((told : List Step) × HasRead M.names result came told self.new.reading
-            self.new.orders) }
+            self.new.orders
+            × (intake.new.came.amount
+            ≤ intake.old.came.amount + counted_told (events_of told))) }
         ensures failed { KeptFor M.names [] self.old.reading self.old.orders
             → result ≡ ending.ReadFailed
             → I.failed input.new ≡ true }
@@ -229,8 +232,10 @@ where
         ensures on { IfOk result (λ end. (bytes : List ℕ) (before : List Event)
             → Reached bytes before core.old
             → (given : List Event) × Reached (bytes ++ piece.now) (before ++ given) core.new
-            × ReadsTo M.names given end self.old.reading self.old.orders self.new.reading
-            self.new.orders) }
+            × CountsTo M.names given end
+            intake.old.came.amount self.old.reading self.old.orders
+            intake.new.came.amount self.new.reading self.new.orders) }
+        ensures uncounted { OnErr result (intake.new.came ≡ intake.old.came) }
         ensures same { OnErr result ((self.new.reading ≡ self.old.reading)
             × (self.new.orders ≡ self.old.orders)) }
     {
@@ -270,8 +275,9 @@ where
         requires calls { (intake.old.calls.parts ≡ B.parts) × (0 < B.parts) }
         ensures came { (intake.new.came.parts ≡ A.parts) × (0 < A.parts) }
         ensures calls { (intake.new.calls.parts ≡ B.parts) × (0 < B.parts) }
-        ensures reads { ReadsTo M.names events.items result
-            self.old.reading self.old.orders self.new.reading self.new.orders }
+        ensures reads { CountsTo M.names events.items result
+            intake.old.came.amount self.old.reading self.old.orders
+            intake.new.came.amount self.new.reading self.new.orders }
     {
         'events: for event in events {
             let end = self.follow(intake, event, methods);
@@ -296,6 +302,7 @@ where
             (listed methods.now.value)) M.names }
         requires came { (intake.old.came.parts ≡ A.parts) × (0 < A.parts) }
         requires calls { (intake.old.calls.parts ≡ B.parts) × (0 < B.parts) }
+        ensures counted { intake.new.came.amount ≤ intake.old.came.amount + counted_by event }
         ensures came { (intake.new.came.parts ≡ A.parts) × (0 < A.parts) }
         ensures calls { (intake.new.calls.parts ≡ B.parts) × (0 < B.parts) }
         ensures reads { ReadsTo M.names (event ∷ []) result
@@ -407,6 +414,7 @@ where
             (listed methods.now.value)) M.names }
         requires came { (intake.old.came.parts ≡ A.parts) × (0 < A.parts) }
         requires calls { (intake.old.calls.parts ≡ B.parts) × (0 < B.parts) }
+        ensures counted { intake.new.came ≡ intake.old.came }
         ensures came { (intake.new.came.parts ≡ A.parts) × (0 < A.parts) }
         ensures calls { (intake.new.calls.parts ≡ B.parts) × (0 < B.parts) }
         ensures reads { ReadsTo M.names (events.Open id head ∷ []) result
@@ -437,6 +445,7 @@ where
         requires next { IsNext job.id self.old.reading.slots }
         requires came { (intake.old.came.parts ≡ A.parts) × (0 < A.parts) }
         requires calls { (intake.old.calls.parts ≡ B.parts) × (0 < B.parts) }
+        ensures counted { intake.new.came ≡ intake.old.came }
         ensures came { (intake.new.came.parts ≡ A.parts) × (0 < A.parts) }
         ensures calls { (intake.new.calls.parts ≡ B.parts) × (0 < B.parts) }
         ensures reads { ReadsTo M.names (events.Open job.id job.head ∷ []) result
@@ -601,6 +610,7 @@ where
     ) -> Option<Ending>
         requires came { (intake.old.came.parts ≡ A.parts) × (0 < A.parts) }
         requires calls { (intake.old.calls.parts ≡ B.parts) × (0 < B.parts) }
+        ensures counted { intake.new.came.amount ≤ intake.old.came.amount + flow }
         ensures came { (intake.new.came.parts ≡ A.parts) × (0 < A.parts) }
         ensures calls { (intake.new.calls.parts ≡ B.parts) × (0 < B.parts) }
         ensures reads { ReadsTo M.names (events.Data id bytes flow ∷ []) result
@@ -618,6 +628,7 @@ where
     fn loose(&mut self, intake: &mut Intake<A, B, C>, flow: u32) -> Option<Ending>
         requires came { (intake.old.came.parts ≡ A.parts) × (0 < A.parts) }
         requires calls { (intake.old.calls.parts ≡ B.parts) × (0 < B.parts) }
+        ensures counted { intake.new.came.amount ≤ intake.old.came.amount + flow }
         ensures came { (intake.new.came.parts ≡ A.parts) × (0 < A.parts) }
         ensures calls { (intake.new.calls.parts ≡ B.parts) × (0 < B.parts) }
         ensures reads { ReadsTo M.names (events.Loose flow ∷ []) result

@@ -20,6 +20,7 @@ use crate::outlet::Outlet;
 use crate::reader::Reader;
 use crate::served::Served;
 use crate::writer;
+use crate::writer::Parted;
 use callslot::{CallReport, Ending, Order};
 use callworker::{Answering, Gate, Shared};
 use connbook::ConnBook;
@@ -155,14 +156,15 @@ where
     };
     let (putting, taking) = ring;
     let outlet = Outlet::new(common.for_writer, told);
+    let mut intake = Intake::new(common.for_reader, came, calls);
     let mut orders: Orders<A, B, C, N> = Orders::new(putting, common.for_orders);
     let writing = match writer::start(rt, alloc, taking, outlet, common.gate, output, &mut orders) {
         Ok(writing) => writing,
-        Err(written) => {
+        Err(Parted { written, told }) => {
+            intake.audit(&rt, told);
             return meet(Ending::OutOfMemory, Vec::new(alloc), orders, written);
         }
     };
-    let mut intake = Intake::new(common.for_reader, came, calls);
     let mut reader: Reader<A, B, C, M, N, R, G> = Reader::new(
         rt,
         alloc,
@@ -172,7 +174,9 @@ where
     );
     let read = reader.read(&mut intake, input, &methods);
     let (calls, orders) = reader.end();
-    meet(read, calls, orders, writing.join(&rt))
+    let Parted { written, told } = writing.join(&rt);
+    intake.audit(&rt, told);
+    meet(read, calls, orders, written)
 }
 
 /// What became of a connection, where its reader meets its writer.
@@ -190,10 +194,10 @@ where
     O: ConnWrite + Send + Drop + 'static,
     requires route { N.ring ≡ Some (out_name written.orders) }
     // The orders that were put are those that the run obeyed.
-    ensures written { (before : Option (List ℕ))
-        → HasWritten O.contents O.failed before
+    ensures written { (before : Option (List ℕ)) (credit : ℕ)
+        → HasWritten O.contents O.failed before credit
         (orders_of (taken written.orders)) written.ending written.device
-        → HasWritten O.contents O.failed before (orders_of (put_in orders.outbox.ring))
+        → HasWritten O.contents O.failed before credit (orders_of (put_in orders.outbox.ring))
         (Some result.ending) result.output }
     // None was dropped, unless the ending tells why.
     ensures dropped { result.ending ≢ ending.OutOfMemory → result.ending ≢ ending.WriteFailed

@@ -4,7 +4,7 @@ ghost use Rattle.std.specs.Prelude.{◌≡◌, ◌⊎◌, ℕ, List, [], Option,
 ghost use Rattle.lane.specs.Ring.{out_name, taken};
 ghost use Rattle.connwriter.specs.declared.filled.Filled.TheVariants as filling;
 ghost use Rattle.slotwriter.specs.Orders.{orders_of};
-ghost use Rattle.slotwriter.specs.Written.{HasWritten, IsFlushed, Led, LeadsOn, LeadsOut, Stays};
+ghost use Rattle.slotwriter.specs.Written.{HasWritten, IsFlushed, Led, LeadsOn, LeadsOutTo, LeadsTo, Stays};
 
 use crate::orders::{Orders, Route};
 use crate::outlet::Outlet;
@@ -17,7 +17,7 @@ use lane::RingOut;
 use slotwriter::{Rest, SlotWriter, Took, Waiting, Written};
 use std::alloc::Global;
 use std::snapshot::Snapshot;
-use std::sync::ledger::Ledger;
+use std::sync::ledger::{Ledger, Share};
 use std::sync::{Arc, Wait};
 use std::thread;
 use std::thread::{Promise, PromisedHandle, Threads};
@@ -36,17 +36,27 @@ struct Writer<A: Ledger, B: Ledger, C: Ledger, W: ConnWrite, G: Drop> {
 
 impl<A: Ledger, B: Ledger, C: Ledger, W: ConnWrite + Drop, G: Gate + Drop> Writer<A, B, C, W, G> {
     /// Writes until no more is to be written.
-    fn write(self, rt: &impl Wait) -> Written<W>
-        ensures written { (before : Option (List ℕ)) → Led W.contents W.failed before self.writing
-            → HasWritten W.contents W.failed before
-            (orders_of (taken result.orders)) result.ending result.device }
-        ensures name { out_name result.orders ≡ out_name self.writing.inbox.ring }
+    fn write(self, rt: &impl Wait) -> Parted<C, W>
+        // The run granted on the connection what the share counts.
+        ensures written { (before : Option (List ℕ))
+            → Led W.contents W.failed before self.outlet.told.amount self.writing
+            → HasWritten W.contents W.failed before result.told.amount
+            (orders_of (taken result.written.orders)) result.written.ending result.written.device }
+        ensures name { out_name result.written.orders ≡ out_name self.writing.inbox.ring }
+        ensures parts { result.told.parts ≡ self.outlet.told.parts }
     {
         let mut writer = self;
         'turns: for _ in rt.forever() {
             if writer.turn(rt) {
-                let Writer { writing, .. } = writer;
-                return writing.into_end();
+                let Writer {
+                    outlet,
+                    writing,
+                    ..
+                } = writer;
+                return Parted {
+                    written: writing.into_end(),
+                    told: outlet.into_share(),
+                };
             }
         }
         unreachable!()
@@ -54,9 +64,12 @@ impl<A: Ledger, B: Ledger, C: Ledger, W: ConnWrite + Drop, G: Gate + Drop> Write
 
     /// Writes what can be written, and waits where that is nothing. Whether no more is to be written.
     fn turn(&mut self, rt: &impl Wait) -> bool
-        ensures leads { LeadsOn W.contents W.failed self.old.writing self.new.writing }
-        ensures over { result ≡ true → LeadsOut W.contents W.failed self.old.writing
-            self.new.writing }
+        ensures leads { LeadsTo W.contents W.failed self.old.outlet.told.amount self.old.writing
+            self.new.outlet.told.amount self.new.writing }
+        ensures over { result ≡ true → LeadsOutTo W.contents W.failed
+            self.old.outlet.told.amount self.old.writing
+            self.new.outlet.told.amount self.new.writing }
+        ensures parts { self.new.outlet.told.parts ≡ self.old.outlet.told.parts }
         ensures flushed { result ≡ true → IsFlushed self.new.writing }
     {
         let mark = self.outlet.shared.writer.mark();
@@ -85,6 +98,7 @@ impl<A: Ledger, B: Ledger, C: Ledger, W: ConnWrite + Drop, G: Gate + Drop> Write
 
     /// Has the calls reset that were left without trailers. Where there is none it waits.
     fn reset_left(&mut self, rt: &impl Wait, mark: u64)
+        ensures outlet { self.new.outlet ≡ self.old.outlet }
         ensures leads { LeadsOn W.contents W.failed self.old.writing self.new.writing }
     {
         if self.writing.reset_left() {
@@ -103,11 +117,15 @@ impl<A: Ledger, B: Ledger, C: Ledger, W: ConnWrite + Drop, G: Gate + Drop> Write
 
     /// Takes what orders wait, and writes a buffer's worth of frames. Why there aren't more, and whether there was none.
     fn write_once(&mut self, rt: &impl Wait) -> (Filled, bool)
-        ensures leads { LeadsOn W.contents W.failed self.old.writing self.new.writing }
-        ensures over { result.0 ≡ filling.Over
-            → LeadsOut W.contents W.failed self.old.writing self.new.writing }
-        ensures stopped { result.0 ≡ filling.Stopped
-            → LeadsOut W.contents W.failed self.old.writing self.new.writing }
+        ensures leads { LeadsTo W.contents W.failed self.old.outlet.told.amount self.old.writing
+            self.new.outlet.told.amount self.new.writing }
+        ensures over { result.0 ≡ filling.Over → LeadsOutTo W.contents W.failed
+            self.old.outlet.told.amount self.old.writing
+            self.new.outlet.told.amount self.new.writing }
+        ensures stopped { result.0 ≡ filling.Stopped → LeadsOutTo W.contents W.failed
+            self.old.outlet.told.amount self.old.writing
+            self.new.outlet.told.amount self.new.writing }
+        ensures parts { self.new.outlet.told.parts ≡ self.old.outlet.told.parts }
         ensures flushed { IsFlushed self.new.writing }
     {
         self.drain(rt);
@@ -125,6 +143,7 @@ impl<A: Ledger, B: Ledger, C: Ledger, W: ConnWrite + Drop, G: Gate + Drop> Write
 
     /// Takes all orders that wait.
     fn drain(&mut self, rt: &impl Wait)
+        ensures outlet { self.new.outlet ≡ self.old.outlet }
         ensures leads { LeadsOn W.contents W.failed self.old.writing self.new.writing }
     {
         let mut some = false;
@@ -141,6 +160,7 @@ impl<A: Ledger, B: Ledger, C: Ledger, W: ConnWrite + Drop, G: Gate + Drop> Write
 
     /// Takes the next order. None may be taken where none waits, or where one is set aside.
     fn take_next(&mut self, rt: &impl Wait) -> bool
+        ensures outlet { self.new.outlet ≡ self.old.outlet }
         ensures leads { LeadsOn W.contents W.failed self.old.writing self.new.writing }
     {
         let last = match self.writing.look() {
@@ -172,6 +192,7 @@ impl<A: Ledger, B: Ledger, C: Ledger, W: ConnWrite + Drop, G: Gate + Drop> Write
     /// An order was lost for want of memory: nothing more is written but a GOAWAY.
     fn give_up(&mut self, rt: &impl Wait)
         requires lost { self.old.writing.inbox.has_lost ≡ true }
+        ensures outlet { self.new.outlet ≡ self.old.outlet }
         ensures leads { LeadsOn W.contents W.failed self.old.writing self.new.writing }
     {
         let last = self.outlet.last(rt);
@@ -181,7 +202,9 @@ impl<A: Ledger, B: Ledger, C: Ledger, W: ConnWrite + Drop, G: Gate + Drop> Write
 
     /// Owes the peer what credit is due.
     fn announce(&mut self, rt: &impl Wait)
-        ensures leads { LeadsOn W.contents W.failed self.old.writing self.new.writing }
+        ensures leads { LeadsTo W.contents W.failed self.old.outlet.told.amount self.old.writing
+            self.new.outlet.told.amount self.new.writing }
+        ensures parts { self.new.outlet.told.parts ≡ self.old.outlet.told.parts }
     {
         let Writer {
             outlet,
@@ -193,6 +216,7 @@ impl<A: Ledger, B: Ledger, C: Ledger, W: ConnWrite + Drop, G: Gate + Drop> Write
 
     /// Tells the peer that no more frames come, where there was no memory for one.
     fn say_last(&mut self, rt: &impl Wait, filled: Filled)
+        ensures outlet { self.new.outlet ≡ self.old.outlet }
         ensures stays { Stays W.contents W.failed self.old.writing self.new.writing }
     {
         if filled != Filled::Stopped {
@@ -204,6 +228,7 @@ impl<A: Ledger, B: Ledger, C: Ledger, W: ConnWrite + Drop, G: Gate + Drop> Write
 
     /// Lets go of the senders of calls that are through.
     fn release_all(&mut self)
+        ensures outlet { self.new.outlet ≡ self.old.outlet }
         ensures stays { Stays W.contents W.failed self.old.writing self.new.writing }
     {
         if self.writing.release_all() {
@@ -213,6 +238,7 @@ impl<A: Ledger, B: Ledger, C: Ledger, W: ConnWrite + Drop, G: Gate + Drop> Write
 
     /// Writes what is in the buffer. The calls whose last frame is in it take no more DATA.
     fn flush(&mut self, rt: &impl Wait)
+        ensures outlet { self.new.outlet ≡ self.old.outlet }
         ensures stays { Stays W.contents W.failed self.old.writing self.new.writing }
         ensures flushed { IsFlushed self.new.writing }
     {
@@ -261,21 +287,29 @@ impl<A: Ledger, B: Ledger, C: Ledger, W: ConnWrite + Drop, G: Gate + Drop> Write
     }
 }
 
+/// What a writing thread comes to: what it hands back, and the share of the one who announced credit.
+#[derive(Drop)]
+pub(crate) struct Parted<C: Ledger, W: ConnWrite + Drop> {
+    pub(crate) written: Written<W>,
+    pub(crate) told: Share<C>,
+}
+
 /// What a writer writes to and takes its orders from, as it was before. It promises that behind what was written stand the frames of a
-/// lawful run, which obeyed the orders that it took.
+/// lawful run, which obeyed the orders that it took, and granted on the connection what its share counts.
 #[derive(Drop)]
 pub(crate) struct Begun<W: ConnWrite> {
     pub(crate) device: Snapshot<W>,
     pub(crate) orders: Snapshot<RingOut<Order>>,
 }
 
-impl<W: ConnWrite + Drop> Promise<Written<W>> for Begun<W> {
-    ghost kept_by = { λ begun r. (out_name r.orders ≡ out_name begun.orders.value)
-        × HasWritten W.contents W.failed (W.contents begun.device.value) (orders_of (taken r.orders)) r.ending r.device };
+impl<C: Ledger, W: ConnWrite + Drop> Promise<Parted<C, W>> for Begun<W> {
+    ghost kept_by = { λ begun r. (out_name r.written.orders ≡ out_name begun.orders.value)
+        × HasWritten W.contents W.failed (W.contents begun.device.value) r.told.amount (orders_of (taken r.written.orders)) r.written.ending r.written.device
+        × (r.told.parts ≡ C.parts) };
 }
 
 /// The thread that writes, and what it comes to.
-pub(crate) type Writing<W> = PromisedHandle<Written<W>, Begun<W>>;
+pub(crate) type Writing<C, W> = PromisedHandle<Parted<C, W>, Begun<W>>;
 
 /// Starts the thread that writes. Where it can't be made, no order but Close comes, and this thread writes what is to be written then.
 pub(crate) fn start<A, B, C, N, W, G, R>(
@@ -286,7 +320,7 @@ pub(crate) fn start<A, B, C, N, W, G, R>(
     gate: Arc<G>,
     device: W,
     orders: &mut Orders<A, B, C, N>,
-) -> Result<Writing<W>, Written<W>>
+) -> Result<Writing<C, W>, Parted<C, W>>
 where
     A: Ledger + Send + Sync + 'static,
     B: Ledger + Send + Sync + 'static,
@@ -296,13 +330,17 @@ where
     G: Gate + Send + Sync + Drop + 'static,
     R: Threads + Wait + Copy + Send + Sync + Drop + 'static,
     requires none { taken taking ≡ [] }
+    requires untold { outlet.told.amount ≡ 0 }
+    requires told { outlet.told.parts ≡ C.parts }
     ensures begun { IfOk result (λ writing. W.contents writing.promise.device.value
         ≡ W.contents device) }
     ensures ring { IfOk result (λ writing. writing.promise.orders.value ≡ taking) }
     ensures same { OnOk result (orders.new ≡ orders.old) }
-    ensures name { IfErr result (λ written. out_name written.orders ≡ out_name taking) }
-    ensures written { IfErr result (λ written. HasWritten W.contents W.failed (W.contents device)
-        (orders_of (taken written.orders)) written.ending written.device) }
+    ensures name { IfErr result (λ parted. out_name parted.written.orders ≡ out_name taking) }
+    ensures written { IfErr result (λ parted. HasWritten W.contents W.failed (W.contents device)
+        parted.told.amount (orders_of (taken parted.written.orders)) parted.written.ending
+        parted.written.device) }
+    ensures parts { IfErr result (λ parted. parted.told.parts ≡ C.parts) }
 {
     let begun = Begun {
         device: Snapshot::of(&device),
@@ -314,11 +352,13 @@ where
         gate,
         writing,
     };
-    let write = move || -> Written<W>
-        ensures name { out_name result.orders ≡ out_name writer.writing.inbox.ring }
-        ensures written { (before : Option (List ℕ)) → Led W.contents W.failed before writer.writing
-            → HasWritten W.contents W.failed before
-            (orders_of (taken result.orders)) result.ending result.device }
+    let write = move || -> Parted<C, W>
+        ensures name { out_name result.written.orders ≡ out_name writer.writing.inbox.ring }
+        ensures written { (before : Option (List ℕ))
+            → Led W.contents W.failed before writer.outlet.told.amount writer.writing
+            → HasWritten W.contents W.failed before result.told.amount
+            (orders_of (taken result.written.orders)) result.written.ending result.written.device }
+        ensures parts { result.told.parts ≡ writer.outlet.told.parts }
     { writer.write(&rt) };
     match thread::spawn_with(&rt, begun, write) {
         Ok(handle) => Ok(handle),

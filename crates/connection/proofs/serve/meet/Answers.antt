@@ -13,10 +13,10 @@ some-is : {one other : Ending} → Some one ≡ Some other → one ≡ other
 some-is same = cc
 
 pub returns-clause-written : goal.returns-clause-written
-returns-clause-written g c = λ before written.
+returns-clause-written g c = λ before credit written.
     let left = c.meet-are_all.ensures.all in
     let told = c.by_orders.ensures in
-    told-on g.O.ConnWrite.contents g.O.ConnWrite.failed before (orders_of (taken c.args.written.orders)) (orders_of (put_in c.args.orders.outbox.ring))
+    told-on g.O.ConnWrite.contents g.O.ConnWrite.failed before credit (orders_of (taken c.args.written.orders)) (orders_of (put_in c.args.orders.outbox.ring))
     c.args.written.ending (Some c.by_orders.result) c.args.written.device
     (λ lacked. ap Some (told.memory (c.of_both.ensures.memory lacked)))
     (λ broke spared. ap Some (told.failed (c.of_both.ensures.failed broke (λ lacked. spared (ap Some (told.memory lacked))))))

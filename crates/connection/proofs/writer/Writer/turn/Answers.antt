@@ -1,8 +1,11 @@
-use Rattle.slotwriter.proofs.WrittenSteps.{leads-then}
+use Rattle.std.proofs.Common.{ap}
+use Rattle.slotwriter.proofs.WrittenSteps.{to-still}
 use Rattle.connection.proofs.writer.Writer.turn.Goals as goal
 
 pub returns-in-Over-clause-over : goal.returns-in-Over-clause-over
 returns-in-Over-clause-over g c = λ yes. c.write_once-filled.ensures.over (c.rest.ensures.over c.in-Over.is)
 
 pub returns-in-Idle-clause-leads : goal.returns-in-Idle-clause-leads
-returns-in-Idle-clause-leads g c = leads-then g.W.ConnWrite.contents g.W.ConnWrite.failed _ _ _ c.write_once-filled.ensures.leads c.reset_left.ensures.leads
+returns-in-Idle-clause-leads g c =
+    to-still g.W.ConnWrite.contents g.W.ConnWrite.failed _ _ _ _ _ _ c.write_once-filled.ensures.leads c.reset_left.ensures.leads
+    (ap (λ outlet. outlet.told.amount) c.reset_left.ensures.outlet)

@@ -1,5 +1,7 @@
-use Rattle.slotwriter.specs.Written.{LeadsOn}
+use Rattle.std.proofs.Common.{◌≡◌}
+use Rattle.slotwriter.specs.Written.{LeadsTo}
 use Rattle.connection.proofs.writer.Writer.write.Given as goal
 
 abbrev pub invariant-turns : goal.invariant-turns
-invariant-turns g l = LeadsOn g.W.ConnWrite.contents g.W.ConnWrite.failed l.fn.self.writing l.writer.writing
+invariant-turns g l = LeadsTo g.W.ConnWrite.contents g.W.ConnWrite.failed l.fn.self.outlet.told.amount l.fn.self.writing l.writer.outlet.told.amount l.writer.writing
+    × (l.writer.outlet.told.parts ≡ l.fn.self.outlet.told.parts)

@@ -1,0 +1,38 @@
+-- What is announced on the connection is granted there, and what is told is at most what was heard.
+use Rattle.std.proofs.Common.{◌≡◌, ◌∙◌, ◌++◌, ◌+◌, ◌≤◌, ap, sym, arith, ℕ, zero, suc, nat_eq, Bool, List, Option}
+use Rattle.std.proofs.Math.Dec.{eqb-suc-zero, eqb-zero-suc}
+use Rattle.std.proofs.lemmas.List.Sums.{sum_by-append}
+use Rattle.std.specs.Prelude.{if◌then◌else◌}
+use Rattle.callslot.specs.declared.report.Ending.{Ending}
+use Rattle.h2frame.specs.FrameList.{Entry}
+use Rattle.outwriter.specs.Credit.{granted_by, updated}
+use Rattle.outwriter.specs.Steps.{Granted, Order}
+use Rattle.outwriter.specs.Steps.{Step as RunStep}
+use Rattle.outwriter.proofs.CreditGranted.{no-more-than-granted}
+use Rattle.session.specs.declared.event.InEvent.{InEvent}
+use Rattle.session.specs.Events.{Events}
+use Rattle.session.specs.FlowBytes.{counted_by, counted_told, payloads}
+use Rattle.session.specs.Framings.{Framed}
+use Rattle.session.proofs.FlowTold.{told_within}
+use Rattle.slots.specs.Reports.{AreHeard}
+use Rattle.slots.specs.Steps.{Step, events_of}
+use Rattle.slotwriter.specs.Written.{HasWritten}
+
+-- what the book counts as announced is what the writer's step grants
+pub announced : (id n had has : ℕ) → has ≡ had + (if nat_eq id 0 then n else 0) → has ≡ had + granted_by 0 (Granted id n)
+announced zero n had has is = is
+announced (suc id) n had has is =
+    is ∙ (ap (λ (yes : Bool). had + (if yes then n else 0)) (eqb-suc-zero id) ∙ sym (ap (λ (yes : Bool). had + (if yes then n else 0)) (eqb-zero-suc id)))
+
+-- what was written tells no more than was granted
+pub told-within : {W : Type 0} (contents : W → Option (List ℕ)) (failed : W → Bool) (before : Option (List ℕ)) (credit : ℕ) (orders : List Order) (ending : Option Ending) (device : W) (bound : ℕ)
+    → (written : HasWritten contents failed before credit orders ending device) → credit ≤ bound → updated 0 written.run ≤ bound
+told-within contents failed before credit orders ending device bound written within =
+    omega (arith, no-more-than-granted 0 written.run written.lawful, written.credited, within)
+
+-- a front of the events tells no more than they
+pub by-frames : (end : Ending) (came : List ℕ) (told : List Step) (run : List RunStep) (given : List InEvent) (entries : List Entry)
+    → AreHeard end came (events_of told) → updated 0 run ≤ counted_told (events_of told) → Events came given → Framed came given entries → updated 0 run ≤ payloads entries
+by-frames end came told run given entries heard within events framed =
+    let front = heard.front given events in
+    omega (arith, within, told_within came given entries framed, ap counted_told front.1, sum_by-append counted_by (events_of told) front.0)
