@@ -9,9 +9,6 @@ pub(crate) const IDLE: u64 = 3600;
 /// How many milliseconds a worker waits at most, where the writer has to get what was given, before it looks again.
 pub(crate) const STEP: u64 = 1;
 
-/// The same, of a call that has waited again and again.
-const ROOM_STEP: u64 = 16;
-
 /// How many turns a call goes on before the writer is rung. A short call has come to its end by then, and rings once.
 const FEW_TURNS: u32 = 4;
 
@@ -21,8 +18,6 @@ const REFUSALS: u32 = 10_000;
 /// How a call waits, and when the writer is rung for it.
 #[derive(Drop)]
 pub(crate) struct Pace {
-    /// How many milliseconds it waits at most for room the next time.
-    step: u64,
     /// How many turns it went on since it had nothing to do.
     turns: u32,
     /// Whether the writer was rung for all that it did.
@@ -36,7 +31,6 @@ pub(crate) struct Pace {
 impl Pace {
     pub(crate) fn new() -> Pace {
         Pace {
-            step: STEP,
             turns: 0,
             is_told: true,
             bytes: 0,
@@ -71,29 +65,22 @@ impl Pace {
 
     /// A turn went. Whether the writer is to be rung for it at once.
     pub(crate) fn went(&mut self) -> bool {
-        self.step = STEP;
         self.turns = self.turns.saturating_add(1);
         self.is_told = self.turns > FEW_TURNS;
         self.is_told
     }
 
-    /// How long it waits behind such a turn: for room a few milliseconds, else for what comes, whose bell is rung; but not past its
-    /// deadline.
-    pub(crate) fn limit(&self, turn: Turn, time_left: Option<u128>) -> Duration {
-        let most = match turn {
-            Turn::Full => Duration::from_millis(self.step),
-            Turn::Went | Turn::Nothing | Turn::Over => Duration::from_secs(IDLE),
-        };
-        let left = time_left.unwrap_or(u128::MAX);
-        most.min(Duration::from_nanos(u64::try_from(left).unwrap_or(u64::MAX)))
-    }
-
     /// The call has waited behind such a turn.
     pub(crate) fn waited(&mut self, turn: Turn) {
         self.is_told = true;
-        match turn {
-            Turn::Full => self.step = ROOM_STEP.min(self.step.saturating_mul(2)),
-            Turn::Went | Turn::Nothing | Turn::Over => self.turns = 0,
+        if turn != Turn::Full {
+            self.turns = 0;
         }
     }
+}
+
+/// How long a call of which so much time is left sleeps at most: not past its deadline.
+pub(crate) fn limit(time_left: Option<u128>) -> Duration {
+    let left = u64::try_from(time_left.unwrap_or(u128::MAX)).unwrap_or(u64::MAX);
+    Duration::from_secs(IDLE).min(Duration::from_nanos(left))
 }

@@ -16,8 +16,6 @@ pub struct Shared<A: Ledger, B: Ledger, C: Ledger> {
     pub writer: Bell,
     /// Rung where the reader may wait for room, or for a worker.
     pub reader: Bell,
-    /// Rung where calls may wait for room for what they give.
-    pub room: Bell,
     /// Whether the writer writes nothing more.
     stopped: AtomicBool,
 }
@@ -31,7 +29,6 @@ impl<A: Ledger, B: Ledger, C: Ledger> Shared<A, B, C> {
                 book: Mutex::new(book),
                 writer: Bell::new(),
                 reader: Bell::new(),
-                room: Bell::new(),
                 stopped: AtomicBool::new(false),
             },
         )?)

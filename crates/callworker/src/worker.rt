@@ -8,6 +8,7 @@ ghost use mathlib.Core.List.{IsPrefix};
 ghost use Rattle.lane.specs.RingLane.{got, in_name, next_name, out_name, past_in, past_out, past_shut, put_in, put_shut, ring_of, shut_name};
 ghost use Rattle.callbox.specs.declared.piece.InPiece.{InPiece};
 ghost use Rattle.handlers.specs.Listed.{listed};
+ghost use Rattle.callrun.specs.declared.call.Turn.TheVariants as turn;
 ghost use Rattle.callrun.specs.Sides.{is_open};
 ghost use Rattle.callslot.specs.Accounts.{IsGivenAs, answers_by, unanswered};
 ghost use Rattle.callslot.specs.Workers.{Answers, HasRows, IsFresh, giving_ring};
@@ -18,7 +19,7 @@ use crate::answering::Answering;
 use crate::ends::Ends;
 use crate::gate::Gate;
 use crate::jobs::next_call;
-use crate::pace::{IDLE, Pace, STEP};
+use crate::pace::{IDLE, Pace, STEP, limit};
 use crate::rows::{Finished, has_room, shut_of, with_row};
 use crate::shared::Shared;
 use callbox::{GivenShut, Giver, Taker};
@@ -313,9 +314,8 @@ impl<A: Ledger, B: Ledger, C: Ledger, G: Gate + Drop> Worker<A, B, C, G> {
         ensures over { result ≡ false → is_open run.new.response ≡ false }
     {
         let came = self.slot.bell.mark();
-        let room = self.shared.room.mark();
         let now = self.now(rt, run);
-        let turn = run.turn(methods, now);
+        let turn = self.look(methods, run, now);
         match turn {
             Turn::Went => {
                 if pace.went() {
@@ -329,20 +329,29 @@ impl<A: Ledger, B: Ledger, C: Ledger, G: Gate + Drop> Worker<A, B, C, G> {
                     self.give_up(rt, methods, run);
                     return false;
                 }
-                let limit = pace.limit(turn, run.time_left(now));
-                self.wait(rt, turn, room, came, limit);
+                let most = limit(run.time_left(now));
+                self.slot.bell.wait_past(rt, came, most);
                 pace.waited(turn);
                 true
             }
         }
     }
 
-    /// Waits so long at most: for room where a turn lacked it, else for what comes for the call.
-    fn wait(&self, rt: &impl Wait, turn: Turn, room: u64, came: u64, limit: Duration) {
-        match turn {
-            Turn::Full => self.shared.room.wait_past(rt, room, limit),
-            Turn::Went | Turn::Nothing | Turn::Over => self.slot.bell.wait_past(rt, came, limit),
+    /// Gives the call a turn; where that finds no room, another one, once the slot's bell is rung for room.
+    fn look(&self, methods: &Methods, run: &mut CallRun<InLane, OutLane>, now: u64) -> Turn
+        requires index { run.old.index < length (listed methods.now) }
+        ensures goes_on { GoesOn (λ m. answers (m.vtable, m.value))
+            (λ m. stands (m.vtable, m.value))
+            (listed methods.now) run.old run.new }
+        ensures same { IsOneCall run.old run.new }
+        ensures over { result ≡ turn.Over → is_open run.new.response ≡ false }
+    {
+        let turn = run.turn(methods, now);
+        if turn != Turn::Full {
+            return turn;
         }
+        self.slot.want_room();
+        run.turn(methods, now)
     }
 
     /// Returns what was taken, and says whether the call is live still. The writer is rung where something was returned, or

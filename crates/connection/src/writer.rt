@@ -135,9 +135,7 @@ impl<A: Ledger, B: Ledger, C: Ledger, W: ConnWrite + Drop, G: Gate + Drop> Write
         let filled = self.writing.fill();
         self.say_last(rt, filled);
         let is_silent = self.writing.is_flushed();
-        if !is_silent {
-            self.outlet.shared.room.ring();
-        }
+        self.writing.wake_for_room();
         self.release_all();
         self.flush(rt);
         (filled, is_silent)
@@ -152,11 +150,19 @@ impl<A: Ledger, B: Ledger, C: Ledger, W: ConnWrite + Drop, G: Gate + Drop> Write
         'orders: for _ in rt.forever() {
             if !self.take_next(rt) {
                 if some {
-                    self.outlet.shared.reader.ring();
+                    self.tell_taken();
                 }
                 return;
             }
             some = true;
+        }
+    }
+
+    /// Orders were taken: there is room for others. A call that was opened by one of them after the writer had stopped is woken.
+    fn tell_taken(&self) {
+        self.outlet.shared.reader.ring();
+        if self.outlet.shared.has_stopped() {
+            self.writing.wake_all();
         }
     }
 
@@ -276,16 +282,21 @@ impl<A: Ledger, B: Ledger, C: Ledger, W: ConnWrite + Drop, G: Gate + Drop> Write
         let outlet = &self.outlet;
         let mut book = outlet.shared.book.lock(rt);
         for number in 0..self.writing.slots() {
-            if let Some(id) = self.writing.stuck(number) {
+            let Some(id) = self.writing.stuck(number) else {
+                continue;
+            };
+            if book.is_live(id) {
                 book.cut(id);
+                self.writing.wake(id);
             }
         }
     }
 
-    /// Nothing more is written: no call is live.
+    /// Nothing more is written: no call is live, and the workers that wait for room are woken to see that.
     fn stop(&self, rt: &impl Wait) {
         self.outlet.shared.book.lock(rt).stop();
         self.outlet.shared.stop();
+        self.writing.wake_all();
     }
 }
 

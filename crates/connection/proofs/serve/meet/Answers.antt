@@ -1,7 +1,7 @@
 use Rattle.connection.proofs.serve.meet.Goals as goal
 
 pub meet_slots-requires : goal.meet_slots-requires
-meet_slots-requires g c = let left = c.meet-are_all.ensures.all in c.requires.rings (left.0, left.1)
+meet_slots-requires g c = let left = c.meet-are_all.ensures.all in record { rings = c.requires.rings (left.0, left.1) }
 
 pub returns-clause-obeyed : goal.returns-clause-obeyed
 returns-clause-obeyed g c = let left = c.meet-are_all.ensures.all in (left.0, left.1, λ spared sent. left.2 (c.by_orders.ensures.all spared sent))

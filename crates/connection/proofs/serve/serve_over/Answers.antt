@@ -24,17 +24,17 @@ some-is : {one other : Ending} → Some one ≡ Some other → one ≡ other
 some-is same = cc
 
 pub meet-requires-clause-rings : goal.meet-requires-clause-rings
-meet-requires-clause-rings g c = λ begins n end sender by. absurd (none-at n end (subst (λ ends. slice_get ends n ≡ Some end) c.new-in-Err-2.ensures.items by))
+meet-requires-clause-rings g c = λ κs within begins n end sender by has. absurd (none-at n end (subst (λ ends. slice_get ends n ≡ Some end) c.new-in-Err-2.ensures.items by))
   where
     none-at : (n : ℕ) (end : GivingEnd) → slice_get [] n ≡ Some end → ⊥
     none-at n end is = cc
 
 pub meet-requires-2-clause-rings : goal.meet-requires-2-clause-rings
-meet-requires-2-clause-rings g c = λ begins.
+meet-requires-2-clause-rings g c = λ κs within begins.
     let unused = subst (λ o. put_of o ≡ []) (sym (c.new-reader.ensures.orders ∙ c.in-Ok-start.ensures.same)) (c.new-orders.ensures.put ∙ c.requires.unused.0) in
     let heard = c.read-read.ensures.heard (kept-none _ _ c.new-reader.ensures.reads c.new-reader.ensures.calls unused) in
     let end = c.end-ended.ensures heard.2.0 heard.2.1.reads in
-    meeting-put g.O.ConnWrite.contents g.O.ConnWrite.failed end.1 _ _ _ _ _ _ _ _ begins (end.4 heard.2.1.lined) c.join.ensures.1 end.3
+    meeting-put g.O.ConnWrite.contents g.O.ConnWrite.failed end.1 _ _ _ _ _ _ _ _ begins (end.4 heard.2.1.lined) c.join-written.ensures.1 end.3
 
 pub returns : goal.returns
 returns g c =
@@ -45,13 +45,13 @@ returns g c =
     let heard = c.read-read.ensures.heard start in
     let has = heard.2.1 in
     let end = c.end-ended.ensures heard.2.0 has.reads in
-    let within : c.join.result.told.amount ≤ counted_told (events_of heard.2.0) =
-    omega (arith, c.audit-2.ensures.within, heard.2.2, ap (λ share. share.amount) c.new-intake.ensures.0, c.open.ensures.amount) in
-    let written = c.join.result.written in
-    let amount = c.join.result.told.amount in
+    let within : c.join-written.result.told.amount ≤ counted_told (events_of heard.2.0) =
+    omega (arith, c.audit-2.ensures.within, heard.2.2, ap (λ share. share.amount) c.new-intake.ensures.0, c.open-received.ensures.amount) in
+    let written = c.join-written.result.written in
+    let amount = c.join-written.result.told.amount in
     let is = c.meet-2.ensures in
     let sent : HasSent contents failed (contents c.args.output) amount (taken written.orders) (held_of written.senders.places.items) written.ending written.device =
-    subst (λ (before : Option (List ℕ)). HasSent contents failed before amount (taken written.orders) (held_of written.senders.places.items) written.ending written.device) c.in-Ok-start.ensures.begun c.join.ensures.1 in
+    subst (λ (before : Option (List ℕ)). HasSent contents failed before amount (taken written.orders) (held_of written.senders.places.items) written.ending written.device) c.in-Ok-start.ensures.begun c.join-written.ensures.1 in
     let put = told-on contents failed (contents c.args.output) amount (orders_of (taken written.orders)) (put_orders c.end-ended.result.1) written.ending (Some c.meet-2.result.ending) written.device
     (λ lacked. ap Some (is.memory lacked)) (λ broke spared. ap Some (is.broken broke (λ lacked. spared (ap Some lacked)))) (λ marked. is.marked (some-is marked))
     (orders_of is.obeyed.0)
@@ -89,7 +89,7 @@ returns-in-Err g c =
         subst (λ device. IsServed (λ rows. rows.items) contents failed g.M.Answering.known g.M.Answering.names [] (contents c.args.output) _ c.meet.result.ending c.meet.result.calls device) (sym is.output)
             (none-served g.M.Answering.known g.M.Answering.names (λ rows. rows.items) contents failed (contents c.args.output) _ _ c.meet.result.ending _
             c.meet.result.calls written.device (is.lacked refl) (subst (λ rows. rows.items ≡ []) (sym is.calls) c.new-in-Err.ensures.items)
-            (omega (arith, c.audit.ensures.within, ap (λ share. share.amount) c.new-intake.ensures.0, c.open.ensures.amount)) put),
+            (omega (arith, c.audit.ensures.within, ap (λ share. share.amount) c.new-intake.ensures.0, c.open-received.ensures.amount)) put),
       );
     }
 

@@ -1,7 +1,8 @@
-use Rattle.std.proofs.Common.{◌∙◌, List, Option, ap, subst, sym, ℕ}
+use Rattle.std.proofs.Common.{◌≡◌, ◌∙◌, List, Option, ap, subst, sym, ℕ}
 use Rattle.lane.specs.Ring.{out_name, taken}
 use Rattle.slotwriter.specs.Orders.{orders_of}
-use Rattle.slotwriter.specs.Written.{HasWritten, Led}
+use Rattle.slotwriter.specs.Sent.{held_of}
+use Rattle.slotwriter.specs.Written.{HasSent, HasWritten, Led}
 use Rattle.connection.proofs.writer.start.Goals as goal
 
 pub returns-in-Err-clause-written : goal.returns-in-Err-clause-written
@@ -17,9 +18,12 @@ returns-in-Err-clause-written g c =
 pub spawn_with-requires-clause-keeps : goal.spawn_with-requires-clause-keeps
 spawn_with-requires-clause-keeps g c = λ r claims.
     let contents = g.W.ConnWrite.contents in
-    let failed = g.W.ConnWrite.failed in (
+    let failed = g.W.ConnWrite.failed in
+    let kept : (out_name r.written.orders ≡ out_name c.of-2.result.value)
+        × HasSent contents failed (contents c.of.result.value) r.told.amount (taken r.written.orders) (held_of r.written.senders.places.items) r.written.ending r.written.device
+        × (r.told.parts ≡ g.C.Ledger.parts) = (
       claims.0 ∙ (ap out_name c.new-writing.ensures.ring ∙ ap out_name (sym c.of-2.ensures)),
       claims.1.0 (contents c.of.result.value)
           (subst (λ (credit : ℕ). Led contents failed (contents c.of.result.value) credit c.new-writing.result) (sym c.requires.untold) c.new-writing.ensures.led),
       claims.1.1 ∙ c.requires.told,
-    )
+    ) in kept
