@@ -11,33 +11,42 @@ slots-init c = (([], append-nil c.args.ends.items), (λ n before. refl), met-non
 
 pub slots-preserved-in-Some-take : goal.slots-preserved-in-Some-take
 slots-preserved-in-Some-take c = (
-  (c.in-Some.end ∷ c.slots.invariant.0.0, more-parts (held_of c.args.senders.places.items) (held_of c.slots.senders.places.items) (held_of c.take.new.self.places.items) c.args.ends.items c.slots.rest.items c.pop.new.self.items c.slots.invariant.0.0 c.in-Some.end c.len.result c.take.result
-    c.in-Some.ensures.items c.slots.invariant.0.1 (c.len.ensures ∙ c.pop.new.self.ok.0) c.take.ensures.held c.take.ensures.rest),
+  (
+    c.in-Some.end ∷ c.slots.invariant.0.0,
+    more-parts (held_of c.args.senders.places.items) (held_of c.slots.senders.places.items) (held_of c.take.new.self.places.items) c.args.ends.items c.slots.rest.items c.pop.new.self.items c.slots.invariant.0.0 c.in-Some.end c.len.result c.take.result
+        c.in-Some.ensures.items c.slots.invariant.0.1 (c.len.ensures ∙ c.pop.new.self.ok.0) c.take.ensures.held c.take.ensures.rest,
+  ),
   more-stand (held_of c.args.senders.places.items) (held_of c.slots.senders.places.items) (held_of c.take.new.self.places.items) c.args.ends.items c.slots.rest.items c.pop.new.self.items c.slots.invariant.0.0 c.in-Some.end c.len.result c.take.result
-    c.in-Some.ensures.items c.slots.invariant.0.1 (c.len.ensures ∙ c.pop.new.self.ok.0) c.take.ensures.held c.take.ensures.rest c.slots.invariant.1,
+      c.in-Some.ensures.items c.slots.invariant.0.1 (c.len.ensures ∙ c.pop.new.self.ok.0) c.take.ensures.held c.take.ensures.rest c.slots.invariant.1,
   more-met (held_of c.args.senders.places.items) (held_of c.slots.senders.places.items) (held_of c.take.new.self.places.items) c.args.ends.items c.slots.rest.items c.pop.new.self.items c.slots.invariant.0.0 c.in-Some.end c.len.result c.take.result
-    c.in-Some.ensures.items c.slots.invariant.0.1 (c.len.ensures ∙ c.pop.new.self.ok.0) c.take.ensures.held c.take.ensures.rest c.slots.invariant.1
+      c.in-Some.ensures.items c.slots.invariant.0.1 (c.len.ensures ∙ c.pop.new.self.ok.0) c.take.ensures.held c.take.ensures.rest c.slots.invariant.1
       (λ sender is. subst (λ (one : SlotSender). EachBegins (past_out one.rx ++ got one.rx ∷ []) (given_at c.in-Some.end)) (some-one (sym c.in-Some-take.is ∙ is)) c.meet_out.ensures.sent) c.slots.invariant.2,
 )
 
 pub slots-preserved : goal.slots-preserved
 slots-preserved c = (
-  (c.in-Some.end ∷ c.slots.invariant.0.0, more-parts (held_of c.args.senders.places.items) (held_of c.slots.senders.places.items) (held_of c.take.new.self.places.items) c.args.ends.items c.slots.rest.items c.pop.new.self.items c.slots.invariant.0.0 c.in-Some.end c.len.result c.take.result
-    c.in-Some.ensures.items c.slots.invariant.0.1 (c.len.ensures ∙ c.pop.new.self.ok.0) c.take.ensures.held c.take.ensures.rest),
+  (
+    c.in-Some.end ∷ c.slots.invariant.0.0,
+    more-parts (held_of c.args.senders.places.items) (held_of c.slots.senders.places.items) (held_of c.take.new.self.places.items) c.args.ends.items c.slots.rest.items c.pop.new.self.items c.slots.invariant.0.0 c.in-Some.end c.len.result c.take.result
+        c.in-Some.ensures.items c.slots.invariant.0.1 (c.len.ensures ∙ c.pop.new.self.ok.0) c.take.ensures.held c.take.ensures.rest,
+  ),
   more-stand (held_of c.args.senders.places.items) (held_of c.slots.senders.places.items) (held_of c.take.new.self.places.items) c.args.ends.items c.slots.rest.items c.pop.new.self.items c.slots.invariant.0.0 c.in-Some.end c.len.result c.take.result
-    c.in-Some.ensures.items c.slots.invariant.0.1 (c.len.ensures ∙ c.pop.new.self.ok.0) c.take.ensures.held c.take.ensures.rest c.slots.invariant.1,
+      c.in-Some.ensures.items c.slots.invariant.0.1 (c.len.ensures ∙ c.pop.new.self.ok.0) c.take.ensures.held c.take.ensures.rest c.slots.invariant.1,
   more-met (held_of c.args.senders.places.items) (held_of c.slots.senders.places.items) (held_of c.take.new.self.places.items) c.args.ends.items c.slots.rest.items c.pop.new.self.items c.slots.invariant.0.0 c.in-Some.end c.len.result c.take.result
-    c.in-Some.ensures.items c.slots.invariant.0.1 (c.len.ensures ∙ c.pop.new.self.ok.0) c.take.ensures.held c.take.ensures.rest c.slots.invariant.1 (λ sender is. absurd (c.in_default-take.not-Some sender is)) c.slots.invariant.2,
+      c.in-Some.ensures.items c.slots.invariant.0.1 (c.len.ensures ∙ c.pop.new.self.ok.0) c.take.ensures.held c.take.ensures.rest c.slots.invariant.1 (λ sender is. absurd (c.in_default-take.not-Some sender is)) c.slots.invariant.2,
 )
 
 pub slots-preserved-in_default-take : goal.slots-preserved-in_default-take
 slots-preserved-in_default-take c = (
-  (c.in-Some.end ∷ c.slots.invariant.0.0, more-parts (held_of c.args.senders.places.items) (held_of c.slots.senders.places.items) (held_of c.take.new.self.places.items) c.args.ends.items c.slots.rest.items c.pop.new.self.items c.slots.invariant.0.0 c.in-Some.end c.len.result c.take.result
-    c.in-Some.ensures.items c.slots.invariant.0.1 (c.len.ensures ∙ c.pop.new.self.ok.0) c.take.ensures.held c.take.ensures.rest),
+  (
+    c.in-Some.end ∷ c.slots.invariant.0.0,
+    more-parts (held_of c.args.senders.places.items) (held_of c.slots.senders.places.items) (held_of c.take.new.self.places.items) c.args.ends.items c.slots.rest.items c.pop.new.self.items c.slots.invariant.0.0 c.in-Some.end c.len.result c.take.result
+        c.in-Some.ensures.items c.slots.invariant.0.1 (c.len.ensures ∙ c.pop.new.self.ok.0) c.take.ensures.held c.take.ensures.rest,
+  ),
   more-stand (held_of c.args.senders.places.items) (held_of c.slots.senders.places.items) (held_of c.take.new.self.places.items) c.args.ends.items c.slots.rest.items c.pop.new.self.items c.slots.invariant.0.0 c.in-Some.end c.len.result c.take.result
-    c.in-Some.ensures.items c.slots.invariant.0.1 (c.len.ensures ∙ c.pop.new.self.ok.0) c.take.ensures.held c.take.ensures.rest c.slots.invariant.1,
+      c.in-Some.ensures.items c.slots.invariant.0.1 (c.len.ensures ∙ c.pop.new.self.ok.0) c.take.ensures.held c.take.ensures.rest c.slots.invariant.1,
   more-met (held_of c.args.senders.places.items) (held_of c.slots.senders.places.items) (held_of c.take.new.self.places.items) c.args.ends.items c.slots.rest.items c.pop.new.self.items c.slots.invariant.0.0 c.in-Some.end c.len.result c.take.result
-    c.in-Some.ensures.items c.slots.invariant.0.1 (c.len.ensures ∙ c.pop.new.self.ok.0) c.take.ensures.held c.take.ensures.rest c.slots.invariant.1 (λ sender is. absurd (c.in_default-take.not-Some sender is)) c.slots.invariant.2,
+      c.in-Some.ensures.items c.slots.invariant.0.1 (c.len.ensures ∙ c.pop.new.self.ok.0) c.take.ensures.held c.take.ensures.rest c.slots.invariant.1 (λ sender is. absurd (c.in_default-take.not-Some sender is)) c.slots.invariant.2,
 )
 
 pub slots-smaller-in-Some-take : goal.slots-smaller-in-Some-take

@@ -20,8 +20,8 @@ spawn_with-requires-clause-keeps g c = λ r claims.
     let contents = g.W.ConnWrite.contents in
     let failed = g.W.ConnWrite.failed in
     let kept : (out_name r.written.orders ≡ out_name c.of-2.result.value)
-        × HasSent contents failed (contents c.of.result.value) r.told.amount (taken r.written.orders) (held_of r.written.senders.places.items) r.written.ending r.written.device
-        × (r.told.parts ≡ g.C.Ledger.parts) = (
+    × HasSent contents failed (contents c.of.result.value) r.told.amount (taken r.written.orders) (held_of r.written.senders.places.items) r.written.ending r.written.device
+    × (r.told.parts ≡ g.C.Ledger.parts) = (
       claims.0 ∙ (ap out_name c.new-writing.ensures.ring ∙ ap out_name (sym c.of-2.ensures)),
       claims.1.0 (contents c.of.result.value)
           (subst (λ (credit : ℕ). Led contents failed (contents c.of.result.value) credit c.new-writing.result) (sym c.requires.untold) c.new-writing.ensures.led),

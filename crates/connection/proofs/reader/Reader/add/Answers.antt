@@ -6,5 +6,7 @@ use Rattle.connection.proofs.Heard.{to-one}
 use Rattle.connection.proofs.reader.Reader.add.Goals as goal
 
 pub returns : goal.returns
-returns g c = record { reads = λ job same index jobs is ring. to-one (events.Open job.id job.head) Admitted _ _ _ _ _ _ _ c.act.ensures.ends (c.add-decided.ensures.decides job same index jobs is)
-      (c.add-decided.ensures.aligns (ap (λ (all : List Job). map (λ (j : Job). j.id) all) jobs ∙ ap (λ (id : ℕ). id ∷ []) (sym same)) ring) c.act.ensures.acts }
+returns g c = record {
+  reads = λ job same index jobs is ring. to-one (events.Open job.id job.head) Admitted _ _ _ _ _ _ _ c.act.ensures.ends (c.add-decided.ensures.decides job same index jobs is)
+      (c.add-decided.ensures.aligns (ap (λ (all : List Job). map (λ (j : Job). j.id) all) jobs ∙ ap (λ (id : ℕ). id ∷ []) (sym same)) ring) c.act.ensures.acts;
+}
