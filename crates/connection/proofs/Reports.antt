@@ -131,6 +131,12 @@ module _ (answers : ℕ → List (List ℕ) → Bool → Answer → Type 0) (nam
         };
       }
 
+  -- the device by another name
+  pub served-by : (came : List ℕ) (before : Option (List ℕ)) (read_failed : Bool) (end : Ending) (calls : V) (one other : W) → other ≡ one
+      → IsServed items contents failed answers names came before read_failed end calls one → IsServed items contents failed answers names came before read_failed end calls other
+  served-by came before read_failed end calls one other is served =
+      subst (λ (device : W). IsServed items contents failed answers names came before read_failed end calls device) (sym is) served
+
   none-rows : (carries : ℕ → Account → Type 0) (calls : V) → items calls ≡ [] → AreRows answers names carries [] [] (items calls)
   none-rows carries calls is = record {
     each = subst (λ (rs : List CallReport). All (λ (row : CallReport). IsReported answers names carries [] row) rs) (sym is) (All-nil (λ (row : CallReport). IsReported answers names carries [] row));

@@ -14,10 +14,9 @@ use Rattle.slotwriter.specs.Sent.{held_of}
 use Rattle.slotwriter.specs.Written.{HasSent}
 use Rattle.slotwriter.proofs.WrittenSteps.{told-on}
 use Rattle.connection.specs.Puts.{put_of, put_orders}
-use Rattle.connection.specs.Served.{IsServed}
 use Rattle.connection.proofs.Lines.{meeting-put, sent-put}
 use Rattle.connection.proofs.Heard.{consumes-none, kept-none}
-use Rattle.connection.proofs.Reports.{are-served, none-served, unbegun}
+use Rattle.connection.proofs.Reports.{are-served, none-served, served-by, unbegun}
 use Rattle.connection.proofs.serve.serve_over.Goals as goal
 
 some-is : {one other : Ending} → Some one ≡ Some other → one ≡ other
@@ -62,7 +61,7 @@ returns g c =
       served = (
         heard.0,
         heard.1,
-        subst (λ device. IsServed (λ rows. rows.items) contents failed g.M.Answering.known g.M.Answering.names heard.0 (contents c.args.output) _ c.meet-2.result.ending c.meet-2.result.calls device) (sym is.output)
+        served-by g.M.Answering.known g.M.Answering.names (λ rows. rows.items) contents failed _ _ _ _ _ _ _ is.output
             (are-served g.M.Answering.known g.M.Answering.names (λ rows. rows.items) contents failed heard.0 (contents c.args.output) amount _ c.read-read.result c.meet-2.result.ending
             heard.2.0 end.0 _ _ c.end-ended.result.1 c.end-ended.result.0.calls c.meet-2.result.calls written.device is.calls has
             (IsGivenIn end.1 c.end-ended.result.0.ends.items) end.2 end.5 is.input is.blamed is.spared is.dropped (c.read-read.ensures.failed start) within
@@ -86,7 +85,7 @@ returns-in-Err g c =
       served = (
         [],
         consumes-none _,
-        subst (λ device. IsServed (λ rows. rows.items) contents failed g.M.Answering.known g.M.Answering.names [] (contents c.args.output) _ c.meet.result.ending c.meet.result.calls device) (sym is.output)
+        served-by g.M.Answering.known g.M.Answering.names (λ rows. rows.items) contents failed _ _ _ _ _ _ _ is.output
             (none-served g.M.Answering.known g.M.Answering.names (λ rows. rows.items) contents failed (contents c.args.output) _ _ c.meet.result.ending _
             c.meet.result.calls written.device (is.lacked refl) (subst (λ rows. rows.items ≡ []) (sym is.calls) c.new-in-Err.ensures.items)
             (omega (arith, c.audit.ensures.within, ap (λ share. share.amount) c.new-intake.ensures.0, c.open-received.ensures.amount)) put),

@@ -16,7 +16,7 @@ returns-in-Err-clause-written g c =
     subst (λ (before : Option (List ℕ)). HasWritten contents failed before parted.told.amount (orders_of (taken parted.written.orders)) parted.written.ending parted.written.device) (ap contents c.of.ensures) kept
 
 pub spawn_with-requires-clause-keeps : goal.spawn_with-requires-clause-keeps
-spawn_with-requires-clause-keeps g c = λ r claims.
+spawn_with-requires-clause-keeps g c = λ κs within r claims.
     let contents = g.W.ConnWrite.contents in
     let failed = g.W.ConnWrite.failed in
     let kept : (out_name r.written.orders ≡ out_name c.of-2.result.value)
