@@ -33,7 +33,9 @@ use Rattle.lane.specs.Ring.{put_in}
 use Rattle.connection.specs.declared.orders.Orders.{Orders}
 use Rattle.connection.specs.declared.orders.Outbox.{Outbox}
 use Rattle.connection.specs.declared.orders.Route.{Ghosts}
-use Rattle.connection.specs.Heard.{Acts, Cuts, CutsSome, HasPut, HasRead, IsEndedBy, KeptFor, ReadsTo, Tells}
+use Rattle.connection.specs.Heard.{Acts, Cuts, CutsSome, HasPut, HasRead, IsEndedBy, KeptFor, ReadsTo, ReadsWith, Tells}
+use Rattle.connection.specs.Limits.{AreGoing, AreJustified, Covers, IsJustified, Tally}
+use Rattle.connection.proofs.Tallies.{going-more, covers-as, covers-more, covers-none, cuts-justified}
 use Rattle.connection.specs.Puts.{IsSame, Ordered, Puts, PutsAll, order_in, put_of, put_orders}
 
 -- what a core answered to the bytes before
@@ -182,11 +184,11 @@ module _ {H : Type 0} {hand : Hands H} {A B C N : Type 0} {route : Ghosts N} {na
 
   -- ---- cuts
 
-  pub cuts-none : (reading : Reading H hand) (orders : Orders A B C N route) → CutsSome names reading orders reading orders
-  cuts-none reading orders told reads = ([], record { silent = refl; calm = tt; reads = reads; ordered = λ ordered. ordered })
+  pub cuts-none : (ended : Bool) (reading : Reading H hand) (orders : Orders A B C N route) → CutsSome names ended reading orders reading orders
+  cuts-none ended reading orders told reads = ([], record { silent = refl; calm = tt; going = λ is. tt; reads = reads; ordered = λ ordered. ordered })
 
-  pub cuts-then : (one two three : Reading H hand) (old mid new : Orders A B C N route) → CutsSome names one old two mid → CutsSome names two mid three new → CutsSome names one old three new
-  cuts-then one two three old mid new first second told reads =
+  pub cuts-then : (ended : Bool) (one two three : Reading H hand) (old mid new : Orders A B C N route) → CutsSome names ended one old two mid → CutsSome names ended two mid three new → CutsSome names ended one old three new
+  cuts-then ended one two three old mid new first second told reads =
       let a = first told reads in
       let b = second (a.0 ++ told) a.1.reads in
       let same : b.0 ++ (a.0 ++ told) ≡ (b.0 ++ a.0) ++ told = sym (append_assoc b.0 a.0 told) in (
@@ -194,27 +196,29 @@ module _ {H : Type 0} {hand : Hands H} {A B C N : Type 0} {route : Ghosts N} {na
         record {
           silent = silent-more b.0 a.0 b.1.silent ∙ a.1.silent;
           calm = calm-more b.0 a.0 b.1.calm a.1.calm;
+          going = λ is. going-more b.0 a.0 (b.1.going is) (a.1.going is);
           reads = subst (λ (steps : List Step). Reads names steps three) same b.1.reads;
           ordered = λ ordered. subst (λ (steps : List Step). Ordered (orders_by steps) new) same (b.1.ordered (a.1.ordered ordered));
         },
       )
 
-  pub cuts-one : (decided : Decided) (id : ℕ) (why : Cause) (reading new_reading : Reading H hand) (old new : Orders A B C N route) → DecidesOn names (CutOff id why) decided reading reading
-      → Acts names decided reading old new_reading new → CutsSome names reading old new_reading new
-  cuts-one decided id why reading new_reading old new decides acts told reads =
+  pub cuts-one : (ended : Bool) (decided : Decided) (id : ℕ) (why : Cause) (reading new_reading : Reading H hand) (old new : Orders A B C N route) → (ended ≡ false → AreGoing (CutOff id why ∷ [])) → DecidesOn names (CutOff id why) decided reading reading
+      → Acts names decided reading old new_reading new → CutsSome names ended reading old new_reading new
+  cuts-one ended decided id why reading new_reading old new going decides acts told reads =
       let done = acts told (CutOff id why) (decides told reads) in
-      (CutOff id why ∷ [], record { silent = refl; calm = (refl, tt); reads = done.0; ordered = done.1 })
+      (CutOff id why ∷ [], record { silent = refl; calm = (refl, tt); going = going; reads = done.0; ordered = done.1 })
 
-  pub cuts-same : (reading new_reading : Reading H hand) (old new : Orders A B C N route) → Stays names reading new_reading → ((all : List Order) → Ordered all old → Ordered all new)
-      → CutsSome names reading old new_reading new
-  cuts-same reading new_reading old new stays ordered told reads = ([], record { silent = refl; calm = tt; reads = stays told reads; ordered = ordered (orders_by told) })
+  pub cuts-same : (ended : Bool) (reading new_reading : Reading H hand) (old new : Orders A B C N route) → Stays names reading new_reading → ((all : List Order) → Ordered all old → Ordered all new)
+      → CutsSome names ended reading old new_reading new
+  cuts-same ended reading new_reading old new stays ordered told reads = ([], record { silent = refl; calm = tt; going = λ is. tt; reads = stays told reads; ordered = ordered (orders_by told) })
 
   -- ---- events
 
-  -- one event, whose step is decided and done
-  pub to-one : (event : InEvent) (fate : Fate) (decided : Decided) (end : Option Ending) (one two three : Reading H hand) (old new : Orders A B C N route) → end ≡ decided.ends
-      → DecidesOn names (Told event fate) decided one two → Acts names decided two old three new → ReadsTo names (event ∷ []) end one old three new
-  to-one event fate decided end one two three old new is decides acts told kept =
+  -- one event, whose step is decided and done, and refuses nothing but what may be
+  pub with-one : (tally tally_new : Tally) (event : InEvent) (fate : Fate) (decided : Decided) (end : Option Ending) (one two three : Reading H hand) (old new : Orders A B C N route)
+      → ((told : List Step) → Covers told tally → IsJustified (Told event fate) told) → ((told : List Step) → Covers told tally → Covers (Told event fate ∷ told) tally_new) → end ≡ decided.ends
+      → DecidesOn names (Told event fate) decided one two → Acts names decided two old three new → ReadsWith names tally tally_new (event ∷ []) end one old three new
+  with-one tally tally_new event fate decided end one two three old new justified covered is decides acts told kept covers =
       let decision = decides told kept.reads in
       let done = acts told (Told event fate) decision in (
         Told event fate ∷ [],
@@ -223,14 +227,37 @@ module _ {H : Type 0} {hand : Hands H} {A B C N : Type 0} {route : Ghosts N} {na
           all = λ none. refl;
           calm = λ none. (sym decision.ends ∙ (sym is ∙ none), tt);
           ended = ended-at (Told event fate) end (sym (is ∙ decision.ends));
-          kept = record { reads = done.0; ordered = done.1 kept.ordered };
+          kept = record { reads = done.0; ordered = done.1 kept.ordered; justified = (justified told covers, kept.justified); going = kept.going };
         },
+        covered told covers,
       )
+
+  -- whatever was counted
+  pub to-one : (event : InEvent) (fate : Fate) (decided : Decided) (end : Option Ending) (one two three : Reading H hand) (old new : Orders A B C N route)
+      → ((told : List Step) → IsJustified (Told event fate) told) → end ≡ decided.ends
+      → DecidesOn names (Told event fate) decided one two → Acts names decided two old three new → ReadsTo names (event ∷ []) end one old three new
+  to-one event fate decided end one two three old new justified is decides acts told kept =
+      let none : Tally = record { calls = 0; came = 0 } in
+      let all = with-one none none event fate decided end one two three old new (λ steps covers. justified steps) (λ steps covers. covers-none (Told event fate ∷ steps)) is decides acts told kept (covers-none told) in
+      (all.0, all.1)
+
+  pub with-same : (tally : Tally) (given : List InEvent) (end : Option Ending) (one two : Reading H hand) (old new : Orders A B C N route) → ReadsTo names given end one old two new
+      → ReadsWith names tally tally given end one old two new
+  with-same tally given end one two old new reads told kept covers =
+      let all = reads told kept in
+      (all.0, all.1, covers-more tally all.0 told covers)
+
+  -- with what was counted by other names
+  pub with-tally : (tally tally_new other : Tally) (given : List InEvent) (end : Option Ending) (one two : Reading H hand) (old new : Orders A B C N route) → other.calls ≡ tally_new.calls
+      → other.came ≡ tally_new.came → ReadsWith names tally tally_new given end one old two new → ReadsWith names tally other given end one old two new
+  with-tally tally tally_new other given end one two old new calls came reads told kept covers =
+      let all = reads told kept covers in
+      (all.0, all.1, covers-as (all.0 ++ told) tally_new other calls came all.2)
 
   -- one that leads to no order
   pub to-silent : (event : InEvent) (fate : Fate) (one two : Reading H hand) (old new : Orders A B C N route) → ((told : List Step) → orders_at told (Told event fate) ≡ []) → ends_at (Told event fate) ≡ None
-      → ReadsOn names (Told event fate) one two → IsSame old new → ReadsTo names (event ∷ []) None one old two new
-  to-silent event fate one two old new silent calm reads same told kept = (
+      → ((told : List Step) → IsJustified (Told event fate) told) → ReadsOn names (Told event fate) one two → IsSame old new → ReadsTo names (event ∷ []) None one old two new
+  to-silent event fate one two old new silent calm justified reads same told kept = (
     Told event fate ∷ [],
     record {
       front = ([], refl);
@@ -241,49 +268,46 @@ module _ {H : Type 0} {hand : Hands H} {A B C N : Type 0} {route : Ghosts N} {na
         reads = reads told kept.reads;
         ordered = subst (λ (os : List Order). Ordered os new) (sym (ap (λ (os : List Order). orders_by told ++ os) (silent told) ∙ append-nil (orders_by told)))
             (ordered-same (orders_by told) old new same kept.ordered);
+        justified = (justified told, kept.justified);
+        going = kept.going;
       };
     },
   )
 
   -- nothing was put before it
-  pub to-same : (given : List InEvent) (end : Option Ending) (one two three : Reading H hand) (old mid new : Orders A B C N route) → two ≡ one → IsSame old mid
-      → ReadsTo names given end two mid three new → ReadsTo names given end one old three new
-  to-same given end one two three old mid new is same reads told kept =
-      reads told (record { reads = subst (λ (r : Reading H hand). Reads names told r) (sym is) kept.reads; ordered = ordered-same (orders_by told) old mid same kept.ordered })
-
-  -- the event by another name
-  pub to-as : (event given : InEvent) (end : Option Ending) (one two : Reading H hand) (old new : Orders A B C N route) → event ≡ given → ReadsTo names (given ∷ []) end one old two new
-      → ReadsTo names (event ∷ []) end one old two new
-  to-as event given end one two old new is reads = subst (λ (e : InEvent). ReadsTo names (e ∷ []) end one old two new) (sym is) reads
+  pub with-quiet : (tally tally_new : Tally) (given : List InEvent) (end : Option Ending) (one two three : Reading H hand) (old mid new : Orders A B C N route) → two ≡ one → IsSame old mid
+      → ReadsWith names tally tally_new given end two mid three new → ReadsWith names tally tally_new given end one old three new
+  with-quiet tally tally_new given end one two three old mid new is same reads told kept =
+      reads told (record { reads = subst (λ (r : Reading H hand). Reads names told r) (sym is) kept.reads; ordered = ordered-same (orders_by told) old mid same kept.ordered; justified = kept.justified; going = kept.going })
 
   -- a job by another name
-  pub open-as : (job given : Job) (end : Option Ending) (one two : Reading H hand) (old new : Orders A B C N route) → job ≡ given
-      → ReadsTo names (events.Open job.id job.head ∷ []) end one old two new → ReadsTo names (events.Open given.id given.head ∷ []) end one old two new
-  open-as job given end one two old new is reads = subst (λ (j : Job). ReadsTo names (events.Open j.id j.head ∷ []) end one old two new) is reads
+  pub with-open-as : (tally tally_new : Tally) (job given : Job) (end : Option Ending) (one two : Reading H hand) (old new : Orders A B C N route) → job ≡ given
+      → ReadsWith names tally tally_new (events.Open job.id job.head ∷ []) end one old two new → ReadsWith names tally tally_new (events.Open given.id given.head ∷ []) end one old two new
+  with-open-as tally tally_new job given end one two old new is reads = subst (λ (j : Job). ReadsWith names tally tally_new (events.Open j.id j.head ∷ []) end one old two new) is reads
 
   -- of a job that is of this stream, with this head
-  pub open-for : (job : Job) (id : ℕ) (head : CallHead) (end : Option Ending) (one two : Reading H hand) (old new : Orders A B C N route) → job.id ≡ id → job.head ≡ head
-      → ReadsTo names (events.Open job.id job.head ∷ []) end one old two new → ReadsTo names (events.Open id head ∷ []) end one old two new
-  open-for job id head end one two old new same is reads =
-      subst (λ (n : ℕ). ReadsTo names (events.Open n head ∷ []) end one old two new) same
-      (subst (λ (h : CallHead). ReadsTo names (events.Open job.id h ∷ []) end one old two new) is reads)
+  pub with-open-for : (tally tally_new : Tally) (job : Job) (id : ℕ) (head : CallHead) (end : Option Ending) (one two : Reading H hand) (old new : Orders A B C N route) → job.id ≡ id → job.head ≡ head
+      → ReadsWith names tally tally_new (events.Open job.id job.head ∷ []) end one old two new → ReadsWith names tally tally_new (events.Open id head ∷ []) end one old two new
+  with-open-for tally tally_new job id head end one two old new same is reads =
+      subst (λ (n : ℕ). ReadsWith names tally tally_new (events.Open n head ∷ []) end one old two new) same
+      (subst (λ (h : CallHead). ReadsWith names tally tally_new (events.Open job.id h ∷ []) end one old two new) is reads)
 
   -- by another end
-  pub to-end : (given : List InEvent) (end other : Option Ending) (one two : Reading H hand) (old new : Orders A B C N route) → end ≡ other → ReadsTo names given end one old two new
-      → ReadsTo names given other one old two new
-  to-end given end other one two old new is reads = subst (λ (found : Option Ending). ReadsTo names given found one old two new) is reads
+  pub with-end : (tally tally_new : Tally) (given : List InEvent) (end other : Option Ending) (one two : Reading H hand) (old new : Orders A B C N route) → end ≡ other → ReadsWith names tally tally_new given end one old two new
+      → ReadsWith names tally tally_new given other one old two new
+  with-end tally tally_new given end other one two old new is reads = subst (λ (found : Option Ending). ReadsWith names tally tally_new given found one old two new) is reads
 
   -- by other events
-  pub to-events : (given other : List InEvent) (end : Option Ending) (one two : Reading H hand) (old new : Orders A B C N route) → given ≡ other → ReadsTo names given end one old two new
-      → ReadsTo names other end one old two new
-  to-events given other end one two old new is reads = subst (λ (es : List InEvent). ReadsTo names es end one old two new) is reads
+  pub with-events : (tally tally_new : Tally) (given other : List InEvent) (end : Option Ending) (one two : Reading H hand) (old new : Orders A B C N route) → given ≡ other → ReadsWith names tally tally_new given end one old two new
+      → ReadsWith names tally tally_new other end one old two new
+  with-events tally tally_new given other end one two old new is reads = subst (λ (es : List InEvent). ReadsWith names tally tally_new es end one old two new) is reads
 
   -- calls were cut before it
-  pub to-behind : (given : List InEvent) (end : Option Ending) (one two three : Reading H hand) (old mid new : Orders A B C N route) → CutsSome names one old two mid
-      → ReadsTo names given end two mid three new → ReadsTo names given end one old three new
-  to-behind given end one two three old mid new cuts reads told kept =
+  pub with-behind : (tally tally_new : Tally) (given : List InEvent) (end : Option Ending) (one two three : Reading H hand) (old mid new : Orders A B C N route) → CutsSome names false one old two mid
+      → ReadsWith names tally tally_new given end two mid three new → ReadsWith names tally tally_new given end one old three new
+  with-behind tally tally_new given end one two three old mid new cuts reads told kept covers =
       let a = cuts told kept.reads in
-      let b = reads (a.0 ++ told) (record { reads = a.1.reads; ordered = a.1.ordered kept.ordered }) in
+      let b = reads (a.0 ++ told) (record { reads = a.1.reads; ordered = a.1.ordered kept.ordered; justified = cuts-justified a.0 told a.1.silent kept.justified; going = going-more a.0 told (a.1.going refl) kept.going }) (covers-more tally a.0 told covers) in
       let is : events_of (b.0 ++ a.0) ≡ events_of b.0 = events-append b.0 a.0 ∙ ap (λ (es : List InEvent). es ++ events_of b.0) a.1.silent in (
         b.0 ++ a.0,
         record {
@@ -293,17 +317,18 @@ module _ {H : Type 0} {hand : Hands H} {A B C N : Type 0} {route : Ghosts N} {na
           ended = if-ended end b.0 a.0 b.1.ended;
           kept = subst (λ (steps : List Step). KeptFor names steps three new) (sym (append_assoc b.0 a.0 told)) b.1.kept;
         },
+        subst (λ (steps : List Step). Covers steps tally_new) (sym (append_assoc b.0 a.0 told)) b.2,
       )
 
-  pub to-none : (reading : Reading H hand) (orders : Orders A B C N route) → ReadsTo names [] None reading orders reading orders
-  to-none reading orders told kept = ([], record { front = ([], refl); all = λ none. refl; calm = λ none. tt; ended = tt; kept = kept })
+  pub with-none : (tally : Tally) (reading : Reading H hand) (orders : Orders A B C N route) → ReadsWith names tally tally [] None reading orders reading orders
+  with-none tally reading orders told kept covers = ([], record { front = ([], refl); all = λ none. refl; calm = λ none. tt; ended = tt; kept = kept }, covers)
 
   -- more events
-  pub to-then : (first more : List InEvent) (end : Option Ending) (one two three : Reading H hand) (old mid new : Orders A B C N route) → ReadsTo names first None one old two mid
-      → ReadsTo names more end two mid three new → ReadsTo names (first ++ more) end one old three new
-  to-then first more end one two three old mid new before behind told kept =
-      let a = before told kept in
-      let b = behind (a.0 ++ told) a.1.kept in
+  pub with-then : (tally tally_new tally_end : Tally) (first more : List InEvent) (end : Option Ending) (one two three : Reading H hand) (old mid new : Orders A B C N route) → ReadsWith names tally tally_new first None one old two mid
+      → ReadsWith names tally_new tally_end more end two mid three new → ReadsWith names tally tally_end (first ++ more) end one old three new
+  with-then tally tally_new tally_end first more end one two three old mid new before behind told kept covers =
+      let a = before told kept covers in
+      let b = behind (a.0 ++ told) a.1.kept a.2 in
       let is : events_of (b.0 ++ a.0) ≡ first ++ events_of b.0 = events-append b.0 a.0 ∙ ap (λ (es : List InEvent). es ++ events_of b.0) (a.1.all refl) in (
         b.0 ++ a.0,
         record {
@@ -313,13 +338,14 @@ module _ {H : Type 0} {hand : Hands H} {A B C N : Type 0} {route : Ghosts N} {na
           ended = if-ended end b.0 a.0 b.1.ended;
           kept = subst (λ (steps : List Step). KeptFor names steps three new) (sym (append_assoc b.0 a.0 told)) b.1.kept;
         },
+        subst (λ (steps : List Step). Covers steps tally_end) (sym (append_assoc b.0 a.0 told)) b.2,
       )
 
   -- an event ended the connection, so those behind it were not heard
-  pub to-stop : (given rest : List InEvent) (ending : Ending) (end : Option Ending) (one two : Reading H hand) (old new : Orders A B C N route) → end ≡ Some ending
-      → ReadsTo names given end one old two new → ReadsTo names (given ++ rest) end one old two new
-  to-stop given rest ending end one two old new is reads told kept =
-      let a = reads told kept in (
+  pub with-stop : (tally tally_new : Tally) (given rest : List InEvent) (ending : Ending) (end : Option Ending) (one two : Reading H hand) (old new : Orders A B C N route) → end ≡ Some ending
+      → ReadsWith names tally tally_new given end one old two new → ReadsWith names tally tally_new (given ++ rest) end one old two new
+  with-stop tally tally_new given rest ending end one two old new is reads told kept covers =
+      let a = reads told kept covers in (
         a.0,
         record {
           front = (a.1.front.0 ++ rest, sym (append_assoc (events_of a.0) a.1.front.0 rest) ∙ ap (λ (es : List InEvent). es ++ rest) a.1.front.1);
@@ -328,6 +354,7 @@ module _ {H : Type 0} {hand : Hands H} {A B C N : Type 0} {route : Ghosts N} {na
           ended = a.1.ended;
           kept = a.1.kept;
         },
+        a.2,
       )
     where
       not-both : (found : Option Ending) → found ≡ Some ending → found ≡ None → ⊥
@@ -342,6 +369,8 @@ module _ {H : Type 0} {hand : Hands H} {A B C N : Type 0} {route : Ghosts N} {na
       → HasRead names end given told reading orders
   all-read end before told bytes given core reading orders same reached is calm kept goaway unfailed = record {
     reads = kept.reads;
+    justified = kept.justified;
+    going = kept.going;
     heard = subst (λ (bs : List ℕ). AreHeard end bs (events_of told)) (sym same) (record {
       front = front-some bytes (events_of told) before core reached ([], append-nil (events_of told) ∙ is);
       whole = λ ended. subst (λ (es : List InEvent). Events bytes es) (sym is) (reached_events bytes before core reached);
@@ -365,15 +394,17 @@ module _ {H : Type 0} {hand : Hands H} {A B C N : Type 0} {route : Ghosts N} {na
       all-read ReadFailed before told bytes given core reading orders same reached is calm kept (λ gone. cc) (λ code failed. cc)
 
   -- some were, and one of them ended the connection
-  pub some-read : (end : Ending) (given before : List InEvent) (told : List Step) (bytes : List ℕ) (core : Core) (reading reading_new : Reading H hand) (orders orders_new : Orders A B C N route)
-      → Reached bytes (before ++ given) core → events_of told ≡ before → ReadsTo names given (Some end) reading orders reading_new orders_new
-      → KeptFor names told reading orders → (all : List Step) × HasRead names end bytes all reading_new orders_new
-  some-read end given before told bytes core reading reading_new orders orders_new reached is reads kept =
-      let more = reads told kept in
+  pub some-read : (tally tally_new : Tally) (end : Ending) (given before : List InEvent) (told : List Step) (bytes : List ℕ) (core : Core) (reading reading_new : Reading H hand) (orders orders_new : Orders A B C N route)
+      → Reached bytes (before ++ given) core → events_of told ≡ before → ReadsWith names tally tally_new given (Some end) reading orders reading_new orders_new
+      → KeptFor names told reading orders → Covers told tally → (all : List Step) × HasRead names end bytes all reading_new orders_new
+  some-read tally tally_new end given before told bytes core reading reading_new orders orders_new reached is reads kept covers =
+      let more = reads told kept covers in
       let not : is_heard_out end ≡ true → ⊥ = λ out. true≢false (sym out ∙ ended-harsh end more.0 more.1.ended) in (
         more.0 ++ told,
         record {
           reads = more.1.kept.reads;
+          justified = more.1.kept.justified;
+          going = more.1.kept.going;
           heard = record {
             front = front-some bytes (events_of (more.0 ++ told)) (before ++ given) core reached (
               more.1.front.0,
@@ -389,17 +420,19 @@ module _ {H : Type 0} {hand : Hands H} {A B C N : Type 0} {route : Ghosts N} {na
         },
       )
 
-  pub some-sound : (end : Ending) (given : List InEvent) (told : List Step) (reading reading_new : Reading H hand) (orders orders_new : Orders A B C N route)
-      → ReadsTo names given (Some end) reading orders reading_new orders_new → KeptFor names told reading orders → end ≢ ReadFailed
-  some-sound end given told reading reading_new orders orders_new reads kept is =
-      let more = reads told kept in
+  pub some-sound : (tally tally_new : Tally) (end : Ending) (given : List InEvent) (told : List Step) (reading reading_new : Reading H hand) (orders orders_new : Orders A B C N route)
+      → ReadsWith names tally tally_new given (Some end) reading orders reading_new orders_new → KeptFor names told reading orders → Covers told tally → end ≢ ReadFailed
+  some-sound tally tally_new end given told reading reading_new orders orders_new reads kept covers is =
+      let more = reads told kept covers in
       true≢false (sym (ap (λ (e : Ending). is_heard_out e) is) ∙ ended-harsh end more.0 more.1.ended)
 
   -- none of the last bytes were heard
   pub none-read : (before : List InEvent) (told : List Step) (bytes more : List ℕ) (core : Core) (reading : Reading H hand) (orders : Orders A B C N route)
-      → Reached bytes before core → events_of told ≡ before → Reads names told reading → HasRead names OutOfMemory (bytes ++ more) told reading orders
-  none-read before told bytes more core reading orders reached is reads = record {
+      → Reached bytes before core → events_of told ≡ before → AreJustified told → AreGoing told → Reads names told reading → HasRead names OutOfMemory (bytes ++ more) told reading orders
+  none-read before told bytes more core reading orders reached is justified going reads = record {
     reads = reads;
+    justified = justified;
+    going = going;
     heard = record { front = subst (λ (es : List InEvent). IsFront (bytes ++ more) es) (sym is) (front-before bytes more before core reached); whole = λ ended. absurd cc };
     calm = λ ended. absurd cc;
     ordered = λ spared. absurd (spared refl);
@@ -430,4 +463,4 @@ ordered-none orders none = record { front = ([], append-nil (put_orders orders) 
 
 pub kept-none : {H : Type 0} {hand : Hands H} {A B C N : Type 0} {route : Ghosts N} {names : List ℕ → ℕ → Type 0} (reading : Reading H hand) (orders : Orders A B C N route) → Reads names [] reading
     → put_of orders ≡ [] → KeptFor names [] reading orders
-kept-none reading orders reads none = record { reads = reads; ordered = ordered-none orders none }
+kept-none reading orders reads none = record { reads = reads; ordered = ordered-none orders none; justified = tt; going = tt }

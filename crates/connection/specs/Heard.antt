@@ -19,6 +19,7 @@ use Rattle.slots.specs.Reports.{AreCalm, AreHeard, AreRows, is_heard_out}
 use Rattle.slots.specs.Steps.{Step, WasTold, events_of, reported, IsRising}
 use Rattle.connection.specs.declared.orders.Orders.{Orders}
 use Rattle.connection.specs.declared.orders.Route.{Ghosts}
+use Rattle.connection.specs.Limits.{AreGoing, AreJustified, Covers, Tally}
 use Rattle.connection.specs.Puts.{Ordered, put_orders}
 
 -- one of these steps ended the connection so
@@ -27,26 +28,31 @@ IsEndedBy ending [] = ⊥
 IsEndedBy ending (step ∷ before) = (ends_at step ≡ Some ending) ⊎ IsEndedBy ending before
 
 module _ {H : Type 0} {hand : Hands H} {A B C N : Type 0} {route : Ghosts N} (names : List ℕ → ℕ → Type 0) where
-  -- These steps led to the reading side, and what was ordered is what they lead to.
+  -- These steps led to the reading side, what was ordered is what they lead to, nothing was refused but what may be, and the input
+  -- goes on.
   pub record KeptFor (told : List Step) (reading : Reading H hand) (orders : Orders A B C N route) : Type 0 where
     pub reads : Reads names told reading
     pub ordered : Ordered (orders_by told) orders
+    pub justified : AreJustified told
+    pub going : AreGoing told
 
   -- what was decided of a step is done
   abbrev pub Acts : Decided → Reading H hand → Orders A B C N route → Reading H hand → Orders A B C N route → Type 0
   Acts decided reading orders reading_new orders_new = (told : List Step) (step : Step) → Decides names told step decided reading
       → Reads names (step ∷ told) reading_new × (Ordered (orders_by told) orders → Ordered (orders_by (step ∷ told)) orders_new)
 
-  -- With these steps, of which no event tells and none of which ends the connection, calls were cut.
-  pub record Cuts (told cuts : List Step) (reading_new : Reading H hand) (orders orders_new : Orders A B C N route) : Type 0 where
+  -- With these steps, of which no event tells and none of which ends the connection, calls were cut: as at the end of the input only where it
+  -- has ended.
+  pub record Cuts (ended : Bool) (told cuts : List Step) (reading_new : Reading H hand) (orders orders_new : Orders A B C N route) : Type 0 where
     pub silent : events_of cuts ≡ []
     pub calm : AreCalm cuts
+    pub going : ended ≡ false → AreGoing cuts
     pub reads : Reads names (cuts ++ told) reading_new
     pub ordered : Ordered (orders_by told) orders → Ordered (orders_by (cuts ++ told)) orders_new
 
-  abbrev pub CutsSome : Reading H hand → Orders A B C N route → Reading H hand → Orders A B C N route → Type 0
-  CutsSome reading orders reading_new orders_new = (told : List Step) → Reads names told reading
-      → (cuts : List Step) × Cuts told cuts reading_new orders orders_new
+  abbrev pub CutsSome : Bool → Reading H hand → Orders A B C N route → Reading H hand → Orders A B C N route → Type 0
+  CutsSome ended reading orders reading_new orders_new = (told : List Step) → Reads names told reading
+      → (cuts : List Step) × Cuts ended told cuts reading_new orders orders_new
 
   -- Whatever steps were heard before, with some that tell of these events they are those that were heard after; and they tell of
   -- them all, and none ends the connection, unless one of them does so.
@@ -61,10 +67,17 @@ module _ {H : Type 0} {hand : Hands H} {A B C N : Type 0} {route : Ghosts N} (na
   ReadsTo given end reading orders reading_new orders_new = (told : List Step) → KeptFor told reading orders
       → (more : List Step) × Tells given end told more reading_new orders_new
 
+  -- The same, where the reader had counted no more before than the steps tell, and no more after.
+  abbrev pub ReadsWith : Tally → Tally → List InEvent → Option Ending → Reading H hand → Orders A B C N route → Reading H hand → Orders A B C N route → Type 0
+  ReadsWith tally tally_new given end reading orders reading_new orders_new = (told : List Step) → KeptFor told reading orders → Covers told tally
+      → (more : List Step) × Tells given end told more reading_new orders_new × Covers (more ++ told) tally_new
+
   -- These steps were heard of the bytes that came, all of them where all that came was heard, and then none ended the connection; but
   -- where memory ran out, what was ordered is what they lead to. The ending has its cause among them.
   pub record HasRead (end : Ending) (came : List ℕ) (told : List Step) (reading : Reading H hand) (orders : Orders A B C N route) : Type 0 where
     pub reads : Reads names told reading
+    pub justified : AreJustified told
+    pub going : AreGoing told
     pub heard : AreHeard end came (events_of told)
     pub calm : is_heard_out end ≡ true → AreCalm told
     pub ordered : end ≢ OutOfMemory → Ordered (orders_by told) orders

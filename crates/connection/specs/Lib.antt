@@ -1,3 +1,4 @@
+pub mod Limits
 pub mod Puts
 pub mod Heard
 pub mod Served

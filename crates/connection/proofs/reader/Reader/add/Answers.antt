@@ -1,7 +1,11 @@
+use Rattle.std.proofs.Common.{refl}
 use Rattle.session.specs.declared.event.InEvent.TheVariants as events
 use Rattle.slots.specs.Steps.{Admitted}
-use Rattle.connection.proofs.Heard.{to-one}
+use Rattle.connection.specs.Limits.{one_more}
+use Rattle.connection.proofs.Heard.{with-one}
+use Rattle.connection.proofs.Tallies.{covers-call}
 use Rattle.connection.proofs.reader.Reader.add.Goals as goal
 
 pub returns : goal.returns
-returns g c = record { reads = λ job same index jobs is. to-one (events.Open job.id job.head) Admitted _ _ _ _ _ _ _ c.act.ensures.ends (c.add-decided.ensures job same index jobs is) c.act.ensures.acts }
+returns g c = record { reads = λ job same index jobs is tally. with-one tally (one_more tally) (events.Open job.id job.head) Admitted _ _ _ _ _ _ _ 
+      (λ told covers. tt) (λ told covers. covers-call tally (events.Open job.id job.head) Admitted job.id told refl covers) c.act.ensures.ends (c.add-decided.ensures job same index jobs is) c.act.ensures.acts }

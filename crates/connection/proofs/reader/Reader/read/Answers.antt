@@ -3,7 +3,7 @@ use Rattle.session.specs.declared.event.InEvent.{InEvent}
 use Rattle.slots.specs.Steps.{events_of}
 use Rattle.slots.proofs.LetGo.{events-append}
 use Rattle.slots.proofs.Resets.{calm-more}
-use Rattle.connection.proofs.Heard.{consumes-then, failed-read, input-read, none-more, none-read, not-by-fault, read-failed, reads-same, some-read, some-sound, to-end}
+use Rattle.connection.proofs.Heard.{consumes-then, failed-read, input-read, none-more, none-read, not-by-fault, read-failed, reads-same, some-read, some-sound, with-end}
 use Rattle.connection.proofs.reader.Reader.read.Goals as goal
 
 is-err : {A E P : Type 0} (result : Result A E) → ((a : A) → result ≡ Ok a → ⊥) → OnErr result P → P
@@ -35,7 +35,7 @@ pieces-preserved g c = (
   λ none.
       let h = c.pieces.invariant.4 none in
       let on = c.in-Ok-None.ensures.on h.0 h.1 h.4 in
-      let more = on.2 h.2 h.7 in (
+      let more = on.2 h.2 h.7 h.8 in (
         h.0 ++ take c.in-Ok.count c.read.new.buf,
         h.1 ++ on.0,
         more.0 ++ h.2,
@@ -44,6 +44,7 @@ pieces-preserved g c = (
         events-append more.0 h.2 ∙ (ap (λ (es : List InEvent). es ++ events_of more.0) h.5 ∙ ap (λ (es : List InEvent). h.1 ++ es) (more.1.all c.in-Ok-None.field-0-is)),
         calm-more more.0 h.2 (more.1.calm c.in-Ok-None.field-0-is) h.6,
         more.1.kept,
+        more.2,
       ),
 )
 
@@ -53,7 +54,7 @@ returns-in-Ok-Some-clause-heard g c = λ none.
     let on = c.in-Ok-Some.ensures.on h.0 h.1 h.4 in (
       h.0 ++ take c.in-Ok.count c.read.new.buf,
       consumes-then _ _ _ h.0 _ h.3 c.in-Ok.ensures.bytes.0,
-      some-read c.in-Ok-Some.ending on.0 h.1 h.2 _ _ _ _ _ _ on.1 h.5 (to-end _ _ _ _ _ _ _ c.in-Ok-Some.field-0-is on.2) h.7,
+      some-read _ _ c.in-Ok-Some.ending on.0 h.1 h.2 _ _ _ _ _ _ on.1 h.5 (with-end _ _ _ _ _ _ _ _ _ c.in-Ok-Some.field-0-is on.2) h.7 h.8,
     )
 
 pub returns-in-Err-clause-heard : goal.returns-in-Err-clause-heard
@@ -63,7 +64,7 @@ returns-in-Err-clause-heard g c = λ none.
       consumes-then _ _ _ h.0 _ h.3 c.in-Ok.ensures.bytes.0,
       (
         h.2,
-        none-read h.1 h.2 h.0 _ _ _ _ h.4 h.5 (reads-same h.2 _ _ (c.lack.ensures.same ∙ c.in-Err.ensures.same.0) h.7.reads),
+        none-read h.1 h.2 h.0 _ _ _ _ h.4 h.5 h.7.justified h.7.going (reads-same h.2 _ _ (c.lack.ensures.same ∙ c.in-Err.ensures.same.0) h.7.reads),
       ),
     )
 
@@ -80,4 +81,4 @@ pub returns-in-Ok-Some-clause-failed : goal.returns-in-Ok-Some-clause-failed
 returns-in-Ok-Some-clause-failed g c = λ none failed.
     let h = c.pieces.invariant.4 none in
     let on = c.in-Ok-Some.ensures.on h.0 h.1 h.4 in
-    absurd (some-sound c.in-Ok-Some.ending on.0 h.2 _ _ _ _ (to-end _ _ _ _ _ _ _ c.in-Ok-Some.field-0-is on.2) h.7 failed)
+    absurd (some-sound _ _ c.in-Ok-Some.ending on.0 h.2 _ _ _ _ (with-end _ _ _ _ _ _ _ _ _ c.in-Ok-Some.field-0-is on.2) h.7 h.8 failed)
