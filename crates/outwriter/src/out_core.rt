@@ -7,7 +7,7 @@
 //! `control`: A dead core hands each control back, since nothing that it keeps is known to follow from its run; what
 //! was told of each call stays a prefix, so its senders can be brought back.
 
-ghost use Rattle.std.specs.Prelude.{◌≡◌, List, [], ◌∷◌, Some, None, Err, false, true, IsOk, OnOk, IfErr, IfSome};
+ghost use Rattle.std.specs.Prelude.{◌≡◌, ◌≢◌, List, [], ◌∷◌, Some, None, Err, false, true, IsOk, OnOk, IfErr, IfSome};
 ghost use Rattle.outwriter.specs.CallState.{Takes, none_is_new};
 ghost use Rattle.outwriter.specs.Cores.{Brings, Leads, LeadsControl, LeadsOn, LeadsStill, calls, open_stream};
 ghost use Rattle.outwriter.specs.declared.control.OutFault.TheVariants as out_fault;
@@ -89,10 +89,36 @@ impl<L: Lane<Item = OutItem>> OutCore<L> {
         if self.is_dead {
             return Err(OutFault::OutOfMemory(Some(control)));
         }
-        let takes_room = !matches!(control, Control::InputEnded | Control::Close);
-        if takes_room && self.sending.outbound.make_room().is_err() {
-            return Err(OutFault::OutOfMemory(Some(control)));
+        match control {
+            Control::InputEnded => Ok(()),
+            Control::Close => {
+                self.closed = true;
+                Ok(())
+            }
+            other => self.obey(other),
         }
+    }
+
+    /// The same of a control for which room is needed.
+    fn obey(&mut self, control: Control<Sender<L>>) -> Result<(), OutFault<Sender<L>>>
+        requires living { self.old.is_dead ≡ false }
+        requires goes_on { control ≢ order.InputEnded }
+        requires open { control ≢ order.Close }
+        ensures leads { LeadsControl L.got result control self.old self.new }
+        ensures brings { Brings result control self.old.sending.senders.items
+            self.new.sending.senders.items }
+        ensures fault { IfErr result (λ fault. (run : List Step) → Leads L.got run self.old
+            → Blames fault control run) }
+        ensures room { OnOk result ((run : List Step) → Leads L.got run self.old
+            → HasRoom control run) }
+        ensures whose { IfErr result (λ fault. Concerns fault control) }
+        ensures alive { self.new.is_dead ≡ self.old.is_dead }
+        ensures limits { TakesLimits result control self.old.sending.outbound.encoder
+            self.new.sending.outbound.encoder }
+    {
+        let Ok(()) = self.sending.outbound.make_room() else {
+            return Err(OutFault::OutOfMemory(Some(control)));
+        };
         match control {
             Control::Settings(settings) => {
                 match self.sending.outbound.take_settings(&settings) {
@@ -118,11 +144,7 @@ impl<L: Lane<Item = OutItem>> OutCore<L> {
                 self.sending.outbound.take_goaway(last, code);
                 Ok(())
             }
-            Control::InputEnded => Ok(()),
-            Control::Close => {
-                self.closed = true;
-                Ok(())
-            }
+            Control::InputEnded | Control::Close => unreachable!(),
         }
     }
 
