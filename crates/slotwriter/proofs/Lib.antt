@@ -1,3 +1,4 @@
+pub mod CreditSteps
 pub mod OrderSteps
 pub mod WrittenSteps
 pub mod SentPlaces

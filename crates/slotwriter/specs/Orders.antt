@@ -6,7 +6,7 @@ use Rattle.std.specs.List.{list_any}
 use Rattle.lane.specs.Ring.{taken, out_name}
 use Rattle.h2frame.specs.declared.error_code.ErrorCode.TheVariants.{InternalError}
 use Rattle.outwriter.specs.declared.control.Control.{Control}
-use Rattle.outwriter.specs.declared.control.Control.TheVariants.{Open, Reset, Goaway, InputEnded, Close}
+use Rattle.outwriter.specs.declared.control.Control.TheVariants.{Open, Settings, Window, Reset, Goaway, InputEnded, Close}
 use Rattle.outwriter.specs.declared.control.OutFault.TheVariants.{PeerWindow}
 use Rattle.outwriter.specs.RunState.{Blames, Concerns, HasRoom}
 use Rattle.outwriter.specs.Steps.{Order, Step, Taken, Granted, Written, Returned, order_of}
@@ -17,6 +17,9 @@ use Rattle.callslot.specs.declared.order.Opened.{Opened}
 use Rattle.slotwriter.specs.declared.inbox.Inbox.{Inbox}
 use Rattle.slotwriter.specs.declared.senders.Untaken.{Untaken}
 use Rattle.slotwriter.specs.declared.senders.Untaken.TheVariants.{Early, OutOfMemory}
+use Rattle.slotwriter.specs.declared.steps.Waiting.{Waiting}
+use Rattle.slotwriter.specs.declared.steps.Waiting.TheVariants.{Nothing, Other}
+use Rattle.slotwriter.specs.declared.steps.Waiting.TheVariants as waiting
 
 -- ---- what a run obeys
 
@@ -131,6 +134,13 @@ pub record Keeps (old new : Inbox) : Type 0 where
 abbrev pub IsBack : Control Opened → Untaken → Type 0
 IsBack order (Early back) = back ≡ order
 IsBack order OutOfMemory = Unit {0}
+
+-- whether one waits, and whether a window of the peer's may overflow by it
+abbrev pub waiting_of : Option (Control Opened) → Waiting
+waiting_of None = Nothing
+waiting_of (Some (Settings settings)) = waiting.Window
+waiting_of (Some (Window id n)) = waiting.Window
+waiting_of (Some _) = Other
 
 -- no window of the peer's may overflow by the order
 abbrev pub TakesNoWindow : Control Opened → Type 0

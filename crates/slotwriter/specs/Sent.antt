@@ -1,6 +1,6 @@
 -- The lines of a connection's calls: by the orders that its writer took, and with the senders of its slots.
 use mathlib.Core.List.{IsPrefix}
-use Rattle.std.specs.Prelude.{◌≡◌, ◌⊎◌, ◌<◌, ℕ, false, nat_eq, length, List, [], ◌∷◌, ◌++◌, map, get_or, set, Option, None, Some}
+use Rattle.std.specs.Prelude.{◌≡◌, ◌⊎◌, ◌<◌, ℕ, false, nat_eq, length, List, [], ◌∷◌, ◌++◌, map, get_or, set, Option, None, Some, slice_get}
 use Rattle.std.specs.List.{IsDistinct}
 use Rattle.account.specs.declared.call.OutItem.{OutItem}
 use Rattle.callbox.specs.declared.sender.Sender.{Sender}
@@ -67,6 +67,10 @@ ids_of places = map (λ place. place.id) places
 
 abbrev pub held_of : List Place → List (Option SlotSender)
 held_of places = map (λ place. place.sender) places
+
+-- the stream of the call of slot number n, or of its last one
+abbrev pub stream_at : ℕ → List Place → Option ℕ
+stream_at n places = slice_get (ids_of places) n
 
 -- one of the places has the call of this stream
 abbrev pub HasStream : ℕ → List Place → Type 0

@@ -15,6 +15,8 @@ use Rattle.outwriter.specs.Credit.{granted}
 use Rattle.outwriter.specs.Runs.{IsLawful, is_opened}
 use Rattle.outwriter.specs.RunState.{IsAnswered}
 use Rattle.outwriter.specs.Steps.{Step, Order, frames_of, order_of}
+use Rattle.connwriter.specs.declared.filled.Filled.{Filled}
+use Rattle.connwriter.specs.declared.filled.Filled.TheVariants.{Full, Idle, Over, Stopped}
 use Rattle.connwriter.specs.declared.standing.Standing.TheVariants.{Going, Broken}
 use Rattle.connwriter.specs.declared.writer.ConnWriter.{ConnWriter}
 use Rattle.connwriter.specs.Spelled.{IsFront, IsWhole, IsAll}
@@ -25,6 +27,8 @@ use Rattle.callslot.specs.declared.report.Ending.{Ending}
 use Rattle.callslot.specs.declared.report.Ending.TheVariants.{OutOfMemory, WriteFailed}
 use Rattle.slotwriter.specs.declared.senders.Place.{Place}
 use Rattle.slotwriter.specs.declared.slot_writer.SlotWriter.{SlotWriter}
+use Rattle.slotwriter.specs.declared.steps.Rest.{Rest}
+use Rattle.slotwriter.specs.declared.steps.Rest.TheVariants as rests
 use Rattle.slotwriter.specs.Orders.{HasGiven, IsAmong, Obeys, ends_input, orders_of}
 use Rattle.slotwriter.specs.Sent.{AreFresh, AreKept, HaveTold, Lines, MakesOf, SlotSender, ids_of, lines_of}
 
@@ -150,6 +154,16 @@ module _ {W : Type 0} (contents : W → Option (List ℕ)) (failed : W → Bool)
   pub record Stays (old new : SlotWriter W) : Type 0 where
     pub leads : LeadsOn old new
     pub out : (before : Option (List ℕ)) (credit : ℕ) → LedOut before credit old → LedOut before credit new
+
+-- What comes behind a fill: more at once where the buffer was full or was written to; the owner waits where neither was; and where nothing
+-- is written any more, it waits for what orders come still.
+abbrev pub rest_of : Filled → Bool → Bool → Rest
+rest_of Full is_silent closed = rests.None
+rest_of Idle false closed = rests.None
+rest_of Idle true closed = rests.Idle
+rest_of Stopped is_silent false = rests.Stopped
+rest_of Stopped is_silent true = rests.StoppedOver
+rest_of Over is_silent closed = rests.Over
 
 -- nothing is in its buffer, unless a write failed
 abbrev pub IsFlushed : {W : Type 0} → SlotWriter W → Type 0

@@ -57,7 +57,7 @@ impl Senders {
     ghost use Rattle.slotwriter.specs.Orders.{IsBack};
     ghost use Rattle.slotwriter.specs.Sent.{Adds, Begins, HasStream, KeepsOn, MakesOf, NoneWaits};
     ghost use Rattle.slotwriter.specs.Sent.{SamePlaces, TakesAllHome, TakesHome, Waits, held_of};
-    ghost use Rattle.slotwriter.specs.Sent.{ids_of};
+    ghost use Rattle.slotwriter.specs.Sent.{ids_of, stream_at};
 
     pub(crate) fn new(alloc: Global) -> Senders
         ensures { result.places.items ≡ [] }
@@ -78,7 +78,9 @@ impl Senders {
     }
 
     /// The stream of the slot's call, or of its last one.
-    pub(crate) fn stream_of(&self, number: usize) -> Option<StreamId> {
+    pub(crate) fn stream_of(&self, number: usize) -> Option<StreamId>
+        ensures { result ≡ stream_at number self.now.places.items }
+    {
         let place = self.places.get(number)?;
         Some(place.id)
     }

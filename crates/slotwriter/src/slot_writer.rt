@@ -1,13 +1,12 @@
 //! What the writing side of a connection has, and its steps.
 
-ghost use Rattle.std.specs.Prelude.{◌≡◌, ◌≢◌, ◌+◌, ℕ, true, false, List, [], Option, None, Some, IfSome};
+ghost use Rattle.std.specs.Prelude.{◌≡◌, ◌≢◌, ◌+◌, ℕ, nat_eq, if◌then◌else◌, true, false, List, [], length, slice_get, Option, None, Some, IfNone, IfSome};
 ghost use Rattle.lane.specs.Ring.{taken};
 ghost use Rattle.lane.specs.RingLane.{got};
-ghost use Rattle.outwriter.specs.Credit.{granted_by};
 ghost use Rattle.outwriter.specs.Cores.{IsUnused, open_stream};
 ghost use Rattle.outwriter.specs.declared.control.Control.TheVariants as orders;
 ghost use Rattle.outwriter.specs.RunState.{is_held};
-ghost use Rattle.outwriter.specs.Steps.{Granted, order_of};
+ghost use Rattle.outwriter.specs.Steps.{order_of};
 ghost use Rattle.flow.specs.Windows.{room};
 ghost use Rattle.connwriter.specs.declared.filled.Filled.TheVariants as filling;
 ghost use Rattle.connwriter.specs.declared.standing.Standing.TheVariants as stands;
@@ -15,11 +14,11 @@ ghost use Rattle.callslot.specs.declared.report.Ending.TheVariants as ending;
 ghost use Rattle.slotwriter.specs.declared.steps.Rest.TheVariants as rest;
 ghost use Rattle.slotwriter.specs.declared.steps.Took.TheVariants as took;
 ghost use Rattle.slotwriter.specs.declared.steps.Waiting.TheVariants as waiting;
-ghost use Rattle.slotwriter.specs.Orders.{TakesNoWindow, ends_input, orders_of};
-ghost use Rattle.slotwriter.specs.Sent.{HandsHome, HasStream, SamePlaces, held_of};
+ghost use Rattle.slotwriter.specs.Orders.{TakesNoWindow, ends_input, orders_of, waiting_of};
+ghost use Rattle.slotwriter.specs.Sent.{HandsHome, HasStream, SamePlaces, held_of, stream_at};
 ghost use Rattle.slotwriter.specs.Written.{HasSent, HasWritten, Heeds, IsFlushed, Led, LedOut};
 ghost use Rattle.slotwriter.specs.Written.{LeadsOn, LeadsOut, LeadsTo, Parts, PassesOver, SameCalls};
-ghost use Rattle.slotwriter.specs.Written.{Stays, Takes, places_of};
+ghost use Rattle.slotwriter.specs.Written.{Stays, Takes, places_of, rest_of};
 
 use crate::inbox::Inbox;
 use crate::senders::{Senders, Untaken};
@@ -83,6 +82,7 @@ impl<W: ConnWrite + Drop> SlotWriter<W> {
     /// Which order is the next to be taken.
     pub fn look(&mut self) -> Waiting
         ensures stays { Stays W.contents W.failed self.old self.new }
+        ensures waiting { result ≡ waiting_of self.new.inbox.set_aside }
         ensures nothing { result ≡ waiting.Nothing → self.new.inbox.set_aside ≡ None }
         ensures other { result ≡ waiting.Other → IfSome self.new.inbox.set_aside TakesNoWindow }
     {
@@ -92,6 +92,7 @@ impl<W: ConnWrite + Drop> SlotWriter<W> {
 
     /// Which order is set aside.
     fn waiting(&self) -> Waiting
+        ensures waiting { result ≡ waiting_of self.now.inbox.set_aside }
         ensures nothing { result ≡ waiting.Nothing → self.now.inbox.set_aside ≡ None }
         ensures other { result ≡ waiting.Other → IfSome self.now.inbox.set_aside TakesNoWindow }
     {
@@ -322,8 +323,9 @@ impl<W: ConnWrite + Drop> SlotWriter<W> {
 
     /// Owes the peer n bytes more of credit, on a stream, or on the connection where it is 0.
     pub fn grant(&mut self, id: StreamId, n: u32)
-        ensures leads { (credit : ℕ) → LeadsTo W.contents W.failed credit self.old
-            (credit + granted_by 0 (Granted id n)) self.new }
+        // On the connection just so much more credit was granted.
+        ensures leads { (had has : ℕ) → has ≡ had + (if nat_eq id 0 then n else 0)
+            → LeadsTo W.contents W.failed had self.old has self.new }
     {
         self.frames.grant(id, n);
     }
@@ -349,7 +351,9 @@ impl<W: ConnWrite + Drop> SlotWriter<W> {
     }
 
     /// Whether nothing is in the buffer.
-    pub fn is_flushed(&self) -> bool {
+    pub fn is_flushed(&self) -> bool
+        ensures { result ≡ true → self.now.frames.buffer.items ≡ [] }
+    {
         self.frames.is_flushed()
     }
 
@@ -456,6 +460,7 @@ impl<W: ConnWrite + Drop> SlotWriter<W> {
 
     /// What comes once the buffer was filled and written; `is_silent` where it was empty.
     pub fn rest(&self, filled: Filled, is_silent: bool) -> Rest
+        ensures rest { result ≡ rest_of filled is_silent self.now.closed }
         ensures over { result ≡ rest.Over → filled ≡ filling.Over }
         ensures stopped { result ≡ rest.StoppedOver → filled ≡ filling.Stopped }
     {
@@ -470,7 +475,9 @@ impl<W: ConnWrite + Drop> SlotWriter<W> {
     }
 
     /// How many slots there are.
-    pub fn slots(&self) -> usize {
+    pub fn slots(&self) -> usize
+        ensures { result ≡ length (places_of self.now) }
+    {
         self.senders.count()
     }
 
@@ -480,6 +487,12 @@ impl<W: ConnWrite + Drop> SlotWriter<W> {
         ensures ended { IfSome result (λ id. self.now.input_ended ≡ true) }
         ensures held { IfSome result (λ id. is_held (open_stream self.now.frames.core id)
             (room self.now.frames.core.sending.outbound.states.windows id) ≡ true) }
+        ensures whose { IfSome result (λ id. stream_at number (places_of self.now) ≡ Some id) }
+        // None, where the slot's call doesn't wait so.
+        ensures none { IfNone result (self.now.input_ended ≡ true → (id : ℕ)
+            → stream_at number (places_of self.now) ≡ Some id
+            → is_held (open_stream self.now.frames.core id)
+            (room self.now.frames.core.sending.outbound.states.windows id) ≡ false) }
     {
         if !self.input_ended {
             return None;
