@@ -1,5 +1,5 @@
 -- The slots of a connection, as they are by what its reading side heard.
-use Rattle.std.specs.Prelude.{◌≡◌, ◌⊎◌, ◌<◌, ◌≤◌, ◌&&◌, ◌+◌, ℕ, Bool, nat_eq, List, [], ◌++◌, ◌∷◌, map, length, get_or, All, vec_capacity, vec_len}
+use Rattle.std.specs.Prelude.{◌≡◌, ◌⊎◌, ◌<◌, ◌≤◌, ◌&&◌, ◌+◌, ℕ, Bool, nat_eq, List, [], ◌∷◌, map, length, get_or, All, Option, None, Some, if◌then◌else◌, slice_get, vec_capacity, vec_len}
 use Rattle.std.specs.List.{AllPairs}
 use Rattle.lane.specs.Ring as ring
 use Rattle.callslot.specs.declared.report.CallReport.{CallReport}
@@ -41,6 +41,15 @@ module _ {H : Type 0} {hand : Ghosts H} where
   -- a slot is at a call of this stream, to which more may be fed
   abbrev pub feeds : ℕ → Seat H hand → Bool
   feeds id seat = nat_eq seat.id id && is_open seat.half
+
+  -- the stream of a slot's call, where more may be fed to it
+  abbrev pub fed_in : Option (Seat H hand) → Option ℕ
+  fed_in None = None
+  fed_in (Some seat) = if is_open seat.half then Some seat.id else None
+
+  -- that of slot number n
+  abbrev pub fed_at : ℕ → Slots H hand → Option ℕ
+  fed_at n slots = fed_in (slice_get slots.seats.items n)
 
 -- There is a row for each call that was admitted, in their order: of one that a worker serves, as it is before the worker's end is
 -- seen, or of one that none serves.

@@ -7,7 +7,7 @@
 //! An order that resets a stream is to be put before its call sees the reset. So the half that a decision shuts is named in it
 //! (`Decided::cut`), and shut by `Reading::shut` once the orders were put.
 
-ghost use Rattle.std.specs.Prelude.{◌≡◌, ◌⊎◌, ◌<◌, ℕ, List, [], ◌∷◌, ◌++◌, Option, None, Some, IfErr, IfOk, IfSome, OnErr, OnOk};
+ghost use Rattle.std.specs.Prelude.{◌≡◌, ◌⊎◌, ◌<◌, ◌≤◌, ℕ, true, false, List, [], ◌∷◌, ◌++◌, length, Option, None, Some, IfErr, IfNone, IfOk, IfSome, IsSomeAnd, OnErr, OnOk};
 ghost use Rattle.callhead.specs.declared.head.CallHead.{CallHead as Head};
 ghost use Rattle.callhead.specs.StatusFields.{refusal_of, unknown_method as unknown_fields};
 ghost use Rattle.callslot.specs.declared.report.Ending.TheVariants as ending;
@@ -23,7 +23,7 @@ ghost use Rattle.slots.specs.Readings.{Awaits, Begins, Counts, Decides, DecidesO
 ghost use Rattle.slots.specs.Reports.{AreRows};
 ghost use Rattle.lane.specs.RingLane.{out_name, ring_of};
 ghost use Rattle.slots.specs.Lines.{Aligns, AreEndsOf, HasRoom, IsGivenIn, SlotCalls, calls_from, calls_of, calls_step, raw_in, raw_orders, ring_at};
-ghost use Rattle.slots.specs.Seats.{IsNext, IsSeat, KeepsNext, ids_of, jobs_of};
+ghost use Rattle.slots.specs.Seats.{IsNext, IsSeat, KeepsNext, fed_at, ids_of, jobs_of};
 ghost use Rattle.slots.specs.Steps.{Admitted, AtEnd, Cause, CutOff, Lacking, NoWorker, NotLive, Plain, Received, Step, Stopped, Told, TurnedAway, Unknown, Unserved, WasTold, reported};
 
 use crate::seat::Seat;
@@ -509,12 +509,17 @@ impl<H: Worker> Reading<H> {
     // ---- calls that hear no more
 
     /// How many slots there are.
-    pub fn slots(&self) -> usize {
+    pub fn slots(&self) -> usize
+        ensures { result ≡ length self.now.slots.seats.items }
+    {
         self.slots.len()
     }
 
     /// Whether there are as many as there may be.
-    pub fn is_full(&self) -> bool {
+    pub fn is_full(&self) -> bool
+        ensures full { result ≡ true → 64 ≤ length self.now.slots.seats.items }
+        ensures room { result ≡ false → length self.now.slots.seats.items < 64 }
+    {
         self.slots.is_full()
     }
 
@@ -523,6 +528,9 @@ impl<H: Worker> Reading<H> {
         ensures decides { IfSome result (λ decided. (id : ℕ)
             × DecidesOn H.names (CutOff id AtEnd) decided self.now self.now) }
         ensures aligns { IfSome result (λ decided. Aligns decided self.now self.now) }
+        ensures whose { IfSome result (λ decided. IsSomeAnd decided.cut
+            (λ cut. fed_at place self.now.slots ≡ Some cut.id)) }
+        ensures none { IfNone result (fed_at place self.now.slots ≡ None) }
     {
         let id = self.slots.fed(place)?;
         Some(self.cut_call(id, ErrorCode::Cancel))
@@ -530,7 +538,9 @@ impl<H: Worker> Reading<H> {
 
     /// The stream of a slot's call whose client neither ended nor reset it, once the call's worker has answered it: where the call is no
     /// longer live, it is to be cut, for its slot.
-    pub fn answered(&self, place: usize) -> Option<(StreamId, bool)> {
+    pub fn answered(&self, place: usize) -> Option<(StreamId, bool)>
+        ensures { IfSome result (λ call. fed_at place self.now.slots ≡ Some call.0) }
+    {
         self.slots.answered(place)
     }
 
@@ -554,6 +564,7 @@ impl<H: Worker> Reading<H> {
         ensures decides { (why : Cause) → cut_code why ≡ code
             → DecidesOn H.names (CutOff id why) result self.now self.now }
         ensures aligns { Aligns result self.now self.now }
+        ensures whose { IsSomeAnd result.cut (λ cut. cut.id ≡ id) }
     {
         let kind = ErrorCode::Cancel;
         if self.slots.is_fed(id) {

@@ -38,14 +38,14 @@ pub struct Ended {
 }
 
 impl<H: Worker> Slots<H> {
-    ghost use Rattle.std.specs.Prelude.{◌≡◌, ◌<◌, ℕ, List, [], ◌∷◌, ◌++◌, Bool, None, Some, IfErr, IfOk, OnErr, OnOk, is_some, position};
+    ghost use Rattle.std.specs.Prelude.{◌≡◌, ◌<◌, ◌≤◌, ℕ, List, [], ◌∷◌, ◌++◌, Bool, true, false, length, None, Some, IfErr, IfOk, IfSome, OnErr, OnOk, is_some, position};
     ghost use Rattle.callhead.specs.declared.head.CallHead.{CallHead as Head};
     ghost use Rattle.connbook.specs.declared.answers.Receipt.TheVariants.{Feed};
     ghost use Rattle.session.specs.declared.event.InEvent.TheVariants as events;
     ghost use Rattle.slots.specs.Concerns.{Concerns};
     ghost use Rattle.slots.specs.Lines.{AreEndsOf, HasRoom, IsGivenIn, calls_at, calls_of, goes_on};
     ghost use Rattle.slots.specs.Reports.{AreRows};
-    ghost use Rattle.slots.specs.Seats.{Hears, IsNext, IsSeat, Keeps, KeepsNext, Kept, feeds, jobs_of};
+    ghost use Rattle.slots.specs.Seats.{Hears, IsNext, IsSeat, Keeps, KeepsNext, Kept, fed_at, feeds, jobs_of};
     ghost use Rattle.slots.specs.Steps.{Admitted, Lack, Received, Step, Told, Unserved, reported, shut_at};
 
     pub(crate) fn new(alloc: Global) -> Slots<H>
@@ -214,12 +214,17 @@ impl<H: Worker> Slots<H> {
     }
 
     /// How many there are.
-    pub fn len(&self) -> usize {
+    pub fn len(&self) -> usize
+        ensures { result ≡ length self.now.seats.items }
+    {
         self.seats.len()
     }
 
     /// Whether there are as many as there may be.
-    pub fn is_full(&self) -> bool {
+    pub fn is_full(&self) -> bool
+        ensures full { result ≡ true → 64 ≤ length self.now.seats.items }
+        ensures room { result ≡ false → length self.now.seats.items < 64 }
+    {
         self.seats.len() >= MAX_LIVE
     }
 
@@ -231,7 +236,9 @@ impl<H: Worker> Slots<H> {
     }
 
     /// The stream of a slot's call, where its half isn't shut.
-    pub(crate) fn fed(&self, place: usize) -> Option<StreamId> {
+    pub(crate) fn fed(&self, place: usize) -> Option<StreamId>
+        ensures { result ≡ fed_at place self.now }
+    {
         let seat = self.seats.get(place)?;
         if seat.half.is_open() {
             return Some(seat.id);
@@ -240,7 +247,9 @@ impl<H: Worker> Slots<H> {
     }
 
     /// The stream of a slot's call whose worker has given the last item, where its half isn't shut; and whether that was trailers.
-    pub(crate) fn answered(&self, place: usize) -> Option<(StreamId, bool)> {
+    pub(crate) fn answered(&self, place: usize) -> Option<(StreamId, bool)>
+        ensures { IfSome result (λ call. fed_at place self.now ≡ Some call.0) }
+    {
         let seat = self.seats.get(place)?;
         if seat.half.is_open() && seat.slot.is_answered() {
             return Some((seat.id, !seat.slot.is_left()));
