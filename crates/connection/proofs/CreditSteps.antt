@@ -1,12 +1,10 @@
--- What is announced on the connection is granted there, and what is told is at most what was heard.
-use Rattle.std.proofs.Common.{◌≡◌, ◌∙◌, ◌++◌, ◌+◌, ◌≤◌, ap, sym, arith, ℕ, zero, suc, nat_eq, Bool, List, Option}
-use Rattle.std.proofs.Math.Dec.{eqb-suc-zero, eqb-zero-suc}
+-- What is told on the connection is at most what was heard.
+use Rattle.std.proofs.Common.{◌≡◌, ◌++◌, ◌≤◌, ap, arith, ℕ, Bool, List, Option}
 use Rattle.std.proofs.lemmas.List.Sums.{sum_by-append}
-use Rattle.std.specs.Prelude.{if◌then◌else◌}
 use Rattle.callslot.specs.declared.report.Ending.{Ending}
 use Rattle.h2frame.specs.FrameList.{Entry}
-use Rattle.outwriter.specs.Credit.{granted_by, updated}
-use Rattle.outwriter.specs.Steps.{Granted, Order}
+use Rattle.outwriter.specs.Credit.{updated}
+use Rattle.outwriter.specs.Steps.{Order}
 use Rattle.outwriter.specs.Steps.{Step as RunStep}
 use Rattle.outwriter.proofs.CreditGranted.{no-more-than-granted}
 use Rattle.session.specs.declared.event.InEvent.{InEvent}
@@ -17,12 +15,6 @@ use Rattle.session.proofs.FlowTold.{told_within}
 use Rattle.slots.specs.Reports.{AreHeard}
 use Rattle.slots.specs.Steps.{Step, events_of}
 use Rattle.slotwriter.specs.Written.{HasWritten}
-
--- what the book counts as announced is what the writer's step grants
-pub announced : (id n had has : ℕ) → has ≡ had + (if nat_eq id 0 then n else 0) → has ≡ had + granted_by 0 (Granted id n)
-announced zero n had has is = is
-announced (suc id) n had has is =
-    is ∙ (ap (λ (yes : Bool). had + (if yes then n else 0)) (eqb-suc-zero id) ∙ sym (ap (λ (yes : Bool). had + (if yes then n else 0)) (eqb-zero-suc id)))
 
 -- what was written tells no more than was granted
 pub told-within : {W : Type 0} (contents : W → Option (List ℕ)) (failed : W → Bool) (before : Option (List ℕ)) (credit : ℕ) (orders : List Order) (ending : Option Ending) (device : W) (bound : ℕ)

@@ -39,8 +39,8 @@ pushed : (rest : List GivingEnd) (end : GivingEnd) → length (rest ++ end ∷ [
 pushed [] end = refl
 pushed (first ∷ rest) end = ap (λ (n : ℕ). suc n) (pushed rest end)
 
-module _ (held now new : List (Option SlotSender)) (ends old rest met : List GivingEnd) (end : GivingEnd) (number : ℕ) (taken : Option SlotSender) (popped : old ≡ rest ++ end ∷ []) (parts : old ++ met ≡ ends)
-    (is : number ≡ length rest) (took : taken ≡ get_or now number None) (left : new ≡ set now number None) where
+module _ (held now new : List (Option SlotSender)) (ends old rest met : List GivingEnd) (end : GivingEnd) (number : ℕ) (popped : old ≡ rest ++ end ∷ []) (parts : old ++ met ≡ ends)
+    (is : number ≡ length rest) (left : new ≡ set now number None) where
   pub more-parts : rest ++ (end ∷ met) ≡ ends
   more-parts = sym (append_assoc rest (end ∷ []) met) ∙ (ap (λ (es : List GivingEnd). es ++ met) (sym popped) ∙ parts)
 
@@ -55,22 +55,22 @@ module _ (held now new : List (Option SlotSender)) (ends old rest met : List Giv
   more-there = subst (λ (m : ℕ). slice_get ends m ≡ Some end) (sym is) (subst (λ (es : List GivingEnd). slice_get es (length rest) ≡ Some end) (ap (λ (es : List GivingEnd). es ++ met) (sym popped) ∙ parts) (get-at rest met end))
 
   -- and this the slot's sender
-  pub more-held : (sender : SlotSender) → StandBefore (length old) now held → taken ≡ Some sender → get_or held number None ≡ Some sender
-  more-held sender stand found = sym (stand number (omega (arith, longer, is))) ∙ (sym took ∙ found)
+  pub more-held : (sender : SlotSender) → StandBefore (length old) now held → get_or now number None ≡ Some sender → get_or held number None ≡ Some sender
+  more-held sender stand found = sym (stand number (omega (arith, longer, is))) ∙ found
 
   pub more-stand : StandBefore (length old) now held → StandBefore (length rest) new held
   more-stand stand n before =
       ap (λ (senders : List (Option SlotSender)). get_or senders n None) left
       ∙ (get_or-set_other now number n None None (λ same. omega (arith, same, is, before)) ∙ stand n (omega (arith, longer, before)))
 
-  pub more-met : StandBefore (length old) now held → ((sender : SlotSender) → taken ≡ Some sender → EachBegins (past_out sender.rx ++ got sender.rx ∷ []) (given_at end)) → MetFrom (length old) held ends
+  pub more-met : StandBefore (length old) now held → ((sender : SlotSender) → get_or now number None ≡ Some sender → EachBegins (past_out sender.rx ++ got sender.rx ∷ []) (given_at end)) → MetFrom (length old) held ends
       → MetFrom (length rest) held ends
   more-met stand meets was n one sender from by has = elim (cases_eq n (length rest)) [
     | inl same ↦
         let here : slice_get ends (length rest) ≡ Some end = subst (λ (es : List GivingEnd). slice_get es (length rest) ≡ Some end) (ap (λ (es : List GivingEnd). es ++ met) (sym popped) ∙ parts) (get-at rest met end) in
         let found : slice_get ends (length rest) ≡ Some one = subst (λ (m : ℕ). slice_get ends m ≡ Some one) same by in
         let one_is : end ≡ one = some-one (sym here ∙ found) in
-        let there : taken ≡ Some sender = took ∙ (ap (λ (m : ℕ). get_or now m None) (is ∙ sym same) ∙ (stand n (omega (arith, longer, same)) ∙ has)) in
+        let there : get_or now number None ≡ Some sender = ap (λ (m : ℕ). get_or now m None) (is ∙ sym same) ∙ (stand n (omega (arith, longer, same)) ∙ has) in
         subst (λ (e : GivingEnd). EachBegins (past_out sender.rx ++ got sender.rx ∷ []) (given_at e)) one_is (meets sender there)
     | inr other ↦ was n one sender (omega (arith, longer, from, other)) by has
   ]
