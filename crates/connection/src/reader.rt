@@ -45,11 +45,26 @@ use std::time::{Clock, Duration, Instant};
 /// How many bytes are read at a time: the DATA that a window lets through, with the heads of its frames.
 const PIECE: usize = 65_664;
 
+/// How many bytes are read at a time until a read brought so many: a connection that is silent takes no more memory.
+const FIRST_PIECE: usize = 4_096;
+
 /// From how many bytes on the writer isn't rung for what came, where it is DATA that are fed to calls: these ring once they have taken that.
 const LARGE_PIECE: usize = 8_192;
 
 /// How long the reader waits for a slot before it looks again, in milliseconds.
 const STEP: u64 = 1;
+
+/// The room for the next read: the first piece, until there is a whole one.
+fn room<'x>(first: &'x mut [u8], whole: &'x mut [u8]) -> &'x mut [u8] {
+    if whole.is_empty() { first } else { whole }
+}
+
+/// Behind a read of so many bytes that filled the first piece, makes the whole one. Without memory it goes on with the first.
+fn grow(whole: &mut Vec<u8>, count: usize) {
+    if count == FIRST_PIECE && whole.is_empty() {
+        let _ = whole.resize(PIECE, 0);
+    }
+}
 
 /// What the reading thread of a connection has.
 #[derive(Drop)]
@@ -132,13 +147,15 @@ where
             → I.failed input.new ≡ true }
     {
         let mut core = InCore::new(self.alloc);
-        let mut piece = [0u8; PIECE];
+        let mut first_piece = [0u8; FIRST_PIECE];
+        let mut whole_piece = Vec::new(self.alloc);
         let rt = self.rt;
         'pieces: for _ in rt.forever() {
             if self.orders.shared.has_stopped() {
                 return self.reading.ending();
             }
-            let Ok(count) = input.read(&mut piece) else {
+            let piece = room(&mut first_piece, &mut whole_piece);
+            let Ok(count) = input.read(piece) else {
                 return Ending::ReadFailed;
             };
             if count == 0 {
@@ -156,6 +173,7 @@ where
                     return Ending::OutOfMemory;
                 }
             }
+            grow(&mut whole_piece, count);
         }
         unreachable!()
     }
