@@ -1,7 +1,6 @@
 -- What the reading thread has heard, one after another.
 use Rattle.std.proofs.Common.{◌≡◌, ◌≢◌, ◌∙◌, ◌⊎◌, ◌+◌, ◌≤◌, arith, inl, inr, ℕ, Bool, true, false, true≢false, List, [], ◌∷◌, ◌++◌, Option, None, Some, ap, append-nil, refl, subst, sym, map, take}
 use Rattle.std.proofs.lemmas.List.{append_assoc, map-append}
-use Rattle.std.proofs.lemmas.List.Sums.{sum_by-append, sum_by-cons}
 use Rattle.std.specs.Io.KnownBytes.{Consumes, Keeps, ReadConsumes}
 use Rattle.std.specs.Prelude.{IfSome, Result, Ok, Err, is_some}
 use mathlib.Core.List.{IsPrefix}
@@ -18,7 +17,7 @@ use Rattle.session.specs.declared.event.InEvent.TheVariants as events
 use Rattle.callslot.specs.declared.slot.Job.{Job}
 use Rattle.session.specs.CoreStates.{Core, Reached}
 use Rattle.session.specs.Events.{Events}
-use Rattle.session.specs.FlowBytes.{counted_by, counted_told}
+use Rattle.session.specs.FlowBytes.{counted_told}
 use Rattle.session.proofs.EventLaws.{reached_events}
 use Rattle.session.proofs.OneEvents.{events_go_on, events_one}
 use Rattle.slots.specs.declared.reading.Cut.{Cut}
@@ -38,9 +37,11 @@ use Rattle.lane.specs.Ring.{put_in}
 use Rattle.connection.specs.declared.orders.Orders.{Orders}
 use Rattle.connection.specs.declared.orders.Outbox.{Outbox}
 use Rattle.connection.specs.declared.orders.Route.{Ghosts}
-use Rattle.connection.specs.Heard.{Acts, CountsTo, Cuts, CutsSome, HasPut, HasRead, IsEndedBy, KeptFor, ReadsTo, Tells}
+use Rattle.connection.specs.Heard.{Acts, Cuts, CutsSome, HasPut, HasRead, IsEndedBy, KeptFor, ReadsTo, ReadsWith, Tells}
+use Rattle.connection.specs.Limits.{AreGoing, AreJustified, Covers, IsJustified, Tally}
 use Rattle.connection.specs.Sent.{Lined, LinedTo}
 use Rattle.connection.proofs.Lines.{new-append, new-parts}
+use Rattle.connection.proofs.Tallies.{going-more, covers-as, covers-more, covers-none, cuts-justified}
 use Rattle.connection.specs.Puts.{IsSame, Ordered, Puts, PutsAll, order_in, put_of, put_orders}
 
 -- what a core answered to the bytes before
@@ -157,33 +158,6 @@ ended-at : (step : Step) (end : Option Ending) → ends_at step ≡ end → IfSo
 ended-at step None is = tt
 ended-at step (Some ending) is = inl is
 
--- a step that ends the connection was told
-ended-told : (ending : Ending) (more : List Step) → IsEndedBy ending more → (before : List InEvent) × (event : InEvent) × (events_of more ≡ before ++ event ∷ [])
-ended-told ending [] is = absurd is
-ended-told ending (Told event fate ∷ before) is = (events_of before, event, refl)
-ended-told ending (CutOff id why ∷ before) (inl is) = absurd cc
-ended-told ending (CutOff id why ∷ before) (inr is) = ended-told ending before is
-
-only-one : (before : List InEvent) (event one : InEvent) (rest : List InEvent) → (before ++ event ∷ []) ++ rest ≡ one ∷ [] → before ++ event ∷ [] ≡ one ∷ []
-only-one [] event one [] is = is
-only-one [] event one (other ∷ rest) is = absurd cc
-only-one (first ∷ []) event one rest is = absurd cc
-only-one (first ∷ (second ∷ before)) event one rest is = absurd cc
-
--- steps that tell of one event tell of it
-pub one-told : (event : InEvent) (end : Option Ending) (more : List Step) → IsPrefix (events_of more) (event ∷ []) → (end ≡ None → events_of more ≡ event ∷ [])
-    → IfSome end (λ ending. IsEndedBy ending more) → events_of more ≡ event ∷ []
-one-told event None more front all ended = all refl
-one-told event (Some ending) more front all ended =
-    let found = ended-told ending more ended in
-    found.2 ∙ only-one found.0 found.1 event front.0 (ap (λ (es : List InEvent). es ++ front.0) (sym found.2) ∙ front.1)
-
--- what was counted, with what these steps tell of more
-pub counted-more : (more told : List Step) (start had has : ℕ) → had ≤ start + counted_told (events_of told) → has ≤ had + counted_told (events_of more)
-    → has ≤ start + counted_told (events_of (more ++ told))
-counted-more more told start had has before behind =
-    omega (arith, before, behind, ap counted_told (events-append more told), sum_by-append counted_by (events_of told) (events_of more))
-
 -- the input ended
 pub not-by-error : (end : Ending) → (end ≡ InputEnded) ⊎ (end ≡ PeerGoaway) → (code : ErrorCode) → end ≢ ProtocolError code
 not-by-error end (inl is) code other = cc
@@ -280,11 +254,11 @@ module _ {H : Type 0} {hand : Hands H} {A B C N : Type 0} {route : Ghosts N} {na
 
   -- ---- cuts
 
-  pub cuts-none : (reading : Reading H hand) (orders : Orders A B C N route) → CutsSome names reading orders reading orders
-  cuts-none reading orders told reads = ([], record { silent = refl; calm = tt; reads = reads; ordered = λ ordered. ordered; lined = λ lined. lined })
+  pub cuts-none : (ended : Bool) (reading : Reading H hand) (orders : Orders A B C N route) → CutsSome names ended reading orders reading orders
+  cuts-none ended reading orders told reads = ([], record { silent = refl; calm = tt; going = λ is. tt; reads = reads; ordered = λ ordered. ordered; lined = λ lined. lined })
 
-  pub cuts-then : (one two three : Reading H hand) (old mid new : Orders A B C N route) → CutsSome names one old two mid → CutsSome names two mid three new → CutsSome names one old three new
-  cuts-then one two three old mid new first second told reads =
+  pub cuts-then : (ended : Bool) (one two three : Reading H hand) (old mid new : Orders A B C N route) → CutsSome names ended one old two mid → CutsSome names ended two mid three new → CutsSome names ended one old three new
+  cuts-then ended one two three old mid new first second told reads =
       let a = first told reads in
       let b = second (a.0 ++ told) a.1.reads in
       let same : b.0 ++ (a.0 ++ told) ≡ (b.0 ++ a.0) ++ told = sym (append_assoc b.0 a.0 told) in (
@@ -292,27 +266,29 @@ module _ {H : Type 0} {hand : Hands H} {A B C N : Type 0} {route : Ghosts N} {na
         record {
           silent = silent-more b.0 a.0 b.1.silent ∙ a.1.silent;
           calm = calm-more b.0 a.0 b.1.calm a.1.calm;
+          going = λ is. going-more b.0 a.0 (b.1.going is) (a.1.going is);
           reads = subst (λ (steps : List Step). Reads names steps three) same b.1.reads;
           ordered = λ ordered. subst (λ (steps : List Step). Ordered (orders_by steps) new) same (b.1.ordered (a.1.ordered ordered));
           lined = λ lined. b.1.lined (a.1.lined lined);
         },
       )
 
-  pub cuts-one : (decided : Decided) (id : ℕ) (why : Cause) (reading new_reading : Reading H hand) (old new : Orders A B C N route) → DecidesOn names (CutOff id why) decided reading reading
-      → Aligns decided reading reading → Acts names decided reading old new_reading new → CutsSome names reading old new_reading new
-  cuts-one decided id why reading new_reading old new decides aligns acts told reads =
+  pub cuts-one : (ended : Bool) (decided : Decided) (id : ℕ) (why : Cause) (reading new_reading : Reading H hand) (old new : Orders A B C N route) → (ended ≡ false → AreGoing (CutOff id why ∷ []))
+      → DecidesOn names (CutOff id why) decided reading reading → Aligns decided reading reading → Acts names decided reading old new_reading new → CutsSome names ended reading old new_reading new
+  cuts-one ended decided id why reading new_reading old new going decides aligns acts told reads =
       let decision = decides told reads in
       let done = acts.0 told (CutOff id why) decision in
       let fresh = opens-new names told (CutOff id why) decided reading.slots reads.slots done.0.slots.rising decision.orders in
-      (CutOff id why ∷ [], record { silent = refl; calm = (refl, tt); reads = done.0; ordered = done.1; lined = λ lined. acts.1 (calls_of reading.slots) aligns fresh lined })
+      (CutOff id why ∷ [], record { silent = refl; calm = (refl, tt); going = going; reads = done.0; ordered = done.1; lined = λ lined. acts.1 (calls_of reading.slots) aligns fresh lined })
 
-  pub cuts-same : (reading new_reading : Reading H hand) (old new : Orders A B C N route) → Stays names reading new_reading → calls_of new_reading.slots ≡ calls_of reading.slots → IsSame old new
-      → CutsSome names reading old new_reading new
-  cuts-same reading new_reading old new stays calls same told reads = (
+  pub cuts-same : (ended : Bool) (reading new_reading : Reading H hand) (old new : Orders A B C N route) → Stays names reading new_reading → calls_of new_reading.slots ≡ calls_of reading.slots → IsSame old new
+      → CutsSome names ended reading old new_reading new
+  cuts-same ended reading new_reading old new stays calls same told reads = (
     [],
     record {
       silent = refl;
       calm = tt;
+      going = λ is. tt;
       reads = stays told reads;
       ordered = λ ordered. ordered-same (orders_by told) old new same ordered;
       lined = λ lined. subst (λ (slots : List SlotCalls). Lined slots new) (sym calls) (lined-same (calls_of reading.slots) old new same lined);
@@ -321,10 +297,12 @@ module _ {H : Type 0} {hand : Hands H} {A B C N : Type 0} {route : Ghosts N} {na
 
   -- ---- events
 
-  -- one event, whose step is decided and done
-  pub to-one : (event : InEvent) (fate : Fate) (decided : Decided) (end : Option Ending) (one two three : Reading H hand) (old new : Orders A B C N route) → end ≡ decided.ends
-      → DecidesOn names (Told event fate) decided one two → Aligns decided one two → Acts names decided two old three new → ReadsTo names (event ∷ []) end one old three new
-  to-one event fate decided end one two three old new is decides aligns acts told kept =
+  -- one event, whose step is decided and done, and refuses nothing but what may be
+  pub with-one : (tally tally_new : Tally) (event : InEvent) (fate : Fate) (decided : Decided) (end : Option Ending) (one two three : Reading H hand) (old new : Orders A B C N route)
+      → ((told : List Step) → Reads names told one → Covers told tally → IsJustified (Told event fate) told) → ((told : List Step) → Covers told tally → Covers (Told event fate ∷ told) tally_new)
+      → end ≡ decided.ends
+      → DecidesOn names (Told event fate) decided one two → Aligns decided one two → Acts names decided two old three new → ReadsWith names tally tally_new (event ∷ []) end one old three new
+  with-one tally tally_new event fate decided end one two three old new justified covered is decides aligns acts told kept covers =
       let decision = decides told kept.reads in
       let done = acts.0 told (Told event fate) decision in
       let fresh = opens-new names told (Told event fate) decided one.slots kept.reads.slots done.0.slots.rising decision.orders in (
@@ -334,14 +312,38 @@ module _ {H : Type 0} {hand : Hands H} {A B C N : Type 0} {route : Ghosts N} {na
           all = λ none. refl;
           calm = λ none. (sym decision.ends ∙ (sym is ∙ none), tt);
           ended = ended-at (Told event fate) end (sym (is ∙ decision.ends));
-          kept = record { reads = done.0; ordered = done.1 kept.ordered; lined = acts.1 (calls_of one.slots) aligns fresh kept.lined };
+          kept = record { reads = done.0; ordered = done.1 kept.ordered; lined = acts.1 (calls_of one.slots) aligns fresh kept.lined; justified = (justified told kept.reads covers, kept.justified); going = kept.going };
         },
+        covered told covers,
       )
+
+  -- whatever was counted
+  pub to-one : (event : InEvent) (fate : Fate) (decided : Decided) (end : Option Ending) (one two three : Reading H hand) (old new : Orders A B C N route)
+      → ((told : List Step) → IsJustified (Told event fate) told) → end ≡ decided.ends
+      → DecidesOn names (Told event fate) decided one two → Aligns decided one two → Acts names decided two old three new → ReadsTo names (event ∷ []) end one old three new
+  to-one event fate decided end one two three old new justified is decides aligns acts told kept =
+      let none : Tally = record { calls = 0; came = 0 } in
+      let all = with-one none none event fate decided end one two three old new (λ steps reads covers. justified steps) (λ steps covers. covers-none (Told event fate ∷ steps)) is decides aligns acts told kept
+      (covers-none told) in
+      (all.0, all.1)
+
+  pub with-same : (tally : Tally) (given : List InEvent) (end : Option Ending) (one two : Reading H hand) (old new : Orders A B C N route) → ReadsTo names given end one old two new
+      → ReadsWith names tally tally given end one old two new
+  with-same tally given end one two old new reads told kept covers =
+      let all = reads told kept in
+      (all.0, all.1, covers-more tally all.0 told covers)
+
+  -- with what was counted by other names
+  pub with-tally : (tally tally_new other : Tally) (given : List InEvent) (end : Option Ending) (one two : Reading H hand) (old new : Orders A B C N route) → other.calls ≡ tally_new.calls
+      → other.came ≡ tally_new.came → ReadsWith names tally tally_new given end one old two new → ReadsWith names tally other given end one old two new
+  with-tally tally tally_new other given end one two old new calls came reads told kept covers =
+      let all = reads told kept covers in
+      (all.0, all.1, covers-as (all.0 ++ told) tally_new other calls came all.2)
 
   -- one that leads to no order
   pub to-silent : (event : InEvent) (fate : Fate) (one two : Reading H hand) (old new : Orders A B C N route) → ((told : List Step) → orders_at told (Told event fate) ≡ []) → ends_at (Told event fate) ≡ None
-      → ReadsOn names (Told event fate) one two → calls_of two.slots ≡ calls_of one.slots → IsSame old new → ReadsTo names (event ∷ []) None one old two new
-  to-silent event fate one two old new silent calm reads calls same told kept = (
+      → ((told : List Step) → IsJustified (Told event fate) told) → ReadsOn names (Told event fate) one two → calls_of two.slots ≡ calls_of one.slots → IsSame old new → ReadsTo names (event ∷ []) None one old two new
+  to-silent event fate one two old new silent calm justified reads calls same told kept = (
     Told event fate ∷ [],
     record {
       front = ([], refl);
@@ -353,83 +355,29 @@ module _ {H : Type 0} {hand : Hands H} {A B C N : Type 0} {route : Ghosts N} {na
         ordered = subst (λ (os : List Order). Ordered os new) (sym (ap (λ (os : List Order). orders_by told ++ os) (silent told) ∙ append-nil (orders_by told)))
             (ordered-same (orders_by told) old new same kept.ordered);
         lined = subst (λ (slots : List SlotCalls). Lined slots new) (sym calls) (lined-same (calls_of one.slots) old new same kept.lined);
+        justified = (justified told, kept.justified);
+        going = kept.going;
       };
     },
   )
 
   -- nothing was put before it
-  pub to-same : (given : List InEvent) (end : Option Ending) (one two three : Reading H hand) (old mid new : Orders A B C N route) → two ≡ one → IsSame old mid
-      → ReadsTo names given end two mid three new → ReadsTo names given end one old three new
-  to-same given end one two three old mid new is same reads told kept =
+  pub with-quiet : (tally tally_new : Tally) (given : List InEvent) (end : Option Ending) (one two three : Reading H hand) (old mid new : Orders A B C N route) → two ≡ one → IsSame old mid
+      → ReadsWith names tally tally_new given end two mid three new → ReadsWith names tally tally_new given end one old three new
+  with-quiet tally tally_new given end one two three old mid new is same reads told kept =
       reads told (record {
-        reads = subst (λ (r : Reading H hand). Reads names told r) (sym is) kept.reads;
+        reads = reads-same told one two is kept.reads;
         ordered = ordered-same (orders_by told) old mid same kept.ordered;
         lined = subst (λ (r : Reading H hand). Lined (calls_of r.slots) mid) (sym is) (lined-same (calls_of one.slots) old mid same kept.lined);
+        justified = kept.justified;
+        going = kept.going;
       })
 
-  -- the event by another name
-  pub to-as : (event given : InEvent) (end : Option Ending) (one two : Reading H hand) (old new : Orders A B C N route) → event ≡ given → ReadsTo names (given ∷ []) end one old two new
-      → ReadsTo names (event ∷ []) end one old two new
-  to-as event given end one two old new is reads = subst (λ (e : InEvent). ReadsTo names (e ∷ []) end one old two new) (sym is) reads
-
-  -- a job by another name
-  pub open-as : (job given : Job) (end : Option Ending) (one two : Reading H hand) (old new : Orders A B C N route) → job ≡ given
-      → ReadsTo names (events.Open job.id job.head ∷ []) end one old two new → ReadsTo names (events.Open given.id given.head ∷ []) end one old two new
-  open-as job given end one two old new is reads = subst (λ (j : Job). ReadsTo names (events.Open j.id j.head ∷ []) end one old two new) is reads
-
-  -- of a job that is of this stream, with this head
-  pub open-for : (job : Job) (id : ℕ) (head : CallHead) (end : Option Ending) (one two : Reading H hand) (old new : Orders A B C N route) → job.id ≡ id → job.head ≡ head
-      → ReadsTo names (events.Open job.id job.head ∷ []) end one old two new → ReadsTo names (events.Open id head ∷ []) end one old two new
-  open-for job id head end one two old new same is reads =
-      subst (λ (n : ℕ). ReadsTo names (events.Open n head ∷ []) end one old two new) same
-      (subst (λ (h : CallHead). ReadsTo names (events.Open job.id h ∷ []) end one old two new) is reads)
-
-  -- calls were cut before it
-  pub to-behind : (given : List InEvent) (end : Option Ending) (one two three : Reading H hand) (old mid new : Orders A B C N route) → CutsSome names one old two mid
-      → ReadsTo names given end two mid three new → ReadsTo names given end one old three new
-  to-behind given end one two three old mid new cuts reads told kept =
-      let a = cuts told kept.reads in
-      let b = reads (a.0 ++ told) (record { reads = a.1.reads; ordered = a.1.ordered kept.ordered; lined = a.1.lined kept.lined }) in
-      let is : events_of (b.0 ++ a.0) ≡ events_of b.0 = events-append b.0 a.0 ∙ ap (λ (es : List InEvent). es ++ events_of b.0) a.1.silent in (
-        b.0 ++ a.0,
-        record {
-          front = subst (λ (es : List InEvent). IsPrefix es given) (sym is) b.1.front;
-          all = λ none. is ∙ b.1.all none;
-          calm = λ none. calm-more b.0 a.0 (b.1.calm none) a.1.calm;
-          ended = if-ended end b.0 a.0 b.1.ended;
-          kept = subst (λ (steps : List Step). KeptFor names steps three new) (sym (append_assoc b.0 a.0 told)) b.1.kept;
-        },
-      )
-
-  -- ---- with what was counted
-
-  -- one event, of which at most as much was counted as it tells of
-  pub counts-one : (event : InEvent) (end : Option Ending) (had has : ℕ) (one two : Reading H hand) (old new : Orders A B C N route) → has ≤ had + counted_by event
-      → ReadsTo names (event ∷ []) end one old two new → CountsTo names (event ∷ []) end had one old has two new
-  counts-one event end had has one two old new counted reads told kept =
-      let a = reads told kept in
-      let is : events_of a.0 ≡ event ∷ [] = one-told event end a.0 a.1.front a.1.all a.1.ended in
-      (a.0, a.1, omega (arith, counted, ap counted_told is, sum_by-cons counted_by event []))
-
-  -- by another end
-  pub counts-end : (given : List InEvent) (end other : Option Ending) (had has : ℕ) (one two : Reading H hand) (old new : Orders A B C N route) → end ≡ other
-      → CountsTo names given end had one old has two new → CountsTo names given other had one old has two new
-  counts-end given end other had has one two old new is reads = subst (λ (found : Option Ending). CountsTo names given found had one old has two new) is reads
-
-  -- by other events
-  pub counts-events : (given other : List InEvent) (end : Option Ending) (had has : ℕ) (one two : Reading H hand) (old new : Orders A B C N route) → given ≡ other
-      → CountsTo names given end had one old has two new → CountsTo names other end had one old has two new
-  counts-events given other end had has one two old new is reads = subst (λ (es : List InEvent). CountsTo names es end had one old has two new) is reads
-
-  pub counts-none : (had : ℕ) (reading : Reading H hand) (orders : Orders A B C N route) → CountsTo names [] None had reading orders had reading orders
-  counts-none had reading orders told kept =
-      ([], record { front = ([], refl); all = λ none. refl; calm = λ none. tt; ended = tt; kept = kept }, omega arith)
-
   -- the writer was rung behind it
-  pub counts-rung : (given : List InEvent) (end : Option Ending) (had has : ℕ) (one two three : Reading H hand) (old mid new : Orders A B C N route) → three ≡ two → IsSame mid new
-      → CountsTo names given end had one old has two mid → CountsTo names given end had one old has three new
-  counts-rung given end had has one two three old mid new is same counts told kept =
-      let a = counts told kept in (
+  pub with-rung : (tally tally_new : Tally) (given : List InEvent) (end : Option Ending) (one two three : Reading H hand) (old mid new : Orders A B C N route) → three ≡ two → IsSame mid new
+      → ReadsWith names tally tally_new given end one old two mid → ReadsWith names tally tally_new given end one old three new
+  with-rung tally tally_new given end one two three old mid new is same reads told kept covers =
+      let a = reads told kept covers in (
         a.0,
         record {
           front = a.1.front;
@@ -440,19 +388,71 @@ module _ {H : Type 0} {hand : Hands H} {A B C N : Type 0} {route : Ghosts N} {na
             reads = reads-same (a.0 ++ told) two three is a.1.kept.reads;
             ordered = ordered-same (orders_by (a.0 ++ told)) mid new same a.1.kept.ordered;
             lined = subst (λ (r : Reading H hand). Lined (calls_of r.slots) new) (sym is) (lined-same (calls_of two.slots) mid new same a.1.kept.lined);
+            justified = a.1.kept.justified;
+            going = a.1.kept.going;
           };
         },
         a.2,
       )
 
+  -- a job by another name
+  pub with-open-as : (tally tally_new : Tally) (job given : Job) (end : Option Ending) (one two : Reading H hand) (old new : Orders A B C N route) → job ≡ given
+      → ReadsWith names tally tally_new (events.Open job.id job.head ∷ []) end one old two new → ReadsWith names tally tally_new (events.Open given.id given.head ∷ []) end one old two new
+  with-open-as tally tally_new job given end one two old new is reads = subst (λ (j : Job). ReadsWith names tally tally_new (events.Open j.id j.head ∷ []) end one old two new) is reads
+
+  -- of a job that is of this stream, with this head
+  pub with-open-for : (tally tally_new : Tally) (job : Job) (id : ℕ) (head : CallHead) (end : Option Ending) (one two : Reading H hand) (old new : Orders A B C N route) → job.id ≡ id → job.head ≡ head
+      → ReadsWith names tally tally_new (events.Open job.id job.head ∷ []) end one old two new → ReadsWith names tally tally_new (events.Open id head ∷ []) end one old two new
+  with-open-for tally tally_new job id head end one two old new same is reads =
+      subst (λ (n : ℕ). ReadsWith names tally tally_new (events.Open n head ∷ []) end one old two new) same
+      (subst (λ (h : CallHead). ReadsWith names tally tally_new (events.Open job.id h ∷ []) end one old two new) is reads)
+
+  -- by another end
+  pub with-end : (tally tally_new : Tally) (given : List InEvent) (end other : Option Ending) (one two : Reading H hand) (old new : Orders A B C N route) → end ≡ other → ReadsWith names tally tally_new given end one old two new
+      → ReadsWith names tally tally_new given other one old two new
+  with-end tally tally_new given end other one two old new is reads = subst (λ (found : Option Ending). ReadsWith names tally tally_new given found one old two new) is reads
+
+  -- by other events
+  pub with-events : (tally tally_new : Tally) (given other : List InEvent) (end : Option Ending) (one two : Reading H hand) (old new : Orders A B C N route) → given ≡ other → ReadsWith names tally tally_new given end one old two new
+      → ReadsWith names tally tally_new other end one old two new
+  with-events tally tally_new given other end one two old new is reads = subst (λ (es : List InEvent). ReadsWith names tally tally_new es end one old two new) is reads
+
+  -- calls were cut before it
+  pub with-behind : (tally tally_new : Tally) (given : List InEvent) (end : Option Ending) (one two three : Reading H hand) (old mid new : Orders A B C N route) → CutsSome names false one old two mid
+      → ReadsWith names tally tally_new given end two mid three new → ReadsWith names tally tally_new given end one old three new
+  with-behind tally tally_new given end one two three old mid new cuts reads told kept covers =
+      let a = cuts told kept.reads in
+      let b = reads (a.0 ++ told)
+      (record {
+        reads = a.1.reads;
+        ordered = a.1.ordered kept.ordered;
+        lined = a.1.lined kept.lined;
+        justified = cuts-justified a.0 told a.1.silent kept.justified;
+        going = going-more a.0 told (a.1.going refl) kept.going;
+      })
+      (covers-more tally a.0 told covers) in
+      let is : events_of (b.0 ++ a.0) ≡ events_of b.0 = events-append b.0 a.0 ∙ ap (λ (es : List InEvent). es ++ events_of b.0) a.1.silent in (
+        b.0 ++ a.0,
+        record {
+          front = subst (λ (es : List InEvent). IsPrefix es given) (sym is) b.1.front;
+          all = λ none. is ∙ b.1.all none;
+          calm = λ none. calm-more b.0 a.0 (b.1.calm none) a.1.calm;
+          ended = if-ended end b.0 a.0 b.1.ended;
+          kept = subst (λ (steps : List Step). KeptFor names steps three new) (sym (append_assoc b.0 a.0 told)) b.1.kept;
+        },
+        subst (λ (steps : List Step). Covers steps tally_new) (sym (append_assoc b.0 a.0 told)) b.2,
+      )
+
+  pub with-none : (tally : Tally) (reading : Reading H hand) (orders : Orders A B C N route) → ReadsWith names tally tally [] None reading orders reading orders
+  with-none tally reading orders told kept covers = ([], record { front = ([], refl); all = λ none. refl; calm = λ none. tt; ended = tt; kept = kept }, covers)
+
   -- more events
-  pub counts-then : (first more : List InEvent) (end : Option Ending) (had between has : ℕ) (one two three : Reading H hand) (old mid new : Orders A B C N route)
-      → CountsTo names first None had one old between two mid → CountsTo names more end between two mid has three new → CountsTo names (first ++ more) end had one old has three new
-  counts-then first more end had between has one two three old mid new before behind told kept =
-      let a = before told kept in
-      let b = behind (a.0 ++ told) a.1.kept in
-      let parts : events_of (b.0 ++ a.0) ≡ events_of a.0 ++ events_of b.0 = events-append b.0 a.0 in
-      let is : events_of (b.0 ++ a.0) ≡ first ++ events_of b.0 = parts ∙ ap (λ (es : List InEvent). es ++ events_of b.0) (a.1.all refl) in (
+  pub with-then : (tally tally_new tally_end : Tally) (first more : List InEvent) (end : Option Ending) (one two three : Reading H hand) (old mid new : Orders A B C N route) → ReadsWith names tally tally_new first None one old two mid
+      → ReadsWith names tally_new tally_end more end two mid three new → ReadsWith names tally tally_end (first ++ more) end one old three new
+  with-then tally tally_new tally_end first more end one two three old mid new before behind told kept covers =
+      let a = before told kept covers in
+      let b = behind (a.0 ++ told) a.1.kept a.2 in
+      let is : events_of (b.0 ++ a.0) ≡ first ++ events_of b.0 = events-append b.0 a.0 ∙ ap (λ (es : List InEvent). es ++ events_of b.0) (a.1.all refl) in (
         b.0 ++ a.0,
         record {
           front = (b.1.front.0, ap (λ (es : List InEvent). es ++ b.1.front.0) is ∙ (append_assoc first (events_of b.0) b.1.front.0 ∙ ap (λ (es : List InEvent). first ++ es) b.1.front.1));
@@ -461,14 +461,14 @@ module _ {H : Type 0} {hand : Hands H} {A B C N : Type 0} {route : Ghosts N} {na
           ended = if-ended end b.0 a.0 b.1.ended;
           kept = subst (λ (steps : List Step). KeptFor names steps three new) (sym (append_assoc b.0 a.0 told)) b.1.kept;
         },
-        omega (arith, a.2, b.2, ap counted_told parts, sum_by-append counted_by (events_of a.0) (events_of b.0)),
+        subst (λ (steps : List Step). Covers steps tally_end) (sym (append_assoc b.0 a.0 told)) b.2,
       )
 
   -- an event ended the connection, so those behind it were not heard
-  pub counts-stop : (given rest : List InEvent) (ending : Ending) (end : Option Ending) (had has : ℕ) (one two : Reading H hand) (old new : Orders A B C N route) → end ≡ Some ending
-      → CountsTo names given end had one old has two new → CountsTo names (given ++ rest) end had one old has two new
-  counts-stop given rest ending end had has one two old new is reads told kept =
-      let a = reads told kept in (
+  pub with-stop : (tally tally_new : Tally) (given rest : List InEvent) (ending : Ending) (end : Option Ending) (one two : Reading H hand) (old new : Orders A B C N route) → end ≡ Some ending
+      → ReadsWith names tally tally_new given end one old two new → ReadsWith names tally tally_new (given ++ rest) end one old two new
+  with-stop tally tally_new given rest ending end one two old new is reads told kept covers =
+      let a = reads told kept covers in (
         a.0,
         record {
           front = (a.1.front.0 ++ rest, sym (append_assoc (events_of a.0) a.1.front.0 rest) ∙ ap (λ (es : List InEvent). es ++ rest) a.1.front.1);
@@ -492,6 +492,8 @@ module _ {H : Type 0} {hand : Hands H} {A B C N : Type 0} {route : Ghosts N} {na
       → HasRead names end given told reading orders
   all-read end before told bytes given core reading orders same reached is calm kept goaway unfailed = record {
     reads = kept.reads;
+    justified = kept.justified;
+    going = kept.going;
     heard = subst (λ (bs : List ℕ). AreHeard end bs (events_of told)) (sym same) (record {
       front = front-some bytes (events_of told) before core reached ([], append-nil (events_of told) ∙ is);
       whole = λ ended. subst (λ (es : List InEvent). Events bytes es) (sym is) (reached_events bytes before core reached);
@@ -516,16 +518,17 @@ module _ {H : Type 0} {hand : Hands H} {A B C N : Type 0} {route : Ghosts N} {na
       all-read ReadFailed before told bytes given core reading orders same reached is calm kept (λ gone. cc) (λ code failed. cc)
 
   -- some were, and one of them ended the connection
-  pub some-read : (end : Ending) (given before : List InEvent) (told : List Step) (bytes : List ℕ) (core : Core) (start had has : ℕ) (reading reading_new : Reading H hand) (orders orders_new : Orders A B C N route)
-      → Reached bytes (before ++ given) core → events_of told ≡ before → CountsTo names given (Some end) had reading orders has reading_new orders_new
-      → KeptFor names told reading orders → had ≤ start + counted_told (events_of told)
-      → (all : List Step) × HasRead names end bytes all reading_new orders_new × (has ≤ start + counted_told (events_of all))
-  some-read end given before told bytes core start had has reading reading_new orders orders_new reached is reads kept counted =
-      let more = reads told kept in
+  pub some-read : (tally tally_new : Tally) (end : Ending) (given before : List InEvent) (told : List Step) (bytes : List ℕ) (core : Core) (reading reading_new : Reading H hand) (orders orders_new : Orders A B C N route)
+      → Reached bytes (before ++ given) core → events_of told ≡ before → ReadsWith names tally tally_new given (Some end) reading orders reading_new orders_new
+      → KeptFor names told reading orders → Covers told tally → (all : List Step) × HasRead names end bytes all reading_new orders_new × (tally_new.came ≤ counted_told (events_of all))
+  some-read tally tally_new end given before told bytes core reading reading_new orders orders_new reached is reads kept covers =
+      let more = reads told kept covers in
       let not : is_heard_out end ≡ true → ⊥ = λ out. true≢false (sym out ∙ ended-harsh end more.0 more.1.ended) in (
         more.0 ++ told,
         record {
           reads = more.1.kept.reads;
+          justified = more.1.kept.justified;
+          going = more.1.kept.going;
           heard = record {
             front = front-some bytes (events_of (more.0 ++ told)) (before ++ given) core reached (
               more.1.front.0,
@@ -540,13 +543,13 @@ module _ {H : Type 0} {hand : Hands H} {A B C N : Type 0} {route : Ghosts N} {na
           goaway = λ gone. absurd (not (ap (λ (e : Ending). is_heard_out e) gone));
           failed = λ code is_so. subst (λ (e : Ending). IsEndedBy e (more.0 ++ told)) is_so (ended-front end more.0 told more.1.ended);
         },
-        counted-more more.0 told start had has counted more.2,
+        more.2.came,
       )
 
-  pub some-sound : (end : Ending) (given : List InEvent) (told : List Step) (had has : ℕ) (reading reading_new : Reading H hand) (orders orders_new : Orders A B C N route)
-      → CountsTo names given (Some end) had reading orders has reading_new orders_new → KeptFor names told reading orders → end ≢ ReadFailed
-  some-sound end given told had has reading reading_new orders orders_new reads kept is =
-      let more = reads told kept in
+  pub some-sound : (tally tally_new : Tally) (end : Ending) (given : List InEvent) (told : List Step) (reading reading_new : Reading H hand) (orders orders_new : Orders A B C N route)
+      → ReadsWith names tally tally_new given (Some end) reading orders reading_new orders_new → KeptFor names told reading orders → Covers told tally → end ≢ ReadFailed
+  some-sound tally tally_new end given told reading reading_new orders orders_new reads kept covers is =
+      let more = reads told kept covers in
       true≢false (sym (ap (λ (e : Ending). is_heard_out e) is) ∙ ended-harsh end more.0 more.1.ended)
 
   -- the connection ends for want of memory
@@ -557,9 +560,11 @@ module _ {H : Type 0} {hand : Hands H} {A B C N : Type 0} {route : Ghosts N} {na
 
   -- none of the last bytes were heard
   pub none-read : (before : List InEvent) (told : List Step) (bytes more : List ℕ) (core : Core) (reading : Reading H hand) (orders : Orders A B C N route)
-      → Reached bytes before core → events_of told ≡ before → Reads names told reading → Lined (calls_of reading.slots) orders → HasRead names OutOfMemory (bytes ++ more) told reading orders
-  none-read before told bytes more core reading orders reached is reads lined = record {
+      → Reached bytes before core → events_of told ≡ before → AreJustified told → AreGoing told → Reads names told reading → Lined (calls_of reading.slots) orders → HasRead names OutOfMemory (bytes ++ more) told reading orders
+  none-read before told bytes more core reading orders reached is justified going reads lined = record {
     reads = reads;
+    justified = justified;
+    going = going;
     heard = record { front = subst (λ (es : List InEvent). IsFront (bytes ++ more) es) (sym is) (front-before bytes more before core reached); whole = λ ended. absurd cc };
     calm = λ ended. absurd cc;
     ordered = λ spared. absurd (spared refl);
@@ -591,4 +596,4 @@ ordered-none orders none = record { front = ([], append-nil (put_orders orders) 
 
 pub kept-none : {H : Type 0} {hand : Hands H} {A B C N : Type 0} {route : Ghosts N} {names : List ℕ → ℕ → Type 0} (reading : Reading H hand) (orders : Orders A B C N route) → Reads names [] reading
     → calls_of reading.slots ≡ [] → put_of orders ≡ [] → KeptFor names [] reading orders
-kept-none reading orders reads calls none = record { reads = reads; ordered = ordered-none orders none; lined = lined-none (calls_of reading.slots) orders calls none }
+kept-none reading orders reads calls none = record { reads = reads; ordered = ordered-none orders none; lined = lined-none (calls_of reading.slots) orders calls none; justified = tt; going = tt }

@@ -1,4 +1,5 @@
 pub mod CreditSteps
+pub mod Tallies
 pub mod Heard
 pub mod Reports
 pub mod Lines
@@ -7,3 +8,6 @@ pub mod Whole
 pub mod RunOrders
 pub mod Causes
 pub mod News
+pub mod Limits
+pub mod Codes
+pub mod Follow

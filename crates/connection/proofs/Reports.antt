@@ -34,6 +34,7 @@ use Rattle.connection.specs.Sent.{CarriesWhatWasSent}
 use Rattle.connection.specs.Served.{HasCause, IsServed}
 use Rattle.connection.proofs.CreditSteps.{told-within}
 use Rattle.connection.proofs.Heard.{ended-more, silent-more}
+use Rattle.connection.proofs.Tallies.{cuts-justified}
 
 -- what is so unless an error ended the connection
 pub calm-so : (ending : Ending) (P : Type 0) → is_heard_out ending ≡ true → (ending ≢ OutOfMemory → ending ≢ WriteFailed → ((code : ErrorCode) → ending ≢ ProtocolError code) → P) → P
@@ -110,6 +111,8 @@ module _ (answers : ℕ → List (List ℕ) → Bool → Answer → Type 0) (nam
         };
         rising = ended.rising;
         calm = λ out. calm-more cuts told ended.calm (has.calm (also out));
+        justified = cuts-justified cuts told ended.silent has.justified;
+        ended = record { cuts = cuts; heard = told; parts = refl; silent = ended.silent; going = has.going };
         ordered = λ spares. (ends (has.ordered (spared spares))).0;
         whole = whole;
         resets = λ out id known code finished closed.
@@ -155,6 +158,8 @@ module _ (answers : ℕ → List (List ℕ) → Bool → Answer → Type 0) (nam
         heard = record { front = λ all are. (all, refl); whole = λ out. absurd (not out) };
         rising = tt;
         calm = λ out. tt;
+        justified = tt;
+        ended = record { cuts = []; heard = []; parts = refl; silent = refl; going = tt };
         ordered = λ spared. absurd (spared lacked);
         whole = λ out. absurd (not out);
         resets = λ out. absurd (not out);

@@ -1,6 +1,6 @@
 -- What the reading thread has heard, and had ordered.
 use mathlib.Core.List.{IsPrefix}
-use Rattle.std.specs.Prelude.{◌≡◌, ◌≢◌, ◌⊎◌, ◌+◌, ◌≤◌, ℕ, Bool, true, false, IfSome, List, [], ◌∷◌, ◌++◌, Option, None, Some}
+use Rattle.std.specs.Prelude.{◌≡◌, ◌≢◌, ◌⊎◌, ℕ, Bool, true, false, IfSome, List, [], ◌∷◌, ◌++◌, Option, None, Some}
 use Rattle.account.specs.declared.call.Account.{Account}
 use Rattle.callslot.specs.declared.report.CallReport.{CallReport}
 use Rattle.callslot.specs.declared.report.Ending.{Ending}
@@ -11,7 +11,6 @@ use Rattle.outwriter.specs.Steps.{Order}
 use Rattle.outwriter.specs.declared.control.Control.TheVariants.{InputEnded, Close}
 use Rattle.session.specs.declared.event.InEvent.{InEvent}
 use Rattle.session.specs.declared.event.InEvent.TheVariants as events
-use Rattle.session.specs.FlowBytes.{counted_told}
 use Rattle.slots.specs.declared.reading.Decided.{Decided}
 use Rattle.slots.specs.declared.reading.Reading.{Reading}
 use Rattle.slots.specs.declared.worker.Worker.{Ghosts as Hands}
@@ -22,6 +21,7 @@ use Rattle.slots.specs.Reports.{AreCalm, AreHeard, AreRows, is_heard_out}
 use Rattle.slots.specs.Steps.{Step, WasTold, events_of, reported, IsRising}
 use Rattle.connection.specs.declared.orders.Orders.{Orders}
 use Rattle.connection.specs.declared.orders.Route.{Ghosts}
+use Rattle.connection.specs.Limits.{AreGoing, AreJustified, Covers, Tally}
 use Rattle.connection.specs.Puts.{Ordered, put_orders}
 use Rattle.connection.specs.Sent.{Lined}
 
@@ -31,11 +31,14 @@ IsEndedBy ending [] = ⊥
 IsEndedBy ending (step ∷ before) = (ends_at step ≡ Some ending) ⊎ IsEndedBy ending before
 
 module _ {H : Type 0} {hand : Hands H} {A B C N : Type 0} {route : Ghosts N} (names : List ℕ → ℕ → Type 0) where
-  -- These steps led to the reading side, and what was ordered is what they lead to.
+  -- These steps led to the reading side, what was ordered is what they lead to, nothing was refused but what may be, and the input
+  -- goes on.
   pub record KeptFor (told : List Step) (reading : Reading H hand) (orders : Orders A B C N route) : Type 0 where
     pub reads : Reads names told reading
     pub ordered : Ordered (orders_by told) orders
     pub lined : Lined (calls_of reading.slots) orders
+    pub justified : AreJustified told
+    pub going : AreGoing told
 
   -- what was decided of a step is done
   abbrev pub Acts : Decided → Reading H hand → Orders A B C N route → Reading H hand → Orders A B C N route → Type 0
@@ -45,17 +48,19 @@ module _ {H : Type 0} {hand : Hands H} {A B C N : Type 0} {route : Ghosts N} (na
       × ((slots : List SlotCalls) → calls_from slots (raw_orders decided) ≡ calls_of reading.slots → AreNew slots (raw_orders decided)
       → Lined slots orders → Lined (calls_of reading_new.slots) orders_new)
 
-  -- With these steps, of which no event tells and none of which ends the connection, calls were cut.
-  pub record Cuts (told cuts : List Step) (reading reading_new : Reading H hand) (orders orders_new : Orders A B C N route) : Type 0 where
+  -- With these steps, of which no event tells and none of which ends the connection, calls were cut: as at the end of the input only where it
+  -- has ended.
+  pub record Cuts (ended : Bool) (told cuts : List Step) (reading reading_new : Reading H hand) (orders orders_new : Orders A B C N route) : Type 0 where
     pub silent : events_of cuts ≡ []
     pub calm : AreCalm cuts
+    pub going : ended ≡ false → AreGoing cuts
     pub reads : Reads names (cuts ++ told) reading_new
     pub ordered : Ordered (orders_by told) orders → Ordered (orders_by (cuts ++ told)) orders_new
     pub lined : Lined (calls_of reading.slots) orders → Lined (calls_of reading_new.slots) orders_new
 
-  abbrev pub CutsSome : Reading H hand → Orders A B C N route → Reading H hand → Orders A B C N route → Type 0
-  CutsSome reading orders reading_new orders_new = (told : List Step) → Reads names told reading
-      → (cuts : List Step) × Cuts told cuts reading reading_new orders orders_new
+  abbrev pub CutsSome : Bool → Reading H hand → Orders A B C N route → Reading H hand → Orders A B C N route → Type 0
+  CutsSome ended reading orders reading_new orders_new = (told : List Step) → Reads names told reading
+      → (cuts : List Step) × Cuts ended told cuts reading reading_new orders orders_new
 
   -- Whatever steps were heard before, with some that tell of these events they are those that were heard after; and they tell of
   -- them all, and none ends the connection, unless one of them does so.
@@ -70,15 +75,17 @@ module _ {H : Type 0} {hand : Hands H} {A B C N : Type 0} {route : Ghosts N} (na
   ReadsTo given end reading orders reading_new orders_new = (told : List Step) → KeptFor told reading orders
       → (more : List Step) × Tells given end told more reading_new orders_new
 
-  -- The same; and so many bytes of DATA were counted before, and after at most as many more as these steps tell of.
-  abbrev pub CountsTo : List InEvent → Option Ending → ℕ → Reading H hand → Orders A B C N route → ℕ → Reading H hand → Orders A B C N route → Type 0
-  CountsTo given end had reading orders has reading_new orders_new = (told : List Step) → KeptFor told reading orders
-      → (more : List Step) × Tells given end told more reading_new orders_new × (has ≤ had + counted_told (events_of more))
+  -- The same, where the reader had counted no more before than the steps tell, and no more after.
+  abbrev pub ReadsWith : Tally → Tally → List InEvent → Option Ending → Reading H hand → Orders A B C N route → Reading H hand → Orders A B C N route → Type 0
+  ReadsWith tally tally_new given end reading orders reading_new orders_new = (told : List Step) → KeptFor told reading orders → Covers told tally
+      → (more : List Step) × Tells given end told more reading_new orders_new × Covers (more ++ told) tally_new
 
   -- These steps were heard of the bytes that came, all of them where all that came was heard, and then none ended the connection; but
   -- where memory ran out, what was ordered is what they lead to. The ending has its cause among them.
   pub record HasRead (end : Ending) (came : List ℕ) (told : List Step) (reading : Reading H hand) (orders : Orders A B C N route) : Type 0 where
     pub reads : Reads names told reading
+    pub justified : AreJustified told
+    pub going : AreGoing told
     pub heard : AreHeard end came (events_of told)
     pub calm : is_heard_out end ≡ true → AreCalm told
     pub ordered : end ≢ OutOfMemory → Ordered (orders_by told) orders

@@ -1,3 +1,5 @@
+pub mod Limits
+pub mod Codes
 pub mod Puts
 pub mod Heard
 pub mod Served

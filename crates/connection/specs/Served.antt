@@ -18,6 +18,7 @@ use Rattle.slots.specs.Steps.{IsRising, Step, WasTold, events_of, reported}
 use Rattle.slotwriter.specs.Written.{HasWritten}
 use Rattle.connection.specs.Heard.{HasPut, IsEndedBy}
 use Rattle.connection.specs.Sent.{CarriesWhatWasSent}
+use Rattle.connection.specs.Limits.{AreJustified, EndsLast}
 
 -- An ending has its cause: a read failed, or a write; the peer told that it opens no more streams; a step that was heard ended the connection with this
 -- error, or the writer did, since a window of the peer's would be too large (RFC 9113, sections 5.4.1, 6.8 and 6.9.1).
@@ -39,6 +40,10 @@ module _ {W V : Type 0} (items : V → List CallReport) (contents : W → Option
     pub heard : AreHeard end came (events_of told)
     pub rising : IsRising told
     pub calm : is_heard_out end ≡ true → AreCalm told
+    -- a call was turned away only behind 64 that were admitted, DATA were refused only behind 65,535 bytes, and missed only where they were due
+    pub justified : AreJustified told
+    -- as at the end of the input calls were cut only behind the last event
+    pub ended : EndsLast told
     -- The orders are those that these steps lead to, one by one, or a beginning; and where all that came was heard, all of them. So a
     -- half was reset, though END_STREAM came, only where a reset of the stream was ordered.
     pub ordered : end ≢ OutOfMemory → HasPut (orders_by told ++ InputEnded ∷ []) put

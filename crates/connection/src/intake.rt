@@ -1,6 +1,8 @@
 //! The reader's hold on the credit book.
 
-ghost use Rattle.std.specs.Prelude.{◌≡◌, ◌+◌, ◌<◌, ◌≤◌};
+ghost use Rattle.std.specs.Prelude.{◌≡◌, ◌+◌, ◌<◌, ◌≤◌, IfErr, OnErr, OnOk};
+ghost use Rattle.connection.specs.Limits.{MayRefuse, MayTurnAway};
+ghost use Rattle.connbook.specs.Receipts.{counted_of};
 
 use callworker::Shared;
 use connbook::{AdmitFault, Receipt};
@@ -32,14 +34,21 @@ impl<A: Ledger, B: Ledger, C: Ledger> Intake<A, B, C> {
         }
     }
 
-    /// Admits a call.
+    /// Admits a call. Nobody closes the book, so no call is refused for that.
     pub(crate) fn admit(&mut self, rt: &impl Wait, id: StreamId) -> Result<(), AdmitFault>
         requires calls { (self.old.calls.parts ≡ B.parts) × (0 < B.parts) }
         ensures calls { self.new.calls.parts ≡ self.old.calls.parts }
         ensures came { self.new.came ≡ self.old.came }
+        ensures counted { OnOk result (self.new.calls.amount ≡ self.old.calls.amount + 1) }
+        ensures uncounted { OnErr result (self.new.calls.amount ≡ self.old.calls.amount) }
+        ensures justified { IfErr result (λ fault. MayTurnAway self.old.calls.amount fault) }
     {
         let Intake { shared, calls, .. } = self;
-        shared.book.lock(rt).admit(id, calls)
+        let admitted = shared.book.lock(rt).admit(id, calls);
+        match admitted {
+            Err(AdmitFault::Draining) => Err(AdmitFault::NotNew),
+            _ => admitted,
+        }
     }
 
     /// Counts DATA that came on a stream, `padding` of them no data.
@@ -53,8 +62,10 @@ impl<A: Ledger, B: Ledger, C: Ledger> Intake<A, B, C> {
         requires padding { padding ≤ flow }
         requires came { (self.old.came.parts ≡ A.parts) × (0 < A.parts) }
         ensures came { self.new.came.parts ≡ self.old.came.parts }
-        ensures counted { self.new.came.amount ≤ self.old.came.amount + flow }
         ensures calls { self.new.calls ≡ self.old.calls }
+        ensures counted { self.new.came.amount
+            ≡ self.old.came.amount + counted_of flow result }
+        ensures justified { MayRefuse (self.old.came.amount + flow) result }
     {
         let Intake { shared, came, .. } = self;
         shared.book.lock(rt).receive(id, flow, padding, came)

@@ -1,9 +1,10 @@
 //! Laws of what becomes of a connection, by the fields of its record (`IsServed`). None of them does anything.
 
 ghost use mathlib.Core.List.{IsPrefix};
-ghost use Rattle.std.specs.Prelude.{◌≡◌, ◌++◌, ◌∷◌, ℕ, List, [], false, true};
+ghost use Rattle.std.specs.Prelude.{◌≡◌, ◌<◌, ◌++◌, ◌∷◌, ℕ, List, [], false, true};
 ghost use Rattle.std.specs.List.{list_any};
 ghost use Rattle.account.specs.Accounts.{Begins};
+ghost use Rattle.callslot.specs.declared.report.Ending.{Ending as Ended};
 ghost use Rattle.h2frame.specs.declared.error_code.ErrorCode.{ErrorCode as Code};
 ghost use Rattle.h2frame.specs.declared.frame.Frame.{Frame};
 ghost use Rattle.h2frame.specs.declared.kind.FrameKind.TheVariants.{RstStream};
@@ -16,9 +17,17 @@ ghost use Rattle.outwriter.specs.Runs.{IsLawful, told as duties_told, without_go
 ghost use Rattle.outwriter.specs.Steps.{Order, Step as RunStep, frames_of};
 ghost use Rattle.slots.specs.Calls.{is_admitted};
 ghost use Rattle.slots.specs.Orders.{orders_by};
-ghost use Rattle.slots.specs.Steps.{Step, events_of};
+ghost use Rattle.slots.specs.Reports.{AreHeard};
+ghost use Rattle.slots.specs.Steps.{AtEnd, IsRising, Step, events_of};
 ghost use Rattle.slotwriter.specs.Orders.{IsAmong, Obeys};
-ghost use Rattle.connection.specs.Causes.{HasCauseOf, HasResetCause, IsRefusal, WasTaken, WasWritten};
+ghost use Rattle.session.specs.declared.event.InEvent.{InEvent as InEventOf};
+ghost use Rattle.session.specs.Events.{Events};
+ghost use Rattle.session.specs.Framings.{Framed};
+ghost use Rattle.session.specs.FlowBytes.{payloads};
+ghost use Rattle.h2frame.specs.FrameList.{Entry};
+ghost use Rattle.connection.specs.Causes.{HasCauseOf, HasResetCause, IsOverWindow, IsRefusal, WasCut, WasTaken, WasTurnedAway, WasWritten};
+ghost use Rattle.connection.specs.Codes.{MayHaveCode};
+ghost use Rattle.connection.specs.Limits.{AreJustified, EndsLast, IsOneTooMany, WasCutLast};
 ghost use Rattle.connection.specs.Heard.{HasPut};
 ghost use Rattle.connection.specs.News.{answers_to, news_in, news_told, taken_by};
 
@@ -82,4 +91,50 @@ pub fn all_answers()
         put ≡ orders_by told ++ InputEnded ∷ Close ∷ [] → Obeys false put run → IsAnswered run →
         list_any is_last (frames_of run) ≡ false
         → without_goaway (duties_told run) ≡ answers_to (news_told (events_of told)) }
+{}
+
+/// Each RST_STREAM that was written has an error code with its cause, by the bytes that came, by the calls that were admitted and what
+/// they were fed, and by the run; and nothing else: sections 5.4.2 and 7.
+pub fn reset_codes()
+    ensures { (end : Ended) (came : List ℕ) (told : List Step) (put : List Order)
+        (run : List RunStep) (given : List InEventOf) (entries : List Entry) →
+        AreHeard end came (events_of told) → IsRising told → AreJustified told → EndsLast told
+        → Events came given → Framed came given entries →
+        HasPut (orders_by told ++ InputEnded ∷ []) put → Obeys true put run → IsLawful run →
+        (frame : Frame) → WasWritten frame run → frame.head.kind ≡ RstStream →
+        (code : Code) × (frame ≡ reset_frame frame.head.stream code)
+        × MayHaveCode code frame.head.stream entries told put run }
+{}
+
+/// So has each reset that is to be written, of those that the writer took.
+pub fn order_codes()
+    ensures { (end : Ended) (came : List ℕ) (told : List Step) (put : List Order)
+        (run : List RunStep) (given : List InEventOf) (entries : List Entry) →
+        AreHeard end came (events_of told) → IsRising told → AreJustified told → EndsLast told
+        → Events came given → Framed came given entries →
+        HasPut (orders_by told ++ InputEnded ∷ []) put → Obeys true put run →
+        (id : ℕ) (code : Code) → WasTaken (Reset id code true) run
+        → MayHaveCode code id entries told put run }
+{}
+
+/// A stream is refused only where at least 64 calls were admitted before it, all on lesser streams: section 5.1.2.
+pub fn one_too_many()
+    ensures { (came : List ℕ) (all : List InEventOf) (told : List Step) (id : ℕ) →
+        Events came all → IsPrefix (events_of told) all → AreJustified told
+        → WasTurnedAway id told → IsOneTooMany id told }
+{}
+
+/// A stream is reset for DATA past its window only where the payloads of the DATA frames that came, padding too, have more than 65,535
+/// bytes: section 6.9.1.
+pub fn over_window()
+    ensures { (came : List ℕ) (given : List InEventOf) (entries : List Entry) (told : List Step)
+        (id : ℕ) →
+        Framed came given entries → IsPrefix (events_of told) given → AreJustified told
+        → IsOverWindow id told → 65535 < payloads entries }
+{}
+
+/// A stream is cancelled only behind the last event that was heard.
+pub fn cancelled_last()
+    ensures { (told : List Step) (id : ℕ) → EndsLast told → WasCut AtEnd id told
+        → WasCutLast id told }
 {}

@@ -1,14 +1,14 @@
 //! The reading thread of a connection: it reads, asks the lock, and does what the reading side decides (the crate `slots`).
 
 ghost use Rattle.callhead.specs.declared.head.CallHead.{CallHead as Head};
-ghost use Rattle.std.specs.Prelude.{◌≡◌, ◌+◌, ◌<◌, ◌≤◌, ◌++◌, ◌∷◌, ℕ, List, [], None, Some, Ok, IfOk, IfSome, OnErr, true, vec_capacity, vec_len};
+ghost use Rattle.std.specs.Prelude.{◌≡◌, ◌<◌, ◌≤◌, ◌++◌, ◌∷◌, ℕ, List, [], None, Some, Ok, IfOk, IfSome, OnErr, false, true, vec_capacity, vec_len};
 ghost use Rattle.callslot.specs.declared.report.Ending.TheVariants as ending;
 ghost use Rattle.callworker.specs.Works.{IsKnown};
 ghost use Rattle.handlers.specs.Listed.{listed};
 ghost use Rattle.session.specs.declared.event.InEvent.{InEvent as Event};
 ghost use Rattle.session.specs.declared.event.InEvent.TheVariants as events;
 ghost use Rattle.session.specs.CoreStates.{Reached};
-ghost use Rattle.session.specs.FlowBytes.{counted_by, counted_told};
+ghost use Rattle.session.specs.FlowBytes.{counted_told};
 ghost use Rattle.slots.specs.Calls.{AreNames, IsFirstWith};
 ghost use Rattle.lane.specs.RingLane.{out_name, ring_of};
 ghost use Rattle.slots.specs.Lines.{AreEndsOf, HasRoom, IsGivenIn, SlotCalls, calls_of, ring_at};
@@ -17,7 +17,8 @@ ghost use Rattle.slots.specs.Seats.{IsNext, IsSeat, KeepsNext, jobs_of};
 ghost use Rattle.slots.specs.Steps.{Admitted, Step, Told, events_of};
 ghost use Rattle.callslot.specs.declared.slot.Job.{Job as Called};
 ghost use Rattle.std.specs.Io.KnownBytes.{Consumes};
-ghost use Rattle.connection.specs.Heard.{Acts, CountsTo, CutsSome, EndsOrders, HasEnded, HasRead, KeptFor, ReadsTo};
+ghost use Rattle.connection.specs.Heard.{Acts, CutsSome, EndsOrders, HasEnded, HasRead, KeptFor, ReadsTo, ReadsWith};
+ghost use Rattle.connection.specs.Limits.{MayTurnAway, Tally, one_more, tally_of};
 ghost use Rattle.connection.specs.Puts.{IsSame, put_of};
 ghost use Rattle.connection.specs.Sent.{Lined, LinedTo};
 
@@ -134,14 +135,14 @@ where
             (listed methods.now.value)) M.names }
         requires came { (intake.old.came.parts ≡ A.parts) × (0 < A.parts) }
         requires calls { (intake.old.calls.parts ≡ B.parts) × (0 < B.parts) }
+        requires uncounted { (intake.old.calls.amount ≡ 0) × (intake.old.came.amount ≡ 0) }
         ensures came { (intake.new.came.parts ≡ A.parts) × (0 < A.parts) }
         ensures calls { (intake.new.calls.parts ≡ B.parts) × (0 < B.parts) }
         ensures heard { KeptFor M.names [] self.old.reading self.old.orders → (came : List ℕ)
             × Consumes (I.remaining input.old) (I.remaining input.new) came
             × ((told : List Step) × HasRead M.names result came told self.new.reading
             self.new.orders
-            × (intake.new.came.amount
-            ≤ intake.old.came.amount + counted_told (events_of told))) }
+            × (intake.new.came.amount ≤ counted_told (events_of told))) }
         ensures failed { KeptFor M.names [] self.old.reading self.old.orders
             → result ≡ ending.ReadFailed
             → I.failed input.new ≡ true }
@@ -207,8 +208,8 @@ where
 
     /// Behind the last event: the calls that their clients neither ended nor reset are cut.
     fn cut_all(&mut self)
-        ensures { CutsSome M.names self.old.reading self.old.orders self.new.reading
-            self.new.orders }
+        ensures { CutsSome M.names true self.old.reading self.old.orders
+            self.new.reading self.new.orders }
     {
         'places: for place in 0..self.reading.slots() {
             self.cut_at(place);
@@ -217,8 +218,8 @@ where
 
     /// The same for the slot of this number.
     fn cut_at(&mut self, place: usize)
-        ensures cuts { CutsSome M.names self.old.reading self.old.orders self.new.reading
-            self.new.orders }
+        ensures cuts { CutsSome M.names true self.old.reading self.old.orders
+            self.new.reading self.new.orders }
     {
         if let Some(decided) = self.reading.cut_off(place) {
             self.act(decided);
@@ -261,9 +262,8 @@ where
         ensures on { IfOk result (λ end. (bytes : List ℕ) (before : List Event)
             → Reached bytes before core.old
             → (given : List Event) × Reached (bytes ++ piece.now) (before ++ given) core.new
-            × CountsTo M.names given end
-            intake.old.came.amount self.old.reading self.old.orders
-            intake.new.came.amount self.new.reading self.new.orders) }
+            × ReadsWith M.names (tally_of intake.old) (tally_of intake.new) given end
+            self.old.reading self.old.orders self.new.reading self.new.orders) }
         ensures uncounted { OnErr result (intake.new.came ≡ intake.old.came) }
         ensures same { OnErr result ((self.new.reading ≡ self.old.reading)
             × (self.new.orders ≡ self.old.orders)) }
@@ -304,9 +304,9 @@ where
         requires calls { (intake.old.calls.parts ≡ B.parts) × (0 < B.parts) }
         ensures came { (intake.new.came.parts ≡ A.parts) × (0 < A.parts) }
         ensures calls { (intake.new.calls.parts ≡ B.parts) × (0 < B.parts) }
-        ensures reads { CountsTo M.names events.items result
-            intake.old.came.amount self.old.reading self.old.orders
-            intake.new.came.amount self.new.reading self.new.orders }
+        ensures reads { ReadsWith M.names (tally_of intake.old) (tally_of intake.new)
+            events.items result
+            self.old.reading self.old.orders self.new.reading self.new.orders }
     {
         'events: for event in events {
             let end = self.follow(intake, event, methods);
@@ -331,10 +331,10 @@ where
             (listed methods.now.value)) M.names }
         requires came { (intake.old.came.parts ≡ A.parts) × (0 < A.parts) }
         requires calls { (intake.old.calls.parts ≡ B.parts) × (0 < B.parts) }
-        ensures counted { intake.new.came.amount ≤ intake.old.came.amount + counted_by event }
         ensures came { (intake.new.came.parts ≡ A.parts) × (0 < A.parts) }
         ensures calls { (intake.new.calls.parts ≡ B.parts) × (0 < B.parts) }
-        ensures reads { ReadsTo M.names (event ∷ []) result
+        ensures reads { ReadsWith M.names (tally_of intake.old) (tally_of intake.new)
+            (event ∷ []) result
             self.old.reading self.old.orders self.new.reading self.new.orders }
     {
         match event {
@@ -443,10 +443,10 @@ where
             (listed methods.now.value)) M.names }
         requires came { (intake.old.came.parts ≡ A.parts) × (0 < A.parts) }
         requires calls { (intake.old.calls.parts ≡ B.parts) × (0 < B.parts) }
-        ensures counted { intake.new.came ≡ intake.old.came }
         ensures came { (intake.new.came.parts ≡ A.parts) × (0 < A.parts) }
         ensures calls { (intake.new.calls.parts ≡ B.parts) × (0 < B.parts) }
-        ensures reads { ReadsTo M.names (events.Open id head ∷ []) result
+        ensures reads { ReadsWith M.names (tally_of intake.old) (tally_of intake.new)
+            (events.Open id head ∷ []) result
             self.old.reading self.old.orders self.new.reading self.new.orders }
     {
         let rt = self.rt;
@@ -474,10 +474,10 @@ where
         requires next { IsNext job.id self.old.reading.slots }
         requires came { (intake.old.came.parts ≡ A.parts) × (0 < A.parts) }
         requires calls { (intake.old.calls.parts ≡ B.parts) × (0 < B.parts) }
-        ensures counted { intake.new.came ≡ intake.old.came }
         ensures came { (intake.new.came.parts ≡ A.parts) × (0 < A.parts) }
         ensures calls { (intake.new.calls.parts ≡ B.parts) × (0 < B.parts) }
-        ensures reads { ReadsTo M.names (events.Open job.id job.head ∷ []) result
+        ensures reads { ReadsWith M.names (tally_of intake.old) (tally_of intake.new)
+            (events.Open job.id job.head ∷ []) result
             self.old.reading self.old.orders self.new.reading self.new.orders }
     {
         let rt = self.rt;
@@ -489,7 +489,8 @@ where
 
     /// A call isn't admitted.
     fn turn_away(&mut self, id: StreamId, fault: AdmitFault) -> Option<Ending>
-        ensures reads { (head : Head) → ReadsTo M.names (events.Open id head ∷ []) result
+        ensures reads { (head : Head) (tally : Tally) → MayTurnAway tally.calls fault
+            → ReadsWith M.names tally tally (events.Open id head ∷ []) result
             self.old.reading self.old.orders self.new.reading self.new.orders }
     {
         let decided = self.reading.turn_away(id, fault);
@@ -503,7 +504,8 @@ where
             (listed methods.now.value) }
         requires named { M.names job.head.path job.index }
         requires next { IsNext job.id self.old.reading.slots }
-        ensures reads { ReadsTo M.names (events.Open job.id job.head ∷ []) result
+        ensures reads { (tally : Tally)
+            → ReadsWith M.names tally (one_more tally) (events.Open job.id job.head ∷ []) result
             self.old.reading self.old.orders self.new.reading self.new.orders }
     {
         let rt = self.rt;
@@ -543,7 +545,8 @@ where
             (listed methods.now.value) }
         requires named { M.names job.head.path job.index }
         requires next { IsNext job.id self.old.reading.slots }
-        ensures reads { ReadsTo M.names (events.Open job.id job.head ∷ []) result
+        ensures reads { (tally : Tally)
+            → ReadsWith M.names tally (one_more tally) (events.Open job.id job.head ∷ []) result
             self.old.reading self.old.orders self.new.reading self.new.orders }
     {
         let rt = self.rt;
@@ -567,7 +570,8 @@ where
             → ((told : List Step) → IsSeat M.names
             (Told (events.Open job.id job.head) Admitted ∷ told) made.seat)
             → ring_at made.seat ≡ ring_of (out_name made.fresh.sender.rx)
-            → ReadsTo M.names (events.Open job.id job.head ∷ []) result
+            → (tally : Tally)
+            → ReadsWith M.names tally (one_more tally) (events.Open job.id job.head ∷ []) result
             self.old.reading self.old.orders self.new.reading self.new.orders }
     {
         let decided = self.reading.add(made.seat, method, made.fresh);
@@ -577,8 +581,8 @@ where
     /// There is no memory, or no thread, for a call of this method, which was admitted: the connection ends.
     fn lose(&mut self, id: StreamId, method: usize) -> Option<Ending>
         requires next { IsNext id self.old.reading.slots }
-        ensures reads { (head : Head) → M.names head.path method
-            → ReadsTo M.names (events.Open id head ∷ []) result
+        ensures reads { (head : Head) (tally : Tally) → M.names head.path method
+            → ReadsWith M.names tally (one_more tally) (events.Open id head ∷ []) result
             self.old.reading self.old.orders self.new.reading self.new.orders }
     {
         let decided = self.reading.lose(id, method);
@@ -588,8 +592,8 @@ where
     /// A call of this method was admitted, and the writer has stopped.
     fn pass_over(&mut self, id: StreamId, method: usize) -> Option<Ending>
         requires next { IsNext id self.old.reading.slots }
-        ensures reads { (head : Head) → M.names head.path method
-            → ReadsTo M.names (events.Open id head ∷ []) result
+        ensures reads { (head : Head) (tally : Tally) → M.names head.path method
+            → ReadsWith M.names tally (one_more tally) (events.Open id head ∷ []) result
             self.old.reading self.old.orders self.new.reading self.new.orders }
     {
         let decided = self.reading.pass_over(id, method);
@@ -598,8 +602,8 @@ where
 
     /// Cuts the calls that are no longer live, though their clients neither ended nor reset them: before that their slots aren't free.
     fn abandon_all(&mut self)
-        ensures cuts { CutsSome M.names self.old.reading self.old.orders self.new.reading
-            self.new.orders }
+        ensures cuts { CutsSome M.names false self.old.reading self.old.orders
+            self.new.reading self.new.orders }
         ensures next { KeepsNext self.old.reading.slots self.new.reading.slots }
     {
         'places: for place in 0..self.reading.slots() {
@@ -609,8 +613,8 @@ where
 
     /// The same for the slot of this number.
     fn abandon_at(&mut self, place: usize)
-        ensures cuts { CutsSome M.names self.old.reading self.old.orders self.new.reading
-            self.new.orders }
+        ensures cuts { CutsSome M.names false self.old.reading self.old.orders
+            self.new.reading self.new.orders }
         ensures next { KeepsNext self.old.reading.slots self.new.reading.slots }
     {
         let Some((id, has_trailers)) = self.reading.answered(place) else {
@@ -639,10 +643,10 @@ where
     ) -> Option<Ending>
         requires came { (intake.old.came.parts ≡ A.parts) × (0 < A.parts) }
         requires calls { (intake.old.calls.parts ≡ B.parts) × (0 < B.parts) }
-        ensures counted { intake.new.came.amount ≤ intake.old.came.amount + flow }
         ensures came { (intake.new.came.parts ≡ A.parts) × (0 < A.parts) }
         ensures calls { (intake.new.calls.parts ≡ B.parts) × (0 < B.parts) }
-        ensures reads { ReadsTo M.names (events.Data id bytes flow ∷ []) result
+        ensures reads { ReadsWith M.names (tally_of intake.old) (tally_of intake.new)
+            (events.Data id bytes flow ∷ []) result
             self.old.reading self.old.orders self.new.reading self.new.orders }
     {
         let rt = self.rt;
@@ -657,10 +661,10 @@ where
     fn loose(&mut self, intake: &mut Intake<A, B, C>, flow: u32) -> Option<Ending>
         requires came { (intake.old.came.parts ≡ A.parts) × (0 < A.parts) }
         requires calls { (intake.old.calls.parts ≡ B.parts) × (0 < B.parts) }
-        ensures counted { intake.new.came.amount ≤ intake.old.came.amount + flow }
         ensures came { (intake.new.came.parts ≡ A.parts) × (0 < A.parts) }
         ensures calls { (intake.new.calls.parts ≡ B.parts) × (0 < B.parts) }
-        ensures reads { ReadsTo M.names (events.Loose flow ∷ []) result
+        ensures reads { ReadsWith M.names (tally_of intake.old) (tally_of intake.new)
+            (events.Loose flow ∷ []) result
             self.old.reading self.old.orders self.new.reading self.new.orders }
     {
         let receipt = intake.receive(&self.rt, 0, flow, 0);

@@ -38,7 +38,7 @@ known-step told step id known =
 known-last : (ids : List ℕ) (id : ℕ) → list_any (nat_eq id) (ids ++ id ∷ []) ≡ true
 known-last ids id = list_any-append (nat_eq id) ids (id ∷ []) ∙ ap (λ (b : Bool). list_any (nat_eq id) ids || (b || false)) (eq-eqb id id refl) ∙ or_true (list_any (nat_eq id) ids)
 
-since-step : (told : List Step) (step : Step) (id : ℕ) → Rises told step → id ≤ last_of told → since id (step ∷ told) ≡ step ∷ since id told
+pub since-step : (told : List Step) (step : Step) (id : ℕ) → Rises told step → id ≤ last_of told → since id (step ∷ told) ≡ step ∷ since id told
 since-step told step id rises low = rw (other-of (admitted_by step) id (last_of told) rises low) refl
 
 abbrev IsShutOf : Shown → Type 0

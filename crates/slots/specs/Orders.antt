@@ -2,7 +2,7 @@
 -- that is admitted is opened, and a stream is refused or reset, or the connection ended, for its cause (RFC 9113, sections 5.4, 6.8,
 -- 6.9.1, 8.1.1 and 8.7; gRPC over HTTP/2, "Responses").
 -- A list of steps has the latest first, a list of orders the earliest.
-use Rattle.std.specs.Prelude.{◌≡◌, ◌⊎◌, ◌&&◌, ℕ, ◌==◌, Bool, true, false, List, [], ◌∷◌, ◌++◌, length, Option, Some, None, is_none, if◌then◌else◌, max}
+use Rattle.std.specs.Prelude.{◌≡◌, ◌≢◌, ◌⊎◌, ◌&&◌, ℕ, ◌==◌, Bool, true, false, List, [], ◌∷◌, ◌++◌, length, Option, Some, None, is_none, if◌then◌else◌, max}
 use Rattle.connbook.specs.declared.answers.AdmitFault.{AdmitFault}
 use Rattle.connbook.specs.declared.answers.AdmitFault.TheVariants as refused
 use Rattle.connbook.specs.declared.answers.Receipt.TheVariants.{Discard, CallWindow, Overrun}
@@ -50,6 +50,10 @@ last_stream id before = if length before == 4095 then Goaway id NoError ∷ [] e
 -- whether more may be fed to a call: it was admitted, and its half isn't shut
 abbrev pub is_fed : ℕ → List Step → Bool
 is_fed id told = is_admitted id told && is_none (shut_by id (since id told))
+
+-- these bytes are to be fed to the call: there are some, and its half is open
+abbrev pub IsDue : ℕ → List ℕ → List Step → Type 0
+IsDue id piece told = (piece ≢ []) × (is_fed id told ≡ true)
 
 -- what the peer tells the writing side goes on as it is
 abbrev pub news_of : Control → Order

@@ -11,7 +11,7 @@ use Rattle.slots.specs.declared.reading.Decided.{Decided}
 use Rattle.slots.specs.declared.reading.Reading.{Reading}
 use Rattle.slots.specs.declared.worker.Worker.{Ghosts}
 use Rattle.slots.specs.Concerns.{Concerns}
-use Rattle.slots.specs.Orders.{begun, ends_at, greatest, most_streams, orders_at}
+use Rattle.slots.specs.Orders.{IsDue, begun, ends_at, greatest, most_streams, orders_at}
 use Rattle.slots.specs.Seats.{Kept}
 use Rattle.session.specs.declared.event.InEvent.TheVariants.{PeerGoaway}
 use Rattle.slots.specs.Steps.{Fate, Received, Missed, Lacking, Step, WasTold, shut_at}
@@ -32,6 +32,11 @@ fate_of Feed (Some order) = Missed
 fate_of Discard order = Received Discard
 fate_of CallWindow order = Received CallWindow
 fate_of Overrun order = Received Overrun
+
+-- a piece is missed only where it was to be fed
+abbrev pub MayMiss : ℕ → List ℕ → Fate → List Step → Type 0
+MayMiss id piece Missed told = IsDue id piece told
+MayMiss id piece _ told = Unit {0}
 
 -- what became of an event, unless there was no memory for what it leads to
 abbrev pub unless_ended : Option Ending → Fate → Fate

@@ -1,6 +1,6 @@
 //! The half of a slot's call that its client sends, as the reading side has it.
 
-ghost use Rattle.std.specs.Prelude.{◌≡◌, ℕ, List, [], ◌∷◌, ◌++◌, true, false, Some, IsSomeAnd, OnOk, OnErr};
+ghost use Rattle.std.specs.Prelude.{◌≡◌, ◌≢◌, ℕ, List, [], ◌∷◌, ◌++◌, true, false, Some, IsSomeAnd, OnOk, OnErr};
 ghost use Rattle.callbox.specs.InSides.{pieces_of, shut_of};
 ghost use Rattle.lane.specs.RingLane.{got, in_name, out_name, past_in, past_out, past_shut, put_in, put_shut, ring_of, shut_name};
 ghost use Rattle.slots.specs.Steps.{Step, shut_at};
@@ -45,6 +45,7 @@ impl Half {
         ensures taken { OnOk result ((shown self.old).there ≡ true
             → (shown self.new).items ≡ grown piece (shown self.old).shut (shown self.old).items) }
         ensures kept { OnErr result (shown self.new ≡ shown self.old) }
+        ensures some { OnErr result (piece ≢ []) }
     {
         if piece.is_empty() {
             return Ok(());

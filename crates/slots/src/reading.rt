@@ -19,7 +19,7 @@ ghost use Rattle.outwriter.specs.Steps.{order_of};
 ghost use Rattle.outwriter.specs.declared.control.Control.TheVariants as orders;
 ghost use Rattle.session.specs.declared.event.InEvent.TheVariants as events;
 ghost use Rattle.slots.specs.Orders.{begun, ends_at, cut_code, greatest, last_stream, news_of, orders_at, without_head};
-ghost use Rattle.slots.specs.Readings.{Awaits, Begins, Counts, Decides, DecidesOn, Reads, ReadsOn, Stays, fate_of, order_in, unless_ended};
+ghost use Rattle.slots.specs.Readings.{Awaits, Begins, Counts, Decides, DecidesOn, MayMiss, Reads, ReadsOn, Stays, fate_of, order_in, unless_ended};
 ghost use Rattle.slots.specs.Reports.{AreRows};
 ghost use Rattle.lane.specs.RingLane.{out_name, ring_of};
 ghost use Rattle.slots.specs.Lines.{Aligns, AreEndsOf, HasRoom, IsGivenIn, SlotCalls, calls_from, calls_of, calls_step, raw_in, raw_orders, ring_at};
@@ -361,6 +361,8 @@ impl<H: Worker> Reading<H> {
             (Told (events.Data id piece counted) (fate_of receipt result.second)) result self.old
             self.new }
         ensures aligns { Aligns result self.old self.new }
+        ensures missed { (told : List Step) → Reads H.names told self.old
+            → MayMiss id piece (fate_of receipt result.second) told }
     {
         match receipt {
             Receipt::Feed => self.feed(id, piece),
@@ -386,6 +388,8 @@ impl<H: Worker> Reading<H> {
             (Told (events.Data id piece counted) (fate_of Feed result.second)) result self.old
             self.new }
         ensures aligns { Aligns result self.old self.new }
+        ensures missed { (told : List Step) → Reads H.names told self.old
+            → MayMiss id piece (fate_of Feed result.second) told }
     {
         match self.slots.feed(id, piece) {
             Ok(()) => Decided::nothing(),

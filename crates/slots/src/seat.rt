@@ -34,7 +34,7 @@ pub struct Seat<H: Worker> {
 }
 
 impl<H: Worker> Seat<H> {
-    ghost use Rattle.std.specs.Prelude.{◌<◌, ℕ, List, [], ◌∷◌, ◌++◌, IfErr, OnErr, OnOk};
+    ghost use Rattle.std.specs.Prelude.{◌≢◌, ◌<◌, ℕ, List, [], ◌∷◌, ◌++◌, IfErr, OnErr, OnOk};
     ghost use Rattle.connbook.specs.declared.answers.Receipt.TheVariants.{Feed};
     ghost use Rattle.lane.specs.RingLane.{in_name, past_in, put_in, ring_of};
     ghost use Rattle.session.specs.declared.event.InEvent.TheVariants as events;
@@ -113,6 +113,7 @@ impl<H: Worker> Seat<H> {
             self.new) }
         ensures stays { OnErr result ((told : List Step) → IsSeat H.names told self.old
             → IsSeat H.names told self.new) }
+        ensures some { OnErr result (piece ≢ []) }
         ensures id { self.new.id ≡ self.old.id }
         ensures jobs { jobs_of self.new ≡ jobs_of self.old }
         ensures ring { ring_at self.new ≡ ring_at self.old }

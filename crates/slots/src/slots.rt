@@ -44,6 +44,7 @@ impl<H: Worker> Slots<H> {
     ghost use Rattle.session.specs.declared.event.InEvent.TheVariants as events;
     ghost use Rattle.slots.specs.Concerns.{Concerns};
     ghost use Rattle.slots.specs.Lines.{AreEndsOf, HasRoom, IsGivenIn, calls_at, calls_of, goes_on};
+    ghost use Rattle.slots.specs.Orders.{IsDue};
     ghost use Rattle.slots.specs.Reports.{AreRows};
     ghost use Rattle.slots.specs.Seats.{Hears, IsNext, IsSeat, Keeps, KeepsNext, Kept, fed_at, feeds, jobs_of};
     ghost use Rattle.slots.specs.Steps.{Admitted, Lack, Received, Step, Told, Unserved, reported, shut_at};
@@ -181,6 +182,8 @@ impl<H: Worker> Slots<H> {
             → Hears H.names (Told (events.Data id piece counted) (Received Feed)) self.old
             self.new) }
         ensures stays { OnErr result (Keeps H.names self.old self.new) }
+        ensures due { OnErr result ((told : List Step) → Kept H.names told self.old
+            → IsDue id piece told) }
         ensures calls { calls_of self.new ≡ calls_of self.old }
         ensures next { KeepsNext self.old self.new }
     {

@@ -1,7 +1,13 @@
+use Rattle.std.proofs.Common.{refl}
 use Rattle.session.specs.declared.event.InEvent.TheVariants as events
 use Rattle.slots.specs.Steps.{NoWorker, Unserved}
-use Rattle.connection.proofs.Heard.{to-one}
+use Rattle.connection.specs.Limits.{one_more}
+use Rattle.connection.proofs.Heard.{with-one}
+use Rattle.connection.proofs.Tallies.{covers-call}
 use Rattle.connection.proofs.reader.Reader.lose.Goals as goal
 
 pub returns : goal.returns
-returns g c = record { reads = λ head named. to-one (events.Open c.args.id head) (Unserved NoWorker) _ _ _ _ _ _ _ c.act.ensures.ends (c.lose-decided.ensures.unserved head named) c.lose-decided.ensures.aligns c.act.ensures.acts }
+returns g c = record {
+  reads = λ head tally named. with-one tally (one_more tally) (events.Open c.args.id head) (Unserved NoWorker) _ _ _ _ _ _ _
+      (λ told reads covers. tt) (λ told covers. covers-call tally (events.Open c.args.id head) (Unserved NoWorker) c.args.id told refl covers) c.act.ensures.ends (c.lose-decided.ensures.unserved head named) c.lose-decided.ensures.aligns c.act.ensures.acts;
+}

@@ -1,17 +1,17 @@
 use Rattle.std.proofs.Common.{◌<◌, refl, subst, sym, ℕ}
-use Rattle.connection.proofs.Heard.{cuts-same, to-behind}
+use Rattle.connection.proofs.Heard.{cuts-same, with-behind}
 use Rattle.connection.proofs.reader.Reader.open_slot.Goals as goal
 
 pub returns-in-Err : goal.returns-in-Err
 returns-in-Err g c = record {
-  reads = to-behind _ _ _ _ _ _ _ _ (cuts-same _ _ _ _ c.reserve.ensures.stays c.reserve.ensures.calls (refl, refl)) (c.lose.ensures.reads c.args.job.head c.requires.named);
+  reads = λ tally. with-behind _ _ _ _ _ _ _ _ _ _ (cuts-same _ _ _ _ _ c.reserve.ensures.stays c.reserve.ensures.calls (refl, refl)) (c.lose.ensures.reads c.args.job.head tally c.requires.named);
 }
 
 pub returns-in-Ok : goal.returns-in-Ok
 returns-in-Ok g c =
     let made = c.in-Ok.ensures in
     record {
-      reads = to-behind _ _ _ _ _ _ _ _ (cuts-same _ _ _ _ c.reserve.ensures.stays c.reserve.ensures.calls (refl, refl)) (c.add.ensures.reads c.args.job made.id refl made.jobs made.heard made.ring);
+      reads = λ tally. with-behind _ _ _ _ _ _ _ _ _ _ (cuts-same _ _ _ _ _ c.reserve.ensures.stays c.reserve.ensures.calls (refl, refl)) (c.add.ensures.reads c.args.job made.id refl made.jobs made.heard made.ring tally);
     }
 
 pub lose-requires-clause-next : goal.lose-requires-clause-next

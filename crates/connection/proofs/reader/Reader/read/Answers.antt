@@ -4,7 +4,7 @@ use Rattle.session.specs.FlowBytes.{counted_told}
 use Rattle.slots.specs.Steps.{events_of}
 use Rattle.slots.proofs.LetGo.{events-append}
 use Rattle.slots.proofs.Resets.{calm-more}
-use Rattle.connection.proofs.Heard.{lined-lack, consumes-then, counted-more, counts-end, failed-read, input-read, none-more, none-read, not-by-fault, read-failed, reads-same, some-read, some-sound}
+use Rattle.connection.proofs.Heard.{consumes-then, failed-read, input-read, lined-lack, none-more, none-read, not-by-fault, read-failed, reads-same, some-read, some-sound, with-end}
 use Rattle.connection.proofs.reader.Reader.read.Goals as goal
 
 is-err : {A E P : Type 0} (result : Result A E) → ((a : A) → result ≡ Ok a → ⊥) → OnErr result P → P
@@ -14,18 +14,18 @@ is-err (Err fault) not on = on
 pub returns-in_default-clause-heard : goal.returns-in_default-clause-heard
 returns-in_default-clause-heard g c = λ none.
     let h = c.pieces.invariant.4 none in
-    (h.0 ++ [], consumes-then _ _ _ h.0 [] h.3 (read-failed _ _ _ _ c.in_default.not-Ok c.read.ensures.bytes), (h.2, failed-read h.1 h.2 h.0 (h.0 ++ []) _ _ _ (append-nil h.0) h.4 h.5 h.6 h.7, h.8))
+    (h.0 ++ [], consumes-then _ _ _ h.0 [] h.3 (read-failed _ _ _ _ c.in_default.not-Ok c.read.ensures.bytes), (h.2, failed-read h.1 h.2 h.0 (h.0 ++ []) _ _ _ (append-nil h.0) h.4 h.5 h.6 h.7, h.8.came))
 
 pub returns-then-has_stopped-clause-heard : goal.returns-then-has_stopped-clause-heard
 returns-then-has_stopped-clause-heard g c = λ none.
     let h = c.pieces.invariant.4 none in
-    (h.0, h.3, (h.2, input-read _ h.1 h.2 h.0 h.0 _ _ _ refl h.4 h.5 h.6 h.7 c.ending.ensures.input c.ending.ensures.goaway, h.8))
+    (h.0, h.3, (h.2, input-read _ h.1 h.2 h.0 h.0 _ _ _ refl h.4 h.5 h.6 h.7 c.ending.ensures.input c.ending.ensures.goaway, h.8.came))
 
 pub returns-then-count-eq0-clause-heard : goal.returns-then-count-eq0-clause-heard
 returns-then-count-eq0-clause-heard g c = λ none.
     let h = c.pieces.invariant.4 none in
     let came = h.0 ++ take c.in-Ok.count c.read.new.buf in
-    (came, consumes-then _ _ _ h.0 _ h.3 c.in-Ok.ensures.bytes.0, (h.2, input-read _ h.1 h.2 h.0 came _ _ _ (none-more h.0 c.read.new.buf c.in-Ok.count c.if-count-eq0.true) h.4 h.5 h.6 h.7 c.ending-then-count-eq0.ensures.input c.ending-then-count-eq0.ensures.goaway, h.8))
+    (came, consumes-then _ _ _ h.0 _ h.3 c.in-Ok.ensures.bytes.0, (h.2, input-read _ h.1 h.2 h.0 came _ _ _ (none-more h.0 c.read.new.buf c.in-Ok.count c.if-count-eq0.true) h.4 h.5 h.6 h.7 c.ending-then-count-eq0.ensures.input c.ending-then-count-eq0.ensures.goaway, h.8.came))
 
 pub pieces-preserved : goal.pieces-preserved
 pieces-preserved g c = (
@@ -36,7 +36,7 @@ pieces-preserved g c = (
   λ none.
       let h = c.pieces.invariant.4 none in
       let on = c.in-Ok-None.ensures.on h.0 h.1 h.4 in
-      let more = on.2 h.2 h.7 in (
+      let more = on.2 h.2 h.7 h.8 in (
         h.0 ++ take c.in-Ok.count c.read.new.buf,
         h.1 ++ on.0,
         more.0 ++ h.2,
@@ -45,7 +45,7 @@ pieces-preserved g c = (
         events-append more.0 h.2 ∙ (ap (λ (es : List InEvent). es ++ events_of more.0) h.5 ∙ ap (λ (es : List InEvent). h.1 ++ es) (more.1.all c.in-Ok-None.field-0-is)),
         calm-more more.0 h.2 (more.1.calm c.in-Ok-None.field-0-is) h.6,
         more.1.kept,
-        counted-more more.0 h.2 _ _ _ h.8 more.2,
+        more.2,
       ),
 )
 
@@ -55,7 +55,7 @@ returns-in-Ok-Some-clause-heard g c = λ none.
     let on = c.in-Ok-Some.ensures.on h.0 h.1 h.4 in (
       h.0 ++ take c.in-Ok.count c.read.new.buf,
       consumes-then _ _ _ h.0 _ h.3 c.in-Ok.ensures.bytes.0,
-      some-read c.in-Ok-Some.ending on.0 h.1 h.2 _ _ _ _ _ _ _ _ _ on.1 h.5 (counts-end _ _ _ _ _ _ _ _ _ c.in-Ok-Some.field-0-is on.2) h.7 h.8,
+      some-read _ _ c.in-Ok-Some.ending on.0 h.1 h.2 _ _ _ _ _ _ on.1 h.5 (with-end _ _ _ _ _ _ _ _ _ c.in-Ok-Some.field-0-is on.2) h.7 h.8,
     )
 
 pub returns-in-Err-clause-heard : goal.returns-in-Err-clause-heard
@@ -65,9 +65,9 @@ returns-in-Err-clause-heard g c = λ none.
       consumes-then _ _ _ h.0 _ h.3 c.in-Ok.ensures.bytes.0,
       (
         h.2,
-        none-read h.1 h.2 h.0 _ _ _ _ h.4 h.5 (reads-same h.2 _ _ (c.lack.ensures.same ∙ c.in-Err.ensures.same.0) h.7.reads)
+        none-read h.1 h.2 h.0 _ _ _ _ h.4 h.5 h.7.justified h.7.going (reads-same h.2 _ _ (c.lack.ensures.same ∙ c.in-Err.ensures.same.0) h.7.reads)
             (lined-lack h.2 _ _ _ _ _ (c.lack.ensures.same ∙ c.in-Err.ensures.same.0) c.in-Err.ensures.same.1 (c.lack.ensures.lined _) h.7),
-        subst (λ (n : ℕ). n ≤ c.args.intake.now.came.amount + counted_told (events_of h.2)) (sym (ap (λ share. share.amount) c.in-Err.ensures.uncounted)) h.8,
+        subst (λ (n : ℕ). n ≤ counted_told (events_of h.2)) (sym (ap (λ share. share.amount) c.in-Err.ensures.uncounted)) h.8.came,
       ),
     )
 
@@ -84,4 +84,4 @@ pub returns-in-Ok-Some-clause-failed : goal.returns-in-Ok-Some-clause-failed
 returns-in-Ok-Some-clause-failed g c = λ none failed.
     let h = c.pieces.invariant.4 none in
     let on = c.in-Ok-Some.ensures.on h.0 h.1 h.4 in
-    absurd (some-sound c.in-Ok-Some.ending on.0 h.2 _ _ _ _ _ _ (counts-end _ _ _ _ _ _ _ _ _ c.in-Ok-Some.field-0-is on.2) h.7 failed)
+    absurd (some-sound _ _ c.in-Ok-Some.ending on.0 h.2 _ _ _ _ (with-end _ _ _ _ _ _ _ _ _ c.in-Ok-Some.field-0-is on.2) h.7 h.8 failed)

@@ -6,6 +6,7 @@ use Rattle.session.specs.FlowBytes.{counted_told}
 use Rattle.slots.specs.Reports.{AreCalm}
 use Rattle.slots.specs.Steps.{Step, events_of}
 use Rattle.connection.specs.Heard.{KeptFor}
+use Rattle.connection.specs.Limits.{Covers, tally_of}
 use Rattle.connection.proofs.reader.Reader.read.Given as goal
 
 -- all events of the bytes so far were heard
@@ -14,4 +15,4 @@ invariant-pieces g l = (l.intake.came.parts ≡ g.A.Ledger.parts) × (0 < g.A.Le
     × (KeptFor g.M.Answering.names [] l.fn.self.reading l.fn.self.orders → (came : List ℕ) × (given : List InEvent) × (told : List Step)
     × Consumes (g.I.ConnRead.remaining l.fn.input) (g.I.ConnRead.remaining l.input) came
     × Reached came given l.core × (events_of told ≡ given) × AreCalm told × KeptFor g.M.Answering.names told l.self.reading l.self.orders
-    × (l.intake.came.amount ≤ l.fn.intake.came.amount + counted_told (events_of told)))
+    × Covers told (tally_of l.intake))

@@ -2,7 +2,11 @@ use Rattle.session.specs.declared.event.InEvent.TheVariants as events
 use Rattle.slots.specs.Steps.{Plain, TurnedAway, Lacking, Admitted}
 use Rattle.slots.specs.Readings.{unless_ended}
 use Rattle.connection.proofs.Heard.{to-one}
+use Rattle.connection.proofs.Tallies.{ended-justified}
 use Rattle.connection.proofs.reader.Reader.refuse.Goals as goal
 
 pub returns : goal.returns
-returns g c = record { reads = to-one (events.BadHead c.args.id c.args.fault) (unless_ended c.refuse-decided.result.ends Plain) _ _ _ _ _ _ _ c.act.ensures.ends c.refuse-decided.ensures.decides c.refuse-decided.ensures.aligns c.act.ensures.acts }
+returns g c = record {
+  reads = to-one (events.BadHead c.args.id c.args.fault) (unless_ended c.refuse-decided.result.ends Plain) _ _ _ _ _ _ _
+      (λ told. ended-justified (events.BadHead c.args.id c.args.fault) Plain told c.refuse-decided.result.ends tt) c.act.ensures.ends c.refuse-decided.ensures.decides c.refuse-decided.ensures.aligns c.act.ensures.acts;
+}

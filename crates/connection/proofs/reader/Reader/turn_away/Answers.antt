@@ -1,8 +1,14 @@
 use Rattle.session.specs.declared.event.InEvent.TheVariants as events
-use Rattle.slots.specs.Steps.{Plain, TurnedAway, Lacking, Admitted}
-use Rattle.slots.specs.Readings.{unless_ended}
-use Rattle.connection.proofs.Heard.{to-one}
+use Rattle.std.proofs.Common.{[], ◌∷◌, length}
+use Rattle.slots.specs.Steps.{Told, TurnedAway, reported}
+use Rattle.connection.proofs.Heard.{with-one}
+use Rattle.connection.proofs.Tallies.{covers-more, may-turn}
 use Rattle.connection.proofs.reader.Reader.turn_away.Goals as goal
 
 pub returns : goal.returns
-returns g c = record { reads = λ head. to-one (events.Open c.args.id head) (TurnedAway c.args.fault) _ _ _ _ _ _ _ c.act.ensures.ends (c.turn_away-decided.ensures.decides head) c.turn_away-decided.ensures.aligns c.act.ensures.acts }
+returns g c = record {
+  reads = λ head tally may. with-one tally tally (events.Open c.args.id head) (TurnedAway c.args.fault) _ _ _ _ _ _ _
+      (λ told reads covers. may-turn c.args.fault tally.calls (length (reported told)) may covers.calls)
+      (λ told covers. covers-more tally (Told (events.Open c.args.id head) (TurnedAway c.args.fault) ∷ []) told covers)
+      c.act.ensures.ends (c.turn_away-decided.ensures.decides head) c.turn_away-decided.ensures.aligns c.act.ensures.acts;
+}

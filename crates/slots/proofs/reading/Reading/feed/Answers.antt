@@ -1,9 +1,9 @@
-use Rattle.std.proofs.Common.{Option, ap, refl, ◌∙◌, sym}
+use Rattle.std.proofs.Common.{Option, ap, refl, subst, ◌∙◌, sym}
 use Rattle.callslot.specs.declared.order.Opened.{Opened}
 use Rattle.connbook.specs.declared.answers.Receipt.TheVariants.{Feed}
 use Rattle.outwriter.specs.declared.control.Control.{Control}
 use Rattle.session.specs.declared.event.InEvent.TheVariants as events
-use Rattle.slots.specs.Readings.{fate_of}
+use Rattle.slots.specs.Readings.{MayMiss, fate_of}
 use Rattle.slots.specs.Steps.{Received, Told}
 use Rattle.slots.proofs.ReadingSteps.{as-step, decides-now, no-order, reads-step}
 use Rattle.slots.proofs.Lines.{calls-nothing, calls-plain}
@@ -24,3 +24,11 @@ returns-in-Ok-clause-aligns g c = calls-nothing (calls_of c.args.self.now.slots)
 
 pub returns-in-Err-clause-aligns : goal.returns-in-Err-clause-aligns
 returns-in-Err-clause-aligns g c = calls-plain (calls_of c.args.self.now.slots) _ _ _ c.reset.ensures.orders.0 c.reset.ensures.orders.1 (λ id is. cc) ∙ sym c.feed.ensures.calls
+
+pub returns-in-Ok-clause-missed : goal.returns-in-Ok-clause-missed
+returns-in-Ok-clause-missed g c = λ told reads.
+    subst (λ (order : Option (Control Opened)). MayMiss c.args.id c.args.piece (fate_of Feed order) told) (sym c.nothing.ensures.1) tt
+
+pub returns-in-Err-clause-missed : goal.returns-in-Err-clause-missed
+returns-in-Err-clause-missed g c = λ told reads.
+    subst (λ (order : Option (Control Opened)). MayMiss c.args.id c.args.piece (fate_of Feed order) told) (sym c.reset.ensures.orders.1) (c.in-Err.ensures.due told reads.slots)

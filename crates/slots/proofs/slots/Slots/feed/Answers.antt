@@ -1,11 +1,12 @@
-use Rattle.std.proofs.Common.{◌∙◌, ℕ, ◌∷◌, ap, arith, eqb-true, map, refl, subst, sym}
+use Rattle.std.proofs.Common.{◌∙◌, ℕ, ◌∷◌, Option, ap, arith, eqb-true, map, refl, subst, sym}
+use Rattle.std.specs.Option.{is_some}
 use Rattle.connbook.specs.declared.answers.Receipt.TheVariants.{Feed}
 use Rattle.session.specs.declared.event.InEvent.TheVariants as events
 use Rattle.slots.specs.Reports.{fed_more}
 use Rattle.slots.specs.Steps.{Received, Told}
 use Rattle.slots.proofs.Heard.{err-any}
 use Rattle.slots.proofs.ListedRows.{rows-fed}
-use Rattle.slots.proofs.ReadingSteps.{fed-both}
+use Rattle.slots.proofs.ReadingSteps.{fed-both, fed-is}
 use Rattle.slots.proofs.StepLemmas.{concerns-data}
 use Rattle.slots.specs.Seats.{IsSeat}
 use Rattle.slots.proofs.SlotSteps.{kept-none, kept-set, keeps-set, is-at}
@@ -48,3 +49,7 @@ returns-in_err-feed-clause-calls g c =
     let seat = c.in-Some-get_mut.seat.now in
     let moved = c.feed.new.self in
     calls-set c.args.self.now.seats.items c.in-Some.place seat moved c.in-Some-get_mut.ensures.item.3.0 c.in-Some-get_mut.ensures.value c.feed.ensures.ring (ids-same seat moved c.feed.ensures.jobs)
+
+pub returns-in_err-feed-clause-due : goal.returns-in_err-feed-clause-due
+returns-in_err-feed-clause-due g c = err-any c.from_residual.result _ (λ told k.
+    (c.in_err-feed.ensures.some, fed-is told c.args.id c.args.self.now k (ap (λ (place : Option ℕ). is_some place) (sym c.in-Some.ensures))))

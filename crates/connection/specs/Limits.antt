@@ -1,0 +1,99 @@
+-- When the reading side may refuse what the peer sends: how many calls may be live at once (RFC 9113, section 5.1.2), and how many bytes of
+-- DATA may come (section 6.9.1).
+-- Lists of steps have the latest first.
+use Rattle.std.specs.Prelude.{◌≡◌, ◌≤◌, ◌<◌, ◌+◌, ℕ, All, List, [], ◌∷◌, ◌++◌, length}
+use Rattle.callhead.specs.declared.head.CallHead.{CallHead}
+use Rattle.connbook.specs.declared.answers.AdmitFault.{AdmitFault}
+use Rattle.connbook.specs.declared.answers.AdmitFault.TheVariants as refused
+use Rattle.connbook.specs.declared.answers.Receipt.{Receipt}
+use Rattle.connbook.specs.declared.answers.Receipt.TheVariants as receipt
+use Rattle.session.specs.declared.event.InEvent.{InEvent}
+use Rattle.session.specs.declared.event.InEvent.TheVariants as events
+use Rattle.session.specs.FlowBytes.{counted_by, counted_told}
+use Rattle.slots.specs.Orders.{IsDue}
+use Rattle.slots.specs.Steps.{Received, Missed, TurnedAway, Cause, AtEnd, NotLive, Step, Told, CutOff, events_of, reported}
+use Rattle.connection.specs.declared.intake.Intake.{Intake}
+
+-- A call isn't admitted behind 64 or more that were, for want of memory, or since its number doesn't rise; but never since no more calls are
+-- admitted.
+abbrev pub MayTurnAway : ℕ → AdmitFault → Type 0
+MayTurnAway calls refused.TooMany = 64 ≤ calls
+MayTurnAway calls refused.Draining = ⊥
+MayTurnAway calls refused.NotNew = Unit {0}
+MayTurnAway calls refused.OutOfMemory = Unit {0}
+
+-- DATA are past a window only where more bytes of them came, padding too, than a window has at first
+abbrev pub MayRefuse : ℕ → Receipt → Type 0
+MayRefuse came receipt.CallWindow = 65535 < came
+MayRefuse came receipt.Overrun = 65535 < came
+MayRefuse came receipt.Feed = Unit {0}
+MayRefuse came receipt.Discard = Unit {0}
+
+-- a piece is missed only where it has bytes, and its call's half was open
+abbrev pub IsDueOf : InEvent → List Step → Type 0
+IsDueOf (events.Data id piece counted) before = IsDue id piece before
+IsDueOf _ before = Unit {0}
+
+-- what a step refuses may be refused, behind the calls and the bytes of these
+abbrev pub IsJustified : Step → List Step → Type 0
+IsJustified (Told event (TurnedAway fault)) before = MayTurnAway (length (reported before)) fault
+IsJustified (Told event (Received found)) before = MayRefuse (counted_told (events_of before) + counted_by event) found
+IsJustified (Told event Missed) before = IsDueOf event before
+IsJustified _ before = Unit {0}
+
+abbrev pub AreJustified : List Step → Type 0
+AreJustified [] = Unit {0}
+AreJustified (step ∷ before) = IsJustified step before × AreJustified before
+
+-- ---- the end of the input
+
+-- no call was cut as at the end of the input
+abbrev pub AreGoing : List Step → Type 0
+AreGoing [] = Unit {0}
+AreGoing (Told event fate ∷ before) = AreGoing before
+AreGoing (CutOff id (NotLive answered) ∷ before) = AreGoing before
+AreGoing (CutOff id AtEnd ∷ before) = ⊥
+
+-- such cuts come last: no event was told behind the first of them
+pub record EndsLast (told : List Step) : Type 0 where
+  pub cuts : List Step
+  pub heard : List Step
+  pub parts : told ≡ cuts ++ heard
+  pub silent : events_of cuts ≡ []
+  pub going : AreGoing heard
+
+-- The call was cut as at the end of the input, behind the last event.
+pub record WasCutLast (id : ℕ) (told : List Step) : Type 0 where
+  pub before : List Step
+  pub later : List Step
+  pub parts : told ≡ later ++ CutOff id AtEnd ∷ before
+  pub silent : events_of later ≡ []
+
+-- ---- what the reader has counted in the credit book
+
+-- calls that were admitted, and bytes of DATA that came
+pub record Tally : Type 0 where
+  pub calls : ℕ
+  pub came : ℕ
+
+abbrev pub tally_of : {A B C : Type 0} → Intake A B C → Tally
+tally_of intake = record { calls = intake.calls.amount; came = intake.came.amount }
+
+abbrev pub one_more : Tally → Tally
+one_more tally = record tally { calls = tally.calls + 1 }
+
+-- the steps admit at least so many calls, and tell of at least so many bytes
+pub record Covers (told : List Step) (tally : Tally) : Type 0 where
+  pub calls : tally.calls ≤ length (reported told)
+  pub came : tally.came ≤ counted_told (events_of told)
+
+-- ---- a call too many
+
+-- A call of this stream was turned away behind at least 64 that were admitted, all of them on lesser streams.
+pub record IsOneTooMany (id : ℕ) (told : List Step) : Type 0 where
+  pub head : CallHead
+  pub before : List Step
+  pub later : List Step
+  pub parts : told ≡ later ++ Told (events.Open id head) (TurnedAway refused.TooMany) ∷ before
+  pub many : 64 ≤ length (reported before)
+  pub lesser : All (λ other. other < id) (reported before)
