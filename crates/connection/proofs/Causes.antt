@@ -16,7 +16,7 @@ use Rattle.h2frame.specs.declared.error_code.ErrorCode.TheVariants as error
 use Rattle.h2frame.specs.declared.frame.Frame.{Frame}
 use Rattle.h2frame.specs.declared.kind.FrameKind.TheVariants as kind
 use Rattle.lists.specs.declared.field.Field.{Field}
-use Rattle.outwriter.specs.declared.control.Control.TheVariants.{Settings, Ping, Window, Open, Refuse, Reset, Goaway, InputEnded, Close}
+use Rattle.outwriter.specs.declared.control.Control.TheVariants.{Settings, Ping, Probe, Window, Open, Refuse, Reset, Goaway, InputEnded, Close}
 use Rattle.outwriter.specs.Calls.{IsOther, IsRefused, Refuses, TellOthers}
 use Rattle.outwriter.specs.Frames.{reset_frame}
 use Rattle.outwriter.specs.Parts.{IsPart, Mark}
@@ -50,6 +50,7 @@ caused-more P Q O N R S resets opens refuses (Reset id code true) is = resets id
 caused-more P Q O N R S resets opens refuses (Reset id code false) is = tt
 caused-more P Q O N R S resets opens refuses (Settings settings) is = tt
 caused-more P Q O N R S resets opens refuses (Ping bytes) is = tt
+caused-more P Q O N R S resets opens refuses (Probe bytes) is = tt
 caused-more P Q O N R S resets opens refuses (Window id increment) is = tt
 caused-more P Q O N R S resets opens refuses (Open id sender) is = opens id is
 caused-more P Q O N R S resets opens refuses (Refuse id fields) is = refuses id fields is
@@ -296,6 +297,7 @@ module _ (P : ℕ → ErrorCode → Type 0) (O : ℕ → Type 0) (R : ℕ → Li
   asks-one id code (Reset stream found false) is asks = absurd asks
   asks-one id code (Settings settings) is asks = absurd asks
   asks-one id code (Ping bytes) is asks = absurd asks
+  asks-one id code (Probe bytes) is asks = absurd asks
   asks-one id code (Window stream increment) is asks = absurd asks
   asks-one id code (Open stream sender) is asks = absurd asks
   asks-one id code (Refuse stream fields) is asks = absurd asks
@@ -332,6 +334,7 @@ module _ (P : ℕ → ErrorCode → Type 0) (O : ℕ → Type 0) (R : ℕ → Li
   opens-one id (Reset stream found written) is opens = absurd cc
   opens-one id (Settings settings) is opens = absurd cc
   opens-one id (Ping bytes) is opens = absurd cc
+  opens-one id (Probe bytes) is opens = absurd cc
   opens-one id (Window stream increment) is opens = absurd cc
   opens-one id (Refuse stream fields) is opens = absurd cc
   opens-one id (Goaway last found) is opens = absurd cc
@@ -353,6 +356,7 @@ module _ (P : ℕ → ErrorCode → Type 0) (O : ℕ → Type 0) (R : ℕ → Li
   refuses-one id fields (Reset stream found written) is same = absurd same
   refuses-one id fields (Settings settings) is same = absurd same
   refuses-one id fields (Ping bytes) is same = absurd same
+  refuses-one id fields (Probe bytes) is same = absurd same
   refuses-one id fields (Window stream increment) is same = absurd same
   refuses-one id fields (Open stream sender) is same = absurd same
   refuses-one id fields (Goaway last found) is same = absurd same

@@ -15,7 +15,7 @@ use Rattle.connwriter.specs.Sent.{HasSender, IsIn, IsOld, IsTold, Line, again, a
 use Rattle.lane.specs.Cuts.{segment}
 use Rattle.lane.specs.RingLane.{LaneName, got, out_name, past_out, ring_of}
 use Rattle.outwriter.specs.declared.control.Control.{Control}
-use Rattle.outwriter.specs.declared.control.Control.TheVariants.{Settings, Ping, Window, Open, Refuse, Reset, Goaway, InputEnded, Close}
+use Rattle.outwriter.specs.declared.control.Control.TheVariants.{Settings, Ping, Probe, Window, Open, Refuse, Reset, Goaway, InputEnded, Close}
 use Rattle.outwriter.specs.Calls.{is_served}
 use Rattle.outwriter.specs.Runs.{is_opened, opens_stream}
 use Rattle.outwriter.specs.Steps.{Step, Taken, Granted, Written, Returned}
@@ -46,6 +46,7 @@ as-step lines (Open id (New fresh)) = map_push (λ (line : Line LaneName). as_ca
 as-step lines (Open id (Again n)) = as-again lines n id
 as-step lines (Settings settings) = refl
 as-step lines (Ping bytes) = refl
+as-step lines (Probe bytes) = refl
 as-step lines (Window id n) = refl
 as-step lines (Refuse id fields) = refl
 as-step lines (Reset id code written) = refl
@@ -93,6 +94,7 @@ fresh-of lines (Open id opened ∷ orders) new =
     (λ old. new.0 (old-has lines id old), fresh-of (line_step lines (Open id opened)) orders (subst (λ (slots : List SlotCalls). AreNew slots orders) (sym (as-step lines (Open id opened))) new.1))
 fresh-of lines (Settings settings ∷ orders) new = (tt, fresh-of lines orders new.1)
 fresh-of lines (Ping bytes ∷ orders) new = (tt, fresh-of lines orders new.1)
+fresh-of lines (Probe bytes ∷ orders) new = (tt, fresh-of lines orders new.1)
 fresh-of lines (Window id n ∷ orders) new = (tt, fresh-of lines orders new.1)
 fresh-of lines (Refuse id fields ∷ orders) new = (tt, fresh-of lines orders new.1)
 fresh-of lines (Reset id code written ∷ orders) new = (tt, fresh-of lines orders new.1)
@@ -193,6 +195,7 @@ few-from slots [] new few = few
 few-from slots (Open id opened ∷ orders) new few = few-from (calls_step slots (Open id opened)) orders new.1 (few-step slots id opened new.0 few)
 few-from slots (Settings settings ∷ orders) new few = few-from slots orders new.1 few
 few-from slots (Ping bytes ∷ orders) new few = few-from slots orders new.1 few
+few-from slots (Probe bytes ∷ orders) new few = few-from slots orders new.1 few
 few-from slots (Window id n ∷ orders) new few = few-from slots orders new.1 few
 few-from slots (Refuse id fields ∷ orders) new few = few-from slots orders new.1 few
 few-from slots (Reset id code written ∷ orders) new few = few-from slots orders new.1 few
@@ -294,6 +297,7 @@ grow-step slots (Open id (New fresh)) = grow-push slots _
 grow-step slots (Open id (Again n)) = grow-on slots n id
 grow-step slots (Settings settings) = grow-same slots
 grow-step slots (Ping bytes) = grow-same slots
+grow-step slots (Probe bytes) = grow-same slots
 grow-step slots (Window id n) = grow-same slots
 grow-step slots (Refuse id fields) = grow-same slots
 grow-step slots (Reset id code written) = grow-same slots

@@ -16,7 +16,7 @@ use Rattle.h2frame.specs.declared.error_code.ErrorCode.{ErrorCode}
 use Rattle.h2frame.specs.declared.error_code.ErrorCode.TheVariants as error
 use Rattle.h2frame.specs.declared.frame.Frame.{Frame}
 use Rattle.lists.specs.declared.field.Field.{Field}
-use Rattle.outwriter.specs.declared.control.Control.TheVariants.{Settings, Ping, Window, Open, Refuse, Reset, Goaway, InputEnded, Close}
+use Rattle.outwriter.specs.declared.control.Control.TheVariants.{Settings, Ping, Probe, Window, Open, Refuse, Reset, Goaway, InputEnded, Close}
 use Rattle.outwriter.specs.Frames.{is_last}
 use Rattle.outwriter.specs.RunState.{IsAnswered}
 use Rattle.outwriter.specs.Runs.{IsLawful, due, due_by, has_begun, is_goaway, told_by, without_goaway}
@@ -225,6 +225,7 @@ without-append first more = filter-append _ first more
 one-due : (order : Order) → without_goaway (due_by order) ≡ answers_to (news_in (order ∷ []))
 one-due (Settings settings) = refl
 one-due (Ping bytes) = refl
+one-due (Probe bytes) = refl
 one-due (Window id increment) = refl
 one-due (Open id sender) = refl
 one-due (Refuse id fields) = refl

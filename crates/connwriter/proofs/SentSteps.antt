@@ -1,6 +1,6 @@
 -- What each step of a writer does to what its calls' senders sent.
 use Rattle.std.proofs.Common.{◌≡◌, ◌⊎◌, ◌∙◌, ℕ, zero, suc, ◌<◌, eqb, Bool, true, false, nat_eq, All, List, [], ◌∷◌, ◌++◌, Option, None, Some, map, length, get_or, set, ap, append_assoc, sym, refl, subst, inl, inr, IsPermutation, arith, ◌||◌, if◌then◌else◌}
-use Rattle.std.specs.List.{IsDistinct, AllByRecursion, swap_remove}
+use Rattle.std.specs.List.{IsDistinct, AllByRecursion}
 use Rattle.std.proofs.lemmas.Bool.Decides.{eqb_tells}
 use Rattle.std.proofs.lemmas.Cmp.{nat_eq_equiv}
 use Rattle.std.proofs.lemmas.Grind.{flat_map-append}
@@ -16,9 +16,9 @@ use Rattle.account.specs.declared.call.OutItem.{OutItem}
 use Rattle.callbox.specs.declared.sender.Sender.{Sender}
 use Rattle.h2frame.specs.declared.frame.Frame.{Frame}
 use Rattle.outwriter.specs.declared.control.Control.TheVariants.{Open}
-use Rattle.outwriter.specs.Calls.{IsReturned, TellFronts, TellReturned, is_fresh, is_served, refuses_stream}
+use Rattle.outwriter.specs.Calls.{IsReturned, TellFronts, TellReturned, is_fresh, is_served}
 use Rattle.outwriter.specs.Cores.{calls, lane_and_past, lanes}
-use Rattle.outwriter.specs.Parts.{Mark, IsPart, IsFrontOf, marks_of_item, spelled}
+use Rattle.outwriter.specs.Parts.{Mark, IsFrontOf, marks_of_item, spelled}
 use Rattle.outwriter.specs.Releases.{Releases}
 use Rattle.outwriter.specs.Runs.{is_opened, opens_stream}
 use Rattle.outwriter.specs.Steps.{Step, Order, Taken, Granted, Written, Returned}

@@ -9,6 +9,7 @@ ghost use Rattle.device.specs.Bytes.{AppendsPrefix};
 ghost use Rattle.flow.specs.Windows.{room};
 ghost use Rattle.outwriter.specs.Calls.{TellFronts, TellReturned, TellOthers};
 ghost use Rattle.outwriter.specs.Cores.{calls, lanes, lane_and_past, open_stream, IsUnused};
+ghost use Rattle.outwriter.specs.Drains.{has_failed, is_going_away, was_probed};
 ghost use Rattle.outwriter.specs.Frames.{IsSound, ends_stream};
 ghost use Rattle.outwriter.specs.Polls.{coming};
 ghost use Rattle.outwriter.specs.Releases.{IsThrough, HasNone, Releases};
@@ -115,6 +116,31 @@ impl<L: Lane<Item = OutItem>, W: ConnWrite> ConnWriter<L, W> {
             (room self.now.core.sending.outbound.states.windows id) }
     {
         self.core.held(id)
+    }
+
+    /// Whether the peer may be told that this side ends the connection, as it wasn't told so before (RFC 9113, section 6.8).
+    pub fn may_leave(&self) -> bool
+        ensures unsaid { result ≡ true → (before : Option (List ℕ)) (run : List Step)
+            → Wrote L.got W.contents W.failed before run self.now
+            → is_going_away run ≡ false }
+    {
+        self.core.may_leave()
+    }
+
+    /// Whether a PING of this side's own may be the first.
+    pub fn may_probe(&self) -> bool
+        ensures unsaid { result ≡ true → (before : Option (List ℕ)) (run : List Step)
+            → Wrote L.got W.contents W.failed before run self.now → was_probed run ≡ false }
+    {
+        self.core.may_probe()
+    }
+
+    /// Whether no error was told by GOAWAY, nor is to be.
+    pub fn is_faultless(&self) -> bool
+        ensures none { result ≡ true → (before : Option (List ℕ)) (run : List Step)
+            → Wrote L.got W.contents W.failed before run self.now → has_failed run ≡ false }
+    {
+        self.core.is_faultless()
     }
 
     /// Takes an order. Where the peer's window overflows by it, the writer ends the stream or the connection by an order

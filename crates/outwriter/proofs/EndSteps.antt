@@ -97,6 +97,7 @@ asked-reset (Taken (order.Reset stream found true) ∷ run) id code (inl asked) 
 asked-reset (Taken (order.Reset stream found false) ∷ run) id code (inl asked) = absurd asked.0
 asked-reset (Taken (order.Settings settings) ∷ run) id code (inl asked) = absurd asked.0
 asked-reset (Taken (order.Ping bytes) ∷ run) id code (inl asked) = absurd asked.0
+asked-reset (Taken (order.Probe bytes) ∷ run) id code (inl asked) = absurd asked.0
 asked-reset (Taken (order.Window stream n) ∷ run) id code (inl asked) = absurd asked.0
 asked-reset (Taken (order.Open stream sender) ∷ run) id code (inl asked) = absurd asked.0
 asked-reset (Taken (order.Refuse stream fields) ∷ run) id code (inl asked) = absurd asked.0

@@ -13,7 +13,7 @@ use Rattle.outwriter.specs.declared.blocks.HeaderBlock.{HeaderBlock}
 use Rattle.outwriter.specs.declared.control.Control.TheVariants.{Goaway}
 use Rattle.outwriter.specs.declared.due.Due.{Due}
 use Rattle.outwriter.specs.States.{States, over_on}
-use Rattle.outwriter.specs.Frames.{is_last, reset_frame, resets, ends, ends_stream, is_reset, update_on, update_kind, update_frame, ends_block, first_settings, settings_ack, ping_ack, goaway_frame}
+use Rattle.outwriter.specs.Frames.{is_last, reset_frame, resets, ends, ends_stream, is_reset, update_on, update_kind, update_frame, ends_block, first_settings, settings_ack, ping_ack, ping_frame, goaway_frame}
 use Rattle.outwriter.specs.Histories.{closing_of, spending_of, is_over, is_stream, was_reset}
 use Rattle.outwriter.specs.RunState.{Mirrors, HasWindows, HasOver, HasDue, HasBlock, HasHead, HasOwed, HasStates, duties_of, resets_of}
 use Rattle.outwriter.specs.Runs.{has_begun, IsAsked, Fragments, unfinished, due, told, told_by, is_goaway, goaways, without_goaway, AreAmong, MayWrite, Continues, MayFollowEnd, fragments, owed as given}
@@ -260,7 +260,10 @@ plain-written run begun gone after w waiting left block owed less frame is_begun
 pub ack-plain : IsPlain settings_ack
 ack-plain = record { no_data = λ e. cc; no_continuation = λ e. cc; no_fragment = λ begun. refl; no_closing = refl; no_spending = refl; no_end = refl; no_reset = refl }
 
-pub ping-plain : (bytes : List ℕ) → IsPlain (ping_ack bytes)
+pub ping-ack-plain : (bytes : List ℕ) → IsPlain (ping_ack bytes)
+ping-ack-plain bytes = record { no_data = λ e. cc; no_continuation = λ e. cc; no_fragment = λ begun. refl; no_closing = refl; no_spending = refl; no_end = refl; no_reset = refl }
+
+pub ping-plain : (bytes : List ℕ) → IsPlain (ping_frame bytes)
 ping-plain bytes = record { no_data = λ e. cc; no_continuation = λ e. cc; no_fragment = λ begun. refl; no_closing = refl; no_spending = refl; no_end = refl; no_reset = refl }
 
 pub goaway-plain : (last : ℕ) (code : ErrorCode) → IsPlain (goaway_frame last code)

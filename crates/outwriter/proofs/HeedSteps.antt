@@ -40,6 +40,7 @@ reason-step run (order.Reset id code false) k before (inl p) =
     or-true (is_called_off k (Taken (order.Reset id code false) ∷ run)) (is_dropped k (Taken (order.Reset id code false) ∷ run)) (ap (λ b. (b && true) || is_dropped k run) p)
 reason-step run (order.Settings settings) k before (inl p) = absurd (true≢false (sym p))
 reason-step run (order.Ping bytes) k before (inl p) = absurd (true≢false (sym p))
+reason-step run (order.Probe bytes) k before (inl p) = absurd (true≢false (sym p))
 reason-step run (order.Window id n) k before (inl p) = absurd (true≢false (sym p))
 reason-step run (order.Open id sender) k before (inl p) = absurd (true≢false (sym p))
 reason-step run (order.Refuse id fields) k before (inl p) = absurd (true≢false (sym p))

@@ -1,6 +1,7 @@
 -- What a writer's core keeps as its run goes on: one step after another, and what callers see of it.
 use Rattle.std.proofs.Common.{◌≡◌, ℕ, inr, refl, sym, ap, subst, ◌∙◌, Bool, true, false, true≢false, List, [], ◌∷◌, ◌++◌, Option, Some, None, Result, Ok, Err, append-nil, length, arith}
-use Rattle.std.specs.Prelude.{All, get_or, IfErr, IfNone, OnErr, OnOk, ◌==◌, ◌&&◌, ◌||◌, if◌then◌else◌}
+use Rattle.std.specs.Prelude.{All, get_or, IfErr, IfNone, OnErr, OnOk, ◌==◌, ◌&&◌, ◌||◌, not, if◌then◌else◌}
+use Rattle.std.specs.Option.{is_some, option_or}
 use Rattle.std.proofs.lemmas.List.{length-map, map-append}
 use Rattle.std.proofs.lemmas.List.Elements.{All-cons, All-nil, All-weaker}
 use Rattle.account.specs.declared.call.OutItem.{OutItem}
@@ -23,7 +24,8 @@ use Rattle.outwriter.specs.Calls.{is_closed, closes, is_fresh, is_served, calls_
 use Rattle.outwriter.specs.CallState.{Kept, MayBeDue, Takes, none_is_new}
 use Rattle.outwriter.specs.CoreChanges.{KeptOn, KeptStill, KeptWith, Prepares, becomes_open, due_reset, is_new_call}
 use Rattle.outwriter.specs.Cores.{IsAtRest, IsUnused, Keeps, Leads, LeadsControl, LeadsOn, LeadsStill, Parts, calls}
-use Rattle.outwriter.specs.Frames.{IsSound, goaway_frame}
+use Rattle.outwriter.specs.Drains.{IsUnsaid, fails, goaway_by, has_failed, is_going_away, ordered_goaway, probes, was_probed}
+use Rattle.outwriter.specs.Frames.{IsSound, goaway_frame, is_last}
 use Rattle.outwriter.specs.Histories.{is_stream, resets_stream}
 use Rattle.outwriter.specs.OpenStreams.{Closes, OpenStreams, stream_at}
 use Rattle.outwriter.specs.Parts.{Mark, IsPart}
@@ -69,6 +71,7 @@ is-calm (order.Refuse id fields) plain = absurd plain
 is-calm (order.Reset id code written) plain = absurd plain
 is-calm (order.Settings settings) plain = record { unopened = λ id. refl; unrefused = λ id. refl; calm = λ id opened. refl; unreset = λ id. refl }
 is-calm (order.Ping bytes) plain = record { unopened = λ id. refl; unrefused = λ id. refl; calm = λ id opened. refl; unreset = λ id. refl }
+is-calm (order.Probe bytes) plain = record { unopened = λ id. refl; unrefused = λ id. refl; calm = λ id opened. refl; unreset = λ id. refl }
 is-calm (order.Window id n) plain = record { unopened = λ id. refl; unrefused = λ id. refl; calm = λ id opened. refl; unreset = λ id. refl }
 is-calm (order.Goaway last code) plain = record { unopened = λ id. refl; unrefused = λ id. refl; calm = λ id opened. refl; unreset = λ id. refl }
 is-calm order.InputEnded plain = record { unopened = λ id. refl; unrefused = λ id. refl; calm = λ id opened. refl; unreset = λ id. refl }
@@ -86,6 +89,7 @@ plain-may run o streams (due_kind.Refuse id fields) h = absurd h
 plain-may run o streams (due_kind.Reset id code) h = absurd h
 plain-may run o streams due_kind.SettingsAck h = tt
 plain-may run o streams (due_kind.PingAck bytes) h = tt
+plain-may run o streams (due_kind.Ping bytes) h = tt
 plain-may run o streams (due_kind.Goaway last code) h = tt
 
 pub one-plain : (one : Due) → IsPlainDue one → All IsPlainDue (one ∷ [])
@@ -249,13 +253,44 @@ part-parted : (id : ℕ) (run : List Step) (last : ℕ) (code : ErrorCode) (part
     → IsPart id (Written (goaway_frame last code) ∷ Taken (Goaway last code) ∷ run) part
 part-parted id run last code part (table, marks, tells, is) = (table, marks, (table, marks, tells, (refl, sym (append-nil marks))), is)
 
+-- ---- whether the peer may be warned
+
+not-true : (b : Bool) → not b ≡ true → b ≡ false
+not-true false e = refl
+not-true true e = absurd (true≢false (sym e))
+
+pub unsaid-plain : (one : Order) (leaving probed failed : Bool) → goaway_by one ≡ None → probes one ≡ false → fails one ≡ false → (run : List Step)
+    → IsUnsaid run leaving probed failed → IsUnsaid (Taken one ∷ run) leaving probed failed
+unsaid-plain one leaving probed failed no_goaway no_probe no_error run unsaid = record {
+  goaway = λ still. ap (λ (o : Option Frame). is_some (option_or o (ordered_goaway run))) no_goaway ∙ unsaid.goaway still;
+  probe = λ still. ap (λ (b : Bool). b || was_probed run) no_probe ∙ unsaid.probe still;
+  error = λ still. ap (λ (b : Bool). b || has_failed run) no_error ∙ unsaid.error still;
+}
+
+pub either-false : (a b : Bool) → (a || b) ≡ false → (a ≡ false) × (b ≡ false)
+either-false false b both = (refl, both)
+either-false true b both = absurd (true≢false both)
+
+pub unsaid-goaway : (last : ℕ) (code : ErrorCode) (leaving probed failed fails_now : Bool) → fails_now ≡ (failed || is_last (goaway_frame last code)) → (run : List Step)
+    → IsUnsaid run leaving probed failed → IsUnsaid (Taken (Goaway last code) ∷ run) true probed fails_now
+unsaid-goaway last code leaving probed failed fails_now is run unsaid = record {
+  goaway = λ still. absurd (true≢false still);
+  probe = unsaid.probe;
+  error = λ still.
+      let none = either-false failed (is_last (goaway_frame last code)) (sym is ∙ still) in
+      ap (λ (b : Bool). b || has_failed run) none.1 ∙ unsaid.error none.0;
+}
+
+pub unsaid-probe : (bytes : List ℕ) (leaving probed failed : Bool) (run : List Step) → IsUnsaid run leaving probed failed → IsUnsaid (Taken (order.Probe bytes) ∷ run) leaving true failed
+unsaid-probe bytes leaving probed failed run unsaid = record { goaway = unsaid.goaway; probe = λ still. absurd (true≢false still); error = unsaid.error }
+
 -- ---- a core
 
 module _ {L In Out Shut : Type 0} (got : Out → List OutItem) where
   -- as long as it lives, all follows from what it keeps
-  pub leads-living : (run : List Step) (core : OutCore L In Out Shut) → core.is_dead ≡ false → IsLawful run → is_closed run ≡ core.closed → Keeps got run core.sending
-      → Leads got run core
-  leads-living run core alive lawful closed k =
+  pub leads-living : (run : List Step) (core : OutCore L In Out Shut) → core.is_dead ≡ false → IsLawful run → is_closed run ≡ core.closed
+      → IsUnsaid run core.is_leaving core.has_probed core.has_failed → Keeps got run core.sending → Leads got run core
+  leads-living run core alive lawful closed unsaid k =
       let o = core.sending.outbound in
       let all = calls got core.sending.senders.items in
       record {
@@ -265,6 +300,7 @@ module _ {L In Out Shut : Type 0} (got : Out → List OutItem) where
         others = others_of run o (open_at o.states) all k.marks k.serves;
         closed = closed;
         parts = λ dead. absurd (true≢false (sym dead ∙ alive));
+        unsaid = λ still. unsaid;
         keeps = λ still. k;
       }
 
@@ -273,7 +309,7 @@ module _ {L In Out Shut : Type 0} (got : Out → List OutItem) where
       → SpellsOf [] core.sending.outbound [] → core.sending.outbound.due.items ≡ [] → core.sending.outbound.states ≡ nothing_known → Leads got [] core
   leads-nothing core alive closed mirrors senders spells due states =
       let o = core.sending.outbound in
-      leads-living [] core alive tt (sym closed) (record {
+      leads-living [] core alive tt (sym closed) (record { goaway = λ still. refl; probe = λ still. refl; error = λ still. refl }) (record {
         mirrors = mirrors;
         marks = [];
         serves = serves-nothing o (open_at o.states) (calls got core.sending.senders.items) spells due states (ap (λ (s : States). open_at s) states) (ap (calls got) senders);
@@ -295,6 +331,7 @@ module _ {L In Out Shut : Type 0} (got : Out → List OutItem) where
     others = l.others;
     closed = l.closed ∙ sym closed;
     parts = parts run l;
+    unsaid = λ alive. absurd (true≢false (sym dead ∙ alive));
     keeps = λ alive. absurd (true≢false (sym dead ∙ alive));
   }
 
@@ -308,6 +345,7 @@ module _ {L In Out Shut : Type 0} (got : Out → List OutItem) where
     others = l.others;
     closed = l.closed;
     parts = λ dead may last code. may-part-granted run id n last code (l.parts dead may last code);
+    unsaid = λ alive. let before = l.unsaid alive in record { goaway = before.goaway; probe = before.probe; error = before.error };
     keeps = λ alive. kept alive run (calls got old.sending.senders.items) (l.keeps alive);
   }
 
@@ -324,49 +362,63 @@ module _ {L In Out Shut : Type 0} (got : Out → List OutItem) where
             (t.0, part-parted id run last code t.0 t.1, other-later run (Written (goaway_frame last code) ∷ Taken (Goaway last code) ∷ run) id t.0 (λ fields asked. inr asked) t.2);
         closed = l.closed;
         parts = λ dead may. absurd (true≢false (sym may));
+        unsaid = λ alive. absurd (true≢false (sym dead ∙ alive));
         keeps = λ alive. absurd (true≢false (sym dead ∙ alive));
       })
+
+  -- a core that lives and has noted none
+  pub none-goaway : (core : OutCore L In Out Shut) → core.is_dead ≡ false → not core.is_leaving ≡ true → (run : List Step) → Leads got run core → is_going_away run ≡ false
+  none-goaway core alive may run l = (l.unsaid alive).goaway (not-true core.is_leaving may)
+
+  pub none-failed : (core : OutCore L In Out Shut) → core.is_dead ≡ false → not core.has_failed ≡ true → (run : List Step) → Leads got run core → has_failed run ≡ false
+  none-failed core alive may run l = (l.unsaid alive).error (not-true core.has_failed may)
+
+  pub none-probe : (core : OutCore L In Out Shut) → core.is_dead ≡ false → not core.has_probed ≡ true → (run : List Step) → Leads got run core → was_probed run ≡ false
+  none-probe core alive may run l = (l.unsaid alive).probe (not-true core.has_probed may)
 
   module _ (old : OutCore L In Out Shut) (alive : old.is_dead ≡ false) (made : Outbound) (room : KeptStill old.sending.outbound made) where
     -- a control is handed back
     pub leads-room : LeadsStill got old (record old { sending = record old.sending { outbound = made } })
     leads-room run l =
-        leads-living run (record old { sending = record old.sending { outbound = made } }) alive l.lawful l.closed
+        leads-living run (record old { sending = record old.sending { outbound = made } }) alive l.lawful l.closed (l.unsaid alive)
         (room run (calls got old.sending.senders.items) (l.keeps alive))
 
     -- or taken
-    pub leads-taken : (after : Outbound) (closed : Bool) (control given : Control (Sender L In Out Shut)) → control ≡ given → (closes (order_of given) || old.closed) ≡ closed
-        → KeptOn (Taken (order_of given)) made after → LeadsOn got (Taken (order_of control)) old (record old { closed = closed; sending = record old.sending { outbound = after } })
-    leads-taken after closed control given is closes_it kept =
-        let new = record old { closed = closed; sending = record old.sending { outbound = after } } in
+    pub leads-taken : (after : Outbound) (closed leaving probed failed : Bool) (control given : Control (Sender L In Out Shut)) → control ≡ given
+        → (closes (order_of given) || old.closed) ≡ closed
+        → ((run : List Step) → IsUnsaid run old.is_leaving old.has_probed old.has_failed → IsUnsaid (Taken (order_of given) ∷ run) leaving probed failed)
+        → KeptOn (Taken (order_of given)) made after
+        → LeadsOn got (Taken (order_of control)) old (record old { closed = closed; is_leaving = leaving; has_probed = probed; has_failed = failed; sending = record old.sending { outbound = after } })
+    leads-taken after closed leaving probed failed control given is closes_it says kept =
+        let new = record old { closed = closed; is_leaving = leaving; has_probed = probed; has_failed = failed; sending = record old.sending { outbound = after } } in
         let all = calls got old.sending.senders.items in
         subst (λ (c : Control (Sender L In Out Shut)). LeadsOn got (Taken (order_of c)) old new) (sym is) (λ run l.
         leads-living (Taken (order_of given) ∷ run) new alive l.lawful (ap (λ b. closes (order_of given) || b) l.closed ∙ closes_it)
-        (kept run all (room run all (l.keeps alive))))
+        (says run (l.unsaid alive)) (kept run all (room run all (l.keeps alive))))
 
     -- one that is answered
     pub leads-answered : (result : Result (Unit {0}) (OutFault (Sender L In Out Shut))) (after : Sending L In Out Shut) (control given : Control (Sender L In Out Shut)) → control ≡ given
-        → closes (order_of given) ≡ false → OnOk result (IsUnused got given → (run : List Step) → Keeps got run (record old.sending { outbound = made }) → Keeps got (Taken (order_of given) ∷ run) after)
+        → closes (order_of given) ≡ false → goaway_by (order_of given) ≡ None → probes (order_of given) ≡ false → fails (order_of given) ≡ false → OnOk result (IsUnused got given → (run : List Step) → Keeps got run (record old.sending { outbound = made }) → Keeps got (Taken (order_of given) ∷ run) after)
         → OnErr result ((run : List Step) → Keeps got run (record old.sending { outbound = made }) → Keeps got run after)
         → IfErr result (λ fault. fault ≡ OutOfMemory (Some given)) → LeadsControl got result control old (record old { sending = after })
-    leads-answered (Ok done) after control given is opens kept still back =
+    leads-answered (Ok done) after control given is opens no_goaway no_probe no_error kept still back =
         subst (λ (c : Control (Sender L In Out Shut)). IsUnused got c → LeadsOn got (Taken (order_of c)) old (record old { sending = after })) (sym is) (λ unused run l.
         leads-living (Taken (order_of given) ∷ run) (record old { sending = after }) alive l.lawful (ap (λ b. b || is_closed run) opens ∙ l.closed)
-        (kept unused run (room run (calls got old.sending.senders.items) (l.keeps alive))))
-    leads-answered (Err fault) after control given is opens kept still back =
+        (unsaid-plain (order_of given) old.is_leaving old.has_probed old.has_failed no_goaway no_probe no_error run (l.unsaid alive)) (kept unused run (room run (calls got old.sending.senders.items) (l.keeps alive))))
+    leads-answered (Err fault) after control given is opens no_goaway no_probe no_error kept still back =
         subst (λ (f : OutFault (Sender L In Out Shut)). LeadsControl got (Err f) control old (record old { sending = after })) (sym back) (
           ap (λ (c : Control (Sender L In Out Shut)). Some c) (sym is),
-          λ run l. leads-living run (record old { sending = after }) alive l.lawful l.closed (still run (room run (calls got old.sending.senders.items) (l.keeps alive))),
+          λ run l. leads-living run (record old { sending = after }) alive l.lawful l.closed (l.unsaid alive) (still run (room run (calls got old.sending.senders.items) (l.keeps alive))),
         )
 
     -- of a stream
     pub leads-ordered : (result : Result (Unit {0}) (OutFault (Sender L In Out Shut))) (after : Outbound) (control given : Control (Sender L In Out Shut)) → control ≡ given
-        → closes (order_of given) ≡ false → OnOk result (KeptOn (Taken (order_of given)) made after) → OnErr result (after ≡ made)
+        → closes (order_of given) ≡ false → goaway_by (order_of given) ≡ None → probes (order_of given) ≡ false → fails (order_of given) ≡ false → OnOk result (KeptOn (Taken (order_of given)) made after) → OnErr result (after ≡ made)
         → IfErr result (λ fault. fault ≡ OutOfMemory (Some given)) → LeadsControl got result control old (record old { sending = record old.sending { outbound = after } })
-    leads-ordered (Ok done) after control given is opens kept same back =
-        leads-answered (Ok done) (record old.sending { outbound = after }) control given is opens (λ unused run k. kept run (calls got old.sending.senders.items) k) tt tt
-    leads-ordered (Err fault) after control given is opens kept same back =
-        leads-answered (Err fault) (record old.sending { outbound = after }) control given is opens tt
+    leads-ordered (Ok done) after control given is opens no_goaway no_probe no_error kept same back =
+        leads-answered (Ok done) (record old.sending { outbound = after }) control given is opens no_goaway no_probe no_error (λ unused run k. kept run (calls got old.sending.senders.items) k) tt tt
+    leads-ordered (Err fault) after control given is opens no_goaway no_probe no_error kept same back =
+        leads-answered (Err fault) (record old.sending { outbound = after }) control given is opens no_goaway no_probe no_error tt
         (λ run k. subst (λ (o : Outbound). Kept run o (calls got old.sending.senders.items)) (sym same) k) back
 
   -- ---- frames
@@ -379,6 +431,7 @@ module _ {L In Out Shut : Type 0} (got : Out → List OutItem) where
         let written = writes run k.mirrors in
         let held = holds run (k.marks, k.serves, k.heeds) in
         leads-living (Written frame ∷ run) (record old { sending = after }) alive (sound, written.0, l.lawful) l.closed
+        (let before = l.unsaid alive in record { goaway = before.goaway; probe = before.probe; error = before.error })
         (record { mirrors = written.1; marks = held.0; serves = held.1; heeds = held.2 })
 
     -- no frame comes
@@ -389,7 +442,7 @@ module _ {L In Out Shut : Type 0} (got : Out → List OutItem) where
 
     pub leads-none : (o : Option Frame) → o ≡ None → Progresses o old.sending.outbound after.outbound → HoldsOn got o old.sending after → LeadsStill got old (record old { sending = after })
     leads-none (Some frame) e stays holds = absurd (some-none frame e)
-    leads-none None e stays holds = λ run l. leads-living run (record old { sending = after }) alive l.lawful l.closed (keeps-none stays holds run (l.keeps alive))
+    leads-none None e stays holds = λ run l. leads-living run (record old { sending = after }) alive l.lawful l.closed (l.unsaid alive) (keeps-none stays holds run (l.keeps alive))
 
     pub at-rest : (ahead : Out → List OutItem) (o : Option Frame) → o ≡ None → Progresses o old.sending.outbound after.outbound → HoldsOn got o old.sending after
         → IfNone o (IsSpent after.outbound) → IfNone o (GetsQuiet got ahead old.sending after) → (run : List Step) → Leads got run old → IsAtRest ahead run (record old { sending = after })

@@ -32,4 +32,5 @@ pub mod DataSteps
 pub mod LookSteps
 pub mod LawExamples
 pub mod CreditGranted
+pub mod Drained
 pub mod ReturnSteps

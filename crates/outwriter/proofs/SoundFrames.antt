@@ -13,7 +13,7 @@ use Rattle.h2frame.specs.Faults.{frame_fault, lacks_increment, may_be_on, may_ha
 use Rattle.h2frame.specs.Flags.{has_priority, is_padded}
 use Rattle.outwriter.specs.declared.blocks.HeaderBlock.{HeaderBlock}
 use Rattle.outwriter.specs.Blocks.{frame_of, is_short}
-use Rattle.outwriter.specs.Frames.{IsSound, flags_of, first_settings, settings_ack, ping_ack, reset_frame, goaway_frame, update_frame, data_frame, headers_frame, continuation_frame}
+use Rattle.outwriter.specs.Frames.{IsSound, flags_of, first_settings, settings_ack, ping_ack, ping_frame, reset_frame, goaway_frame, update_frame, data_frame, headers_frame, continuation_frame}
 use Rattle.outwriter.proofs.EndSteps.{told-amount}
 
 -- the first fault, by what is tested
@@ -46,10 +46,17 @@ sound-settings-ack = record {
   flags = refl;
 }
 
-pub sound-ping : (bytes : List ℕ) → length bytes ≡ 8 → IsSound (ping_ack bytes)
-sound-ping bytes eight = record {
+pub sound-ping-ack : (bytes : List ℕ) → length bytes ≡ 8 → IsSound (ping_ack bytes)
+sound-ping-ack bytes eight = record {
   writable = record { kind = refl; stream = omega arith; whole = refl; not_padded = refl; no_priority = refl };
   faultless = no-fault (ping_ack bytes) (omega (arith, eight)) refl (ap (λ n. n == 8) eight) refl;
+  flags = refl;
+}
+
+pub sound-ping : (bytes : List ℕ) → length bytes ≡ 8 → IsSound (ping_frame bytes)
+sound-ping bytes eight = record {
+  writable = record { kind = refl; stream = omega arith; whole = refl; not_padded = refl; no_priority = refl };
+  faultless = no-fault (ping_frame bytes) (omega (arith, eight)) refl (ap (λ n. n == 8) eight) refl;
   flags = refl;
 }
 

@@ -166,6 +166,9 @@ due-own mid popped new due_kind.SettingsAck frame first is ((same, known, kept),
 due-own mid popped new (due_kind.PingAck bytes) frame first is ((same, known, kept), (tells, over)) =
     rests-own mid popped new frame (dropped-rests mid popped (due_kind.PingAck bytes) first is (λ id there e. absurd (true≢false (sym e))))
     (known, inl (tells, over, ([], ap (λ due. due.items) (sym same), none-over popped)), kept)
+due-own mid popped new (due_kind.Ping bytes) frame first is ((same, known, kept), (tells, over)) =
+    rests-own mid popped new frame (dropped-rests mid popped (due_kind.Ping bytes) first is (λ id there e. absurd (true≢false (sym e))))
+    (known, inl (tells, over, ([], ap (λ due. due.items) (sym same), none-over popped)), kept)
 due-own mid popped new (due_kind.Goaway last code) frame first is ((same, known, kept), (tells, over)) =
     rests-own mid popped new frame (dropped-rests mid popped (due_kind.Goaway last code) first is (λ id there e. absurd (true≢false (sym e))))
     (known, inl (tells, over, ([], ap (λ due. due.items) (sym same), none-over popped)), kept)

@@ -16,6 +16,7 @@ use Rattle.outwriter.specs.declared.sending.Sending.{Sending}
 use Rattle.outwriter.specs.declared.stream.OpenStream.{OpenStream}
 use Rattle.outwriter.specs.Calls.{TellEnds, TellFronts, TellReturned, TellOthers, is_closed, is_served}
 use Rattle.h2frame.specs.declared.error_code.ErrorCode.{ErrorCode}
+use Rattle.outwriter.specs.Drains.{IsUnsaid}
 use Rattle.outwriter.specs.Frames.{goaway_frame}
 use Rattle.outwriter.specs.Histories.{is_stream, is_over, was_reset}
 use Rattle.outwriter.specs.OpenStreams.{OpenStreams}
@@ -78,6 +79,7 @@ module _ {L In Out Shut : Type 0} where
     pub others : TellOthers run
     pub closed : is_closed run ≡ core.closed
     pub parts : Parts run core
+    pub unsaid : core.is_dead ≡ false → IsUnsaid run core.is_leaving core.has_probed core.has_failed
     pub keeps : core.is_dead ≡ false → Keeps got run core.sending
 
   -- whatever run led to the core before, with this step it leads to the core after; or as it is

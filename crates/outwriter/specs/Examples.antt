@@ -53,8 +53,8 @@ goaway_is_told = refl
 pub reset_is_asked : IsAsked 3 Cancel leaving
 reset_is_asked = inl ((refl, refl), refl)
 
--- The first SETTINGS come unasked. Further ones, an ACK with a payload, a PING that is no ACK and a PUSH_PROMISE would have to stand among
--- what is due, and no control puts them there.
+-- The first SETTINGS come unasked. Further ones, an ACK with a payload and a PUSH_PROMISE would have to stand among what is due, and no
+-- control puts them there; and a PING that is no ACK but for a Probe of its bytes.
 pub first_unasked : told_by false first_settings ≡ []
 first_unasked = refl
 

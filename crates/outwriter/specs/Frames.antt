@@ -37,6 +37,10 @@ settings_ack = frame_with Settings ack 0 []
 abbrev pub ping_ack : List ℕ → Frame
 ping_ack bytes = frame_with Ping ack 0 bytes
 
+-- a PING of the server's own (section 6.7)
+abbrev pub ping_frame : List ℕ → Frame
+ping_frame bytes = frame_with Ping 0 0 bytes
+
 abbrev pub reset_frame : ℕ → ErrorCode → Frame
 reset_frame id code = frame_with RstStream 0 id (bytes_high_first 4 (error_number code))
 

@@ -5,7 +5,7 @@ use Rattle.flow.specs.declared.TheConstants.{MAX_WINDOW}
 use Rattle.flow.specs.WindowHistory.{Opening, Credit, Spending, Resizing, Closing, since_opening, CanCredit, CanResize}
 use Rattle.flow.specs.WindowHistory.{Step as WindowStep}
 use Rattle.h2frame.specs.declared.frame.Frame.{Frame}
-use Rattle.outwriter.specs.declared.control.Control.TheVariants.{Settings, Ping, Window, Open, Refuse, Reset, Goaway, InputEnded, Close}
+use Rattle.outwriter.specs.declared.control.Control.TheVariants.{Settings, Ping, Probe, Window, Open, Refuse, Reset, Goaway, InputEnded, Close}
 use Rattle.h2frame.specs.declared.settings.PeerSetting.{PeerSetting}
 use Rattle.h2frame.specs.declared.settings.PeerSetting.TheVariants.{TableSize, WindowSize}
 use Rattle.outwriter.specs.Frames.{is_data, ends_stream, is_reset, resets, ends}
@@ -70,6 +70,7 @@ Takes run history (Window id n) next =
     (CanCredit history id n × (next ≡ Credit id n ∷ history)) ⊎ ((¬ CanCredit history id n) × (next ≡ history))
 Takes run history (Open id sender) next = next ≡ (if opens run history id then Opening id ∷ history else history)
 Takes run history (Ping bytes) next = next ≡ history
+Takes run history (Probe bytes) next = next ≡ history
 Takes run history (Refuse id fields) next = next ≡ history
 Takes run history (Reset id code written) next = next ≡ Closing id ∷ history
 Takes run history (Goaway last code) next = next ≡ history

@@ -4,6 +4,7 @@ pub mod Histories
 pub mod OpenStreams
 pub mod Runs
 pub mod Credit
+pub mod Drains
 pub mod Parts
 pub mod ToldByNow
 pub mod Calls

@@ -17,7 +17,7 @@ use Rattle.outwriter.specs.declared.due.Due.{Due}
 use Rattle.outwriter.specs.declared.due.Due.TheVariants as due_kind
 use Rattle.outwriter.specs.declared.outbound.Outbound.{Outbound}
 use Rattle.outwriter.specs.States.{States, SetsEnd, StandAs, over_on, owed_on, pays, knows, is_reset}
-use Rattle.outwriter.specs.Frames.{is_last, resets, settings_ack, ping_ack, goaway_frame}
+use Rattle.outwriter.specs.Frames.{is_last, resets, settings_ack, ping_ack, ping_frame, goaway_frame}
 use Rattle.outwriter.specs.Histories.{HasHistory, HasWindow, Overflows, window_sizes, is_over, is_stream, was_reset}
 use Rattle.outwriter.specs.Runs.{has_begun, IsAsked, due, told, unfinished, owed, may_owe, is_opened, MayWrite}
 use Rattle.outwriter.specs.Steps.{Step, Written, frames_of}
@@ -34,6 +34,7 @@ HasOver run states = (id : ℕ) → (is_some (over_on states id) ≡ is_over id 
 abbrev pub duties_of : Due → List Frame
 duties_of due_kind.SettingsAck = settings_ack ∷ []
 duties_of (due_kind.PingAck bytes) = ping_ack bytes ∷ []
+duties_of (due_kind.Ping bytes) = ping_frame bytes ∷ []
 duties_of (due_kind.Refuse id fields) = []
 duties_of (due_kind.Reset id code) = []
 duties_of (due_kind.Goaway last code) = goaway_frame last code ∷ []

@@ -10,17 +10,18 @@ use Rattle.h2frame.specs.declared.error_code.ErrorCode.{ErrorCode}
 use Rattle.h2frame.specs.declared.frame.Frame.{Frame}
 use Rattle.h2frame.specs.declared.kind.FrameKind.{FrameKind}
 use Rattle.h2frame.specs.declared.kind.FrameKind.TheVariants as kind
-use Rattle.outwriter.specs.declared.control.Control.TheVariants.{Settings, Ping, Open, Reset, Goaway}
-use Rattle.outwriter.specs.Frames.{IsSound, first_settings, settings_ack, ping_ack, reset_frame, goaway_frame, update_frame, ends_stream, ends_block, is_last, update_on, resets, ends}
+use Rattle.outwriter.specs.declared.control.Control.TheVariants.{Settings, Ping, Probe, Open, Reset, Goaway}
+use Rattle.outwriter.specs.Frames.{IsSound, first_settings, settings_ack, ping_ack, ping_frame, reset_frame, goaway_frame, update_frame, ends_stream, ends_block, is_last, update_on, resets, ends}
 use Rattle.outwriter.specs.Histories.{HasHistory, is_stream, resets_stream, was_reset}
 use Rattle.outwriter.specs.Steps.{Step, Order, Taken, Granted, Written, Returned, frames_of}
 
 -- ---- what controls oblige to write
 
--- acknowledgements (sections 6.5.3 and 6.7) and GOAWAY (section 6.8), each as a whole frame
+-- acknowledgements (sections 6.5.3 and 6.7), a PING of the server's own (section 6.7) and GOAWAY (section 6.8), each as a whole frame
 abbrev pub due_by : Order → List Frame
 due_by (Settings settings) = settings_ack ∷ []
 due_by (Ping bytes) = ping_ack bytes ∷ []
+due_by (Probe bytes) = ping_frame bytes ∷ []
 due_by (Goaway last code) = goaway_frame last code ∷ []
 due_by _ = []
 
@@ -59,7 +60,7 @@ told (Granted id n ∷ before) = told before
 told (Returned id items ∷ before) = told before
 told (Written frame ∷ before) = told before ++ told_by (has_begun (frames_of before)) frame
 
--- acknowledgements stand in one order, and GOAWAYs in another
+-- acknowledgements and PINGs stand in one order, and GOAWAYs in another
 abbrev pub is_goaway : FrameKind → Bool
 is_goaway kind.GoAway = true
 is_goaway _ = false
@@ -169,7 +170,7 @@ pub record MayWrite (before : List Step) (frame : Frame) : Type 0 where
   pub windows : frame.head.kind ≡ kind.Data → FitsWindows before frame
   -- DATA has bytes, or ends its stream
   pub content : frame.head.kind ≡ kind.Data → (0 < frame.head.length) ⊎ (ends_stream frame ≡ true)
-  -- acknowledgements come in the order of the controls that oblige to them, and after them; nothing else comes of any other kind but DATA,
+  -- acknowledgements and PINGs come in the order of the controls that oblige to them, and after them; nothing else comes of any other kind but DATA,
   -- header blocks, resets, credit and GOAWAY
   pub answers : Begins (without_goaway (told before ++ told_by (has_begun (frames_of before)) frame)) (without_goaway (due before))
   -- GOAWAY comes after the control that asks for it, and in order among GOAWAYs

@@ -4,7 +4,7 @@ use Rattle.std.specs.Prelude.{ℕ, List, [], ◌∷◌}
 use Rattle.account.specs.declared.call.OutItem.{OutItem}
 use Rattle.h2frame.specs.declared.frame.Frame.{Frame}
 use Rattle.outwriter.specs.declared.control.Control.{Control}
-use Rattle.outwriter.specs.declared.control.Control.TheVariants.{Settings, Ping, Window, Open, Refuse, Reset, Goaway, InputEnded, Close}
+use Rattle.outwriter.specs.declared.control.Control.TheVariants.{Settings, Ping, Probe, Window, Open, Refuse, Reset, Goaway, InputEnded, Close}
 use Rattle.outwriter.specs.declared.control.OutFault.{OutFault}
 use Rattle.outwriter.specs.declared.control.OutFault.TheVariants.{OutOfMemory, PeerWindow}
 
@@ -16,6 +16,7 @@ module _ {S : Type 0} where
   abbrev pub order_of : Control S → Order
   order_of (Settings settings) = Settings settings
   order_of (Ping bytes) = Ping bytes
+  order_of (Probe bytes) = Probe bytes
   order_of (Window id increment) = Window id increment
   order_of (Open id sender) = Open id tt
   order_of (Refuse id fields) = Refuse id fields

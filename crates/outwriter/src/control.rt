@@ -11,6 +11,8 @@ pub enum Control<S> {
     Settings(PeerSettings),
     /// A PING of the peer, whose eight bytes are sent back (section 6.7).
     Ping([u8; 8]),
+    /// A PING of the server's own with these eight bytes, which the peer sends back (section 6.7).
+    Probe([u8; 8]),
     /// The peer credits so many bytes to a stream, or to the connection where it is 0 (section 6.9).
     Window(StreamId, u32),
     /// A call begins, whose items are written on its stream. On 0, or on a number over 2^31 - 1, nothing is written: so it is of

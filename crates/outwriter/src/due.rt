@@ -8,6 +8,7 @@ use lists::{Field, Sequence};
 pub(crate) enum Due {
     SettingsAck,
     PingAck([u8; 8]),
+    Ping([u8; 8]),
     Refuse(StreamId, Sequence<Field>),
     Reset(StreamId, ErrorCode),
     Goaway(StreamId, ErrorCode),

@@ -1,7 +1,7 @@
 //! The frames that a writer makes (RFC 9113, section 6).
 
 ghost use Rattle.std.specs.Prelude.{◌≡◌, ◌≤◌, ◌<◌, length, IfOk};
-ghost use Rattle.outwriter.specs.Frames.{first_settings, settings_ack, ping_ack, reset_frame, goaway_frame, update_frame, data_frame, headers_frame, continuation_frame, block_bits};
+ghost use Rattle.outwriter.specs.Frames.{first_settings, settings_ack, ping_ack, ping_frame, reset_frame, goaway_frame, update_frame, data_frame, headers_frame, continuation_frame, block_bits};
 
 use crate::small::SmallContents;
 use bytes::Bytes;
@@ -55,6 +55,13 @@ pub(crate) fn make_ping_ack(small: &mut SmallContents, bytes: [u8; 8]) -> Result
 {
     let content = small.content(&bytes)?;
     Ok(Frame::new(FrameKind::Ping, Flags::ACK, 0, content))
+}
+
+pub(crate) fn make_ping(small: &mut SmallContents, bytes: [u8; 8]) -> Result<Frame, AllocError>
+    ensures { IfOk result (λ frame. frame ≡ ping_frame bytes) }
+{
+    let content = small.content(&bytes)?;
+    Ok(Frame::new(FrameKind::Ping, Flags::NONE, 0, content))
 }
 
 pub(crate) fn make_reset(

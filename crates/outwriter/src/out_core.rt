@@ -7,14 +7,15 @@
 //! `control`: A dead core hands each control back, since nothing that it keeps is known to follow from its run; what
 //! was told of each call stays a prefix, so its senders can be brought back.
 
-ghost use Rattle.std.specs.Prelude.{◌≡◌, ◌≢◌, List, [], ◌∷◌, Some, None, Err, false, true, IsOk, OnOk, IfErr, IfSome};
+ghost use Rattle.std.specs.Prelude.{◌≡◌, ◌≢◌, ◌&&◌, ◌||◌, not, ℕ, List, [], ◌∷◌, Some, None, Err, false, true, IsOk, OnOk, IfErr, IfSome};
 ghost use Rattle.outwriter.specs.CallState.{Takes, none_is_new};
 ghost use Rattle.outwriter.specs.Cores.{Brings, Leads, LeadsControl, LeadsOn, LeadsStill, calls, open_stream};
 ghost use Rattle.outwriter.specs.declared.control.OutFault.TheVariants as out_fault;
 ghost use Rattle.outwriter.specs.RunState.{Blames, Concerns, HasRoom, is_held};
 ghost use Rattle.flow.specs.Windows.{room};
 ghost use Rattle.outwriter.specs.Calls.{TellFronts, TellReturned, TellOthers};
-ghost use Rattle.outwriter.specs.Frames.{IsSound, goaway_frame};
+ghost use Rattle.outwriter.specs.Drains.{has_failed, is_going_away, was_probed};
+ghost use Rattle.outwriter.specs.Frames.{IsSound, goaway_frame, is_last};
 ghost use Rattle.outwriter.specs.Steps.{Step, Taken, Granted, Written};
 ghost use Rattle.outwriter.specs.TableLimits.{TakesLimits};
 ghost use Rattle.outwriter.specs.declared.control.Control.TheVariants as order;
@@ -37,6 +38,10 @@ pub struct OutCore<L: Lane<Item = OutItem>> {
     pub(crate) may_part: bool,
     /// Whether Close was taken.
     pub(crate) closed: bool,
+    /// Whether a Goaway was taken, a Probe, and a Goaway with an error.
+    pub(crate) is_leaving: bool,
+    pub(crate) has_probed: bool,
+    pub(crate) has_failed: bool,
     pub(crate) sending: Sending<L>,
 }
 
@@ -52,6 +57,9 @@ impl<L: Lane<Item = OutItem>> OutCore<L> {
             is_dead: false,
             may_part: false,
             closed: false,
+            is_leaving: false,
+            has_probed: false,
+            has_failed: false,
             sending: Sending::new(alloc),
         }
     }
@@ -130,6 +138,11 @@ impl<L: Lane<Item = OutItem>> OutCore<L> {
                 self.sending.outbound.take_ping(bytes);
                 Ok(())
             }
+            Control::Probe(bytes) => {
+                self.has_probed = true;
+                self.sending.outbound.take_probe(bytes);
+                Ok(())
+            }
             Control::Window(id, increment) => {
                 if self.sending.outbound.take_window(id, increment) {
                     Ok(())
@@ -141,11 +154,48 @@ impl<L: Lane<Item = OutItem>> OutCore<L> {
             Control::Refuse(id, fields) => self.sending.outbound.refuse(id, fields),
             Control::Reset { id, code, written } => self.sending.outbound.reset(id, code, written),
             Control::Goaway { last, code } => {
+                self.is_leaving = true;
+                self.has_failed = self.fails_by(code);
                 self.sending.outbound.take_goaway(last, code);
                 Ok(())
             }
             Control::InputEnded | Control::Close => unreachable!(),
         }
+    }
+
+    /// Whether the peer may be told that this side ends the connection, as it wasn't told so before (RFC 9113, section 6.8): the core
+    /// lives, and no Goaway was taken.
+    pub fn may_leave(&self) -> bool
+        ensures unsaid { result ≡ true → (run : List Step) → Leads L.got run self.now
+            → is_going_away run ≡ false }
+        ensures value { result ≡ (not self.now.is_dead && not self.now.is_leaving) }
+    {
+        !self.is_dead && !self.is_leaving
+    }
+
+    /// Whether a PING of this side's own may be the first: the core lives, and no Probe was taken.
+    pub fn may_probe(&self) -> bool
+        ensures unsaid { result ≡ true → (run : List Step) → Leads L.got run self.now
+            → was_probed run ≡ false }
+        ensures value { result ≡ (not self.now.is_dead && not self.now.has_probed) }
+    {
+        !self.is_dead && !self.has_probed
+    }
+
+    /// Whether no error was told, nor is to be: the core lives, and no Goaway with an error was taken.
+    pub fn is_faultless(&self) -> bool
+        ensures none { result ≡ true → (run : List Step) → Leads L.got run self.now
+            → has_failed run ≡ false }
+        ensures value { result ≡ (not self.now.is_dead && not self.now.has_failed) }
+    {
+        !self.is_dead && !self.has_failed
+    }
+
+    /// Whether a Goaway with an error was taken, with one of this code.
+    fn fails_by(&self, code: ErrorCode) -> bool
+        ensures { (last : ℕ) → result ≡ (self.now.has_failed || is_last (goaway_frame last code)) }
+    {
+        self.has_failed || code.code() != 0
     }
 
     /// The last word of a core that is dead, once: GOAWAY, where SETTINGS were written, no header block is unfinished and no GOAWAY

@@ -120,6 +120,16 @@ impl Outbound {
         self.due.push_back_reserved(Due::PingAck(bytes));
     }
 
+    /// Owes a PING of the server's own.
+    pub(crate) fn take_probe(&mut self, bytes: [u8; 8])
+        requires room { deque_len self.old.due < deque_capacity self.old.due }
+        ensures taken { MirrorsOn (Taken (order.Probe bytes)) self.old self.new }
+        ensures takes { Takes (due_kind.Ping bytes ∷ []) none_is_new [] self.old self.new }
+        ensures encoder { self.new.encoder ≡ self.old.encoder }
+    {
+        self.due.push_back_reserved(Due::Ping(bytes));
+    }
+
     /// Takes the peer's credit, and answers whether the window has room for it. A stream that isn't open is none to credit.
     pub(crate) fn take_window(&mut self, id: StreamId, increment: u32) -> bool
         ensures taken { MirrorsOn (Taken (order.Window id increment)) self.old self.new }

@@ -6,7 +6,8 @@ ghost use Rattle.outwriter.specs.States.{over_on};
 use crate::blocks::HeaderBlock;
 use crate::due::Due;
 use crate::frames::{
-    make_first_settings, make_goaway, make_ping_ack, make_reset, make_settings_ack, make_update,
+    make_first_settings, make_goaway, make_ping, make_ping_ack, make_reset, make_settings_ack,
+    make_update,
 };
 use crate::outbound::{Outbound, is_stream};
 use crate::states::Over;
@@ -107,6 +108,7 @@ impl Outbound {
         match due {
             Due::SettingsAck => Ok(Some(self.settings_ack())),
             Due::PingAck(bytes) => Ok(Some(self.ping_ack(bytes)?)),
+            Due::Ping(bytes) => Ok(Some(self.ping(bytes)?)),
             Due::Goaway(last, code) => Ok(Some(self.goaway_frame(last, code)?)),
             Due::Reset(id, code) => {
                 if !self.may_end(id) {
@@ -141,6 +143,17 @@ impl Outbound {
             (λ frame. OwnByDue (due_kind.PingAck bytes) frame self.old self.new) }
     {
         make_ping_ack(&mut self.small, bytes)
+    }
+
+    fn ping(&mut self, bytes: [u8; 8]) -> Result<Frame, AllocError>
+        requires { IsBetween self.old }
+        ensures sound { IfOk result IsSound }
+        ensures written { IfOk result
+            (λ frame. WritesDue (due_kind.Ping bytes) frame self.old self.new) }
+        ensures own { IfOk result
+            (λ frame. OwnByDue (due_kind.Ping bytes) frame self.old self.new) }
+    {
+        make_ping(&mut self.small, bytes)
     }
 
     fn goaway_frame(&mut self, last: StreamId, code: ErrorCode) -> Result<Frame, AllocError>

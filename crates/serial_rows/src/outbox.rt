@@ -77,6 +77,7 @@ fn kind_of(order: &Order) -> &'static str {
     match order {
         Control::Settings(_) => "settings",
         Control::Ping(_) => "ping",
+        Control::Probe(_) => "probe",
         Control::Window(_, _) => "window",
         Control::Open(_, _) => "open",
         Control::Refuse(_, _) => "refuse",

@@ -10,7 +10,7 @@ use Rattle.lane.specs.Cuts.{segment}
 use Rattle.lane.specs.RingLane.{LaneName}
 use Rattle.lists.specs.declared.field.Field.{Field}
 use Rattle.outwriter.specs.declared.control.Control.{Control}
-use Rattle.outwriter.specs.declared.control.Control.TheVariants.{Settings, Ping, Window, Open, Refuse, Reset, Goaway, InputEnded, Close}
+use Rattle.outwriter.specs.declared.control.Control.TheVariants.{Settings, Ping, Probe, Window, Open, Refuse, Reset, Goaway, InputEnded, Close}
 use Rattle.outwriter.specs.Steps.{Order, order_of}
 use Rattle.session.specs.declared.event.Control.{Control as News}
 use Rattle.session.specs.declared.event.Control.TheVariants as news
@@ -40,6 +40,7 @@ pub plain-step : (slots : List SlotCalls) (order : Control Opened) → OpensNone
 plain-step slots (Open id opened) none = absurd (none id refl)
 plain-step slots (Settings settings) none = refl
 plain-step slots (Ping bytes) none = refl
+plain-step slots (Probe bytes) none = refl
 plain-step slots (Window id n) none = refl
 plain-step slots (Refuse id fields) none = refl
 plain-step slots (Reset id code written) none = refl

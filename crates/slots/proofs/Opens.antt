@@ -11,7 +11,7 @@ use Rattle.connbook.specs.declared.answers.Receipt.{Receipt}
 use Rattle.connbook.specs.declared.answers.Receipt.TheVariants.{Feed, Discard, CallWindow, Overrun}
 use Rattle.lists.specs.declared.field.Field.{Field}
 use Rattle.outwriter.specs.declared.control.Control.{Control}
-use Rattle.outwriter.specs.declared.control.Control.TheVariants.{Settings, Ping, Window, Open, Refuse, Reset, Goaway, InputEnded, Close}
+use Rattle.outwriter.specs.declared.control.Control.TheVariants.{Settings, Ping, Probe, Window, Open, Refuse, Reset, Goaway, InputEnded, Close}
 use Rattle.outwriter.specs.Steps.{Order, order_of}
 use Rattle.session.specs.declared.event.Control.{Control as News}
 use Rattle.session.specs.declared.event.Control.TheVariants as news
@@ -35,6 +35,7 @@ opens_of [] = []
 opens_of (Open id opened ∷ orders) = id ∷ opens_of orders
 opens_of (Settings settings ∷ orders) = opens_of orders
 opens_of (Ping bytes ∷ orders) = opens_of orders
+opens_of (Probe bytes ∷ orders) = opens_of orders
 opens_of (Window id n ∷ orders) = opens_of orders
 opens_of (Refuse id fields ∷ orders) = opens_of orders
 opens_of (Reset id code written ∷ orders) = opens_of orders
@@ -48,6 +49,7 @@ behind-if : (here : Bool) (orders : List Order) (first : Order) → opens_of (fi
 behind-if true orders (Open other opened) none = absurd cc
 behind-if true orders (Settings settings) none = refl
 behind-if true orders (Ping bytes) none = refl
+behind-if true orders (Probe bytes) none = refl
 behind-if true orders (Window other n) none = refl
 behind-if true orders (Refuse other fields) none = refl
 behind-if true orders (Reset other code written) none = refl
@@ -181,6 +183,7 @@ new-by slots (Open id opened ∷ orders) (Some other) is new =
     rest-none same = cc
 new-by slots (Settings settings ∷ orders) found is new = (tt, new-by slots orders found is new)
 new-by slots (Ping bytes ∷ orders) found is new = (tt, new-by slots orders found is new)
+new-by slots (Probe bytes ∷ orders) found is new = (tt, new-by slots orders found is new)
 new-by slots (Window id n ∷ orders) found is new = (tt, new-by slots orders found is new)
 new-by slots (Refuse id fields ∷ orders) found is new = (tt, new-by slots orders found is new)
 new-by slots (Reset id code written ∷ orders) found is new = (tt, new-by slots orders found is new)

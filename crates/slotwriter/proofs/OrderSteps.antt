@@ -135,6 +135,7 @@ module _ {S : Type 0} where
   answer-of (control.Settings settings) last id run concerns blames = (last, id, refl, concerns, blames)
   answer-of (control.Window stream n) last id run concerns blames = (last, id, refl, concerns, blames)
   answer-of (control.Ping bytes) last id run concerns blames = absurd concerns
+  answer-of (control.Probe bytes) last id run concerns blames = absurd concerns
   answer-of (control.Open stream sender) last id run concerns blames = absurd concerns
   answer-of (control.Refuse stream fields) last id run concerns blames = absurd concerns
   answer-of (control.Reset stream code written) last id run concerns blames = absurd concerns
@@ -146,6 +147,7 @@ module _ {S : Type 0} where
   room-of (control.Settings settings) run room = room
   room-of (control.Window stream n) run room = room
   room-of (control.Ping bytes) run room = tt
+  room-of (control.Probe bytes) run room = tt
   room-of (control.Open stream sender) run room = tt
   room-of (control.Refuse stream fields) run room = tt
   room-of (control.Reset stream code written) run room = tt

@@ -10,7 +10,7 @@ use Rattle.std.proofs.Math.Seq.{map-set_same}
 use Rattle.lane.proofs.CutLemmas.{prefix_refl}
 use Rattle.lane.specs.RingLane.{LaneName, got, out_name, past_out, ring_of}
 use Rattle.outwriter.specs.declared.control.Control.{Control}
-use Rattle.outwriter.specs.declared.control.Control.TheVariants.{Settings, Ping, Window, Open, Refuse, Reset, Goaway, InputEnded, Close}
+use Rattle.outwriter.specs.declared.control.Control.TheVariants.{Settings, Ping, Probe, Window, Open, Refuse, Reset, Goaway, InputEnded, Close}
 use Rattle.outwriter.specs.Releases.{Releases}
 use Rattle.outwriter.specs.Runs.{is_opened, opens_stream}
 use Rattle.h2frame.specs.declared.error_code.ErrorCode.TheVariants.{FlowControlError}
@@ -74,6 +74,8 @@ kept-made run lines old new core cores (Settings settings) control new_id made b
     kept-plain run lines old new core cores (Settings settings) (λ k. refl) (subst (λ (c : Control SlotSender). BringsBy Done c core cores) made.0 brings) made.1 kept
 kept-made run lines old new core cores (Ping bytes) control new_id made brings kept =
     kept-plain run lines old new core cores (Ping bytes) (λ k. refl) (subst (λ (c : Control SlotSender). BringsBy Done c core cores) made.0 brings) made.1 kept
+kept-made run lines old new core cores (Probe bytes) control new_id made brings kept =
+    kept-plain run lines old new core cores (Probe bytes) (λ k. refl) (subst (λ (c : Control SlotSender). BringsBy Done c core cores) made.0 brings) made.1 kept
 kept-made run lines old new core cores (Window id n) control new_id made brings kept =
     kept-plain run lines old new core cores (Window id n) (λ k. refl) (subst (λ (c : Control SlotSender). BringsBy Done c core cores) made.0 brings) made.1 kept
 kept-made run lines old new core cores (Refuse id fields) control new_id made brings kept =
@@ -92,6 +94,7 @@ pub plain-makes : (order : Control Opened) (control : Control SlotSender) (place
 plain-makes (Open id opened) control places plain = absurd plain
 plain-makes (Settings settings) control places plain = (plain, record { held = refl; ids = refl })
 plain-makes (Ping bytes) control places plain = (plain, record { held = refl; ids = refl })
+plain-makes (Probe bytes) control places plain = (plain, record { held = refl; ids = refl })
 plain-makes (Window id n) control places plain = (plain, record { held = refl; ids = refl })
 plain-makes (Refuse id fields) control places plain = (plain, record { held = refl; ids = refl })
 plain-makes (Reset id code written) control places plain = (plain, record { held = refl; ids = refl })
@@ -116,6 +119,7 @@ makes-then (Open id (Again n)) control old mid new made same =
     )
 makes-then (Settings settings) control old mid new made same = (made.0, same-then made.1 same)
 makes-then (Ping bytes) control old mid new made same = (made.0, same-then made.1 same)
+makes-then (Probe bytes) control old mid new made same = (made.0, same-then made.1 same)
 makes-then (Window id n) control old mid new made same = (made.0, same-then made.1 same)
 makes-then (Refuse id fields) control old mid new made same = (made.0, same-then made.1 same)
 makes-then (Reset id code written) control old mid new made same = (made.0, same-then made.1 same)
@@ -348,6 +352,7 @@ fresh-rising last lines (Open id (Again n) ∷ orders) most rise = (λ old. none
     more k old = by k (again-split lines n id k old)
 fresh-rising last lines (Settings settings ∷ orders) most rise = (tt, fresh-rising last lines orders most rise)
 fresh-rising last lines (Ping bytes ∷ orders) most rise = (tt, fresh-rising last lines orders most rise)
+fresh-rising last lines (Probe bytes ∷ orders) most rise = (tt, fresh-rising last lines orders most rise)
 fresh-rising last lines (Window id n ∷ orders) most rise = (tt, fresh-rising last lines orders most rise)
 fresh-rising last lines (Refuse id fields ∷ orders) most rise = (tt, fresh-rising last lines orders most rise)
 fresh-rising last lines (Reset id code written ∷ orders) most rise = (tt, fresh-rising last lines orders most rise)
@@ -418,6 +423,7 @@ pub brings-plain : (taking : Taking SlotSender) (one : Control SlotSender) (core
 brings-plain Done (Open id sender) core cores plain is = absurd plain
 brings-plain Done (Settings settings) core cores plain is = is
 brings-plain Done (Ping bytes) core cores plain is = is
+brings-plain Done (Probe bytes) core cores plain is = is
 brings-plain Done (Window id n) core cores plain is = is
 brings-plain Done (Refuse id fields) core cores plain is = is
 brings-plain Done (Reset id code written) core cores plain is = is
@@ -432,6 +438,7 @@ pub brings-same : (id : ℕ) (one : Control SlotSender) (core : List (ℕ × Slo
 brings-same id (Open stream sender) core concerns = absurd concerns
 brings-same id (Settings settings) core concerns = refl
 brings-same id (Ping bytes) core concerns = refl
+brings-same id (Probe bytes) core concerns = refl
 brings-same id (Window stream n) core concerns = refl
 brings-same id (Refuse stream fields) core concerns = refl
 brings-same id (Reset stream code written) core concerns = refl
@@ -613,6 +620,7 @@ kept-back run lines first old new core (Open id (Again n)) control new_id made h
     by (inr (away, same)) = absurd (waits-found id n old (waits-again first old id n begins.was begins.is begins.ids begins.held) away)
 kept-back run lines first old new core (Settings settings) control new_id made home kept = kept-twice run lines first old new core made.1 (subst (λ (c : Control SlotSender). HandsHome c old new) made.0 home) kept
 kept-back run lines first old new core (Ping bytes) control new_id made home kept = kept-twice run lines first old new core made.1 (subst (λ (c : Control SlotSender). HandsHome c old new) made.0 home) kept
+kept-back run lines first old new core (Probe bytes) control new_id made home kept = kept-twice run lines first old new core made.1 (subst (λ (c : Control SlotSender). HandsHome c old new) made.0 home) kept
 kept-back run lines first old new core (Window id n) control new_id made home kept = kept-twice run lines first old new core made.1 (subst (λ (c : Control SlotSender). HandsHome c old new) made.0 home) kept
 kept-back run lines first old new core (Refuse id fields) control new_id made home kept = kept-twice run lines first old new core made.1 (subst (λ (c : Control SlotSender). HandsHome c old new) made.0 home) kept
 kept-back run lines first old new core (Reset id code written) control new_id made home kept = kept-twice run lines first old new core made.1 (subst (λ (c : Control SlotSender). HandsHome c old new) made.0 home) kept

@@ -99,6 +99,7 @@ opened-made (control.Open id (Again n)) one old new orders made opened =
     (All-set (λ (k : ℕ). IsAmong (control.Open k tt) (orders ++ control.Open id tt ∷ [])) (ids_of old) n id (among-last (control.Open id tt) orders) (opened-more (ids_of old) orders (control.Open id tt ∷ []) opened))
 opened-made (control.Settings settings) one old new orders made opened = opened-still (ids_of old) (ids_of new) orders (control.Settings settings) made.1.ids opened
 opened-made (control.Ping bytes) one old new orders made opened = opened-still (ids_of old) (ids_of new) orders (control.Ping bytes) made.1.ids opened
+opened-made (control.Probe bytes) one old new orders made opened = opened-still (ids_of old) (ids_of new) orders (control.Probe bytes) made.1.ids opened
 opened-made (control.Window id n) one old new orders made opened = opened-still (ids_of old) (ids_of new) orders (control.Window id n) made.1.ids opened
 opened-made (control.Refuse id fields) one old new orders made opened = opened-still (ids_of old) (ids_of new) orders (control.Refuse id fields) made.1.ids opened
 opened-made (control.Reset id code written) one old new orders made opened = opened-still (ids_of old) (ids_of new) orders (control.Reset id code written) made.1.ids opened

@@ -11,7 +11,7 @@ use Rattle.lane.specs.declared.ring_lane.RingLaneShut.{RingLaneShut}
 use Rattle.lane.specs.Cuts.{segment}
 use Rattle.lane.specs.RingLane.{LaneName, got, out_name, past_out, ring_of}
 use Rattle.outwriter.specs.declared.control.Control.{Control}
-use Rattle.outwriter.specs.declared.control.Control.TheVariants.{Settings, Ping, Window, Open, Refuse, Reset, Goaway, InputEnded, Close}
+use Rattle.outwriter.specs.declared.control.Control.TheVariants.{Settings, Ping, Probe, Window, Open, Refuse, Reset, Goaway, InputEnded, Close}
 use Rattle.outwriter.specs.Runs.{is_opened}
 use Rattle.outwriter.specs.Steps.{Step}
 use Rattle.connwriter.specs.declared.taking.Taking.{Taking}
@@ -106,6 +106,7 @@ MakesOf (Open id (New fresh)) control old new = (control ≡ Open id fresh.sende
 MakesOf (Open id (Again n)) control old new = (sender : SlotSender) × (control ≡ Open id sender) × Begins n id sender old new
 MakesOf (Settings settings) control old new = (control ≡ Settings settings) × SamePlaces old new
 MakesOf (Ping bytes) control old new = (control ≡ Ping bytes) × SamePlaces old new
+MakesOf (Probe bytes) control old new = (control ≡ Probe bytes) × SamePlaces old new
 MakesOf (Window id n) control old new = (control ≡ Window id n) × SamePlaces old new
 MakesOf (Refuse id fields) control old new = (control ≡ Refuse id fields) × SamePlaces old new
 MakesOf (Reset id code written) control old new = (control ≡ Reset id code written) × SamePlaces old new
@@ -118,6 +119,7 @@ abbrev pub IsPlain : Control Opened → Control SlotSender → Type 0
 IsPlain (Open id opened) control = ⊥
 IsPlain (Settings settings) control = control ≡ Settings settings
 IsPlain (Ping bytes) control = control ≡ Ping bytes
+IsPlain (Probe bytes) control = control ≡ Probe bytes
 IsPlain (Window id n) control = control ≡ Window id n
 IsPlain (Refuse id fields) control = control ≡ Refuse id fields
 IsPlain (Reset id code written) control = control ≡ Reset id code written

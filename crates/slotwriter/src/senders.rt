@@ -403,6 +403,7 @@ fn split(order: Order) -> Result<Control<Sender<OutLane>>, (StreamId, Opened)>
         Control::Open(id, opened) => Err((id, opened)),
         Control::Settings(settings) => Ok(Control::Settings(settings)),
         Control::Ping(bytes) => Ok(Control::Ping(bytes)),
+        Control::Probe(bytes) => Ok(Control::Probe(bytes)),
         Control::Window(id, increment) => Ok(Control::Window(id, increment)),
         Control::Refuse(id, fields) => Ok(Control::Refuse(id, fields)),
         Control::Reset { id, code, written } => Ok(Control::Reset { id, code, written }),

@@ -78,7 +78,8 @@ fn tell_senders(core: Core, peer: &mut Peer) -> Result<()> {
 fn order(alloc: Global, words: &[&str]) -> Result<Order> {
     match word(words, 0)? {
         "settings" => settings(alloc, words),
-        "ping" => ping(words),
+        "ping" => Ok(Control::Ping(ping_bytes(words)?)),
+        "probe" => Ok(Control::Probe(ping_bytes(words)?)),
         "window" => Ok(Control::Window(number(words, 1)?, number(words, 2)?)),
         "open" => open(alloc, words),
         "refuse" => refuse(alloc, words),
@@ -108,9 +109,10 @@ fn setting(word: &str) -> Result<PeerSetting> {
     }
 }
 
-fn ping(words: &[&str]) -> Result<Order> {
+/// The bytes of a PING, the last of them by an act.
+fn ping_bytes(words: &[&str]) -> Result<[u8; 8]> {
     let last = u8::try_from(number(words, 1)?)?;
-    Ok(Control::Ping([0, 0, 0, 0, 0, 0, 0, last]))
+    Ok([0, 0, 0, 0, 0, 0, 0, last])
 }
 
 fn open(alloc: Global, words: &[&str]) -> Result<Order> {

@@ -130,6 +130,7 @@ fn name_of(head: &FrameHead) -> &'static str {
         FrameKind::Settings if ack => "ack",
         FrameKind::Settings => "settings",
         FrameKind::Ping if ack => "pong",
+        FrameKind::Ping => "ping",
         FrameKind::Data => "data",
         FrameKind::Headers => "head",
         FrameKind::Continuation => "more",

@@ -6,20 +6,20 @@ use Rattle.outwriter.specs.Frames.{ping_ack}
 use Rattle.outwriter.specs.RunState.{WritesDue}
 use Rattle.outwriter.specs.ToldByNow.{OwnByDue}
 use Rattle.outwriter.proofs.TellSteps.{plain-tells}
-use Rattle.outwriter.proofs.FrameSteps.{due-written, ping-plain}
+use Rattle.outwriter.proofs.FrameSteps.{due-written, ping-ack-plain}
 use Rattle.outwriter.specs.Frames.{IsSound}
-use Rattle.outwriter.proofs.SoundFrames.{sound-ping}
+use Rattle.outwriter.proofs.SoundFrames.{sound-ping-ack}
 use Rattle.outwriter.proofs.outbound.Outbound.ping_ack.Goals as goal
 
 pub returns-clause-sound : goal.returns-clause-sound
 returns-clause-sound c = IfOk-weaker c.make_ping_ack.result (λ (frame : Frame). frame ≡ ping_ack c.args.bytes) IsSound
-    (λ frame is. subst IsSound (sym is) (sound-ping c.args.bytes (omega (arith, c.well_formed))))
+    (λ frame is. subst IsSound (sym is) (sound-ping-ack c.args.bytes (omega (arith, c.well_formed))))
     c.make_ping_ack.ensures
 
 pub returns-clause-written : goal.returns-clause-written
 returns-clause-written c = IfOk-weaker c.make_ping_ack.result (λ (frame : Frame). frame ≡ ping_ack c.args.bytes) (λ (frame : Frame). WritesDue (PingAck c.args.bytes) frame c.args.self.now c.args.self.now)
     (λ frame is run m. due-written run _ _ _ _ (PingAck c.args.bytes) _ _ _ _ (ping_ack c.args.bytes) is c.requires.begun c.requires.going c.requires.no_block
-    (ping-plain c.args.bytes) refl refl refl (λ e. cc) (sym c.requires.going) m)
+    (ping-ack-plain c.args.bytes) refl refl refl (λ e. cc) (sym c.requires.going) m)
     c.make_ping_ack.ensures
 
 pub returns-clause-own : goal.returns-clause-own
