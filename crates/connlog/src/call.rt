@@ -1,0 +1,175 @@
+//! What is known of a call that goes on.
+
+use crate::cause::{CallCause, Cause, HeadCause};
+use crate::fields::first_value;
+use crate::figures::shown;
+use crate::messages::Messages;
+use callhead::read_timeout;
+use lists::Field;
+use std::alloc::{AllocError, Global};
+
+/// What the paths of the methods begin with.
+const SERVICE: &[u8] = b"/grpc.testing.TestService/";
+
+/// A method of the test service.
+#[derive(Clone, Copy, Debug, PartialEq, Eq)]
+pub enum MethodName {
+    EmptyCall,
+    UnaryCall,
+    CacheableUnaryCall,
+    StreamingOutputCall,
+    StreamingInputCall,
+    FullDuplexCall,
+    HalfDuplexCall,
+}
+
+impl MethodName {
+    pub const ALL: [MethodName; 7] = [
+        MethodName::EmptyCall,
+        MethodName::UnaryCall,
+        MethodName::CacheableUnaryCall,
+        MethodName::StreamingOutputCall,
+        MethodName::StreamingInputCall,
+        MethodName::FullDuplexCall,
+        MethodName::HalfDuplexCall,
+    ];
+
+    pub fn text(self) -> &'static str {
+        match self {
+            MethodName::EmptyCall => "EmptyCall",
+            MethodName::UnaryCall => "UnaryCall",
+            MethodName::CacheableUnaryCall => "CacheableUnaryCall",
+            MethodName::StreamingOutputCall => "StreamingOutputCall",
+            MethodName::StreamingInputCall => "StreamingInputCall",
+            MethodName::FullDuplexCall => "FullDuplexCall",
+            MethodName::HalfDuplexCall => "HalfDuplexCall",
+        }
+    }
+
+    /// The method of a path.
+    fn of(path: &[u8]) -> Option<MethodName> {
+        let name = path.strip_prefix(SERVICE)?;
+        MethodName::ALL
+            .iter()
+            .find(|method| method.text().as_bytes() == name)
+            .copied()
+    }
+
+    /// Whether it takes exactly one message.
+    fn takes_one(self) -> bool {
+        match self {
+            MethodName::EmptyCall
+            | MethodName::UnaryCall
+            | MethodName::CacheableUnaryCall
+            | MethodName::StreamingOutputCall => true,
+            MethodName::StreamingInputCall
+            | MethodName::FullDuplexCall
+            | MethodName::HalfDuplexCall => false,
+        }
+    }
+}
+
+/// A stream that the client began.
+#[derive(Drop)]
+pub struct Call {
+    /// Its method, where it is a call of one.
+    pub method: Option<MethodName>,
+    /// Why it is refused, where it is.
+    pub refusal: Option<HeadCause>,
+    pub requests: Messages,
+    pub replies: Messages,
+    /// Whether the client ended its half, and whether the server ended its own.
+    pub has_end: bool,
+    pub is_answered: bool,
+    /// How many bytes of DATA the client may send.
+    pub came: i64,
+    /// The credit that it gave the server on the stream, less the DATA that came back.
+    pub credit: i64,
+    /// At which tick something was last sent on it, by either side.
+    pub heard: u64,
+    encoding: Option<String>,
+    timeout: Option<String>,
+}
+
+impl Call {
+    /// What the fields that open a stream begin, where they are a request. They are judged in the server's order.
+    pub fn begin(alloc: Global, fields: &[Field], now: u64) -> Result<Call, AllocError> {
+        let path = first_value(fields, b":path").unwrap_or(b"".as_slice());
+        let method = MethodName::of(path);
+        let refusal = match head_fault(alloc, fields)? {
+            None if method.is_none() => Some(HeadCause::Path(shown(alloc, path)?)),
+            fault => fault,
+        };
+        Ok(Call {
+            method: if refusal.is_some() { None } else { method },
+            refusal,
+            requests: Messages::NONE,
+            replies: Messages::NONE,
+            has_end: false,
+            is_answered: false,
+            came: 65_535,
+            credit: 0,
+            heard: now,
+            encoding: value_of(alloc, fields, b"grpc-encoding")?,
+            timeout: value_of(alloc, fields, b"grpc-timeout")?,
+        })
+    }
+
+    /// Why it ends with this status. It is told once.
+    pub fn why(&mut self, code: u32) -> Option<Cause> {
+        if let Some(refusal) = self.refusal.take() {
+            return Some(Cause::Head(refusal));
+        }
+        if code == 0 {
+            return None;
+        }
+        if let Some(fault) = self.requests.fault {
+            return Some(Cause::Call(CallCause::Prefix(fault, self.encoding.take())));
+        }
+        if code == 4 {
+            return Some(Cause::Call(CallCause::Deadline(self.timeout.take()?)));
+        }
+        if code != 13 || !self.has_end {
+            return None;
+        }
+        if let Some(cut) = self.requests.cut() {
+            return Some(Cause::Call(CallCause::Cut(cut)));
+        }
+        match self.method {
+            Some(method) if method.takes_one() && self.requests.count != 1 => {
+                Some(Cause::Call(CallCause::Count(self.requests.count)))
+            }
+            _ => None,
+        }
+    }
+}
+
+/// Why the fields of a request are not the head of a call (gRPC over HTTP/2, "Requests").
+fn head_fault(alloc: Global, fields: &[Field]) -> Result<Option<HeadCause>, AllocError> {
+    let method = first_value(fields, b":method").unwrap_or(b"".as_slice());
+    if method != b"POST".as_slice() {
+        return Ok(Some(HeadCause::Method(shown(alloc, method)?)));
+    }
+    let content_type = first_value(fields, b"content-type");
+    let is_grpc = match content_type {
+        Some(value) => value.starts_with(b"application/grpc"),
+        None => false,
+    };
+    if !is_grpc {
+        return Ok(Some(HeadCause::ContentType(value_of(alloc, fields, b"content-type")?)));
+    }
+    match first_value(fields, b"grpc-timeout") {
+        Some(text) if read_timeout(text).is_none() => {
+            Ok(Some(HeadCause::Timeout(shown(alloc, text)?)))
+        }
+        _ => Ok(None),
+    }
+}
+
+/// The front of the value of the first field with this name.
+fn value_of(alloc: Global, fields: &[Field], name: &[u8]) -> Result<Option<String>, AllocError> {
+    match first_value(fields, name) {
+        Some(value) => Ok(Some(shown(alloc, value)?)),
+        None => Ok(None),
+    }
+}
