@@ -4,8 +4,9 @@
 //! that makes a connection a call waits for no thread to start. A connection that stays keeps its thread, and one more is started
 //! for those that come. Where only so many are served, each has a thread of its own.
 
+use crate::log::{Log, Logged, ended_of};
 use crate::reporter::Reporter;
-use crate::stream::serve_stream;
+use crate::stream::{Ended, serve_stream};
 use handlers::Methods;
 use lane::Bell;
 use std::alloc::{AllocError, Global};
@@ -34,6 +35,8 @@ pub struct Service {
     pub methods: Arc<Methods>,
     /// Where each that has ended is reported on, if that is wanted.
     pub reporter: Option<Reporter>,
+    /// Where it is told what happens on them, if that is wanted.
+    pub log: Option<Arc<Log>>,
 }
 
 /// A port, and how many threads wait for a connection to it, those too that pause before they try again.
@@ -209,9 +212,25 @@ fn serve_one<R>(
 where
     R: Print + Threads + Wait + Clock + Copy + Send + Sync + Drop + 'static,
 {
-    let ended = serve_stream(rt, alloc, stream, &service.methods)?;
+    let logged = match &service.log {
+        Some(log) => Some(Logged::begin(&rt, alloc, log, peer)?),
+        None => None,
+    };
+    let ended = serve_stream(rt, alloc, stream, &service.methods, &logged);
+    if let Some(logged) = &logged {
+        logged.end(&rt, how_of(&ended));
+    }
+    let ended = ended?;
     if let Some(reporter) = &service.reporter {
         reporter.tell(&rt, alloc, &service.methods, peer, ended);
     }
     Ok(())
+}
+
+/// How a connection ended, as its log says it.
+fn how_of(ended: &io::Result<Ended>) -> connlog::Ended {
+    match ended {
+        Ok(ended) => ended_of(ended.ending),
+        Err(_) => connlog::Ended::ReadFailed,
+    }
 }

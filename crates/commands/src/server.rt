@@ -7,6 +7,7 @@ ghost use Rattle.cases.specs.declared.report.Outcome.{Outcome};
 
 use crate::client::{PATIENCE, Target, run_all_cases};
 use crate::listening::listen;
+use crate::log::Log;
 use crate::port::{Service, serve_all, serve_some};
 use crate::reporter::Reporter;
 use cases::ReportFault;
@@ -37,8 +38,42 @@ where
     } else {
         None
     };
-    let service = Service { methods, reporter };
-    match words.connections {
+    let Some(form) = words.log else {
+        let service = Service {
+            methods,
+            reporter,
+            log: None,
+        };
+        return serve_port(rt, alloc, listener, service, words.connections);
+    };
+    let log = Arc::new(alloc, Log::new(alloc, form))?;
+    let shared = Arc::try_clone(&log)?;
+    let printing = thread::spawn(&rt, move || {
+        shared.print_all(&rt, alloc);
+    })?;
+    let service = Service {
+        methods,
+        reporter,
+        log: Some(Arc::try_clone(&log)?),
+    };
+    let served = serve_port(rt, alloc, listener, service, words.connections);
+    log.close();
+    let _printed = printing.join(&rt);
+    served
+}
+
+/// Serves all connections that come, or so many.
+fn serve_port<R>(
+    rt: R,
+    alloc: Global,
+    listener: TcpListener,
+    service: Service,
+    connections: Option<u16>,
+) -> io::Result<()>
+where
+    R: Print + Threads + Wait + Clock + Copy + Send + Sync + Drop + 'static,
+{
+    match connections {
         Some(count) => serve_some(rt, alloc, &listener, service, count)?,
         None => serve_all(rt, alloc, listener, service)?,
     }
@@ -67,6 +102,7 @@ where
     let service = Service {
         methods,
         reporter: None,
+        log: None,
     };
     let serving = thread::spawn(&rt, move || {
         let _ended = serve_all(rt, alloc, listener, service);

@@ -25,6 +25,7 @@ pub any_port : meaning_of (codes "serve" ∷ codes "--any-port" ∷ codes "--hos
   port = Any;
   connections = None;
   has_report = false;
+  log = None;
 }))
 unfolding clap_on_literals command_meant
 any_port = refl

@@ -1,9 +1,9 @@
-//! `serve --port P`, or `serve --any-port`, with `--host H`, `--conns N` and `--report`.
+//! `serve --port P`, or `serve --any-port`, with `--host H`, `--conns N`, `--report`, `--log` and `--log-json`.
 
 ghost use Rattle.std.specs.Prelude.{◌≡◌, ◌≤◌, false, IfOk, IfSome, option_map};
 ghost use Rattle.clap.specs.Words.{app_of, found_of, rows_of};
 ghost use Rattle.words.specs.Options.{IsCommand, IsOption};
-ghost use Rattle.words.specs.Serve.{IsPort, host_option, port_of, serve_command, serving, serving_of};
+ghost use Rattle.words.specs.Serve.{IsPort, host_option, log_of, port_of, serve_command, serving, serving_of};
 
 use crate::options::{
     LOOPBACK, flag, has_flag, number_option, small_number_of, text_of, text_option,
@@ -20,6 +20,15 @@ pub enum Port {
     Any,
 }
 
+/// How the lines of a log are written.
+#[derive(Clone, Copy, Debug, PartialEq, Eq)]
+pub enum LogForm {
+    /// As text.
+    Text,
+    /// An object of JSON each.
+    Json,
+}
+
 /// What `serve` is told.
 #[derive(Clone, Copy, Debug, PartialEq, Eq)]
 pub struct ServeWords<'a> {
@@ -30,10 +39,13 @@ pub struct ServeWords<'a> {
     pub connections: Option<u16>,
     /// Whether it prints the report on each.
     pub has_report: bool,
+    /// How it tells what happens, as it does, if it does.
+    pub log: Option<LogForm>,
 }
 
 /// The words that it takes.
-pub(crate) const TAKES: &str = "--port P or --any-port, --host H, --conns N, --report";
+pub(crate) const TAKES: &str =
+    "--port P or --any-port, --host H, --conns N, --report, --log, --log-json";
 
 // `--host H`.
 fn host_option<'a>(alloc: Global) -> Arg<'a>
@@ -49,12 +61,16 @@ pub(crate) fn serve_command<'a>(alloc: Global) -> Result<Command<'a>, AllocError
     let any_port = flag(alloc, "any-port");
     let connections = number_option(alloc, "conns", "a number of connections, 1 to 65535");
     let report = flag(alloc, "report");
+    let log = flag(alloc, "log");
+    let log_json = flag(alloc, "log-json");
     Command::new(alloc, "serve")
         .arg(port)?
         .arg(any_port)?
         .arg(host_option(alloc))?
         .arg(connections)?
-        .arg(report)
+        .arg(report)?
+        .arg(log)?
+        .arg(log_json)
 }
 
 // The port that is given, or any: one of the two has to be said, and not both.
@@ -69,6 +85,19 @@ fn port_of(options: &ArgMatches<'_>) -> Option<Port>
     }
 }
 
+// The form of the log: where both are given it is JSON.
+fn log_of(options: &ArgMatches<'_>) -> Option<LogForm>
+    ensures { result ≡ log_of (rows_of (found_of options.now)) }
+{
+    if has_flag(options, "log-json") {
+        Some(LogForm::Json)
+    } else if has_flag(options, "log") {
+        Some(LogForm::Text)
+    } else {
+        None
+    }
+}
+
 pub(crate) fn serving_of<'a>(options: &ArgMatches<'a>) -> Option<ServeWords<'a>>
     ensures value { option_map serving result ≡ serving_of (rows_of (found_of options.now)) }
     ensures within { IfSome result (λ told. IsPort told.port) }
@@ -80,5 +109,6 @@ pub(crate) fn serving_of<'a>(options: &ArgMatches<'a>) -> Option<ServeWords<'a>>
         port,
         connections: small_number_of(options, "conns"),
         has_report: has_flag(options, "report"),
+        log: log_of(options),
     })
 }
