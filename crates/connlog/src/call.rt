@@ -1,5 +1,8 @@
 //! What is known of a call that goes on.
 
+ghost use Rattle.std.specs.Prelude.{◌≡◌, ◌++◌, codes, IfSome};
+ghost use Rattle.connlog.specs.Methods.{name_of};
+
 use crate::cause::{CallCause, Cause, HeadCause};
 use crate::fields::first_value;
 use crate::figures::shown;
@@ -34,7 +37,9 @@ impl MethodName {
         MethodName::HalfDuplexCall,
     ];
 
-    pub fn text(self) -> &'static str {
+    pub fn text(self) -> &'static str
+        ensures { result.now ≡ name_of self }
+    {
         match self {
             MethodName::EmptyCall => "EmptyCall",
             MethodName::UnaryCall => "UnaryCall",
@@ -47,7 +52,10 @@ impl MethodName {
     }
 
     /// The method of a path.
-    fn of(path: &[u8]) -> Option<MethodName> {
+    fn of(path: &[u8]) -> Option<MethodName>
+        ensures { IfSome result
+            (λ method. path.now ≡ codes "/grpc.testing.TestService/" ++ name_of method) }
+    {
         let name = path.strip_prefix(SERVICE)?;
         MethodName::ALL
             .iter()
@@ -100,9 +108,32 @@ impl Call {
             None if method.is_none() => Some(HeadCause::Path(shown(alloc, path)?)),
             fault => fault,
         };
+        let method = if refusal.is_some() { None } else { method };
         Ok(Call {
-            method: if refusal.is_some() { None } else { method },
             refusal,
+            encoding: value_of(alloc, fields, b"grpc-encoding")?,
+            timeout: value_of(alloc, fields, b"grpc-timeout")?,
+            ..Call::new(method, now)
+        })
+    }
+
+    /// What the head of a call begins that says no more than its method.
+    pub fn plain(method: MethodName, now: u64) -> Call {
+        Call::new(Some(method), now)
+    }
+
+    /// The method, where the head said no more.
+    pub fn plain_method(&self) -> Option<MethodName> {
+        if self.encoding.is_some() || self.timeout.is_some() {
+            return None;
+        }
+        self.method
+    }
+
+    fn new(method: Option<MethodName>, now: u64) -> Call {
+        Call {
+            method,
+            refusal: None,
             requests: Messages::NONE,
             replies: Messages::NONE,
             has_end: false,
@@ -110,9 +141,9 @@ impl Call {
             came: 65_535,
             credit: 0,
             heard: now,
-            encoding: value_of(alloc, fields, b"grpc-encoding")?,
-            timeout: value_of(alloc, fields, b"grpc-timeout")?,
-        })
+            encoding: None,
+            timeout: None,
+        }
     }
 
     /// Why it ends with this status. It is told once.

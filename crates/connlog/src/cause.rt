@@ -123,9 +123,7 @@ pub enum ServerCause {
     LiveCalls,
     /// All streams were begun that a connection may have.
     AllStreams,
-    /// DATA of so many bytes behind the end of the answer.
-    NotTaken(u32),
-    /// A piece of DATA for which the call has no room.
+    /// DATA for which the call has no room, or which it takes no more.
     NoRoom,
     /// The client sends nothing more.
     InputEnded,
@@ -479,11 +477,10 @@ impl fmt::Display for ServerCause {
                 f,
                 "it is the 4,096th stream, which is the last (RFC 9113, 6.8)"
             ),
-            ServerCause::NotTaken(length) => {
-                let length = ByteCount(u64::from(length));
-                write!(f, "DATA of {length} behind the end of the answer")
-            }
-            ServerCause::NoRoom => write!(f, "DATA in more pieces than the call has room for"),
+            ServerCause::NoRoom => write!(
+                f,
+                "DATA that the call has no room for, or takes no more"
+            ),
             ServerCause::InputEnded => write!(f, "the input ended before the client's half"),
             ServerCause::Left => write!(f, "the call was left"),
         }

@@ -1,7 +1,7 @@
 //! What the client's frames say, judged as the server judges them (RFC 9113, sections 3.4 to 6).
 
 use crate::call::Call;
-use crate::cause::{BlockCause, Cause, FrameCause, ServerCause, StreamCause, WindowCause};
+use crate::cause::{BlockCause, Cause, FrameCause, StreamCause, WindowCause};
 use crate::fields::{request_fault, trailers_fault};
 use crate::line::Event;
 use crate::place::place_of;
@@ -121,13 +121,19 @@ impl Seen {
         verdict: HalfVerdict,
         block: &[u8],
     ) -> Result<(), AllocError> {
+        if let (HalfVerdict::Open, Some(method)) = (verdict, self.plain_requests.get(block)) {
+            return self.begin_call(head, Call::plain(method, self.now));
+        }
         let fields = match self.requests.block(block) {
             Ok(fields) => fields,
             Err(HpackFault::OutOfMemory) => return Err(AllocError),
             Err(fault) => return self.block_fault(head.stream, block, fault),
         };
+        if verdict != HalfVerdict::Open {
+            self.plain_requests.learn(block, None)?;
+        }
         match verdict {
-            HalfVerdict::Open => self.begin(head, fields.as_slice()),
+            HalfVerdict::Open => self.begin(head, block, fields.as_slice()),
             HalfVerdict::Accept => self.client_trailers(head, fields.as_slice()),
             HalfVerdict::StreamError(error) => {
                 let cause = match error {
@@ -160,20 +166,34 @@ impl Seen {
         self.fail(error, Cause::Block(cause))
     }
 
-    /// A stream begins with these fields.
-    fn begin(&mut self, head: &FrameHead, fields: &[Field]) -> Result<(), AllocError> {
+    /// A stream begins with these fields, which are those of the block.
+    fn begin(
+        &mut self,
+        head: &FrameHead,
+        block: &[u8],
+        fields: &[Field],
+    ) -> Result<(), AllocError> {
         let stream = head.stream;
         self.greatest = self.greatest.max(stream);
         if let Some(fault) = request_fault(self.alloc, fields)? {
+            self.plain_requests.learn(block, None)?;
             self.cut(stream)?;
             return self.blame(stream, ErrorCode::ProtocolError, Cause::Fields(fault));
         }
-        let mut call = Call::begin(self.alloc, fields, self.now)?;
+        let call = Call::begin(self.alloc, fields, self.now)?;
+        self.plain_requests.learn(block, call.plain_method())?;
+        self.begin_call(head, call)
+    }
+
+    /// A stream begins with the head of this call.
+    fn begin_call(&mut self, head: &FrameHead, call: Call) -> Result<(), AllocError> {
+        let mut call = call;
+        self.greatest = self.greatest.max(head.stream);
         if call.method.is_some() {
             self.begun = self.begun.saturating_add(1);
         }
         call.has_end = head.flags.contains(Flags::END_STREAM);
-        let _before = self.calls.insert(stream, call)?;
+        let _before = self.calls.insert(head.stream, call)?;
         Ok(())
     }
 
@@ -236,12 +256,8 @@ impl Seen {
             return Ok(());
         };
         call.heard = now;
-        let (left, is_answered) = (call.came, call.is_answered);
+        let left = call.came;
         call.came = left.saturating_sub(i64::from(head.length));
-        if is_answered && head.length > 0 {
-            let cause = Cause::Server(ServerCause::NotTaken(head.length));
-            return self.blame(head.stream, ErrorCode::EnhanceYourCalm, cause);
-        }
         if i64::from(head.length) > left {
             let cause = Cause::Window(WindowCause::Stream(*head, left));
             return self.blame(head.stream, ErrorCode::FlowControlError, cause);

@@ -5,7 +5,7 @@
 //! names it once the server acts on it. So a cause can at worst be missing.
 //!
 //! Read `walk`, the frames of one direction, and `messages`, those of a call's DATA; `cause`, each rule with its figures and its text;
-//! `fields` and `place`, which field and which byte of a header block it is; `call`, what is known of one; `line`, what a line says;
+//! `fields` and `place`, which field and which byte of a header block it is; `call`, what is known of one; `known`, blocks that were read before; `line`, what a line says;
 //! then `seen` with `client` and `server`, what the frames of both sides come to, and `observer`.
 #![tactic(auto)]
 
@@ -14,14 +14,13 @@ mod cause;
 mod client;
 mod fields;
 mod figures;
+mod known;
 mod line;
 mod messages;
 mod observer;
 mod place;
 mod seen;
 mod server;
-#[cfg(test)]
-mod tests;
 mod walk;
 
 pub use line::{Ended, Line};

@@ -113,7 +113,7 @@ impl Messages {
             flag => Some(PrefixFault::Flag(flag)),
         };
         self.left = self.said;
-        if self.said == 0 {
+        if self.said == 0 && self.fault.is_none() {
             self.end();
         }
     }

@@ -1,7 +1,12 @@
 //! What is known of a connection by the frames of both sides, and the lines that tell of it.
 
-use crate::call::Call;
+ghost use Rattle.std.specs.Prelude.{◌≡◌, ◌<◌, ◌≤◌, ◌++◌, ◌∷◌, [], ◌%◌, IfSome, OnOk};
+ghost use Rattle.std.specs.List.{IsAmong};
+ghost use Rattle.connlog.specs.declared.cause.StreamCause.TheVariants as causes;
+
+use crate::call::{Call, MethodName};
 use crate::cause::{Cause, ServerCause, StreamCause};
+use crate::known::Known;
 use crate::line::{Ended, Event, Line, Status, Traffic, Waiting};
 use flow::{HalfVerdict, Halves, INITIAL_WINDOW};
 use h2frame::{ErrorCode, Flags, FrameHead, FrameKind, StreamId};
@@ -37,6 +42,9 @@ pub struct Seen {
     pub alloc: Global,
     pub requests: Decoder,
     pub responses: Decoder,
+    /// Blocks that were read before: of requests that say no more than their method, and of trailers that have no more than a code.
+    pub plain_requests: Known<MethodName>,
+    pub plain_trailers: Known<u32>,
     /// The blocks that the client and the server have begun.
     pub request: Block,
     pub response: Block,
@@ -69,6 +77,8 @@ impl Seen {
             alloc,
             requests: Decoder::new(alloc),
             responses: Decoder::new(alloc),
+            plain_requests: Known::new(alloc),
+            plain_trailers: Known::new(alloc),
             request: Block::new(alloc),
             response: Block::new(alloc),
             halves: Halves::new(alloc),
@@ -93,7 +103,10 @@ impl Seen {
         stream: StreamId,
         error: ErrorCode,
         cause: Cause,
-    ) -> Result<(), AllocError> {
+    ) -> Result<(), AllocError>
+        ensures noted { OnOk result (IsAmong self.new.blames.items
+            (record { stream = stream; error = error; cause = cause })) }
+    {
         if self.blames.len() >= MOST_BLAMES {
             self.blames.clear();
         }
@@ -112,7 +125,10 @@ impl Seen {
     }
 
     /// Why a stream, or at 0 the connection, has ended with this error: the first cause that was noted.
-    pub fn cause_of(&mut self, stream: StreamId, error: ErrorCode) -> Option<Cause> {
+    pub fn cause_of(&mut self, stream: StreamId, error: ErrorCode) -> Option<Cause>
+        ensures noted { IfSome result (λ cause. IsAmong self.old.blames.items
+            (record { stream = stream; error = error; cause = cause })) }
+    {
         let at = self
             .blames
             .iter()
@@ -146,7 +162,13 @@ impl Seen {
     }
 
     /// Why a frame is an error of the connection by the state of its stream.
-    fn state_cause(&self, head: FrameHead) -> StreamCause {
+    fn state_cause(&self, head: FrameHead) -> StreamCause
+        ensures even { head.stream % 2 ≡ 0 → result ≡ causes.Even head }
+        ensures idle { head.stream % 2 ≡ 1 → self.now.greatest < head.stream
+            → result ≡ causes.Idle head }
+        ensures skipped { head.stream % 2 ≡ 1 → head.stream ≤ self.now.greatest
+            → result ≡ causes.Skipped head self.now.greatest }
+    {
         if head.stream % 2 == 0 {
             StreamCause::Even(head)
         } else if head.stream > self.greatest {

@@ -3,6 +3,7 @@
 use crate::client::number;
 use crate::fields::first_value;
 use crate::figures::shown;
+use crate::known::is_indexed;
 use crate::line::Status;
 use crate::seen::Seen;
 use crate::walk::Part;
@@ -69,18 +70,29 @@ impl Seen {
 
     /// A header block of the server is whole.
     fn reply_block(&mut self, head: &FrameHead, block: &[u8]) -> Result<(), AllocError> {
+        let is_last = head.flags.contains(Flags::END_STREAM);
+        if is_last {
+            if let Some(code) = self.plain_trailers.get(block) {
+                return self.answer(head.stream, Status::Grpc(code, String::new(self.alloc)));
+            }
+        } else {
+            let now = self.now;
+            if let Some(call) = self.calls.get_mut(&head.stream) {
+                call.heard = now;
+            }
+            if is_indexed(block) {
+                return Ok(());
+            }
+        }
         let Ok(fields) = self.responses.block(block) else {
             return Err(AllocError);
         };
-        if head.flags.contains(Flags::END_STREAM) {
-            let status = status_of(self.alloc, fields.as_slice())?;
-            return self.answer(head.stream, status);
+        if !is_last {
+            return self.plain_trailers.learn(block, None);
         }
-        let now = self.now;
-        if let Some(call) = self.calls.get_mut(&head.stream) {
-            call.heard = now;
-        }
-        Ok(())
+        let status = status_of(self.alloc, fields.as_slice())?;
+        self.plain_trailers.learn(block, plain_code(&status))?;
+        self.answer(head.stream, status)
     }
 
     /// DATA of the server begin.
@@ -101,6 +113,14 @@ impl Seen {
         } else if let Some(call) = self.calls.get_mut(&head.stream) {
             call.came = call.came.saturating_add(increment);
         }
+    }
+}
+
+/// The code of a status without a text.
+fn plain_code(status: &Status) -> Option<u32> {
+    match status {
+        Status::Grpc(code, text) if text.is_empty() => Some(*code),
+        _ => None,
     }
 }
 
