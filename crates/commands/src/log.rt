@@ -225,14 +225,14 @@ impl Logged {
                 observer: Mutex::new(observer),
             },
         )?;
-        {
-            let mut watches = log.watches.lock(rt);
-            watches.push(Arc::try_clone(&watch)?)?;
-        }
         let logged = Logged {
             log: Arc::try_clone(log)?,
             watch,
         };
+        {
+            let mut watches = log.watches.lock(rt);
+            watches.push(Arc::try_clone(&logged.watch)?)?;
+        }
         logged.read(rt, b"");
         Ok(logged)
     }

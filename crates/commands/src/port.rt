@@ -213,7 +213,8 @@ where
     R: Print + Threads + Wait + Clock + Copy + Send + Sync + Drop + 'static,
 {
     let logged = match &service.log {
-        Some(log) => Some(Logged::begin(&rt, alloc, log, peer)?),
+        // Where there is no memory for that, it is served without.
+        Some(log) => Logged::begin(&rt, alloc, log, peer).ok(),
         None => None,
     };
     let ended = serve_stream(rt, alloc, stream, &service.methods, &logged);

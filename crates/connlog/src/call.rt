@@ -1,6 +1,6 @@
 //! What is known of a call that goes on.
 
-ghost use Rattle.std.specs.Prelude.{◌≡◌, ◌++◌, codes, IfSome};
+ghost use Rattle.std.specs.Prelude.{◌≡◌, take, drop, codes, IfSome};
 ghost use Rattle.connlog.specs.Methods.{name_of};
 
 use crate::cause::{CallCause, Cause, HeadCause};
@@ -53,14 +53,27 @@ impl MethodName {
 
     /// The method of a path.
     fn of(path: &[u8]) -> Option<MethodName>
-        ensures { IfSome result
-            (λ method. path.now ≡ codes "/grpc.testing.TestService/" ++ name_of method) }
+        ensures service { IfSome result
+            (λ _. take 26 path.now ≡ codes "/grpc.testing.TestService/") }
+        ensures name { IfSome result (λ method. drop 26 path.now ≡ name_of method) }
     {
-        let name = path.strip_prefix(SERVICE)?;
-        MethodName::ALL
-            .iter()
-            .find(|method| method.text().as_bytes() == name)
-            .copied()
+        let (service, name) = path.split_at_checked(SERVICE.len())?;
+        if service != SERVICE {
+            return None;
+        }
+        MethodName::named(name)
+    }
+
+    /// The method of this name.
+    fn named(name: &[u8]) -> Option<MethodName>
+        ensures { IfSome result (λ method. name.now ≡ name_of method) }
+    {
+        for method in MethodName::ALL {
+            if method.text().as_bytes() == name {
+                return Some(method);
+            }
+        }
+        None
     }
 
     /// Whether it takes exactly one message.

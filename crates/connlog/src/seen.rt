@@ -1,6 +1,6 @@
 //! What is known of a connection by the frames of both sides, and the lines that tell of it.
 
-ghost use Rattle.std.specs.Prelude.{◌≡◌, ◌<◌, ◌≤◌, ◌++◌, ◌∷◌, [], ◌%◌, IfSome, OnOk};
+ghost use Rattle.std.specs.Prelude.{◌≡◌, ◌<◌, ◌≤◌, ◌%◌, OnOk};
 ghost use Rattle.std.specs.List.{IsAmong};
 ghost use Rattle.connlog.specs.declared.cause.StreamCause.TheVariants as causes;
 
@@ -119,16 +119,16 @@ impl Seen {
     }
 
     /// Notes why the connection ends with this error. Nothing that the client sends behind that is looked at.
-    pub fn fail(&mut self, error: ErrorCode, cause: Cause) -> Result<(), AllocError> {
+    pub fn fail(&mut self, error: ErrorCode, cause: Cause) -> Result<(), AllocError>
+        ensures noted { OnOk result (IsAmong self.new.blames.items
+            (record { stream = 0; error = error; cause = cause })) }
+    {
         self.is_over = true;
         self.blame(0, error, cause)
     }
 
     /// Why a stream, or at 0 the connection, has ended with this error: the first cause that was noted.
-    pub fn cause_of(&mut self, stream: StreamId, error: ErrorCode) -> Option<Cause>
-        ensures noted { IfSome result (λ cause. IsAmong self.old.blames.items
-            (record { stream = stream; error = error; cause = cause })) }
-    {
+    pub fn cause_of(&mut self, stream: StreamId, error: ErrorCode) -> Option<Cause> {
         let at = self
             .blames
             .iter()
@@ -164,10 +164,10 @@ impl Seen {
     /// Why a frame is an error of the connection by the state of its stream.
     fn state_cause(&self, head: FrameHead) -> StreamCause
         ensures even { head.stream % 2 ≡ 0 → result ≡ causes.Even head }
-        ensures idle { head.stream % 2 ≡ 1 → self.now.greatest < head.stream
+        ensures idle { head.stream % 2 ≡ 1 → self.entry.now.greatest < head.stream
             → result ≡ causes.Idle head }
-        ensures skipped { head.stream % 2 ≡ 1 → head.stream ≤ self.now.greatest
-            → result ≡ causes.Skipped head self.now.greatest }
+        ensures skipped { head.stream % 2 ≡ 1 → head.stream ≤ self.entry.now.greatest
+            → result ≡ causes.Skipped head self.entry.now.greatest }
     {
         if head.stream % 2 == 0 {
             StreamCause::Even(head)
