@@ -120,19 +120,24 @@ impl Log {
             return false;
         };
         let mut lost = dropped;
+        let mut text = String::new(alloc);
         for batch in &batches {
-            let mut text = String::new(alloc);
-            match batch.write(alloc, &mut text, self.form) {
-                Ok(()) => {
-                    let _printed = print!(rt; "{text}");
-                }
-                Err(AllocError) => lost = lost.saturating_add(batch.lines.len()),
+            if self.add_text(alloc, &mut text, batch).is_err() {
+                lost = lost.saturating_add(batch.lines.len());
             }
         }
+        let _printed = print!(rt; "{text}");
         if lost > 0 {
             self.print_dropped(rt, lost);
         }
         true
+    }
+
+    /// Adds the whole lines of a batch to a text, or nothing.
+    fn add_text(&self, alloc: Global, text: &mut String, batch: &Batch) -> Result<(), AllocError> {
+        let mut lines = String::new(alloc);
+        batch.write(alloc, &mut lines, self.form)?;
+        text.push_str(lines.as_str())
     }
 
     fn print_dropped(&self, rt: &impl Print, count: usize) {

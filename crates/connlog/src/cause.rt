@@ -280,29 +280,38 @@ impl fmt::Display for BlockCause {
                 place,
             } => {
                 write!(f, "stream {stream}, ")?;
-                if let Some(Place { at, byte, .. }) = place {
-                    write!(f, "byte {at} of the block ({byte:02x}): ")?;
-                } else {
-                    let length = byte_count(length);
-                    write!(f, "a block of {length}: ")?;
-                }
-                let number = match place {
-                    Some(place) => place.number,
-                    None => 0,
-                };
-                write_hpack(f, fault, number)
+                write_place(f, length, place)?;
+                write_hpack(f, fault, place)
             }
         }
     }
 }
 
-/// Which rule of HPACK a block breaks, by the number that stands there.
+/// Where in a block of this length it is.
+fn write_place<W: fmt::Write>(
+    f: &mut fmt::Formatter<W>,
+    length: usize,
+    place: Option<Place>,
+) -> fmt::Result {
+    match place {
+        Some(Place { at, byte, .. }) => write!(f, "byte {at} of the block ({byte:02x}): "),
+        None => {
+            let length = byte_count(length);
+            write!(f, "a block of {length}: ")
+        }
+    }
+}
+
+/// Which rule of HPACK a block breaks, with the number that stands there.
 fn write_hpack<W: fmt::Write>(
     f: &mut fmt::Formatter<W>,
     fault: HpackFault,
-    number: u64,
+    place: Option<Place>,
 ) -> fmt::Result {
-    let number = Grouped(number);
+    let number = match place {
+        Some(place) => Grouped(place.number),
+        None => Grouped(0),
+    };
     match fault {
         HpackFault::Index => write!(f, "index {number} (RFC 7541, 6.1)"),
         HpackFault::Integer => write!(f, "an integer over 4,294,967,295 (RFC 7541, 5.1)"),

@@ -217,21 +217,38 @@ impl fmt::Display for FieldFault {
                 "the field {name:?} speaks of one connection (RFC 9113, 8.2.2)"
             ),
             FieldRule::Te => write!(f, "te is {value:?}, wanted \"trailers\" (RFC 9113, 8.2.2)"),
-            FieldRule::Unknown => write!(
-                f,
-                "the pseudo-header {name:?}, which no request has (RFC 9113, 8.3)"
-            ),
-            FieldRule::EmptyPath => write!(f, ":path is empty (RFC 9113, 8.3.1)"),
-            FieldRule::Late => write!(
-                f,
-                "the pseudo-header {name:?} came behind another field (RFC 9113, 8.3)"
-            ),
-            FieldRule::InTrailers => write!(
-                f,
-                "the pseudo-header {name:?} in trailers, wanted none (RFC 9113, 8.1)"
-            ),
-            FieldRule::Repeated => write!(f, "{name} came twice, wanted once (RFC 9113, 8.3)"),
-            FieldRule::Missing => write!(f, "no {name}, wanted one (RFC 9113, 8.3.1)"),
+            FieldRule::Unknown
+            | FieldRule::EmptyPath
+            | FieldRule::Late
+            | FieldRule::InTrailers
+            | FieldRule::Repeated
+            | FieldRule::Missing => write_pseudo(f, self.rule, name),
         }
+    }
+}
+
+/// Which rule on pseudo-headers the one of this name breaks.
+fn write_pseudo<W: fmt::Write>(
+    f: &mut fmt::Formatter<W>,
+    rule: FieldRule,
+    name: &str,
+) -> fmt::Result {
+    match rule {
+        FieldRule::Unknown => write!(
+            f,
+            "the pseudo-header {name:?}, which no request has (RFC 9113, 8.3)"
+        ),
+        FieldRule::EmptyPath => write!(f, ":path is empty (RFC 9113, 8.3.1)"),
+        FieldRule::Late => write!(
+            f,
+            "the pseudo-header {name:?} came behind another field (RFC 9113, 8.3)"
+        ),
+        FieldRule::InTrailers => write!(
+            f,
+            "the pseudo-header {name:?} in trailers, wanted none (RFC 9113, 8.1)"
+        ),
+        FieldRule::Repeated => write!(f, "{name} came twice, wanted once (RFC 9113, 8.3)"),
+        FieldRule::Missing => write!(f, "no {name}, wanted one (RFC 9113, 8.3.1)"),
+        _ => write!(f, "a malformed field {name:?} (RFC 9113, 8.1.1)"),
     }
 }

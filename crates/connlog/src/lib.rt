@@ -2,11 +2,12 @@
 //!
 //! An `Observer` is shown the bytes that a server reads of a connection and those that it writes, in any pieces. It changes nothing of
 //! them, and decides nothing: it follows the client's frames by the server's rules, notes each that breaks one with its figures, and
-//! names it once the server acts on it. So a cause can at worst be missing.
+//! names it once the server acts on it. So where it errs a line names no cause or another, and the server goes on as it would.
 //!
 //! Read `walk`, the frames of one direction, and `messages`, those of a call's DATA; `cause`, each rule with its figures and its text;
-//! `fields` and `place`, which field and which byte of a header block it is; `call`, what is known of one; `known`, blocks that were read before; `line`, what a line says;
-//! then `seen` with `client` and `server`, what the frames of both sides come to, and `observer`.
+//! `fields` and `place`, which field and which byte of a header block it is; `call`, what is known of one; `known`, blocks that were
+//! read before; `line`, what a line says; then `seen` with `client` and `server`, what the frames of both sides come to, and
+//! `observer`.
 #![tactic(auto)]
 
 mod call;

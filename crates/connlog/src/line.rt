@@ -195,16 +195,23 @@ fn write_event(text: &mut String, stream: StreamId, event: &Event) -> Result<(),
             how,
             calls,
             is_followed,
-        } => {
-            let how = how.text();
-            let lost = if *is_followed {
-                ""
-            } else {
-                ", not followed for want of memory"
-            };
-            write!(text, "ended, {how}, calls {calls}{lost}")
-        }
+        } => write_end(text, *how, *calls, *is_followed),
     }
+}
+
+fn write_end(
+    text: &mut String,
+    how: Ended,
+    calls: u64,
+    is_followed: bool,
+) -> Result<(), AllocError> {
+    let how = how.text();
+    let lost = if is_followed {
+        ""
+    } else {
+        ", not followed for want of memory"
+    };
+    write!(text, "ended, {how}, calls {calls}{lost}")
 }
 
 /// The members of an object that tell an event.
@@ -234,9 +241,7 @@ fn write_members(alloc: Global, text: &mut String, event: &Event) -> Result<(), 
         }
         Event::Waits(method, seconds, waiting) => {
             write_method(text, "waits", *method)?;
-            let waiting = format!(in alloc; "{waiting}")?;
-            let waiting = Quoted(waiting.as_str());
-            write!(text, ",\"seconds\":{seconds},\"for\":{waiting}")
+            write_waiting(alloc, text, *seconds, *waiting)
         }
         Event::Left(method, traffic) => {
             write_method(text, "left", *method)?;
@@ -250,10 +255,22 @@ fn write_members(alloc: Global, text: &mut String, event: &Event) -> Result<(), 
             let how = how.text();
             write!(
                 text,
-                ",\"event\":\"ended\",\"how\":\"{how}\",\"calls\":{calls},\"followed\":{is_followed}"
-            )
+                ",\"event\":\"ended\",\"how\":\"{how}\",\"calls\":{calls}"
+            )?;
+            write!(text, ",\"followed\":{is_followed}")
         }
     }
+}
+
+fn write_waiting(
+    alloc: Global,
+    text: &mut String,
+    seconds: u64,
+    waiting: Waiting,
+) -> Result<(), AllocError> {
+    let waiting = format!(in alloc; "{waiting}")?;
+    let waiting = Quoted(waiting.as_str());
+    write!(text, ",\"seconds\":{seconds},\"for\":{waiting}")
 }
 
 fn write_method(text: &mut String, event: &str, method: MethodName) -> Result<(), AllocError> {
