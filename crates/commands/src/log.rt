@@ -39,6 +39,19 @@ pub struct Log {
     is_closed: AtomicBool,
 }
 
+/// A log that connections are shown to. Who serves them takes it as a type parameter: that threads may share it is then shown once,
+/// and not again together with all else that they share.
+pub trait Logs {
+    /// A connection of this peer begins. Where there is no memory for that, it isn't followed.
+    fn begin<R: Wait>(log: &Arc<Self>, rt: &R, alloc: Global, peer: SocketAddr) -> Option<Logged>;
+}
+
+impl Logs for Log {
+    fn begin<R: Wait>(log: &Arc<Log>, rt: &R, alloc: Global, peer: SocketAddr) -> Option<Logged> {
+        Logged::begin(rt, alloc, log, peer).ok()
+    }
+}
+
 /// What the log knows of a connection.
 #[derive(Drop)]
 pub struct Watch {

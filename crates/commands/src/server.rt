@@ -39,7 +39,7 @@ where
         None
     };
     let Some(form) = words.log else {
-        let service = Service {
+        let service: Service<Log> = Service {
             methods,
             reporter,
             log: None,
@@ -67,7 +67,7 @@ fn serve_port<R>(
     rt: R,
     alloc: Global,
     listener: TcpListener,
-    service: Service,
+    service: Service<Log>,
     connections: Option<u16>,
 ) -> io::Result<()>
 where
@@ -99,7 +99,7 @@ where
         × (passed ≡ have_passed outcomes)) }
 {
     let alloc = rt.alloc();
-    let service = Service {
+    let service: Service<Log> = Service {
         methods,
         reporter: None,
         log: None,
