@@ -3,7 +3,7 @@
 //! Whoever reads or writes a connection shows the bytes to its `Watch`, and leaves the lines that come of it here; one thread of the
 //! log's own prints them. So printing holds nobody up: where too many lines wait, they are counted in place of being kept.
 
-ghost use Rattle.std.specs.Prelude.{◌≡◌, ◌<◌, ◌≤◌, ◌+◌, ◌^◌, IfSome, IfNone, OnOk, OnErr};
+ghost use Rattle.std.specs.Prelude.{◌≡◌, ◌<◌, ◌≤◌, ◌+◌, ◌^◌, IfSome, IfNone, OnOk, OnErr, vec_len};
 
 use connection::Ending;
 use connlog::{Ended, Line, Observer};
@@ -329,6 +329,9 @@ impl Batch {
 impl Waiting {
     /// Adds lines, or counts them as dropped.
     fn put(&mut self, batch: Batch)
+        ensures counted { self.old.lines + self.old.dropped + vec_len batch.lines < 2 ^ 64
+            → self.new.lines + self.new.dropped
+            ≡ self.old.lines + self.old.dropped + vec_len batch.lines }
         ensures few { self.old.lines ≤ 16384 → self.new.lines ≤ 16384 }
     {
         let count = batch.lines.len();
@@ -339,6 +342,9 @@ impl Waiting {
 
     /// Adds lines, if there is room for them. Behind lines that were dropped there is none.
     fn add(&mut self, batch: Batch) -> Result<(), AllocError>
+        ensures added { OnOk result
+            ((self.new.lines ≡ self.old.lines + vec_len batch.lines)
+            × (self.new.dropped ≡ self.old.dropped)) }
         ensures few { OnOk result (self.new.lines ≤ 16384) }
         ensures order { OnOk result (self.old.dropped ≡ 0) }
         ensures unchanged { OnErr result ((self.new.lines ≡ self.old.lines)

@@ -314,7 +314,10 @@ fn write_hpack<W: fmt::Write>(
     };
     match fault {
         HpackFault::Index => write!(f, "index {number} (RFC 7541, 6.1)"),
-        HpackFault::Integer => write!(f, "an integer over 4,294,967,295 (RFC 7541, 5.1)"),
+        HpackFault::Integer => write!(
+            f,
+            "an integer over 4,294,967,295, or of over six bytes (RFC 7541, 5.1)"
+        ),
         HpackFault::Huffman => write!(f, "a text that is no Huffman text (RFC 7541, 5.2)"),
         HpackFault::SizeUpdate => write!(
             f,

@@ -260,7 +260,7 @@ impl Seen {
             if call.is_answered || waited != PATIENCE + 1 {
                 continue;
             }
-            let waiting = waiting_of(call, self.sends, self.initial);
+            let waiting = waiting_of(call, method, self.sends, self.initial);
             self.lines.push(Line {
                 stream: *stream,
                 event: Event::Waits(method, PATIENCE, waiting),
@@ -322,10 +322,14 @@ fn own_cause(error: ErrorCode) -> Option<Cause> {
     }
 }
 
-/// What a call waits for, where the server may send so many bytes on the connection, and at first on each stream.
-fn waiting_of(call: &Call, sends: i64, initial: i64) -> Waiting {
+/// What a call waits for, where the server may send so many bytes on the connection, and at first on each stream. Before the client's
+/// end a full-duplex call alone may have something to send.
+fn waiting_of(call: &Call, method: MethodName, sends: i64, initial: i64) -> Waiting {
     let window = initial.saturating_add(call.credit);
-    if window <= 0 {
+    let may_send = method == MethodName::FullDuplexCall && call.requests.count > 0;
+    if !call.has_end && !may_send {
+        Waiting::End(call.requests.count)
+    } else if window <= 0 {
         Waiting::Stream(window)
     } else if sends <= 0 {
         Waiting::Connection(sends)
