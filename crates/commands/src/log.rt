@@ -34,6 +34,8 @@ pub struct Log {
     /// Those that go on.
     watches: Mutex<Vec<Arc<Watch>>>,
     waiting: Mutex<Waiting>,
+    /// Held by whoever prints, so that no line stands inside one of a report.
+    turn: Arc<Mutex<()>>,
     /// Rung where lines were left, and where no more will come.
     bell: Bell,
     is_closed: AtomicBool,
@@ -84,7 +86,7 @@ struct Waiting {
 }
 
 impl Log {
-    pub fn new(alloc: Global, form: LogForm) -> Log {
+    pub fn new(alloc: Global, form: LogForm, turn: Arc<Mutex<()>>) -> Log {
         Log {
             form,
             begun: AtomicU64::new(0),
@@ -94,6 +96,7 @@ impl Log {
                 lines: 0,
                 dropped: 0,
             }),
+            turn,
             bell: Bell::new(),
             is_closed: AtomicBool::new(false),
         }
@@ -139,6 +142,7 @@ impl Log {
                 lost = lost.saturating_add(batch.lines.len());
             }
         }
+        let _turn = self.turn.lock(rt);
         let _printed = print!(rt; "{text}");
         if lost > 0 {
             self.print_dropped(rt, lost);

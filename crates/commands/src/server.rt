@@ -15,7 +15,7 @@ use device::ConnWrite;
 use handlers::Methods;
 use std::alloc::Global;
 use std::net::{Net, TcpListener, TcpStream};
-use std::sync::{Arc, Wait};
+use std::sync::{Arc, Mutex, Wait};
 use std::thread::Threads;
 use std::time::Clock;
 use std::{io, thread};
@@ -33,8 +33,9 @@ where
     let listener = listen(&rt, words.host, words.port)?;
     let address = listener.local_addr()?;
     println!(rt; "listening {address}")?;
+    let turn = Arc::new(alloc, Mutex::new(()))?;
     let reporter = if words.has_report {
-        Some(Reporter::new(alloc))
+        Some(Reporter::new(alloc, Arc::try_clone(&turn)?))
     } else {
         None
     };
@@ -46,17 +47,32 @@ where
         };
         return serve_port(rt, alloc, listener, service, words.connections);
     };
-    let log = Arc::new(alloc, Log::new(alloc, form))?;
-    let shared = Arc::try_clone(&log)?;
-    let printing = thread::spawn(&rt, move || {
-        shared.print_all(&rt, alloc);
-    })?;
+    let log = Arc::new(alloc, Log::new(alloc, form, turn))?;
     let service = Service {
         methods,
         reporter,
         log: Some(Arc::try_clone(&log)?),
     };
-    let served = serve_port(rt, alloc, listener, service, words.connections);
+    serve_logged(rt, alloc, listener, service, log, words.connections)
+}
+
+/// Serves all connections that come, or so many, while a thread of its own prints the lines of their log.
+fn serve_logged<R>(
+    rt: R,
+    alloc: Global,
+    listener: TcpListener,
+    service: Service<Log>,
+    log: Arc<Log>,
+    connections: Option<u16>,
+) -> io::Result<()>
+where
+    R: Print + Threads + Wait + Clock + Copy + Send + Sync + Drop + 'static,
+{
+    let shared = Arc::try_clone(&log)?;
+    let printing = thread::spawn(&rt, move || {
+        shared.print_all(&rt, alloc);
+    })?;
+    let served = serve_port(rt, alloc, listener, service, connections);
     log.close();
     let _printed = printing.join(&rt);
     served
