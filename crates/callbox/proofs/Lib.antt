@@ -3,3 +3,4 @@ pub mod TakerLemmas
 pub mod OutLemmas
 pub mod SlotLemmas
 pub mod RunLemmas
+mod CountLemmas

@@ -4,3 +4,4 @@ pub mod OutSides
 pub mod OutAccounts
 pub mod Slots
 pub mod SlotRuns
+pub mod Counts

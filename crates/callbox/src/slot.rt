@@ -1,12 +1,13 @@
 //! The four ends of a slot, which served one call after another, brought together.
 
 ghost use Rattle.std.specs.Prelude.{◌≡◌, ℕ, true, List, [], ◌∷◌, ◌++◌};
+ghost use mathlib.Core.List.{IsPrefix};
 ghost use Rattle.lane.specs.Cuts.{segment};
 ghost use Rattle.lane.specs.End.{of_end};
 ghost use Rattle.lane.specs.Follows.{Follows};
 ghost use Rattle.callbox.specs.InSides.{all_end_at_shut};
 ghost use Rattle.account.specs.Accounts.{IsResponse};
-ghost use Rattle.callbox.specs.Slots.{EachBegins, EachLawful, EachTook, IsLawfulIn, IsUnsent, TakenCall};
+ghost use Rattle.callbox.specs.Slots.{EachBegins, EachLawful, EachTook, IsLawfulIn, TakenCall};
 
 use crate::{FedShut, Feeder, GivenShut, Giver, InPiece, Sender, Taker};
 use account::OutItem;
@@ -38,28 +39,6 @@ pub fn settle_slot<I: Lane<Item = InPiece>, O: Lane<Item = OutItem>>(
     meet_out(given, sender);
 }
 
-/// Brings the ends of one slot together but for the sender, wherever they are: then each of its calls has a lawful account, of which
-/// nothing is known to be sent.
-///
-/// What was taken of a call is for the holder of the taker to say, of each call alone.
-pub fn settle_unsent<I: Lane<Item = InPiece>, O: Lane<Item = OutItem>>(
-    fed: End<Feeder<I>, FedShut<I>>,
-    taker: Taker<I>,
-    given: End<Giver<O>, GivenShut<O>>,
-)
-    requires one_in { I.ring_of (of_end (λ f. I.in_name f.tx) (λ s. I.shut_name s.shut) fed)
-        ≡ I.ring_of (I.out_name taker.rx) }
-    ensures accounts { (n : ℕ) → IsUnsent
-        (segment (of_end (λ f. I.past_in f.tx) (λ s. I.past_shut s.shut) fed
-        ++ of_end (λ f. I.put_in f.tx) (λ s. I.put_shut s.shut) fed ∷ []) n)
-        (segment (I.past_out taker.rx ++ I.got taker.rx ∷ []) n)
-        (segment (of_end (λ g. O.past_in g.tx) (λ s. O.past_shut s.shut) given
-        ++ of_end (λ g. O.put_in g.tx) (λ s. O.put_shut s.shut) given ∷ []) n) }
-{
-    meet_in(fed, taker);
-    see_out(&given);
-}
-
 /// Brings the ends of one slot's in side together, wherever they are: of each call the bytes that were taken are known to be fed.
 ///
 /// The out side of the slot may be met later, once its sender is back: the account of a call stands on both.
@@ -84,6 +63,10 @@ pub fn meet_out<L: Lane<Item = OutItem>>(given: End<Giver<L>, GivenShut<L>>, sen
     requires one_ring { L.ring_of (of_end (λ g. L.in_name g.tx) (λ s. L.shut_name s.shut) given)
         ≡ L.ring_of (L.out_name sender.rx) }
     ensures sent { EachBegins (L.past_out sender.rx ++ L.got sender.rx ∷ [])
+        (of_end (λ g. L.past_in g.tx) (λ s. L.past_shut s.shut) given
+        ++ of_end (λ g. L.put_in g.tx) (λ s. L.put_shut s.shut) given ∷ []) }
+    // Of each call before the last one of the sender all was sent.
+    ensures before { IsPrefix (L.past_out sender.rx)
         (of_end (λ g. L.past_in g.tx) (λ s. L.past_shut s.shut) given
         ++ of_end (λ g. L.put_in g.tx) (λ s. L.put_shut s.shut) given ∷ []) }
     ensures given { (n : ℕ) → IsResponse

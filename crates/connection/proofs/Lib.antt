@@ -1,6 +1,8 @@
 pub mod CreditSteps
 pub mod Heard
 pub mod Reports
+pub mod Rising
+pub mod Noted
 pub mod Lines
 pub mod MeetSteps
 pub mod Whole

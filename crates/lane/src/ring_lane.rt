@@ -4,7 +4,8 @@
 //! (`specs/Cuts.antt`), and no list of segments is stored. `begin` looks for the whole ring to be empty: with one slot
 //! free `put` could be `Full` below its room, and more could be left at the end than `settle` says.
 //!
-//! `meet`: not in the trait, since a `RowLane` can't answer it.
+//! `meet`: not in the trait, since a `RowLane` can't answer it. Nor are `put_count`, `shut_count` and `got_count`: only the ends
+//! of a `RingLane` go on from segment to segment, and are asked for the number of one before they are settled.
 //!
 //! `polled`: an item has to be moved out before its slot is free, and a reference to it is answered: so it lives here
 //! until the next poll that finds one.
@@ -355,7 +356,28 @@ impl<T: Drop> RingLaneOut<T> {
 
 impl<T> RingLane<T> {
     ghost use Rattle.std.specs.Prelude.{◌++◌};
-    ghost use Rattle.lane.specs.RingLane.{in_name, past_in, past_out, out_name, put_in, seen_taken, got, ahead};
+    ghost use Rattle.lane.specs.RingLane.{in_name, past_in, past_out, out_name, put_in, put_shut, seen_taken, got, ahead};
+
+    /// How many items of the current segment were put. A number over the greatest `u64` counts as that.
+    pub fn put_count(tx: &RingLaneIn<T>) -> u64
+        ensures { result ≡ count_of (put_in tx.now) }
+    {
+        tx.count
+    }
+
+    /// The same, with the item of `last`.
+    pub fn shut_count(shut: &RingLaneShut<T>) -> u64
+        ensures { result ≡ count_of (put_shut shut.now) }
+    {
+        shut.count
+    }
+
+    /// How many items of the current segment were got, counted in the same way.
+    pub fn got_count(rx: &RingLaneOut<T>) -> u64
+        ensures { result ≡ count_of (got rx.now) }
+    {
+        rx.count
+    }
 
     /// What was got of a segment, and then as many items as it answers, which `poll` gives from now on, are
     /// what was put. `again` still lends the item that was got last.
