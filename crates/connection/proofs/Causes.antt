@@ -276,6 +276,8 @@ module _ (told : List Step) (put : List Order) (run : List RunStep) where
     answers = λ last id order before later is concerns blames. own-answer last id (inr (record { order = order; before = before; later = later; taken = is; concerns = concerns; blames = blames }));
     leaves = λ id front rest parts opens input. inr (record { front = front; rest = rest; parts = parts; opens = opens; input = input });
     gives_up = λ last. tt;
+    warns = tt;
+    probes = tt;
     closes = tt;
   }
 

@@ -1,6 +1,6 @@
 -- What the peer tells the side that writes goes on to it in its order, and is acknowledged so.
 use Rattle.std.proofs.Common.{◌≡◌, ◌∙◌, ◌⊎◌, inl, inr, ℕ, Bool, true, false, List, [], ◌∷◌, ◌++◌, Option, None, Some, ap, append-nil, filter, flat_map, refl, subst, sym}
-use Rattle.std.specs.Prelude.{◌==◌, if◌then◌else◌, length}
+use Rattle.std.specs.Prelude.{◌==◌, if◌then◌else◌, length, not}
 use Rattle.std.specs.List.{list_any}
 use Rattle.std.proofs.lemmas.List.{append_assoc}
 use Rattle.std.proofs.lemmas.List.Elements.{filter-append}
@@ -29,9 +29,9 @@ use Rattle.session.specs.declared.event.InEvent.{InEvent}
 use Rattle.session.specs.declared.event.InEvent.TheVariants as events
 use Rattle.slots.specs.Orders.{begun, came, came_loose, cut_code, greatest, is_fed, last_stream, news_of, opened, orders_at, orders_by, refused_head, untaken, without_head}
 use Rattle.slots.specs.Steps.{Fate, Plain, Admitted, Unserved, NoWorker, Stopped, Unknown, TurnedAway, Received, Missed, Lacking, Step, Told, CutOff, events_of}
-use Rattle.slotwriter.specs.Orders.{AreLast, HasParted, HasTaken, IsAmong, IsAnswer, Obeys, ResetsCall}
+use Rattle.slotwriter.specs.Orders.{AreLast, HasParted, HasTaken, IsAmong, IsAnswer, Obeys, ResetsCall, Warns}
 use Rattle.connection.specs.Heard.{HasPut}
-use Rattle.connection.specs.News.{answer_to, answers_to, is_news, news_at, news_in, news_told, taken_by}
+use Rattle.connection.specs.News.{acknowledgements, answer_to, answers_to, is_news, is_probe, news_at, news_in, news_told, taken_by}
 
 news-append : (first more : List Order) → news_in (first ++ more) ≡ news_in first ++ news_in more
 news-append first more = filter-append is_news first more
@@ -159,8 +159,10 @@ answer-silent last id = by (id == 0)
     by true = refl
     by false = refl
 
-own-silent : (order : Order) (before : List RunStep) (orders : List Order) → IsAnswer order before ⊎ ResetsCall order orders → news_in (order ∷ []) ≡ []
-own-silent order before orders (inr left) = ap (λ (o : Order). news_in (o ∷ [])) left.1
+own-silent : (order : Order) (before : List RunStep) (orders : List Order) → IsAnswer order before ⊎ (ResetsCall order orders ⊎ Warns order before) → news_in (order ∷ []) ≡ []
+own-silent order before orders (inr (inl left)) = ap (λ (o : Order). news_in (o ∷ [])) left.1
+own-silent order before orders (inr (inr (inl warns))) = ap (λ (o : Order). news_in (o ∷ [])) warns.0
+own-silent order before orders (inr (inr (inr warns))) = ap (λ (o : Order). news_in (o ∷ [])) warns.0
 own-silent order [] orders (inl answer) = absurd answer
 own-silent order (Taken blamed ∷ before) orders (inl answer) = ap (λ (o : Order). news_in (o ∷ [])) answer.2 ∙ answer-silent answer.0 answer.1
 own-silent order (Granted id n ∷ before) orders (inl answer) = absurd answer
@@ -219,10 +221,18 @@ all-news told put run is obeys =
 
 -- ---- acknowledgements
 
-without-append : (first more : List Frame) → without_goaway (first ++ more) ≡ without_goaway first ++ without_goaway more
-without-append first more = filter-append _ first more
+acks-append : (first more : List Frame) → acknowledgements (first ++ more) ≡ acknowledgements first ++ acknowledgements more
+acks-append first more =
+    ap (λ (fs : List Frame). filter (λ frame. not (is_probe frame)) fs) (filter-append _ first more)
+    ∙ filter-append _ (without_goaway first) (without_goaway more)
 
-one-due : (order : Order) → without_goaway (due_by order) ≡ answers_to (news_in (order ∷ []))
+acks-begin : (front all : List Frame) → Begins (without_goaway front) (without_goaway all) → Begins (acknowledgements front) (acknowledgements all)
+acks-begin front all (rest, is) = (
+  filter (λ frame. not (is_probe frame)) rest,
+  ap (λ (fs : List Frame). filter (λ frame. not (is_probe frame)) fs) is ∙ filter-append _ (without_goaway front) rest,
+)
+
+one-due : (order : Order) → acknowledgements (due_by order) ≡ answers_to (news_in (order ∷ []))
 one-due (Settings settings) = refl
 one-due (Ping bytes) = refl
 one-due (Probe bytes) = refl
@@ -237,11 +247,11 @@ one-due Close = refl
 answers-append : (first more : List Order) → answers_to (first ++ more) ≡ answers_to first ++ answers_to more
 answers-append first more = flat_map-append answer_to first more
 
-due-answers : (run : List RunStep) → without_goaway (due run) ≡ answers_to (news_in (taken_by run))
+due-answers : (run : List RunStep) → acknowledgements (due run) ≡ answers_to (news_in (taken_by run))
 due-answers [] = refl
 due-answers (Taken order ∷ before) =
-    without-append (due before) (due_by order)
-    ∙ (ap (λ (fs : List Frame). fs ++ without_goaway (due_by order)) (due-answers before)
+    acks-append (due before) (due_by order)
+    ∙ (ap (λ (fs : List Frame). fs ++ acknowledgements (due_by order)) (due-answers before)
     ∙ (ap (λ (fs : List Frame). answers_to (news_in (taken_by before)) ++ fs) (one-due order)
     ∙ (sym (answers-append (news_in (taken_by before)) (news_in (order ∷ [])))
     ∙ sym (ap answers_to (news-append (taken_by before) (order ∷ []))))))
@@ -249,20 +259,20 @@ due-answers (Granted id n ∷ before) = due-answers before
 due-answers (Written frame ∷ before) = due-answers before
 due-answers (Returned id items ∷ before) = due-answers before
 
-told-due : (run : List RunStep) → IsLawful run → Begins (without_goaway (duties_told run)) (without_goaway (due run))
+told-due : (run : List RunStep) → IsLawful run → Begins (acknowledgements (duties_told run)) (acknowledgements (due run))
 told-due [] lawful = ([], refl)
 told-due (Taken order ∷ before) lawful =
     let rest = told-due before lawful in (
-      rest.0 ++ without_goaway (due_by order),
-      without-append (due before) (due_by order)
-          ∙ (ap (λ (fs : List Frame). fs ++ without_goaway (due_by order)) rest.1 ∙ append_assoc (without_goaway (duties_told before)) rest.0 (without_goaway (due_by order))),
+      rest.0 ++ acknowledgements (due_by order),
+      acks-append (due before) (due_by order)
+          ∙ (ap (λ (fs : List Frame). fs ++ acknowledgements (due_by order)) rest.1 ∙ append_assoc (acknowledgements (duties_told before)) rest.0 (acknowledgements (due_by order))),
     )
 told-due (Granted id n ∷ before) lawful = told-due before lawful
 told-due (Returned id items ∷ before) lawful = told-due before lawful
-told-due (Written frame ∷ before) lawful = lawful.1.answers
+told-due (Written frame ∷ before) lawful = acks-begin _ (due before) lawful.1.answers
 
 pub some-answers : (told : List Step) (put : List Order) (run : List RunStep) → HasPut (orders_by told ++ InputEnded ∷ []) put → Obeys true put run → IsLawful run
-    → Begins (without_goaway (duties_told run)) (answers_to (news_told (events_of told)))
+    → Begins (acknowledgements (duties_told run)) (answers_to (news_told (events_of told)))
 some-answers told put run has obeys lawful =
     let news = some-news told put run has obeys in
     let written = told-due run lawful in (
@@ -270,10 +280,10 @@ some-answers told put run has obeys lawful =
       ap answers_to (sym news.1)
           ∙ (answers-append (news_in (taken_by run)) news.0
           ∙ (ap (λ (fs : List Frame). fs ++ answers_to news.0) (sym (due-answers run) ∙ written.1)
-          ∙ append_assoc (without_goaway (duties_told run)) written.0 (answers_to news.0))),
+          ∙ append_assoc (acknowledgements (duties_told run)) written.0 (answers_to news.0))),
     )
 
 pub all-answers : (told : List Step) (put : List Order) (run : List RunStep) → put ≡ orders_by told ++ InputEnded ∷ Close ∷ [] → Obeys false put run → IsAnswered run
-    → list_any is_last (frames_of run) ≡ false → without_goaway (duties_told run) ≡ answers_to (news_told (events_of told))
+    → list_any is_last (frames_of run) ≡ false → acknowledgements (duties_told run) ≡ answers_to (news_told (events_of told))
 all-answers told put run is obeys (inl over) going = absurd cc
-all-answers told put run is obeys (inr answered) going = ap without_goaway answered.0 ∙ (due-answers run ∙ ap answers_to (all-news told put run is obeys))
+all-answers told put run is obeys (inr answered) going = ap acknowledgements answered.0 ∙ (due-answers run ∙ ap answers_to (all-news told put run is obeys))

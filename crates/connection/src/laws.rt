@@ -12,7 +12,7 @@ ghost use Rattle.outwriter.specs.declared.control.Control.TheVariants.{Close, In
 ghost use Rattle.outwriter.specs.Frames.{is_last, reset_frame};
 ghost use Rattle.outwriter.specs.Parts.{IsPart, Mark};
 ghost use Rattle.outwriter.specs.RunState.{IsAnswered};
-ghost use Rattle.outwriter.specs.Runs.{IsLawful, told as duties_told, without_goaway};
+ghost use Rattle.outwriter.specs.Runs.{IsLawful, told as duties_told};
 ghost use Rattle.outwriter.specs.Steps.{Order, Step as RunStep, frames_of};
 ghost use Rattle.slots.specs.Calls.{is_admitted};
 ghost use Rattle.slots.specs.Orders.{orders_by};
@@ -20,7 +20,7 @@ ghost use Rattle.slots.specs.Steps.{Step, events_of};
 ghost use Rattle.slotwriter.specs.Orders.{IsAmong, Obeys};
 ghost use Rattle.connection.specs.Causes.{HasCauseOf, HasResetCause, IsRefusal, WasTaken, WasWritten};
 ghost use Rattle.connection.specs.Heard.{HasPut};
-ghost use Rattle.connection.specs.News.{answers_to, news_in, news_told, taken_by};
+ghost use Rattle.connection.specs.News.{acknowledgements, answers_to, news_in, news_told, taken_by};
 
 /// Each reset that is to be written was ordered for its cause, by what was heard: RFC 9113, section 5.4.2.
 pub fn ordered_resets()
@@ -69,11 +69,11 @@ pub fn all_news()
 {}
 
 /// Behind the first SETTINGS come only acknowledgements, of each SETTINGS and of each PING with its bytes, once and in order, beside
-/// DATA, header blocks, RST_STREAM, GOAWAY and WINDOW_UPDATE: sections 6.5.3 and 6.7.
+/// DATA, header blocks, RST_STREAM, GOAWAY, WINDOW_UPDATE and a PING of the server's own: sections 6.5.3 and 6.7.
 pub fn some_answers()
     ensures { (told : List Step) (put : List Order) (run : List RunStep) →
         HasPut (orders_by told ++ InputEnded ∷ []) put → Obeys true put run → IsLawful run
-        → Begins (without_goaway (duties_told run)) (answers_to (news_told (events_of told))) }
+        → Begins (acknowledgements (duties_told run)) (answers_to (news_told (events_of told))) }
 {}
 
 /// Where the writer took each order and all was written, each is acknowledged, unless the last frame is a GOAWAY with an error.
@@ -81,5 +81,5 @@ pub fn all_answers()
     ensures { (told : List Step) (put : List Order) (run : List RunStep) →
         put ≡ orders_by told ++ InputEnded ∷ Close ∷ [] → Obeys false put run → IsAnswered run →
         list_any is_last (frames_of run) ≡ false
-        → without_goaway (duties_told run) ≡ answers_to (news_told (events_of told)) }
+        → acknowledgements (duties_told run) ≡ answers_to (news_told (events_of told)) }
 {}

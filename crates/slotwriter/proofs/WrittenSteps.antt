@@ -7,9 +7,9 @@ use Rattle.std.proofs.lemmas.List.Elements.{All-append, All-from_get_or, All-get
 use Rattle.account.specs.declared.call.OutItem.{OutItem}
 use Rattle.outwriter.specs.Calls.{TellFronts, TellOthers, TellReturned}
 use Rattle.outwriter.specs.Credit.{granted, granted_by}
-use Rattle.outwriter.specs.Cores.{calls, lane_and_past, lanes}
+use Rattle.outwriter.specs.Cores.{IsUnused, calls, lane_and_past, lanes}
 use Rattle.outwriter.specs.declared.control.OutFault.TheVariants.{PeerWindow}
-use Rattle.outwriter.specs.RunState.{Concerns}
+use Rattle.outwriter.specs.RunState.{Concerns, HasRoom}
 use Rattle.outwriter.specs.Runs.{is_opened, opens_stream}
 use Rattle.h2frame.specs.declared.frame.Frame.{Frame}
 use Rattle.outwriter.specs.Frames.{goaway_frame}
@@ -38,11 +38,11 @@ use Rattle.callslot.specs.declared.report.Ending.TheVariants as ending
 use Rattle.slotwriter.specs.declared.inbox.Inbox.{Inbox}
 use Rattle.slotwriter.specs.declared.slot_writer.SlotWriter.{SlotWriter}
 use Rattle.slotwriter.specs.declared.senders.Place.{Place}
-use Rattle.slotwriter.specs.Orders.{Gives, HasGiven, IsAmong, Keeps, Obeys, ends_input, order_in, orders_of, loses_by}
+use Rattle.slotwriter.specs.Orders.{Gives, HasGiven, IsAmong, IsWarning, Keeps, Obeys, Warns, ends_input, order_in, orders_of, loses_by}
 use Rattle.slotwriter.specs.Sent.{AreFresh, AreKept, HandsHome, HasStream, HaveTold, KeepsOn, MakesOf, PlacesBy, SamePlaces, SlotSender, TakesAllHome, held_of, ids_of, lines_of}
 use Rattle.slotwriter.specs.Written.{FrameWriter, HasKept, HasSent, HasWritten, IsFlushed, Runs, Ends, RunsOn, RunsOut, SendsOn, StaysOn, Takes, PassesOver, Parts, Heeds, Knows, SameCalls, Led, LedOut, LeadsOn, LeadsOut, LeadsOutTo, LeadsTo, Stays, core_of, places_of}
-use Rattle.slotwriter.proofs.OrderSteps.{all-given, among-last, among-more, given-all, given-next, obeys-closing, obeys-frames, obeys-granted, obeys-last-word, obeys-lost, obeys-more, obeys-parting, obeys-reset, obeys-returned, obeys-taking}
-use Rattle.slotwriter.proofs.SentPlaces.{brings-plain, brings-same, fresh-parts, keeps-same, kept-back-more, kept-frames, kept-more, kept-none, kept-same, kept-still, kept-tells, makes-then, on-steps, own-plain, same-places}
+use Rattle.slotwriter.proofs.OrderSteps.{all-given, among-last, among-more, given-all, given-next, obeys-closing, obeys-frames, obeys-granted, obeys-last-word, obeys-lost, obeys-more, obeys-parting, obeys-reset, obeys-returned, obeys-taking, obeys-warning}
+use Rattle.slotwriter.proofs.SentPlaces.{OpensNone, brings-plain, brings-same, fresh-parts, keeps-same, kept-back-more, kept-frames, kept-more, kept-none, kept-same, kept-still, kept-tells, makes-then, on-steps, own-plain, same-places}
 
 memory-going : stands.OutOfMemory ≢ stands.Going
 memory-going e = cc
@@ -245,6 +245,39 @@ granted-parting last run credit is =
 
 granted-more : (id n : ℕ) (run : List Step) (credit : ℕ) → granted 0 run ≡ credit → granted 0 (Granted id n ∷ run) ≡ credit + granted_by 0 (Granted id n)
 granted-more id n run credit is = omega (arith, sum_by-cons (granted_by 0) (Granted id n) run, is)
+
+-- ---- a warning
+
+-- it opens no stream, and concerns no window
+record IsMild (one : Control SlotSender) : Type 0 where
+  plain : OpensNone one
+  opens : (k : ℕ) → opens_stream k (order_of one) ≡ false
+  spares : (id : ℕ) → Concerns (PeerWindow id) one → ⊥
+  room : (run : List Step) → HasRoom (order_of one) run
+
+mild : (one : Control SlotSender) → IsWarning one → IsMild one
+mild (control.Goaway last code) own = record { plain = tt; opens = λ k. refl; spares = λ id concerns. concerns; room = λ run. tt }
+mild (control.Probe bytes) own = record { plain = tt; opens = λ k. refl; spares = λ id concerns. concerns; room = λ run. tt }
+mild (control.Settings settings) own = absurd own
+mild (control.Ping bytes) own = absurd own
+mild (control.Window id n) own = absurd own
+mild (control.Open id sender) own = absurd own
+mild (control.Refuse id fields) own = absurd own
+mild (control.Reset id code written) own = absurd own
+mild control.InputEnded own = absurd own
+mild control.Close own = absurd own
+
+pub unused-warning : (one : Control SlotSender) → IsWarning one → IsUnused got one
+unused-warning (control.Goaway last code) own = tt
+unused-warning (control.Probe bytes) own = tt
+unused-warning (control.Settings settings) own = absurd own
+unused-warning (control.Ping bytes) own = absurd own
+unused-warning (control.Window id n) own = absurd own
+unused-warning (control.Open id sender) own = absurd own
+unused-warning (control.Refuse id fields) own = absurd own
+unused-warning (control.Reset id code written) own = absurd own
+unused-warning control.InputEnded own = absurd own
+unused-warning control.Close own = absurd own
 
 module _ {W : Type 0} (contents : W → Option (List ℕ)) (failed : W → Bool) where
   -- ---- frames
@@ -457,6 +490,23 @@ module _ {W : Type 0} (contents : W → Option (List ℕ)) (failed : W → Bool)
     kept-on false orders runs.0 (steps_of (control.Reset id InternalError true) last taking) old new
         (sends-plain (control.Reset id InternalError true) last taking old new (λ k. refl) (brings-plain taking (control.Reset id InternalError true) (core_of old) (core_of new) tt brings) places) runs.3,
     granted-steps (control.Reset id InternalError true) last taking runs.0 credit runs.4,
+  )
+
+  -- a warning of the writer's own
+  warning-on : (one : Control SlotSender) (last : ℕ) (taking : Taking SlotSender) (old new : SlotWriter W) → IsWarning one
+      → WritesOn got contents failed (steps_of (order_of one) last taking) old.frames new.frames
+      → ((before : Option (List ℕ)) (run : List Step) → Wrote got contents failed before run old.frames → Blamed taking one run)
+      → ((before : Option (List ℕ)) (run : List Step) → Wrote got contents failed before run old.frames → Warns (order_of one) run)
+      → BringsBy taking one (core_of old) (core_of new) → SamePlaces (places_of old) (places_of new)
+      → (orders : List (Control Opened)) (before : Option (List ℕ)) (credit : ℕ)
+      → Runs contents failed false orders before credit old → Runs contents failed false orders before credit new
+  warning-on one last taking old new own on blamed warns brings places orders before credit runs = (
+    steps_of (order_of one) last taking ++ runs.0,
+    on before runs.0 runs.1,
+    obeys-warning one last taking (orders_of orders) runs.0 (blamed before runs.0 runs.1) (mild one own).spares ((mild one own).room runs.0) (warns before runs.0 runs.1) runs.2,
+    kept-on false orders runs.0 (steps_of (order_of one) last taking) old new
+        (sends-plain (order_of one) last taking old new (mild one own).opens (brings-plain taking one (core_of old) (core_of new) (mild one own).plain brings) places) runs.3,
+    granted-steps (order_of one) last taking runs.0 credit runs.4,
   )
 
   -- another order there
@@ -691,6 +741,24 @@ module _ {W : Type 0} (contents : W → Option (List ℕ)) (failed : W → Bool)
               (subst (λ (was : Bool). Runs contents failed was led.0 before credit old) kept led.2)),
           λ still. knows-same (orders_of led.0) old new calls knows,
         );
+  }
+
+  -- a warning of the writer's own
+  pub leads-warning : (one : Control SlotSender) (last : ℕ) (taking : Taking SlotSender) (old new : SlotWriter W) → IsWarning one → old.inbox.has_lost ≡ false → new.inbox ≡ old.inbox → SameCalls old new
+      → WritesOn got contents failed (steps_of (order_of one) last taking) old.frames new.frames
+      → ((before : Option (List ℕ)) (run : List Step) → Wrote got contents failed before run old.frames → Blamed taking one run)
+      → ((before : Option (List ℕ)) (run : List Step) → Wrote got contents failed before run old.frames → Warns (order_of one) run)
+      → BringsBy taking one (core_of old) (core_of new) → SamePlaces (places_of old) (places_of new) → LeadsOn contents failed old new
+  leads-warning one last taking old new own kept same calls on blamed warns brings places = record {
+    name = ap (λ (inbox : Inbox). out_name inbox.ring) same;
+    on = λ before credit led. (
+      led.0,
+      subst (λ (inbox : Inbox). HasGiven led.0 inbox) (sym same) led.1,
+      subst (λ (was : Bool). Runs contents failed was led.0 before credit new) (sym (ap (λ (inbox : Inbox). inbox.has_lost) same ∙ kept))
+          (warning-on one last taking old new own on blamed warns brings places led.0 before credit
+          (subst (λ (was : Bool). Runs contents failed was led.0 before credit old) kept led.2)),
+      λ still. knows-same (orders_of led.0) old new calls (led.3 kept),
+    );
   }
 
   -- a writer that has taken nothing

@@ -7,15 +7,16 @@ ghost use Rattle.outwriter.specs.Credit.{granted_by};
 ghost use Rattle.outwriter.specs.Cores.{IsUnused, open_stream};
 ghost use Rattle.outwriter.specs.declared.control.Control.TheVariants as orders;
 ghost use Rattle.outwriter.specs.RunState.{is_held};
-ghost use Rattle.outwriter.specs.Steps.{Granted, order_of};
+ghost use Rattle.outwriter.specs.Steps.{Granted, Step, order_of};
 ghost use Rattle.flow.specs.Windows.{room};
 ghost use Rattle.connwriter.specs.declared.filled.Filled.TheVariants as filling;
+ghost use Rattle.connwriter.specs.Wrote.{Wrote};
 ghost use Rattle.connwriter.specs.declared.standing.Standing.TheVariants as stands;
 ghost use Rattle.callslot.specs.declared.report.Ending.TheVariants as ending;
 ghost use Rattle.slotwriter.specs.declared.steps.Rest.TheVariants as rest;
 ghost use Rattle.slotwriter.specs.declared.steps.Took.TheVariants as took;
 ghost use Rattle.slotwriter.specs.declared.steps.Waiting.TheVariants as waiting;
-ghost use Rattle.slotwriter.specs.Orders.{TakesNoWindow, ends_input, orders_of};
+ghost use Rattle.slotwriter.specs.Orders.{IsWarning, TakesNoWindow, Warns, ends_input, orders_of};
 ghost use Rattle.slotwriter.specs.Sent.{HandsHome, HasStream, SamePlaces, held_of};
 ghost use Rattle.slotwriter.specs.Written.{HasSent, HasWritten, Heeds, IsFlushed, Led, LedOut};
 ghost use Rattle.slotwriter.specs.Written.{LeadsOn, LeadsOut, LeadsTo, Parts, PassesOver, SameCalls};
@@ -33,6 +34,12 @@ use lane::RingOut;
 use outwriter::Control;
 use std::alloc::Global;
 use std::snapshot::Snapshot;
+
+/// The greatest number of a stream (RFC 9113, section 5.1.1).
+const GREATEST_STREAM: StreamId = 2_147_483_647;
+
+/// The eight bytes of the PING that goes with a warning: "draining".
+const DRAINING: [u8; 8] = [100, 114, 97, 105, 110, 105, 110, 103];
 
 /// What the writing side of a connection has.
 #[derive(Drop)]
@@ -316,6 +323,58 @@ impl<W: ConnWrite + Drop> SlotWriter<W> {
         };
         self.senders.call_off(id);
         true
+    }
+
+    // ---- the end while calls go on
+
+    /// Warns the peer, once, that this side is to end the connection while calls go on (RFC 9113,
+    /// section 6.8): by a GOAWAY without an error that names the greatest number of a stream, unless
+    /// a GOAWAY was ordered before, and by a PING. Out of memory, or once an order was lost, it may
+    /// be left out.
+    pub fn warn(&mut self)
+        ensures leads { LeadsOn W.contents W.failed self.old self.new }
+    {
+        if !self.inbox.has_lost {
+            self.warn_by_goaway();
+            self.warn_by_ping();
+        }
+    }
+
+    /// The GOAWAY of it.
+    fn warn_by_goaway(&mut self)
+        requires kept { self.old.inbox.has_lost ≡ false }
+        ensures leads { LeadsOn W.contents W.failed self.old self.new }
+        ensures inbox { self.new.inbox ≡ self.old.inbox }
+    {
+        if self.frames.may_leave() {
+            let (last, code) = (GREATEST_STREAM, ErrorCode::NoError);
+            self.warn_by(Control::Goaway { last, code });
+        }
+    }
+
+    /// The PING of it.
+    fn warn_by_ping(&mut self)
+        requires kept { self.old.inbox.has_lost ≡ false }
+        ensures leads { LeadsOn W.contents W.failed self.old self.new }
+        ensures inbox { self.new.inbox ≡ self.old.inbox }
+    {
+        if self.frames.may_probe() {
+            self.warn_by(Control::Probe(DRAINING));
+        }
+    }
+
+    /// Gives the core a warning. Whether it was taken.
+    fn warn_by(&mut self, warning: Control<Sender<OutLane>>) -> bool
+        requires kept { self.old.inbox.has_lost ≡ false }
+        requires own { IsWarning warning }
+        requires warns { (before : Option (List ℕ)) (run : List Step)
+            → Wrote got W.contents W.failed before run self.old.frames
+            → Warns (order_of warning) run }
+        ensures leads { LeadsOn W.contents W.failed self.old self.new }
+        ensures inbox { self.new.inbox ≡ self.old.inbox }
+    {
+        let taking = self.frames.take(warning, GREATEST_STREAM);
+        matches!(taking, Taking::Done)
     }
 
     // ---- frames
