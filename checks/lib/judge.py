@@ -256,9 +256,10 @@ class Answer:
 class Row:
     """What the report has of a call."""
 
-    def __init__(self, stream, method, messages, length, told, given, given_length, status):
+    def __init__(self, stream, method, messages, length, told, replies, replied_length, given, sent, trailers, status):
         self.stream, self.method, self.messages, self.length = int(stream), METHODS[int(method)], int(messages), int(length)
-        self.told, self.given, self.given_length = told, int(given), int(given_length)
+        self.told, self.replies, self.replied_length = told, int(replies), int(replied_length)
+        self.given, self.sent, self.trailers = int(given), int(sent), trailers
         self.status = None if status == "left" else int(status)
 
 
@@ -391,6 +392,22 @@ def is_ended_by(trailers, rest):
     return rest in (trailers, ["headers end", *trailers], ["headers end", *HEAD, *trailers], ["headers", *HEAD, "headers end", *trailers])
 
 
+def judge_items(stream, row):
+    """How many items were given is by the rules of a response: a head where there are replies, or the status is 0; the replies; trailers
+    where there is a status. No more were sent than given, and no fewer than are written, the last message maybe in part."""
+    has_head = "headers" in stream.lines
+    least = row.replies + bool(row.replies or row.status == 0 or has_head) + (row.status is not None)
+    most = row.replies + 1 + (row.status is not None)
+    want(least <= row.given <= (most if not row.replies else least), f"{row.given} items were given with {row.replies} replies, status {row.status}")
+    want((row.trailers == "none") == (row.status is None), f"trailers are {row.trailers}, and its status is {row.status}")
+    messages, rest = wire.messages(stream.data)
+    is_ended = "headers end" in stream.lines
+    written = has_head + len(messages) + bool(rest) + is_ended
+    want(written <= row.sent <= row.given, f"{row.sent} items were sent, {row.given} given, and {written} are written")
+    want((row.trailers == "sent") == (row.sent == row.given and row.status is not None), f"{row.sent} of {row.given} items were sent, and trailers {row.trailers}")
+    want(not is_ended or row.trailers == "sent", "trailers are written that weren't sent")
+
+
 def judge_row(asked, answer, stream, row, outcome, lacks):
     """What the report says of a call is what came and what was answered."""
     came = b"".join(asked.pieces)
@@ -403,15 +420,16 @@ def judge_row(asked, answer, stream, row, outcome, lacks):
         want(asked.is_ended and row.length == len(came) and row.messages == len(messages), "its end is told, and something is missing")
     want(row.told != "reset" or not asked.is_ended or asked.is_reset or is_cut, "a reset is told that didn't come")
     want(row.told != "fault", "a fault of its messages is told")
-    replies = answer.replies[:row.given]
-    want(row.given == len(replies) and row.given_length == sum(map(len, replies)), f"{row.given} replies of {row.given_length} bytes")
-    want(len(stream.data) <= row.given_length + 5 * row.given, "more was written than was given")
+    replies = answer.replies[:row.replies]
+    want(row.replies == len(replies) and row.replied_length == sum(map(len, replies)), f"{row.replies} replies of {row.replied_length} bytes")
+    want(len(stream.data) <= row.replied_length + 5 * row.replies, "more was written than was given")
+    judge_items(stream, row)
     if row.status is None:
         want(not asked.is_ended or asked.is_reset or is_cut or lacks, "it has no status")
     else:
         is_cancelled = row.status == 1 and (row.told == "reset" or not asked.is_ended)
         is_lawful = row.status == answer.status or is_cancelled or (row.status == 8 and lacks)
         want(is_lawful, f"its status is {row.status}")
-        want(row.status != 0 or row.given == len(answer.replies), "its status is 0, and replies are missing")
+        want(row.status != 0 or row.replies == len(answer.replies), "its status is 0, and replies are missing")
     told = [line.split()[1] for line in stream.lines if line.startswith("  grpc-status: ")]
     want(not told or int(told[0]) == row.status, f"its status is {row.status}, and {told} was written")

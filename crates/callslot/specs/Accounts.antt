@@ -1,5 +1,6 @@
 -- On what the row of a call stands.
-use Rattle.std.specs.Prelude.{◌≡◌, ◌⊎◌, ℕ, Bool, List, [], ◌∷◌, ◌++◌, true, Option, None, IsSome, IsSomeAnd, slice_get}
+use Rattle.std.specs.Prelude.{◌≡◌, ◌⊎◌, ℕ, Bool, List, [], ◌∷◌, ◌++◌, true, false, Option, None, IsSome, IsSomeAnd, slice_get}
+use mathlib.Core.List.{IsPrefix}
 use Rattle.lane.specs.Lawful.{count_of}
 use Rattle.account.specs.declared.call.Account.{Account}
 use Rattle.account.specs.declared.call.OutItem.{OutItem}
@@ -8,6 +9,7 @@ use Rattle.account.specs.declared.call.Told.{Told}
 use Rattle.account.specs.Accounts.{IsLawful}
 use Rattle.callbox.specs.declared.piece.InPiece.{InPiece}
 use Rattle.callbox.specs.InSides.{bytes_of, shut_of}
+use Rattle.callbox.specs.OutSides.{has_trailers}
 use Rattle.callhead.specs.declared.head.CallHead.{CallHead}
 use Rattle.handlers.specs.declared.step.Step.{Step}
 use Rattle.callrun.specs.Outcomes.{IsOutcome, is_end}
@@ -35,11 +37,26 @@ pub record IsAnswered (answers : ℕ → List (List ℕ) → Bool → Step → T
   pub ends : IsGivenAs items given
   pub taken : row.messages ≡ count_of messages
   pub told : row.told ≡ said
+  pub count : row.given ≡ count_of items
+  pub trailers : row.trailers_given ≡ has_trailers given
+
+-- Of these items of an outcome so many were sent, behind which at most that the call was left was got.
+pub record IsSentOf (items sent : List OutItem) (row : CallReport) : Type 0 where
+  pub front : List OutItem
+  pub begins : IsPrefix front items
+  pub ends : IsGivenAs front sent
+  pub count : row.sent ≡ count_of front
+  pub trailers : row.trailers_sent ≡ has_trailers sent
 
 -- A row stands on a lawful account of a call with this head.
 pub record StandsOn (answers : ℕ → List (List ℕ) → Bool → Step → Type 0) (head : CallHead) (account : Account) (row : CallReport) : Type 0 where
   pub lawful : IsLawful account
   pub answered : IsAnswered answers head account.taken account.told account.given row
+  pub sent : IsSentOf answered.items account.sent row
+
+-- of the call of the row nothing is known to be sent
+abbrev pub HasSentNone : CallReport → Type 0
+HasSentNone row = (row.sent ≡ 0) × (row.trailers_sent ≡ false)
 
 -- the account of a call of which nothing is known to be sent
 abbrev pub unsent : List InPiece → List (List ℕ) → Option Told → List OutItem → Account
@@ -48,4 +65,19 @@ unsent fed messages said given = record { fed = bytes_of fed; shut = shut_of fed
 -- the row of a call of which nothing was taken, and to which nothing was given
 abbrev pub unanswered : ℕ → ℕ → CallReport
 unanswered id method =
-    record { id = id; method = method; fed = 0; shut = None; messages = 0; bytes = 0; told = None; given = 0; given_bytes = 0; status = None }
+    record {
+      id = id;
+      method = method;
+      fed = 0;
+      shut = None;
+      messages = 0;
+      bytes = 0;
+      told = None;
+      given = 0;
+      sent = 0;
+      trailers_given = false;
+      trailers_sent = false;
+      replies = 0;
+      reply_bytes = 0;
+      status = None;
+    }

@@ -24,7 +24,7 @@ use Rattle.handlers.specs.declared.step.Step.{Step}
 use Rattle.callslot.specs.declared.report.CallReport.{CallReport}
 use Rattle.callslot.specs.declared.seen.Seen.{Seen}
 use Rattle.callslot.specs.declared.slot.Job.{Job}
-use Rattle.callslot.specs.Accounts.{IsAnswered, IsGivenAs}
+use Rattle.callslot.specs.Accounts.{HasSentNone, IsAnswered, IsGivenAs}
 
 -- there is a row of the stream of this job
 abbrev pub HasRow : List CallReport → Job → Type 0
@@ -39,6 +39,7 @@ module _ (answers : ℕ → List (List ℕ) → Bool → Step → Type 0) where
     pub id : row.id ≡ job.id
     pub method : row.method ≡ job.index
     pub answered : IsAnswered answers job.head messages said given row
+    pub unsent : HasSentNone row
 
   -- This is the row of one of these jobs, by what was got and given of the call of that number.
   pub record IsOfJob (gots : List (List InPiece)) (gives : List (List OutItem)) (jobs : List Job) (row : CallReport) : Type 0 where

@@ -23,10 +23,18 @@ pub struct CallReport {
     pub bytes: u64,
     /// What was told behind them.
     pub told: Option<Told>,
-    /// How many messages it was answered with.
+    /// How many items it was answered with: Response-Headers, messages, trailers.
     pub given: u64,
+    /// How many of them the writer took to send. Behind a reset of the stream they aren't written.
+    pub sent: u64,
+    /// Whether trailers were among those that were given.
+    pub trailers_given: bool,
+    /// Whether trailers were among those that the writer took.
+    pub trailers_sent: bool,
+    /// How many messages it was answered with.
+    pub replies: u64,
     /// How many bytes these had, without their prefixes.
-    pub given_bytes: u64,
+    pub reply_bytes: u64,
     /// The status of its trailers. None where it was left without.
     pub status: Option<u32>,
 }
@@ -45,7 +53,11 @@ impl CallReport {
             bytes: 0,
             told: None,
             given: 0,
-            given_bytes: 0,
+            sent: 0,
+            trailers_given: false,
+            trailers_sent: false,
+            replies: 0,
+            reply_bytes: 0,
             status: None,
         }
     }

@@ -15,6 +15,7 @@ use Rattle.lane.specs.declared.lane.End.{End}
 use Rattle.lane.specs.declared.lane.End.TheVariants as ends
 use Rattle.lane.proofs.Prefixes.{IsPrefix-trans}
 use Rattle.account.specs.declared.call.OutItem.{OutItem}
+use Rattle.callbox.specs.OutSides.{has_trailers}
 use Rattle.callbox.specs.declared.piece.InPiece.{InPiece}
 use Rattle.callbox.specs.declared.taker.Progress.{Progress}
 use Rattle.callbox.specs.InSides.{Took}
@@ -101,8 +102,16 @@ of_fewer wide narrow got given job row within has = record {
     ends = has.answered.ends;
     taken = has.answered.taken;
     told = has.answered.told;
+    count = has.answered.count;
+    trailers = has.answered.trailers;
   };
+  unsent = has.unsent;
 }
+
+-- trailers aren't among no items, nor among the word that a call was left
+pub no-trailers : (given : List OutItem) → IsGivenAs [] given → false ≡ has_trailers given
+no-trailers given (inl none) = sym (ap (λ (items : List OutItem). has_trailers items) none)
+no-trailers given (inr left) = sym (ap (λ (items : List OutItem). has_trailers items) left)
 
 -- nothing was taken yet
 abbrev pub untaken : Progress
@@ -146,7 +155,10 @@ module _ (answers : ℕ → List (List ℕ) → Bool → Step → Type 0) where
       ends = none;
       taken = refl;
       told = refl;
+      count = refl;
+      trailers = no-trailers given none;
     };
+    unsent = (refl, refl);
   }
 
   -- what is got behind was drained
@@ -164,6 +176,7 @@ module _ (answers : ℕ → List (List ℕ) → Bool → Step → Type 0) where
     id = has.id;
     method = has.method;
     answered = has.answered;
+    unsent = has.unsent;
   }
 
   of-same : (got new_got : List InPiece) (given new_given : List OutItem) (job : Job) (row : CallReport) → new_got ≡ got → new_given ≡ given

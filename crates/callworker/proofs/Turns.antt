@@ -2,7 +2,10 @@
 use Rattle.std.proofs.Common.{◌≡◌, ◌∙◌, ◌⊎◌, inl, inr, ap, refl, subst, sym, ℕ, ◌≤◌, Bool, true, false, List, [], ◌∷◌, ◌++◌, Option, None, Some, append-nil, append_assoc}
 use Rattle.std.specs.Prelude.{IfSome, IsSome, IsSomeAnd, MatchBool, slice_get}
 use Rattle.lane.specs.RingLane.{got, out_name, past_out, put_in, put_shut}
+use Rattle.lane.specs.Lawful.{count_of}
 use Rattle.account.specs.declared.call.OutItem.{OutItem}
+use Rattle.callbox.specs.OutSides.{has_trailers}
+use Rattle.callbox.proofs.OutLemmas.{has_trailers-push}
 use Rattle.account.specs.declared.call.OutItem.TheVariants.{Left}
 use Rattle.account.specs.declared.call.Told.{Told}
 use Rattle.callbox.specs.InSides.{Took}
@@ -23,6 +26,7 @@ use Rattle.callslot.specs.declared.report.CallReport.{CallReport}
 use Rattle.callslot.specs.declared.slot.Job.{Job}
 use Rattle.callslot.specs.Accounts.{IsGivenAs, answers_by, unanswered}
 use Rattle.callslot.specs.Workers.{Answers, SlotGiven, SlotGiver}
+use Rattle.callworker.proofs.SlotRows.{no-trailers}
 use Rattle.callworker.specs.Runs.{EndsAs, GoesOn, IsOneCall, IsRowOf, LeadsOn, SlotRun, given_past, giver_name, shown_by, shows}
 
 owes_less : (items : List InPiece) (p q : Progress) (messages : List (List ℕ)) → q ≡ record p { owed = 0 } → Took items p messages → Took items q messages
@@ -216,7 +220,7 @@ pub row_answers : {A : Type 0} (answers : A → List (List ℕ) → Bool → Ste
     (methods : List A) (found : Option A) (job : Job) (run : SlotRun) (items : List InPiece) (given : List OutItem) (row : CallReport)
     → found ≡ slice_get methods job.index → (found ≡ None → ⊥) → run.call.head ≡ job.head → items ≡ got run.taker.rx → (run.call.overdue ≡ true → IsSome job.head.timeout)
     → IfSome found (λ m. (messages : List (List ℕ)) × Took (got run.taker.rx) run.taker.progress messages × HasRun (answers m) (stands m) run.taker.progress.told messages run.call (shows run))
-    → EndsAs run given row.status → IsRowOf job.id job.index run.taker.progress row
+    → EndsAs run given row.given row.trailers_given row.status → IsRowOf job.id job.index run.taker.progress row
     → Answers (answers_by answers methods) items given job row
 row_answers answers stands methods None job run items given row is some same_head same_got timed has ends says = absurd (some refl)
 row_answers {A} answers stands methods (Some m) job run items given row is some same_head same_got timed has ends says = record {
@@ -229,19 +233,22 @@ row_answers {A} answers stands methods (Some m) job run items given row is some 
     overdue = run.call.overdue;
     timed = timed;
     items = ends.0;
-    outcome = λ answer answered. subst (λ (head : CallHead). IsOutcome head run.call.overdue run.taker.progress.told answer ends.0 row.status) same_head (ends.2 answer (has.2.each answer
+    outcome = λ answer answered. subst (λ (head : CallHead). IsOutcome head run.call.overdue run.taker.progress.told answer ends.0 row.status) same_head (ends.4 answer (has.2.each answer
         (subst (λ (o : Option A). IsSomeAnd o (λ n. answers n has.0 (is_end run.taker.progress.told) answer)) (ap (λ (i : ℕ). slice_get methods i) says.1 ∙ sym is) answered)));
     ends = ends.1;
     taken = says.2 ∙ has.1.count;
     told = says.3;
+    count = ends.2;
+    trailers = ends.3;
   };
+  unsent = says.4;
 }
 
 -- the row of a call whose method isn't there
 pub row_without : {A : Type 0} (answers : A → List (List ℕ) → Bool → Step → Type 0) (methods : List A) (job : Job) (items : List InPiece) (p : Progress) (given : List OutItem) (row : CallReport)
-    → slice_get methods job.index ≡ None → Took items p [] → p.told ≡ None → row ≡ unanswered job.id job.index
+    → slice_get methods job.index ≡ None → Took items p [] → p.told ≡ None → row ≡ unanswered job.id job.index → IsGivenAs [] given
     → Answers (answers_by answers methods) items given job row
-row_without {A} answers methods job items p given row none took untold is = subst (λ (r : CallReport). Answers (answers_by answers methods) items given job r) (sym is) (record {
+row_without {A} answers methods job items p given row none took untold is nothing = subst (λ (r : CallReport). Answers (answers_by answers methods) items given job r) (sym is) (record {
   messages = [];
   said = None;
   took = record { front = items; progress = p; begins = ([], append-nil items); took = took; told = untold };
@@ -250,26 +257,35 @@ row_without {A} answers methods job items p given row none took untold is = subs
   answered = record {
     overdue = false;
     timed = λ late. absurd (cc);
-    items = given;
+    items = [];
     outcome = λ answer answered. absurd (subst (λ (o : Option A). IsSomeAnd o (λ n. answers n [] false answer)) none answered);
-    ends = inl refl;
+    ends = nothing;
     taken = refl;
     told = refl;
+    count = refl;
+    trailers = no-trailers given nothing;
   };
+  unsent = (refl, refl);
 })
 
 -- what stands of a call stands of the same, of which what came was returned
-pub same_ends : (a b : SlotRun) (items given : List OutItem) (status : Option ℕ) → b.taker.progress ≡ record a.taker.progress { owed = 0 } → (b.index ≡ a.index) × (b.call ≡ a.call) × (b.in_hand ≡ a.in_hand) × (b.response ≡ a.response)
-    → IsGivenAs items given
+pub same_ends : (a b : SlotRun) (items given : List OutItem) (number : ℕ) (has : Bool) (status : Option ℕ) → b.taker.progress ≡ record a.taker.progress { owed = 0 } → (b.index ≡ a.index) × (b.call ≡ a.call) × (b.in_hand ≡ a.in_hand) × (b.response ≡ a.response)
+    → IsGivenAs items given → number ≡ count_of items → has ≡ has_trailers given
     → ((answer : Step) → GivesOf b.taker.progress.told answer b.call (shows b) → IsOutcome b.call.head b.call.overdue b.taker.progress.told answer items status)
-    → EndsAs a given status
-same_ends a b items given status less same ends outcome = (
+    → EndsAs a given number has status
+same_ends a b items given number has status less same ends count trailers outcome = (
   items,
   ends,
+  count,
+  trailers,
   subst (λ (t : Option Told). (answer : Step) → GivesOf t answer a.call (shows a) → IsOutcome a.call.head a.call.overdue t answer items status) (ap (λ (p : Progress). p.told) less)
       (subst (λ (c : Call). (answer : Step) → GivesOf b.taker.progress.told answer c (shows a) → IsOutcome c.head c.overdue b.taker.progress.told answer items status) same.1
       (subst (λ (r : Response SlotGiver SlotGiven). (answer : Step) → GivesOf b.taker.progress.told answer b.call (shown_by r) → IsOutcome b.call.head b.call.overdue b.taker.progress.told answer items status) same.3 outcome)),
 )
+
+-- trailers aren't among what was given of a call that is left
+pub left_trailers : (items given : List OutItem) → given ≡ items ++ Left ∷ [] → has_trailers items ≡ false → false ≡ has_trailers given
+left_trailers items given is none = sym (ap (λ (all : List OutItem). has_trailers all) is ∙ has_trailers-push items Left none)
 
 -- the item of a call that is left, where it was placed
 pub left_as : (items given : List OutItem) → given ≡ items ++ Left ∷ [] → IsGivenAs items given

@@ -1,5 +1,6 @@
 -- How a call goes on from turn to turn, over the lanes of its slot.
 use Rattle.std.specs.Prelude.{◌≡◌, ◌⊎◌, ℕ, Bool, true, List, ◌++◌, Option, IfSome, IsSome, slice_get}
+use Rattle.lane.specs.Lawful.{count_of}
 use Rattle.lane.specs.contracts.ring_lane.RingLaneLane.TheImpl.{ghosts, no_dict}
 use Rattle.lane.specs.declared.ring_lane.RingLane.{RingLane}
 use Rattle.lane.specs.declared.ring_lane.RingLaneIn.{RingLaneIn}
@@ -12,6 +13,7 @@ use Rattle.callbox.specs.contracts.piece.InPiece as in_piece
 use Rattle.callbox.specs.declared.piece.InPiece.{InPiece}
 use Rattle.callbox.specs.declared.taker.Progress.{Progress}
 use Rattle.callbox.specs.InSides.{Took}
+use Rattle.callbox.specs.OutSides.{has_trailers}
 use Rattle.handlers.specs.declared.state.MethodState.{MethodState}
 use Rattle.handlers.specs.declared.step.Step.{Step}
 use Rattle.callrun.specs.declared.call_run.CallRun.{CallRun}
@@ -20,7 +22,7 @@ use Rattle.callrun.specs.Outcomes.{IsOutcome}
 use Rattle.callrun.specs.Runs.{GivesOf, HasCome}
 use Rattle.callrun.specs.Sides.{Shown, name_by, shown}
 use Rattle.callslot.specs.declared.report.CallReport.{CallReport}
-use Rattle.callslot.specs.Accounts.{IsGivenAs}
+use Rattle.callslot.specs.Accounts.{HasSentNone, IsGivenAs}
 use Rattle.callslot.specs.Workers.{SlotGiven, SlotGiver}
 
 -- a call over the two lanes of a slot
@@ -68,12 +70,13 @@ IsOneCall before after = (out_name after.taker.rx ≡ out_name before.taker.rx)
     × (after.index ≡ before.index) × (after.call.head ≡ before.call.head) × (after.call.deadline ≡ before.call.deadline)
     × (after.call.overdue ≡ true → (before.call.overdue ≡ true) ⊎ IsSome before.call.deadline)
 
--- What was given is an outcome of whatever answer led to the call, and behind it at most that the call was left.
-abbrev pub EndsAs : SlotRun → List OutItem → Option ℕ → Type 0
-EndsAs run given status = (items : List OutItem) × IsGivenAs items given
+-- What was given is an outcome of whatever answer led to the call, of so many items, maybe with trailers and a status, and behind it at most that
+-- the call was left.
+abbrev pub EndsAs : SlotRun → List OutItem → ℕ → Bool → Option ℕ → Type 0
+EndsAs run given count trailers status = (items : List OutItem) × IsGivenAs items given × (count ≡ count_of items) × (trailers ≡ has_trailers given)
     × ((answer : Step) → GivesOf run.taker.progress.told answer run.call (shows run)
     → IsOutcome run.call.head run.call.overdue run.taker.progress.told answer items status)
 
--- a row of the call of this stream and method, by what was taken of it
+-- a row of the call of this stream and method, by what was taken of it, of which nothing is known to be sent
 abbrev pub IsRowOf : ℕ → ℕ → Progress → CallReport → Type 0
-IsRowOf id index progress row = (row.id ≡ id) × (row.method ≡ index) × (row.messages ≡ progress.taken) × (row.told ≡ progress.told)
+IsRowOf id index progress row = (row.id ≡ id) × (row.method ≡ index) × (row.messages ≡ progress.taken) × (row.told ≡ progress.told) × HasSentNone row

@@ -425,27 +425,34 @@ impl<A: Ledger, B: Ledger, C: Ledger, G: Gate + Drop> Worker<A, B, C, G> {
         ensures progress { result.taker.progress ≡ record run.taker.progress { owed = 0 } }
         ensures name { Some (shut_name result.shut.shut) ≡ giver_name run.response }
         ensures past { Some (past_shut result.shut.shut) ≡ given_past run.response }
-        ensures given { EndsAs run (put_shut result.shut.shut) result.row.status }
+        ensures given { EndsAs run (put_shut result.shut.shut) result.row.given
+            result.row.trailers_given result.row.status }
         ensures row { IsRowOf id index run.taker.progress result.row }
     {
         let mut run = run;
         let mut pace = pace;
         let credit = run.credit();
         pace.came(credit);
-        let (given, given_bytes) = run.given();
+        let (replies, reply_bytes) = run.given();
         let (taker, end, status) = run.into_ends();
-        let shut = shut_of(end);
+        let given = shut_of(end);
         self.settle(rt, id, credit, status.is_some());
         let row = CallReport {
             messages: taker.taken(),
             bytes: pace.bytes(),
             told: taker.told(),
-            given,
-            given_bytes,
+            given: given.count,
+            trailers_given: given.has_trailers,
+            replies,
+            reply_bytes,
             status,
             ..CallReport::unanswered(id, index)
         };
-        Finished { taker, shut, row }
+        Finished {
+            taker,
+            shut: given.shut,
+            row,
+        }
     }
 
     /// Returns what was taken of a call that is over, and tells reader and writer of it. Its last item was given before. One without trailers

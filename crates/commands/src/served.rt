@@ -24,7 +24,8 @@ pub fn report_of(
     Ok(text)
 }
 
-/// Tells a call: its stream and method, what it was fed, the messages and bytes that came in and went out, and how it ended.
+/// Tells a call: its stream and method, what it was fed, the messages and bytes that came in and went out, how many items were given and
+/// sent, and how it ended.
 fn tell(text: &mut String, methods: &Methods, call: &CallReport) -> Result<(), AllocError> {
     let path = match methods.get(call.method) {
         Some(method) => method.path(),
@@ -36,14 +37,15 @@ fn tell(text: &mut String, methods: &Methods, call: &CallReport) -> Result<(), A
     let CallReport {
         messages,
         bytes,
-        given,
-        given_bytes,
+        replies,
+        reply_bytes,
         ..
     } = call;
     write!(
         text,
-        "in {messages:>8} {bytes:>12} out {given:>8} {given_bytes:>12} "
+        "in {messages:>8} {bytes:>12} out {replies:>8} {reply_bytes:>12} "
     )?;
+    tell_sent(text, call)?;
     match (call.told, call.status) {
         (Some(Told::Reset(code)), _) => writeln!(text, "reset {code}")?,
         (_, Some(status)) => writeln!(text, "status {status}")?,
@@ -60,6 +62,20 @@ fn tell_half(text: &mut String, call: &CallReport) -> Result<(), AllocError> {
         Some(Shut::Reset(code)) => write!(text, "fed {fed:>12} reset {code} "),
         None => write!(text, "fed {fed:>12} open "),
     }
+}
+
+/// Tells how many items the call was answered with, how many of them were sent, and how far its trailers came.
+fn tell_sent(text: &mut String, call: &CallReport) -> Result<(), AllocError> {
+    let CallReport { given, sent, .. } = call;
+    let trailers = match (call.trailers_given, call.trailers_sent) {
+        (_, true) => "sent",
+        (true, false) => "given",
+        (false, false) => "none",
+    };
+    write!(
+        text,
+        "given {given:>8} sent {sent:>8} trailers {trailers:<5} "
+    )
 }
 
 /// How a connection ended, in a word.

@@ -2,6 +2,8 @@ pub mod CreditSteps
 pub mod Tallies
 pub mod Heard
 pub mod Reports
+pub mod Rising
+pub mod Noted
 pub mod Lines
 pub mod MeetSteps
 pub mod Whole

@@ -1,18 +1,22 @@
 -- The lines of the writer's orders are the slots' calls, as far as the orders were taken.
-use Rattle.std.proofs.Common.{◌≡◌, ◌∙◌, ◌⊎◌, inl, inr, ℕ, zero, suc, ◌+◌, ◌<◌, ◌≤◌, Bool, true, false, List, [], ◌∷◌, ◌++◌, Option, None, Some, ap, append-nil, append_assoc, arith, eq-eqb, get_or, length, map, refl, subst, sym, slice_get}
-use Rattle.std.specs.Prelude.{◌||◌, nat_eq}
+use Rattle.std.proofs.Common.{◌≡◌, ◌∙◌, ◌⊎◌, inl, inr, ℕ, zero, suc, ◌+◌, ◌<◌, ◌≤◌, Bool, true, false, List, [], ◌∷◌, ◌++◌, Option, None, Some, ap, append-nil, append_assoc, arith, eq-eqb, get_or, length, length-append, map, refl, subst, sym, slice_get}
+use Rattle.std.specs.Prelude.{◌||◌, nat_eq, All}
 use Rattle.std.specs.List.{list_any}
-use Rattle.std.proofs.lemmas.Bool.{cases_Bool, eqb-true}
-use Rattle.std.proofs.lemmas.List.{map_push}
+use Rattle.std.proofs.Math.ListN.{get_or-append}
+use Rattle.std.proofs.lemmas.Bool.{cases_Bool, cases_eq, eqb-true}
+use Rattle.std.proofs.lemmas.List.{get_or_push, map_push}
 use mathlib.Core.List.{IsPrefix}
 use Rattle.account.specs.declared.call.Account.{Account}
 use Rattle.account.specs.declared.call.OutItem.{OutItem}
+use Rattle.callbox.specs.OutSides.{has_end}
 use Rattle.callslot.specs.declared.order.Opened.{Opened}
+use Rattle.callslot.specs.declared.report.CallReport.{CallReport}
 use Rattle.callslot.specs.declared.report.Ending.{Ending}
 use Rattle.callslot.specs.declared.order.Opened.TheVariants.{New, Again}
 use Rattle.callslot.specs.Workers.{GivingEnd, given_at, giving_ring}
-use Rattle.connwriter.specs.Sent.{HasSender, IsIn, IsOld, IsTold, Line, again, again_at, begun}
+use Rattle.connwriter.specs.Sent.{AllTold, HasSender, IsIn, IsOld, IsTold, Line, again, again_at, begun, last_ids}
 use Rattle.lane.specs.Cuts.{segment}
+use Rattle.lane.specs.Lawful.{count_of}
 use Rattle.lane.specs.RingLane.{LaneName, got, out_name, past_out, ring_of}
 use Rattle.outwriter.specs.declared.control.Control.{Control}
 use Rattle.outwriter.specs.declared.control.Control.TheVariants.{Settings, Ping, Probe, Window, Open, Refuse, Reset, Goaway, InputEnded, Close}
@@ -23,10 +27,13 @@ use Rattle.slots.specs.Ids.{times}
 use Rattle.slots.specs.Lines.{AreEndsOf, AreNew, HasCall, IsGivenIn, SlotCalls, calls_from, calls_step, goes_on}
 use Rattle.slots.proofs.Ids.{one_if, times-append, times-cons}
 use Rattle.slots.proofs.Lines.{calls-append}
-use Rattle.slotwriter.specs.Sent.{AreFresh, HaveTold, Lines, SlotSender, line_step, lines_from, lines_of, streams_of}
+use Rattle.connection.proofs.Rising.{Above, above-from, above-then, still-from}
+use Rattle.slotwriter.specs.declared.senders.Place.{Place}
+use Rattle.slotwriter.specs.Sent.{AreFresh, HaveTold, Lines, SlotSender, held_of, ids_of, line_step, lines_from, lines_of, streams_of}
 use Rattle.slotwriter.specs.Written.{HasSent}
-use Rattle.slotwriter.proofs.ToldLines.{tells-given}
-use Rattle.connection.specs.Sent.{AreMeeting, HaveMet, LinedTo}
+use Rattle.slotwriter.proofs.ToldLines.{tells-given, told-line}
+use Rattle.connection.specs.Sent.{AllSent, AreMeeting, HasGotAll, HasMet, HaveMet, IsNoted, LinedTo, NoneSent, SomeSent, sent_all, sent_none, sent_some}
+use Rattle.connection.proofs.Noted.{IsSentRow, rows-all, rows-none, rows-some}
 
 -- ---- lines as calls
 
@@ -88,10 +95,13 @@ old-has (line ∷ lines) id (inr (inr there)) = inr (old-has lines id there)
 
 -- ---- orders that open new streams
 
+below-itself : (id : ℕ) → id < id → ⊥
+below-itself id less = omega (arith, less)
+
 pub fresh-of : (lines : Lines) (orders : List (Control Opened)) → AreNew (as_calls lines) orders → AreFresh lines orders
 fresh-of lines [] new = tt
 fresh-of lines (Open id opened ∷ orders) new =
-    (λ old. new.0 (old-has lines id old), fresh-of (line_step lines (Open id opened)) orders (subst (λ (slots : List SlotCalls). AreNew slots orders) (sym (as-step lines (Open id opened))) new.1))
+    (λ old. below-itself id (new.0 id (old-has lines id old)), fresh-of (line_step lines (Open id opened)) orders (subst (λ (slots : List SlotCalls). AreNew slots orders) (sym (as-step lines (Open id opened))) new.1))
 fresh-of lines (Settings settings ∷ orders) new = (tt, fresh-of lines orders new.1)
 fresh-of lines (Ping bytes ∷ orders) new = (tt, fresh-of lines orders new.1)
 fresh-of lines (Probe bytes ∷ orders) new = (tt, fresh-of lines orders new.1)
@@ -192,7 +202,7 @@ few-step slots id (Again n) new few = few-more slots (goes_on slots n id) id new
 
 few-from : (slots : List SlotCalls) (orders : List (Control Opened)) → AreNew slots orders → AreFew slots → AreFew (calls_from slots orders)
 few-from slots [] new few = few
-few-from slots (Open id opened ∷ orders) new few = few-from (calls_step slots (Open id opened)) orders new.1 (few-step slots id opened new.0 few)
+few-from slots (Open id opened ∷ orders) new few = few-from (calls_step slots (Open id opened)) orders new.1 (few-step slots id opened (λ has. below-itself id (new.0 id has)) few)
 few-from slots (Settings settings ∷ orders) new few = few-from slots orders new.1 few
 few-from slots (Ping bytes ∷ orders) new few = few-from slots orders new.1 few
 few-from slots (Probe bytes ∷ orders) new few = few-from slots orders new.1 few
@@ -322,14 +332,32 @@ pub record Fits (slots : List SlotCalls) (orders : List (Control Opened)) : Type
   pub fresh : AreFresh [] orders
   pub new : AreNew [] orders
   pub grow : Grow (calls_from [] orders) slots
+  pub above : Above slots (calls_from [] orders)
 
 close-calls : (orders : List (Control Opened)) → calls_from [] (orders ++ Close ∷ []) ≡ calls_from [] orders
 close-calls orders = calls-append [] orders (Close ∷ [])
 
+-- the calls of a front of new orders, by those of all
+above-front : (all front rest : List (Control Opened)) → front ++ rest ≡ all → AreNew [] all → Above (calls_from [] all) (calls_from [] front)
+above-front all front rest is new =
+    let parts = new-parts [] front rest (subst (λ (os : List (Control Opened)). AreNew [] os) (sym is) new) in
+    subst (λ (calls : List SlotCalls). Above calls (calls_from [] front)) (sym (calls-append [] front rest) ∙ ap (λ (os : List (Control Opened)). calls_from [] os) is)
+    (above-from (calls_from [] front) rest parts.1)
+
+within-front : (all front rest : List (Control Opened)) → front ++ rest ≡ all → (id : ℕ) → HasCall id (calls_from [] front) → HasCall id (calls_from [] all)
+within-front all front rest is id has =
+    subst (λ (calls : List SlotCalls). HasCall id calls) (sym (calls-append [] front rest) ∙ ap (λ (os : List (Control Opened)). calls_from [] os) is)
+    (still-from id (calls_from [] front) rest has)
+
 pub fits-front : (slots : List SlotCalls) (orders front rest : List (Control Opened)) → front ++ rest ≡ orders → Fits slots orders → Fits slots front
 fits-front slots orders front rest is fits =
     let new : AreNew [] front = new-front [] front rest (subst (λ (os : List (Control Opened)). AreNew [] os) (sym is) fits.new) in
-    record { fresh = fresh-of [] front new; new = new; grow = grow-then (calls_from [] front) (calls_from [] orders) slots (grow-front front rest orders is) fits.grow }
+    record {
+      fresh = fresh-of [] front new;
+      new = new;
+      grow = grow-then (calls_from [] front) (calls_from [] orders) slots (grow-front front rest orders is) fits.grow;
+      above = above-then slots (calls_from [] orders) (calls_from [] front) fits.above (above-front orders front rest is fits.new) (within-front orders front rest is);
+    }
 
 pub fits-put : (slots : List SlotCalls) (put : List (Control Opened)) → LinedTo slots put → Fits slots put
 fits-put slots put lined =
@@ -340,6 +368,8 @@ fits-put slots put lined =
       new = all;
       grow = subst (λ (calls : List SlotCalls). Grow calls slots) (sym (close-calls lined.front))
           (subst (λ (calls : List SlotCalls). Grow (calls_from [] lined.front) calls) lined.calls (grow-front lined.front lined.begins.0 lined.all lined.begins.1));
+      above = subst (λ (calls : List SlotCalls). Above slots calls) (sym (close-calls lined.front))
+          (subst (λ (calls : List SlotCalls). Above calls (calls_from [] lined.front)) lined.calls (above-front lined.all lined.front lined.begins.0 lined.begins.1 lined.fresh));
     })
 
 -- ---- where a giving end meets its sender
@@ -426,17 +456,118 @@ unopened-unserved id (Granted stream n ∷ before) none = unopened-unserved id b
 unopened-unserved id (Returned stream items ∷ before) none = unopened-unserved id before none
 unopened-unserved id (Written frame ∷ before) none = unopened-unserved id before none
 
-module _ (run : List Step) (front : List (Control Opened)) (held : List (Option SlotSender)) (slots : List SlotCalls) (ends : List GivingEnd) (fits : Fits slots front) (few : AreFew slots)
-    (told : HaveTold run (lines_of front) held) (unopened : (id : ℕ) → (IsOld id (lines_of front) → ⊥) → is_opened id run ≡ false) (met : HaveMet held ends) where
-  -- a list of items that begins what was given, and is told
-  abbrev pub Sent : ℕ → Account → Type 0
-  Sent id account = (sent : List OutItem) × IsPrefix sent account.given × IsTold run id sent
+-- ---- the streams of a line's calls rise
 
-  -- a line of this stream stands where the slot's call does
-  place-of : (id n k : ℕ) (slot : SlotCalls) → slice_get slots n ≡ Some slot → slice_get slot.ids k ≡ Some id → IsOld id (lines_of front)
+-- the last call of each line is above those before
+abbrev AreTopped : Lines → Type 0
+AreTopped [] = Unit {0}
+AreTopped (line ∷ lines) = ((one : ℕ) → IsIn one line.before → one < line.id) × AreTopped lines
+
+in-push : (one last : ℕ) (ids : List ℕ) → IsIn one (ids ++ last ∷ []) → IsIn one ids ⊎ (one ≡ last)
+in-push one last [] (inl is) = inr is
+in-push one last [] (inr none) = absurd none
+in-push one last (first ∷ ids) (inl is) = inl (inl is)
+in-push one last (first ∷ ids) (inr there) = elim (in-push one last ids there) [
+  | inl was ↦ inl (inr was)
+  | inr is ↦ inr is
+]
+
+topped-push : (lines : Lines) (ring : LaneName) (id : ℕ) → AreTopped lines → AreTopped (lines ++ begun ring id ∷ [])
+topped-push [] ring id are = (λ one none. absurd none, tt)
+topped-push (line ∷ lines) ring id are = (are.0, topped-push lines ring id are.1)
+
+topped-again : (lines : Lines) (n id : ℕ) → ((other : ℕ) → IsOld other lines → other < id) → AreTopped lines → AreTopped (again_at lines n id)
+topped-again [] n id high are = tt
+topped-again (line ∷ lines) zero id high are = (
+  λ one is. elim (in-push one line.id line.before is) [
+    | inl before ↦ high one (inr (inl before))
+    | inr last ↦ high one (inl last)
+  ],
+  are.1,
+)
+topped-again (line ∷ lines) (suc n) id high are = (are.0, topped-again lines n id (λ other old. high other (inr (inr old))) are.1)
+
+topped-from : (lines : Lines) (orders : List (Control Opened)) → AreNew (as_calls lines) orders → AreTopped lines → AreTopped (lines_from lines orders)
+topped-from lines [] new are = are
+topped-from lines (Open id (New fresh) ∷ orders) new are =
+    topped-from (line_step lines (Open id (New fresh))) orders (subst (λ (slots : List SlotCalls). AreNew slots orders) (sym (as-step lines (Open id (New fresh)))) new.1) (topped-push lines _ id are)
+topped-from lines (Open id (Again n) ∷ orders) new are =
+    topped-from (line_step lines (Open id (Again n))) orders (subst (λ (slots : List SlotCalls). AreNew slots orders) (sym (as-step lines (Open id (Again n)))) new.1)
+    (topped-again lines n id (λ other old. new.0 other (old-has lines other old)) are)
+topped-from lines (Settings settings ∷ orders) new are = topped-from lines orders new.1 are
+topped-from lines (Ping bytes ∷ orders) new are = topped-from lines orders new.1 are
+topped-from lines (Probe bytes ∷ orders) new are = topped-from lines orders new.1 are
+topped-from lines (Window id n ∷ orders) new are = topped-from lines orders new.1 are
+topped-from lines (Refuse id fields ∷ orders) new are = topped-from lines orders new.1 are
+topped-from lines (Reset id code written ∷ orders) new are = topped-from lines orders new.1 are
+topped-from lines (Goaway last code ∷ orders) new are = topped-from lines orders new.1 are
+topped-from lines (InputEnded ∷ orders) new are = topped-from lines orders new.1 are
+topped-from lines (Close ∷ orders) new are = topped-from lines orders new.1 are
+
+-- a call of a line isn't above the line's last one
+top-of : (lines : Lines) (id : ℕ) → IsOld id lines → AreTopped lines → (m : ℕ) × (last : ℕ) × (slice_get (last_ids lines) m ≡ Some last) × (id ≤ last)
+top-of [] id old are = absurd old
+top-of (line ∷ lines) id (inl last) are = (0, line.id, refl, omega (arith, last))
+top-of (line ∷ lines) id (inr (inl before)) are = let less = are.0 id before in (0, line.id, refl, omega (arith, less))
+top-of (line ∷ lines) id (inr (inr there)) are = let rest = top-of lines id there are.1 in (suc rest.0, rest.1, rest.2, rest.3)
+
+last-old : (lines : Lines) (m id : ℕ) → slice_get (last_ids lines) m ≡ Some id → IsOld id lines
+last-old [] m id is = absurd cc
+last-old (line ∷ lines) zero id is = let same : line.id ≡ id = cc in inl (sym same)
+last-old (line ∷ lines) (suc m) id is = inr (inr (last-old lines m id is))
+
+-- the line that is at a call of this stream
+last-line : (lines : Lines) (m id : ℕ) → slice_get (last_ids lines) m ≡ Some id
+    → (line : Line LaneName) × (line ≡ get_or lines m line) × (slice_get (as_calls lines) m ≡ Some (as_call line)) × (line.id ≡ id)
+last-line [] m id is = absurd cc
+last-line (line ∷ lines) zero id is = (line, refl, refl, cc)
+last-line (line ∷ lines) (suc m) id is = last-line lines m id is
+
+last-at : (lines : Lines) (n : ℕ) (line : Line LaneName) → line ≡ get_or lines n line → n < length lines → slice_get (last_ids lines) n ≡ Some line.id
+last-at [] n line is within = absurd (omega (arith, within))
+last-at (one ∷ lines) zero line is within = ap (λ (l : Line LaneName). Some l.id) (sym is)
+last-at (one ∷ lines) (suc n) line is within = last-at lines n line is (omega (arith, within))
+
+all-lengths : (run : List Step) (ids : List ℕ) (lists : List (List OutItem)) → AllTold run ids lists → length ids ≡ length lists
+all-lengths run [] [] all = refl
+all-lengths run [] (items ∷ lists) all = absurd all
+all-lengths run (id ∷ ids) [] all = absurd all
+all-lengths run (id ∷ ids) (items ∷ lists) all = ap (λ (n : ℕ). suc n) (all-lengths run ids lists all.1)
+
+-- the sender of a line is at the line's last call
+line-length : (run : List Step) (lines : Lines) (held : List (Option SlotSender)) (n : ℕ) (line : Line LaneName) (sender : SlotSender) → HaveTold run lines held → line ≡ get_or lines n line → get_or held n None ≡ Some sender
+    → length line.before ≡ length (past_out sender.rx)
+line-length run lines held n line sender told is has =
+    let all = told-line run lines held n line sender told is has in
+    let same = all-lengths run (streams_of line) (past_out sender.rx ++ got sender.rx ∷ []) all.1 in
+    let one = length-append line.before (line.id ∷ []) in
+    let two = length-append (past_out sender.rx) (got sender.rx ∷ []) in omega (arith, same, one, two)
+
+get-last : {A : Type 0} (xs : List A) (x : A) → slice_get (xs ++ x ∷ []) (length xs) ≡ Some x
+get-last [] x = refl
+get-last (a ∷ xs) x = get-last xs x
+
+has-at : (id n k : ℕ) (slots : List SlotCalls) (slot : SlotCalls) → slice_get slots n ≡ Some slot → slice_get slot.ids k ≡ Some id → HasCall id slots
+has-at id n k [] slot at is = absurd cc
+has-at id zero k (first ∷ slots) slot at is =
+    let same : slot ≡ first = cc in inl (any-at id k first.ids (subst (λ (s : SlotCalls). slice_get s.ids k ≡ Some id) same is))
+  where
+    any-at : (id k : ℕ) (ids : List ℕ) → slice_get ids k ≡ Some id → list_any (nat_eq id) ids ≡ true
+    any-at id k [] is = absurd cc
+    any-at id zero (one ∷ ids) is = let same : one ≡ id = cc in ap (λ (b : Bool). b || list_any (nat_eq id) ids) (eq-eqb id one (sym same))
+    any-at id (suc k) (one ∷ ids) is = ap (λ (b : Bool). nat_eq id one || b) (any-at id k ids is) ∙ or-true (nat_eq id one)
+has-at id (suc n) k (first ∷ slots) slot at is = inr (has-at id n k slots slot at is)
+
+-- ---- what was sent of a call, and what is noted of it
+
+module _ (run : List Step) (front : List (Control Opened)) (ids : List ℕ) (held : List (Option SlotSender)) (slots : List SlotCalls) (ends : List GivingEnd) (fits : Fits slots front) (few : AreFew slots)
+    (told : HaveTold run (lines_of front) held) (last : ids ≡ last_ids (lines_of front)) (unopened : (id : ℕ) → (IsOld id (lines_of front) → ⊥) → is_opened id run ≡ false)
+    (met : (n : ℕ) (end : GivingEnd) (sender : SlotSender) → slice_get ends n ≡ Some end → get_or held n None ≡ Some sender → HasMet end sender) where
+  -- a line stands where the slot is whose call it has
+  place-of : (id n k : ℕ) (slot : SlotCalls) → slice_get slots n ≡ Some slot → slice_get slot.ids k ≡ Some id → HasCall id (as_calls (lines_of front))
       → (line : SlotCalls) × (slice_get (as_calls (lines_of front)) n ≡ Some line) × (slice_get line.ids k ≡ Some id)
-  place-of id n k slot at is old =
-      let place = has-place id (as_calls (lines_of front)) (old-has (lines_of front) id old) in
+  place-of id n k slot at is has =
+      let place = has-place id (as_calls (lines_of front)) has in
       let grown = fits.grow place.0 place.1 (subst (λ (calls : List SlotCalls). slice_get calls place.0 ≡ Some place.1) (as-from [] front) place.3) in
       let same = one-place id place.0 n place.2 k slots grown.0 slot (few id) grown.1 at (prefix-get place.1.ids grown.0.ids place.2 id grown.2.1 place.4) is in (
         place.1,
@@ -444,39 +575,126 @@ module _ (run : List Step) (front : List (Control Opened)) (held : List (Option 
         subst (λ (j : ℕ). slice_get place.1.ids j ≡ Some id) same.1 place.4,
       )
 
-  untold : (id : ℕ) (account : Account) → (IsOld id (lines_of front) → ⊥) → Sent id account
-  untold id account not = ([], (account.given, refl), λ served. let none = unopened-unserved id run (unopened id not) in absurd cc)
-
-  told-there : (id n k : ℕ) (slot line : SlotCalls) (end : GivingEnd) (account : Account) → slice_get ends n ≡ Some end → account.given ≡ segment (given_at end) k
-      → slice_get (as_calls (lines_of front)) n ≡ Some line → slice_get line.ids k ≡ Some id → Sent id account
-  told-there id n k slot line end account by gave there is =
-      let found = line-at (lines_of front) n line there in
-      let sender = sender-at run (lines_of front) held n told found.3 in
-      let sents : List (List OutItem) = past_out sender.0.rx ++ got sender.0.rx ∷ [] in
-      let all = tells-given run (lines_of front) held n found.0 sender.0 told found.1 sender.1 in
-      let stream = get-or-is (streams_of found.0) k id (subst (λ (slot_calls : SlotCalls). slice_get slot_calls.ids k ≡ Some id) found.2 is) in (
-        segment sents k,
-        subst (λ (items : List OutItem). IsPrefix (segment sents k) items) (sym gave) (met n end sender.0 by sender.1 k),
-        subst (λ (stream_id : ℕ). IsTold run stream_id (segment sents k)) stream.0 (all.1 sents k ([], append-nil (segment sents k)) stream.1),
-      )
-
-  -- what was sent of a call that a slot has
-  pub sent-of : (id : ℕ) (account : Account) → IsGivenIn slots ends id account → Sent id account
-  sent-of id account (n, k, slot, end, at, by, is, gave) = elim (found-or (slice_get (as_calls (lines_of front)) n)) [
-    | inr none ↦ untold id account (λ old. let place = place-of id n k slot at is old in let here = place.1 in absurd cc)
-    | inl some ↦ elim (found-or (slice_get some.0.ids k)) [
-      | inr none ↦ untold id account (λ old.
-          let place = place-of id n k slot at is old in
-          let same : place.0 ≡ some.0 = same-some (slice_get (as_calls (lines_of front)) n) place.0 some.0 place.1 some.1 in
-          let here = subst (λ (line : SlotCalls). slice_get line.ids k ≡ Some id) same place.2 in absurd cc)
-      | inl there ↦
-          let grown = fits.grow n some.0 (subst (λ (calls : List SlotCalls). slice_get calls n ≡ Some some.0) (as-from [] front) some.1) in
-          let slot_is : grown.0 ≡ slot = same-some (slice_get slots n) grown.0 slot grown.1 at in
-          let other = prefix-get some.0.ids grown.0.ids k there.0 grown.2.1 there.1 in
-          let id_is : there.0 ≡ id = same-some (slice_get slot.ids k) there.0 id (subst (λ (s : SlotCalls). slice_get s.ids k ≡ Some there.0) slot_is other) is in
-          told-there id n k slot some.0 end account by gave some.1 (subst (λ (m : ℕ). slice_get some.0.ids k ≡ Some m) id_is there.1)
-    ]
+  -- a call that isn't above the last one of a line has a line
+  reached : (id n k m top : ℕ) (slot : SlotCalls) → slice_get slots n ≡ Some slot → slice_get slot.ids k ≡ Some id → slice_get ids m ≡ Some top → id ≤ top → HasCall id (as_calls (lines_of front))
+  reached id n k m top slot at is has low = elim (fits.above id (has-at id n k slots slot at is)) [
+    | inl there ↦ subst (λ (calls : List SlotCalls). HasCall id calls) (sym (as-from [] front)) there
+    | inr above ↦
+        let old = last-old (lines_of front) m top (subst (λ (is : List ℕ). slice_get is m ≡ Some top) last has) in
+        let high = above top (subst (λ (calls : List SlotCalls). HasCall top calls) (as-from [] front) (old-has (lines_of front) top old)) in absurd (omega (arith, high, low))
   ]
+
+  -- nothing was sent of one that is
+  none-sent : (row new : CallReport) (given : List OutItem) → All (λ id. id < row.id) ids → new ≡ sent_none row → IsSentRow run given row new
+  none-sent row new given below is = (
+    [],
+    (given, refl),
+    λ served. let none = unopened-unserved row.id run (unopened row.id not) in absurd cc,
+    rows-none given row new is,
+  )
+    where
+      not : IsOld row.id (lines_of front) → ⊥
+      not old =
+          let top = top-of (lines_of front) row.id old (topped-from [] front fits.new tt) in
+          let there = get-or-is ids top.0 top.1 (subst (λ (is : List ℕ). slice_get is top.0 ≡ Some top.1) (sym last) top.2) in
+          let less : get_or ids top.0 0 < row.id = below top.0 0 there.1 in
+          let is_top = there.0 in
+          let low = top.3 in omega (arith, less, is_top, low)
+
+  -- what its slot's sender got was sent of a call that has a line
+  module _ (n k : ℕ) (slot line_calls : SlotCalls) (end : GivingEnd) (row : CallReport) (account : Account) (by : slice_get ends n ≡ Some end) (gave : account.given ≡ segment (given_at end) k)
+      (there : slice_get (as_calls (lines_of front)) n ≡ Some line_calls) (is : slice_get line_calls.ids k ≡ Some row.id) where
+    found : (line : Line LaneName) × (line ≡ get_or (lines_of front) n line) × (line_calls ≡ as_call line) × (n < length (lines_of front))
+    found = line-at (lines_of front) n line_calls there
+
+    held-there : (sender : SlotSender) × (get_or held n None ≡ Some sender)
+    held-there = sender-at run (lines_of front) held n told found.3
+
+    stream : (get_or (streams_of found.0) k 0 ≡ row.id) × (k < length (streams_of found.0))
+    stream = get-or-is (streams_of found.0) k row.id (subst (λ (calls : SlotCalls). slice_get calls.ids k ≡ Some row.id) found.2 is)
+
+    meets : HasMet end held-there.0
+    meets = met n end held-there.0 by held-there.1
+
+    abbrev sents : List (List OutItem)
+    sents = past_out held-there.0.rx ++ got held-there.0.rx ∷ []
+
+    begins-given : IsPrefix (segment sents k) account.given
+    begins-given = subst (λ (items : List OutItem). IsPrefix (segment sents k) items) (sym gave) (meets.begins k)
+
+    tells-sent : IsTold run row.id (segment sents k)
+    tells-sent = subst (λ (id : ℕ). IsTold run id (segment sents k)) stream.0
+        ((tells-given run (lines_of front) held n found.0 held-there.0 told found.1 held-there.1).1 sents k ([], append-nil (segment sents k)) stream.1)
+
+    same-length : length found.0.before ≡ length (past_out held-there.0.rx)
+    same-length = line-length run (lines_of front) held n found.0 held-there.0 told found.1 held-there.1
+
+    -- it isn't behind the last one
+    reaches : k ≤ length (past_out held-there.0.rx)
+    reaches = let one = length-append found.0.before (found.0.id ∷ []) in
+        let within = stream.1 in
+        let same = same-length in omega (arith, one, within, same)
+
+    -- the last one is that of the line
+    is-last : k ≡ length (past_out held-there.0.rx) → slice_get ids n ≡ Some row.id
+    is-last at_last =
+        let here : slice_get (streams_of found.0) k ≡ Some found.0.id = subst (λ (j : ℕ). slice_get (streams_of found.0) j ≡ Some found.0.id) (same-length ∙ sym at_last) (get-last found.0.before found.0.id) in
+        let same : found.0.id ≡ row.id = same-some (slice_get (streams_of found.0) k) found.0.id row.id here (subst (λ (calls : SlotCalls). slice_get calls.ids k ≡ Some row.id) found.2 is) in
+        subst (λ (all : List ℕ). slice_get all n ≡ Some row.id) (sym last) (subst (λ (id : ℕ). slice_get (last_ids (lines_of front)) n ≡ Some id) same (last-at (lines_of front) n found.0 found.1 found.3))
+
+    -- all was sent of it
+    all-sent : (new : CallReport) → ((m : ℕ) (one : GivingEnd) (sender : SlotSender) → slice_get ids m ≡ Some row.id → slice_get ends m ≡ Some one → get_or held m None ≡ Some sender → HasGotAll one sender)
+        → new ≡ sent_all row → IsSentRow run account.given row new
+    all-sent new whole is_new = (
+      account.given,
+      ([], append-nil account.given),
+      subst (λ (items : List OutItem). IsTold run row.id items) (same ∙ sym gave) tells-sent,
+      rows-all account.given row new is_new,
+    )
+      where
+        same : segment sents k ≡ segment (given_at end) k
+        same = elim (cases_eq k (length (past_out held-there.0.rx))) [
+          | inl at_last ↦
+              subst (λ (j : ℕ). segment sents j ≡ segment (given_at end) j) (sym at_last)
+              (get_or_push (past_out held-there.0.rx) (got held-there.0.rx) [] (length (past_out held-there.0.rx)) refl ∙ whole n end held-there.0 (is-last at_last) by held-there.1)
+          | inr before ↦
+              let low = reaches in
+              let less : k < length (past_out held-there.0.rx) = omega (arith, low, before) in
+              get_or-append (past_out held-there.0.rx) (got held-there.0.rx ∷ []) [] k less
+              ∙ (sym (get_or-append (past_out held-there.0.rx) meets.before.0 [] k less) ∙ ap (λ (all : List (List OutItem)). segment all k) meets.before.1)
+        ]
+
+    -- so many items were sent
+    some-sent : (new : CallReport) (sender : SlotSender) → k ≡ length (past_out sender.rx) → get_or held n None ≡ Some sender → has_end (got sender.rx) ≡ false → new ≡ sent_some (count_of (got sender.rx)) row
+        → IsSentRow run account.given row new
+    some-sent new sender at_last has unended is_new =
+        let one : held-there.0 ≡ sender = same-some (get_or held n None) held-there.0 sender held-there.1 has in
+        let same : segment sents k ≡ got sender.rx =
+        subst (λ (s : SlotSender). segment sents k ≡ got s.rx) one
+        (subst (λ (j : ℕ). segment sents j ≡ got held-there.0.rx) (ap (λ (s : SlotSender). length (past_out s.rx)) one ∙ sym at_last)
+        (get_or_push (past_out held-there.0.rx) (got held-there.0.rx) [] (length (past_out held-there.0.rx)) refl)) in
+        let begins : IsPrefix (got sender.rx) account.given = subst (λ (items : List OutItem). IsPrefix items account.given) same begins-given in (
+          got sender.rx,
+          begins,
+          subst (λ (items : List OutItem). IsTold run row.id items) same tells-sent,
+          rows-some account.given (got sender.rx) row new begins unended is_new,
+        )
+
+  -- what was sent of a call that a slot has, as it is noted
+  pub sent-of : (row new : CallReport) (account : Account) → IsGivenIn slots ends row.id account → IsNoted ids held ends row new → IsSentRow run account.given row new
+  sent-of row new account (n, k, slot, end, at, by, is, gave) (NoneSent below is_new) = none-sent row new account.given below is_new
+  sent-of row new account (n, k, slot, end, at, by, is, gave) (AllSent m top has low whole is_new) =
+      let place = place-of row.id n k slot at is (reached row.id n k m top slot at is has low) in
+      all-sent n k slot place.0 end row account by gave place.1 place.2 new whole is_new
+  sent-of row new account (n, k, slot, end, at, by, is, gave) (SomeSent m other sender has by_other held_other unended is_new) =
+      let line = last-line (lines_of front) m row.id (subst (λ (all : List ℕ). slice_get all m ≡ Some row.id) last has) in
+      let grown = fits.grow m (as_call line.0) (subst (λ (calls : List SlotCalls). slice_get calls m ≡ Some (as_call line.0)) (as-from [] front) line.2) in
+      let here : slice_get (streams_of line.0) (length line.0.before) ≡ Some row.id = subst (λ (id : ℕ). slice_get (streams_of line.0) (length line.0.before) ≡ Some id) line.3 (get-last line.0.before line.0.id) in
+      let same = one-place row.id m n (length line.0.before) k slots grown.0 slot (few row.id) grown.1 at (prefix-get (streams_of line.0) grown.0.ids (length line.0.before) row.id grown.2.1 here) is in
+      let held_here : get_or held n None ≡ Some sender = subst (λ (j : ℕ). get_or held j None ≡ Some sender) same.0 held_other in
+      let long : length line.0.before ≡ length (past_out sender.rx) = line-length run (lines_of front) held m line.0 sender told line.1 held_other in
+      some-sent n k slot (as_call line.0) end row account by gave (subst (λ (j : ℕ). slice_get (as_calls (lines_of front)) j ≡ Some (as_call line.0)) same.0 line.2)
+      (subst (λ (j : ℕ). slice_get (streams_of line.0) j ≡ Some row.id) same.1 here) new sender (sym same.1 ∙ long) held_here unended is_new
 
 pub few-lined : (slots : List SlotCalls) (put : List (Control Opened)) → LinedTo slots put → AreFew slots
 few-lined slots put lined = subst (λ (calls : List SlotCalls). AreFew calls) lined.calls (few-from [] lined.all lined.fresh (λ id. omega arith))
@@ -485,22 +703,23 @@ few-lined slots put lined = subst (λ (calls : List SlotCalls). AreFew calls) li
 
 module _ {W : Type 0} (contents : W → Option (List ℕ)) (failed : W → Bool) where
   -- the orders that were taken are some of those that were put
-  pub fits-sent : (slots : List SlotCalls) (put took left : List (Control Opened)) (before : Option (List ℕ)) (credit : ℕ) (held : List (Option SlotSender)) (ending : Option Ending) (device : W) → took ++ left ≡ put → LinedTo slots put
-      → (sent : HasSent contents failed before credit took held ending device) → Fits slots took × Fits slots sent.front
-  fits-sent slots put took left before credit held ending device is lined sent =
+  pub fits-sent : (slots : List SlotCalls) (put took left : List (Control Opened)) (before : Option (List ℕ)) (credit : ℕ) (places : List Place) (ending : Option Ending) (device : W) → took ++ left ≡ put → LinedTo slots put
+      → (sent : HasSent contents failed before credit took places ending device) → Fits slots took × Fits slots sent.front
+  fits-sent slots put took left before credit places ending device is lined sent =
       let fits = fits-front slots put took left is (fits-put slots put lined) in
       (fits, fits-front slots took sent.front sent.rest (sym sent.orders_are) fits)
 
-  pub meeting-put : (slots : List SlotCalls) (put took : List (Control Opened)) (before : Option (List ℕ)) (credit : ℕ) (held : List (Option SlotSender)) (ending : Option Ending) (device : W) (ends : List GivingEnd)
-      → IsPrefix took put → LinedTo slots put → HasSent contents failed before credit took held ending device → AreEndsOf slots ends → AreMeeting held ends
-  meeting-put slots put took before credit held ending device ends begins lined sent are =
-      let fits = fits-sent slots put took begins.0 before credit held ending device begins.1 lined sent in
-      meeting sent.written.run sent.front held slots ends fits.1 (sent.told fits.0.fresh) are
+  pub meeting-put : (slots : List SlotCalls) (put took : List (Control Opened)) (before : Option (List ℕ)) (credit : ℕ) (places : List Place) (ending : Option Ending) (device : W) (ends : List GivingEnd)
+      → IsPrefix took put → LinedTo slots put → HasSent contents failed before credit took places ending device → AreEndsOf slots ends → AreMeeting (held_of places) ends
+  meeting-put slots put took before credit places ending device ends begins lined sent are =
+      let fits = fits-sent slots put took begins.0 before credit places ending device begins.1 lined sent in
+      meeting sent.written.run sent.front (held_of places) slots ends fits.1 (sent.told fits.0.fresh) are
 
   -- what was sent of a call that a slot has
-  pub sent-put : (slots : List SlotCalls) (put took left : List (Control Opened)) (before : Option (List ℕ)) (credit : ℕ) (held : List (Option SlotSender)) (ending : Option Ending) (device : W) (ends : List GivingEnd)
-      → took ++ left ≡ put → LinedTo slots put → (sent : HasSent contents failed before credit took held ending device) → HaveMet held ends
-      → (id : ℕ) (account : Account) → IsGivenIn slots ends id account → (items : List OutItem) × IsPrefix items account.given × IsTold sent.written.run id items
-  sent-put slots put took left before credit held ending device ends is lined sent met =
-      let fits = fits-sent slots put took left before credit held ending device is lined sent in
-      sent-of sent.written.run sent.front held slots ends fits.1 (few-lined slots put lined) (sent.told fits.0.fresh) (sent.unopened fits.0.fresh) met
+  pub sent-put : (slots : List SlotCalls) (put took left : List (Control Opened)) (before : Option (List ℕ)) (credit : ℕ) (places : List Place) (ending : Option Ending) (device : W) (ends : List GivingEnd) (rows new : List CallReport)
+      → took ++ left ≡ put → LinedTo slots put → (sent : HasSent contents failed before credit took places ending device) → (met : HaveMet (ids_of places) (held_of places) ends rows new)
+      → (row : CallReport) (account : Account) → IsGivenIn slots ends row.id account → IsSentRow sent.written.run account.given row (met.note row)
+  sent-put slots put took left before credit places ending device ends rows new is lined sent met row account given =
+      let fits = fits-sent slots put took left before credit places ending device is lined sent in
+      sent-of sent.written.run sent.front (ids_of places) (held_of places) slots ends fits.1 (few-lined slots put lined) (sent.told fits.0.fresh) (sent.ids fits.0.fresh) (sent.unopened fits.0.fresh) met.each
+      row (met.note row) account given (met.by row)

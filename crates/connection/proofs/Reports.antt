@@ -22,7 +22,7 @@ use Rattle.session.specs.FlowBytes.{counted_told}
 use Rattle.slots.specs.declared.reading.Reading.{Reading}
 use Rattle.slots.specs.declared.worker.Worker.{Ghosts as Hands}
 use Rattle.slots.specs.Orders.{IsReset, orders_by}
-use Rattle.slots.specs.Reports.{AreRows, IsAccounted, IsFront, IsReported, is_heard_out}
+use Rattle.slots.specs.Reports.{AreRows, IsAccounted, IsFront, IsReported, IsUnserved, is_heard_out}
 use Rattle.slots.specs.Steps.{Step, events_of, reported}
 use Rattle.slots.proofs.Resets.{calm-more, reset-left, reset-ordered}
 use Rattle.slotwriter.specs.Written.{HasWritten}
@@ -30,7 +30,10 @@ use Rattle.connection.specs.declared.orders.Orders.{Orders}
 use Rattle.connection.specs.declared.orders.Route.{Ghosts}
 use Rattle.connection.specs.Heard.{EndsOrders, HasEnded, HasRead, IsEndedBy}
 use Rattle.connection.specs.Puts.{put_orders}
-use Rattle.connection.specs.Sent.{CarriesWhatWasSent}
+use Rattle.connection.specs.Sent.{CarriesWhatWasSent, HaveMet}
+use Rattle.slotwriter.specs.Sent.{SlotSender}
+use Rattle.callslot.specs.Workers.{GivingEnd}
+use Rattle.connection.proofs.Noted.{IsSentRow, all-mapped, as-set, bare-noted, ids-mapped, set_sent}
 use Rattle.connection.specs.Served.{HasCause, IsServed}
 use Rattle.connection.proofs.CreditSteps.{told-within}
 use Rattle.connection.proofs.Heard.{ended-more, silent-more}
@@ -54,50 +57,69 @@ blamed-so : (told : List Step) (read : Ending) (code : ErrorCode) → ((c : Erro
 blamed-so told read code failed (inl is) = inl (failed code is)
 blamed-so told read code failed (inr is) = inr is
 
-module _ (answers : ℕ → List (List ℕ) → Bool → Answer → Type 0) (names : List ℕ → ℕ → Type 0) (run : List RunStep) (carries : ℕ → Account → Type 0)
-    (sent : (id : ℕ) (account : Account) → carries id account → (items : List OutItem) × IsPrefix items account.given × IsTold run id items) where
+module _ (answers : ℕ → List (List ℕ) → Bool → Answer → Type 0) (names : List ℕ → ℕ → Type 0) (run : List RunStep) (carries : ℕ → Account → Type 0) where
   -- with what was sent of the call
-  accounted-sent : (told : List Step) (row : CallReport) → IsAccounted answers names carries told row → IsAccounted answers names (CarriesWhatWasSent run) told row
-  accounted-sent told row is =
-      let found = sent row.id is.account is.carried in record {
-        account = record is.account { sent = found.0 };
-        head = is.head;
-        known = is.known;
-        opened = is.opened;
-        named = is.named;
-        fed = is.fed;
-        shut = is.shut;
-        counted = is.counted;
-        kind = is.kind;
-        stands = record {
-          lawful = record { taken = is.stands.lawful.taken; told = is.stands.lawful.told; sent = (found.1.0, sym found.1.1); given = is.stands.lawful.given };
-          answered = is.stands.answered;
-        };
-        carried = found.2;
-      }
-
-  pub rows-sent : (told : List Step) (ids : List ℕ) (rows : List CallReport) → AreRows answers names carries told ids rows → AreRows answers names (CarriesWhatWasSent run) told ids rows
-  rows-sent told ids rows are = record {
-    each = λ n d within. let was = are.each n d within in of-row (get_or rows n d) was;
-    streams = are.streams;
+  accounted-sent : (told : List Step) (row : CallReport) (count : ℕ) (trailers : Bool) (is : IsAccounted answers names carries told row) → IsSentRow run is.account.given row (set_sent count trailers row)
+      → IsAccounted answers names (CarriesWhatWasSent run) told (set_sent count trailers row)
+  accounted-sent told row count trailers is found = record {
+    account = record is.account { sent = found.0 };
+    head = is.head;
+    known = is.known;
+    opened = is.opened;
+    named = is.named;
+    fed = is.fed;
+    shut = is.shut;
+    counted = is.counted;
+    kind = is.kind;
+    stands = record {
+      lawful = record { taken = is.stands.lawful.taken; told = is.stands.lawful.told; sent = (found.1.0, sym found.1.1); given = is.stands.lawful.given };
+      answered = record {
+        overdue = is.stands.answered.overdue;
+        timed = is.stands.answered.timed;
+        items = is.stands.answered.items;
+        outcome = is.stands.answered.outcome;
+        ends = is.stands.answered.ends;
+        taken = is.stands.answered.taken;
+        told = is.stands.answered.told;
+        count = is.stands.answered.count;
+        trailers = is.stands.answered.trailers;
+      };
+      sent = found.3 is.stands.answered.items is.stands.answered.ends is.stands.answered.count is.stands.answered.trailers;
+    };
+    carried = found.2;
   }
-    where
-      of-row : (row : CallReport) → IsReported answers names carries told row → IsReported answers names (CarriesWhatWasSent run) told row
-      of-row row (inl accounted) = inl (accounted-sent told row accounted)
-      of-row row (inr none) = inr none
+
+  module _ (ids : List ℕ) (held : List (Option SlotSender)) (ends : List GivingEnd) (rows new : List CallReport) (met : HaveMet ids held ends rows new)
+      (sent : (row : CallReport) (account : Account) → carries row.id account → IsSentRow run account.given row (met.note row)) where
+    noted-row : (told : List Step) (row : CallReport) → IsReported answers names carries told row → IsReported answers names (CarriesWhatWasSent run) told (met.note row)
+    noted-row told row (inl accounted) =
+        let set = as-set ids held ends row (met.note row) (met.by row) in
+        inl (subst (λ (r : CallReport). IsAccounted answers names (CarriesWhatWasSent run) told r) (sym set.2)
+        (accounted-sent told row set.0 set.1 accounted (subst (λ (r : CallReport). IsSentRow run accounted.account.given row r) set.2 (sent row accounted.account accounted.carried))))
+    noted-row told row (inr none) =
+        inr (subst (λ (r : CallReport). IsUnserved names told r) (none.bare ∙ sym (bare-noted ids held ends row (met.note row) (met.by row) none.bare)) none)
+
+    same-id : (row : CallReport) → (met.note row).id ≡ row.id
+    same-id row = let set = as-set ids held ends row (met.note row) (met.by row) in ap (λ (r : CallReport). r.id) set.2
+
+    pub rows-sent : (told : List Step) (streams : List ℕ) → AreRows answers names carries told streams rows → AreRows answers names (CarriesWhatWasSent run) told streams new
+    rows-sent told streams are = subst (λ (rs : List CallReport). AreRows answers names (CarriesWhatWasSent run) told streams rs) (sym met.noted) (record {
+      each = all-mapped (IsReported answers names carries told) (IsReported answers names (CarriesWhatWasSent run) told) met.note rows (λ row is. noted-row told row is) are.each;
+      streams = ids-mapped met.note rows same-id ∙ are.streams;
+    })
 
 module _ (answers : ℕ → List (List ℕ) → Bool → Answer → Type 0) (names : List ℕ → ℕ → Type 0) {V W : Type 0} (items : V → List CallReport) (contents : W → Option (List ℕ)) (failed : W → Bool) where
   -- behind what was read the calls were cut, of which no event tells
   pub are-served : {H : Type 0} {hand : Hands H} {A B C N : Type 0} {route : Ghosts N} (came : List ℕ) (before : Option (List ℕ)) (granted : ℕ) (read_failed : Bool) (read ending : Ending) (told cuts : List Step)
-      (reading : Reading H hand) (old new : Orders A B C N route) (given calls : V) (device : W) → calls ≡ given → HasRead names read came told reading old
+      (reading : Reading H hand) (old new : Orders A B C N route) (given calls : V) (device : W) → HasRead names read came told reading old
       → (carries : ℕ → Account → Type 0) → HasEnded items answers names carries told cuts given → EndsOrders told cuts old new → (is_heard_out ending ≡ true → ending ≡ read)
       → ((code : ErrorCode) → ending ≡ ProtocolError code → (read ≡ ProtocolError code) ⊎ (code ≡ FlowControlError)) → (ending ≢ OutOfMemory → read ≢ OutOfMemory)
       → (ending ≢ OutOfMemory → ending ≢ WriteFailed → ((code : ErrorCode) → ending ≢ ProtocolError code) → new.has_dropped ≡ false) → (read ≡ ReadFailed → read_failed ≡ true)
       → granted ≤ counted_told (events_of told)
       → (written : HasWritten contents failed before granted (put_orders new) (Some ending) device)
-      → ((id : ℕ) (account : Account) → carries id account → (sent : List OutItem) × IsPrefix sent account.given × IsTold written.run id sent)
+      → AreRows answers names (CarriesWhatWasSent written.run) (cuts ++ told) (reported (cuts ++ told)) (items calls)
       → IsServed items contents failed answers names came before read_failed ending calls device
-  are-served came before granted read_failed read ending told cuts reading old new given calls device same has carries ended ends input blamed spared undropped unread within written sent =
+  are-served came before granted read_failed read ending told cuts reading old new given calls device has carries ended ends input blamed spared undropped unread within written rows =
       let is : events_of (cuts ++ told) ≡ events_of told = silent-more cuts told ended.silent in
       let also : is_heard_out ending ≡ true → is_heard_out read ≡ true = λ out. subst (λ (e : Ending). is_heard_out e ≡ true) (input out) out in
       let whole : is_heard_out ending ≡ true → put_orders new ≡ orders_by (cuts ++ told) ++ ending_orders =
@@ -122,8 +144,7 @@ module _ (answers : ℕ → List (List ℕ) → Bool → Answer → Type 0) (nam
         written = written;
         credit = told-within contents failed before granted (put_orders new) (Some ending) device (counted_told (events_of (cuts ++ told))) written
             (subst (λ (es : List InEvent). granted ≤ counted_told es) (sym is) within);
-        rows = subst (λ (v : V). AreRows answers names (CarriesWhatWasSent written.run) (cuts ++ told) (reported (cuts ++ told)) (items v)) (sym same)
-            (rows-sent answers names written.run carries sent (cuts ++ told) (reported (cuts ++ told)) (items given) ended.rows);
+        rows = rows;
         cause = record {
           unsent = λ sent. written.marked (ap Some sent);
           unread = λ fails. unread (sym (input (ap (λ (e : Ending). is_heard_out e) fails)) ∙ fails);

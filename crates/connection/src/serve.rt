@@ -10,7 +10,7 @@ ghost use Rattle.callslot.specs.Accounts.{IsWithin, answers_by};
 ghost use Rattle.slots.specs.Calls.{AreNames, IsFirstWith};
 ghost use Rattle.slots.specs.Reports.{is_heard_out};
 ghost use Rattle.lane.specs.Ring.{in_name, out_name, put_in, taken};
-ghost use Rattle.slotwriter.specs.Sent.{held_of};
+ghost use Rattle.slotwriter.specs.Sent.{held_of, ids_of};
 ghost use Rattle.connection.specs.Sent.{AreMeeting, HaveMet};
 ghost use Rattle.callslot.specs.declared.order.Opened.{Opened};
 ghost use Rattle.outwriter.specs.declared.control.Control.{Control};
@@ -215,12 +215,13 @@ where
         → result.ending ≢ ending.OutOfMemory → result.ending ≡ ending.WriteFailed }
     ensures marked { result.ending ≡ ending.WriteFailed
         → written.ending ≡ Some ending.WriteFailed }
-    // What was sent of each call begins what was given of it.
-    ensures met { HaveMet (held_of written.senders.places.items) ended.ends.items }
+    // What was sent of each call begins what was given of it, and in its row is noted how much that was.
+    ensures met { HaveMet (ids_of written.senders.places.items)
+        (held_of written.senders.places.items) ended.ends.items
+        ended.calls.items result.calls.items }
     // None was dropped, unless the ending tells why.
     ensures dropped { result.ending ≢ ending.OutOfMemory → result.ending ≢ ending.WriteFailed
         → ((code : Code) → result.ending ≢ ending.ProtocolError code) → orders.has_dropped ≡ false }
-    ensures calls { result.calls ≡ ended.calls }
     ensures input { is_heard_out result.ending ≡ true → result.ending ≡ read }
     ensures blamed { (code : Code) → result.ending ≡ ending.ProtocolError code
         → (read ≡ ending.ProtocolError code) ⊎ (code ≡ FlowControlError) }
@@ -235,8 +236,8 @@ where
     } = written;
     let has_dropped = orders.has_dropped;
     let are_all = orders.meet(rx);
-    let Ended { calls, ends } = ended;
-    meet_slots(ends, senders);
+    let Ended { mut calls, ends } = ended;
+    meet_slots(ends, senders, &mut calls);
     Served {
         ending: by_orders(of_both(read, ending), are_all, has_dropped),
         output: device,

@@ -4,7 +4,6 @@ ghost use Rattle.std.specs.Prelude.{◌≡◌, ◌⊎◌, ℕ, List, [], Option,
 ghost use Rattle.lane.specs.Ring.{out_name, taken};
 ghost use Rattle.connwriter.specs.declared.filled.Filled.TheVariants as filling;
 ghost use Rattle.slotwriter.specs.Orders.{orders_of};
-ghost use Rattle.slotwriter.specs.Sent.{held_of};
 ghost use Rattle.slotwriter.specs.Written.{HasSent, HasWritten, IsFlushed, Led, LeadsOn, LeadsOutTo, LeadsTo, Stays};
 
 use crate::orders::{Orders, Route};
@@ -42,7 +41,7 @@ impl<A: Ledger, B: Ledger, C: Ledger, W: ConnWrite + Drop, G: Gate + Drop> Write
         ensures sent { (before : Option (List ℕ))
             → Led W.contents W.failed before self.outlet.told.amount self.writing
             → HasSent W.contents W.failed before result.told.amount
-            (taken result.written.orders) (held_of result.written.senders.places.items)
+            (taken result.written.orders) result.written.senders.places.items
             result.written.ending result.written.device }
         ensures name { out_name result.written.orders ≡ out_name self.writing.inbox.ring }
         ensures parts { result.told.parts ≡ self.outlet.told.parts }
@@ -317,7 +316,7 @@ pub(crate) struct Begun<W: ConnWrite> {
 
 impl<C: Ledger, W: ConnWrite + Drop> Promise<Parted<C, W>> for Begun<W> {
     ghost kept_by = { λ begun r. (out_name r.written.orders ≡ out_name begun.orders.value)
-        × HasSent W.contents W.failed (W.contents begun.device.value) r.told.amount (taken r.written.orders) (held_of r.written.senders.places.items)
+        × HasSent W.contents W.failed (W.contents begun.device.value) r.told.amount (taken r.written.orders) r.written.senders.places.items
         r.written.ending r.written.device
         × (r.told.parts ≡ C.parts) };
 }
@@ -371,7 +370,7 @@ where
         ensures sent { (before : Option (List ℕ))
             → Led W.contents W.failed before writer.outlet.told.amount writer.writing
             → HasSent W.contents W.failed before result.told.amount
-            (taken result.written.orders) (held_of result.written.senders.places.items)
+            (taken result.written.orders) result.written.senders.places.items
             result.written.ending result.written.device }
         ensures parts { result.told.parts ≡ writer.outlet.told.parts }
     { writer.write(&rt) };

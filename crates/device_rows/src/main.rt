@@ -7,7 +7,8 @@
 //! - `wrote N`, `read N`, in bytes; behind the number ` failed` where a write or a read failed;
 //! - `ending N`, in the numbers of `Ending::code`;
 //! - `calls N`, and of each its stream, its method by its place in `main`, messages and bytes taken, what was told behind them (`end`, `reset`,
-//!   `fault`, `nothing`), messages and bytes given, and its status, or `left`;
+//!   `fault`, `nothing`), messages and bytes of replies, items given and sent, whether trailers were `sent`, `given` alone or `none`, and its
+//!   status, or `left`;
 //! - `over`.
 #![tactic(auto)]
 

@@ -40,14 +40,25 @@ fn failure(has_failed: bool) -> &'static str {
     if has_failed { " failed" } else { "" }
 }
 
+/// How far the trailers came.
+fn trailers_of(call: &CallReport) -> &'static str {
+    match (call.trailers_given, call.trailers_sent) {
+        (_, true) => "sent",
+        (true, false) => "given",
+        (false, false) => "none",
+    }
+}
+
 fn print_call(rt: &impl Print, call: &CallReport) -> Result<()> {
     let CallReport {
         id,
         method,
         messages,
         bytes,
+        replies,
+        reply_bytes,
         given,
-        given_bytes,
+        sent,
         ..
     } = call;
     let told = match call.told {
@@ -56,7 +67,8 @@ fn print_call(rt: &impl Print, call: &CallReport) -> Result<()> {
         Some(Told::Fault(_)) => "fault",
         None => "nothing",
     };
-    print!(rt; "call {id} {method} {messages} {bytes} {told} {given} {given_bytes} ")?;
+    print!(rt; "call {id} {method} {messages} {bytes} {told} {replies} {reply_bytes} ")?;
+    print!(rt; "{given} {sent} {} ", trailers_of(call))?;
     match call.status {
         Some(status) => println!(rt; "{status}")?,
         None => println!(rt; "left")?,

@@ -137,14 +137,14 @@ impl Running {
             bytes,
             ..
         } = self;
-        let (given, given_bytes) = run.given();
+        let (replies, reply_bytes) = run.given();
         let (taker, end, status) = run.into_ends();
         let row = CallReport {
             messages: taker.taken(),
             bytes,
             told: taker.told(),
-            given,
-            given_bytes,
+            replies,
+            reply_bytes,
             status,
             ..CallReport::unanswered(id, index)
         };

@@ -292,11 +292,11 @@ fn push_rows(text: &mut String, rows: &[CallReport]) -> Result<()> {
         let CallReport {
             id,
             messages,
-            given,
+            replies,
             status,
             ..
         } = row;
-        write!(text, "  {id} took {messages} gave {given}")?;
+        write!(text, "  {id} took {messages} gave {replies}")?;
         if let Some(status) = status {
             write!(text, " status {status}")?;
         }

@@ -169,12 +169,12 @@ raw-is None (Some order) = refl
 raw-is (Some one) None = refl
 raw-is (Some one) (Some order) = refl
 
--- orders that open none, and no stream that has a call
-new-by : (slots : List SlotCalls) (orders : List (Control Opened)) (found : Option ℕ) → opens_of (map_of orders) ≡ once found → ((id : ℕ) → found ≡ Some id → HasCall id slots → ⊥) → AreNew slots orders
+-- orders that open none, or a stream above those of the calls that there are
+new-by : (slots : List SlotCalls) (orders : List (Control Opened)) (found : Option ℕ) → opens_of (map_of orders) ≡ once found → ((id : ℕ) → found ≡ Some id → (other : ℕ) → HasCall other slots → other < id) → AreNew slots orders
 new-by slots [] found is new = tt
 new-by slots (Open id opened ∷ orders) None is new = absurd cc
 new-by slots (Open id opened ∷ orders) (Some other) is new =
-    (new id (ap (λ (n : ℕ). Some n) (head-same is)), new-by _ orders None (rest-none is) (λ other none. absurd cc))
+    (new id (ap (λ (n : ℕ). Some n) (head-same is)), new-by _ orders None (rest-none is) (λ another none. absurd cc))
   where
     head-same : (id ∷ opens_of (map_of orders)) ≡ (other ∷ []) → other ≡ id
     head-same same = cc
@@ -216,9 +216,9 @@ module _ {H : Type 0} {hand : Ghosts H} where
       above None id same rises = absurd cc
       above (Some other) id same rises = subst (λ (o : Option ℕ). MatchOption o (Unit {0}) (λ n. last_of told < n)) same rises
 
-      fresh : (id : ℕ) → admitted_by step ≡ Some id → HasCall id (calls_of slots) → ⊥
-      fresh id found has =
+      fresh : (id : ℕ) → admitted_by step ≡ Some id → (other : ℕ) → HasCall other (calls_of slots) → other < id
+      fresh id found other has =
           let high = above (admitted_by step) id found rising.0 in
-          let some = call-times id slots.seats.items has in
-          let low = times-below id (last_of told) (admitted told) (below-last told rising.1) (subst (λ (n : ℕ). 0 < n) (kept.all id) some) in
+          let some = call-times other slots.seats.items has in
+          let low = times-below other (last_of told) (admitted told) (below-last told rising.1) (subst (λ (n : ℕ). 0 < n) (kept.all other) some) in
           omega (arith, high, low)

@@ -22,7 +22,7 @@ use Rattle.callslot.specs.Accounts.{IsAnswered, IsGivenAs, unsent}
 use Rattle.slots.specs.Calls.{AreCalls, ArePast, IsCall, IsPast, is_admitted}
 use Rattle.slots.specs.Reports.{AreAnswered, HasHalf, IsAccounted, IsServed}
 use Rattle.callslot.specs.Workers.{Answers, HasRow, HaveRows, IsOfJob}
-use Rattle.slots.proofs.NoneAnswered.{bare-answered, took-nothing}
+use Rattle.slots.proofs.NoneAnswered.{bare-answered, none-sent, took-nothing}
 
 -- ---- what was heard of each call
 
@@ -139,7 +139,10 @@ module _ (answers : ℕ → List (List ℕ) → Bool → Answer → Type 0) (car
           ends = has.answered.ends;
           taken = has.answered.taken;
           told = has.answered.told;
+          count = has.answered.count;
+          trailers = has.answered.trailers;
         };
+        sent = none-sent has.answered.items (record row { fed = half.fed; shut = half.shut }) has.unsent;
       };
       carried = subst (λ (id : ℕ). carries id (unsent fed has.messages has.said given)) (sym has.id) (gave (unsent fed has.messages has.said given) refl);
     }
@@ -160,6 +163,7 @@ module _ (answers : ℕ → List (List ℕ) → Bool → Answer → Type 0) (car
       stands = record {
         lawful = lawful [] None (took-nothing got);
         answered = subst (λ (r : CallReport). IsAnswered answers served.head [] None given r) (sym served.bare) (bare-answered answers served.head given (since row.id told) row.id row.method none);
+        sent = none-sent _ row (ap (λ (r : CallReport). r.sent) served.bare, ap (λ (r : CallReport). r.trailers_sent) served.bare);
       };
       carried = subst (λ (id : ℕ). carries id (unsent fed [] None given)) (sym same) (gave (unsent fed [] None given) refl);
     }

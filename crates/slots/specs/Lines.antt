@@ -45,9 +45,9 @@ abbrev pub HasCall : ℕ → List SlotCalls → Type 0
 HasCall id [] = ⊥
 HasCall id (slot ∷ slots) = (list_any (nat_eq id) slot.ids ≡ true) ⊎ HasCall id slots
 
--- an order begins no call of a stream that has one
+-- where an order begins a call, its stream is above those of the calls that there are
 abbrev pub IsNewTo : List SlotCalls → Control Opened → Type 0
-IsNewTo slots (Open id opened) = HasCall id slots → ⊥
+IsNewTo slots (Open id opened) = (other : ℕ) → HasCall other slots → other < id
 IsNewTo slots _ = Unit {0}
 
 -- nor does any of these

@@ -1,5 +1,5 @@
 -- What each step of a connection's writer does to the senders of its slots.
-use Rattle.std.proofs.Common.{◌≡◌, ◌∙◌, ◌==◌, if◌then◌else◌, ℕ, zero, suc, Bool, true, false, nat_eq, map, List, [], ◌∷◌, ◌++◌, Option, None, Some, get_or, set, length, ◌<◌, ◌≤◌, ◌⊎◌, inl, inr, arith, ap, sym, refl, subst}
+use Rattle.std.proofs.Common.{◌≡◌, ◌∙◌, ◌==◌, if◌then◌else◌, ℕ, zero, suc, Bool, true, false, nat_eq, map, List, [], ◌∷◌, ◌++◌, Option, None, Some, get_or, set, length, ◌<◌, ◌≤◌, ◌⊎◌, inl, inr, arith, ap, sym, refl, slice_get, subst}
 use Rattle.std.specs.List.{IsDistinct}
 use Rattle.std.proofs.lemmas.Cmp.{nat_eq_equiv}
 use Rattle.std.proofs.lemmas.List.Elements.{All-nil}
@@ -720,6 +720,12 @@ kept-tells run lines places core fronts returned kept = record {
   apart = kept.sent.apart;
   core_apart = kept.sent.core_apart;
 }
+
+-- the stream of a place is the one of its number
+pub id-at : (places : List Place) (n : ℕ) (p : Place) → n < length places → p ≡ get_or places n p → slice_get (ids_of places) n ≡ Some p.id
+id-at [] n p lt is = absurd (omega (arith, lt))
+id-at (place ∷ places) zero p lt is = ap (λ (one : Place). Some one.id) (sym is)
+id-at (place ∷ places) (suc n) p lt is = id-at places n p (omega (arith, lt)) is
 
 -- a place's sender is taken
 pub take-at : (places : List Place) (n : ℕ) (p q : Place) → n < length places → p ≡ get_or places n p → q.sender ≡ None

@@ -28,7 +28,7 @@ told-more run id front items more told served =
     by part (inr (some, code, begins, is)) = inr (some, code, begins-more some front items more begins, is)
 
 -- the sender of a line, and what is told of the line's calls
-told-line : (run : List Step) (lines : Lines) (held : List (Option SlotSender)) (n : ℕ) (line : Line LaneName) (sender : SlotSender) → HaveTold run lines held → line ≡ get_or lines n line
+pub told-line : (run : List Step) (lines : Lines) (held : List (Option SlotSender)) (n : ℕ) (line : Line LaneName) (sender : SlotSender) → HaveTold run lines held → line ≡ get_or lines n line
     → get_or held n None ≡ Some sender → IsToldBy out_name past_out got ring_of run [] line (Some sender)
 told-line run [] [] n line sender told is has = absurd (none-some has)
   where

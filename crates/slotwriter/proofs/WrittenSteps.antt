@@ -748,7 +748,7 @@ module _ {W : Type 0} (contents : W → Option (List ℕ)) (failed : W → Bool)
       → (written : HasWritten contents failed before credit (orders_of (taken writer.inbox.ring)) told device) → written.run ≡ led.2.0
       → TellFronts led.2.0 (calls got (core_of writer)) → TellReturned led.2.0 → TakesAllHome (core_of writer) (places_of writer) places
       → (told ≢ Some ending.OutOfMemory → told ≢ Some ending.WriteFailed → (writer.inbox.has_lost ≡ false) × (writer.inbox.set_aside ≡ None))
-      → HasSent contents failed before credit (taken writer.inbox.ring) (held_of places) told device
+      → HasSent contents failed before credit (taken writer.inbox.ring) places told device
   has-sent before credit writer places device told led written same fronts returned home each =
       let aside : List (Control Opened) = order_in writer.inbox.set_aside in
       let kept : HasKept true (led.0 ++ aside) led.2.0 writer = kept-lost writer.inbox.has_lost led.0 aside led.2.0 writer led.2.3 in
@@ -761,6 +761,9 @@ module _ {W : Type 0} (contents : W → Option (List ℕ)) (failed : W → Bool)
             subst (λ (run : List Step). HaveTold run (lines_of kept.0) (held_of places)) (sym same)
             (home led.2.0 (lines_of kept.0)
             (kept-tells led.2.0 (lines_of kept.0) (places_of writer) (core_of writer) fronts returned (kept.3 (fresh-parts (taken writer.inbox.ring) kept.0 kept.1 are fresh).0))).told;
+        ids = λ fresh.
+            (home led.2.0 (lines_of kept.0)
+            (kept-tells led.2.0 (lines_of kept.0) (places_of writer) (core_of writer) fronts returned (kept.3 (fresh-parts (taken writer.inbox.ring) kept.0 kept.1 are fresh).0))).ids;
         unopened = λ fresh id other.
             subst (λ (run : List Step). is_opened id run ≡ false) (sym same)
             ((kept.3 (fresh-parts (taken writer.inbox.ring) kept.0 kept.1 are fresh).0).sent.opened_old id other);

@@ -20,7 +20,7 @@ use Rattle.connwriter.specs.declared.filled.Filled.TheVariants.{Full, Idle, Over
 use Rattle.connwriter.specs.declared.standing.Standing.TheVariants.{Going, Broken}
 use Rattle.connwriter.specs.declared.writer.ConnWriter.{ConnWriter}
 use Rattle.connwriter.specs.Spelled.{IsFront, IsWhole, IsAll}
-use Rattle.connwriter.specs.Sent.{IsOld}
+use Rattle.connwriter.specs.Sent.{IsOld, last_ids}
 use Rattle.connwriter.specs.Wrote.{Wrote}
 use Rattle.callslot.specs.declared.order.Opened.{Opened}
 use Rattle.callslot.specs.declared.report.Ending.{Ending}
@@ -30,7 +30,7 @@ use Rattle.slotwriter.specs.declared.slot_writer.SlotWriter.{SlotWriter}
 use Rattle.slotwriter.specs.declared.steps.Rest.{Rest}
 use Rattle.slotwriter.specs.declared.steps.Rest.TheVariants as rests
 use Rattle.slotwriter.specs.Orders.{HasGiven, IsAmong, Obeys, ends_input, orders_of}
-use Rattle.slotwriter.specs.Sent.{AreFresh, AreKept, HaveTold, Lines, MakesOf, SlotSender, ids_of, lines_of}
+use Rattle.slotwriter.specs.Sent.{AreFresh, AreKept, HaveTold, Lines, MakesOf, SlotSender, held_of, ids_of, lines_of}
 
 -- No more orders come, and all that they obliged to is among the frames: each SETTINGS and each PING is acknowledged, and each header
 -- block is whole, or else the last frame is a GOAWAY with an error.
@@ -192,13 +192,15 @@ pub record HasWritten {W : Type 0} (contents : W → Option (List ℕ)) (failed 
 -- A device has that, and these senders of the slots tell what was sent of each call. The slots' lines are by a front of the orders; the
 -- others were lost.
 pub record HasSent {W : Type 0} (contents : W → Option (List ℕ)) (failed : W → Bool) (before : Option (List ℕ)) (credit : ℕ) (orders : List (Control Opened))
-    (held : List (Option SlotSender)) (ending : Option Ending) (device : W) : Type 0 where
+    (places : List Place) (ending : Option Ending) (device : W) : Type 0 where
   pub written : HasWritten contents failed before credit (orders_of orders) ending device
   pub front : List (Control Opened)
   pub rest : List (Control Opened)
   pub orders_are : orders ≡ front ++ rest
   -- what the frames of each call's stream tell begins what its sender got of it
-  pub told : AreFresh [] orders → HaveTold written.run (lines_of front) held
+  pub told : AreFresh [] orders → HaveTold written.run (lines_of front) (held_of places)
+  -- each is at its line's last call
+  pub ids : AreFresh [] orders → ids_of places ≡ last_ids (lines_of front)
   -- no other stream was opened
   pub unopened : AreFresh [] orders → (id : ℕ) → (IsOld id (lines_of front) → ⊥) → is_opened id written.run ≡ false
   -- where memory didn't run out and no write failed, none was lost

@@ -48,7 +48,8 @@ pub struct Senders {
 
 impl Senders {
     ghost use Rattle.std.specs.Prelude.{◌≡◌, [], IfOk, IfErr, IfSome, IfNone, None, OnErr};
-    ghost use Rattle.std.specs.Prelude.{get_or, length, set};
+    ghost use Rattle.std.specs.Prelude.{All, Contains, ◌≤◌, get_or, length, set, slice_get, Some};
+    ghost use Rattle.std.specs.Option.{option_map};
     ghost use Rattle.lane.specs.RingLane.{got};
     ghost use Rattle.outwriter.specs.declared.control.Control.TheVariants as orders;
     ghost use Rattle.outwriter.specs.Cores.{IsUnused};
@@ -141,13 +142,29 @@ impl Senders {
         }
     }
 
-    /// The sender that is held of the slot of this number.
-    pub fn take(&mut self, number: usize) -> Option<Sender<OutLane>>
-        ensures held { result ≡ get_or (held_of self.old.places.items) number None }
+    /// The greatest stream of the slots' last calls. None where no call began.
+    pub fn greatest(&self) -> Option<StreamId>
+        ensures none { IfNone result (ids_of self.now.places.items ≡ []) }
+        ensures there { IfSome result (Contains (ids_of self.now.places.items)) }
+        ensures most { IfSome result
+            (λ last. All (λ id. id ≤ last) (ids_of self.now.places.items)) }
+    {
+        self.places.iter().map(|place| place.id).max()
+    }
+
+    /// The sender that is held of the slot of this number, and the stream of the slot's last call.
+    pub fn take(&mut self, number: usize) -> Option<(StreamId, Sender<OutLane>)>
+        ensures held { get_or (held_of self.old.places.items) number None
+            ≡ option_map (λ r. r.1) result }
+        ensures id { IfSome result
+            (λ r. slice_get (ids_of self.old.places.items) number ≡ Some r.0) }
         ensures rest { held_of self.new.places.items
             ≡ set (held_of self.old.places.items) number None }
+        ensures ids { ids_of self.new.places.items ≡ ids_of self.old.places.items }
     {
-        self.places.get_mut(number)?.sender.take()
+        let held = self.places.get_mut(number)?;
+        let sender = held.sender.take()?;
+        Some((held.id, sender))
     }
 
     /// The first place that is at the call of this stream and holds no sender.

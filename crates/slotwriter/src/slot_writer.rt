@@ -15,7 +15,7 @@ ghost use Rattle.slotwriter.specs.declared.steps.Rest.TheVariants as rest;
 ghost use Rattle.slotwriter.specs.declared.steps.Took.TheVariants as took;
 ghost use Rattle.slotwriter.specs.declared.steps.Waiting.TheVariants as waiting;
 ghost use Rattle.slotwriter.specs.Orders.{TakesNoWindow, ends_input, orders_of, waiting_of};
-ghost use Rattle.slotwriter.specs.Sent.{HandsHome, HasStream, SamePlaces, held_of, stream_at};
+ghost use Rattle.slotwriter.specs.Sent.{HandsHome, HasStream, SamePlaces, stream_at};
 ghost use Rattle.slotwriter.specs.Written.{HasSent, HasWritten, Heeds, IsFlushed, Led, LedOut};
 ghost use Rattle.slotwriter.specs.Written.{LeadsOn, LeadsOut, LeadsTo, Parts, PassesOver, SameCalls};
 ghost use Rattle.slotwriter.specs.Written.{Stays, Takes, places_of, rest_of};
@@ -513,7 +513,7 @@ impl<W: ConnWrite + Drop> SlotWriter<W> {
         ensures sent { (before : Option (List ℕ)) (credit : ℕ)
             → LedOut W.contents W.failed before credit self
             → HasSent W.contents W.failed before credit (taken result.orders)
-            (held_of result.senders.places.items) result.ending result.device }
+            result.senders.places.items result.ending result.device }
         ensures ring { result.orders ≡ self.inbox.ring }
     {
         let ending = self.ending();

@@ -1,9 +1,12 @@
 use Rattle.std.proofs.Common.{inl, refl}
-use Rattle.callworker.proofs.Turns.{left_as}
+use Rattle.callworker.proofs.Turns.{left_as, left_trailers}
 use Rattle.callworker.proofs.rows.shut_of.Goals as goal
 
 pub returns-in-Open-clause-given : goal.returns-in-Open-clause-given
 returns-in-Open-clause-given c = rw c.in-Open.is (left_as _ _ c.leave.ensures.put)
+
+pub returns-in-Open-clause-trailers : goal.returns-in-Open-clause-trailers
+returns-in-Open-clause-trailers c = left_trailers _ _ c.leave.ensures.put c.count.ensures.open
 
 pub returns-in-Shut-clause-given : goal.returns-in-Shut-clause-given
 returns-in-Shut-clause-given c = rw c.in-Shut.is (inl refl)

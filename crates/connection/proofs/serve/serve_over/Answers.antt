@@ -1,4 +1,4 @@
-use Rattle.std.proofs.Common.{◌≡◌, ◌∙◌, ◌++◌, ◌≤◌, arith, ℕ, List, [], Option, Some, ap, refl, slice_get, subst, sym}
+use Rattle.std.proofs.Common.{◌≡◌, ◌∙◌, ◌++◌, ◌≤◌, arith, ℕ, List, [], Option, Some, ap, map, refl, slice_get, subst, sym}
 use Rattle.std.proofs.lemmas.List.{map-append}
 use Rattle.callslot.specs.declared.order.Opened.{Opened}
 use Rattle.callslot.specs.declared.report.Ending.{Ending}
@@ -8,7 +8,7 @@ use Rattle.outwriter.specs.declared.control.Control.{Control}
 use Rattle.outwriter.specs.Steps.{order_of}
 use Rattle.session.specs.FlowBytes.{counted_told}
 use Rattle.slots.specs.Lines.{IsGivenIn}
-use Rattle.slots.specs.Steps.{events_of}
+use Rattle.slots.specs.Steps.{events_of, reported}
 use Rattle.slotwriter.specs.Orders.{orders_of}
 use Rattle.slotwriter.specs.Sent.{held_of}
 use Rattle.slotwriter.specs.Written.{HasSent}
@@ -16,7 +16,7 @@ use Rattle.slotwriter.proofs.WrittenSteps.{told-on}
 use Rattle.connection.specs.Puts.{put_of, put_orders}
 use Rattle.connection.proofs.Lines.{meeting-put, sent-put}
 use Rattle.connection.proofs.Heard.{consumes-none, kept-none}
-use Rattle.connection.proofs.Reports.{are-served, none-served, served-by, unbegun}
+use Rattle.connection.proofs.Reports.{are-served, none-served, rows-sent, served-by, unbegun}
 use Rattle.connection.proofs.serve.serve_over.Goals as goal
 
 some-is : {one other : Ending} → Some one ≡ Some other → one ≡ other
@@ -49,8 +49,8 @@ returns g c =
     let written = c.join-written.result.written in
     let amount = c.join-written.result.told.amount in
     let is = c.meet-2.ensures in
-    let sent : HasSent contents failed (contents c.args.output) amount (taken written.orders) (held_of written.senders.places.items) written.ending written.device =
-    subst (λ (before : Option (List ℕ)). HasSent contents failed before amount (taken written.orders) (held_of written.senders.places.items) written.ending written.device) c.in-Ok-start.ensures.begun c.join-written.ensures.1 in
+    let sent : HasSent contents failed (contents c.args.output) amount (taken written.orders) written.senders.places.items written.ending written.device =
+    subst (λ (before : Option (List ℕ)). HasSent contents failed before amount (taken written.orders) written.senders.places.items written.ending written.device) c.in-Ok-start.ensures.begun c.join-written.ensures.1 in
     let put = told-on contents failed (contents c.args.output) amount (orders_of (taken written.orders)) (put_orders c.end-ended.result.1) written.ending (Some c.meet-2.result.ending) written.device
     (λ lacked. ap Some (is.memory lacked)) (λ broke spared. ap Some (is.broken broke (λ lacked. spared (ap Some lacked)))) (λ marked. is.marked (some-is marked))
     (orders_of is.obeyed.0)
@@ -63,9 +63,12 @@ returns g c =
         heard.1,
         served-by g.M.Answering.known g.M.Answering.names (λ rows. rows.items) contents failed _ _ _ _ _ _ _ is.output
             (are-served g.M.Answering.known g.M.Answering.names (λ rows. rows.items) contents failed heard.0 (contents c.args.output) amount _ c.read-read.result c.meet-2.result.ending
-            heard.2.0 end.0 _ _ c.end-ended.result.1 c.end-ended.result.0.calls c.meet-2.result.calls written.device is.calls has
+            heard.2.0 end.0 _ _ c.end-ended.result.1 c.end-ended.result.0.calls c.meet-2.result.calls written.device has
             (IsGivenIn end.1 c.end-ended.result.0.ends.items) end.2 end.5 is.input is.blamed is.spared is.dropped (c.read-read.ensures.failed start) within
-            put (sent-put contents failed end.1 (put_of c.end-ended.result.1) (taken written.orders) is.obeyed.0 _ _ _ _ _ c.end-ended.result.0.ends.items is.obeyed.1 (end.4 has.lined) sent is.met)),
+            put
+            (rows-sent g.M.Answering.known g.M.Answering.names put.run (IsGivenIn end.1 c.end-ended.result.0.ends.items) _ _ c.end-ended.result.0.ends.items _ _ is.met
+            (sent-put contents failed end.1 (put_of c.end-ended.result.1) (taken written.orders) is.obeyed.0 _ _ written.senders.places.items _ _ c.end-ended.result.0.ends.items _ _ is.obeyed.1 (end.4 has.lined) sent is.met)
+            (end.0 ++ heard.2.0) (reported (end.0 ++ heard.2.0)) end.2.rows)),
       );
     }
 
@@ -87,7 +90,7 @@ returns-in-Err g c =
         consumes-none _,
         served-by g.M.Answering.known g.M.Answering.names (λ rows. rows.items) contents failed _ _ _ _ _ _ _ is.output
             (none-served g.M.Answering.known g.M.Answering.names (λ rows. rows.items) contents failed (contents c.args.output) _ _ c.meet.result.ending _
-            c.meet.result.calls written.device (is.lacked refl) (subst (λ rows. rows.items ≡ []) (sym is.calls) c.new-in-Err.ensures.items)
+            c.meet.result.calls written.device (is.lacked refl) (is.met.noted ∙ ap (λ rows. map is.met.note rows) c.new-in-Err.ensures.items)
             (omega (arith, c.audit.ensures.within, ap (λ share. share.amount) c.new-intake.ensures.0, c.open-received.ensures.amount)) put),
       );
     }

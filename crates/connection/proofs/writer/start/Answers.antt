@@ -1,7 +1,6 @@
 use Rattle.std.proofs.Common.{◌≡◌, ◌∙◌, List, Option, ap, subst, sym, ℕ}
 use Rattle.lane.specs.Ring.{out_name, taken}
 use Rattle.slotwriter.specs.Orders.{orders_of}
-use Rattle.slotwriter.specs.Sent.{held_of}
 use Rattle.slotwriter.specs.Written.{HasSent, HasWritten, Led}
 use Rattle.connection.proofs.writer.start.Goals as goal
 
@@ -20,7 +19,7 @@ spawn_with-requires-clause-keeps g c = λ κs within r claims.
     let contents = g.W.ConnWrite.contents in
     let failed = g.W.ConnWrite.failed in
     let kept : (out_name r.written.orders ≡ out_name c.of-2.result.value)
-    × HasSent contents failed (contents c.of.result.value) r.told.amount (taken r.written.orders) (held_of r.written.senders.places.items) r.written.ending r.written.device
+    × HasSent contents failed (contents c.of.result.value) r.told.amount (taken r.written.orders) r.written.senders.places.items r.written.ending r.written.device
     × (r.told.parts ≡ g.C.Ledger.parts) = (
       claims.0 ∙ (ap out_name c.new-writing.ensures.ring ∙ ap out_name (sym c.of-2.ensures)),
       claims.1.0 (contents c.of.result.value)

@@ -1,6 +1,8 @@
 use Rattle.std.proofs.Common.{◌≡◌, ◌∙◌, ap, refl, subst, sym, ℕ, List, [], None, rules}
 use Rattle.std.specs.Prelude.{slice_get}
-use Rattle.lane.specs.RingLane.{got}
+use Rattle.lane.specs.RingLane.{got, put_shut}
+use Rattle.account.specs.declared.call.OutItem.{OutItem}
+use Rattle.callslot.specs.Accounts.{IsGivenAs}
 use Rattle.callbox.specs.InSides.{Took}
 use Rattle.callbox.specs.declared.piece.InPiece.{InPiece}
 use Rattle.handlers.specs.Listed.{listed}
@@ -20,4 +22,5 @@ returns-clause-answers g c =
 pub returns-then-is_none-clause-answers : goal.returns-then-is_none-clause-answers
 returns-then-is_none-clause-answers g c =
     rw c.pass_over.ensures.taker (row_without _ (listed c.args.methods.now) c.args.job _ c.args.taker.progress _ _ (search rules)
-    (subst (λ (items : List InPiece). Took items c.args.taker.progress []) (sym c.requires.fresh.0) c.requires.fresh.1) c.requires.fresh.2 c.pass_over.ensures.row)
+    (subst (λ (items : List InPiece). Took items c.args.taker.progress []) (sym c.requires.fresh.0) c.requires.fresh.1) c.requires.fresh.2 c.pass_over.ensures.row
+    (subst (λ (items : List OutItem). IsGivenAs items (put_shut c.pass_over.result.shut.shut)) c.requires.ungiven c.pass_over.ensures.given))
