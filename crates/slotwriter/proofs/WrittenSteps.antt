@@ -22,7 +22,7 @@ use Rattle.connwriter.specs.declared.filled.Filled.{Filled}
 use Rattle.connwriter.specs.declared.filled.Filled.TheVariants.{Over, Stopped}
 use Rattle.connwriter.specs.declared.standing.Standing.{Standing}
 use Rattle.connwriter.specs.declared.standing.Standing.TheVariants as stands
-use Rattle.connwriter.specs.Spelled.{IsFront, IsWhole, IsAll}
+use Rattle.connwriter.specs.Spelled.{IsFront, IsAll}
 use Rattle.connwriter.specs.declared.taking.Taking.{Taking}
 use Rattle.connwriter.specs.declared.taking.Taking.TheVariants.{Done, Ended, Unanswered, HandedBack}
 use Rattle.connwriter.specs.Orders.{Blamed, own_order, parting, steps_of}
@@ -711,13 +711,12 @@ module _ {W : Type 0} (contents : W → Option (List ℕ)) (failed : W → Bool)
       → (led : LedOut contents failed before credit writer)
       → TellOthers led.2.0
       → IsFront (frames_of led.2.0) before (contents device)
-      → (writer.frames.standing ≢ stands.Broken → writer.frames.buffer.items ≡ [] → IsWhole (frames_of led.2.0) before (contents device))
-      → (writer.frames.standing ≡ stands.Going → writer.frames.buffer.items ≡ [] → IsAll (frames_of led.2.0) before (contents device))
+      → (writer.frames.standing ≢ stands.Broken → writer.frames.buffer.items ≡ [] → IsAll (frames_of led.2.0) before (contents device))
       → (writer.frames.standing ≡ stands.OutOfMemory → told ≡ Some ending.OutOfMemory)
       → (told ≡ Some ending.WriteFailed → writer.frames.standing ≡ stands.Broken)
       → (told ≢ Some ending.OutOfMemory → told ≢ Some ending.WriteFailed → (writer.inbox.has_lost ≡ false) × (writer.inbox.set_aside ≡ None))
       → (written : HasWritten contents failed before credit (orders_of (taken writer.inbox.ring)) told device) × (written.run ≡ led.2.0)
-  has-written before credit writer device told same flushed led others front whole all memory broken each =
+  has-written before credit writer device told same flushed led others front all memory broken each =
       let ends = led.2 in
       let standing = writer.frames.standing in
       let sound : failed device ≡ false → standing ≢ stands.Broken = λ unmarked stood. true≢false (sym (ap failed same ∙ ends.1.marked stood) ∙ unmarked) in (
@@ -736,8 +735,7 @@ module _ {W : Type 0} (contents : W → Option (List ℕ)) (failed : W → Bool)
           others = others;
           marked = λ sent. ap failed same ∙ ends.1.marked (broken sent);
           front = front;
-          whole = λ unmarked. whole (sound unmarked) (flushed (sound unmarked));
-          all = λ unmarked other. unless-lost standing told memory (sound unmarked) (λ going. all going (flushed (sound unmarked))) other;
+          all = λ unmarked. all (sound unmarked) (flushed (sound unmarked));
           over = λ unmarked other. unless-lost standing told memory (sound unmarked) ends.5 other;
         },
         refl,
@@ -787,8 +785,7 @@ told-on contents failed before credit took put one other device memory failing b
   others = h.others;
   marked = λ sent. h.marked (broken sent);
   front = h.front;
-  whole = h.whole;
-  all = λ unmarked spared. h.all unmarked (λ lacked. spared (memory lacked));
+  all = h.all;
   over = λ unmarked spared. h.over unmarked (λ lacked. spared (memory lacked));
 }
 
