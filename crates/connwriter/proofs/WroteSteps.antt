@@ -1,5 +1,5 @@
 -- What the steps of a writer do to what it wrote.
-use Rattle.std.proofs.Common.{◌≡◌, ◌≢◌, ◌∙◌, ℕ, Bool, true, false, true≢false, List, [], ◌∷◌, ◌++◌, Option, None, Some, ap, append_assoc, sym, refl, map, subst}
+use Rattle.std.proofs.Common.{◌≡◌, ◌≢◌, ◌∙◌, ℕ, Bool, true, false, List, [], ◌∷◌, ◌++◌, Option, None, Some, ap, append_assoc, sym, refl, map, subst}
 use Rattle.std.proofs.lemmas.List.{append-nil, map-append}
 use Rattle.account.specs.declared.call.OutItem.{OutItem}
 use Rattle.std.specs.Io.KnownBytes.{Appends}
