@@ -143,7 +143,7 @@ impl Log {
             }
         }
         let _turn = self.turn.lock(rt);
-        let _printed = print!(rt; "{text}");
+        let _printed = rt.write_all(text.as_bytes());
         if lost > 0 {
             self.print_dropped(rt, lost);
         }
