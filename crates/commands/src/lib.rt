@@ -6,7 +6,7 @@
 //!   its own (`client`, `load`, `server`).
 //! - `run_wire` lists wire cases, or runs them against a server (`wire_cases`).
 //! - `serve` serves connections to a port (`server`): `listening` is the port, `port` has the threads, `stream` a connection, `served`
-//!   and `reporter` the report.
+//!   and `reporter` the report, `log` the log.
 //! - `read_words`, of the crate `words`, reads which of them a command line means.
 //!
 //! Below them:
@@ -22,6 +22,7 @@ mod call;
 mod client;
 mod listening;
 mod load;
+mod log;
 mod memory;
 mod parts;
 mod port;

@@ -4,8 +4,9 @@
 //! that makes a connection a call waits for no thread to start. A connection that stays keeps its thread, and one more is started
 //! for those that come. Where only so many are served, each has a thread of its own.
 
+use crate::log::{Logs, ended_of};
 use crate::reporter::Reporter;
-use crate::stream::serve_stream;
+use crate::stream::{Ended, serve_stream};
 use handlers::Methods;
 use lane::Bell;
 use std::alloc::{AllocError, Global};
@@ -30,31 +31,34 @@ const LOOK: u64 = 3600;
 
 /// What all connections to a port are served by.
 #[derive(Drop)]
-pub struct Service {
+pub struct Service<L> {
     pub methods: Arc<Methods>,
     /// Where each that has ended is reported on, if that is wanted.
     pub reporter: Option<Reporter>,
+    /// Where it is told what happens on them, if that is wanted.
+    pub log: Option<Arc<L>>,
 }
 
 /// A port, and how many threads wait for a connection to it, those too that pause before they try again.
 #[derive(Drop)]
-struct Port {
+struct Port<L> {
     listener: TcpListener,
-    service: Service,
+    service: Service<L>,
     waiting: AtomicUsize,
     /// Rung where the last one that waited has taken a connection.
     wanted: Bell,
 }
 
 /// Serves all connections that come.
-pub fn serve_all<R>(
+pub fn serve_all<R, L>(
     rt: R,
     alloc: Global,
     listener: TcpListener,
-    service: Service,
+    service: Service<L>,
 ) -> Result<(), AllocError>
 where
     R: Print + Threads + Wait + Clock + Copy + Send + Sync + Drop + 'static,
+    L: Logs + Send + Sync + Drop + 'static,
 {
     let port = Arc::new(
         alloc,
@@ -82,9 +86,10 @@ fn pause(rt: &impl Clock) {
 }
 
 /// Starts one more thread. That none can be made counts as want of memory.
-fn start<R>(rt: R, alloc: Global, port: &Arc<Port>) -> Result<(), AllocError>
+fn start<R, L>(rt: R, alloc: Global, port: &Arc<Port<L>>) -> Result<(), AllocError>
 where
     R: Print + Threads + Wait + Clock + Copy + Send + Sync + Drop + 'static,
+    L: Logs + Send + Sync + Drop + 'static,
 {
     let shared = Arc::try_clone(port)?;
     port.waiting.fetch_add(1, Ordering::SeqCst);
@@ -99,9 +104,10 @@ where
 }
 
 /// Takes one connection after another, and serves each to its end. It ends where enough others wait.
-fn take_connections<R>(rt: R, alloc: Global, port: &Port)
+fn take_connections<R, L>(rt: R, alloc: Global, port: &Port<L>)
 where
     R: Print + Threads + Wait + Clock + Copy + Send + Sync + Drop + 'static,
+    L: Logs + Send + Sync + Drop + 'static,
 {
     for _ in rt.forever() {
         let Ok((stream, peer)) = port.listener.accept() else {
@@ -126,23 +132,24 @@ where
 
 /// How many connections are being served, and by what.
 #[derive(Drop)]
-struct Live {
-    service: Service,
+struct Live<L> {
+    service: Service<L>,
     count: AtomicUsize,
     /// Rung where one has ended.
     ended: Bell,
 }
 
 /// Serves so many connections, and returns where all of them have ended.
-pub fn serve_some<R>(
+pub fn serve_some<R, L>(
     rt: R,
     alloc: Global,
     listener: &TcpListener,
-    service: Service,
+    service: Service<L>,
     count: u16,
 ) -> Result<(), AllocError>
 where
     R: Print + Threads + Wait + Clock + Copy + Send + Sync + Drop + 'static,
+    L: Logs + Send + Sync + Drop + 'static,
 {
     let live = Arc::new(
         alloc,
@@ -168,9 +175,15 @@ where
 }
 
 /// Takes the next connection, and serves it in a thread of its own. One that no thread can be made for is ended.
-fn serve_next<R>(rt: R, alloc: Global, listener: &TcpListener, live: &Arc<Live>) -> io::Result<()>
+fn serve_next<R, L>(
+    rt: R,
+    alloc: Global,
+    listener: &TcpListener,
+    live: &Arc<Live<L>>,
+) -> io::Result<()>
 where
     R: Print + Threads + Wait + Clock + Copy + Send + Sync + Drop + 'static,
+    L: Logs + Send + Sync + Drop + 'static,
 {
     let shared = Arc::try_clone(live)?;
     let (stream, peer) = listener.accept()?;
@@ -188,7 +201,7 @@ where
 }
 
 /// Waits until no connection is being served.
-fn wait_for_ends<R: Wait>(rt: &R, live: &Live) {
+fn wait_for_ends<R: Wait, L>(rt: &R, live: &Live<L>) {
     for _ in rt.forever() {
         let mark = live.ended.mark();
         if live.count.load(Ordering::SeqCst) == 0 {
@@ -199,19 +212,36 @@ fn wait_for_ends<R: Wait>(rt: &R, live: &Live) {
 }
 
 /// Serves a connection to its end, and then has it reported on where that is wanted. It fails where nothing was read of it.
-fn serve_one<R>(
+fn serve_one<R, L>(
     rt: R,
     alloc: Global,
-    service: &Service,
+    service: &Service<L>,
     stream: TcpStream,
     peer: SocketAddr,
 ) -> io::Result<()>
 where
     R: Print + Threads + Wait + Clock + Copy + Send + Sync + Drop + 'static,
+    L: Logs + Send + Sync + Drop + 'static,
 {
-    let ended = serve_stream(rt, alloc, stream, &service.methods)?;
+    let logged = match &service.log {
+        Some(log) => L::begin(log, &rt, alloc, peer),
+        None => None,
+    };
+    let ended = serve_stream(rt, alloc, stream, &service.methods, &logged);
+    if let Some(logged) = &logged {
+        logged.end(&rt, how_of(&ended));
+    }
+    let ended = ended?;
     if let Some(reporter) = &service.reporter {
         reporter.tell(&rt, alloc, &service.methods, peer, ended);
     }
     Ok(())
+}
+
+/// How a connection ended, as its log says it.
+fn how_of(ended: &io::Result<Ended>) -> connlog::Ended {
+    match ended {
+        Ok(ended) => ended_of(ended.ending),
+        Err(_) => connlog::Ended::ReadFailed,
+    }
 }

@@ -8,7 +8,7 @@ use handlers::Methods;
 use std::alloc::{AllocError, Global};
 use std::mem;
 use std::net::SocketAddr;
-use std::sync::{Mutex, Wait};
+use std::sync::{Arc, Mutex, Wait};
 
 /// How many lines wait at most. The longest report has 4,097.
 const MOST_LINES: usize = 16_384;
@@ -17,6 +17,8 @@ const MOST_LINES: usize = 16_384;
 #[derive(Drop)]
 pub struct Reporter {
     waiting: Mutex<Waiting>,
+    /// Held by whoever prints, so that no line stands inside one of a log.
+    turn: Arc<Mutex<()>>,
 }
 
 /// What is to be printed.
@@ -32,7 +34,7 @@ struct Waiting {
 }
 
 impl Reporter {
-    pub fn new(alloc: Global) -> Reporter {
+    pub fn new(alloc: Global, turn: Arc<Mutex<()>>) -> Reporter {
         Reporter {
             waiting: Mutex::new(Waiting {
                 text: String::new(alloc),
@@ -40,6 +42,7 @@ impl Reporter {
                 dropped: 0,
                 is_printing: false,
             }),
+            turn,
         }
     }
 
@@ -74,6 +77,7 @@ impl Reporter {
             let Some((text, dropped)) = self.next(rt, alloc) else {
                 return;
             };
+            let _turn = self.turn.lock(rt);
             let _printed = print!(rt; "{text}");
             if dropped > 0 {
                 let _printed = println!(rt; "dropped {dropped}");

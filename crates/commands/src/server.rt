@@ -7,6 +7,7 @@ ghost use Rattle.cases.specs.declared.report.Outcome.{Outcome};
 
 use crate::client::{PATIENCE, Target, run_all_cases};
 use crate::listening::listen;
+use crate::log::Log;
 use crate::port::{Service, serve_all, serve_some};
 use crate::reporter::Reporter;
 use cases::ReportFault;
@@ -14,7 +15,7 @@ use device::ConnWrite;
 use handlers::Methods;
 use std::alloc::Global;
 use std::net::{Net, TcpListener, TcpStream};
-use std::sync::{Arc, Wait};
+use std::sync::{Arc, Mutex, Wait};
 use std::thread::Threads;
 use std::time::Clock;
 use std::{io, thread};
@@ -32,13 +33,63 @@ where
     let listener = listen(&rt, words.host, words.port)?;
     let address = listener.local_addr()?;
     println!(rt; "listening {address}")?;
+    let turn = Arc::new(alloc, Mutex::new(()))?;
     let reporter = if words.has_report {
-        Some(Reporter::new(alloc))
+        Some(Reporter::new(alloc, Arc::try_clone(&turn)?))
     } else {
         None
     };
-    let service = Service { methods, reporter };
-    match words.connections {
+    let Some(form) = words.log else {
+        let service: Service<Log> = Service {
+            methods,
+            reporter,
+            log: None,
+        };
+        return serve_port(rt, alloc, listener, service, words.connections);
+    };
+    let log = Arc::new(alloc, Log::new(alloc, form, turn))?;
+    let service = Service {
+        methods,
+        reporter,
+        log: Some(Arc::try_clone(&log)?),
+    };
+    serve_logged(rt, alloc, listener, service, log, words.connections)
+}
+
+/// Serves all connections that come, or so many, while a thread of its own prints the lines of their log.
+fn serve_logged<R>(
+    rt: R,
+    alloc: Global,
+    listener: TcpListener,
+    service: Service<Log>,
+    log: Arc<Log>,
+    connections: Option<u16>,
+) -> io::Result<()>
+where
+    R: Print + Threads + Wait + Clock + Copy + Send + Sync + Drop + 'static,
+{
+    let shared = Arc::try_clone(&log)?;
+    let printing = thread::spawn(&rt, move || {
+        shared.print_all(&rt, alloc);
+    })?;
+    let served = serve_port(rt, alloc, listener, service, connections);
+    log.close();
+    let _printed = printing.join(&rt);
+    served
+}
+
+/// Serves all connections that come, or so many.
+fn serve_port<R>(
+    rt: R,
+    alloc: Global,
+    listener: TcpListener,
+    service: Service<Log>,
+    connections: Option<u16>,
+) -> io::Result<()>
+where
+    R: Print + Threads + Wait + Clock + Copy + Send + Sync + Drop + 'static,
+{
+    match connections {
         Some(count) => serve_some(rt, alloc, &listener, service, count)?,
         None => serve_all(rt, alloc, listener, service)?,
     }
@@ -64,9 +115,10 @@ where
         × (passed ≡ have_passed outcomes)) }
 {
     let alloc = rt.alloc();
-    let service = Service {
+    let service: Service<Log> = Service {
         methods,
         reporter: None,
+        log: None,
     };
     let serving = thread::spawn(&rt, move || {
         let _ended = serve_all(rt, alloc, listener, service);

@@ -1,12 +1,13 @@
 //! One connection to a port: its descriptor, and how it is served.
 
+use crate::log::Logged;
 use connection::{CallReport, Ending, Gate, Served, serve_connection};
 use device::Marked;
 use h2frame::StreamId;
 use handlers::Methods;
-use std::alloc::Global;
+use std::alloc::{AllocError, Global};
 use std::io;
-use std::io::Write;
+use std::io::{Read, Write};
 use std::net::{Shutdown, TcpStream};
 use std::sync::{Arc, Wait};
 use std::thread::Threads;
@@ -31,16 +32,41 @@ impl Gate for Link {
     }
 }
 
-/// What is written to a connection.
+/// What is read of a connection, and shown to its log where it has one.
 #[derive(Drop)]
-struct LinkOutput {
+struct LinkInput<R> {
+    rt: R,
     link: Arc<Link>,
+    logged: Option<Logged>,
 }
 
-impl Write for LinkOutput {
+impl<R: Wait> Read for LinkInput<R> {
+    fn read(&mut self, buf: &mut [u8]) -> io::Result<usize> {
+        let mut stream = &self.link.stream;
+        let count = stream.read(buf)?;
+        if let Some(logged) = &self.logged {
+            logged.read(&self.rt, buf.get(..count).unwrap_or(b"".as_slice()));
+        }
+        Ok(count)
+    }
+}
+
+/// What is written to a connection, and shown to its log where it has one.
+#[derive(Drop)]
+struct LinkOutput<R> {
+    rt: R,
+    link: Arc<Link>,
+    logged: Option<Logged>,
+}
+
+impl<R: Wait> Write for LinkOutput<R> {
     fn write(&mut self, buf: &[u8]) -> io::Result<usize> {
         let mut stream = &self.link.stream;
-        stream.write(buf)
+        let count = stream.write(buf)?;
+        if let Some(logged) = &self.logged {
+            logged.wrote(&self.rt, buf.get(..count).unwrap_or(b"".as_slice()));
+        }
+        Ok(count)
     }
 
     fn flush(&mut self) -> io::Result<()> {
@@ -56,12 +82,14 @@ pub struct Ended {
     pub calls: Vec<CallReport>,
 }
 
-/// Serves a connection to its end, and gives its descriptor back. It fails where nothing was read of it.
+/// Serves a connection to its end, shows it to its log where it has one, and gives its descriptor back. It fails where nothing was
+/// read of it.
 pub fn serve_stream<R>(
     rt: R,
     alloc: Global,
     stream: TcpStream,
     methods: &Arc<Methods>,
+    logged: &Option<Logged>,
 ) -> io::Result<Ended>
 where
     R: Threads + Wait + Clock + Copy + Send + Sync + Drop + 'static,
@@ -71,12 +99,26 @@ where
     let methods = Arc::try_clone(methods)?;
     let link = Arc::new(alloc, Link { stream })?;
     let output = Marked::new(LinkOutput {
+        rt,
         link: Arc::try_clone(&link)?,
+        logged: again(logged)?,
     });
     let gate = Arc::try_clone(&link)?;
-    let mut input = Marked::new(&link.stream);
+    let mut input = Marked::new(LinkInput {
+        rt,
+        link,
+        logged: again(logged)?,
+    });
     let Served { ending, calls, .. } = serve_connection(
         rt, alloc, &mut input, output, methods, gate,
     );
     Ok(Ended { ending, calls })
+}
+
+/// Another one of the same connection.
+fn again(logged: &Option<Logged>) -> Result<Option<Logged>, AllocError> {
+    match logged {
+        Some(logged) => Ok(Some(logged.try_clone()?)),
+        None => Ok(None),
+    }
 }

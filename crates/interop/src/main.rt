@@ -61,6 +61,7 @@ Usage: interop [body --cut N]
        interop parts
        interop self [--port P]
        interop serve (--port P | --any-port) [--host H] [--conns N] [--report]
+                     [--log [text | json]]
        interop wire (all | GROUP | GROUP/N) --port P [--host H] [--silence S] [--verbose]
                     [--json FILE]
        interop wire --list
@@ -87,7 +88,9 @@ Usage: interop [body --cut N]
   serve          serve grpc.testing.TestService on port P of H (127.0.0.1 if no host is given),
                  or on a port that the system chooses, until it is interrupted, or N connections
                  were served; the line listening HOST:PORT tells where; with --report print a
-                 line of each connection that ends, and of each call on it
+                 line of each connection that ends, and of each call on it; with --log print at
+                 once what happens, and why: a line as each call, stream and connection ends, and
+                 where a call waits; with --log json an object of JSON for each
   wire           send the server at port P of H what no real client would, judge what it answers
                  by RFC 9113, RFC 7541 and gRPC, and print a line of each case: of all, of a
                  group (start, conn, hpack, stream, flow, control, grpc), or of one, as grpc/4.

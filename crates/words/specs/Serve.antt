@@ -1,10 +1,13 @@
--- `serve --port P`, or `serve --any-port`, with `--host H`, `--conns N` and `--report`
-use Rattle.std.specs.Prelude.{◌≤◌, ⊤, ℕ, Bool, List, Option, codes, option_map, option_and_then}
+-- `serve --port P`, or `serve --any-port`, with `--host H`, `--conns N`, `--report` and `--log`, or `--log json`
+use Rattle.std.specs.Prelude.{◌≤◌, ⊤, ℕ, Bool, List, Option, None, Some, [], ◌∷◌, if◌then◌else◌, codes, option_map, option_and_then}
 use Rattle.std.specs.Bool.{then_some}
-use Rattle.std.specs.Option.{option_xor}
+use Rattle.std.specs.Option.{option_map_or, option_xor}
+use Rattle.std.specs.Str.{bytes_eq}
 use Rattle.clap.specs.Walk.{Row, Rule, Text}
 use Rattle.clap.specs.Simple.{App, new_app, with_rule}
 use Rattle.words.specs.Options.{by_default, flag, has_flag, number_of, number_option, text_of, text_option}
+use Rattle.words.specs.declared.serve.LogForm.{LogForm}
+use Rattle.words.specs.declared.serve.LogForm.TheVariants.{Json, Text as Plain}
 use Rattle.words.specs.declared.serve.Port.{Port}
 use Rattle.words.specs.declared.serve.Port.TheVariants.{Any, Number}
 use Rattle.words.specs.declared.serve.ServeWords.{ServeWords}
@@ -13,15 +16,23 @@ use Rattle.words.specs.declared.serve.ServeWords.{ServeWords}
 abbrev pub host_option : Rule
 host_option = by_default (codes "127.0.0.1") (text_option (codes "host"))
 
+-- `--log` alone is `--log text`
+abbrev pub log_option : Rule
+log_option = record (text_option (codes "log")) {
+  range = Some (record { start_inclusive = 0; end_inclusive = 1 });
+  missing = codes "text" ∷ [];
+}
+
 -- P and N are 1 to 65,535
 abbrev pub serve_command : App
 serve_command =
-    with_rule (with_rule (with_rule (with_rule (with_rule (new_app (codes "serve"))
+    with_rule (with_rule (with_rule (with_rule (with_rule (with_rule (new_app (codes "serve"))
     (number_option (codes "port") 65535))
     (flag (codes "any-port")))
     host_option)
     (number_option (codes "conns") 65535))
-    (flag (codes "report"))
+    (flag (codes "report")))
+    log_option
 
 -- what a server is told
 pub record Serving : Type 0 where
@@ -29,6 +40,7 @@ pub record Serving : Type 0 where
   pub port : Port
   pub connections : Option ℕ
   pub has_report : Bool
+  pub log : Option LogForm
 
 abbrev pub serving : ServeWords → Serving
 serving words = record {
@@ -36,6 +48,7 @@ serving words = record {
   port = words.port;
   connections = words.connections;
   has_report = words.has_report;
+  log = words.log;
 }
 
 -- the port that is given, or any: one of the two has to be said, and not both
@@ -43,13 +56,23 @@ abbrev pub port_of : List Row → Option Port
 port_of rows = option_xor (option_map Number (number_of (codes "port") 65535 rows))
     (then_some (has_flag (codes "any-port") rows) Any)
 
+-- the form of a name
+abbrev pub form_of : Text → Option LogForm
+form_of name = if bytes_eq name (codes "text") then Some Plain
+    else (if bytes_eq name (codes "json") then Some Json else None)
+
+-- the form of the log, if there is to be one; nothing where its name is no form's
+abbrev pub log_of : List Row → Option (Option LogForm)
+log_of rows = option_map_or (λ name. option_map Some (form_of name)) (text_of (codes "log") rows) (Some None)
+
 abbrev pub serving_of : List Row → Option Serving
-serving_of rows = option_and_then (λ port. option_map (λ host. record {
+serving_of rows = option_and_then (λ port. option_and_then (λ host. option_map (λ log. record {
   host = host;
   port = port;
   connections = number_of (codes "conns") 65535 rows;
   has_report = has_flag (codes "report") rows;
-}) (text_of (codes "host") rows)) (port_of rows)
+  log = log;
+}) (log_of rows)) (text_of (codes "host") rows)) (port_of rows)
 
 -- a port's number is not 0
 abbrev pub IsPort : Port → Type 0

@@ -1,9 +1,10 @@
 -- Command lines and what they mean.
-use Rattle.std.specs.Prelude.{◌≡◌, [], ◌∷◌, false, true, Some, None, codes, refl}
+use Rattle.std.specs.Prelude.{◌≡◌, [], ◌∷◌, false, Some, None, codes, refl}
 use Rattle.clap.proofs.OnLiterals.{clap_on_literals}
 use Rattle.words.specs.Wire.{list, run}
 use Rattle.words.specs.Words.{command_meant, meaning_of, print_body, serve, try_case, try_wire}
-use Rattle.words.specs.declared.serve.Port.TheVariants.{Any}
+use Rattle.words.specs.declared.serve.LogForm.TheVariants.{Json, Text as Plain}
+use Rattle.words.specs.declared.serve.Port.TheVariants.{Any, Number}
 
 pub no_words : meaning_of [] ≡ Some (print_body 3)
 no_words = refl
@@ -25,9 +26,34 @@ pub any_port : meaning_of (codes "serve" ∷ codes "--any-port" ∷ codes "--hos
   port = Any;
   connections = None;
   has_report = false;
+  log = None;
 }))
 unfolding clap_on_literals command_meant
 any_port = refl
+
+pub bare_log : meaning_of (codes "serve" ∷ codes "--log" ∷ codes "--port" ∷ codes "5" ∷ []) ≡ Some (serve (record {
+  host = codes "127.0.0.1";
+  port = Number 5;
+  connections = None;
+  has_report = false;
+  log = Some Plain;
+}))
+unfolding clap_on_literals command_meant
+bare_log = refl
+
+pub log_of_objects : meaning_of (codes "serve" ∷ codes "--any-port" ∷ codes "--log=json" ∷ []) ≡ Some (serve (record {
+  host = codes "127.0.0.1";
+  port = Any;
+  connections = None;
+  has_report = false;
+  log = Some Json;
+}))
+unfolding clap_on_literals command_meant
+log_of_objects = refl
+
+pub log_of_no_form : meaning_of (codes "serve" ∷ codes "--any-port" ∷ codes "--log" ∷ codes "xml" ∷ []) ≡ None
+unfolding clap_on_literals command_meant
+log_of_no_form = refl
 
 pub two_ports : meaning_of (codes "serve" ∷ codes "--port" ∷ codes "5" ∷ codes "--any-port" ∷ []) ≡ None
 unfolding clap_on_literals command_meant

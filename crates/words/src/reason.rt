@@ -4,6 +4,7 @@
 //! of them that the command does not take; where each is taken, something is missing, or two things exclude each other.
 
 use crate::read::{COMMANDS, command_line};
+use crate::serve::form_of;
 use crate::{body, case, misbehave, self_test, serve, wire};
 use clap::builder::ValueParser;
 use clap::{Arg, ArgAction, Command};
@@ -138,10 +139,12 @@ fn reason_behind<'a>(name: &'a str, command: &Command<'a>, words: &'a [String]) 
         let word = word.as_str();
         if let Some(given) = waiting {
             waiting = None;
-            if let Some(reason) = given.reason_against(word) {
-                return reason;
+            if !given.may_be_bare() || !is_option(word) {
+                if let Some(reason) = given.reason_against(word) {
+                    return reason;
+                }
+                continue;
             }
-            continue;
         }
         if !is_option(word) {
             if is_placed || !has_place {
@@ -159,8 +162,8 @@ fn reason_behind<'a>(name: &'a str, command: &Command<'a>, words: &'a [String]) 
         }
     }
     match waiting {
-        Some(given) => given.no_value(),
-        None => reason_of_whole(name, words, is_placed),
+        Some(given) if !given.may_be_bare() => given.no_value(),
+        _ => reason_of_whole(name, words, is_placed),
     }
 }
 
@@ -172,6 +175,14 @@ struct Given<'c, 'a> {
 }
 
 impl<'c, 'a> Given<'c, 'a> {
+    /// Whether it needs no value.
+    fn may_be_bare(self) -> bool {
+        match self.arg.get_num_args() {
+            Some(range) => range.min_values() == 0,
+            None => false,
+        }
+    }
+
     fn no_value(self) -> Reason<'a> {
         Reason::NoValue {
             option: self.option,
@@ -189,7 +200,11 @@ impl<'c, 'a> Given<'c, 'a> {
                 Ok(number) => low <= number && number <= high,
                 Err(_) => false,
             },
-            _ => self.arg.get_id() != "use_tls" || value == "false",
+            _ => match self.arg.get_id() {
+                "log" => form_of(value).is_some(),
+                "use_tls" => value == "false",
+                _ => true,
+            },
         };
         if is_right {
             return None;

@@ -1,9 +1,9 @@
-//! `serve --port P`, or `serve --any-port`, with `--host H`, `--conns N` and `--report`.
+//! `serve --port P`, or `serve --any-port`, with `--host H`, `--conns N`, `--report` and `--log`, or `--log json`.
 
 ghost use Rattle.std.specs.Prelude.{◌≡◌, ◌≤◌, false, IfOk, IfSome, option_map};
 ghost use Rattle.clap.specs.Words.{app_of, found_of, rows_of};
 ghost use Rattle.words.specs.Options.{IsCommand, IsOption};
-ghost use Rattle.words.specs.Serve.{IsPort, host_option, port_of, serve_command, serving, serving_of};
+ghost use Rattle.words.specs.Serve.{IsPort, form_of, host_option, log_of, log_option, port_of, serve_command, serving, serving_of};
 
 use crate::options::{
     LOOPBACK, flag, has_flag, number_option, small_number_of, text_of, text_option,
@@ -20,6 +20,15 @@ pub enum Port {
     Any,
 }
 
+/// How the lines of a log are written.
+#[derive(Clone, Copy, Debug, PartialEq, Eq)]
+pub enum LogForm {
+    /// As text.
+    Text,
+    /// An object of JSON each.
+    Json,
+}
+
 /// What `serve` is told.
 #[derive(Clone, Copy, Debug, PartialEq, Eq)]
 pub struct ServeWords<'a> {
@@ -30,16 +39,28 @@ pub struct ServeWords<'a> {
     pub connections: Option<u16>,
     /// Whether it prints the report on each.
     pub has_report: bool,
+    /// How it tells what happens, as it does, if it does.
+    pub log: Option<LogForm>,
 }
 
 /// The words that it takes.
-pub(crate) const TAKES: &str = "--port P or --any-port, --host H, --conns N, --report";
+pub(crate) const TAKES: &str =
+    "--port P or --any-port, --host H, --conns N, --report, --log [text|json]";
 
 // `--host H`.
 fn host_option<'a>(alloc: Global) -> Arg<'a>
     ensures { IsOption host_option result }
 {
     text_option(alloc, "host", "an address, or a host's name").default_value(LOOPBACK)
+}
+
+// `--log`, also `--log text` and `--log json`.
+fn log_option<'a>(alloc: Global) -> Arg<'a>
+    ensures { IsOption log_option result }
+{
+    text_option(alloc, "log", "text or json")
+        .num_args(0..=1)
+        .default_missing_value("text")
 }
 
 pub(crate) fn serve_command<'a>(alloc: Global) -> Result<Command<'a>, AllocError>
@@ -54,7 +75,8 @@ pub(crate) fn serve_command<'a>(alloc: Global) -> Result<Command<'a>, AllocError
         .arg(any_port)?
         .arg(host_option(alloc))?
         .arg(connections)?
-        .arg(report)
+        .arg(report)?
+        .arg(log_option(alloc))
 }
 
 // The port that is given, or any: one of the two has to be said, and not both.
@@ -69,16 +91,39 @@ fn port_of(options: &ArgMatches<'_>) -> Option<Port>
     }
 }
 
+// The form of a name.
+pub(crate) fn form_of(name: &str) -> Option<LogForm>
+    ensures { result ≡ form_of name.now }
+{
+    match name {
+        "text" => Some(LogForm::Text),
+        "json" => Some(LogForm::Json),
+        _ => None,
+    }
+}
+
+// The form of the log, if there is to be one; nothing where its name is no form's.
+fn log_of(options: &ArgMatches<'_>) -> Option<Option<LogForm>>
+    ensures { result ≡ log_of (rows_of (found_of options.now)) }
+{
+    match text_of(options, "log") {
+        Some(name) => Some(Some(form_of(name)?)),
+        None => Some(None),
+    }
+}
+
 pub(crate) fn serving_of<'a>(options: &ArgMatches<'a>) -> Option<ServeWords<'a>>
     ensures value { option_map serving result ≡ serving_of (rows_of (found_of options.now)) }
     ensures within { IfSome result (λ told. IsPort told.port) }
 {
     let port = port_of(options)?;
     let host = text_of(options, "host")?;
+    let log = log_of(options)?;
     Some(ServeWords {
         host,
         port,
         connections: small_number_of(options, "conns"),
         has_report: has_flag(options, "report"),
+        log,
     })
 }

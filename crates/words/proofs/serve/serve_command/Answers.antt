@@ -9,5 +9,6 @@ returns c =
     let any = with_option _ _ _ _ _ c.in_ok-arg-2.ensures port (is_option c.flag-any_port.result _ c.flag-any_port.ensures.rule c.flag-any_port.ensures.local) in
     let host = with_option _ _ _ _ _ c.in_ok-arg-3.ensures any c.host_option.ensures in
     let connections = with_option _ _ _ _ _ c.in_ok-arg-4.ensures host (is_option c.number_option-connections.result _ c.number_option-connections.ensures.rule c.number_option-connections.ensures.local) in
-    IfOk-weaker c.arg-5.result _ _ (λ command added.
-    with_option _ _ _ _ _ added connections (is_option c.flag-report.result _ c.flag-report.ensures.rule c.flag-report.ensures.local)) c.arg-5.ensures
+    let report = with_option _ _ _ _ _ c.in_ok-arg-5.ensures connections (is_option c.flag-report.result _ c.flag-report.ensures.rule c.flag-report.ensures.local) in
+    IfOk-weaker c.arg-6.result _ _ (λ command added.
+    with_option _ _ _ _ _ added report c.log_option.ensures) c.arg-6.ensures

@@ -1,0 +1,28 @@
+//! What happens on a connection, and why: the lines of `interop serve --log`.
+//!
+//! An `Observer` is shown the bytes that a server reads of a connection and those that it writes, in any pieces. It changes nothing of
+//! them, and decides nothing: it follows the client's frames by the server's rules, notes each that breaks one with its figures, and
+//! names it once the server acts on it. So where it errs a line names no cause or another, and the server goes on as it would.
+//!
+//! Read `walk`, the frames of one direction, and `messages`, those of a call's DATA; `cause`, each rule with its figures and its text;
+//! `fields` and `place`, which field and which byte of a header block it is; `call`, what is known of one; `known`, blocks that were
+//! read before; `line`, what a line says; then `seen` with `client` and `server`, what the frames of both sides come to, and
+//! `observer`.
+#![tactic(auto)]
+
+mod call;
+mod cause;
+mod client;
+mod fields;
+mod figures;
+mod known;
+mod line;
+mod messages;
+mod observer;
+mod place;
+mod seen;
+mod server;
+mod walk;
+
+pub use line::{Ended, Line};
+pub use observer::Observer;

@@ -1,0 +1,134 @@
+//! The length-prefixed messages in the DATA of one side of a call (gRPC over HTTP/2, "Length-Prefixed-Message"): how many came, and
+//! which rule the first bad prefix breaks.
+
+/// The bytes of a prefix.
+const PREFIX: usize = 5;
+
+/// The longest message that is taken.
+const MOST: u32 = 4_194_304;
+
+/// What is wrong with a prefix.
+#[derive(Clone, Copy, Debug, PartialEq, Eq)]
+pub enum PrefixFault {
+    /// The flag says that the message is compressed.
+    Compressed,
+    /// The flag is this byte.
+    Flag(u8),
+    /// The prefix says so many bytes.
+    TooLong(u32),
+}
+
+/// How a stream ended inside a message.
+#[derive(Clone, Copy, Debug, PartialEq, Eq)]
+pub enum Cut {
+    /// Behind so many bytes of the prefix.
+    InPrefix(usize),
+    /// The prefix said one length, and so many bytes came.
+    InMessage { said: u32, came: u32 },
+}
+
+/// The messages of one side of a call.
+#[derive(Clone, Copy, Debug, PartialEq, Eq)]
+pub struct Messages {
+    /// How many are whole.
+    pub count: u64,
+    /// Their bytes, with five of prefix each.
+    pub bytes: u64,
+    pub fault: Option<PrefixFault>,
+    flag: u8,
+    /// How many bytes of a prefix came.
+    prefixed: usize,
+    /// What the prefix says, and how much of that is still to come.
+    said: u32,
+    left: u32,
+}
+
+impl Messages {
+    /// None came.
+    pub const NONE: Messages = Messages {
+        count: 0,
+        bytes: 0,
+        fault: None,
+        flag: 0,
+        prefixed: 0,
+        said: 0,
+        left: 0,
+    };
+
+    /// Bytes come. Behind a fault none is looked at.
+    pub fn feed(&mut self, bytes: &[u8]) {
+        let mut rest = bytes;
+        for _ in 0..bytes.len() {
+            let Some((first, behind)) = rest.split_first() else {
+                return;
+            };
+            if self.fault.is_some() {
+                return;
+            }
+            if self.left > 0 {
+                let count = rest.len().min(self.left as usize);
+                self.take(count as u32);
+                rest = &rest[count..];
+            } else {
+                self.prefix(*first);
+                rest = behind;
+            }
+        }
+    }
+
+    /// So many bytes of a message come.
+    fn take(&mut self, count: u32) {
+        self.left = self.left.saturating_sub(count);
+        if self.left == 0 {
+            self.end();
+        }
+    }
+
+    /// A message is whole.
+    fn end(&mut self) {
+        self.count = self.count.saturating_add(1);
+        self.bytes = self
+            .bytes
+            .saturating_add(5)
+            .saturating_add(u64::from(self.said));
+    }
+
+    /// A byte of a prefix comes.
+    fn prefix(&mut self, byte: u8) {
+        if self.prefixed == 0 {
+            self.flag = byte;
+            self.said = 0;
+        } else {
+            self.said = (self.said << 8) | u32::from(byte);
+        }
+        self.prefixed = self.prefixed.saturating_add(1);
+        if self.prefixed < PREFIX {
+            return;
+        }
+        self.prefixed = 0;
+        self.fault = match self.flag {
+            0 if self.said > MOST => Some(PrefixFault::TooLong(self.said)),
+            0 => None,
+            1 => Some(PrefixFault::Compressed),
+            flag => Some(PrefixFault::Flag(flag)),
+        };
+        self.left = self.said;
+        if self.said == 0 && self.fault.is_none() {
+            self.end();
+        }
+    }
+
+    /// Where the bytes so far end inside a message, if they do.
+    pub fn cut(&self) -> Option<Cut> {
+        if self.prefixed > 0 {
+            return Some(Cut::InPrefix(self.prefixed));
+        }
+        if self.left == 0 {
+            return None;
+        }
+        Some(Cut::InMessage {
+            said: self.said,
+            came: self.said.saturating_sub(self.left),
+        })
+    }
+}
