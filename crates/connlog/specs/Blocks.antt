@@ -1,7 +1,31 @@
--- Header blocks that change no table (RFC 7541, section 6.1).
-use Rattle.std.specs.Prelude.{ℕ, Bool, List, ◌&&◌, nat_lt}
-use Rattle.std.specs.List.{list_all}
+-- Header blocks that change no table (RFC 7541, sections 5.2, 6.1 and 6.2.2).
+use Rattle.std.specs.Prelude.{ℕ, ◌-◌, ◌%◌, ◌==◌, nat_lt, Bool, true, false, ◌&&◌, if◌then◌else◌, List, fold}
+use Rattle.connlog.specs.declared.tables.Expected.{Expected}
+use Rattle.connlog.specs.declared.tables.Expected.TheVariants.{Field, Length, Value, Other}
 
--- each byte is an indexed field: its first bit is set, and its number isn't spelled in further bytes
-abbrev pub is_indexed : List ℕ → Bool
-is_indexed block = list_all (λ byte. nat_lt 127 byte && nat_lt byte 255) block
+-- behind the first byte of a field: of an indexed one, or of a literal without indexing that has its name by index, where
+-- the index isn't spelled in further bytes
+abbrev pub behind_first : ℕ → Expected
+behind_first byte = if nat_lt 127 byte && nat_lt byte 255 then Field
+    else (if nat_lt 0 byte && nat_lt byte 15 then Length else Other)
+
+-- where so many bytes of a value are to come; 127 says that its length is spelled in further bytes
+abbrev pub value_of : ℕ → Expected
+value_of length = if length == 0 then Field else (if length == 127 then Other else Value length)
+
+-- the first bit of a length says how the value is spelled
+abbrev pub behind : Expected → ℕ → Expected
+behind Field byte = behind_first byte
+behind Length byte = value_of (byte % 128)
+behind (Value left) byte = value_of (left - 1)
+behind Other byte = Other
+
+abbrev pub is_field : Expected → Bool
+is_field Field = true
+is_field Length = false
+is_field (Value left) = false
+is_field Other = false
+
+-- it has such fields alone
+abbrev pub keeps_tables : List ℕ → Bool
+keeps_tables block = is_field (fold behind Field block)

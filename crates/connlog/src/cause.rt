@@ -481,20 +481,14 @@ impl fmt::Display for CallCause {
 
 impl fmt::Display for ServerCause {
     fn fmt<W: fmt::Write>(&self, f: &mut fmt::Formatter<W>) -> fmt::Result {
-        match *self {
-            ServerCause::LiveCalls => {
-                write!(f, "64 calls are live, which is the most (RFC 9113, 5.1.2)")
-            }
-            ServerCause::AllStreams => write!(
-                f,
-                "it is the 4,096th stream, which is the last (RFC 9113, 6.8)"
-            ),
-            ServerCause::NoRoom => write!(
-                f,
-                "DATA that the call has no room for, or takes no more"
-            ),
-            ServerCause::InputEnded => write!(f, "the input ended before the client's half"),
-            ServerCause::Left => write!(f, "the call was left"),
-        }
+        let text = match *self {
+            ServerCause::LiveCalls => "64 calls are live, which is the most (RFC 9113, 5.1.2)",
+            ServerCause::AllStreams =>
+                "it is the 4,096th stream, which is the last (RFC 9113, 6.8)",
+            ServerCause::NoRoom => "DATA that the call has no room for, or takes no more",
+            ServerCause::InputEnded => "the input ended before the client's half",
+            ServerCause::Left => "the call was left",
+        };
+        write!(f, "{text}")
     }
 }

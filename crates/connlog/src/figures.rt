@@ -56,19 +56,20 @@ pub struct KindName(pub FrameKind);
 
 impl fmt::Display for KindName {
     fn fmt<W: fmt::Write>(&self, f: &mut fmt::Formatter<W>) -> fmt::Result {
-        match self.0 {
-            FrameKind::Data => write!(f, "DATA"),
-            FrameKind::Headers => write!(f, "HEADERS"),
-            FrameKind::Priority => write!(f, "PRIORITY"),
-            FrameKind::RstStream => write!(f, "RST_STREAM"),
-            FrameKind::Settings => write!(f, "SETTINGS"),
-            FrameKind::PushPromise => write!(f, "PUSH_PROMISE"),
-            FrameKind::Ping => write!(f, "PING"),
-            FrameKind::GoAway => write!(f, "GOAWAY"),
-            FrameKind::WindowUpdate => write!(f, "WINDOW_UPDATE"),
-            FrameKind::Continuation => write!(f, "CONTINUATION"),
-            FrameKind::Unknown(code) => write!(f, "a frame of type {code}"),
-        }
+        let name = match self.0 {
+            FrameKind::Data => "DATA",
+            FrameKind::Headers => "HEADERS",
+            FrameKind::Priority => "PRIORITY",
+            FrameKind::RstStream => "RST_STREAM",
+            FrameKind::Settings => "SETTINGS",
+            FrameKind::PushPromise => "PUSH_PROMISE",
+            FrameKind::Ping => "PING",
+            FrameKind::GoAway => "GOAWAY",
+            FrameKind::WindowUpdate => "WINDOW_UPDATE",
+            FrameKind::Continuation => "CONTINUATION",
+            FrameKind::Unknown(code) => return write!(f, "a frame of type {code}"),
+        };
+        write!(f, "{name}")
     }
 }
 

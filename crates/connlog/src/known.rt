@@ -1,14 +1,14 @@
 //! A header block that was read before, so that the same bytes needn't be read again.
 //!
-//! A block of indexed fields alone changes no table (RFC 7541, section 6.1), so its bytes mean the same as long as no other block was
-//! read between.
+//! The bytes of a block that changes no table mean the same as long as no other block was read between.
 
 ghost use Rattle.std.specs.Prelude.{◌≡◌, true, false, Some, None, IfSome, OnOk};
-ghost use Rattle.connlog.specs.Blocks.{is_indexed};
+ghost use Rattle.connlog.specs.Blocks.{keeps_tables};
 
+use crate::tables::keeps_tables;
 use std::alloc::{AllocError, Global};
 
-/// The last block of indexed fields that was read, and what it means.
+/// The last block that changes no table, and what it means.
 #[derive(Drop)]
 pub struct Known<T: Copy> {
     block: Vec<u8>,
@@ -39,26 +39,20 @@ impl<T: Copy + Drop> Known<T> {
     /// This block was read. It has this meaning, or none that is worth to be known.
     pub fn learn(&mut self, block: &[u8], meaning: Option<T>) -> Result<(), AllocError>
         ensures changed { OnOk result
-            (is_indexed block.now ≡ false → self.new.meaning ≡ None) }
-        ensures learnt { OnOk result ((is_indexed block.now ≡ true) → (it : T) → meaning ≡ Some it
+            (keeps_tables block.now ≡ false → self.new.meaning ≡ None) }
+        ensures learnt { OnOk result ((keeps_tables block.now ≡ true) → (it : T) → meaning ≡ Some it
             → (self.new.block.items ≡ block.now) × (self.new.meaning ≡ Some it)) }
     {
-        if is_indexed(block) && meaning.is_none() {
+        let is_kept = keeps_tables(block);
+        if is_kept && meaning.is_none() {
             return Ok(());
         }
         self.meaning = None;
-        if is_indexed(block) {
+        if is_kept {
             self.block.clear();
             self.block.extend_from_slice(block)?;
             self.meaning = meaning;
         }
         Ok(())
     }
-}
-
-/// Whether each byte is an indexed field.
-pub fn is_indexed(block: &[u8]) -> bool
-    ensures { result ≡ is_indexed block.now }
-{
-    block.iter().all(|byte| 0x80 <= *byte && *byte < 0xff)
 }

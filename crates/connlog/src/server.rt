@@ -3,9 +3,9 @@
 use crate::client::number;
 use crate::fields::first_value;
 use crate::figures::shown;
-use crate::known::is_indexed;
 use crate::line::Status;
 use crate::seen::Seen;
+use crate::tables::keeps_tables;
 use crate::walk::Part;
 use callhead::read_status;
 use flow::{HalfVerdict, MAX_WINDOW};
@@ -80,7 +80,7 @@ impl Seen {
             if let Some(call) = self.calls.get_mut(&head.stream) {
                 call.heard = now;
             }
-            if is_indexed(block) {
+            if keeps_tables(block) {
                 return Ok(());
             }
         }
