@@ -3,7 +3,7 @@
 //! It asks that the head isn't padded and has no priority by its kind (`is_padded`, `has_priority`): a frame of an
 //! unknown type may have those bits set, since there they mean nothing.
 
-ghost use Rattle.std.specs.Prelude.{◌≡◌, ◌++◌, ◌⊎◌, Some, Err, IfErr, OnOk, OnErr};
+ghost use Rattle.std.specs.Prelude.{◌≡◌, ◌<◌, ◌≤◌, ◌+◌, ◌++◌, ◌⊎◌, Some, Err, IfErr, OnOk, OnErr, length, vec_capacity, vec_len};
 ghost use Rattle.h2frame.specs.Faults.{frame_fault};
 ghost use Rattle.h2frame.specs.FrameList.{Whole, Spells};
 ghost use Rattle.h2frame.specs.Spelling.{IsWritable, head_text, spelled};
@@ -31,6 +31,11 @@ pub fn write_frame(frame: &Frame, out: &mut Vec<u8>) -> Result<(), FrameFault>
     ensures cause { IfErr result
         (λ fault. (fault ≡ FrameFault.OutOfMemory) ⊎ (frame_fault frame.now ≡ Some fault)) }
     ensures err { OnErr result (out.new.items ≡ out.old.items) }
+
+    // Where there is room it takes no memory.
+    ensures full { result ≡ Err FrameFault.OutOfMemory
+        → vec_capacity out.old < vec_len out.old + length (spelled frame.now) }
+    ensures capacity { vec_capacity out.old ≤ vec_capacity out.new }
 {
     if let Some(fault) = frame.fault() {
         return Err(fault);
