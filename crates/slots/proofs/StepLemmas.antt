@@ -18,19 +18,19 @@ same_number id = eq-eqb id id refl
 -- ---- which call
 
 pub concerns-data : (id counted : ℕ) (piece : List ℕ) (fate : Fate) → Concerns id (Told (events.Data id piece counted) fate)
-concerns-data id counted piece fate = record { admits = refl; reports = refl; shuts = λ other apart. rw apart refl; feeds = λ other apart. rw apart refl }
+concerns-data id counted piece fate = record { admits = refl; reports = refl; drains = refl; shuts = λ other apart. rw apart refl; feeds = λ other apart. rw apart refl }
 
 pub concerns-end : (id : ℕ) → Concerns id (Told (events.End id) Plain)
-concerns-end id = record { admits = refl; reports = refl; shuts = λ other apart. rw apart refl; feeds = λ other apart. refl }
+concerns-end id = record { admits = refl; reports = refl; drains = refl; shuts = λ other apart. rw apart refl; feeds = λ other apart. refl }
 
 pub concerns-reset : (id : ℕ) (code : ErrorCode) → Concerns id (Told (events.Reset id code) Plain)
-concerns-reset id code = record { admits = refl; reports = refl; shuts = λ other apart. rw apart refl; feeds = λ other apart. refl }
+concerns-reset id code = record { admits = refl; reports = refl; drains = refl; shuts = λ other apart. rw apart refl; feeds = λ other apart. refl }
 
 pub concerns-error : (id : ℕ) (code : ErrorCode) → Concerns id (Told (events.StreamError id code) Plain)
-concerns-error id code = record { admits = refl; reports = refl; shuts = λ other apart. rw apart refl; feeds = λ other apart. refl }
+concerns-error id code = record { admits = refl; reports = refl; drains = refl; shuts = λ other apart. rw apart refl; feeds = λ other apart. refl }
 
 pub concerns-cut : (id : ℕ) (why : Cause) → Concerns id (CutOff id why)
-concerns-cut id why = record { admits = refl; reports = refl; shuts = λ other apart. rw apart refl; feeds = λ other apart. refl }
+concerns-cut id why = record { admits = refl; reports = refl; drains = refl; shuts = λ other apart. rw apart refl; feeds = λ other apart. refl }
 
 -- ---- how
 

@@ -1,5 +1,5 @@
 use Rattle.connection.proofs.Limits.{one-too-many}
-use Rattle.connection.proofs.laws.one_too_many.Goals as goal
+use Rattle.connection.proofs.laws.turned_away.Goals as goal
 
 pub returns : goal.returns
 returns c = one-too-many
