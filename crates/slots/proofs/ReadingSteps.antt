@@ -224,7 +224,7 @@ module _ {H : Type 0} {hand : Ghosts H} {names : List ℕ → ℕ → Type 0} wh
     counts = reads.counts;
     heeds = reads.heeds;
     begins = ap (λ (ids : List ℕ). ids ++ begun told) begins;
-    names = named-one step told id begins;
+    names_on = named-one step told id begins;
     drains = reads.slots.drains;
   }
 
@@ -236,7 +236,7 @@ module _ {H : Type 0} {hand : Ghosts H} {names : List ℕ → ℕ → Type 0} wh
     counts = counts-same (named told) (begun told) old new last count reads.counts;
     heeds = heeds-same told old new same reads.heeds;
     begins = ap (λ (ids : List ℕ). ids ++ begun told) begins;
-    names = named-one step told id begins;
+    names_on = named-one step told id begins;
     drains = (hears told reads.slots).drains ∙ ap (λ (b : Bool). b || is_draining told) (goes-one step id begins);
   }
 
@@ -269,7 +269,7 @@ module _ {H : Type 0} {hand : Ghosts H} {names : List ℕ → ℕ → Type 0} wh
       → Counts (named_with id (is_draining told) (named told)) (id ∷ begun told) new → Begins names told step id old → Reads names (step ∷ told) new
   reads-begun told step id old new same heeded counts begins = record {
     slots = subst (λ (slots : Slots H hand). Kept names (step ∷ told) slots) (sym same) begins.slots;
-    counts = subst (λ (n : ℕ). Counts n (begun (step ∷ told)) new) (sym begins.names)
+    counts = subst (λ (n : ℕ). Counts n (begun (step ∷ told)) new) (sym begins.names_on)
         (subst (λ (ids : List ℕ). Counts (named_with id (is_draining told) (named told)) ids new) (sym begins.begins) counts);
     heeds = heeds-more told step old new heeded begins.heeds;
   }

@@ -233,6 +233,9 @@ module _ {X : Type 0} (P Q : X → Type 0) where
 
 -- ---- all slots
 
+idle-drain : IsIdle Drains
+idle-drain = record { admits = refl; reports = refl; shuts = λ id. refl; feeds = λ id. refl }
+
 module _ {H : Type 0} {hand : Ghosts H} {names : List ℕ → ℕ → Type 0} where
   -- a step that is nothing to any call
   pub kept-idle : (told : List Step) (step : Step) (slots : Slots H hand) → is_drain step ≡ false → IsIdle step → Kept names told slots → Kept names (step ∷ told) slots
@@ -247,9 +250,6 @@ module _ {H : Type 0} {hand : Ghosts H} {names : List ℕ → ℕ → Type 0} wh
     apart = k.apart;
     all = all-not (λ id. times_in id slots.seats.items) told step idle.admits k.all;
   }
-
-  idle-drain : IsIdle Drains
-  idle-drain = record { admits = refl; reports = refl; shuts = λ id. refl; feeds = λ id. refl }
 
   -- the server drains
   pub kept-drain : (told : List Step) (old new : Slots H hand) → new.last ≡ old.last → new.rows ≡ old.rows → new.seats ≡ old.seats → new.is_draining ≡ true → Kept names told old

@@ -82,7 +82,7 @@ module _ {H : Type 0} {hand : Ghosts H} (names : List ℕ → ℕ → Type 0) wh
     pub counts : Counts (named told) (begun told) reading
     pub heeds : Heeds told reading
     pub begins : begun (step ∷ told) ≡ id ∷ begun told
-    pub names : named (step ∷ told) ≡ named_with id (is_draining told) (named told)
+    pub names_on : named (step ∷ told) ≡ named_with id (is_draining told) (named told)
     pub drains : reading.slots.is_draining ≡ is_draining told
 
   abbrev pub Stands : List Step → Step → Option Cut → Reading H hand → Type 0

@@ -470,6 +470,7 @@ impl<H: Worker> Reading<H> {
             → Reads H.names (step ∷ told) self.new }
         ensures calls { calls_of self.new.slots ≡ calls_of self.old.slots }
         ensures next { KeepsNext self.old.slots self.new.slots }
+        ensures draining { self.new.slots.is_draining ≡ self.old.slots.is_draining }
     {
         self.slots.shut(cut.id, cut.kind);
     }
@@ -618,9 +619,11 @@ impl<H: Worker> Reading<H> {
 
     /// How the connection has ended where its input has, or where the server drains and no call is live.
     pub fn ending(&self) -> Ending
-        ensures input { self.now.slots.is_draining ≡ false
-            → (result ≡ ending.InputEnded) ⊎ (result ≡ ending.PeerGoaway) }
-        ensures drained { self.now.slots.is_draining ≡ true → result ≡ ending.Drained }
+        ensures input { (result ≡ ending.InputEnded)
+            ⊎ ((result ≡ ending.PeerGoaway) ⊎ (result ≡ ending.Drained)) }
+        ensures draining { self.now.slots.is_draining ≡ true → result ≡ ending.Drained }
+        ensures drained { result ≡ ending.Drained → (told : List Step)
+            → Reads H.names told self.now → is_draining told ≡ true }
         ensures goaway { result ≡ ending.PeerGoaway → (told : List Step)
             → Reads H.names told self.now
             → WasTold events.PeerGoaway told }

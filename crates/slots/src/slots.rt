@@ -222,6 +222,7 @@ impl<H: Worker> Slots<H> {
             → Hears H.names step self.old self.new }
         ensures calls { calls_of self.new ≡ calls_of self.old }
         ensures next { KeepsNext self.old self.new }
+        ensures draining { self.new.is_draining ≡ self.old.is_draining }
     {
         let Some(place) = self.find(id) else {
             return;
