@@ -95,7 +95,7 @@ left_too_late (inr (inr (inl (id, is, among, goes_on)), took), answered) = true�
 left_too_late (inr (inr (inr (inl (is, unsaid))), took), answered) = absurd cc
 left_too_late (inr (inr (inr (inr (is, unsaid))), took), answered) = absurd cc
 
-leaves : Order → Bool
+abbrev leaves : Order → Bool
 leaves order = is_some (goaway_by order)
 
 -- not twice, nor behind another GOAWAY
