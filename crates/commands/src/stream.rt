@@ -1,6 +1,6 @@
 //! One connection to a port: its descriptor, and how it is served.
 
-use connection::{CallReport, Ending, Gate, Served, serve_connection};
+use connection::{CallReport, Ending, Gate, Served, serve_undrained};
 use device::Marked;
 use h2frame::StreamId;
 use handlers::Methods;
@@ -75,7 +75,7 @@ where
     });
     let gate = Arc::try_clone(&link)?;
     let mut input = Marked::new(&link.stream);
-    let Served { ending, calls, .. } = serve_connection(
+    let Served { ending, calls, .. } = serve_undrained(
         rt, alloc, &mut input, output, methods, gate,
     );
     Ok(Ended { ending, calls })

@@ -136,7 +136,6 @@ short-step id (CutOff other why) before short =
     none : (found : Option Shut) → length (unless found []) ≡ 0
     none None = refl
     none (Some kind) = refl
-
 short-step id Drains before short =
     let found = shut_by id (Drains ∷ before) in
     omega (arith, short, length-append (fed_by id before) (unless found []), none found)

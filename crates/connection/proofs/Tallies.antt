@@ -1,5 +1,6 @@
 -- What the reader counts, and what it may refuse by that.
 use Rattle.std.proofs.Common.{◌≡◌, ◌≢◌, ◌∙◌, ◌+◌, ◌<◌, ◌≤◌, ℕ, Bool, true, false, List, [], ◌∷◌, ◌++◌, Option, None, Some, ap, arith, length, length-append, le_trans, refl, subst, sym}
+use Rattle.std.specs.Prelude.{IfErr, Result, Ok, Err}
 use Rattle.std.specs.List.{sum_by}
 use Rattle.std.proofs.lemmas.List.Sums.{sum_by-append}
 use Rattle.callhead.specs.declared.head.CallHead.{CallHead}
@@ -115,6 +116,14 @@ may-turn-other refused.TooMany calls one other not may = may
 may-turn-other refused.Draining calls one other not may = absurd (not refl)
 may-turn-other refused.NotNew calls one other not may = tt
 may-turn-other refused.OutOfMemory calls one other not may = tt
+
+-- by what the lock says
+pub turns-so : (result : Result (Unit {0}) AdmitFault) (calls : ℕ) → (result ≡ Err refused.TooMany → 64 ≤ calls) → IfErr result (λ fault. MayTurnAway calls true fault)
+turns-so (Ok done) calls many = tt
+turns-so (Err refused.TooMany) calls many = many refl
+turns-so (Err refused.Draining) calls many = refl
+turns-so (Err refused.NotNew) calls many = tt
+turns-so (Err refused.OutOfMemory) calls many = tt
 
 -- a call that isn't for the lock
 pub refused-justified : (id : ℕ) (head : CallHead) (told : List Step) (draining : Bool) → draining ≡ is_draining told → IsJustified (Told (events.Open id head) (refused_by draining)) told
