@@ -246,8 +246,7 @@ module _ (answers : ℕ → List (List ℕ) → Bool → Answer → Type 0) (nam
     others = λ id unopened. ([], (_, [], (refl, refl), refl), inl refl);
     marked = λ sent. absurd cc;
     front = ([], ([], refl), appends-none (contents device));
-    whole = λ unmarked. ([], [], refl, appends-none (contents device));
-    all = λ unmarked spared. absurd (spared (ap Some lacked));
+    all = λ unmarked. appends-none (contents device);
     over = λ spared. absurd (spared (ap Some lacked));
     sound = λ is. refl;
   }

@@ -17,7 +17,7 @@ use Rattle.std.specs.Prelude.{if◌then◌else◌}
 use Rattle.outwriter.specs.Frames.{ends_stream}
 use Rattle.connwriter.specs.declared.standing.Standing.{Standing}
 use Rattle.connwriter.specs.declared.standing.Standing.TheVariants.{Going, OutOfMemory, Broken}
-use Rattle.connwriter.specs.Spelled.{spelled_all, ended_by, Parted, IsFront, IsWhole, Holds}
+use Rattle.connwriter.specs.Spelled.{spelled_all, ended_by, Parted, IsFront, IsAll, Holds}
 
 -- the earlier frames are spelled first
 pub spelled-append : (later earlier : List Frame) → spelled_all (later ++ earlier) ≡ spelled_all earlier ++ spelled_all later
@@ -76,61 +76,38 @@ parted-cut frames before old new buffer ended p cut = (
   Appends-twice before old new (spelled_all p.written) cut.0 p.device cut.3,
 )
 
--- behind the frames others come
-pub front-longer : (lost made : List Frame) (before now : Option (List ℕ)) → IsFront made before now → IsFront (lost ++ made) before now
-front-longer lost made before now f = (
-  f.0,
-  (f.1.0 ++ spelled_all lost, spelled-append lost made ∙ (ap (λ (bytes : List ℕ). bytes ++ spelled_all lost) f.1.1 ∙ append_assoc f.0 f.1.0 (spelled_all lost))),
-  f.2,
-)
-
 -- ---- however the writer stands
 
-pub holds-flushed : (standing : Standing) (is_dead : Bool) (frames : List Frame) (before old new : Option (List ℕ)) (buffer ended : List ℕ) → standing ≢ Broken
-    → Holds standing is_dead frames before old buffer ended → Appends old new buffer → Holds standing is_dead frames before new [] []
-holds-flushed Going is_dead frames before old new buffer ended whole h appends = parted-flushed frames before old new buffer ended h appends
-holds-flushed OutOfMemory is_dead frames before old new buffer ended whole h appends = (h.0, h.1, h.2, parted-flushed h.1 before old new buffer ended h.3 appends, h.4)
-holds-flushed Broken is_dead frames before old new buffer ended whole h appends = absurd (whole refl)
+pub holds-flushed : (standing : Standing) (frames : List Frame) (before old new : Option (List ℕ)) (buffer ended : List ℕ) → standing ≢ Broken
+    → Holds standing frames before old buffer ended → Appends old new buffer → Holds standing frames before new [] []
+holds-flushed Going frames before old new buffer ended whole h appends = parted-flushed frames before old new buffer ended h appends
+holds-flushed OutOfMemory frames before old new buffer ended whole h appends = parted-flushed frames before old new buffer ended h appends
+holds-flushed Broken frames before old new buffer ended whole h appends = absurd (whole refl)
 
-pub holds-cut : (standing : Standing) (is_dead : Bool) (frames : List Frame) (before old new : Option (List ℕ)) (buffer ended : List ℕ) → standing ≢ Broken
-    → Holds standing is_dead frames before old buffer ended → AppendsPrefix old new buffer → IsFront frames before new
-holds-cut Going is_dead frames before old new buffer ended whole h cut = parted-cut frames before old new buffer ended h cut
-holds-cut OutOfMemory is_dead frames before old new buffer ended whole h cut =
-    subst (λ (all : List Frame). IsFront all before new) (sym h.2) (front-longer h.0 h.1 before new (parted-cut h.1 before old new buffer ended h.3 cut))
-holds-cut Broken is_dead frames before old new buffer ended whole h cut = absurd (whole refl)
+pub holds-cut : (standing : Standing) (frames : List Frame) (before old new : Option (List ℕ)) (buffer ended : List ℕ) → standing ≢ Broken
+    → Holds standing frames before old buffer ended → AppendsPrefix old new buffer → IsFront frames before new
+holds-cut Going frames before old new buffer ended whole h cut = parted-cut frames before old new buffer ended h cut
+holds-cut OutOfMemory frames before old new buffer ended whole h cut = parted-cut frames before old new buffer ended h cut
+holds-cut Broken frames before old new buffer ended whole h cut = absurd (whole refl)
 
-pub holds-front : (standing : Standing) (is_dead : Bool) (frames : List Frame) (before now : Option (List ℕ)) (buffer ended : List ℕ) → Holds standing is_dead frames before now buffer ended
+pub holds-front : (standing : Standing) (frames : List Frame) (before now : Option (List ℕ)) (buffer ended : List ℕ) → Holds standing frames before now buffer ended
     → IsFront frames before now
-holds-front Going is_dead frames before now buffer ended h = parted-front frames before now buffer ended h
-holds-front OutOfMemory is_dead frames before now buffer ended h =
-    subst (λ (all : List Frame). IsFront all before now) (sym h.2) (front-longer h.0 h.1 before now (parted-front h.1 before now buffer ended h.3))
-holds-front Broken is_dead frames before now buffer ended h = h
-
--- where it was the core that had no memory, a frame comes behind those in the buffer still
-pub holds-more : (frame : Frame) (is_dead : Bool) (frames : List Frame) (before now : Option (List ℕ)) (buffer ended : List ℕ) → is_dead ≡ true → ended_by (frame ∷ []) ≡ []
-    → Holds OutOfMemory is_dead frames before now buffer ended → Holds OutOfMemory is_dead (frame ∷ frames) before now (buffer ++ spelled frame) ended
-holds-more frame is_dead frames before now buffer ended dead ends_none h =
-    let all : frames ≡ h.1 = h.2 ∙ ap (λ (lost : List Frame). lost ++ h.1) (h.4 dead) in (
-      [],
-      frame ∷ frames,
-      refl,
-      subst (λ (ids : List ℕ). Parted (frame ∷ frames) before now (buffer ++ spelled frame) ids) (ap (λ (ids : List ℕ). ended ++ ids) ends_none ∙ append-nil ended)
-          (parted-more frame frames before now buffer ended (subst (λ (made : List Frame). Parted made before now buffer ended) (sym all) h.3)),
-      λ dead. refl,
-    )
+holds-front Going frames before now buffer ended h = parted-front frames before now buffer ended h
+holds-front OutOfMemory frames before now buffer ended h = parted-front frames before now buffer ended h
+holds-front Broken frames before now buffer ended h = h
 
 -- nothing is left in the buffer
-pub holds-all : (frames : List Frame) (before now : Option (List ℕ)) (buffer ended : List ℕ) → Parted frames before now buffer ended → buffer ≡ []
+parted-all : (frames : List Frame) (before now : Option (List ℕ)) (buffer ended : List ℕ) → Parted frames before now buffer ended → buffer ≡ []
     → Appends before now (spelled_all frames)
-holds-all frames before now buffer ended p empty =
+parted-all frames before now buffer ended p empty =
     subst (λ (bytes : List ℕ). Appends before now bytes)
     (sym (parted-spelled frames before now buffer ended p ∙ (ap (λ (bytes : List ℕ). spelled_all p.written ++ bytes) empty ∙ append-nil (spelled_all p.written)))) p.device
 
-pub holds-whole : (standing : Standing) (is_dead : Bool) (frames : List Frame) (before now : Option (List ℕ)) (buffer ended : List ℕ) → standing ≢ Broken
-    → Holds standing is_dead frames before now buffer ended → buffer ≡ [] → IsWhole frames before now
-holds-whole Going is_dead frames before now buffer ended whole h empty = ([], frames, refl, holds-all frames before now buffer ended h empty)
-holds-whole OutOfMemory is_dead frames before now buffer ended whole h empty = (h.0, h.1, h.2, holds-all h.1 before now buffer ended h.3 empty)
-holds-whole Broken is_dead frames before now buffer ended whole h empty = absurd (whole refl)
+pub holds-all : (standing : Standing) (frames : List Frame) (before now : Option (List ℕ)) (buffer ended : List ℕ) → standing ≢ Broken
+    → Holds standing frames before now buffer ended → buffer ≡ [] → IsAll frames before now
+holds-all Going frames before now buffer ended sound h empty = parted-all frames before now buffer ended h empty
+holds-all OutOfMemory frames before now buffer ended sound h empty = parted-all frames before now buffer ended h empty
+holds-all Broken frames before now buffer ended sound h empty = absurd (sound refl)
 
 -- ---- how long a frame is
 

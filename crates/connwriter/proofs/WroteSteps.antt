@@ -1,5 +1,5 @@
 -- What the steps of a writer do to what it wrote.
-use Rattle.std.proofs.Common.{◌≡◌, ◌≢◌, ◌∙◌, ℕ, Bool, true, false, true≢false, List, [], ◌∷◌, ◌++◌, Option, None, Some, ap, append_assoc, sym, refl, map, subst}
+use Rattle.std.proofs.Common.{◌≡◌, ◌≢◌, ◌∙◌, ℕ, Bool, true, false, List, [], ◌∷◌, ◌++◌, Option, None, Some, ap, append_assoc, sym, refl, map, subst}
 use Rattle.std.proofs.lemmas.List.{append-nil, map-append}
 use Rattle.account.specs.declared.call.OutItem.{OutItem}
 use Rattle.std.specs.Io.KnownBytes.{Appends}
@@ -24,9 +24,9 @@ use Rattle.connwriter.specs.declared.standing.Standing.{Standing}
 use Rattle.connwriter.specs.declared.standing.Standing.TheVariants.{Going, OutOfMemory, Broken}
 use Rattle.connwriter.specs.declared.writer.ConnWriter.{ConnWriter}
 use Rattle.connwriter.specs.Orders.{own_control, own_order, parting}
-use Rattle.connwriter.specs.Spelled.{Holds, IsFront, IsAll, IsWhole, ended_by}
-use Rattle.connwriter.specs.Wrote.{Wrote, WritesOn, Fills, Puts, Loses, PutsOr, RestsIf}
-use Rattle.connwriter.proofs.SpelledLemmas.{parted-more, holds-all, holds-cut, holds-flushed, holds-front, holds-more, holds-whole}
+use Rattle.connwriter.specs.Spelled.{Holds, IsFront, IsAll, Parted, ended_by}
+use Rattle.connwriter.specs.Wrote.{Wrote, WritesOn, Fills, Puts, RestsIf}
+use Rattle.connwriter.proofs.SpelledLemmas.{parted-more, holds-all, holds-cut, holds-flushed, holds-front}
 
 appends-nothing : (bytes : Option (List ℕ)) → Appends bytes bytes []
 appends-nothing None = tt
@@ -40,14 +40,6 @@ not-going e = cc
 
 not-broken-2 : OutOfMemory ≢ Broken
 not-broken-2 e = cc
-
-none-some : (frame : Frame) → None ≡ Some frame → ⊥
-none-some frame e = cc
-
--- only a core that is dead says a last word
-dead-by : (is_dead : Bool) (said : Option Frame) (frame : Frame) → said ≡ Some frame → (is_dead ≡ false → said ≡ None) → is_dead ≡ true
-dead-by true said frame some alive = refl
-dead-by false said frame some alive = absurd (none-some frame (sym (alive refl) ∙ some))
 
 -- ---- what a core answers
 
@@ -92,34 +84,27 @@ module _ {L In Out Shut : Type 0} (got : Out → List OutItem) where
 -- ---- what was written
 
 module _ {L In Out Shut W : Type 0} (got : Out → List OutItem) (contents : W → Option (List ℕ)) (failed : W → Bool) where
-  -- the core goes on by steps that write nothing, and lives or is dead as before
-  pub core-on : (steps : List Step) (old : ConnWriter L W In Out Shut) (core : OutCore L In Out Shut) → core.is_dead ≡ old.core.is_dead → ((run : List Step) → frames_of (steps ++ run) ≡ frames_of run)
+  -- the core goes on by steps that write nothing
+  pub core-on : (steps : List Step) (old : ConnWriter L W In Out Shut) (core : OutCore L In Out Shut) → ((run : List Step) → frames_of (steps ++ run) ≡ frames_of run)
       → ((run : List Step) → Leads got run old.core → Leads got (steps ++ run) core) → WritesOn got contents failed steps old (record old { core = core })
-  core-on steps old core dead same leads before run w = record {
+  core-on steps old core same leads before run w = record {
     leads = leads run w.leads;
-    bytes = subst (λ (is_dead : Bool). Holds old.standing is_dead (frames_of (steps ++ run)) before (contents old.device) old.buffer.items old.ended.items) (sym dead)
-        (subst (λ (frames : List Frame). Holds old.standing old.core.is_dead frames before (contents old.device) old.buffer.items old.ended.items) (sym (same run)) w.bytes);
+    bytes = subst (λ (frames : List Frame). Holds old.standing frames before (contents old.device) old.buffer.items old.ended.items) (sym (same run)) w.bytes;
     marked = w.marked;
   }
 
   -- a sender is given back
   pub returned-on : (id : ℕ) (old : ConnWriter L W In Out Shut) (core : OutCore L In Out Shut) (result : Option (Sender L In Out Shut))
-      → core.is_dead ≡ old.core.is_dead → IfSome result (λ sender. LeadsOn got (Returned id (got sender.rx)) old.core core)
+      → IfSome result (λ sender. LeadsOn got (Returned id (got sender.rx)) old.core core)
       → IfSome result (λ sender. WritesOn got contents failed (Returned id (got sender.rx) ∷ []) old (record old { core = core }))
-  returned-on id old core None dead leads = tt
-  returned-on id old core (Some sender) dead leads = core-on (Returned id (got sender.rx) ∷ []) old core dead (λ run. refl) leads
+  returned-on id old core None leads = tt
+  returned-on id old core (Some sender) leads = core-on (Returned id (got sender.rx) ∷ []) old core (λ run. refl) leads
 
   -- the writer makes no more frames
   pub stopped-on : (old : ConnWriter L W In Out Shut) → old.standing ≡ Going → WritesOn got contents failed [] old (record old { standing = OutOfMemory })
   stopped-on old going before run w = record {
     leads = w.leads;
-    bytes = (
-      [],
-      frames_of run,
-      refl,
-      subst (λ (standing : Standing). Holds standing old.core.is_dead (frames_of run) before (contents old.device) old.buffer.items old.ended.items) going w.bytes,
-      λ dead. refl,
-    );
+    bytes = subst (λ (standing : Standing). Holds standing (frames_of run) before (contents old.device) old.buffer.items old.ended.items) going w.bytes;
     marked = λ broken. absurd (not-broken-2 broken);
   }
 
@@ -130,7 +115,7 @@ module _ {L In Out Shut W : Type 0} (got : Out → List OutItem) (contents : W �
       → mid.standing ≡ old.standing → mid.device ≡ old.device → mid.buffer.items ≡ old.buffer.items → mid.ended.items ≡ old.ended.items
       → Puts frame mid new → WritesOn got contents failed (Written frame ∷ []) old new
   puts-on frame old mid new going leads standing device buffer ended p before run w =
-      let parted = subst (λ (s : Standing). Holds s old.core.is_dead (frames_of run) before (contents old.device) old.buffer.items old.ended.items) going w.bytes in
+      let parted = subst (λ (s : Standing). Holds s (frames_of run) before (contents old.device) old.buffer.items old.ended.items) going w.bytes in
       let stands : new.standing ≡ Going = p.standing ∙ (standing ∙ going) in
       record {
         leads = subst (λ (found : OutCore L In Out Shut). Leads got (Written frame ∷ run) found) (sym p.core) (leads run w.leads);
@@ -139,30 +124,12 @@ module _ {L In Out Shut W : Type 0} (got : Out → List OutItem) (contents : W �
         marked = λ broken. absurd (not-broken (sym stands ∙ broken));
       }
 
-  loses-on : (frame : Frame) (old mid new : ConnWriter L W In Out Shut) → old.standing ≡ Going
-      → LeadsOn got (Written frame) old.core mid.core → mid.core.is_dead ≡ false
-      → mid.device ≡ old.device → mid.buffer.items ≡ old.buffer.items → mid.ended.items ≡ old.ended.items
-      → Loses mid new → WritesOn got contents failed (Written frame ∷ []) old new
-  loses-on frame old mid new going leads lives device buffer ended p before run w =
-      let parted = subst (λ (s : Standing). Holds s old.core.is_dead (frames_of run) before (contents old.device) old.buffer.items old.ended.items) going w.bytes in
-      record {
-        leads = subst (λ (found : OutCore L In Out Shut). Leads got (Written frame ∷ run) found) (sym p.core) (leads run w.leads);
-        bytes = rw (p.standing, p.device, device, p.buffer, buffer, p.ended, ended)
-            (frame ∷ [], frames_of run, refl, parted, λ dead. absurd (true≢false (sym dead ∙ (ap (λ (core : OutCore L In Out Shut). core.is_dead) p.core ∙ lives))));
-        marked = λ broken. absurd (not-broken-2 (sym p.standing ∙ broken));
-      }
-
-  pub put-fills : (ahead : Out → List OutItem) (frame : Frame) (filled : Option Filled) (old mid new : ConnWriter L W In Out Shut) → old.standing ≡ Going
-      → LeadsOn got (Written frame) old.core mid.core → mid.core.is_dead ≡ false
+  pub put-fills : (ahead : Out → List OutItem) (frame : Frame) (old mid new : ConnWriter L W In Out Shut) → old.standing ≡ Going
+      → LeadsOn got (Written frame) old.core mid.core
       → mid.standing ≡ old.standing → mid.device ≡ old.device → mid.buffer.items ≡ old.buffer.items → mid.ended.items ≡ old.ended.items
-      → PutsOr frame filled mid new → Fills got ahead contents failed filled old new
-  put-fills ahead frame None old mid new going leads lives standing device buffer ended p before run w =
+      → Puts frame mid new → Fills got ahead contents failed None old new
+  put-fills ahead frame old mid new going leads standing device buffer ended p before run w =
       (frame ∷ [], puts-on frame old mid new going leads standing device buffer ended p before run w, tt)
-  put-fills ahead frame (Some filled) old mid new going leads lives standing device buffer ended p before run w = (
-    frame ∷ [],
-    loses-on frame old mid new going leads lives device buffer ended p.1 before run w,
-    subst (λ (f : Filled). RestsIf {L = L} {In = In} {Out = Out} {Shut = Shut} {W = W} ahead (Some f) (Written frame ∷ run) new) (sym p.0) (λ going_still. absurd (not-going (sym p.1.standing ∙ going_still))),
-  )
 
   -- frames, and then frames
   pub fills-then : (ahead : Out → List OutItem) (filled : Option Filled) (old mid new : ConnWriter L W In Out Shut) → Fills got ahead contents failed None old mid
@@ -182,16 +149,18 @@ module _ {L In Out Shut W : Type 0} (got : Out → List OutItem) (contents : W �
 
   -- ---- the last word
 
-  pub parts-on : (last : ℕ) (frame : Frame) (said : Option Frame) (old new : ConnWriter L W In Out Shut) → frame ≡ goaway_frame last InternalError → old.standing ≡ OutOfMemory → said ≡ Some frame → (old.core.is_dead ≡ false → said ≡ None)
-      → new.core.is_dead ≡ old.core.is_dead → ((run : List Step) → Leads got run old.core → Leads got (Written frame ∷ Taken (Goaway last InternalError) ∷ run) new.core)
+  pub parts-on : (last : ℕ) (frame : Frame) (old new : ConnWriter L W In Out Shut) → frame ≡ goaway_frame last InternalError → old.standing ≡ OutOfMemory
+      → ((run : List Step) → Leads got run old.core → Leads got (Written frame ∷ Taken (Goaway last InternalError) ∷ run) new.core)
       → new.standing ≡ old.standing → new.device ≡ old.device → new.buffer.items ≡ old.buffer.items ++ spelled frame → new.ended.items ≡ old.ended.items
       → WritesOn got contents failed (parting last true) old new
-  parts-on last frame said old new is memory some dead still leads standing device buffer ended before run w =
-      let held = subst (λ (s : Standing). Holds s old.core.is_dead (frames_of run) before (contents old.device) old.buffer.items old.ended.items) memory w.bytes in
+  parts-on last frame old new is memory leads standing device buffer ended before run w =
+      let held = subst (λ (s : Standing). Holds s (frames_of run) before (contents old.device) old.buffer.items old.ended.items) memory w.bytes in
       subst (λ (f : Frame). Wrote got contents failed before (Written f ∷ Taken (Goaway last InternalError) ∷ run) new) is (record {
         leads = leads run w.leads;
-        bytes = rw (still, standing, memory, device, buffer, ended)
-            (holds-more frame old.core.is_dead (frames_of run) before (contents old.device) old.buffer.items old.ended.items (dead-by old.core.is_dead said frame some dead) (ap (λ (f : Frame). ended_by (f ∷ [])) is) held);
+        bytes = rw (standing, memory, device, buffer, ended)
+            (subst (λ (ids : List ℕ). Parted (frame ∷ frames_of run) before (contents old.device) (old.buffer.items ++ spelled frame) ids)
+            (ap (λ (f : Frame). old.ended.items ++ ended_by (f ∷ [])) is ∙ append-nil old.ended.items)
+            (parted-more frame (frames_of run) before (contents old.device) old.buffer.items old.ended.items held));
         marked = rw (standing, device) w.marked;
       })
 
@@ -211,8 +180,8 @@ module _ {L In Out Shut W : Type 0} (got : Out → List OutItem) (contents : W �
       → new.buffer.items ≡ [] → new.ended.items ≡ [] → Appends (contents old.device) (contents new.device) old.buffer.items → WritesOn got contents failed [] old new
   flushed-on old new whole core standing buffer ended appends before run w = record {
     leads = subst (λ (found : OutCore L In Out Shut). Leads got run found) (sym core) w.leads;
-    bytes = rw (core, standing, buffer, ended)
-        (holds-flushed old.standing old.core.is_dead (frames_of run) before (contents old.device) (contents new.device) old.buffer.items old.ended.items whole w.bytes appends);
+    bytes = rw (standing, buffer, ended)
+        (holds-flushed old.standing (frames_of run) before (contents old.device) (contents new.device) old.buffer.items old.ended.items whole w.bytes appends);
     marked = λ broken. absurd (whole (sym standing ∙ broken));
   }
 
@@ -220,25 +189,19 @@ module _ {L In Out Shut W : Type 0} (got : Out → List OutItem) (contents : W �
       → failed new.device ≡ true → AppendsPrefix (contents old.device) (contents new.device) old.buffer.items → WritesOn got contents failed [] old new
   broken-on old new whole core standing mark cut before run w = record {
     leads = subst (λ (found : OutCore L In Out Shut). Leads got run found) (sym core) w.leads;
-    bytes = rw standing (holds-cut old.standing old.core.is_dead (frames_of run) before (contents old.device) (contents new.device) old.buffer.items old.ended.items whole w.bytes cut);
+    bytes = rw standing (holds-cut old.standing (frames_of run) before (contents old.device) (contents new.device) old.buffer.items old.ended.items whole w.bytes cut);
     marked = λ broken. mark;
   }
 
   -- what the device has of it in the end
   pub wrote-front : (before : Option (List ℕ)) (run : List Step) (writer : ConnWriter L W In Out Shut) → Wrote got contents failed before run writer
       → IsFront (frames_of run) before (contents writer.device)
-  wrote-front before run writer w = holds-front writer.standing writer.core.is_dead (frames_of run) before (contents writer.device) writer.buffer.items writer.ended.items w.bytes
+  wrote-front before run writer w = holds-front writer.standing (frames_of run) before (contents writer.device) writer.buffer.items writer.ended.items w.bytes
 
-  pub wrote-all : (before : Option (List ℕ)) (run : List Step) (writer : ConnWriter L W In Out Shut) → writer.standing ≡ Going → writer.buffer.items ≡ []
+  pub wrote-all : (before : Option (List ℕ)) (run : List Step) (writer : ConnWriter L W In Out Shut) → writer.standing ≢ Broken → writer.buffer.items ≡ []
       → Wrote got contents failed before run writer → IsAll (frames_of run) before (contents writer.device)
-  wrote-all before run writer going empty w =
-      holds-all (frames_of run) before (contents writer.device) writer.buffer.items writer.ended.items
-      (subst (λ (s : Standing). Holds s writer.core.is_dead (frames_of run) before (contents writer.device) writer.buffer.items writer.ended.items) going w.bytes) empty
-
-  pub wrote-whole : (before : Option (List ℕ)) (run : List Step) (writer : ConnWriter L W In Out Shut) → writer.standing ≢ Broken → writer.buffer.items ≡ []
-      → Wrote got contents failed before run writer → IsWhole (frames_of run) before (contents writer.device)
-  wrote-whole before run writer sound empty w =
-      holds-whole writer.standing writer.core.is_dead (frames_of run) before (contents writer.device) writer.buffer.items writer.ended.items sound w.bytes empty
+  wrote-all before run writer sound empty w =
+      holds-all writer.standing (frames_of run) before (contents writer.device) writer.buffer.items writer.ended.items sound w.bytes empty
 
   -- ---- no frame comes
 
@@ -247,17 +210,6 @@ module _ {L In Out Shut W : Type 0} (got : Out → List OutItem) (contents : W �
   still-on old mid going leads standing device buffer ended before run w = record {
     leads = leads run w.leads;
     bytes = rw (standing ∙ going, device, buffer, ended)
-        (subst (λ (s : Standing). Holds s old.core.is_dead (frames_of run) before (contents old.device) old.buffer.items old.ended.items) going w.bytes);
+        (subst (λ (s : Standing). Holds s (frames_of run) before (contents old.device) old.buffer.items old.ended.items) going w.bytes);
     marked = rw (standing, device) w.marked;
-  }
-
-  -- a frame is lost
-  pub lost-by : (old mid new : ConnWriter L W In Out Shut) → mid.core ≡ old.core → mid.device ≡ old.device → mid.buffer.items ≡ old.buffer.items → mid.ended.items ≡ old.ended.items
-      → new ≡ record mid { standing = new.standing } → new.standing ≡ OutOfMemory → Loses old new
-  lost-by old mid new core device buffer ended rest standing = record {
-    core = ap (λ (w : ConnWriter L W In Out Shut). w.core) rest ∙ core;
-    standing = standing;
-    device = ap (λ (w : ConnWriter L W In Out Shut). w.device) rest ∙ device;
-    buffer = ap (λ (w : ConnWriter L W In Out Shut). w.buffer.items) rest ∙ buffer;
-    ended = ap (λ (w : ConnWriter L W In Out Shut). w.ended.items) rest ∙ ended;
   }

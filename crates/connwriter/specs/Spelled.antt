@@ -1,6 +1,6 @@
 -- The bytes of frames: which were written to a device, and which stand in a buffer.
 -- Lists of frames have the latest first, as runs have.
-use Rattle.std.specs.Prelude.{◌≡◌, ℕ, Bool, true, List, [], ◌++◌, Option, map, filter, flat_map, reverse}
+use Rattle.std.specs.Prelude.{◌≡◌, ℕ, List, ◌++◌, Option, map, filter, flat_map, reverse}
 use Rattle.std.specs.Io.KnownBytes.{Appends}
 use Rattle.account.specs.Accounts.{Begins}
 use Rattle.h2frame.specs.declared.frame.Frame.{Frame}
@@ -31,18 +31,12 @@ pub record Parted (frames : List Frame) (before now : Option (List ℕ)) (buffer
 abbrev pub IsAll : List Frame → Option (List ℕ) → Option (List ℕ) → Type 0
 IsAll frames before now = Appends before now (spelled_all frames)
 
--- Whole frames were written: all of them, but for the last ones.
-abbrev pub IsWhole : List Frame → Option (List ℕ) → Option (List ℕ) → Type 0
-IsWhole frames before now = (lost : List Frame) × (made : List Frame) × (frames ≡ lost ++ made) × IsAll made before now
-
 -- what was written begins what they spell
 abbrev pub IsFront : List Frame → Option (List ℕ) → Option (List ℕ) → Type 0
 IsFront frames before now = (front : List ℕ) × Begins front (spelled_all frames) × Appends before now front
 
--- Out of memory, the last frames may be lost, and none is cut; none is lost where it was the core that had no memory, and so is dead. Where a
--- write failed, one may be cut.
-abbrev pub Holds : Standing → Bool → List Frame → Option (List ℕ) → Option (List ℕ) → List ℕ → List ℕ → Type 0
-Holds Going is_dead frames before now buffer ended = Parted frames before now buffer ended
-Holds OutOfMemory is_dead frames before now buffer ended =
-    (lost : List Frame) × (made : List Frame) × (frames ≡ lost ++ made) × Parted made before now buffer ended × (is_dead ≡ true → lost ≡ [])
-Holds Broken is_dead frames before now buffer ended = IsFront frames before now
+-- No frame is lost, also out of memory. Where a write failed, one may be cut.
+abbrev pub Holds : Standing → List Frame → Option (List ℕ) → Option (List ℕ) → List ℕ → List ℕ → Type 0
+Holds Going frames before now buffer ended = Parted frames before now buffer ended
+Holds OutOfMemory frames before now buffer ended = Parted frames before now buffer ended
+Holds Broken frames before now buffer ended = IsFront frames before now

@@ -9,7 +9,7 @@ use Rattle.outwriter.specs.Cores.{Brings, IsAtRest, Leads}
 use Rattle.outwriter.specs.Steps.{Step, Written, frames_of}
 use Rattle.connwriter.specs.declared.filled.Filled.{Filled}
 use Rattle.connwriter.specs.declared.filled.Filled.TheVariants.{Full, Idle, Over, Stopped}
-use Rattle.connwriter.specs.declared.standing.Standing.TheVariants.{Going, OutOfMemory, Broken}
+use Rattle.connwriter.specs.declared.standing.Standing.TheVariants.{Going, Broken}
 use Rattle.connwriter.specs.declared.taking.Taking.{Taking}
 use Rattle.connwriter.specs.declared.taking.Taking.TheVariants.{Done, Ended, Unanswered, HandedBack}
 use Rattle.connwriter.specs.declared.writer.ConnWriter.{ConnWriter}
@@ -28,7 +28,7 @@ module _ {L In Out Shut W : Type 0} where
   pub record Wrote (got : Out → List OutItem) (contents : W → Option (List ℕ)) (failed : W → Bool) (before : Option (List ℕ)) (run : List Step)
       (writer : ConnWriter L W In Out Shut) : Type 0 where
     pub leads : Leads got run writer.core
-    pub bytes : Holds writer.standing writer.core.is_dead (frames_of run) before (contents writer.device) writer.buffer.items writer.ended.items
+    pub bytes : Holds writer.standing (frames_of run) before (contents writer.device) writer.buffer.items writer.ended.items
     pub marked : writer.standing ≡ Broken → failed writer.device ≡ true
 
   -- whatever run led to the writer before, with these steps it leads to the writer after
@@ -62,15 +62,3 @@ module _ {L In Out Shut W : Type 0} where
     pub device : new.device ≡ old.device
     pub buffer : new.buffer.items ≡ old.buffer.items ++ spelled frame
     pub ended : new.ended.items ≡ old.ended.items ++ ended_by (frame ∷ [])
-
-  -- it is lost, and the writer stops
-  pub record Loses (old new : ConnWriter L W In Out Shut) : Type 0 where
-    pub core : new.core ≡ old.core
-    pub standing : new.standing ≡ OutOfMemory
-    pub device : new.device ≡ old.device
-    pub buffer : new.buffer.items ≡ old.buffer.items
-    pub ended : new.ended.items ≡ old.ended.items
-
-  abbrev pub PutsOr : Frame → Option Filled → ConnWriter L W In Out Shut → ConnWriter L W In Out Shut → Type 0
-  PutsOr frame None old new = Puts frame old new
-  PutsOr frame (Some filled) old new = (filled ≡ Stopped) × Loses old new

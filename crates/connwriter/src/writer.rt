@@ -18,8 +18,8 @@ ghost use Rattle.outwriter.specs.Steps.{Step, Taken, Granted, Returned, order_of
 ghost use Rattle.connwriter.specs.declared.standing.Standing.TheVariants as stands;
 ghost use Rattle.connwriter.specs.declared.filled.Filled.TheVariants as filled;
 ghost use Rattle.connwriter.specs.Orders.{own_control, own_order, parting, steps_of, Blamed, Stops};
-ghost use Rattle.connwriter.specs.Spelled.{IsFront, IsWhole, IsAll};
-ghost use Rattle.connwriter.specs.Wrote.{Wrote, WritesOn, BringsBy, Fills, PutsOr};
+ghost use Rattle.connwriter.specs.Spelled.{IsFront, IsAll};
+ghost use Rattle.connwriter.specs.Wrote.{Wrote, WritesOn, BringsBy, Fills, Puts};
 
 use crate::filled::Filled;
 use crate::standing::Standing;
@@ -325,20 +325,15 @@ impl<L: Lane<Item = OutItem>, W: ConnWrite> ConnWriter<L, W> {
         ensures others { (before : Option (List ℕ)) (run : List Step)
             → Wrote L.got W.contents W.failed before run self → TellOthers run }
 
-        // The device got a prefix of the spelled frames of the run, and all of them where no write failed and nothing is left.
+        // The device got a prefix of the spelled frames of the run, and all of them where no write failed and nothing is left,
+        // also where memory ran out.
         ensures prefix { (before : Option (List ℕ)) (run : List Step)
             → Wrote L.got W.contents W.failed before run self
             → IsFront (frames_of run) before (W.contents result.1) }
-        ensures all { self.standing ≡ stands.Going → self.buffer.items ≡ []
+        ensures all { self.standing ≢ stands.Broken → self.buffer.items ≡ []
             → (before : Option (List ℕ)) (run : List Step)
             → Wrote L.got W.contents W.failed before run self
             → IsAll (frames_of run) before (W.contents result.1) }
-
-        // Where memory ran out too, no frame of them is cut.
-        ensures whole { self.standing ≢ stands.Broken → self.buffer.items ≡ []
-            → (before : Option (List ℕ)) (run : List Step)
-            → Wrote L.got W.contents W.failed before run self
-            → IsWhole (frames_of run) before (W.contents result.1) }
     {
         let ConnWriter { core, device, .. } = self;
         (core.into_senders(), device)
@@ -404,12 +399,16 @@ impl<L: Lane<Item = OutItem>, W: ConnWrite> ConnWriter<L, W> {
         ensures device { self.new.device ≡ self.old.device }
         ensures left { self.new.left ≡ self.old.left }
     {
-        let Ok(()) = make_room(&mut self.ended, &mut self.streams) else {
+        // Before the core answers a frame there is room for it, so that none is lost.
+        let Ok(()) = make_room(&mut self.buffer, &mut self.ended, &mut self.streams) else {
             self.stop();
             return Some(Filled::Stopped);
         };
         match self.core.next_frame() {
-            Ok(Next::Frame(frame)) => self.put(frame),
+            Ok(Next::Frame(frame)) => {
+                self.put(frame);
+                None
+            }
             Ok(Next::Idle) => Some(Filled::Idle),
             Ok(Next::Over) => Some(Filled::Over),
             Err(_fault) => {
@@ -420,18 +419,17 @@ impl<L: Lane<Item = OutItem>, W: ConnWrite> ConnWriter<L, W> {
     }
 
     /// Puts a frame into the buffer.
-    fn put(&mut self, frame: Frame) -> Option<Filled>
+    fn put(&mut self, frame: Frame)
         requires sound { IsSound frame }
-        requires going { self.old.standing ≡ stands.Going }
+        requires room_in_buffer { vec_len self.old.buffer + 16393 ≤ vec_capacity self.old.buffer }
         requires room { vec_len self.old.ended < vec_capacity self.old.ended }
         requires room_to_note { vec_len self.old.streams < vec_capacity self.old.streams }
-        ensures puts { PutsOr frame result self.old self.new }
+        ensures puts { Puts frame self.old self.new }
         ensures fits { length self.new.buffer.items ≤ length self.old.buffer.items + 16393 }
         ensures left { self.new.left ≡ self.old.left }
     {
         let Ok(()) = write_frame(&frame, &mut self.buffer) else {
-            self.stop();
-            return Some(Filled::Stopped);
+            unreachable!();
         };
         if ends_stream(&frame) {
             self.ended.push_reserved(frame.head.stream);
@@ -439,16 +437,23 @@ impl<L: Lane<Item = OutItem>, W: ConnWrite> ConnWriter<L, W> {
         if carries_items(&frame) {
             note(&mut self.streams, frame.head.stream);
         }
-        None
     }
 }
 
-/// Room for one stream more in both.
-fn make_room(ended: &mut Vec<StreamId>, streams: &mut Vec<StreamId>) -> Result<(), AllocError>
+/// Room for one frame more, and for one stream more in both lists.
+fn make_room(
+    buffer: &mut Vec<u8>,
+    ended: &mut Vec<StreamId>,
+    streams: &mut Vec<StreamId>,
+) -> Result<(), AllocError>
+    ensures bytes { buffer.new.items ≡ buffer.old.items }
     ensures items { ended.new.items ≡ ended.old.items }
+    ensures room_in_buffer { OnOk result
+        (vec_len buffer.new + 16393 ≤ vec_capacity buffer.new) }
     ensures room { OnOk result (vec_len ended.new < vec_capacity ended.new) }
     ensures room_to_note { OnOk result (vec_len streams.new < vec_capacity streams.new) }
 {
+    buffer.reserve(LONGEST_FRAME)?;
     ended.reserve(1)?;
     streams.reserve(1)
 }

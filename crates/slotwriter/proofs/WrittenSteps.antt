@@ -23,7 +23,7 @@ use Rattle.connwriter.specs.declared.filled.Filled.{Filled}
 use Rattle.connwriter.specs.declared.filled.Filled.TheVariants.{Over, Stopped}
 use Rattle.connwriter.specs.declared.standing.Standing.{Standing}
 use Rattle.connwriter.specs.declared.standing.Standing.TheVariants as stands
-use Rattle.connwriter.specs.Spelled.{IsFront, IsWhole, IsAll}
+use Rattle.connwriter.specs.Spelled.{IsFront, IsAll}
 use Rattle.connwriter.specs.declared.taking.Taking.{Taking}
 use Rattle.connwriter.specs.declared.taking.Taking.TheVariants.{Done, Ended, Unanswered, HandedBack}
 use Rattle.connwriter.specs.Orders.{Blamed, own_order, parting, steps_of}
@@ -50,15 +50,6 @@ memory-going e = cc
 
 broken-going : stands.Broken ≢ stands.Going
 broken-going e = cc
-
-standing-of : {A : Type 0} (standing : Standing) → (standing ≡ stands.Going → A) → (standing ≡ stands.OutOfMemory → A) → (standing ≡ stands.Broken → A) → A
-standing-of stands.Going going memory broken = going refl
-standing-of stands.OutOfMemory going memory broken = memory refl
-standing-of stands.Broken going memory broken = broken refl
-
-unless-lost : {A : Type 0} (standing : Standing) (told : Option Ending) → (standing ≡ stands.OutOfMemory → told ≡ Some ending.OutOfMemory) → standing ≢ stands.Broken
-    → (standing ≡ stands.Going → A) → told ≢ Some ending.OutOfMemory → A
-unless-lost standing told memory sound on other = standing-of standing on (λ stood. absurd (other (memory stood))) (λ stood. absurd (sound stood))
 
 -- ---- what the writer knows by the orders
 
@@ -780,15 +771,13 @@ module _ {W : Type 0} (contents : W → Option (List ℕ)) (failed : W → Bool)
       → (led : LedOut contents failed before credit writer)
       → TellOthers led.2.0
       → IsFront (frames_of led.2.0) before (contents device)
-      → (writer.frames.standing ≢ stands.Broken → writer.frames.buffer.items ≡ [] → IsWhole (frames_of led.2.0) before (contents device))
-      → (writer.frames.standing ≡ stands.Going → writer.frames.buffer.items ≡ [] → IsAll (frames_of led.2.0) before (contents device))
-      → (writer.frames.standing ≡ stands.OutOfMemory → told ≡ Some ending.OutOfMemory)
+      → (writer.frames.standing ≢ stands.Broken → writer.frames.buffer.items ≡ [] → IsAll (frames_of led.2.0) before (contents device))
       → (told ≡ Some ending.WriteFailed → writer.frames.standing ≡ stands.Broken)
       → (told ≢ Some ending.OutOfMemory → told ≢ Some ending.WriteFailed → (writer.inbox.has_lost ≡ false) × (writer.inbox.set_aside ≡ None))
       → (told ≢ Some ending.OutOfMemory → told ≢ Some ending.WriteFailed → writer.frames.standing ≡ stands.Going)
       → (faultless ≡ true → has_failed led.2.0 ≡ false)
       → (written : HasWritten contents failed before credit (orders_of (taken writer.inbox.ring)) told faultless device) × (written.run ≡ led.2.0)
-  has-written before credit writer device told faultless same flushed led others front whole all memory broken each going clean =
+  has-written before credit writer device told faultless same flushed led others front all broken each going clean =
       let ends = led.2 in
       let standing = writer.frames.standing in
       let sound : failed device ≡ false → standing ≢ stands.Broken = λ unmarked stood. true≢false (sym (ap failed same ∙ ends.1.marked stood) ∙ unmarked) in (
@@ -807,8 +796,7 @@ module _ {W : Type 0} (contents : W → Option (List ℕ)) (failed : W → Bool)
           others = others;
           marked = λ sent. ap failed same ∙ ends.1.marked (broken sent);
           front = front;
-          whole = λ unmarked. whole (sound unmarked) (flushed (sound unmarked));
-          all = λ unmarked other. unless-lost standing told memory (sound unmarked) (λ going. all going (flushed (sound unmarked))) other;
+          all = λ unmarked. all (sound unmarked) (flushed (sound unmarked));
           over = λ spared sent. ends.5 (going spared sent);
           sound = clean;
         },
@@ -863,8 +851,7 @@ told-on contents failed before credit took put one other sure surely device memo
   others = h.others;
   marked = λ sent. h.marked (broken sent);
   front = h.front;
-  whole = h.whole;
-  all = λ unmarked spared. h.all unmarked (λ lacked. spared (memory lacked));
+  all = h.all;
   over = λ spared sent. h.over (λ lacked. spared (memory lacked)) (λ broke. sent (failing broke spared));
   sound = λ is. h.sound (clean is);
 }

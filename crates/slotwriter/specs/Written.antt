@@ -20,7 +20,7 @@ use Rattle.connwriter.specs.declared.filled.Filled.{Filled}
 use Rattle.connwriter.specs.declared.filled.Filled.TheVariants.{Full, Idle, Over, Stopped}
 use Rattle.connwriter.specs.declared.standing.Standing.TheVariants.{Going, Broken}
 use Rattle.connwriter.specs.declared.writer.ConnWriter.{ConnWriter}
-use Rattle.connwriter.specs.Spelled.{IsFront, IsWhole, IsAll}
+use Rattle.connwriter.specs.Spelled.{IsFront, IsAll}
 use Rattle.connwriter.specs.Sent.{IsOld, last_ids}
 use Rattle.connwriter.specs.Wrote.{Wrote}
 use Rattle.callslot.specs.declared.order.Opened.{Opened}
@@ -185,9 +185,8 @@ pub record HasWritten {W : Type 0} (contents : W → Option (List ℕ)) (failed 
   -- it ends by a failed write only where the device has that mark
   pub marked : ending ≡ Some WriteFailed → failed device ≡ true
   pub front : IsFront (frames_of run) before (contents device)
-  -- where no write failed, whole frames; and where memory didn't run out, all of them
-  pub whole : failed device ≡ false → IsWhole (frames_of run) before (contents device)
-  pub all : failed device ≡ false → ending ≢ Some OutOfMemory → IsAll (frames_of run) before (contents device)
+  -- where no write failed, all of them
+  pub all : failed device ≡ false → IsAll (frames_of run) before (contents device)
   -- where memory didn't run out and the connection doesn't end by a failed write, the run is over
   pub over : ending ≢ Some OutOfMemory → ending ≢ Some WriteFailed → IsOver run
   -- no GOAWAY with an error was ordered, by either side

@@ -1,4 +1,4 @@
-use Rattle.connwriter.proofs.WroteSteps.{wrote-front, wrote-whole}
+use Rattle.connwriter.proofs.WroteSteps.{wrote-all, wrote-front}
 use Rattle.connwriter.proofs.writer.ConnWriter.into_parts.Goals as goal
 
 pub returns-clause-prefix : goal.returns-clause-prefix
@@ -7,5 +7,5 @@ returns-clause-prefix g c = λ before run w. wrote-front g.L.Lane.got g.W.ConnWr
 pub returns-clause-fronts : goal.returns-clause-fronts
 returns-clause-fronts g c = λ before run w. c.into_senders.ensures.fronts run w.leads
 
-pub returns-clause-whole : goal.returns-clause-whole
-returns-clause-whole g c = λ sound empty before run w. wrote-whole g.L.Lane.got g.W.ConnWrite.contents g.W.ConnWrite.failed before run c.args.self sound empty w
+pub returns-clause-all : goal.returns-clause-all
+returns-clause-all g c = λ sound empty before run w. wrote-all g.L.Lane.got g.W.ConnWrite.contents g.W.ConnWrite.failed before run c.args.self sound empty w

@@ -1,7 +1,6 @@
-use Rattle.std.proofs.Common.{ap}
 use Rattle.connwriter.proofs.WroteSteps.{returned-on}
 use Rattle.connwriter.proofs.writer.ConnWriter.release.Goals as goal
 
 pub returns-clause-wrote : goal.returns-clause-wrote
 returns-clause-wrote g c =
-    returned-on g.L.Lane.got g.W.ConnWrite.contents g.W.ConnWrite.failed c.args.id c.args.self.now c.release.new.self c.release.result (ap (λ core. core.is_dead) c.release.ensures.rest) c.release.ensures.leads
+    returned-on g.L.Lane.got g.W.ConnWrite.contents g.W.ConnWrite.failed c.args.id c.args.self.now c.release.new.self c.release.result c.release.ensures.leads

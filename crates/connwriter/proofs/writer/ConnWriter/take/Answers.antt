@@ -5,24 +5,24 @@ use Rattle.connwriter.proofs.writer.ConnWriter.take.Goals as goal
 
 pub returns-in-Ok-clause-wrote : goal.returns-in-Ok-clause-wrote
 returns-in-Ok-clause-wrote g c = λ unused.
-    core-on g.L.Lane.got g.W.ConnWrite.contents g.W.ConnWrite.failed (Taken (order_of c.args.control) ∷ []) c.args.self.now c.control.new.self c.control.ensures.alive (λ run. refl) (c.in-Ok.ensures.leads unused)
+    core-on g.L.Lane.got g.W.ConnWrite.contents g.W.ConnWrite.failed (Taken (order_of c.args.control) ∷ []) c.args.self.now c.control.new.self (λ run. refl) (c.in-Ok.ensures.leads unused)
 
 pub returns-in-Err-OutOfMemory-Some-clause-wrote : goal.returns-in-Err-OutOfMemory-Some-clause-wrote
 returns-in-Err-OutOfMemory-Some-clause-wrote g c = λ unused.
-    core-on g.L.Lane.got g.W.ConnWrite.contents g.W.ConnWrite.failed [] c.args.self.now c.control.new.self c.control.ensures.alive (λ run. refl)
+    core-on g.L.Lane.got g.W.ConnWrite.contents g.W.ConnWrite.failed [] c.args.self.now c.control.new.self (λ run. refl)
     (handed-leads g.L.Lane.got c.in-Err-OutOfMemory-Some.field-0 c.in-Err-OutOfMemory-Some.field-0-0 c.args.control c.args.self.now.core c.control.new.self
     c.in-Err-OutOfMemory-Some.field-0-is c.in-Err-OutOfMemory-Some.ensures.leads)
 
 pub returns-in-Ok-end-clause-wrote : goal.returns-in-Ok-end-clause-wrote
 returns-in-Ok-end-clause-wrote g c = λ unused before run w.
     c.in-Ok-end.ensures.wrote before (Taken (order_of c.args.control) ∷ run)
-    (core-on g.L.Lane.got g.W.ConnWrite.contents g.W.ConnWrite.failed (Taken (order_of c.args.control) ∷ []) c.args.self.now c.control.new.self c.control.ensures.alive (λ run. refl)
+    (core-on g.L.Lane.got g.W.ConnWrite.contents g.W.ConnWrite.failed (Taken (order_of c.args.control) ∷ []) c.args.self.now c.control.new.self (λ run. refl)
     (overflow-leads g.L.Lane.got c.in-Err-PeerWindow.field-0 c.in-Err-PeerWindow.id c.args.control c.args.self.now.core c.control.new.self
     c.in-Err-PeerWindow.field-0-is c.in-Err-PeerWindow.ensures.leads) before run w)
 
 pub returns-in-Err-clause-wrote : goal.returns-in-Err-clause-wrote
 returns-in-Err-clause-wrote g c = λ unused before run w.
     c.in-Err.ensures.still before (Taken (order_of c.args.control) ∷ run)
-    (core-on g.L.Lane.got g.W.ConnWrite.contents g.W.ConnWrite.failed (Taken (order_of c.args.control) ∷ []) c.args.self.now c.control.new.self c.control.ensures.alive (λ run. refl)
+    (core-on g.L.Lane.got g.W.ConnWrite.contents g.W.ConnWrite.failed (Taken (order_of c.args.control) ∷ []) c.args.self.now c.control.new.self (λ run. refl)
     (overflow-leads g.L.Lane.got c.in-Err-PeerWindow.field-0 c.in-Err-PeerWindow.id c.args.control c.args.self.now.core c.control.new.self
     c.in-Err-PeerWindow.field-0-is c.in-Err-PeerWindow.ensures.leads) before run w)

@@ -14,9 +14,8 @@ returns g c =
     has-written g.W.ConnWrite.contents g.W.ConnWrite.failed before credit c.args.self c.into_parts-core.result.1 c.ending-ending.result c.is_faultless-is_faultless.result c.into_parts-core.ensures.device c.requires.flushed led
     (c.into_parts-core.ensures.others before led.2.0 led.2.1)
     (c.into_parts-core.ensures.prefix before led.2.0 led.2.1)
-    (λ sound empty. c.into_parts-core.ensures.whole sound empty before led.2.0 led.2.1)
-    (λ going empty. c.into_parts-core.ensures.all going empty before led.2.0 led.2.1)
-    c.ending-ending.ensures.memory c.ending-ending.ensures.broken c.ending-ending.ensures.each c.ending-ending.ensures.going
+    (λ sound empty. c.into_parts-core.ensures.all sound empty before led.2.0 led.2.1)
+    c.ending-ending.ensures.broken c.ending-ending.ensures.each c.ending-ending.ensures.going
     (λ is. c.is_faultless-is_faultless.ensures.none is before led.2.0 led.2.1) in record {
       written = λ before credit led. (written before credit led).0;
       sent = λ before credit led.
