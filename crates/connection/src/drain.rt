@@ -1,6 +1,6 @@
 //! How a server ends a connection while its calls go on (RFC 9113, section 6.8).
 
-ghost use Rattle.std.specs.Prelude.{◌≡◌, ◌<◌};
+ghost use Rattle.std.specs.Prelude.{◌≡◌, ◌<◌, IfOk};
 
 use callworker::Shared;
 use connbook::ConnBook;
@@ -21,15 +21,6 @@ pub struct DrainSeat<A: Ledger, B: Ledger, C: Ledger> {
     pub(crate) came: Share<A>,
     pub(crate) calls: Share<B>,
     pub(crate) told: Share<C>,
-    ghost came_parts: { came.parts ≡ A.parts },
-    ghost came_some: { 0 < A.parts },
-    ghost none_came: { came.amount ≡ 0 },
-    ghost calls_parts: { calls.parts ≡ B.parts },
-    ghost calls_some: { 0 < B.parts },
-    ghost none_called: { calls.amount ≡ 0 },
-    ghost told_parts: { told.parts ≡ C.parts },
-    ghost told_some: { 0 < C.parts },
-    ghost none_told: { told.amount ≡ 0 },
 }
 
 impl<A: Ledger, B: Ledger, C: Ledger> Drainer<A, B, C> {
@@ -44,6 +35,13 @@ impl<A: Ledger, B: Ledger, C: Ledger> Drainer<A, B, C> {
             × (0 < B.parts) }
         requires announced { (blanks.2.name ≡ C.name) × (blanks.2.parts ≡ C.parts)
             × (0 < C.parts) }
+        // The shares are whole, and nothing was counted in them.
+        ensures came { IfOk result (λ made. (made.1.came.parts ≡ A.parts)
+            × (made.1.came.amount ≡ 0)) }
+        ensures calls { IfOk result (λ made. (made.1.calls.parts ≡ B.parts)
+            × (made.1.calls.amount ≡ 0)) }
+        ensures told { IfOk result (λ made. (made.1.told.parts ≡ C.parts)
+            × (made.1.told.amount ≡ 0)) }
     {
         let (received, came) = blanks.0.open::<A>();
         let (admitted, calls) = blanks.1.open::<B>();

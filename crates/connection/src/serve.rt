@@ -63,6 +63,9 @@ where
     O: ConnWrite + Send + Drop + 'static,
     G: Gate + Send + Sync + Drop + 'static,
     R: Threads + Wait + Clock + Copy + Send + Sync + Drop + 'static,
+    requires came { (seat.came.parts ≡ A.parts) × (0 < A.parts) × (seat.came.amount ≡ 0) }
+    requires calls { (seat.calls.parts ≡ B.parts) × (0 < B.parts) × (seat.calls.amount ≡ 0) }
+    requires told { (seat.told.parts ≡ C.parts) × (0 < C.parts) × (seat.told.amount ≡ 0) }
     // Over one list of what was heard, one of what was ordered, and one run of the writer.
     ensures served { (came : List ℕ) × Consumes (I.remaining input.old) (I.remaining input.new) came
         × IsServed (λ rows. rows.items) O.contents O.failed
@@ -101,9 +104,7 @@ where
         came (O.contents output) (I.failed input.new) result.ending result.calls result.output }
 {
     let blanks = (Blank::new(1), Blank::new(1), Blank::new(1));
-    serve_seated::<Brand, Brand, Brand, I, O, G, R>(
-        rt, alloc, blanks, input, output, methods, gate,
-    )
+    serve_seated::<Brand, Brand, Brand, I, O, G, R>(rt, alloc, blanks, input, output, methods, gate)
 }
 
 /// The same, over these ledgers.
@@ -201,6 +202,9 @@ where
     O: ConnWrite + Send + Drop + 'static,
     G: Gate + Send + Sync + Drop + 'static,
     R: Threads + Wait + Clock + Copy + Send + Sync + Drop + 'static,
+    requires came { (seat.came.parts ≡ A.parts) × (0 < A.parts) × (seat.came.amount ≡ 0) }
+    requires calls { (seat.calls.parts ≡ B.parts) × (0 < B.parts) × (seat.calls.amount ≡ 0) }
+    requires told { (seat.told.parts ≡ C.parts) × (0 < C.parts) × (seat.told.amount ≡ 0) }
     requires known { IsWithin M.known
         (answers_by (λ method. answers (method.vtable, method.value)) (listed methods.value)) }
     requires named { AreNames
