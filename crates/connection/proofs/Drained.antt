@@ -73,20 +73,17 @@ own-none order before orders g (inr (inl left)) clean was = ap goaway_by left.1
 own-none order before orders g (inr (inr (inl warns))) clean was = absurd (true≢false (sym (ap (λ (o : Option Frame). is_some o) was) ∙ warns.1))
 own-none order before orders g (inr (inr (inr warns))) clean was = ap goaway_by warns.0
 
+later-goaway : (now had took : Option Frame) (g : Frame) → (had ≡ Some g → took ≡ Some g) → option_or now had ≡ Some g → option_or now took ≡ Some g
+later-goaway (Some frame) had took g follows is = is
+later-goaway None had took g follows is = follows is
+
 -- the last Goaway that is taken is that of the orders, where none has an error
 took-goaway : (orders : List Order) (run : List RunStep) (g : Frame) → HasTaken orders run → has_failed run ≡ false → goaway_in orders ≡ Some g → ordered_goaway run ≡ Some g
 took-goaway orders [] g none clean is = absurd (some-not (goaway_in orders) g (ap goaway_in none) is)
-took-goaway orders (Taken order ∷ before) g (inl (earlier, parts, took)) clean is = by (goaway_by order) refl
-  where
-    whole : option_or (goaway_by order) (goaway_in earlier) ≡ Some g
-    whole = sym (ap goaway_in parts ∙ goaway-append earlier (order ∷ [])) ∙ is
-
-    by : (found : Option Frame) → goaway_by order ≡ found → option_or (goaway_by order) (ordered_goaway before) ≡ Some g
-    by (Some frame) at =
-        ap (λ (o : Option Frame). option_or o (ordered_goaway before)) at ∙ (sym (ap (λ (o : Option Frame). option_or o (goaway_in earlier)) at) ∙ whole)
-    by None at =
-        ap (λ (o : Option Frame). option_or o (ordered_goaway before)) at
-        ∙ took-goaway earlier before g took (either-false (fails order) (has_failed before) clean).1 (sym (ap (λ (o : Option Frame). option_or o (goaway_in earlier)) at) ∙ whole)
+took-goaway orders (Taken order ∷ before) g (inl (earlier, parts, took)) clean is =
+    later-goaway (goaway_by order) (goaway_in earlier) (ordered_goaway before) g
+    (λ found. took-goaway earlier before g took (either-false (fails order) (has_failed before) clean).1 found)
+    (sym (ap goaway_in parts ∙ goaway-append earlier (order ∷ [])) ∙ is)
 took-goaway orders (Taken order ∷ before) g (inr (own, took)) clean is =
     let both = either-false (fails order) (has_failed before) clean in
     let rest = took-goaway orders before g took both.1 is in

@@ -310,10 +310,9 @@ module _ {H : Type 0} {hand : Hands H} {A B C N : Type 0} {route : Ghosts N} {na
   )
 
   -- orders by another name
-  pub cuts-rung : (ended : Bool) (one two three : Reading H hand) (old mid new : Orders A B C N route) → three ≡ two → IsSame mid new → CutsSome names ended one old two mid → CutsSome names ended one old three new
-  cuts-rung ended one two three old mid new is same cuts =
-      cuts-then ended one two three old mid new cuts
-      (cuts-same ended two three mid new (λ told reads. reads-same told two three is reads) (ap (λ (r : Reading H hand). calls_of r.slots) is) same)
+  pub cuts-same-orders : {ended : Bool} (one two : Reading H hand) (old mid new : Orders A B C N route) → IsSame mid new → CutsSome names ended one old two mid → CutsSome names ended one old two new
+  cuts-same-orders {ended} one two old mid new same cuts =
+      cuts-then ended one two two old mid new cuts (cuts-same ended two two mid new (λ told reads. reads) refl same)
 
   -- ---- events
 

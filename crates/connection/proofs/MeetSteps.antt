@@ -236,6 +236,13 @@ mapped-next f (suc n) (row ∷ rows) d within = ap (λ (rs : List CallReport). f
 -- so it stands with the invariant of a loop over them
 pub noted-next : (f : CallReport → CallReport) (n : ℕ) (items rows : List CallReport) (new d : CallReport) → items ≡ mapped_upto f n rows → n < length items → new ≡ f (get_or items n d) → set items n new ≡ mapped_upto f (n + 1) rows
 noted-next f n items rows new d is within next =
+    let same = ap (λ (all : List CallReport). length all) is in
+    let all = mapped-length f n rows in
+    let more : suc n ≡ n + 1 = omega arith in
     ap (λ (row : CallReport). set items n row) next
-    ∙ (ap (λ (all : List CallReport). set all n (f (get_or all n d))) is
-    ∙ mapped-next f n rows d (let same = ap (λ (all : List CallReport). length all) is in let all = mapped-length f n rows in omega (arith, same, all, within)))
+    ∙ (ap (λ (rs : List CallReport). set rs n (f (get_or rs n d))) is
+    ∙ (mapped-next f n rows d (omega (arith, same, all, within)) ∙ ap (λ (k : ℕ). mapped_upto f k rows) more))
+
+-- and at the loop's end all of them are changed
+pub noted-all : (f : CallReport → CallReport) (n : ℕ) (items rows : List CallReport) → items ≡ mapped_upto f n rows → length rows ≤ n → (length items ≡ length rows) × (items ≡ map f rows)
+noted-all f n items rows is past = (ap (λ (all : List CallReport). length all) is ∙ mapped-length f n rows, is ∙ mapped-all f n rows past)

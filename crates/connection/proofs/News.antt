@@ -274,7 +274,7 @@ told-due (Taken order ∷ before) lawful =
     )
 told-due (Granted id n ∷ before) lawful = told-due before lawful
 told-due (Returned id items ∷ before) lawful = told-due before lawful
-told-due (Written frame ∷ before) lawful = acks-begin _ (due before) lawful.1.answers
+told-due (Written frame ∷ before) lawful = acks-begin (duties_told before ++ told_by (has_begun (frames_of before)) frame) (due before) lawful.1.answers
 
 pub some-answers : (told : List Step) (put : List Order) (run : List RunStep) → HasPut (orders_by told ++ InputEnded ∷ []) put → Obeys true put run → IsLawful run
     → Begins (acknowledgements (duties_told run)) (answers_to (news_told (events_of told)))

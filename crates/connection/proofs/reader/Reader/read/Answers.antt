@@ -45,7 +45,7 @@ returns-then-heed_drain-clause-heard g c = λ none.
     let h = c.pieces.invariant.4 none in
     let on = c.in-Ok-None.ensures.on h.0 h.1 h.4 in
     let more = on.2 h.2 h.7 h.8 in
-    let b = kept-behind _ (more.0 ++ h.2) _ _ _ _ c.heed_drain-2.ensures.cuts more.1.kept more.2 (calm-more more.0 h.2 (more.1.calm c.in-Ok-None.field-0-is) h.6) in
+    let b = kept-behind _ (more.0 ++ h.2) _ _ _ _ c.heed_drain-in-pieces.ensures.cuts more.1.kept more.2 (calm-more more.0 h.2 (more.1.calm c.in-Ok-None.field-0-is) h.6) in
     let came = h.0 ++ take c.in-Ok.count c.read.new.buf in
     let ending = c.ending-then-heed_drain.ensures in (
       came,
@@ -67,7 +67,7 @@ pieces-preserved g c = (
       let h = c.pieces.invariant.4 none in
       let on = c.in-Ok-None.ensures.on h.0 h.1 h.4 in
       let more = on.2 h.2 h.7 h.8 in
-      let b = kept-behind _ (more.0 ++ h.2) _ _ _ _ c.heed_drain-2.ensures.cuts more.1.kept more.2 (calm-more more.0 h.2 (more.1.calm c.in-Ok-None.field-0-is) h.6) in (
+      let b = kept-behind _ (more.0 ++ h.2) _ _ _ _ c.heed_drain-in-pieces.ensures.cuts more.1.kept more.2 (calm-more more.0 h.2 (more.1.calm c.in-Ok-None.field-0-is) h.6) in (
         h.0 ++ take c.in-Ok.count c.read.new.buf,
         h.1 ++ on.0,
         b.0 ++ (more.0 ++ h.2),
