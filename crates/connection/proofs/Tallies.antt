@@ -1,5 +1,5 @@
 -- What the reader counts, and what it may refuse by that.
-use Rattle.std.proofs.Common.{◌≡◌, ◌≢◌, ◌∙◌, ◌+◌, ◌<◌, ◌≤◌, ℕ, Bool, true, false, List, [], ◌∷◌, ◌++◌, Option, None, Some, ap, arith, length, length-append, le_trans, refl, subst, sym}
+use Rattle.std.proofs.Common.{◌≡◌, ◌∙◌, ◌+◌, ◌<◌, ◌≤◌, ℕ, Bool, true, false, List, [], ◌∷◌, ◌++◌, Option, None, Some, ap, arith, length, length-append, le_trans, refl, subst, sym}
 use Rattle.std.specs.Prelude.{IfErr, Result, Ok, Err}
 use Rattle.std.specs.List.{sum_by}
 use Rattle.std.proofs.lemmas.List.Sums.{sum_by-append}
@@ -109,13 +109,6 @@ may-turn refused.TooMany calls more draining may few = le_trans may few
 may-turn refused.Draining calls more draining may few = may
 may-turn refused.NotNew calls more draining may few = tt
 may-turn refused.OutOfMemory calls more draining may few = tt
-
--- whether the server drains or not, unless it is turned away for that
-pub may-turn-other : (fault : AdmitFault) (calls : ℕ) (one other : Bool) → fault ≢ refused.Draining → MayTurnAway calls one fault → MayTurnAway calls other fault
-may-turn-other refused.TooMany calls one other not may = may
-may-turn-other refused.Draining calls one other not may = absurd (not refl)
-may-turn-other refused.NotNew calls one other not may = tt
-may-turn-other refused.OutOfMemory calls one other not may = tt
 
 -- by what the lock says
 pub turns-so : (result : Result (Unit {0}) AdmitFault) (calls : ℕ) → (result ≡ Err refused.TooMany → 64 ≤ calls) → IfErr result (λ fault. MayTurnAway calls true fault)

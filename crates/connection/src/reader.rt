@@ -230,8 +230,7 @@ where
         }
     }
 
-    /// Looks whether the server is to stop, and has the peer told where it is so for the first time. Whether no call is live then: the
-    /// connection ends.
+    /// Looks whether the server is to stop, and has the peer told where it is. Whether no call is live then: the connection ends.
     fn heed_drain(&mut self) -> bool
         ensures cuts { CutsSome M.names false self.old.reading self.old.orders
             self.new.reading self.new.orders }
@@ -241,9 +240,7 @@ where
         if !is_closing {
             return false;
         }
-        if !self.reading.is_draining() {
-            self.drain();
-        }
+        self.drain();
         !is_live
     }
 
@@ -253,12 +250,15 @@ where
         (book.closing(), book.live_id(0).is_some())
     }
 
-    /// The server is to stop: the peer is told which calls go on.
+    /// The server is to stop: the peer is told which calls go on, unless it was.
     fn drain(&mut self)
         ensures cuts { CutsSome M.names false self.old.reading self.old.orders
             self.new.reading self.new.orders }
         ensures draining { self.new.reading.slots.is_draining ≡ true }
     {
+        if self.reading.is_draining() {
+            return;
+        }
         let decided = self.reading.drain();
         self.act(decided);
         self.orders.ring();

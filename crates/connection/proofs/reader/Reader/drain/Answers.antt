@@ -1,5 +1,8 @@
-use Rattle.connection.proofs.Heard.{cuts-drain, cuts-same-orders}
+use Rattle.connection.proofs.Heard.{cuts-drain, cuts-none, cuts-same-orders}
 use Rattle.connection.proofs.reader.Reader.drain.Goals as goal
+
+pub returns-then-is_draining-clause-cuts : goal.returns-then-is_draining-clause-cuts
+returns-then-is_draining-clause-cuts g c = cuts-none _ _ _
 
 pub returns-clause-cuts : goal.returns-clause-cuts
 returns-clause-cuts g c =
