@@ -14,7 +14,7 @@ use Rattle.callslot.specs.declared.report.CallReport.{CallReport}
 use Rattle.callslot.specs.declared.report.Ending.{Ending}
 use Rattle.callslot.specs.declared.order.Opened.TheVariants.{New, Again}
 use Rattle.callslot.specs.Workers.{GivingEnd, given_at, giving_ring}
-use Rattle.connwriter.specs.Sent.{AllTold, HasSender, IsIn, IsOld, IsTold, Line, again, again_at, begun, last_ids}
+use Rattle.connwriter.specs.Sent.{AllTold, HasSender, IsIn, IsOld, IsTold, Line, again_at, begun, last_ids}
 use Rattle.lane.specs.Cuts.{segment}
 use Rattle.lane.specs.Lawful.{count_of}
 use Rattle.lane.specs.RingLane.{LaneName, got, out_name, past_out, ring_of}

@@ -1,14 +1,14 @@
 -- One slot more whose giving end met its sender, and what is noted of its call.
-use Rattle.std.proofs.Common.{◌≡◌, ◌∙◌, ◌⊎◌, ℕ, zero, suc, ◌+◌, ◌<◌, ◌≤◌, Bool, true, false, List, [], ◌∷◌, ◌++◌, Option, None, Some, ap, append-nil, append_assoc, arith, eq-eqb, get_or, inl, inr, length, map, refl, set, slice_get, subst, sym}
-use Rattle.std.specs.Prelude.{All, Contains, IfNone, IfSome, if◌then◌else◌, min, nat_eq, nat_le}
+use Rattle.std.proofs.Common.{◌≡◌, ◌∙◌, ℕ, zero, suc, ◌+◌, ◌<◌, ◌≤◌, Bool, false, List, [], ◌∷◌, ◌++◌, Option, None, Some, ap, append_assoc, arith, eq-eqb, get_or, inl, inr, length, map, refl, set, slice_get, subst, sym}
+use Rattle.std.specs.Prelude.{All, Contains, IfNone, IfSome, if◌then◌else◌, nat_eq, nat_le}
 use Rattle.std.proofs.lemmas.Bool.{cases_Bool, cases_eq, eqb-true}
 use Rattle.std.proofs.lemmas.Bool.Decides.{nat_tests}
 use Rattle.std.proofs.lemmas.List.{get_or-set_other}
 use Rattle.callbox.specs.OutSides.{has_end}
 use Rattle.callslot.specs.declared.report.CallReport.{CallReport}
-use Rattle.callslot.specs.Workers.{GivingEnd, given_at}
+use Rattle.callslot.specs.Workers.{GivingEnd}
 use Rattle.lane.specs.Lawful.{count_of}
-use Rattle.lane.specs.RingLane.{got, past_out}
+use Rattle.lane.specs.RingLane.{got}
 use Rattle.slotwriter.specs.Sent.{SlotSender}
 use Rattle.connection.specs.Sent.{AllSent, HasGotAll, HasMet, HaveMet, IsNoted, MeetsSlot, NoneSent, SomeSent, sent_all, sent_none, sent_of, sent_some, sent_upto}
 use Rattle.connection.proofs.Noted.{set_sent}

@@ -1,5 +1,5 @@
 -- What is noted in a call's row of what was sent of it.
-use Rattle.std.proofs.Common.{◌≡◌, ◌∙◌, ◌⊎◌, inl, inr, ℕ, zero, suc, ◌<◌, ◌≤◌, Bool, true, false, true≢false, List, [], ◌∷◌, ◌++◌, Option, ap, append-nil, arith, length, length-append, refl, subst, sym}
+use Rattle.std.proofs.Common.{◌≡◌, ◌∙◌, ◌⊎◌, inl, inr, ℕ, zero, suc, Bool, true, false, true≢false, List, [], ◌∷◌, ◌++◌, Option, ap, append-nil, arith, length, length-append, refl, subst, sym}
 use Rattle.std.specs.Prelude.{All, map, min}
 use mathlib.Core.List.{IsPrefix}
 use Rattle.account.specs.declared.call.OutItem.{OutItem}

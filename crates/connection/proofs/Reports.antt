@@ -1,12 +1,9 @@
 -- What became of a connection, of what was heard, ordered and written.
-use Rattle.std.proofs.Common.{◌≡◌, ◌≢◌, ◌∙◌, ◌⊎◌, ◌≤◌, arith, inl, inr, ℕ, Bool, true, false, true≢false, List, [], ◌∷◌, ◌++◌, Option, None, Some, ap, append-nil, get_or, refl, subst, sym}
+use Rattle.std.proofs.Common.{◌≡◌, ◌≢◌, ◌∙◌, ◌⊎◌, ◌≤◌, arith, inl, inr, ℕ, Bool, true, false, true≢false, List, [], ◌∷◌, ◌++◌, Option, None, Some, ap, append-nil, refl, subst, sym}
 use Rattle.std.specs.Prelude.{◌||◌, All, map}
 use Rattle.std.specs.Io.KnownBytes.{Appends}
 use Rattle.std.proofs.lemmas.List.Elements.{All-nil}
-use mathlib.Core.List.{IsPrefix}
 use Rattle.account.specs.declared.call.Account.{Account}
-use Rattle.account.specs.declared.call.OutItem.{OutItem}
-use Rattle.connwriter.specs.Sent.{IsTold}
 use Rattle.callslot.specs.declared.report.CallReport.{CallReport}
 use Rattle.callslot.specs.declared.report.Ending.{Ending}
 use Rattle.callslot.specs.declared.report.Ending.TheVariants.{Drained, InputEnded, PeerGoaway, ProtocolError, ReadFailed, WriteFailed, OutOfMemory}
@@ -34,7 +31,7 @@ use Rattle.connection.specs.Sent.{CarriesWhatWasSent, HaveMet}
 use Rattle.slotwriter.specs.Sent.{SlotSender}
 use Rattle.callslot.specs.Workers.{GivingEnd}
 use Rattle.connection.proofs.Noted.{IsSentRow, all-mapped, as-set, bare-noted, ids-mapped, set_sent}
-use Rattle.connection.specs.Served.{HasCause, IsServed, is_drained}
+use Rattle.connection.specs.Served.{IsServed, is_drained}
 use Rattle.connection.proofs.Drained.{has-drained}
 use Rattle.connection.proofs.CreditSteps.{told-within}
 use Rattle.connection.proofs.Heard.{ended-more, silent-more}

@@ -1,6 +1,6 @@
 -- What was sent of each call: where a slot's giving end meets its sender, and by which orders its calls began.
 use mathlib.Core.List.{IsPrefix}
-use Rattle.std.specs.Prelude.{◌≡◌, ◌⊎◌, ◌<◌, ◌≤◌, min, ℕ, Bool, false, if◌then◌else◌, nat_eq, nat_le, List, [], ◌∷◌, ◌++◌, length, map, get_or, Option, None, Some, slice_get, All}
+use Rattle.std.specs.Prelude.{◌≡◌, ◌⊎◌, ◌<◌, ◌≤◌, min, ℕ, false, if◌then◌else◌, nat_eq, nat_le, List, [], ◌∷◌, ◌++◌, length, map, get_or, Option, None, Some, slice_get, All}
 use Rattle.account.specs.declared.call.Account.{Account}
 use Rattle.callbox.specs.OutSides.{has_end}
 use Rattle.callbox.specs.Slots.{EachBegins}

@@ -1,4 +1,4 @@
-use Rattle.std.proofs.Common.{◌≡◌, ◌∙◌, [], ◌∷◌, append-nil, refl, sym}
+use Rattle.std.proofs.Common.{◌∙◌, [], ◌∷◌, append-nil, refl, sym}
 use Rattle.slotwriter.specs.Sent.{held_of, ids_of}
 use Rattle.connection.proofs.MeetSteps.{met-all, met-none, more-held, more-met, more-parts, more-stand, more-there, shorter}
 use Rattle.connection.proofs.meeting.meet_slots.Goals as goal

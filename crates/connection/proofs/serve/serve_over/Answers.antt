@@ -10,7 +10,6 @@ use Rattle.session.specs.FlowBytes.{counted_told}
 use Rattle.slots.specs.Lines.{IsGivenIn}
 use Rattle.slots.specs.Steps.{events_of, reported}
 use Rattle.slotwriter.specs.Orders.{orders_of}
-use Rattle.slotwriter.specs.Sent.{held_of}
 use Rattle.slotwriter.specs.Written.{HasSent}
 use Rattle.slotwriter.proofs.WrittenSteps.{told-on}
 use Rattle.connection.specs.Puts.{put_of, put_orders}
