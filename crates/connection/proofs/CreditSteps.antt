@@ -1,5 +1,5 @@
 -- What is told on the connection is at most what was heard.
-use Rattle.std.proofs.Common.{◌≡◌, ◌++◌, ◌≤◌, ap, arith, ℕ, Bool, List, Option}
+use Rattle.std.proofs.Common.{◌≤◌, ap, arith, ℕ, Bool, List, Option}
 use Rattle.std.proofs.lemmas.List.Sums.{sum_by-append}
 use Rattle.callslot.specs.declared.report.Ending.{Ending}
 use Rattle.h2frame.specs.FrameList.{Entry}

@@ -1,5 +1,5 @@
 -- What the reading thread has heard, one after another.
-use Rattle.std.proofs.Common.{◌≡◌, ◌≢◌, ◌∙◌, ◌⊎◌, ◌+◌, ◌≤◌, arith, inl, inr, ℕ, Bool, true, false, true≢false, List, [], ◌∷◌, ◌++◌, Option, None, Some, ap, append-nil, refl, subst, sym, map, take}
+use Rattle.std.proofs.Common.{◌≡◌, ◌≢◌, ◌∙◌, ◌⊎◌, ◌≤◌, inl, inr, ℕ, Bool, true, false, true≢false, List, [], ◌∷◌, ◌++◌, Option, None, Some, ap, append-nil, refl, subst, sym, map, take}
 use Rattle.std.proofs.lemmas.List.{append_assoc, map-append}
 use Rattle.std.specs.Io.KnownBytes.{Consumes, Keeps, ReadConsumes}
 use Rattle.std.specs.Prelude.{IfSome, Result, Ok, Err, is_some}
@@ -26,7 +26,7 @@ use Rattle.slots.specs.declared.reading.Reading.{Reading}
 use Rattle.slots.specs.declared.worker.Worker.{Ghosts as Hands}
 use Rattle.slots.specs.Lines.{Aligns, AreNew, IsNewTo, SlotCalls, calls_from, calls_of, calls_step, raw_in}
 use Rattle.slots.specs.Orders.{ends_at, orders_at, orders_by}
-use Rattle.slots.specs.Readings.{Awaits, Decides, DecidesOn, Reads, ReadsOn, Stands, Stays, orders_in}
+use Rattle.slots.specs.Readings.{Awaits, Decides, DecidesOn, Reads, ReadsOn, Stands, Stays}
 use Rattle.slots.specs.Reports.{AreCalm, AreHeard, IsFront, is_heard_out}
 use Rattle.slots.specs.Steps.{Cause, CutOff, Drains, Fate, Step, Told, WasTold, events_of, is_draining}
 use Rattle.slots.proofs.LetGo.{events-append}
@@ -37,7 +37,7 @@ use Rattle.lane.specs.Ring.{put_in}
 use Rattle.connection.specs.declared.orders.Orders.{Orders}
 use Rattle.connection.specs.declared.orders.Outbox.{Outbox}
 use Rattle.connection.specs.declared.orders.Route.{Ghosts}
-use Rattle.connection.specs.Heard.{Acts, Cuts, CutsSome, HasPut, HasRead, IsEndedBy, KeptFor, ReadsTo, ReadsWith, Tells}
+use Rattle.connection.specs.Heard.{Acts, CutsSome, HasPut, HasRead, IsEndedBy, KeptFor, ReadsTo, ReadsWith}
 use Rattle.connection.specs.Limits.{AreGoing, AreJustified, Covers, IsJustified, Tally}
 use Rattle.connection.specs.Sent.{Lined, LinedTo}
 use Rattle.connection.proofs.Lines.{new-append, new-parts}

@@ -1,5 +1,5 @@
 -- What the peer tells the side that writes goes on to it in its order, and is acknowledged so.
-use Rattle.std.proofs.Common.{◌≡◌, ◌∙◌, ◌⊎◌, inl, inr, ℕ, Bool, true, false, List, [], ◌∷◌, ◌++◌, Option, None, Some, ap, append-nil, filter, flat_map, refl, subst, sym}
+use Rattle.std.proofs.Common.{◌≡◌, ◌∙◌, ◌⊎◌, inl, inr, ℕ, Bool, true, false, List, [], ◌∷◌, ◌++◌, Option, None, Some, ap, append-nil, filter, refl, sym}
 use Rattle.std.specs.Prelude.{◌==◌, if◌then◌else◌, length, not}
 use Rattle.std.specs.List.{list_any}
 use Rattle.std.proofs.lemmas.List.{append_assoc}
@@ -19,7 +19,7 @@ use Rattle.lists.specs.declared.field.Field.{Field}
 use Rattle.outwriter.specs.declared.control.Control.TheVariants.{Settings, Ping, Probe, Window, Open, Refuse, Reset, Goaway, InputEnded, Close}
 use Rattle.outwriter.specs.Frames.{is_last}
 use Rattle.outwriter.specs.RunState.{IsAnswered}
-use Rattle.outwriter.specs.Runs.{IsLawful, due, due_by, has_begun, is_goaway, told_by, without_goaway}
+use Rattle.outwriter.specs.Runs.{IsLawful, due, due_by, has_begun, told_by, without_goaway}
 use Rattle.outwriter.specs.Runs.{told as duties_told}
 use Rattle.outwriter.specs.Steps.{Order, Taken, Granted, Written, Returned, frames_of}
 use Rattle.outwriter.specs.Steps.{Step as RunStep}

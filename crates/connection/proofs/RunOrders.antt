@@ -1,5 +1,5 @@
 -- What holds of each order that was put, and of the writer's own, holds of each order that the run took.
-use Rattle.std.proofs.Common.{◌≡◌, ◌∙◌, ◌⊎◌, inl, inr, ℕ, Bool, true, false, List, [], ◌∷◌, ◌++◌, ap, refl, subst, sym}
+use Rattle.std.proofs.Common.{◌≡◌, ◌∙◌, ◌⊎◌, inl, inr, ℕ, true, false, List, [], ◌∷◌, ◌++◌, ap, subst, sym}
 use Rattle.std.proofs.lemmas.List.{append_assoc}
 use Rattle.std.specs.List.{list_any}
 use Rattle.connwriter.specs.Orders.{own_order}
@@ -10,7 +10,7 @@ use Rattle.outwriter.specs.RunState.{Blames, Concerns}
 use Rattle.outwriter.specs.Drains.{draining, warning}
 use Rattle.outwriter.specs.Steps.{Order, Taken, Granted, Written, Returned}
 use Rattle.outwriter.specs.Steps.{Step as RunStep}
-use Rattle.slotwriter.specs.Orders.{AreLast, HasParted, HasTaken, IsAmong, IsAnswer, Obeys, ResetsCall, Warns, ends_input}
+use Rattle.slotwriter.specs.Orders.{AreLast, HasTaken, IsAmong, IsAnswer, Obeys, ResetsCall, Warns, ends_input}
 use Rattle.connection.specs.Causes.{WasTaken}
 use Rattle.connection.specs.Heard.{HasPut}
 

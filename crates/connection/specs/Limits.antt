@@ -11,7 +11,7 @@ use Rattle.session.specs.declared.event.InEvent.{InEvent}
 use Rattle.session.specs.declared.event.InEvent.TheVariants as events
 use Rattle.session.specs.FlowBytes.{counted_by, counted_told}
 use Rattle.slots.specs.Orders.{IsDue}
-use Rattle.slots.specs.Steps.{Received, Missed, TurnedAway, Cause, AtEnd, NotLive, Step, Told, CutOff, Drains, events_of, is_draining, reported}
+use Rattle.slots.specs.Steps.{Received, Missed, TurnedAway, AtEnd, NotLive, Step, Told, CutOff, Drains, events_of, is_draining, reported}
 use Rattle.connection.specs.declared.intake.Intake.{Intake}
 
 -- A call isn't admitted behind 64 or more that were, where the server drains, for want of memory, or since its number doesn't rise.

@@ -1,13 +1,11 @@
 -- Which streams the orders of a step open: that of the call that it admits, and no other.
-use Rattle.std.proofs.Common.{◌≡◌, ◌∙◌, ◌⊎◌, inl, inr, ℕ, ◌<◌, ◌≤◌, Bool, true, false, List, [], ◌∷◌, ◌++◌, Option, None, Some, All, ap, arith, map, refl, subst, suc, sym}
+use Rattle.std.proofs.Common.{◌≡◌, ◌∙◌, inl, inr, ℕ, ◌<◌, ◌≤◌, Bool, true, false, List, [], ◌∷◌, ◌++◌, Option, None, Some, All, ap, arith, map, refl, subst, suc, sym}
 use Rattle.std.specs.Prelude.{MatchOption, if◌then◌else◌}
 use Rattle.callhead.specs.declared.head.CallHead.{CallHead}
 use Rattle.callhead.specs.declared.fault.HeadFault.{HeadFault}
 use Rattle.callhead.specs.StatusFields.{refusal_of}
 use Rattle.callslot.specs.declared.order.Opened.{Opened}
-use Rattle.connbook.specs.declared.answers.AdmitFault.{AdmitFault}
 use Rattle.connbook.specs.declared.answers.AdmitFault.TheVariants as refused
-use Rattle.connbook.specs.declared.answers.Receipt.{Receipt}
 use Rattle.connbook.specs.declared.answers.Receipt.TheVariants.{Feed, Discard, CallWindow, Overrun}
 use Rattle.lists.specs.declared.field.Field.{Field}
 use Rattle.outwriter.specs.declared.control.Control.{Control}
@@ -22,10 +20,10 @@ use Rattle.slots.specs.declared.slots.Slots.{Slots}
 use Rattle.slots.specs.declared.worker.Worker.{Ghosts}
 use Rattle.slots.specs.Ids.{times}
 use Rattle.slots.specs.Lines.{AreNew, HasCall, SlotCalls, calls_in, calls_of, raw_in, raw_orders}
-use Rattle.slots.specs.Orders.{begun, came, came_loose, cut_code, is_fed, last_stream, named, named_with, news_of, opened, orders_at, refused_head, turned_away, untaken, without_head}
+use Rattle.slots.specs.Orders.{begun, came, came_loose, is_fed, last_stream, named, named_with, news_of, opened, orders_at, refused_head, untaken, without_head}
 use Rattle.slots.specs.Readings.{order_in, orders_in}
 use Rattle.slots.specs.Seats.{Kept, ids_of, times_in}
-use Rattle.slots.specs.Steps.{Lack, NoWorker, Stopped, Fate, Plain, Admitted, Unserved, Unknown, TurnedAway, Received, Missed, Lacking, AtEnd, NotLive, Step, Told, CutOff, Drains, IsRising, admitted, admitted_by, is_draining, last_of, once}
+use Rattle.slots.specs.Steps.{NoWorker, Stopped, Fate, Plain, Admitted, Unserved, Unknown, TurnedAway, Received, Missed, Lacking, Step, Told, CutOff, Drains, IsRising, admitted, admitted_by, is_draining, last_of, once}
 use Rattle.slots.proofs.KeptLemmas.{below-last}
 use Rattle.slots.proofs.Unfed.{among, split-first}
 

@@ -1,13 +1,9 @@
 -- What one step more makes of the reading side, and what is decided of it.
-use Rattle.std.proofs.Common.{◌≡◌, ◌≢◌, ◌∙◌, ◌⊎◌, inl, inr, ℕ, zero, suc, ◌+◌, ◌<◌, ◌≤◌, Bool, true, false, true≢false, nat_eq, List, [], ◌∷◌, ◌++◌, length, Option, None, Some, ap, append-nil, arith, eqb-true, get_or, refl, subst, sym}
-use Rattle.std.specs.Prelude.{◌&&◌, ◌||◌, ◌==◌, Result, Ok, Err, if◌then◌else◌, is_none, is_some, max, min, position}
+use Rattle.std.proofs.Common.{◌≡◌, ◌≢◌, ◌∙◌, inl, inr, ℕ, ◌<◌, Bool, true, false, true≢false, nat_eq, List, [], ◌∷◌, ◌++◌, Option, None, Some, ap, arith, eqb-true, get_or, refl, subst, sym}
+use Rattle.std.specs.Prelude.{◌&&◌, ◌||◌, if◌then◌else◌, is_none, is_some, min, position}
 use Rattle.std.proofs.lemmas.Bool.{and_parts, cases_Bool}
 use Rattle.std.proofs.lemmas.List.{append_assoc}
 use Rattle.std.proofs.lemmas.List.Quantifiers.{position-Some}
-use Rattle.account.specs.declared.call.Shut.{Shut}
-use Rattle.account.specs.declared.call.Shut.TheVariants as shut
-use Rattle.callhead.specs.declared.head.CallHead.{CallHead}
-use Rattle.callhead.specs.declared.fault.HeadFault.{HeadFault}
 use Rattle.callslot.specs.declared.order.Opened.{Opened}
 use Rattle.callslot.specs.declared.report.Ending.{Ending}
 use Rattle.connbook.specs.declared.answers.Receipt.{Receipt}
@@ -30,9 +26,9 @@ use Rattle.slots.specs.declared.worker.Worker.{Ghosts}
 use Rattle.slots.specs.Calls.{is_admitted}
 use Rattle.slots.specs.Concerns.{Concerns, IsIdle}
 use Rattle.slots.specs.Halves.{is_open, shown}
-use Rattle.slots.specs.Orders.{begun, begun_at, came_loose, cut_code, ends_at, greatest, is_fed, last_stream, most_streams, named, named_with, orders_at}
-use Rattle.slots.specs.Readings.{Awaits, Begins, Counts, Decides, DecidesOn, Heeds, Reads, ReadsOn, Stands, Stays, order_in, orders_in, unless_ended}
-use Rattle.slots.specs.Seats.{Hears, IsSeat, Keeps, Kept, feeds}
+use Rattle.slots.specs.Orders.{begun, begun_at, came_loose, cut_code, ends_at, greatest, is_fed, last_stream, named, named_with, orders_at}
+use Rattle.slots.specs.Readings.{Awaits, Begins, Counts, Decides, DecidesOn, Heeds, Reads, Stands, Stays, order_in, orders_in, unless_ended}
+use Rattle.slots.specs.Seats.{Hears, Keeps, Kept, feeds}
 use Rattle.slots.specs.Steps.{Cause, CutOff, Drains, Fate, Lacking, Received, Step, Told, WasTold, events_of, is_drain, is_draining, reported, shut_at, shut_by, since}
 use Rattle.slots.proofs.SlotSteps.{kept-idle, kept-none}
 use Rattle.slots.proofs.Unfed.{unfed-shut}

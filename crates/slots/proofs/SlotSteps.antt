@@ -8,8 +8,6 @@ use Rattle.std.proofs.lemmas.List.Elements.{All-nil, All-push, All-weaker}
 use Rattle.std.proofs.lemmas.List.Quantifiers.{position-Some}
 use Rattle.std.proofs.lemmas.List.Sums.{fails_before_first}
 use Rattle.std.proofs.Math.Seq.{map-set_same}
-use Rattle.callbox.specs.declared.piece.InPiece.{InPiece}
-use Rattle.account.specs.declared.call.Shut.{Shut}
 use Rattle.slots.specs.Concerns.{Concerns, IsIdle}
 use Rattle.slots.specs.Steps.{AdmitsNoMore, Drains, Lack, Step, Told, Unserved, admitted, admitted_by, is_drain, is_draining, last_of, reported, reported_by, shut_by, since}
 use Rattle.session.specs.declared.event.InEvent.TheVariants as events

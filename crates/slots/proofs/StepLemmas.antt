@@ -1,10 +1,9 @@
 -- Which call a step concerns, and how it shuts its half.
-use Rattle.std.proofs.Common.{◌≡◌, ◌≢◌, ◌∙◌, ℕ, Bool, List, [], ◌∷◌, Option, None, Some, arith, eq-eqb, length, nat_eq, refl, sym, true, false}
+use Rattle.std.proofs.Common.{◌≡◌, ◌≢◌, ◌∙◌, ℕ, Bool, List, [], ◌∷◌, None, Some, arith, eq-eqb, length, nat_eq, refl, sym, true, false}
 use Rattle.std.specs.Prelude.{◌==◌, if◌then◌else◌, Result, Ok, Err, OnErr}
 use Rattle.std.proofs.lemmas.Bool.{eqb-true}
 use Rattle.account.specs.declared.call.Shut.TheVariants as shut
-use Rattle.connbook.specs.declared.answers.Receipt.{Receipt}
-use Rattle.connbook.specs.declared.answers.Receipt.TheVariants.{Feed, Discard, CallWindow, Overrun}
+use Rattle.connbook.specs.declared.answers.Receipt.TheVariants.{Discard, CallWindow, Overrun}
 use Rattle.h2frame.specs.declared.error_code.ErrorCode.{ErrorCode}
 use Rattle.h2frame.specs.declared.error_code.ErrorCode.TheVariants.{FlowControlError, Cancel}
 use Rattle.h2frame.specs.ErrorCode.{error_number}

@@ -19,7 +19,7 @@ use Rattle.session.specs.declared.event.Control.{Control}
 use Rattle.session.specs.declared.event.Control.TheVariants as controls
 use Rattle.session.specs.declared.event.InEvent.TheVariants as events
 use Rattle.slots.specs.Calls.{is_admitted}
-use Rattle.slots.specs.Steps.{Lack, NoWorker, Stopped, Fate, Admitted, Unserved, Unknown, TurnedAway, Received, Missed, Lacking, Cause, AtEnd, NotLive, Step, Told, CutOff, Drains, is_draining, reported, shut_by, since}
+use Rattle.slots.specs.Steps.{NoWorker, Stopped, Fate, Admitted, Unserved, Unknown, TurnedAway, Received, Missed, Lacking, Cause, AtEnd, NotLive, Step, Told, CutOff, Drains, is_draining, reported, shut_by, since}
 
 -- ---- streams that were begun
 

@@ -9,7 +9,7 @@ use Rattle.account.specs.declared.call.Shut.TheVariants as shut
 use Rattle.callhead.specs.declared.head.CallHead.{CallHead}
 use Rattle.connbook.specs.declared.answers.AdmitFault.{AdmitFault}
 use Rattle.connbook.specs.declared.answers.Receipt.{Receipt}
-use Rattle.connbook.specs.declared.answers.Receipt.TheVariants.{Feed, Discard, CallWindow, Overrun}
+use Rattle.connbook.specs.declared.answers.Receipt.TheVariants.{Discard, CallWindow, Overrun}
 use Rattle.h2frame.specs.declared.error_code.ErrorCode.TheVariants.{FlowControlError, Cancel, EnhanceYourCalm}
 use Rattle.h2frame.specs.ErrorCode.{error_number}
 use Rattle.session.specs.declared.event.InEvent.{InEvent}

@@ -12,7 +12,7 @@ use Rattle.lane.specs.RingLane.{LaneName, got, out_name, past_out, ring_of}
 use Rattle.outwriter.specs.declared.control.Control.{Control}
 use Rattle.outwriter.specs.declared.control.Control.TheVariants.{Settings, Ping, Probe, Window, Open, Refuse, Reset, Goaway, InputEnded, Close}
 use Rattle.outwriter.specs.Releases.{Releases}
-use Rattle.outwriter.specs.Runs.{is_opened, opens_stream}
+use Rattle.outwriter.specs.Runs.{opens_stream}
 use Rattle.h2frame.specs.declared.error_code.ErrorCode.TheVariants.{FlowControlError}
 use Rattle.h2frame.specs.declared.frame.Frame.{Frame}
 use Rattle.outwriter.specs.Calls.{TellFronts, TellReturned}

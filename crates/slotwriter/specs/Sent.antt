@@ -1,6 +1,6 @@
 -- The lines of a connection's calls: by the orders that its writer took, and with the senders of its slots.
 use mathlib.Core.List.{IsPrefix}
-use Rattle.std.specs.Prelude.{◌≡◌, ◌⊎◌, ◌<◌, ℕ, false, nat_eq, length, List, [], ◌∷◌, ◌++◌, map, get_or, set, Option, None, Some, slice_get}
+use Rattle.std.specs.Prelude.{◌≡◌, ◌⊎◌, ◌<◌, ℕ, nat_eq, length, List, [], ◌∷◌, ◌++◌, map, get_or, set, Option, None, Some, slice_get}
 use Rattle.std.specs.List.{IsDistinct}
 use Rattle.account.specs.declared.call.OutItem.{OutItem}
 use Rattle.callbox.specs.declared.sender.Sender.{Sender}
@@ -12,7 +12,6 @@ use Rattle.lane.specs.Cuts.{segment}
 use Rattle.lane.specs.RingLane.{LaneName, got, out_name, past_out, ring_of}
 use Rattle.outwriter.specs.declared.control.Control.{Control}
 use Rattle.outwriter.specs.declared.control.Control.TheVariants.{Settings, Ping, Probe, Window, Open, Refuse, Reset, Goaway, InputEnded, Close}
-use Rattle.outwriter.specs.Runs.{is_opened}
 use Rattle.outwriter.specs.Steps.{Step}
 use Rattle.connwriter.specs.declared.taking.Taking.{Taking}
 use Rattle.connwriter.specs.declared.taking.Taking.TheVariants.{HandedBack}

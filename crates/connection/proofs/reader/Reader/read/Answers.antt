@@ -1,4 +1,4 @@
-use Rattle.std.proofs.Common.{◌≡◌, ◌∙◌, ◌+◌, ◌≤◌, ℕ, List, [], ◌++◌, None, Some, Result, Ok, Err, OnErr, ap, append-nil, refl, subst, sym, take}
+use Rattle.std.proofs.Common.{◌≡◌, ◌∙◌, ◌≤◌, ℕ, List, [], ◌++◌, Result, Ok, Err, OnErr, ap, append-nil, refl, subst, sym, take}
 use Rattle.session.specs.declared.event.InEvent.{InEvent}
 use Rattle.session.specs.FlowBytes.{counted_told}
 use Rattle.slots.specs.Steps.{Step, events_of}

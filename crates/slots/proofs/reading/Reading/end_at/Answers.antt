@@ -1,4 +1,4 @@
-use Rattle.std.proofs.Common.{◌∷◌, refl, sym, ◌∙◌, ap, Some}
+use Rattle.std.proofs.Common.{refl, sym, ◌∙◌, ap, Some}
 use Rattle.h2frame.specs.declared.error_code.ErrorCode.TheVariants.{InternalError}
 use Rattle.outwriter.specs.declared.control.Control.TheVariants.{Goaway}
 use Rattle.slots.specs.Orders.{named, named_with}

@@ -2,7 +2,7 @@ use Rattle.std.proofs.Common.{Bool, refl, ◌∙◌, ap, subst, sym, List}
 use Rattle.session.specs.declared.event.InEvent.TheVariants as events
 use Rattle.connbook.specs.declared.answers.AdmitFault.TheVariants.{Draining}
 use Rattle.slots.specs.Readings.{DecidesOn, refused_by, unless_ended}
-use Rattle.slots.specs.Steps.{Told, TurnedAway, Unknown}
+use Rattle.slots.specs.Steps.{Told, TurnedAway}
 use Rattle.slots.proofs.ReadingSteps.{calm-as, lacks-as, stays-same}
 use Rattle.slots.specs.Lines.{SlotCalls, calls_from, raw_orders}
 use Rattle.slots.proofs.reading.Reading.open.Goals as goal

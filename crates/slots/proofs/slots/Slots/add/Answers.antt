@@ -1,5 +1,5 @@
 use Rattle.std.specs.Prelude.{vec_capacity, vec_len}
-use Rattle.std.proofs.Common.{◌≤◌, ◌<◌, ◌∙◌, ◌++◌, ◌∷◌, [], ℕ, ap, arith, refl, subst, sym}
+use Rattle.std.proofs.Common.{◌≤◌, ◌<◌, ◌∙◌, ◌++◌, ◌∷◌, [], ℕ, ap, arith, subst, sym}
 use Rattle.callslot.specs.declared.report.CallReport.{CallReport}
 use Rattle.callslot.specs.Accounts.{unanswered}
 use Rattle.slots.proofs.SlotSteps.{kept-pushed}

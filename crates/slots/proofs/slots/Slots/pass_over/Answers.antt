@@ -1,4 +1,4 @@
-use Rattle.std.proofs.Common.{◌∙◌, ◌++◌, ◌∷◌, [], ap, refl}
+use Rattle.std.proofs.Common.{◌∙◌, ◌++◌, ◌∷◌, [], ap}
 use Rattle.callslot.specs.declared.report.CallReport.{CallReport}
 use Rattle.slots.proofs.SlotSteps.{kept-unserved}
 use Rattle.slots.specs.Lines.{calls_in}
