@@ -63,8 +63,8 @@ impl CallReport {
     }
 }
 
-/// How a connection ended. Where several are true, the first of `OutOfMemory`, `WriteFailed`, `ProtocolError` and
-/// `ReadFailed` is told, and else what the input ended with.
+/// How a connection ended. Where several are true, the first of `OutOfMemory`, `WriteFailed`, `ProtocolError`, `ReadFailed`
+/// and `Drained` is told, and else what the input ended with.
 #[derive(Clone, Copy, Debug, PartialEq, Eq)]
 pub enum Ending {
     /// The peer sends nothing more.
@@ -76,6 +76,8 @@ pub enum Ending {
     ReadFailed,
     WriteFailed,
     OutOfMemory,
+    /// The server had it end while its calls went on (RFC 9113, section 6.8).
+    Drained,
 }
 
 impl Ending {
@@ -88,6 +90,7 @@ impl Ending {
             Ending::ReadFailed => 4,
             Ending::WriteFailed => 5,
             Ending::OutOfMemory => 6,
+            Ending::Drained => 7,
         }
     }
 }

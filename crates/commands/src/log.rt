@@ -315,6 +315,7 @@ pub fn ended_of(ending: Ending) -> Ended {
         Ending::ReadFailed => Ended::ReadFailed,
         Ending::WriteFailed => Ended::WriteFailed,
         Ending::OutOfMemory => Ended::OutOfMemory,
+        Ending::Drained => Ended::Drained,
     }
 }
 

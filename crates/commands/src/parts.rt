@@ -6,7 +6,7 @@ use crate::body::RunFault;
 use crate::memory::{MemoryInput, MemoryOutput};
 use crate::streams::Streams;
 use crate::text::bytes_of;
-use connection::{Ending, Gate, Served, serve_connection};
+use connection::{Ending, Gate, Served, serve_undrained};
 use device::{ConnRead, ConnWrite, Marked, read_all, write_all};
 use h2frame::FrameReader;
 use handlers::Methods;
@@ -41,7 +41,7 @@ where
         ending,
         output: written,
         ..
-    } = serve_connection(rt, alloc, &mut input, written, methods, gate);
+    } = serve_undrained(rt, alloc, &mut input, written, methods, gate);
     let report = report(alloc, written.into_inner().bytes.as_slice(), ending)?;
     write_all(output, report.as_bytes())?;
     Ok(())

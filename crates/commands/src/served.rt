@@ -87,5 +87,6 @@ fn text_of(ending: Ending) -> &'static str {
         Ending::ReadFailed => "read-failed",
         Ending::WriteFailed => "write-failed",
         Ending::OutOfMemory => "out-of-memory",
+        Ending::Drained => "drained",
     }
 }

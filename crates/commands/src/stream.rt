@@ -1,7 +1,7 @@
 //! One connection to a port: its descriptor, and how it is served.
 
 use crate::log::Logged;
-use connection::{CallReport, Ending, Gate, Served, serve_connection};
+use connection::{CallReport, Ending, Gate, Served, serve_undrained};
 use device::Marked;
 use h2frame::StreamId;
 use handlers::Methods;
@@ -109,7 +109,7 @@ where
         link,
         logged: again(logged)?,
     });
-    let Served { ending, calls, .. } = serve_connection(
+    let Served { ending, calls, .. } = serve_undrained(
         rt, alloc, &mut input, output, methods, gate,
     );
     Ok(Ended { ending, calls })

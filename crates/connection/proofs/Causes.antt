@@ -28,8 +28,8 @@ use Rattle.session.specs.declared.event.Control.TheVariants as controls
 use Rattle.session.specs.declared.event.InEvent.{InEvent}
 use Rattle.session.specs.declared.event.InEvent.TheVariants as events
 use Rattle.slots.specs.Calls.{is_admitted}
-use Rattle.slots.specs.Orders.{begun, came, came_loose, cut_code, greatest, is_fed, last_stream, news_of, opened, orders_at, orders_by, refused_head, untaken, without_head}
-use Rattle.slots.specs.Steps.{Fate, Plain, Admitted, Unserved, NoWorker, Stopped, Unknown, TurnedAway, Received, Missed, Lacking, Cause, AtEnd, NotLive, Step, Told, CutOff, WasTold, admitted, admitted_by, events_of, once}
+use Rattle.slots.specs.Orders.{begun, came, came_loose, cut_code, is_fed, last_stream, named, named_with, news_of, opened, orders_at, orders_by, refused_head, untaken, without_head}
+use Rattle.slots.specs.Steps.{Fate, Plain, Admitted, Unserved, NoWorker, Stopped, Unknown, TurnedAway, Received, Missed, Lacking, Cause, AtEnd, NotLive, Step, Told, CutOff, Drains, is_draining, WasTold, admitted, admitted_by, events_of, once}
 use Rattle.slotwriter.specs.Orders.{IsAmong, Obeys}
 use Rattle.connection.specs.Causes.{HasCauseOf, HasOwnCause, HasResetCause, IsRefusal, IsRefusedWith, WasHeard, WasTaken, WasWritten}
 use Rattle.connection.specs.Heard.{HasPut}
@@ -74,6 +74,7 @@ pub told-more : (step : Step) (event : InEvent) (told : List Step) → WasTold e
 told-more (Told other fate) event told was =
     (was.0, was.1 ++ other ∷ [], ap (λ (es : List InEvent). es ++ other ∷ []) was.2 ∙ append_assoc was.0 (event ∷ was.1) (other ∷ []))
 told-more (CutOff id why) event told was = was
+told-more Drains event told was = was
 
 pub told-now : (event : InEvent) (fate : Fate) (before : List Step) → WasTold event (Told event fate ∷ before)
 told-now event fate before = (events_of before, [], refl)
@@ -146,8 +147,9 @@ one-more step told order is =
 
 -- ---- of a step
 
-last-caused : (told : List Step) (id : ℕ) (before : List ℕ) → AreCaused told (last_stream id before)
-last-caused told id before = by (length before == 4095)
+last-caused : (told : List Step) (id : ℕ) (draining : Bool) (before : List ℕ) → AreCaused told (last_stream id draining before)
+last-caused told id true before = tt
+last-caused told id false before = by (length before == 4095)
   where
     by : (b : Bool) → AreCaused told (if b then Goaway id error.NoError ∷ [] else [])
     by true = (tt, tt)
@@ -230,19 +232,22 @@ cut-caused id why before false is = tt
 
 at-caused : (before : List Step) (step : Step) → AreCaused (step ∷ before) (orders_at before step)
 at-caused before (Told (events.Open id head) fate) =
-    each-append _ (last_stream id (begun before)) (opened (greatest (id ∷ begun before)) id fate)
-    (last-caused (Told (events.Open id head) fate ∷ before) id (begun before)) (opened-caused (greatest (id ∷ begun before)) id head fate before)
+    let last = named_with id (is_draining before) (named before) in
+    each-append _ (last_stream id (is_draining before) (begun before)) (opened last id fate)
+    (last-caused (Told (events.Open id head) fate ∷ before) id (is_draining before) (begun before)) (opened-caused last id head fate before)
 at-caused before (Told (events.BadHead id fault) fate) =
-    each-append _ (last_stream id (begun before)) (refused_head (greatest (id ∷ begun before)) id fault fate)
-    (last-caused (Told (events.BadHead id fault) fate ∷ before) id (begun before)) (refused-caused (greatest (id ∷ begun before)) id fault fate before)
-at-caused before (Told (events.Data id piece counted) fate) = came-caused (greatest (begun before)) id piece counted fate before
-at-caused before (Told (events.Loose counted) fate) = loose-caused (Told (events.Loose counted) fate ∷ before) (greatest (begun before)) fate
+    let last = named_with id (is_draining before) (named before) in
+    each-append _ (last_stream id (is_draining before) (begun before)) (refused_head last id fault fate)
+    (last-caused (Told (events.BadHead id fault) fate ∷ before) id (is_draining before) (begun before)) (refused-caused last id fault fate before)
+at-caused before (Told (events.Data id piece counted) fate) = came-caused (named before) id piece counted fate before
+at-caused before (Told (events.Loose counted) fate) = loose-caused (Told (events.Loose counted) fate ∷ before) (named before) fate
 at-caused before (Told (events.Reset id code) fate) = (tt, tt)
 at-caused before (Told (events.StreamError id code) fate) = (inl (told-now (events.StreamError id code) fate before), tt)
 at-caused before (Told (events.Control control) fate) = news-caused (Told (events.Control control) fate ∷ before) control
 at-caused before (Told (events.Fatal code) fate) = (tt, tt)
 at-caused before (Told (events.End id) fate) = tt
 at-caused before (Told events.PeerGoaway fate) = tt
+at-caused before Drains = (tt, tt)
 at-caused before (CutOff id why) = cut-caused id why before (is_fed id before) refl
 
 -- ---- of all steps
@@ -276,6 +281,8 @@ module _ (told : List Step) (put : List Order) (run : List RunStep) where
     answers = λ last id order before later is concerns blames. own-answer last id (inr (record { order = order; before = before; later = later; taken = is; concerns = concerns; blames = blames }));
     leaves = λ id front rest parts opens input. inr (record { front = front; rest = rest; parts = parts; opens = opens; input = input });
     gives_up = λ last. tt;
+    warns = tt;
+    probes = tt;
     closes = tt;
   }
 

@@ -33,7 +33,7 @@ use Rattle.session.proofs.OpeningOrder.{events_rise}
 use Rattle.slots.specs.Calls.{is_admitted}
 use Rattle.slots.specs.Orders.{IsDue, is_fed, orders_by}
 use Rattle.slots.specs.Reports.{AreHeard}
-use Rattle.slots.specs.Steps.{AtEnd, Fate, IsRising, Missed, Received, Step, Told, CutOff, TurnedAway, admitted, admitted_by, data_at, earlier, events_of, fed_by, last_of, lost, once, reported, reported_by, shut_at, shut_by, since, unless}
+use Rattle.slots.specs.Steps.{AtEnd, Fate, IsRising, Missed, Received, Step, Told, CutOff, Drains, TurnedAway, admitted, admitted_by, data_at, earlier, events_of, fed_by, last_of, lost, once, reported, reported_by, shut_at, shut_by, since, unless}
 use Rattle.slots.proofs.EndLemmas.{fed-front, quiet-open}
 use Rattle.slots.proofs.HalfLemmas.{same_number}
 use Rattle.slots.proofs.LawLemmas.{pieces-push}
@@ -131,6 +131,13 @@ short-step id (Told event fate) before short =
     )
 short-step id (CutOff other why) before short =
     let found = shut_by id (CutOff other why ∷ before) in
+    omega (arith, short, length-append (fed_by id before) (unless found []), none found)
+  where
+    none : (found : Option Shut) → length (unless found []) ≡ 0
+    none None = refl
+    none (Some kind) = refl
+short-step id Drains before short =
+    let found = shut_by id (Drains ∷ before) in
     omega (arith, short, length-append (fed_by id before) (unless found []), none found)
   where
     none : (found : Option Shut) → length (unless found []) ≡ 0

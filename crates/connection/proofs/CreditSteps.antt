@@ -1,5 +1,5 @@
 -- What is told on the connection is at most what was heard.
-use Rattle.std.proofs.Common.{◌≡◌, ◌++◌, ◌≤◌, ap, arith, ℕ, Bool, List, Option}
+use Rattle.std.proofs.Common.{◌≤◌, ap, arith, ℕ, Bool, List, Option}
 use Rattle.std.proofs.lemmas.List.Sums.{sum_by-append}
 use Rattle.callslot.specs.declared.report.Ending.{Ending}
 use Rattle.h2frame.specs.FrameList.{Entry}
@@ -17,8 +17,8 @@ use Rattle.slots.specs.Steps.{Step, events_of}
 use Rattle.slotwriter.specs.Written.{HasWritten}
 
 -- what was written tells no more than was granted
-pub told-within : {W : Type 0} (contents : W → Option (List ℕ)) (failed : W → Bool) (before : Option (List ℕ)) (credit : ℕ) (orders : List Order) (ending : Option Ending) (device : W) (bound : ℕ)
-    → (written : HasWritten contents failed before credit orders ending device) → credit ≤ bound → updated 0 written.run ≤ bound
+pub told-within : {W : Type 0} {faultless : Bool} (contents : W → Option (List ℕ)) (failed : W → Bool) (before : Option (List ℕ)) (credit : ℕ) (orders : List Order) (ending : Option Ending) (device : W) (bound : ℕ)
+    → (written : HasWritten contents failed before credit orders ending faultless device) → credit ≤ bound → updated 0 written.run ≤ bound
 told-within contents failed before credit orders ending device bound written within =
     omega (arith, no-more-than-granted 0 written.run written.lawful, written.credited, within)
 

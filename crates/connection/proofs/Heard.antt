@@ -1,5 +1,5 @@
 -- What the reading thread has heard, one after another.
-use Rattle.std.proofs.Common.{◌≡◌, ◌≢◌, ◌∙◌, ◌⊎◌, ◌+◌, ◌≤◌, arith, inl, inr, ℕ, Bool, true, false, true≢false, List, [], ◌∷◌, ◌++◌, Option, None, Some, ap, append-nil, refl, subst, sym, map, take}
+use Rattle.std.proofs.Common.{◌≡◌, ◌≢◌, ◌∙◌, ◌⊎◌, ◌≤◌, inl, inr, ℕ, Bool, true, false, true≢false, List, [], ◌∷◌, ◌++◌, Option, None, Some, ap, append-nil, refl, subst, sym, map, take}
 use Rattle.std.proofs.lemmas.List.{append_assoc, map-append}
 use Rattle.std.specs.Io.KnownBytes.{Consumes, Keeps, ReadConsumes}
 use Rattle.std.specs.Prelude.{IfSome, Result, Ok, Err, is_some}
@@ -7,7 +7,7 @@ use mathlib.Core.List.{IsPrefix}
 use Rattle.callhead.specs.declared.head.CallHead.{CallHead}
 use Rattle.callslot.specs.declared.order.Opened.{Opened}
 use Rattle.callslot.specs.declared.report.Ending.{Ending}
-use Rattle.callslot.specs.declared.report.Ending.TheVariants.{InputEnded, PeerGoaway, ProtocolError, ReadFailed, OutOfMemory}
+use Rattle.callslot.specs.declared.report.Ending.TheVariants.{Drained, InputEnded, PeerGoaway, ProtocolError, ReadFailed, OutOfMemory}
 use Rattle.h2frame.specs.declared.error_code.ErrorCode.{ErrorCode}
 use Rattle.outwriter.specs.declared.control.Control.{Control}
 use Rattle.outwriter.specs.declared.control.Control.TheVariants as orders
@@ -26,9 +26,9 @@ use Rattle.slots.specs.declared.reading.Reading.{Reading}
 use Rattle.slots.specs.declared.worker.Worker.{Ghosts as Hands}
 use Rattle.slots.specs.Lines.{Aligns, AreNew, IsNewTo, SlotCalls, calls_from, calls_of, calls_step, raw_in}
 use Rattle.slots.specs.Orders.{ends_at, orders_at, orders_by}
-use Rattle.slots.specs.Readings.{Awaits, Decides, DecidesOn, Reads, ReadsOn, Stands, Stays, orders_in}
+use Rattle.slots.specs.Readings.{Awaits, Decides, DecidesOn, Reads, ReadsOn, Stands, Stays}
 use Rattle.slots.specs.Reports.{AreCalm, AreHeard, IsFront, is_heard_out}
-use Rattle.slots.specs.Steps.{Cause, CutOff, Fate, Step, Told, WasTold, events_of}
+use Rattle.slots.specs.Steps.{Cause, CutOff, Drains, Fate, Step, Told, WasTold, events_of, is_draining}
 use Rattle.slots.proofs.LetGo.{events-append}
 use Rattle.slots.proofs.Lines.{calls-append}
 use Rattle.slots.proofs.Opens.{opens-new}
@@ -37,7 +37,7 @@ use Rattle.lane.specs.Ring.{put_in}
 use Rattle.connection.specs.declared.orders.Orders.{Orders}
 use Rattle.connection.specs.declared.orders.Outbox.{Outbox}
 use Rattle.connection.specs.declared.orders.Route.{Ghosts}
-use Rattle.connection.specs.Heard.{Acts, Cuts, CutsSome, HasPut, HasRead, IsEndedBy, KeptFor, ReadsTo, ReadsWith, Tells}
+use Rattle.connection.specs.Heard.{Acts, CutsSome, HasPut, HasRead, IsEndedBy, KeptFor, ReadsTo, ReadsWith}
 use Rattle.connection.specs.Limits.{AreGoing, AreJustified, Covers, IsJustified, Tally}
 use Rattle.connection.specs.Sent.{Lined, LinedTo}
 use Rattle.connection.proofs.Lines.{new-append, new-parts}
@@ -159,13 +159,18 @@ ended-at step None is = tt
 ended-at step (Some ending) is = inl is
 
 -- the input ended
-pub not-by-error : (end : Ending) → (end ≡ InputEnded) ⊎ (end ≡ PeerGoaway) → (code : ErrorCode) → end ≢ ProtocolError code
-not-by-error end (inl is) code other = cc
-not-by-error end (inr is) code other = cc
+abbrev pub EndsInput : Ending → Type 0
+EndsInput end = (end ≡ InputEnded) ⊎ ((end ≡ PeerGoaway) ⊎ (end ≡ Drained))
 
-pub not-by-fault : (end : Ending) → (end ≡ InputEnded) ⊎ (end ≡ PeerGoaway) → end ≢ ReadFailed
+pub not-by-error : (end : Ending) → EndsInput end → (code : ErrorCode) → end ≢ ProtocolError code
+not-by-error end (inl is) code other = cc
+not-by-error end (inr (inl is)) code other = cc
+not-by-error end (inr (inr is)) code other = cc
+
+pub not-by-fault : (end : Ending) → EndsInput end → end ≢ ReadFailed
 not-by-fault end (inl is) other = cc
-not-by-fault end (inr is) other = cc
+not-by-fault end (inr (inl is)) other = cc
+not-by-fault end (inr (inr is)) other = cc
 
 -- ---- the slots' calls, by what was ordered
 
@@ -281,6 +286,15 @@ module _ {H : Type 0} {hand : Hands H} {A B C N : Type 0} {route : Ghosts N} {na
       let fresh = opens-new names told (CutOff id why) decided reading.slots reads.slots done.0.slots.rising decision.orders in
       (CutOff id why ∷ [], record { silent = refl; calm = (refl, tt); going = going; reads = done.0; ordered = done.1; lined = λ lined. acts.1 (calls_of reading.slots) aligns fresh lined })
 
+  -- the server drains
+  pub cuts-drain : (decided : Decided) (one two three : Reading H hand) (old new : Orders A B C N route) → DecidesOn names Drains decided one two → Aligns decided one two → Acts names decided two old three new
+      → CutsSome names false one old three new
+  cuts-drain decided one two three old new decides aligns acts told reads =
+      let decision = decides told reads in
+      let done = acts.0 told Drains decision in
+      let fresh = opens-new names told Drains decided one.slots reads.slots done.0.slots.rising decision.orders in
+      (Drains ∷ [], record { silent = refl; calm = (refl, tt); going = λ is. tt; reads = done.0; ordered = done.1; lined = λ lined. acts.1 (calls_of one.slots) aligns fresh lined })
+
   pub cuts-same : (ended : Bool) (reading new_reading : Reading H hand) (old new : Orders A B C N route) → Stays names reading new_reading → calls_of new_reading.slots ≡ calls_of reading.slots → IsSame old new
       → CutsSome names ended reading old new_reading new
   cuts-same ended reading new_reading old new stays calls same told reads = (
@@ -294,6 +308,11 @@ module _ {H : Type 0} {hand : Hands H} {A B C N : Type 0} {route : Ghosts N} {na
       lined = λ lined. subst (λ (slots : List SlotCalls). Lined slots new) (sym calls) (lined-same (calls_of reading.slots) old new same lined);
     },
   )
+
+  -- orders by another name
+  pub cuts-same-orders : {ended : Bool} (one two : Reading H hand) (old mid new : Orders A B C N route) → IsSame mid new → CutsSome names ended one old two mid → CutsSome names ended one old two new
+  cuts-same-orders {ended} one two old mid new same cuts =
+      cuts-then ended one two two old mid new cuts (cuts-same ended two two mid new (λ told reads. reads) refl same)
 
   -- ---- events
 
@@ -486,11 +505,29 @@ module _ {H : Type 0} {hand : Hands H} {A B C N : Type 0} {route : Ghosts N} {na
 
   -- ---- bytes
 
+  -- steps of which no event tells came behind
+  pub kept-behind : (tally : Tally) (told : List Step) (one two : Reading H hand) (old new : Orders A B C N route) → CutsSome names false one old two new → KeptFor names told one old → Covers told tally
+      → AreCalm told → (more : List Step) × (events_of (more ++ told) ≡ events_of told) × AreCalm (more ++ told) × KeptFor names (more ++ told) two new × Covers (more ++ told) tally
+  kept-behind tally told one two old new cuts kept covers calm =
+      let a = cuts told kept.reads in (
+        a.0,
+        silent-more a.0 told a.1.silent,
+        calm-more a.0 told a.1.calm calm,
+        record {
+          reads = a.1.reads;
+          ordered = a.1.ordered kept.ordered;
+          lined = a.1.lined kept.lined;
+          justified = cuts-justified a.0 told a.1.silent kept.justified;
+          going = going-more a.0 told (a.1.going refl) kept.going;
+        },
+        covers-more tally a.0 told covers,
+      )
+
   -- all events of these bytes were heard
   pub all-read : (end : Ending) (before : List InEvent) (told : List Step) (bytes given : List ℕ) (core : Core) (reading : Reading H hand) (orders : Orders A B C N route) → given ≡ bytes → Reached bytes before core
-      → events_of told ≡ before → AreCalm told → KeptFor names told reading orders → (end ≡ PeerGoaway → WasTold events.PeerGoaway told) → ((code : ErrorCode) → end ≢ ProtocolError code)
+      → events_of told ≡ before → AreCalm told → KeptFor names told reading orders → (end ≡ PeerGoaway → WasTold events.PeerGoaway told) → (end ≡ Drained → is_draining told ≡ true) → ((code : ErrorCode) → end ≢ ProtocolError code)
       → HasRead names end given told reading orders
-  all-read end before told bytes given core reading orders same reached is calm kept goaway unfailed = record {
+  all-read end before told bytes given core reading orders same reached is calm kept goaway drained unfailed = record {
     reads = kept.reads;
     justified = kept.justified;
     going = kept.going;
@@ -502,20 +539,22 @@ module _ {H : Type 0} {hand : Hands H} {A B C N : Type 0} {route : Ghosts N} {na
     ordered = λ spared. kept.ordered;
     lined = kept.lined;
     goaway = goaway;
+    drained = drained;
     failed = λ code failed. absurd (unfailed code failed);
   }
 
   -- and then the input ended, or could not be read on
   pub input-read : (end : Ending) (before : List InEvent) (told : List Step) (bytes given : List ℕ) (core : Core) (reading : Reading H hand) (orders : Orders A B C N route) → given ≡ bytes → Reached bytes before core
-      → events_of told ≡ before → AreCalm told → KeptFor names told reading orders → (end ≡ InputEnded) ⊎ (end ≡ PeerGoaway)
-      → (end ≡ PeerGoaway → (steps : List Step) → Reads names steps reading → WasTold events.PeerGoaway steps) → HasRead names end given told reading orders
-  input-read end before told bytes given core reading orders same reached is calm kept input goaway =
-      all-read end before told bytes given core reading orders same reached is calm kept (λ gone. goaway gone told kept.reads) (not-by-error end input)
+      → events_of told ≡ before → AreCalm told → KeptFor names told reading orders → EndsInput end
+      → (end ≡ PeerGoaway → (steps : List Step) → Reads names steps reading → WasTold events.PeerGoaway steps)
+      → (end ≡ Drained → (steps : List Step) → Reads names steps reading → is_draining steps ≡ true) → HasRead names end given told reading orders
+  input-read end before told bytes given core reading orders same reached is calm kept input goaway drained =
+      all-read end before told bytes given core reading orders same reached is calm kept (λ gone. goaway gone told kept.reads) (λ drains. drained drains told kept.reads) (not-by-error end input)
 
   pub failed-read : (before : List InEvent) (told : List Step) (bytes given : List ℕ) (core : Core) (reading : Reading H hand) (orders : Orders A B C N route) → given ≡ bytes → Reached bytes before core
       → events_of told ≡ before → AreCalm told → KeptFor names told reading orders → HasRead names ReadFailed given told reading orders
   failed-read before told bytes given core reading orders same reached is calm kept =
-      all-read ReadFailed before told bytes given core reading orders same reached is calm kept (λ gone. cc) (λ code failed. cc)
+      all-read ReadFailed before told bytes given core reading orders same reached is calm kept (λ gone. cc) (λ drains. cc) (λ code failed. cc)
 
   -- some were, and one of them ended the connection
   pub some-read : (tally tally_new : Tally) (end : Ending) (given before : List InEvent) (told : List Step) (bytes : List ℕ) (core : Core) (reading reading_new : Reading H hand) (orders orders_new : Orders A B C N route)
@@ -541,6 +580,7 @@ module _ {H : Type 0} {hand : Hands H} {A B C N : Type 0} {route : Ghosts N} {na
           ordered = λ spared. more.1.kept.ordered;
           lined = more.1.kept.lined;
           goaway = λ gone. absurd (not (ap (λ (e : Ending). is_heard_out e) gone));
+          drained = λ drains. absurd (not (ap (λ (e : Ending). is_heard_out e) drains));
           failed = λ code is_so. subst (λ (e : Ending). IsEndedBy e (more.0 ++ told)) is_so (ended-front end more.0 told more.1.ended);
         },
         more.2.came,
@@ -570,6 +610,7 @@ module _ {H : Type 0} {hand : Hands H} {A B C N : Type 0} {route : Ghosts N} {na
     ordered = λ spared. absurd (spared refl);
     lined = lined;
     goaway = λ gone. absurd cc;
+    drained = λ drains. absurd cc;
     failed = λ code failed. absurd cc;
   }
 

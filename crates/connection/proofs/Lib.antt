@@ -13,3 +13,4 @@ pub mod News
 pub mod Limits
 pub mod Codes
 pub mod Follow
+pub mod Drained

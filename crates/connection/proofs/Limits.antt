@@ -1,5 +1,5 @@
 -- A call is turned away only behind 64 others on lesser streams.
-use Rattle.std.proofs.Common.{◌≡◌, ◌∙◌, ◌⊎◌, inl, inr, ◌+◌, ◌<◌, ◌≤◌, ℕ, List, [], ◌∷◌, ◌++◌, All, ap, arith, length, lt_trans, refl, subst, sym}
+use Rattle.std.proofs.Common.{◌≡◌, ◌∙◌, ◌⊎◌, inl, inr, ◌+◌, ◌<◌, ◌≤◌, ℕ, List, [], ◌∷◌, ◌++◌, All, ap, arith, length, lt_trans, subst, sym}
 use Rattle.std.proofs.lemmas.List.{append_assoc}
 use Rattle.std.proofs.lemmas.List.Elements.{All-cons, All-nil}
 use Rattle.std.proofs.lemmas.Grind.{flat_map-append}
@@ -17,10 +17,10 @@ use Rattle.h2frame.specs.FrameList.{Entry}
 use Rattle.connbook.specs.declared.answers.Receipt.TheVariants.{CallWindow}
 use Rattle.session.specs.Openings.{AreRising, RiseFrom, opening_of, openings}
 use Rattle.session.proofs.OpeningOrder.{events_rise}
-use Rattle.slots.specs.Steps.{Fate, Plain, Admitted, Unserved, Unknown, TurnedAway, Received, Missed, Lacking, AtEnd, Step, Told, CutOff, events_of, once, reported, reported_by}
+use Rattle.slots.specs.Steps.{Fate, Plain, Admitted, Unserved, Unknown, TurnedAway, Received, Missed, Lacking, AtEnd, Step, Told, CutOff, Drains, events_of, is_draining, once, reported, reported_by}
 use Rattle.slots.proofs.LetGo.{events-append}
 use Rattle.connection.specs.Causes.{IsOverWindow, WasCut, WasTurnedAway}
-use Rattle.connection.specs.Limits.{AreJustified, EndsLast, IsJustified, IsOneTooMany, MayTurnAway, WasCutLast}
+use Rattle.connection.specs.Limits.{AreJustified, EndsLast, IsJustified, IsOneTooMany, MayTurnAway, WasCutLast, WasDrained}
 use Rattle.connection.proofs.Tallies.{came-more, came-with, cut-last, more-came}
 use Rattle.connection.proofs.RunOrders.{Each, each-append, each-back, each-front}
 
@@ -70,6 +70,7 @@ one-began P (events.Fatal code) fate all = tt
 pub all-began : (P : ℕ → Type 0) (told : List Step) → Each P (openings (events_of told)) → Each P (reported told)
 all-began P [] all = tt
 all-began P (CutOff id why ∷ before) all = each-append P (reported before) [] (all-began P before all) tt
+all-began P (Drains ∷ before) all = each-append P (reported before) [] (all-began P before all) tt
 all-began P (Told event fate ∷ before) all =
     let parts = subst (λ (ids : List ℕ). Each P ids) (flat_map-append opening_of (events_of before) (event ∷ [])) all in
     each-append P (reported before) (once (reported_by (Told event fate)))
@@ -94,25 +95,25 @@ lesser-at came all told later id head fate before are is front =
     subst (λ (ids : List ℕ). AreRising ids) (ap openings (parts-at all told later id head fate before is front) ∙ flat_map-append opening_of (events_of before) (events.Open id head ∷ more)) (events_rise came all are) in
     all-of _ (reported before) (all-began _ before (all-below (openings (events_of before)) id (openings more) rise))
 
-pub one-too-many : (came : List ℕ) (all : List InEvent) (told : List Step) (id : ℕ) → Events came all → IsPrefix (events_of told) all → AreJustified told → WasTurnedAway id told → IsOneTooMany id told
+pub one-too-many : (came : List ℕ) (all : List InEvent) (told : List Step) (id : ℕ) → Events came all → IsPrefix (events_of told) all → AreJustified told → WasTurnedAway id told → IsOneTooMany id told ⊎ WasDrained id told
 one-too-many came all told id are front just was = by was.refuses
   where
     of : (fault : AdmitFault) → was.fault ≡ fault → told ≡ was.heard.0 ++ Told (events.Open id was.head) (TurnedAway fault) ∷ was.before
     of fault is = was.heard.1 ∙ ap (λ (f : AdmitFault). was.heard.0 ++ Told (events.Open id was.head) (TurnedAway f) ∷ was.before) is
 
-    may : (fault : AdmitFault) → was.fault ≡ fault → MayTurnAway (length (reported was.before)) fault
+    may : (fault : AdmitFault) → was.fault ≡ fault → MayTurnAway (length (reported was.before)) (is_draining was.before) fault
     may fault is = justified-at was.heard.0 (Told (events.Open id was.head) (TurnedAway fault)) was.before (subst (λ (steps : List Step). AreJustified steps) (of fault is) just)
 
-    by : (was.fault ≡ refused.TooMany) ⊎ (was.fault ≡ refused.Draining) → IsOneTooMany id told
-    by (inl is) = record {
+    by : (was.fault ≡ refused.TooMany) ⊎ (was.fault ≡ refused.Draining) → IsOneTooMany id told ⊎ WasDrained id told
+    by (inl is) = inl (record {
       head = was.head;
       before = was.before;
       later = was.heard.0;
       parts = of refused.TooMany is;
       many = may refused.TooMany is;
       lesser = lesser-at came all told was.heard.0 id was.head (TurnedAway was.fault) was.before are was.heard.1 front;
-    }
-    by (inr is) = absurd (may refused.Draining is)
+    })
+    by (inr is) = inr (record { head = was.head; before = was.before; later = was.heard.0; parts = of refused.Draining is; draining = may refused.Draining is })
 
 -- ---- bytes past a window
 

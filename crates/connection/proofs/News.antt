@@ -1,6 +1,6 @@
 -- What the peer tells the side that writes goes on to it in its order, and is acknowledged so.
-use Rattle.std.proofs.Common.{◌≡◌, ◌∙◌, ◌⊎◌, inl, inr, ℕ, Bool, true, false, List, [], ◌∷◌, ◌++◌, Option, None, Some, ap, append-nil, filter, flat_map, refl, subst, sym}
-use Rattle.std.specs.Prelude.{◌==◌, if◌then◌else◌, length}
+use Rattle.std.proofs.Common.{◌≡◌, ◌∙◌, ◌⊎◌, inl, inr, ℕ, Bool, true, false, List, [], ◌∷◌, ◌++◌, Option, None, Some, ap, append-nil, filter, refl, sym}
+use Rattle.std.specs.Prelude.{◌==◌, if◌then◌else◌, length, not}
 use Rattle.std.specs.List.{list_any}
 use Rattle.std.proofs.lemmas.List.{append_assoc}
 use Rattle.std.proofs.lemmas.List.Elements.{filter-append}
@@ -19,7 +19,7 @@ use Rattle.lists.specs.declared.field.Field.{Field}
 use Rattle.outwriter.specs.declared.control.Control.TheVariants.{Settings, Ping, Probe, Window, Open, Refuse, Reset, Goaway, InputEnded, Close}
 use Rattle.outwriter.specs.Frames.{is_last}
 use Rattle.outwriter.specs.RunState.{IsAnswered}
-use Rattle.outwriter.specs.Runs.{IsLawful, due, due_by, has_begun, is_goaway, told_by, without_goaway}
+use Rattle.outwriter.specs.Runs.{IsLawful, due, due_by, has_begun, told_by, without_goaway}
 use Rattle.outwriter.specs.Runs.{told as duties_told}
 use Rattle.outwriter.specs.Steps.{Order, Taken, Granted, Written, Returned, frames_of}
 use Rattle.outwriter.specs.Steps.{Step as RunStep}
@@ -27,19 +27,20 @@ use Rattle.session.specs.declared.event.Control.{Control}
 use Rattle.session.specs.declared.event.Control.TheVariants as controls
 use Rattle.session.specs.declared.event.InEvent.{InEvent}
 use Rattle.session.specs.declared.event.InEvent.TheVariants as events
-use Rattle.slots.specs.Orders.{begun, came, came_loose, cut_code, greatest, is_fed, last_stream, news_of, opened, orders_at, orders_by, refused_head, untaken, without_head}
-use Rattle.slots.specs.Steps.{Fate, Plain, Admitted, Unserved, NoWorker, Stopped, Unknown, TurnedAway, Received, Missed, Lacking, Step, Told, CutOff, events_of}
-use Rattle.slotwriter.specs.Orders.{AreLast, HasParted, HasTaken, IsAmong, IsAnswer, Obeys, ResetsCall}
+use Rattle.slots.specs.Orders.{begun, came, came_loose, cut_code, is_fed, last_stream, named, named_with, news_of, opened, orders_at, orders_by, refused_head, untaken, without_head}
+use Rattle.slots.specs.Steps.{Fate, Plain, Admitted, Unserved, NoWorker, Stopped, Unknown, TurnedAway, Received, Missed, Lacking, Step, Told, CutOff, Drains, events_of, is_draining}
+use Rattle.slotwriter.specs.Orders.{AreLast, HasParted, HasTaken, IsAmong, IsAnswer, Obeys, ResetsCall, Warns}
 use Rattle.connection.specs.Heard.{HasPut}
-use Rattle.connection.specs.News.{answer_to, answers_to, is_news, news_at, news_in, news_told, taken_by}
+use Rattle.connection.specs.News.{acknowledgements, answer_to, answers_to, is_news, is_probe, news_at, news_in, news_told, taken_by}
 
 news-append : (first more : List Order) → news_in (first ++ more) ≡ news_in first ++ news_in more
 news-append first more = filter-append is_news first more
 
 -- ---- the order of a step
 
-last-news : (id : ℕ) (before : List ℕ) → news_in (last_stream id before) ≡ []
-last-news id before = by (length before == 4095)
+last-news : (id : ℕ) (draining : Bool) (before : List ℕ) → news_in (last_stream id draining before) ≡ []
+last-news id true before = refl
+last-news id false before = by (length before == 4095)
   where
     by : (b : Bool) → news_in (if b then Goaway id error.NoError ∷ [] else []) ≡ []
     by true = refl
@@ -118,11 +119,13 @@ both-none first more one other = news-append first more ∙ (ap (λ (os : List O
 
 event-news : (before : List Step) (event : InEvent) (fate : Fate) → news_in (orders_at before (Told event fate)) ≡ news_at event
 event-news before (events.Open id head) fate =
-    both-none (last_stream id (begun before)) (opened (greatest (id ∷ begun before)) id fate) (last-news id (begun before)) (opened-news (greatest (id ∷ begun before)) id fate)
+    let last = named_with id (is_draining before) (named before) in
+    both-none (last_stream id (is_draining before) (begun before)) (opened last id fate) (last-news id (is_draining before) (begun before)) (opened-news last id fate)
 event-news before (events.BadHead id fault) fate =
-    both-none (last_stream id (begun before)) (refused_head (greatest (id ∷ begun before)) id fault fate) (last-news id (begun before)) (refused-news (greatest (id ∷ begun before)) id fault fate)
-event-news before (events.Data id piece counted) fate = came-news (greatest (begun before)) id piece (is_fed id before) fate
-event-news before (events.Loose counted) fate = loose-news (greatest (begun before)) fate
+    let last = named_with id (is_draining before) (named before) in
+    both-none (last_stream id (is_draining before) (begun before)) (refused_head last id fault fate) (last-news id (is_draining before) (begun before)) (refused-news last id fault fate)
+event-news before (events.Data id piece counted) fate = came-news (named before) id piece (is_fed id before) fate
+event-news before (events.Loose counted) fate = loose-news (named before) fate
 event-news before (events.Reset id code) fate = refl
 event-news before (events.StreamError id code) fate = refl
 event-news before (events.Control control) fate = control-news control
@@ -139,6 +142,8 @@ orders-news (Told event fate ∷ before) =
     ∙ (ap (λ (os : List Order). os ++ news_in (orders_at before (Told event fate))) (orders-news before)
     ∙ (ap (λ (os : List Order). news_told (events_of before) ++ os) (event-news before event fate ∙ sym (append-nil (news_at event)))
     ∙ sym (flat_map-append news_at (events_of before) (event ∷ []))))
+orders-news (Drains ∷ before) =
+    news-append (orders_by before) (orders_at before Drains) ∙ (append-nil (news_in (orders_by before)) ∙ orders-news before)
 orders-news (CutOff id why ∷ before) =
     news-append (orders_by before) (orders_at before (CutOff id why))
     ∙ (ap (λ (os : List Order). news_in (orders_by before) ++ os) (cut-news id (cut_code why) (is_fed id before))
@@ -159,8 +164,10 @@ answer-silent last id = by (id == 0)
     by true = refl
     by false = refl
 
-own-silent : (order : Order) (before : List RunStep) (orders : List Order) → IsAnswer order before ⊎ ResetsCall order orders → news_in (order ∷ []) ≡ []
-own-silent order before orders (inr left) = ap (λ (o : Order). news_in (o ∷ [])) left.1
+own-silent : (order : Order) (before : List RunStep) (orders : List Order) → IsAnswer order before ⊎ (ResetsCall order orders ⊎ Warns order before) → news_in (order ∷ []) ≡ []
+own-silent order before orders (inr (inl left)) = ap (λ (o : Order). news_in (o ∷ [])) left.1
+own-silent order before orders (inr (inr (inl warns))) = ap (λ (o : Order). news_in (o ∷ [])) warns.0
+own-silent order before orders (inr (inr (inr warns))) = ap (λ (o : Order). news_in (o ∷ [])) warns.0
 own-silent order [] orders (inl answer) = absurd answer
 own-silent order (Taken blamed ∷ before) orders (inl answer) = ap (λ (o : Order). news_in (o ∷ [])) answer.2 ∙ answer-silent answer.0 answer.1
 own-silent order (Granted id n ∷ before) orders (inl answer) = absurd answer
@@ -219,10 +226,18 @@ all-news told put run is obeys =
 
 -- ---- acknowledgements
 
-without-append : (first more : List Frame) → without_goaway (first ++ more) ≡ without_goaway first ++ without_goaway more
-without-append first more = filter-append _ first more
+acks-append : (first more : List Frame) → acknowledgements (first ++ more) ≡ acknowledgements first ++ acknowledgements more
+acks-append first more =
+    ap (λ (fs : List Frame). filter (λ frame. not (is_probe frame)) fs) (filter-append _ first more)
+    ∙ filter-append _ (without_goaway first) (without_goaway more)
 
-one-due : (order : Order) → without_goaway (due_by order) ≡ answers_to (news_in (order ∷ []))
+acks-begin : (front all : List Frame) → Begins (without_goaway front) (without_goaway all) → Begins (acknowledgements front) (acknowledgements all)
+acks-begin front all (rest, is) = (
+  filter (λ frame. not (is_probe frame)) rest,
+  ap (λ (fs : List Frame). filter (λ frame. not (is_probe frame)) fs) is ∙ filter-append _ (without_goaway front) rest,
+)
+
+one-due : (order : Order) → acknowledgements (due_by order) ≡ answers_to (news_in (order ∷ []))
 one-due (Settings settings) = refl
 one-due (Ping bytes) = refl
 one-due (Probe bytes) = refl
@@ -237,11 +252,11 @@ one-due Close = refl
 answers-append : (first more : List Order) → answers_to (first ++ more) ≡ answers_to first ++ answers_to more
 answers-append first more = flat_map-append answer_to first more
 
-due-answers : (run : List RunStep) → without_goaway (due run) ≡ answers_to (news_in (taken_by run))
+due-answers : (run : List RunStep) → acknowledgements (due run) ≡ answers_to (news_in (taken_by run))
 due-answers [] = refl
 due-answers (Taken order ∷ before) =
-    without-append (due before) (due_by order)
-    ∙ (ap (λ (fs : List Frame). fs ++ without_goaway (due_by order)) (due-answers before)
+    acks-append (due before) (due_by order)
+    ∙ (ap (λ (fs : List Frame). fs ++ acknowledgements (due_by order)) (due-answers before)
     ∙ (ap (λ (fs : List Frame). answers_to (news_in (taken_by before)) ++ fs) (one-due order)
     ∙ (sym (answers-append (news_in (taken_by before)) (news_in (order ∷ [])))
     ∙ sym (ap answers_to (news-append (taken_by before) (order ∷ []))))))
@@ -249,20 +264,20 @@ due-answers (Granted id n ∷ before) = due-answers before
 due-answers (Written frame ∷ before) = due-answers before
 due-answers (Returned id items ∷ before) = due-answers before
 
-told-due : (run : List RunStep) → IsLawful run → Begins (without_goaway (duties_told run)) (without_goaway (due run))
+told-due : (run : List RunStep) → IsLawful run → Begins (acknowledgements (duties_told run)) (acknowledgements (due run))
 told-due [] lawful = ([], refl)
 told-due (Taken order ∷ before) lawful =
     let rest = told-due before lawful in (
-      rest.0 ++ without_goaway (due_by order),
-      without-append (due before) (due_by order)
-          ∙ (ap (λ (fs : List Frame). fs ++ without_goaway (due_by order)) rest.1 ∙ append_assoc (without_goaway (duties_told before)) rest.0 (without_goaway (due_by order))),
+      rest.0 ++ acknowledgements (due_by order),
+      acks-append (due before) (due_by order)
+          ∙ (ap (λ (fs : List Frame). fs ++ acknowledgements (due_by order)) rest.1 ∙ append_assoc (acknowledgements (duties_told before)) rest.0 (acknowledgements (due_by order))),
     )
 told-due (Granted id n ∷ before) lawful = told-due before lawful
 told-due (Returned id items ∷ before) lawful = told-due before lawful
-told-due (Written frame ∷ before) lawful = lawful.1.answers
+told-due (Written frame ∷ before) lawful = acks-begin (duties_told before ++ told_by (has_begun (frames_of before)) frame) (due before) lawful.1.answers
 
 pub some-answers : (told : List Step) (put : List Order) (run : List RunStep) → HasPut (orders_by told ++ InputEnded ∷ []) put → Obeys true put run → IsLawful run
-    → Begins (without_goaway (duties_told run)) (answers_to (news_told (events_of told)))
+    → Begins (acknowledgements (duties_told run)) (answers_to (news_told (events_of told)))
 some-answers told put run has obeys lawful =
     let news = some-news told put run has obeys in
     let written = told-due run lawful in (
@@ -270,10 +285,10 @@ some-answers told put run has obeys lawful =
       ap answers_to (sym news.1)
           ∙ (answers-append (news_in (taken_by run)) news.0
           ∙ (ap (λ (fs : List Frame). fs ++ answers_to news.0) (sym (due-answers run) ∙ written.1)
-          ∙ append_assoc (without_goaway (duties_told run)) written.0 (answers_to news.0))),
+          ∙ append_assoc (acknowledgements (duties_told run)) written.0 (answers_to news.0))),
     )
 
 pub all-answers : (told : List Step) (put : List Order) (run : List RunStep) → put ≡ orders_by told ++ InputEnded ∷ Close ∷ [] → Obeys false put run → IsAnswered run
-    → list_any is_last (frames_of run) ≡ false → without_goaway (duties_told run) ≡ answers_to (news_told (events_of told))
+    → list_any is_last (frames_of run) ≡ false → acknowledgements (duties_told run) ≡ answers_to (news_told (events_of told))
 all-answers told put run is obeys (inl over) going = absurd cc
-all-answers told put run is obeys (inr answered) going = ap without_goaway answered.0 ∙ (due-answers run ∙ ap answers_to (all-news told put run is obeys))
+all-answers told put run is obeys (inr answered) going = ap acknowledgements answered.0 ∙ (due-answers run ∙ ap answers_to (all-news told put run is obeys))

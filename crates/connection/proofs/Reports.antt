@@ -1,12 +1,12 @@
 -- What became of a connection, of what was heard, ordered and written.
 use Rattle.std.proofs.Common.{◌≡◌, ◌≢◌, ◌∙◌, ◌⊎◌, ◌≤◌, arith, inl, inr, ℕ, Bool, true, false, true≢false, List, [], ◌∷◌, ◌++◌, Option, None, Some, ap, append-nil, refl, subst, sym}
-use Rattle.std.specs.Prelude.{All, map}
+use Rattle.std.specs.Prelude.{◌||◌, All, map}
 use Rattle.std.specs.Io.KnownBytes.{Appends}
 use Rattle.std.proofs.lemmas.List.Elements.{All-nil}
 use Rattle.account.specs.declared.call.Account.{Account}
 use Rattle.callslot.specs.declared.report.CallReport.{CallReport}
 use Rattle.callslot.specs.declared.report.Ending.{Ending}
-use Rattle.callslot.specs.declared.report.Ending.TheVariants.{InputEnded, PeerGoaway, ProtocolError, ReadFailed, WriteFailed, OutOfMemory}
+use Rattle.callslot.specs.declared.report.Ending.TheVariants.{Drained, InputEnded, PeerGoaway, ProtocolError, ReadFailed, WriteFailed, OutOfMemory}
 use Rattle.h2frame.specs.declared.error_code.ErrorCode.{ErrorCode}
 use Rattle.h2frame.specs.declared.error_code.ErrorCode.TheVariants.{FlowControlError}
 use Rattle.handlers.specs.declared.step.Step.{Step as Answer}
@@ -20,7 +20,7 @@ use Rattle.slots.specs.declared.reading.Reading.{Reading}
 use Rattle.slots.specs.declared.worker.Worker.{Ghosts as Hands}
 use Rattle.slots.specs.Orders.{IsReset, orders_by}
 use Rattle.slots.specs.Reports.{AreRows, IsAccounted, IsFront, IsReported, IsUnserved, is_heard_out}
-use Rattle.slots.specs.Steps.{Step, events_of, reported}
+use Rattle.slots.specs.Steps.{Step, events_of, is_drain, is_draining, reported}
 use Rattle.slots.proofs.Resets.{calm-more, reset-left, reset-ordered}
 use Rattle.slotwriter.specs.Written.{HasWritten}
 use Rattle.connection.specs.declared.orders.Orders.{Orders}
@@ -31,7 +31,8 @@ use Rattle.connection.specs.Sent.{CarriesWhatWasSent, HaveMet}
 use Rattle.slotwriter.specs.Sent.{SlotSender}
 use Rattle.callslot.specs.Workers.{GivingEnd}
 use Rattle.connection.proofs.Noted.{IsSentRow, all-mapped, as-set, bare-noted, ids-mapped, set_sent}
-use Rattle.connection.specs.Served.{IsServed}
+use Rattle.connection.specs.Served.{IsServed, is_drained}
+use Rattle.connection.proofs.Drained.{has-drained}
 use Rattle.connection.proofs.CreditSteps.{told-within}
 use Rattle.connection.proofs.Heard.{ended-more, silent-more}
 use Rattle.connection.proofs.Tallies.{cuts-justified}
@@ -41,9 +42,38 @@ pub calm-so : (ending : Ending) (P : Type 0) → is_heard_out ending ≡ true �
 calm-so InputEnded P calm so = so (λ is. cc) (λ is. cc) (λ code is. cc)
 calm-so PeerGoaway P calm so = so (λ is. cc) (λ is. cc) (λ code is. cc)
 calm-so ReadFailed P calm so = so (λ is. cc) (λ is. cc) (λ code is. cc)
+calm-so Drained P calm so = so (λ is. cc) (λ is. cc) (λ code is. cc)
 calm-so (ProtocolError code) P calm so = absurd cc
 calm-so WriteFailed P calm so = absurd cc
 calm-so OutOfMemory P calm so = absurd cc
+
+-- ---- the server drained
+
+drained-out : (ending : Ending) → ending ≡ Drained → is_heard_out ending ≡ true
+drained-out ending is = ap (λ (e : Ending). is_heard_out e) is
+
+drained-spared : (ending : Ending) → ending ≡ Drained → Some ending ≢ Some OutOfMemory
+drained-spared ending is lacked = cc
+
+drained-sent : (ending : Ending) → ending ≡ Drained → Some ending ≢ Some WriteFailed
+drained-sent ending is failed = cc
+
+pub drained-is : (ending : Ending) → is_drained ending ≡ true → ending ≡ Drained
+drained-is Drained is = refl
+drained-is InputEnded is = absurd cc
+drained-is PeerGoaway is = absurd cc
+drained-is (ProtocolError code) is = absurd cc
+drained-is ReadFailed is = absurd cc
+drained-is WriteFailed is = absurd cc
+drained-is OutOfMemory is = absurd cc
+
+or-more : (a b : Bool) → b ≡ true → (a || b) ≡ true
+or-more true b is = refl
+or-more false b is = is
+
+draining-more : (more told : List Step) → is_draining told ≡ true → is_draining (more ++ told) ≡ true
+draining-more [] told is = is
+draining-more (step ∷ more) told is = or-more (is_drain step) (is_draining (more ++ told)) (draining-more more told is)
 
 abbrev ending_orders : List Order
 ending_orders = orders.InputEnded ∷ orders.Close ∷ []
@@ -113,7 +143,7 @@ module _ (answers : ℕ → List (List ℕ) → Bool → Answer → Type 0) (nam
       → ((code : ErrorCode) → ending ≡ ProtocolError code → (read ≡ ProtocolError code) ⊎ (code ≡ FlowControlError)) → (ending ≢ OutOfMemory → read ≢ OutOfMemory)
       → (ending ≢ OutOfMemory → ending ≢ WriteFailed → ((code : ErrorCode) → ending ≢ ProtocolError code) → new.has_dropped ≡ false) → (read ≡ ReadFailed → read_failed ≡ true)
       → granted ≤ counted_told (events_of told)
-      → (written : HasWritten contents failed before granted (put_orders new) (Some ending) device)
+      → (written : HasWritten contents failed before granted (put_orders new) (Some ending) (is_drained ending) device)
       → AreRows answers names (CarriesWhatWasSent written.run) (cuts ++ told) (reported (cuts ++ told)) (items calls)
       → IsServed items contents failed answers names came before read_failed ending calls device
   are-served came before granted read_failed read ending told cuts reading old new given calls device has carries ended ends input blamed spared undropped unread within written rows =
@@ -131,6 +161,7 @@ module _ (answers : ℕ → List (List ℕ) → Bool → Answer → Type 0) (nam
         rising = ended.rising;
         calm = λ out. calm-more cuts told ended.calm (has.calm (also out));
         justified = cuts-justified cuts told ended.silent has.justified;
+        closed = ended.closed;
         ended = record { cuts = cuts; heard = told; parts = refl; silent = ended.silent; going = has.going };
         ordered = λ spares. (ends (has.ordered (spared spares))).0;
         whole = whole;
@@ -142,7 +173,14 @@ module _ (answers : ℕ → List (List ℕ) → Bool → Answer → Type 0) (nam
         credit = told-within contents failed before granted (put_orders new) (Some ending) device (counted_told (events_of (cuts ++ told))) written
             (subst (λ (es : List InEvent). granted ≤ counted_told es) (sym is) within);
         rows = rows;
+        drained = λ is.
+            let out = drained-out ending is in
+            has-drained (cuts ++ told) (put_orders new) written.run (calm-more cuts told ended.calm (has.calm (also out))) ended.closed
+            (draining-more cuts told (has.drained (sym (input out) ∙ is))) (whole out)
+            (written.each (drained-spared ending is) (drained-sent ending is)) written.lawful (written.over (drained-spared ending is) (drained-sent ending is)).answered
+            (written.sound (ap is_drained is));
         cause = record {
+          drains = λ is. draining-more cuts told (has.drained (sym (input (drained-out ending is)) ∙ is));
           unsent = λ sent. written.marked (ap Some sent);
           unread = λ fails. unread (sym (input (ap (λ (e : Ending). is_heard_out e) fails)) ∙ fails);
           goaway = λ gone.
@@ -166,7 +204,7 @@ module _ (answers : ℕ → List (List ℕ) → Bool → Answer → Type 0) (nam
 
   -- no memory was there, and nothing was read
   pub none-served : (before : Option (List ℕ)) (granted : ℕ) (read_failed : Bool) (ending : Ending) (put : List Order) (calls : V) (device : W) → ending ≡ OutOfMemory
-      → items calls ≡ [] → granted ≤ 0 → HasWritten contents failed before granted put (Some ending) device
+      → items calls ≡ [] → granted ≤ 0 → HasWritten contents failed before granted put (Some ending) (is_drained ending) device
       → IsServed items contents failed answers names [] before read_failed ending calls device
   none-served before granted read_failed ending put calls device lacked none within written =
       let not : is_heard_out ending ≡ true → ⊥ = λ out. true≢false (sym out ∙ ap (λ (e : Ending). is_heard_out e) lacked) in
@@ -177,6 +215,7 @@ module _ (answers : ℕ → List (List ℕ) → Bool → Answer → Type 0) (nam
         rising = tt;
         calm = λ out. tt;
         justified = tt;
+        closed = tt;
         ended = record { cuts = []; heard = []; parts = refl; silent = refl; going = tt };
         ordered = λ spared. absurd (spared lacked);
         whole = λ out. absurd (not out);
@@ -185,7 +224,8 @@ module _ (answers : ℕ → List (List ℕ) → Bool → Answer → Type 0) (nam
         written = written;
         credit = told-within contents failed before granted put (Some ending) device 0 written within;
         rows = none-rows (CarriesWhatWasSent written.run) calls none;
-        cause = record { unread = λ is. absurd cc; unsent = λ sent. absurd cc; goaway = λ is. absurd cc; failed = λ code is. absurd cc };
+        drained = λ is. absurd (not (drained-out ending is));
+        cause = record { drains = λ is. absurd (not (drained-out ending is)); unread = λ is. absurd cc; unsent = λ sent. absurd cc; goaway = λ is. absurd cc; failed = λ code is. absurd cc };
       }
 
   appends-none : (now : Option (List ℕ)) → Appends now now []
@@ -193,7 +233,7 @@ module _ (answers : ℕ → List (List ℕ) → Bool → Answer → Type 0) (nam
   appends-none (Some bytes) = sym (append-nil bytes)
 
   -- nothing was written either
-  pub none-written : (device : W) (ending : Ending) → ending ≡ OutOfMemory → HasWritten contents failed (contents device) 0 [] (Some ending) device
+  pub none-written : (device : W) (ending : Ending) → ending ≡ OutOfMemory → HasWritten contents failed (contents device) 0 [] (Some ending) (is_drained ending) device
   none-written device ending lacked = record {
     run = [];
     lawful = tt;
@@ -204,7 +244,8 @@ module _ (answers : ℕ → List (List ℕ) → Bool → Answer → Type 0) (nam
     marked = λ sent. absurd cc;
     front = ([], ([], refl), appends-none (contents device));
     all = λ unmarked. appends-none (contents device);
-    over = λ unmarked spared. absurd (spared (ap Some lacked));
+    over = λ spared. absurd (spared (ap Some lacked));
+    sound = λ is. refl;
   }
 
   -- the device is as it was
@@ -212,4 +253,4 @@ module _ (answers : ℕ → List (List ℕ) → Bool → Answer → Type 0) (nam
       → IsServed items contents failed answers names [] (contents old) read_failed ending calls device
   unbegun read_failed ending calls old device lacked same none =
       none-served (contents old) 0 read_failed ending [] calls device lacked none (omega arith)
-      (subst (λ (d : W). HasWritten contents failed (contents d) 0 [] (Some ending) device) same (none-written device ending lacked))
+      (subst (λ (d : W). HasWritten contents failed (contents d) 0 [] (Some ending) (is_drained ending) device) same (none-written device ending lacked))

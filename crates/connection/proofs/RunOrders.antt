@@ -1,15 +1,16 @@
 -- What holds of each order that was put, and of the writer's own, holds of each order that the run took.
-use Rattle.std.proofs.Common.{◌≡◌, ◌∙◌, ◌⊎◌, inl, inr, ℕ, Bool, true, false, List, [], ◌∷◌, ◌++◌, ap, refl, subst, sym}
+use Rattle.std.proofs.Common.{◌≡◌, ◌∙◌, ◌⊎◌, inl, inr, ℕ, true, false, List, [], ◌∷◌, ◌++◌, ap, subst, sym}
 use Rattle.std.proofs.lemmas.List.{append_assoc}
 use Rattle.std.specs.List.{list_any}
 use Rattle.connwriter.specs.Orders.{own_order}
 use Rattle.h2frame.specs.declared.error_code.ErrorCode.TheVariants.{InternalError}
-use Rattle.outwriter.specs.declared.control.Control.TheVariants.{Open, Reset, Goaway, Close}
+use Rattle.outwriter.specs.declared.control.Control.TheVariants.{Probe, Open, Reset, Goaway, Close}
 use Rattle.outwriter.specs.declared.control.OutFault.TheVariants.{PeerWindow}
 use Rattle.outwriter.specs.RunState.{Blames, Concerns}
+use Rattle.outwriter.specs.Drains.{draining, warning}
 use Rattle.outwriter.specs.Steps.{Order, Taken, Granted, Written, Returned}
 use Rattle.outwriter.specs.Steps.{Step as RunStep}
-use Rattle.slotwriter.specs.Orders.{AreLast, HasParted, HasTaken, IsAmong, IsAnswer, Obeys, ResetsCall, ends_input}
+use Rattle.slotwriter.specs.Orders.{AreLast, HasTaken, IsAmong, IsAnswer, Obeys, ResetsCall, Warns, ends_input}
 use Rattle.connection.specs.Causes.{WasTaken}
 use Rattle.connection.specs.Heard.{HasPut}
 
@@ -69,6 +70,8 @@ pub record IsOfOwn (P : Order → Type 0) (put : List Order) (run : List RunStep
   pub answers : (last id : ℕ) (order : Order) (before later : List RunStep) → run ≡ later ++ Taken order ∷ before → Concerns (PeerWindow id) order → Blames (PeerWindow id) order before → P (own_order last id)
   pub leaves : (id : ℕ) (front rest : List Order) → put ≡ front ++ rest → IsAmong (Open id tt) front → list_any ends_input front ≡ false → P (Reset id InternalError true)
   pub gives_up : (last : ℕ) → P (Goaway last InternalError)
+  pub warns : P warning
+  pub probes : P (Probe draining)
   pub closes : P Close
 
 module _ (P : Order → Type 0) (put : List Order) (run : List RunStep) (own : IsOfOwn P put run) where
@@ -83,9 +86,11 @@ module _ (P : Order → Type 0) (put : List Order) (run : List RunStep) (own : I
   answered later (Written frame ∷ before) order is answer = absurd answer
   answered later (Returned id items ∷ before) order is answer = absurd answer
 
-  of-own : (later before : List RunStep) (order : Order) (orders rest : List Order) → run ≡ later ++ Taken order ∷ before → put ≡ orders ++ rest → IsAnswer order before ⊎ ResetsCall order orders → P order
+  of-own : (later before : List RunStep) (order : Order) (orders rest : List Order) → run ≡ later ++ Taken order ∷ before → put ≡ orders ++ rest → IsAnswer order before ⊎ (ResetsCall order orders ⊎ Warns order before) → P order
   of-own later before order orders rest is parts (inl answer) = answered later before order is answer
-  of-own later before order orders rest is parts (inr left) = subst P (sym left.1) (own.leaves left.0 orders rest parts left.2 left.3)
+  of-own later before order orders rest is parts (inr (inl left)) = subst P (sym left.1) (own.leaves left.0 orders rest parts left.2 left.3)
+  of-own later before order orders rest is parts (inr (inr (inl warns))) = subst P (sym warns.0) own.warns
+  of-own later before order orders rest is parts (inr (inr (inr warns))) = subst P (sym warns.0) own.probes
 
   took-each : (later : List RunStep) (orders rest : List Order) (steps : List RunStep) → run ≡ later ++ steps → put ≡ orders ++ rest → Each P orders → HasTaken orders steps → EachTaken P steps
   took-each later orders rest [] is parts all took = tt

@@ -1,7 +1,8 @@
 -- What the reader counts, and what it may refuse by that.
-use Rattle.std.proofs.Common.{◌≡◌, ◌∙◌, ◌+◌, ◌<◌, ◌≤◌, ℕ, List, [], ◌∷◌, ◌++◌, Option, None, Some, ap, arith, length, length-append, le_trans, refl, subst, sym}
-use Rattle.std.specs.List.{sum_by}
+use Rattle.std.proofs.Common.{◌≡◌, ◌+◌, ◌<◌, ◌≤◌, ℕ, Bool, true, false, List, [], ◌∷◌, ◌++◌, Option, None, Some, arith, length, length-append, le_trans, refl, subst, sym}
+use Rattle.std.specs.Prelude.{IfErr, Result, Ok, Err}
 use Rattle.std.proofs.lemmas.List.Sums.{sum_by-append}
+use Rattle.callhead.specs.declared.head.CallHead.{CallHead}
 use Rattle.callslot.specs.declared.order.Opened.{Opened}
 use Rattle.callslot.specs.declared.report.Ending.{Ending}
 use Rattle.connbook.specs.declared.answers.AdmitFault.{AdmitFault}
@@ -13,8 +14,8 @@ use Rattle.outwriter.specs.declared.control.Control.{Control}
 use Rattle.session.specs.declared.event.InEvent.{InEvent}
 use Rattle.session.specs.declared.event.InEvent.TheVariants as events
 use Rattle.session.specs.FlowBytes.{counted_by, counted_told}
-use Rattle.slots.specs.Readings.{MayMiss, fate_of, unless_ended}
-use Rattle.slots.specs.Steps.{AtEnd, NotLive, CutOff, Fate, Step, Told, events_of, once, reported, reported_by}
+use Rattle.slots.specs.Readings.{MayMiss, fate_of, refused_by, unless_ended}
+use Rattle.slots.specs.Steps.{AtEnd, NotLive, CutOff, Drains, Fate, Step, Told, events_of, is_draining, once, reported, reported_by}
 use Rattle.connection.specs.Limits.{AreGoing, AreJustified, Covers, IsJustified, MayRefuse, MayTurnAway, Tally, one_more}
 
 zero-least : (n : ℕ) → 0 ≤ n
@@ -38,6 +39,7 @@ pub came-more : (more told : List Step) → counted_told (events_of told) ≤ co
 came-more [] told = omega arith
 came-more (Told event fate ∷ more) told = le_trans (came-more more told) (more-came (events_of (more ++ told)) (event ∷ []))
 came-more (CutOff id why ∷ more) told = came-more more told
+came-more (Drains ∷ more) told = came-more more told
 
 calls-more : (more told : List Step) → length (reported told) ≤ length (reported (more ++ told))
 calls-more [] told = omega arith
@@ -84,6 +86,7 @@ not-nil (first ∷ given) event is = cc
 pub cuts-justified : (cuts told : List Step) → events_of cuts ≡ [] → AreJustified told → AreJustified (cuts ++ told)
 cuts-justified [] told silent all = all
 cuts-justified (CutOff id why ∷ cuts) told silent all = (tt, cuts-justified cuts told silent all)
+cuts-justified (Drains ∷ cuts) told silent all = (tt, cuts-justified cuts told silent all)
 cuts-justified (Told event fate ∷ cuts) told silent all = absurd (not-nil (events_of cuts) event silent)
 
 -- nor is one for which there was no memory
@@ -100,11 +103,24 @@ bytes-justified id counted piece told CallWindow order may missed = may
 bytes-justified id counted piece told Overrun order may missed = may
 
 -- behind more
-pub may-turn : (fault : AdmitFault) (calls more : ℕ) → MayTurnAway calls fault → calls ≤ more → MayTurnAway more fault
-may-turn refused.TooMany calls more may few = le_trans may few
-may-turn refused.Draining calls more may few = may
-may-turn refused.NotNew calls more may few = tt
-may-turn refused.OutOfMemory calls more may few = tt
+pub may-turn : (fault : AdmitFault) (calls more : ℕ) (draining : Bool) → MayTurnAway calls draining fault → calls ≤ more → MayTurnAway more draining fault
+may-turn refused.TooMany calls more draining may few = le_trans may few
+may-turn refused.Draining calls more draining may few = may
+may-turn refused.NotNew calls more draining may few = tt
+may-turn refused.OutOfMemory calls more draining may few = tt
+
+-- by what the lock says
+pub turns-so : (result : Result (Unit {0}) AdmitFault) (calls : ℕ) → (result ≡ Err refused.TooMany → 64 ≤ calls) → IfErr result (λ fault. MayTurnAway calls true fault)
+turns-so (Ok done) calls many = tt
+turns-so (Err refused.TooMany) calls many = many refl
+turns-so (Err refused.Draining) calls many = refl
+turns-so (Err refused.NotNew) calls many = tt
+turns-so (Err refused.OutOfMemory) calls many = tt
+
+-- a call that isn't for the lock
+pub refused-justified : (id : ℕ) (head : CallHead) (told : List Step) (draining : Bool) → draining ≡ is_draining told → IsJustified (Told (events.Open id head) (refused_by draining)) told
+refused-justified id head told true is = sym is
+refused-justified id head told false is = tt
 
 pub may-refuse : (receipt : Receipt) (came more : ℕ) → MayRefuse came receipt → came ≤ more → MayRefuse more receipt
 may-refuse CallWindow came more may few = omega (arith, may, few)
@@ -126,12 +142,14 @@ going-more [] told first going = going
 going-more (Told event fate ∷ more) told first going = going-more more told first going
 going-more (CutOff id (NotLive answered) ∷ more) told first going = going-more more told first going
 going-more (CutOff id AtEnd ∷ more) told first going = absurd first
+going-more (Drains ∷ more) told first going = going-more more told first going
 
 not-going : (id : ℕ) (later before : List Step) → AreGoing (later ++ CutOff id AtEnd ∷ before) → ⊥
 not-going id [] before going = going
 not-going id (Told event fate ∷ later) before going = not-going id later before going
 not-going id (CutOff other (NotLive answered) ∷ later) before going = not-going id later before going
 not-going id (CutOff other AtEnd ∷ later) before going = going
+not-going id (Drains ∷ later) before going = not-going id later before going
 
 pub cut-last : (id : ℕ) (cuts heard later before : List Step) → cuts ++ heard ≡ later ++ CutOff id AtEnd ∷ before → events_of cuts ≡ [] → AreGoing heard → events_of later ≡ []
 cut-last id cuts heard [] before is silent going = refl
@@ -139,5 +157,9 @@ cut-last id [] heard (step ∷ later) before is silent going = absurd (not-going
 cut-last id (Told event fate ∷ cuts) heard (step ∷ later) before is silent going = absurd (not-nil (events_of cuts) event silent)
 cut-last id (CutOff other why ∷ cuts) heard (step ∷ later) before is silent going =
     let same : CutOff other why ≡ step = cc in
+    let rest : cuts ++ heard ≡ later ++ CutOff id AtEnd ∷ before = cc in
+    subst (λ (one : Step). events_of (one ∷ later) ≡ []) same (cut-last id cuts heard later before rest silent going)
+cut-last id (Drains ∷ cuts) heard (step ∷ later) before is silent going =
+    let same : Drains ≡ step = cc in
     let rest : cuts ++ heard ≡ later ++ CutOff id AtEnd ∷ before = cc in
     subst (λ (one : Step). events_of (one ∷ later) ≡ []) same (cut-last id cuts heard later before rest silent going)

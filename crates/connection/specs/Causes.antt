@@ -1,7 +1,7 @@
 -- Why a stream is reset or refused: the cause of each error code of an RST_STREAM (RFC 9113, sections 5.4.2, 6.4 and 7), and of
 -- each refusal (RFC 9113, section 8.1; gRPC over HTTP/2, "Responses").
 -- Lists of steps and runs have the latest first, lists of orders the earliest.
-use Rattle.std.specs.Prelude.{◌≡◌, ◌≢◌, ◌⊎◌, ℕ, Bool, true, false, List, [], ◌∷◌, ◌++◌, Option, None, Some}
+use Rattle.std.specs.Prelude.{◌≡◌, ◌≢◌, ◌⊎◌, ℕ, true, false, List, [], ◌∷◌, ◌++◌, None, Some}
 use Rattle.std.specs.List.{list_any}
 use Rattle.callhead.specs.declared.fault.HeadFault.{HeadFault}
 use Rattle.callhead.specs.declared.head.CallHead.{CallHead}

@@ -14,11 +14,11 @@ use Rattle.session.specs.StreamData.{Unended, ending_told, pieces}
 use Rattle.slots.specs.Calls.{is_admitted}
 use Rattle.slots.specs.Steps.{NotLive, Step, WasTold, events_of, fed_by, reported, since}
 use Rattle.connection.specs.Causes.{IsMalformed, WasCut, WasOpened, WouldOverflow}
-use Rattle.connection.specs.Limits.{IsOneTooMany}
+use Rattle.connection.specs.Limits.{IsOneTooMany, WasDrained}
 
--- 7: no call of the stream was admitted, but 64 were that have lesser ids
+-- 7: no call of the stream was admitted, but 64 were that have lesser ids, or the server drained
 abbrev pub WasRefused : ℕ → List Step → Type 0
-WasRefused id told = IsOneTooMany id told × (list_any (nat_eq id) (reported told) ≡ false)
+WasRefused id told = (IsOneTooMany id told ⊎ WasDrained id told) × (list_any (nat_eq id) (reported told) ≡ false)
 
 -- 8: the events that were heard tell no end of the call's stream
 abbrev pub WasUnended : ℕ → List Step → Type 0

@@ -4,7 +4,7 @@ use Rattle.std.specs.Prelude.{◌≡◌, ◌≢◌, ◌⊎◌, ℕ, Bool, true, 
 use Rattle.account.specs.declared.call.Account.{Account}
 use Rattle.callslot.specs.declared.report.CallReport.{CallReport}
 use Rattle.callslot.specs.declared.report.Ending.{Ending}
-use Rattle.callslot.specs.declared.report.Ending.TheVariants.{PeerGoaway, ProtocolError, OutOfMemory}
+use Rattle.callslot.specs.declared.report.Ending.TheVariants.{Drained, PeerGoaway, ProtocolError, OutOfMemory}
 use Rattle.h2frame.specs.declared.error_code.ErrorCode.{ErrorCode}
 use Rattle.handlers.specs.declared.step.Step.{Step as Answer}
 use Rattle.outwriter.specs.Steps.{Order}
@@ -18,7 +18,7 @@ use Rattle.slots.specs.Lines.{AreNew, SlotCalls, calls_from, calls_of, raw_order
 use Rattle.slots.specs.Orders.{ends_at, orders_by}
 use Rattle.slots.specs.Readings.{Decides, Reads}
 use Rattle.slots.specs.Reports.{AreCalm, AreHeard, AreRows, is_heard_out}
-use Rattle.slots.specs.Steps.{Step, WasTold, events_of, reported, IsRising}
+use Rattle.slots.specs.Steps.{AdmitsNoMore, Step, WasTold, events_of, is_draining, reported, IsRising}
 use Rattle.connection.specs.declared.orders.Orders.{Orders}
 use Rattle.connection.specs.declared.orders.Route.{Ghosts}
 use Rattle.connection.specs.Limits.{AreGoing, AreJustified, Covers, Tally}
@@ -48,8 +48,8 @@ module _ {H : Type 0} {hand : Hands H} {A B C N : Type 0} {route : Ghosts N} (na
       × ((slots : List SlotCalls) → calls_from slots (raw_orders decided) ≡ calls_of reading.slots → AreNew slots (raw_orders decided)
       → Lined slots orders → Lined (calls_of reading_new.slots) orders_new)
 
-  -- With these steps, of which no event tells and none of which ends the connection, calls were cut: as at the end of the input only where it
-  -- has ended.
+  -- With these steps, of which no event tells and none of which ends the connection, calls were cut, as at the end of the input only where it
+  -- has ended; or the server drains.
   pub record Cuts (ended : Bool) (told cuts : List Step) (reading reading_new : Reading H hand) (orders orders_new : Orders A B C N route) : Type 0 where
     pub silent : events_of cuts ≡ []
     pub calm : AreCalm cuts
@@ -91,6 +91,7 @@ module _ {H : Type 0} {hand : Hands H} {A B C N : Type 0} {route : Ghosts N} (na
     pub ordered : end ≢ OutOfMemory → Ordered (orders_by told) orders
     pub lined : Lined (calls_of reading.slots) orders
     pub goaway : end ≡ PeerGoaway → WasTold events.PeerGoaway told
+    pub drained : end ≡ Drained → is_draining told ≡ true
     pub failed : (code : ErrorCode) → end ≡ ProtocolError code → IsEndedBy (ProtocolError code) told
 
 -- The end of the reading: behind these steps all calls were cut with some more, and there is a row for each.
@@ -99,6 +100,7 @@ pub record HasEnded {V : Type 0} (items : V → List CallReport) (answers : ℕ 
   pub silent : events_of cuts ≡ []
   pub calm : AreCalm cuts
   pub rising : IsRising (cuts ++ told)
+  pub closed : AdmitsNoMore (cuts ++ told)
   pub rows : AreRows answers names carries (cuts ++ told) (reported (cuts ++ told)) (items calls)
 
 -- A beginning of these orders was put, and behind it that no more come.

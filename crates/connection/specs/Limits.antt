@@ -1,7 +1,7 @@
--- When the reading side may refuse what the peer sends: how many calls may be live at once (RFC 9113, section 5.1.2), and how many bytes of
--- DATA may come (section 6.9.1).
+-- When the reading side may refuse what the peer sends: how many calls may be live at once (RFC 9113, section 5.1.2), how many bytes of
+-- DATA may come (section 6.9.1), and that no more calls are admitted once the server drains (section 6.8).
 -- Lists of steps have the latest first.
-use Rattle.std.specs.Prelude.{◌≡◌, ◌≤◌, ◌<◌, ◌+◌, ℕ, All, List, [], ◌∷◌, ◌++◌, length}
+use Rattle.std.specs.Prelude.{◌≡◌, ◌≤◌, ◌<◌, ◌+◌, ℕ, Bool, true, All, List, [], ◌∷◌, ◌++◌, length}
 use Rattle.callhead.specs.declared.head.CallHead.{CallHead}
 use Rattle.connbook.specs.declared.answers.AdmitFault.{AdmitFault}
 use Rattle.connbook.specs.declared.answers.AdmitFault.TheVariants as refused
@@ -11,16 +11,15 @@ use Rattle.session.specs.declared.event.InEvent.{InEvent}
 use Rattle.session.specs.declared.event.InEvent.TheVariants as events
 use Rattle.session.specs.FlowBytes.{counted_by, counted_told}
 use Rattle.slots.specs.Orders.{IsDue}
-use Rattle.slots.specs.Steps.{Received, Missed, TurnedAway, Cause, AtEnd, NotLive, Step, Told, CutOff, events_of, reported}
+use Rattle.slots.specs.Steps.{Received, Missed, TurnedAway, AtEnd, NotLive, Step, Told, CutOff, Drains, events_of, is_draining, reported}
 use Rattle.connection.specs.declared.intake.Intake.{Intake}
 
--- A call isn't admitted behind 64 or more that were, for want of memory, or since its number doesn't rise; but never since no more calls are
--- admitted.
-abbrev pub MayTurnAway : ℕ → AdmitFault → Type 0
-MayTurnAway calls refused.TooMany = 64 ≤ calls
-MayTurnAway calls refused.Draining = ⊥
-MayTurnAway calls refused.NotNew = Unit {0}
-MayTurnAway calls refused.OutOfMemory = Unit {0}
+-- A call isn't admitted behind 64 or more that were, where the server drains, for want of memory, or since its number doesn't rise.
+abbrev pub MayTurnAway : ℕ → Bool → AdmitFault → Type 0
+MayTurnAway calls draining refused.TooMany = 64 ≤ calls
+MayTurnAway calls draining refused.Draining = draining ≡ true
+MayTurnAway calls draining refused.NotNew = Unit {0}
+MayTurnAway calls draining refused.OutOfMemory = Unit {0}
 
 -- DATA are past a window only where more bytes of them came, padding too, than a window has at first
 abbrev pub MayRefuse : ℕ → Receipt → Type 0
@@ -36,7 +35,7 @@ IsDueOf _ before = Unit {0}
 
 -- what a step refuses may be refused, behind the calls and the bytes of these
 abbrev pub IsJustified : Step → List Step → Type 0
-IsJustified (Told event (TurnedAway fault)) before = MayTurnAway (length (reported before)) fault
+IsJustified (Told event (TurnedAway fault)) before = MayTurnAway (length (reported before)) (is_draining before) fault
 IsJustified (Told event (Received found)) before = MayRefuse (counted_told (events_of before) + counted_by event) found
 IsJustified (Told event Missed) before = IsDueOf event before
 IsJustified _ before = Unit {0}
@@ -53,6 +52,7 @@ AreGoing [] = Unit {0}
 AreGoing (Told event fate ∷ before) = AreGoing before
 AreGoing (CutOff id (NotLive answered) ∷ before) = AreGoing before
 AreGoing (CutOff id AtEnd ∷ before) = ⊥
+AreGoing (Drains ∷ before) = AreGoing before
 
 -- such cuts come last: no event was told behind the first of them
 pub record EndsLast (told : List Step) : Type 0 where
@@ -97,3 +97,11 @@ pub record IsOneTooMany (id : ℕ) (told : List Step) : Type 0 where
   pub parts : told ≡ later ++ Told (events.Open id head) (TurnedAway refused.TooMany) ∷ before
   pub many : 64 ≤ length (reported before)
   pub lesser : All (λ other. other < id) (reported before)
+
+-- A call of this stream was turned away behind a drain.
+pub record WasDrained (id : ℕ) (told : List Step) : Type 0 where
+  pub head : CallHead
+  pub before : List Step
+  pub later : List Step
+  pub parts : told ≡ later ++ Told (events.Open id head) (TurnedAway refused.Draining) ∷ before
+  pub draining : is_draining before ≡ true

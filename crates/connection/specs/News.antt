@@ -1,9 +1,13 @@
--- What the side that writes is told in order, SETTINGS, PING and WINDOW_UPDATE of the peer and a PING of the server's own, and what answers to
--- it (RFC 9113, sections 6.5.3, 6.7 and 6.9).
-use Rattle.std.specs.Prelude.{ℕ, Bool, true, false, List, [], ◌∷◌, ◌++◌, filter, flat_map}
+-- What the peer tells the side that writes, in its order: SETTINGS, PING and WINDOW_UPDATE, and what acknowledges it (RFC 9113, sections
+-- 6.5.3, 6.7 and 6.9).
+use Rattle.std.specs.Prelude.{Bool, true, false, not, ◌&&◌, List, [], ◌∷◌, ◌++◌, filter, flat_map}
 use Rattle.h2frame.specs.declared.frame.Frame.{Frame}
-use Rattle.outwriter.specs.declared.control.Control.TheVariants.{Settings, Ping, Probe, Window}
-use Rattle.outwriter.specs.Frames.{settings_ack, ping_ack, ping_frame}
+use Rattle.h2frame.specs.declared.kind.FrameKind.{FrameKind}
+use Rattle.h2frame.specs.declared.kind.FrameKind.TheVariants as kind
+use Rattle.h2frame.specs.Flags.{has, ack}
+use Rattle.outwriter.specs.declared.control.Control.TheVariants.{Settings, Ping, Window}
+use Rattle.outwriter.specs.Frames.{settings_ack, ping_ack}
+use Rattle.outwriter.specs.Runs.{without_goaway}
 use Rattle.outwriter.specs.Steps.{Order, Taken, Granted, Written, Returned}
 use Rattle.outwriter.specs.Steps.{Step as RunStep}
 use Rattle.session.specs.declared.event.InEvent.{InEvent}
@@ -13,7 +17,6 @@ use Rattle.slots.specs.Orders.{news_of}
 abbrev pub is_news : Order → Bool
 is_news (Settings settings) = true
 is_news (Ping bytes) = true
-is_news (Probe bytes) = true
 is_news (Window id increment) = true
 is_news _ = false
 
@@ -36,12 +39,23 @@ taken_by (Granted id n ∷ before) = taken_by before
 taken_by (Written frame ∷ before) = taken_by before
 taken_by (Returned id items ∷ before) = taken_by before
 
--- each SETTINGS has its acknowledgement, and each PING one with its bytes; the server's own is written
+-- each SETTINGS has its acknowledgement, and each PING one with its bytes
 abbrev pub answer_to : Order → List Frame
 answer_to (Settings settings) = settings_ack ∷ []
 answer_to (Ping bytes) = ping_ack bytes ∷ []
-answer_to (Probe bytes) = ping_frame bytes ∷ []
 answer_to _ = []
 
 abbrev pub answers_to : List Order → List Frame
 answers_to orders = flat_map answer_to orders
+
+-- a PING of the server's own, which acknowledges nothing
+abbrev pub is_ping : FrameKind → Bool
+is_ping kind.Ping = true
+is_ping _ = false
+
+abbrev pub is_probe : Frame → Bool
+is_probe frame = is_ping frame.head.kind && not (has ack frame.head.flags)
+
+-- of frames that orders oblige to, all but GOAWAY and that PING
+abbrev pub acknowledgements : List Frame → List Frame
+acknowledgements frames = filter (λ frame. not (is_probe frame)) (without_goaway frames)

@@ -1,32 +1,39 @@
 -- What became of a connection: over one list of what was heard, one list of what was ordered, and one run of its writer.
-use Rattle.std.specs.Prelude.{◌≡◌, ◌≢◌, ◌⊎◌, ◌≤◌, ℕ, Bool, true, List, [], ◌∷◌, ◌++◌, Option, Some}
+use Rattle.std.specs.Prelude.{◌≡◌, ◌≢◌, ◌⊎◌, ◌≤◌, ℕ, Bool, true, false, List, [], ◌∷◌, ◌++◌, Option, Some}
 use Rattle.callslot.specs.declared.report.CallReport.{CallReport}
 use Rattle.callslot.specs.declared.report.Ending.{Ending}
-use Rattle.callslot.specs.declared.report.Ending.TheVariants.{PeerGoaway, ProtocolError, ReadFailed, WriteFailed, OutOfMemory}
+use Rattle.callslot.specs.declared.report.Ending.TheVariants.{Drained, PeerGoaway, ProtocolError, ReadFailed, WriteFailed, OutOfMemory}
 use Rattle.h2frame.specs.declared.error_code.ErrorCode.{ErrorCode}
 use Rattle.h2frame.specs.declared.error_code.ErrorCode.TheVariants.{FlowControlError}
 use Rattle.handlers.specs.declared.step.Step.{Step as Answer}
 use Rattle.outwriter.specs.Credit.{updated}
+use Rattle.outwriter.specs.Drains.{HasDrained}
 use Rattle.outwriter.specs.Steps.{Order}
 use Rattle.outwriter.specs.declared.control.Control.TheVariants.{InputEnded, Close}
 use Rattle.session.specs.declared.event.InEvent.TheVariants as events
 use Rattle.session.specs.FlowBytes.{counted_told}
 use Rattle.slots.specs.Calls.{is_admitted}
-use Rattle.slots.specs.Orders.{orders_by}
+use Rattle.slots.specs.Orders.{greatest, orders_by}
 use Rattle.slots.specs.Reports.{AreCalm, AreHeard, AreRows, WasResetFor, is_heard_out}
-use Rattle.slots.specs.Steps.{IsRising, Step, WasTold, events_of, reported}
+use Rattle.slots.specs.Steps.{AdmitsNoMore, IsRising, Step, WasTold, events_of, is_draining, reported}
 use Rattle.slotwriter.specs.Written.{HasWritten}
 use Rattle.connection.specs.Heard.{HasPut, IsEndedBy}
 use Rattle.connection.specs.Sent.{CarriesWhatWasSent}
 use Rattle.connection.specs.Limits.{AreJustified, EndsLast}
 
--- An ending has its cause: a read failed, or a write; the peer told that it opens no more streams; a step that was heard ended the connection with this
--- error, or the writer did, since a window of the peer's would be too large (RFC 9113, sections 5.4.1, 6.8 and 6.9.1).
+-- An ending has its cause: a read failed, or a write; the peer told that it opens no more streams; the server drained; a step that was heard ended
+-- the connection with this error, or the writer did, since a window of the peer's would be too large (RFC 9113, sections 5.4.1, 6.8 and 6.9.1).
 pub record HasCause (end : Ending) (told : List Step) (read_failed write_failed : Bool) : Type 0 where
   pub unread : end ≡ ReadFailed → read_failed ≡ true
   pub unsent : end ≡ WriteFailed → write_failed ≡ true
   pub goaway : end ≡ PeerGoaway → WasTold events.PeerGoaway told
+  pub drains : end ≡ Drained → is_draining told ≡ true
   pub failed : (code : ErrorCode) → end ≡ ProtocolError code → IsEndedBy (ProtocolError code) told ⊎ (code ≡ FlowControlError)
+
+-- the connection ended since the server drained
+abbrev pub is_drained : Ending → Bool
+is_drained Drained = true
+is_drained _ = false
 
 module _ {W V : Type 0} (items : V → List CallReport) (contents : W → Option (List ℕ)) (failed : W → Bool)
     (answers : ℕ → List (List ℕ) → Bool → Answer → Type 0) (names : List ℕ → ℕ → Type 0) where
@@ -42,6 +49,8 @@ module _ {W V : Type 0} (items : V → List CallReport) (contents : W → Option
     pub calm : is_heard_out end ≡ true → AreCalm told
     -- a call was turned away only behind 64 that were admitted, DATA were refused only behind 65,535 bytes, and missed only where they were due
     pub justified : AreJustified told
+    -- behind a drain no call was admitted
+    pub closed : AdmitsNoMore told
     -- as at the end of the input calls were cut only behind the last event
     pub ended : EndsLast told
     -- The orders are those that these steps lead to, one by one, or a beginning; and where all that came was heard, all of them. So a
@@ -51,10 +60,12 @@ module _ {W V : Type 0} (items : V → List CallReport) (contents : W → Option
     pub resets : is_heard_out end ≡ true → (id : ℕ) → is_admitted id told ≡ true → WasResetFor told put id
     -- a lawful run obeyed them, granted so much credit on the connection, and what was written are its frames
     pub granted : ℕ
-    pub written : HasWritten contents failed before granted put (Some end) device
+    pub written : HasWritten contents failed before granted put (Some end) (is_drained end) device
     -- the increments of its WINDOW_UPDATE frames on the connection sum to at most the bytes of DATA that were heard (RFC 9113, section 6.9)
     pub credit : updated 0 written.run ≤ counted_told (events_of told)
     -- a row for each call that was admitted, in order, on its lawful account; where no worker served it, nothing was fed, taken or given
     -- and what was sent of each call is what its stream carries
     pub rows : AreRows answers names (CarriesWhatWasSent written.run) told (reported told) (items calls)
+    -- where the server drained, the last GOAWAY that was written has no error, and names the greatest stream of a row, 0 for none (section 6.8)
+    pub drained : end ≡ Drained → HasDrained (greatest (reported told)) written.run
     pub cause : HasCause end told read_failed (failed device)

@@ -1,6 +1,6 @@
 //! The reader's hold on the credit book.
 
-ghost use Rattle.std.specs.Prelude.{◌≡◌, ◌+◌, ◌<◌, ◌≤◌, IfErr, OnErr, OnOk};
+ghost use Rattle.std.specs.Prelude.{◌≡◌, ◌+◌, ◌<◌, ◌≤◌, true, IfErr, OnErr, OnOk};
 ghost use Rattle.connection.specs.Limits.{MayRefuse, MayTurnAway};
 ghost use Rattle.connbook.specs.Receipts.{counted_of};
 
@@ -34,21 +34,17 @@ impl<A: Ledger, B: Ledger, C: Ledger> Intake<A, B, C> {
         }
     }
 
-    /// Admits a call. Nobody closes the book, so no call is refused for that.
+    /// Admits a call.
     pub(crate) fn admit(&mut self, rt: &impl Wait, id: StreamId) -> Result<(), AdmitFault>
         requires calls { (self.old.calls.parts ≡ B.parts) × (0 < B.parts) }
         ensures calls { self.new.calls.parts ≡ self.old.calls.parts }
         ensures came { self.new.came ≡ self.old.came }
         ensures counted { OnOk result (self.new.calls.amount ≡ self.old.calls.amount + 1) }
         ensures uncounted { OnErr result (self.new.calls.amount ≡ self.old.calls.amount) }
-        ensures justified { IfErr result (λ fault. MayTurnAway self.old.calls.amount fault) }
+        ensures justified { IfErr result (λ fault. MayTurnAway self.old.calls.amount true fault) }
     {
         let Intake { shared, calls, .. } = self;
-        let admitted = shared.book.lock(rt).admit(id, calls);
-        match admitted {
-            Err(AdmitFault::Draining) => Err(AdmitFault::NotNew),
-            _ => admitted,
-        }
+        shared.book.lock(rt).admit(id, calls)
     }
 
     /// Counts DATA that came on a stream, `padding` of them no data.

@@ -1,7 +1,7 @@
 //! Laws of what becomes of a connection, by the fields of its record (`IsServed`). None of them does anything.
 
 ghost use mathlib.Core.List.{IsPrefix};
-ghost use Rattle.std.specs.Prelude.{◌≡◌, ◌<◌, ◌++◌, ◌∷◌, ℕ, List, [], false, true};
+ghost use Rattle.std.specs.Prelude.{◌≡◌, ◌⊎◌, ◌<◌, ◌++◌, ◌∷◌, ℕ, List, [], false, true};
 ghost use Rattle.std.specs.List.{list_any};
 ghost use Rattle.account.specs.Accounts.{Begins};
 ghost use Rattle.callslot.specs.declared.report.Ending.{Ending as Ended};
@@ -13,7 +13,7 @@ ghost use Rattle.outwriter.specs.declared.control.Control.TheVariants.{Close, In
 ghost use Rattle.outwriter.specs.Frames.{is_last, reset_frame};
 ghost use Rattle.outwriter.specs.Parts.{IsPart, Mark};
 ghost use Rattle.outwriter.specs.RunState.{IsAnswered};
-ghost use Rattle.outwriter.specs.Runs.{IsLawful, told as duties_told, without_goaway};
+ghost use Rattle.outwriter.specs.Runs.{IsLawful, told as duties_told};
 ghost use Rattle.outwriter.specs.Steps.{Order, Step as RunStep, frames_of};
 ghost use Rattle.slots.specs.Calls.{is_admitted};
 ghost use Rattle.slots.specs.Orders.{orders_by};
@@ -27,9 +27,9 @@ ghost use Rattle.session.specs.FlowBytes.{payloads};
 ghost use Rattle.h2frame.specs.FrameList.{Entry};
 ghost use Rattle.connection.specs.Causes.{HasCauseOf, HasResetCause, IsOverWindow, IsRefusal, WasCut, WasTaken, WasTurnedAway, WasWritten};
 ghost use Rattle.connection.specs.Codes.{MayHaveCode};
-ghost use Rattle.connection.specs.Limits.{AreJustified, EndsLast, IsOneTooMany, WasCutLast};
+ghost use Rattle.connection.specs.Limits.{AreJustified, EndsLast, IsOneTooMany, WasCutLast, WasDrained};
 ghost use Rattle.connection.specs.Heard.{HasPut};
-ghost use Rattle.connection.specs.News.{answers_to, news_in, news_told, taken_by};
+ghost use Rattle.connection.specs.News.{acknowledgements, answers_to, news_in, news_told, taken_by};
 
 /// Each reset that is to be written was ordered for its cause, by what was heard: RFC 9113, section 5.4.2.
 pub fn ordered_resets()
@@ -78,11 +78,11 @@ pub fn all_news()
 {}
 
 /// Behind the first SETTINGS come only acknowledgements, of each SETTINGS and of each PING with its bytes, once and in order, beside
-/// DATA, header blocks, RST_STREAM, GOAWAY and WINDOW_UPDATE: sections 6.5.3 and 6.7.
+/// DATA, header blocks, RST_STREAM, GOAWAY, WINDOW_UPDATE and a PING of the server's own: sections 6.5.3 and 6.7.
 pub fn some_answers()
     ensures { (told : List Step) (put : List Order) (run : List RunStep) →
         HasPut (orders_by told ++ InputEnded ∷ []) put → Obeys true put run → IsLawful run
-        → Begins (without_goaway (duties_told run)) (answers_to (news_told (events_of told))) }
+        → Begins (acknowledgements (duties_told run)) (answers_to (news_told (events_of told))) }
 {}
 
 /// Where the writer took each order and all was written, each is acknowledged, unless the last frame is a GOAWAY with an error.
@@ -90,7 +90,7 @@ pub fn all_answers()
     ensures { (told : List Step) (put : List Order) (run : List RunStep) →
         put ≡ orders_by told ++ InputEnded ∷ Close ∷ [] → Obeys false put run → IsAnswered run →
         list_any is_last (frames_of run) ≡ false
-        → without_goaway (duties_told run) ≡ answers_to (news_told (events_of told)) }
+        → acknowledgements (duties_told run) ≡ answers_to (news_told (events_of told)) }
 {}
 
 /// Each RST_STREAM that was written has an error code with its cause, by the bytes that came, by the calls that were admitted and what
@@ -117,11 +117,12 @@ pub fn order_codes()
         → MayHaveCode code id entries told put run }
 {}
 
-/// A stream is refused only where at least 64 calls were admitted before it, all on lesser streams: section 5.1.2.
-pub fn one_too_many()
+/// A stream is refused only where at least 64 calls were admitted before it, all on lesser streams, or behind a drain: sections 5.1.2
+/// and 6.8.
+pub fn turned_away()
     ensures { (came : List ℕ) (all : List InEventOf) (told : List Step) (id : ℕ) →
         Events came all → IsPrefix (events_of told) all → AreJustified told
-        → WasTurnedAway id told → IsOneTooMany id told }
+        → WasTurnedAway id told → IsOneTooMany id told ⊎ WasDrained id told }
 {}
 
 /// A stream is reset for DATA past its window only where the payloads of the DATA frames that came, padding too, have more than 65,535

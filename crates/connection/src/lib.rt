@@ -8,6 +8,7 @@
 //! `callworker` for a worker, `slotwriter` for the side that writes. Here they are turned, waited for and rung: the threads, the
 //! lock, and the join.
 //!
+//! - `drain`: how a server ends a connection while its calls go on.
 //! - `intake`: the reader's hold on the credit book, `outlet` the writer's.
 //! - `hand`: a worker's thread; `seats`: new slots.
 //! - `orders`: the reader's end of the ring of orders.
@@ -18,6 +19,7 @@
 #![tactic(auto)]
 
 pub mod credit;
+mod drain;
 mod hand;
 mod intake;
 pub mod laws;
@@ -33,5 +35,6 @@ mod writer;
 
 pub use callslot::{CallReport, Ending};
 pub use callworker::{Gate, OpenGate};
-pub use serve::serve_connection;
+pub use drain::{DrainSeat, Drainer};
+pub use serve::{serve_connection, serve_undrained};
 pub use served::Served;

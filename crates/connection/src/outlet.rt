@@ -41,12 +41,18 @@ impl<A: Ledger, B: Ledger, C: Ledger> Outlet<A, B, C> {
         self.shared.book.lock(rt).last()
     }
 
-    /// Has the writer owe the peer all credit that is due. What it owes on the connection by that counts in the share.
+    /// Whether no more calls are admitted.
+    pub(crate) fn is_closing(&self, rt: &impl Wait) -> bool {
+        self.shared.book.lock(rt).closing()
+    }
+
+    /// Has the writer owe the peer all credit that is due. What it owes on the connection by that counts in the share. Whether no
+    /// more calls are admitted.
     pub(crate) fn announce<W: ConnWrite + Drop>(
         &mut self,
         rt: &impl Wait,
         writing: &mut SlotWriter<W>,
-    )
+    ) -> bool
         ensures leads { LeadsTo W.contents W.failed self.old.told.amount writing.old
             self.new.told.amount writing.new }
         ensures parts { self.new.told.parts ≡ self.old.told.parts }
@@ -60,6 +66,7 @@ impl<A: Ledger, B: Ledger, C: Ledger> Outlet<A, B, C> {
             announce_on(&mut book, told, writing, id);
         }
         announce_on(&mut book, told, writing, 0);
+        book.closing()
     }
 }
 

@@ -160,6 +160,7 @@ where
                 return Ending::ReadFailed;
             };
             if count == 0 {
+                self.heed_drain();
                 return self.reading.ending();
             }
             match self.take(intake, &mut core, &piece[..count], methods) {
@@ -173,6 +174,9 @@ where
                     self.stop();
                     return Ending::OutOfMemory;
                 }
+            }
+            if self.heed_drain() {
+                return self.reading.ending();
             }
             grow(&mut whole_piece, count);
         }
@@ -224,6 +228,40 @@ where
         if let Some(decided) = self.reading.cut_off(place) {
             self.act(decided);
         }
+    }
+
+    /// Looks whether the server is to stop, and has the peer told where it is. Whether no call is live then: the connection ends.
+    fn heed_drain(&mut self) -> bool
+        ensures cuts { CutsSome M.names false self.old.reading self.old.orders
+            self.new.reading self.new.orders }
+        ensures draining { result ≡ true → self.new.reading.slots.is_draining ≡ true }
+    {
+        let (is_closing, is_live) = self.look();
+        if !is_closing {
+            return false;
+        }
+        self.drain();
+        !is_live
+    }
+
+    /// Whether no more calls are admitted, and whether one is live.
+    fn look(&self) -> (bool, bool) {
+        let book = self.orders.shared.book.lock(&self.rt);
+        (book.closing(), book.live_id(0).is_some())
+    }
+
+    /// The server is to stop: the peer is told which calls go on, unless it was.
+    fn drain(&mut self)
+        ensures cuts { CutsSome M.names false self.old.reading self.old.orders
+            self.new.reading self.new.orders }
+        ensures draining { self.new.reading.slots.is_draining ≡ true }
+    {
+        if self.reading.is_draining() {
+            return;
+        }
+        let decided = self.reading.drain();
+        self.act(decided);
+        self.orders.ring();
     }
 
     /// There is no memory for what was read: the connection ends.
@@ -410,6 +448,8 @@ where
         ensures acts { Acts M.names decided self.old.reading self.old.orders self.new.reading
             self.new.orders }
         ensures ends { result ≡ decided.ends }
+        ensures draining { self.new.reading.slots.is_draining
+            ≡ self.old.reading.slots.is_draining }
         ensures next { KeepsNext self.old.reading.slots self.new.reading.slots }
     {
         let rt = self.rt;
@@ -483,13 +523,25 @@ where
         let rt = self.rt;
         match intake.admit(&rt, job.id) {
             Ok(()) => self.start(job, methods),
+            Err(AdmitFault::Draining) => self.turn_away_drained(job.id),
             Err(fault) => self.turn_away(job.id, fault),
         }
     }
 
+    /// A call isn't admitted since the server is to stop, of which the peer is told before.
+    fn turn_away_drained(&mut self, id: StreamId) -> Option<Ending>
+        ensures reads { (head : Head) (tally : Tally)
+            → ReadsWith M.names tally tally (events.Open id head ∷ []) result
+            self.old.reading self.old.orders self.new.reading self.new.orders }
+    {
+        self.drain();
+        self.turn_away(id, AdmitFault::Draining)
+    }
+
     /// A call isn't admitted.
     fn turn_away(&mut self, id: StreamId, fault: AdmitFault) -> Option<Ending>
-        ensures reads { (head : Head) (tally : Tally) → MayTurnAway tally.calls fault
+        ensures reads { (head : Head) (tally : Tally)
+            → MayTurnAway tally.calls self.old.reading.slots.is_draining fault
             → ReadsWith M.names tally tally (events.Open id head ∷ []) result
             self.old.reading self.old.orders self.new.reading self.new.orders }
     {

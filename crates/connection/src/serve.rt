@@ -17,6 +17,7 @@ ghost use Rattle.outwriter.specs.declared.control.Control.{Control};
 ghost use mathlib.Core.List.{IsPrefix};
 ghost use Rattle.connection.specs.Served.{IsServed};
 
+use crate::drain::{DrainSeat, Drainer};
 use crate::intake::Intake;
 use crate::meeting::meet_slots;
 use crate::orders::{ORDERS, Orders, Route};
@@ -27,7 +28,6 @@ use crate::writer;
 use crate::writer::Parted;
 use callslot::{Ending, Order};
 use callworker::{Answering, Gate, Shared};
-use connbook::ConnBook;
 use device::{ConnRead, ConnWrite};
 use h2frame::ErrorCode;
 use handlers::{Method, Methods};
@@ -42,10 +42,48 @@ use std::thread::Threads;
 use std::time::{Clock, Instant};
 
 /// Serves one connection, and says what became of it. The caller's thread reads; one more writes, and up to 64 answer calls. It
-/// returns once the input has ended or the connection was ended with an error, and all that could be written was.
+/// returns once the input has ended, or the connection was ended with an error or drained, and all that could be written was.
 ///
 /// Calls are answered by these methods, and go on when this gate lets them. A peer that neither reads nor closes is waited for.
-pub fn serve_connection<I, O, G, R>(
+/// The drainer of the seat ends the connection while calls go on.
+pub fn serve_connection<A, B, C, I, O, G, R>(
+    rt: R,
+    alloc: Global,
+    input: &mut I,
+    output: O,
+    methods: Arc<Methods>,
+    gate: Arc<G>,
+    seat: DrainSeat<A, B, C>,
+) -> Served<O>
+where
+    A: Ledger + Send + Sync + 'static,
+    B: Ledger + Send + Sync + 'static,
+    C: Ledger + Send + Sync + 'static,
+    I: ConnRead,
+    O: ConnWrite + Send + Drop + 'static,
+    G: Gate + Send + Sync + Drop + 'static,
+    R: Threads + Wait + Clock + Copy + Send + Sync + Drop + 'static,
+    requires came { (seat.came.parts ≡ A.parts) × (0 < A.parts) × (seat.came.amount ≡ 0) }
+    requires calls { (seat.calls.parts ≡ B.parts) × (0 < B.parts) × (seat.calls.amount ≡ 0) }
+    requires told { (seat.told.parts ≡ C.parts) × (0 < C.parts) × (seat.told.amount ≡ 0) }
+    // Over one list of what was heard, one of what was ordered, and one run of the writer.
+    ensures served { (came : List ℕ) × Consumes (I.remaining input.old) (I.remaining input.new) came
+        × IsServed (λ rows. rows.items) O.contents O.failed
+        (answers_by (λ method. answers (method.vtable, method.value)) (listed methods.value))
+        (IsFirstWith (λ method. (⟦<dyn Method as Method>⟧ method.vtable).name method.value)
+        (listed methods.value))
+        came (O.contents output) (I.failed input.new) result.ending result.calls result.output }
+{
+    let Ok(ring) = Ring::open(alloc, ORDERS) else {
+        return unserved(alloc, output);
+    };
+    serve_over::<A, B, C, Brand, Brand, I, O, G, R>(
+        rt, alloc, seat, ring, input, output, methods, gate,
+    )
+}
+
+/// The same of a connection that nobody drains.
+pub fn serve_undrained<I, O, G, R>(
     rt: R,
     alloc: Global,
     input: &mut I,
@@ -58,7 +96,6 @@ where
     O: ConnWrite + Send + Drop + 'static,
     G: Gate + Send + Sync + Drop + 'static,
     R: Threads + Wait + Clock + Copy + Send + Sync + Drop + 'static,
-    // Over one list of what was heard, one of what was ordered, and one run of the writer.
     ensures served { (came : List ℕ) × Consumes (I.remaining input.old) (I.remaining input.new) came
         × IsServed (λ rows. rows.items) O.contents O.failed
         (answers_by (λ method. answers (method.vtable, method.value)) (listed methods.value))
@@ -67,12 +104,41 @@ where
         came (O.contents output) (I.failed input.new) result.ending result.calls result.output }
 {
     let blanks = (Blank::new(1), Blank::new(1), Blank::new(1));
-    let Ok(ring) = Ring::open(alloc, ORDERS) else {
+    serve_seated::<Brand, Brand, Brand, I, O, G, R>(rt, alloc, blanks, input, output, methods, gate)
+}
+
+/// The same, over these ledgers.
+fn serve_seated<A, B, C, I, O, G, R>(
+    rt: R,
+    alloc: Global,
+    blanks: (Blank, Blank, Blank),
+    input: &mut I,
+    output: O,
+    methods: Arc<Methods>,
+    gate: Arc<G>,
+) -> Served<O>
+where
+    A: Ledger + Send + Sync + 'static,
+    B: Ledger + Send + Sync + 'static,
+    C: Ledger + Send + Sync + 'static,
+    I: ConnRead,
+    O: ConnWrite + Send + Drop + 'static,
+    G: Gate + Send + Sync + Drop + 'static,
+    R: Threads + Wait + Clock + Copy + Send + Sync + Drop + 'static,
+    requires received { (blanks.0.name ≡ A.name) × (blanks.0.parts ≡ A.parts) × (0 < A.parts) }
+    requires admitted { (blanks.1.name ≡ B.name) × (blanks.1.parts ≡ B.parts) × (0 < B.parts) }
+    requires announced { (blanks.2.name ≡ C.name) × (blanks.2.parts ≡ C.parts) × (0 < C.parts) }
+    ensures served { (came : List ℕ) × Consumes (I.remaining input.old) (I.remaining input.new) came
+        × IsServed (λ rows. rows.items) O.contents O.failed
+        (answers_by (λ method. answers (method.vtable, method.value)) (listed methods.value))
+        (IsFirstWith (λ method. (⟦<dyn Method as Method>⟧ method.vtable).name method.value)
+        (listed methods.value))
+        came (O.contents output) (I.failed input.new) result.ending result.calls result.output }
+{
+    let Ok((_drainer, seat)) = Drainer::<A, B, C>::new(alloc, blanks) else {
         return unserved(alloc, output);
     };
-    serve_over::<Brand, Brand, Brand, Brand, Brand, I, O, G, R>(
-        rt, alloc, blanks, ring, input, output, methods, gate,
-    )
+    serve_connection(rt, alloc, input, output, methods, gate, seat)
 }
 
 /// Out of memory before the connection began.
@@ -99,14 +165,12 @@ struct Common<A: Ledger, B: Ledger, C: Ledger, G: Drop> {
 }
 
 impl<A: Ledger, B: Ledger, C: Ledger, G: Drop> Common<A, B, C, G> {
-    /// Over this book. A clock that can't be read counts as want of memory.
+    /// Over what the threads share. A clock that can't be read counts as want of memory.
     fn new(
         rt: &impl Clock,
-        alloc: Global,
-        book: ConnBook<A, B, C>,
+        shared: Arc<Shared<A, B, C>>,
         gate: &Arc<G>,
     ) -> Result<Common<A, B, C, G>, AllocError> {
-        let shared = Shared::new(alloc, book)?;
         Ok(Common {
             for_orders: Arc::try_clone(&shared)?,
             for_writer: Arc::try_clone(&shared)?,
@@ -117,11 +181,11 @@ impl<A: Ledger, B: Ledger, C: Ledger, G: Drop> Common<A, B, C, G> {
     }
 }
 
-/// The same, over ledgers of its own, and a ring for the orders.
+/// The same, with a ring for the orders.
 fn serve_over<A, B, C, M, N, I, O, G, R>(
     rt: R,
     alloc: Global,
-    blanks: (Blank, Blank, Blank),
+    seat: DrainSeat<A, B, C>,
     ring: (RingIn<Order>, RingOut<Order>),
     input: &mut I,
     output: O,
@@ -138,9 +202,9 @@ where
     O: ConnWrite + Send + Drop + 'static,
     G: Gate + Send + Sync + Drop + 'static,
     R: Threads + Wait + Clock + Copy + Send + Sync + Drop + 'static,
-    requires received { (blanks.0.name ≡ A.name) × (blanks.0.parts ≡ A.parts) × (0 < A.parts) }
-    requires admitted { (blanks.1.name ≡ B.name) × (blanks.1.parts ≡ B.parts) × (0 < B.parts) }
-    requires announced { (blanks.2.name ≡ C.name) × (blanks.2.parts ≡ C.parts) × (0 < C.parts) }
+    requires came { (seat.came.parts ≡ A.parts) × (0 < A.parts) × (seat.came.amount ≡ 0) }
+    requires calls { (seat.calls.parts ≡ B.parts) × (0 < B.parts) × (seat.calls.amount ≡ 0) }
+    requires told { (seat.told.parts ≡ C.parts) × (0 < C.parts) × (seat.told.amount ≡ 0) }
     requires known { IsWithin M.known
         (answers_by (λ method. answers (method.vtable, method.value)) (listed methods.value)) }
     requires named { AreNames
@@ -152,11 +216,13 @@ where
         × IsServed (λ rows. rows.items) O.contents O.failed M.known M.names
         came (O.contents output) (I.failed input.new) result.ending result.calls result.output }
 {
-    let (received, came) = blanks.0.open::<A>();
-    let (admitted, calls) = blanks.1.open::<B>();
-    let (announced, told) = blanks.2.open::<C>();
-    let book = ConnBook::new(alloc, received, admitted, announced);
-    let Ok(common) = Common::new(&rt, alloc, book, &gate) else {
+    let DrainSeat {
+        shared,
+        came,
+        calls,
+        told,
+    } = seat;
+    let Ok(common) = Common::new(&rt, shared, &gate) else {
         return unserved(alloc, output);
     };
     let (putting, taking) = ring;
@@ -222,6 +288,8 @@ where
     // None was dropped, unless the ending tells why.
     ensures dropped { result.ending ≢ ending.OutOfMemory → result.ending ≢ ending.WriteFailed
         → ((code : Code) → result.ending ≢ ending.ProtocolError code) → orders.has_dropped ≡ false }
+    // None with an error was told, where the connection drained.
+    ensures faultless { result.ending ≡ ending.Drained → written.is_faultless ≡ true }
     ensures input { is_heard_out result.ending ≡ true → result.ending ≡ read }
     ensures blamed { (code : Code) → result.ending ≡ ending.ProtocolError code
         → (read ≡ ending.ProtocolError code) ⊎ (code ≡ FlowControlError) }
@@ -233,13 +301,14 @@ where
         device,
         orders: rx,
         senders,
+        is_faultless,
     } = written;
     let has_dropped = orders.has_dropped;
     let are_all = orders.meet(rx);
     let Ended { mut calls, ends } = ended;
     meet_slots(ends, senders, &mut calls);
     Served {
-        ending: by_orders(of_both(read, ending), are_all, has_dropped),
+        ending: by_orders(of_both(read, ending), are_all, has_dropped, is_faultless),
         output: device,
         calls,
     }
@@ -268,9 +337,9 @@ fn of_both(read: Ending, written: Option<Ending>) -> Ending
     }
 }
 
-/// The same by whether the writer took all orders that were put, and whether others were dropped. Where no ending tells why, it counts as
-/// want of memory; but that doesn't come.
-fn by_orders(seen: Ending, are_all: bool, has_dropped: bool) -> Ending
+/// The same by whether the writer took all orders that were put, whether others were dropped, and whether it told no error. Where no
+/// ending tells why, it counts as want of memory; but that doesn't come.
+fn by_orders(seen: Ending, are_all: bool, has_dropped: bool, is_faultless: bool) -> Ending
     ensures memory { seen ≡ ending.OutOfMemory → result ≡ ending.OutOfMemory }
     ensures failed { seen ≡ ending.WriteFailed → result ≡ ending.WriteFailed }
     ensures marked { result ≡ ending.WriteFailed → seen ≡ ending.WriteFailed }
@@ -278,12 +347,14 @@ fn by_orders(seen: Ending, are_all: bool, has_dropped: bool) -> Ending
     ensures all { result ≢ ending.OutOfMemory → result ≢ ending.WriteFailed → are_all ≡ true }
     ensures dropped { result ≢ ending.OutOfMemory → result ≢ ending.WriteFailed
         → ((code : Code) → result ≢ ending.ProtocolError code) → has_dropped ≡ false }
+    ensures faultless { result ≡ ending.Drained → is_faultless ≡ true }
 {
     match seen {
         Ending::OutOfMemory | Ending::WriteFailed => seen,
         _ if !are_all => Ending::OutOfMemory,
         Ending::ProtocolError(_) => seen,
         _ if has_dropped => Ending::OutOfMemory,
+        Ending::Drained if !is_faultless => Ending::OutOfMemory,
         _ => seen,
     }
 }

@@ -42,7 +42,7 @@ impl<A: Ledger, B: Ledger, C: Ledger, W: ConnWrite + Drop, G: Gate + Drop> Write
             → Led W.contents W.failed before self.outlet.told.amount self.writing
             → HasSent W.contents W.failed before result.told.amount
             (taken result.written.orders) result.written.senders.places.items
-            result.written.ending result.written.device }
+            result.written.ending result.written.is_faultless result.written.device }
         ensures name { out_name result.written.orders ≡ out_name self.writing.inbox.ring }
         ensures parts { result.told.parts ≡ self.outlet.told.parts }
     {
@@ -170,11 +170,8 @@ impl<A: Ledger, B: Ledger, C: Ledger, W: ConnWrite + Drop, G: Gate + Drop> Write
         ensures outlet { self.new.outlet ≡ self.old.outlet }
         ensures leads { LeadsOn W.contents W.failed self.old.writing self.new.writing }
     {
-        let last = match self.writing.look() {
-            Waiting::Nothing => return false,
-            Waiting::Window => self.outlet.last(rt),
-            // No GOAWAY of the writer's own comes of it.
-            Waiting::Other => 0,
+        let Some(last) = self.look(rt) else {
+            return false;
         };
         match self.writing.take_next(last) {
             Took::Nothing => return false,
@@ -188,6 +185,32 @@ impl<A: Ledger, B: Ledger, C: Ledger, W: ConnWrite + Drop, G: Gate + Drop> Write
             Took::Lost => self.give_up(rt),
         }
         true
+    }
+
+    /// Looks at the next order, where one waits: what a GOAWAY of the writer's own tells, if one comes of it.
+    fn look(&mut self, rt: &impl Wait) -> Option<StreamId>
+        ensures outlet { self.new.outlet ≡ self.old.outlet }
+        ensures leads { LeadsOn W.contents W.failed self.old.writing self.new.writing }
+    {
+        match self.writing.look() {
+            Waiting::Nothing => None,
+            Waiting::Window => Some(self.outlet.last(rt)),
+            Waiting::Goaway => {
+                self.warn(rt);
+                Some(0)
+            }
+            Waiting::Other => Some(0),
+        }
+    }
+
+    /// Warns the peer before it is told which calls go on, where the server is to stop.
+    fn warn(&mut self, rt: &impl Wait)
+        ensures outlet { self.new.outlet ≡ self.old.outlet }
+        ensures leads { LeadsOn W.contents W.failed self.old.writing self.new.writing }
+    {
+        if self.outlet.is_closing(rt) {
+            self.writing.warn();
+        }
     }
 
     /// The writer has ended a stream: its call is cut, and its worker woken only then, so that it sees that.
@@ -207,7 +230,7 @@ impl<A: Ledger, B: Ledger, C: Ledger, W: ConnWrite + Drop, G: Gate + Drop> Write
         self.stop(rt);
     }
 
-    /// Owes the peer what credit is due.
+    /// Owes the peer what credit is due, and warns it where the server is to stop.
     fn announce(&mut self, rt: &impl Wait)
         ensures leads { LeadsTo W.contents W.failed self.old.outlet.told.amount self.old.writing
             self.new.outlet.told.amount self.new.writing }
@@ -218,7 +241,9 @@ impl<A: Ledger, B: Ledger, C: Ledger, W: ConnWrite + Drop, G: Gate + Drop> Write
             writing,
             ..
         } = self;
-        outlet.announce(rt, writing);
+        if outlet.announce(rt, writing) {
+            writing.warn();
+        }
     }
 
     /// Tells the peer that no more frames come, where there was no memory for one.
@@ -317,7 +342,7 @@ pub(crate) struct Begun<W: ConnWrite> {
 impl<C: Ledger, W: ConnWrite + Drop> Promise<Parted<C, W>> for Begun<W> {
     ghost kept_by = { λ begun r. (out_name r.written.orders ≡ out_name begun.orders.value)
         × HasSent W.contents W.failed (W.contents begun.device.value) r.told.amount (taken r.written.orders) r.written.senders.places.items
-        r.written.ending r.written.device
+        r.written.ending r.written.is_faultless r.written.device
         × (r.told.parts ≡ C.parts) };
 }
 
@@ -352,7 +377,7 @@ where
     ensures name { IfErr result (λ parted. out_name parted.written.orders ≡ out_name taking) }
     ensures written { IfErr result (λ parted. HasWritten W.contents W.failed (W.contents device)
         parted.told.amount (orders_of (taken parted.written.orders)) parted.written.ending
-        parted.written.device) }
+        parted.written.is_faultless parted.written.device) }
     ensures parts { IfErr result (λ parted. parted.told.parts ≡ C.parts) }
 {
     let begun = Begun {
@@ -371,7 +396,7 @@ where
             → Led W.contents W.failed before writer.outlet.told.amount writer.writing
             → HasSent W.contents W.failed before result.told.amount
             (taken result.written.orders) result.written.senders.places.items
-            result.written.ending result.written.device }
+            result.written.ending result.written.is_faultless result.written.device }
         ensures parts { result.told.parts ≡ writer.outlet.told.parts }
     { writer.write(&rt) };
     match thread::spawn_with(&rt, begun, write) {

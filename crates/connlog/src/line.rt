@@ -53,6 +53,7 @@ pub enum Ended {
     ReadFailed,
     WriteFailed,
     OutOfMemory,
+    Drained,
 }
 
 /// What a stream was answered with.
@@ -93,6 +94,7 @@ impl Ended {
             Ended::ReadFailed => "read-failed",
             Ended::WriteFailed => "write-failed",
             Ended::OutOfMemory => "out-of-memory",
+            Ended::Drained => "drained",
         }
     }
 }

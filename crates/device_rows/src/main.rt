@@ -1,7 +1,7 @@
 //! The server's connections over devices that fail, or that move little at a time, and over clocks that stand still or leap.
 //!
 //! A line of standard input is a run: what the client sends, in hexadecimal digits, behind them words (`plan` reads both). A run serves
-//! it by `serve_connection`, and prints what became of it, line by line:
+//! it by `serve_undrained`, and prints what became of it, line by line:
 //!
 //! - `written` and what was written, in hexadecimal digits;
 //! - `wrote N`, `read N`, in bytes; behind the number ` failed` where a write or a read failed;
@@ -19,7 +19,7 @@ mod report;
 
 use anyhow::Result;
 use clock::Timed;
-use connection::{OpenGate, serve_connection};
+use connection::{OpenGate, serve_undrained};
 use handlers::{
     CacheableUnaryCall, EmptyCall, FullDuplexCall, HalfDuplexCall, Method, Methods,
     StreamingInputCall, StreamingOutputCall, UnaryCall,
@@ -43,7 +43,7 @@ where
     } = plan;
     let gate = Arc::new(alloc, OpenGate)?;
     let timed = Timed { rt, pace };
-    let served = serve_connection(timed, alloc, &mut source, sink, methods, gate);
+    let served = serve_undrained(timed, alloc, &mut source, sink, methods, gate);
     print_served(&rt, alloc, &source, &served)
 }
 

@@ -77,7 +77,7 @@ impl Writing {
         let last = match self.machine.look() {
             Waiting::Nothing => return false,
             Waiting::Window => book.last(),
-            Waiting::Other => 0,
+            Waiting::Goaway | Waiting::Other => 0,
         };
         match self.machine.take_next(last) {
             Took::Nothing | Took::Early => return false,

@@ -1,6 +1,6 @@
 -- The end of one slot's worker more: its rows, and the end by which it gave.
-use Rattle.std.proofs.Common.{◌≡◌, ◌∙◌, ◌≤◌, ◌<◌, ℕ, suc, Bool, List, [], ◌∷◌, ◌++◌, All, ap, append-nil, arith, length, map, refl, subst, sym}
-use Rattle.std.proofs.lemmas.List.{append_assoc, length-map}
+use Rattle.std.proofs.Common.{◌≡◌, ◌∙◌, ◌≤◌, ℕ, suc, Bool, List, [], ◌∷◌, ◌++◌, All, ap, append-nil, arith, length, map, refl, subst, sym}
+use Rattle.std.proofs.lemmas.List.{append_assoc}
 use Rattle.account.specs.declared.call.Account.{Account}
 use Rattle.handlers.specs.declared.step.Step.{Step as Answer}
 use Rattle.callslot.specs.declared.report.CallReport.{CallReport}
@@ -9,7 +9,7 @@ use Rattle.slots.specs.declared.seat.Seat.{Seat}
 use Rattle.slots.specs.declared.worker.Worker.{Ghosts}
 use Rattle.slots.specs.Lines.{AreEndsOf, IsGivenIn, SlotCalls, calls_at, calls_in}
 use Rattle.slots.specs.Reports.{AreAnswered, AreRows, updated_by}
-use Rattle.slots.specs.Seats.{IsSeat, jobs_of}
+use Rattle.slots.specs.Seats.{jobs_of}
 use Rattle.slots.specs.Steps.{Step, reported}
 use Rattle.slots.proofs.Lines.{calls-push, ends-more, given-before, given-last}
 use Rattle.slots.proofs.SlotRows.{AreSoFar, all-rows, answered-as, more-so-far, so-far-as}

@@ -1,8 +1,6 @@
 -- What was heard, one after another.
-use Rattle.std.proofs.Common.{◌≡◌, ◌≢◌, ◌∙◌, ℕ, Option, None, Some, List, [], ◌∷◌, ◌++◌, ap, eq-eqb, refl, subst, sym, append-nil}
-use Rattle.std.proofs.lemmas.List.{append_assoc}
-use Rattle.session.specs.declared.event.InEvent.{InEvent}
-use Rattle.slots.specs.Steps.{Fate, Plain, Admitted, Unserved, Unknown, TurnedAway, Received, Missed, Lacking, Step, Told, CutOff, admitted_by, reported_by, events_of, shut_at}
+use Rattle.std.proofs.Common.{◌≡◌, ◌≢◌, ℕ, Option, None, Some, List, eq-eqb, refl, subst}
+use Rattle.slots.specs.Steps.{Fate, Plain, Admitted, Unserved, Unknown, TurnedAway, Received, Missed, Lacking, Told, admitted_by, reported_by, shut_at}
 use Rattle.account.specs.declared.call.Shut.TheVariants as shut
 use Rattle.h2frame.specs.ErrorCode.{error_number}
 use Rattle.h2frame.specs.declared.error_code.ErrorCode.TheVariants.{EnhanceYourCalm}

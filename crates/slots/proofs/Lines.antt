@@ -3,7 +3,6 @@ use Rattle.std.proofs.Common.{◌≡◌, ◌≢◌, ◌∙◌, ℕ, zero, suc, �
 use Rattle.std.proofs.lemmas.List.{map_push}
 use Rattle.account.specs.declared.call.Account.{Account}
 use Rattle.callslot.specs.declared.order.Opened.{Opened}
-use Rattle.callslot.specs.declared.order.Opened.TheVariants.{New, Again}
 use Rattle.callslot.specs.declared.slot.Job.{Job}
 use Rattle.callslot.specs.Workers.{GivingEnd, given_at, giving_ring}
 use Rattle.lane.specs.Cuts.{segment}

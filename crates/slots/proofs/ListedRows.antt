@@ -20,7 +20,7 @@ use Rattle.slots.specs.Concerns.{Concerns, IsIdle}
 use Rattle.slots.specs.Halves.{unfed}
 use Rattle.slots.specs.Reports.{IsServed, IsUnserved, fed_more, heard_row, shut_as}
 use Rattle.slots.specs.Seats.{HaveRows}
-use Rattle.slots.specs.Steps.{Lack, Received, Step, Told, Unserved, admitted, admitted_by, data_at, earlier, fed_by, is_of, last_of, once, reported, reported_by, shut_at, shut_by, since, unless, IsRising}
+use Rattle.slots.specs.Steps.{Lack, Received, Step, Told, Unserved, admitted, admitted_by, data_at, earlier, fed_by, is_of, last_of, once, reported, reported_by, shut_at, shut_by, since, IsRising}
 use Rattle.slots.proofs.Seats.{call-opens, known-step, opening}
 use Rattle.slots.proofs.HalfLemmas.{earlier-none, fed-shut, unless-nil}
 use Rattle.slots.proofs.KeptLemmas.{below-last}

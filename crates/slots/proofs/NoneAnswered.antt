@@ -1,5 +1,5 @@
 -- A call of which nothing was taken, and to which nothing was given but the word that it was left.
-use Rattle.std.proofs.Common.{◌≡◌, inl, inr, ap, arith, refl, sym, ℕ, Bool, true, false, List, [], ◌∷◌, Option, None, Some}
+use Rattle.std.proofs.Common.{◌≡◌, inl, inr, ap, arith, refl, sym, ℕ, Bool, false, List, [], None}
 use Rattle.account.specs.declared.call.OutItem.{OutItem}
 use Rattle.callbox.specs.declared.piece.InPiece.{InPiece}
 use Rattle.callbox.specs.declared.taker.Progress.{Progress}

@@ -1,13 +1,11 @@
 -- Which streams the orders of a step open: that of the call that it admits, and no other.
-use Rattle.std.proofs.Common.{◌≡◌, ◌∙◌, ◌⊎◌, inl, inr, ℕ, ◌<◌, ◌≤◌, Bool, true, false, List, [], ◌∷◌, ◌++◌, Option, None, Some, All, ap, arith, map, refl, subst, suc, sym}
+use Rattle.std.proofs.Common.{◌≡◌, ◌∙◌, inl, inr, ℕ, ◌<◌, ◌≤◌, Bool, true, false, List, [], ◌∷◌, ◌++◌, Option, None, Some, All, ap, arith, map, refl, subst, suc, sym}
 use Rattle.std.specs.Prelude.{MatchOption, if◌then◌else◌}
 use Rattle.callhead.specs.declared.head.CallHead.{CallHead}
 use Rattle.callhead.specs.declared.fault.HeadFault.{HeadFault}
 use Rattle.callhead.specs.StatusFields.{refusal_of}
 use Rattle.callslot.specs.declared.order.Opened.{Opened}
-use Rattle.connbook.specs.declared.answers.AdmitFault.{AdmitFault}
 use Rattle.connbook.specs.declared.answers.AdmitFault.TheVariants as refused
-use Rattle.connbook.specs.declared.answers.Receipt.{Receipt}
 use Rattle.connbook.specs.declared.answers.Receipt.TheVariants.{Feed, Discard, CallWindow, Overrun}
 use Rattle.lists.specs.declared.field.Field.{Field}
 use Rattle.outwriter.specs.declared.control.Control.{Control}
@@ -22,10 +20,10 @@ use Rattle.slots.specs.declared.slots.Slots.{Slots}
 use Rattle.slots.specs.declared.worker.Worker.{Ghosts}
 use Rattle.slots.specs.Ids.{times}
 use Rattle.slots.specs.Lines.{AreNew, HasCall, SlotCalls, calls_in, calls_of, raw_in, raw_orders}
-use Rattle.slots.specs.Orders.{begun, came, came_loose, cut_code, greatest, is_fed, last_stream, news_of, opened, orders_at, refused_head, turned_away, untaken, without_head}
+use Rattle.slots.specs.Orders.{begun, came, came_loose, is_fed, last_stream, named, named_with, news_of, opened, orders_at, refused_head, untaken, without_head}
 use Rattle.slots.specs.Readings.{order_in, orders_in}
 use Rattle.slots.specs.Seats.{Kept, ids_of, times_in}
-use Rattle.slots.specs.Steps.{Lack, NoWorker, Stopped, Fate, Plain, Admitted, Unserved, Unknown, TurnedAway, Received, Missed, Lacking, AtEnd, NotLive, Step, Told, CutOff, IsRising, admitted, admitted_by, last_of, once}
+use Rattle.slots.specs.Steps.{NoWorker, Stopped, Fate, Plain, Admitted, Unserved, Unknown, TurnedAway, Received, Missed, Lacking, Step, Told, CutOff, Drains, IsRising, admitted, admitted_by, is_draining, last_of, once}
 use Rattle.slots.proofs.KeptLemmas.{below-last}
 use Rattle.slots.proofs.Unfed.{among, split-first}
 
@@ -58,8 +56,9 @@ behind-if true orders InputEnded none = refl
 behind-if true orders Close none = refl
 behind-if false orders first none = refl
 
-behind-last : (id : ℕ) (ids : List ℕ) (orders : List Order) → opens_of (last_stream id ids ++ orders) ≡ opens_of orders
-behind-last id ids orders = behind-if _ orders _ refl
+behind-last : (id : ℕ) (draining : Bool) (ids : List ℕ) (orders : List Order) → opens_of (last_stream id draining ids ++ orders) ≡ opens_of orders
+behind-last id true ids orders = refl
+behind-last id false ids orders = behind-if _ orders _ refl
 
 opened-opens : (last id : ℕ) (fate : Fate) (found : Option ℕ) → (fate ≡ Admitted → found ≡ Some id) → ((fate ≡ Admitted → ⊥) → found ≡ None) → opens_of (opened last id fate) ≡ once found
 opened-opens last id Admitted found is not = ap (λ (o : Option ℕ). once o) (sym (is refl))
@@ -144,18 +143,20 @@ not-admitted id head Lacking not = refl
 
 pub opens-at : (told : List Step) (step : Step) → opens_of (orders_at told step) ≡ once (admitted_by step)
 opens-at told (Told (events.Open id head) fate) =
-    behind-last id (begun told) (opened (greatest (id ∷ begun told)) id fate)
-    ∙ opened-opens (greatest (id ∷ begun told)) id fate (admitted_by (Told (events.Open id head) fate)) (is-admitted id head fate) (not-admitted id head fate)
+    behind-last id (is_draining told) (begun told) (opened (named_with id (is_draining told) (named told)) id fate)
+    ∙ opened-opens (named_with id (is_draining told) (named told)) id fate (admitted_by (Told (events.Open id head) fate)) (is-admitted id head fate) (not-admitted id head fate)
 opens-at told (Told (events.BadHead id fault) fate) =
-    behind-last id (begun told) (refused_head (greatest (id ∷ begun told)) id fault fate) ∙ refused-opens (greatest (id ∷ begun told)) id fault fate
-opens-at told (Told (events.Data id piece counted) fate) = came-opens (greatest (begun told)) id piece (is_fed id told) fate
-opens-at told (Told (events.Loose counted) fate) = loose-opens (greatest (begun told)) fate
+    behind-last id (is_draining told) (begun told) (refused_head (named_with id (is_draining told) (named told)) id fault fate)
+    ∙ refused-opens (named_with id (is_draining told) (named told)) id fault fate
+opens-at told (Told (events.Data id piece counted) fate) = came-opens (named told) id piece (is_fed id told) fate
+opens-at told (Told (events.Loose counted) fate) = loose-opens (named told) fate
 opens-at told (Told (events.End id) fate) = refl
 opens-at told (Told (events.Reset id code) fate) = refl
 opens-at told (Told (events.StreamError id code) fate) = refl
 opens-at told (Told (events.Control control) fate) = news-opens-none control
 opens-at told (Told events.PeerGoaway fate) = refl
 opens-at told (Told (events.Fatal code) fate) = refl
+opens-at told Drains = refl
 opens-at told (CutOff id why) = cut-opens id (is_fed id told) _ refl
 
 -- ---- what was decided

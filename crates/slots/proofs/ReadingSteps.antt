@@ -1,13 +1,9 @@
 -- What one step more makes of the reading side, and what is decided of it.
-use Rattle.std.proofs.Common.{◌≡◌, ◌≢◌, ◌∙◌, ◌⊎◌, inl, inr, ℕ, zero, suc, ◌+◌, ◌<◌, ◌≤◌, Bool, true, false, true≢false, nat_eq, List, [], ◌∷◌, ◌++◌, length, Option, None, Some, ap, append-nil, arith, eqb-true, get_or, refl, subst, sym}
-use Rattle.std.specs.Prelude.{◌&&◌, ◌==◌, Result, Ok, Err, if◌then◌else◌, is_none, is_some, max, min, position}
+use Rattle.std.proofs.Common.{◌≡◌, ◌≢◌, ◌∙◌, inl, inr, ℕ, ◌<◌, Bool, true, false, true≢false, nat_eq, List, [], ◌∷◌, ◌++◌, Option, None, Some, ap, arith, eqb-true, get_or, refl, subst, sym}
+use Rattle.std.specs.Prelude.{◌&&◌, ◌||◌, if◌then◌else◌, is_none, is_some, min, position}
 use Rattle.std.proofs.lemmas.Bool.{and_parts, cases_Bool}
 use Rattle.std.proofs.lemmas.List.{append_assoc}
 use Rattle.std.proofs.lemmas.List.Quantifiers.{position-Some}
-use Rattle.account.specs.declared.call.Shut.{Shut}
-use Rattle.account.specs.declared.call.Shut.TheVariants as shut
-use Rattle.callhead.specs.declared.head.CallHead.{CallHead}
-use Rattle.callhead.specs.declared.fault.HeadFault.{HeadFault}
 use Rattle.callslot.specs.declared.order.Opened.{Opened}
 use Rattle.callslot.specs.declared.report.Ending.{Ending}
 use Rattle.connbook.specs.declared.answers.Receipt.{Receipt}
@@ -30,10 +26,10 @@ use Rattle.slots.specs.declared.worker.Worker.{Ghosts}
 use Rattle.slots.specs.Calls.{is_admitted}
 use Rattle.slots.specs.Concerns.{Concerns, IsIdle}
 use Rattle.slots.specs.Halves.{is_open, shown}
-use Rattle.slots.specs.Orders.{begun, begun_at, came_loose, cut_code, ends_at, greatest, is_fed, last_stream, most_streams, orders_at}
-use Rattle.slots.specs.Readings.{Awaits, Begins, Counts, Decides, DecidesOn, Heeds, Reads, ReadsOn, Stands, Stays, order_in, orders_in, unless_ended}
-use Rattle.slots.specs.Seats.{Hears, IsSeat, Keeps, Kept, feeds}
-use Rattle.slots.specs.Steps.{Cause, CutOff, Fate, Lacking, Received, Step, Told, WasTold, events_of, shut_at, shut_by, since}
+use Rattle.slots.specs.Orders.{begun, begun_at, came_loose, cut_code, ends_at, greatest, is_fed, last_stream, named, named_with, orders_at}
+use Rattle.slots.specs.Readings.{Awaits, Begins, Counts, Decides, DecidesOn, Heeds, Reads, Stands, Stays, order_in, orders_in, unless_ended}
+use Rattle.slots.specs.Seats.{Hears, Keeps, Kept, feeds}
+use Rattle.slots.specs.Steps.{Cause, CutOff, Drains, Fate, Lacking, Received, Step, Told, WasTold, events_of, is_drain, is_draining, reported, shut_at, shut_by, since}
 use Rattle.slots.proofs.SlotSteps.{kept-idle, kept-none}
 use Rattle.slots.proofs.Unfed.{unfed-shut}
 
@@ -86,18 +82,69 @@ module _ {H : Type 0} {hand : Ghosts H} {names : List ℕ → ℕ → Type 0} wh
 min-below : (n : ℕ) → n < 4096 → min 4096 n ≡ n
 min-below n low = omega (arith, low)
 
+-- the step begins no stream, and the server goes on
+pub record IsQuiet (step : Step) : Type 0 where
+  pub begins : begun_at step ≡ []
+  pub goes_on : is_drain step ≡ false
+
+pub quiet : (step : Step) → begun_at step ≡ [] → is_drain step ≡ false → IsQuiet step
+quiet step begins goes_on = record { begins = begins; goes_on = goes_on }
+
 begun-none : (step : Step) (told : List Step) → begun_at step ≡ [] → begun (step ∷ told) ≡ begun told
 begun-none step told none = ap (λ (ids : List ℕ). ids ++ begun told) none
 
+named-none : (step : Step) (told : List Step) → begun_at step ≡ [] → is_drain step ≡ false → named (step ∷ told) ≡ named told
+named-none (Told (events.Open id head) fate) told none goes = absurd cc
+named-none (Told (events.BadHead id fault) fate) told none goes = absurd cc
+named-none (Told (events.Data id piece counted) fate) told none goes = refl
+named-none (Told (events.Loose counted) fate) told none goes = refl
+named-none (Told (events.End id) fate) told none goes = refl
+named-none (Told (events.Reset id code) fate) told none goes = refl
+named-none (Told (events.StreamError id code) fate) told none goes = refl
+named-none (Told (events.Control control) fate) told none goes = refl
+named-none (Told events.PeerGoaway fate) told none goes = refl
+named-none (Told (events.Fatal code) fate) told none goes = refl
+named-none (CutOff id why) told none goes = refl
+named-none Drains told none goes = absurd (true≢false goes)
+
+one-same : {one other : ℕ} → one ∷ [] ≡ other ∷ [] → one ≡ other
+one-same is = cc
+
+named-one : (step : Step) (told : List Step) (id : ℕ) → begun_at step ≡ id ∷ [] → named (step ∷ told) ≡ named_with id (is_draining told) (named told)
+named-one (Told (events.Open other head) fate) told id is = ap (λ (n : ℕ). named_with n (is_draining told) (named told)) (one-same is)
+named-one (Told (events.BadHead other fault) fate) told id is = ap (λ (n : ℕ). named_with n (is_draining told) (named told)) (one-same is)
+named-one (Told (events.Data other piece counted) fate) told id is = absurd cc
+named-one (Told (events.Loose counted) fate) told id is = absurd cc
+named-one (Told (events.End other) fate) told id is = absurd cc
+named-one (Told (events.Reset other code) fate) told id is = absurd cc
+named-one (Told (events.StreamError other code) fate) told id is = absurd cc
+named-one (Told (events.Control control) fate) told id is = absurd cc
+named-one (Told events.PeerGoaway fate) told id is = absurd cc
+named-one (Told (events.Fatal code) fate) told id is = absurd cc
+named-one (CutOff other why) told id is = absurd cc
+named-one Drains told id is = absurd cc
+
+goes-one : (step : Step) (id : ℕ) → begun_at step ≡ id ∷ [] → is_drain step ≡ false
+goes-one (Told event fate) id is = refl
+goes-one (CutOff other why) id is = refl
+goes-one Drains id is = absurd cc
+
 module _ {H : Type 0} {hand : Ghosts H} where
-  pub counts-same : (ids : List ℕ) (old new : Reading H hand) → new.last ≡ old.last → new.begun ≡ old.begun → Counts ids old → Counts ids new
-  counts-same ids old new last count counts = record { last = last ∙ counts.last; count = count ∙ counts.count }
+  pub counts-same : (n : ℕ) (ids : List ℕ) (old new : Reading H hand) → new.last ≡ old.last → new.begun ≡ old.begun → Counts n ids old → Counts n ids new
+  counts-same n ids old new last count counts = record { last_is = last ∙ counts.last_is; count = count ∙ counts.count }
 
-  pub counts-step : (step : Step) (told : List Step) (reading : Reading H hand) → begun_at step ≡ [] → Counts (begun told) reading → Counts (begun (step ∷ told)) reading
-  counts-step step told reading none counts = subst (λ (ids : List ℕ). Counts ids reading) (sym (begun-none step told none)) counts
+  pub counts-step : (step : Step) (told : List Step) (reading : Reading H hand) → IsQuiet step → Counts (named told) (begun told) reading → Counts (named (step ∷ told)) (begun (step ∷ told)) reading
+  counts-step step told reading quiet counts =
+      subst (λ (n : ℕ). Counts n (begun (step ∷ told)) reading) (sym (named-none step told quiet.begins quiet.goes_on))
+      (subst (λ (ids : List ℕ). Counts (named told) ids reading) (sym (begun-none step told quiet.begins)) counts)
 
-  pub counts-none : (reading : Reading H hand) → reading.last ≡ 0 → reading.begun ≡ 0 → Counts [] reading
-  counts-none reading last count = record { last = last; count = count }
+  -- what is counted where a stream begins
+  abbrev pub CountsOn : ℕ → Option (Control Opened) → Reading H hand → Reading H hand → Type 0
+  CountsOn id first old new = (last : ℕ) (ids : List ℕ) → Counts last ids old
+      → Counts (named_with id old.slots.is_draining last) (id ∷ ids) new × (order_in first ≡ last_stream id old.slots.is_draining ids)
+
+  pub counts-none : (reading : Reading H hand) → reading.last ≡ 0 → reading.begun ≡ 0 → Counts 0 [] reading
+  counts-none reading last count = record { last_is = last; count = count }
 
 -- ---- what was told
 
@@ -105,6 +152,7 @@ pub told-more : (event : InEvent) (step : Step) (told : List Step) → WasTold e
 told-more event (Told other fate) told (before, after, is) =
     (before, after ++ other ∷ [], ap (λ (es : List InEvent). es ++ other ∷ []) is ∙ append_assoc before (event ∷ after) (other ∷ []))
 told-more event (CutOff id why) told was = was
+told-more event Drains told was = was
 
 module _ {H : Type 0} {hand : Ghosts H} where
   heeds-same : (told : List Step) (old new : Reading H hand) → new.peer_goaway ≡ old.peer_goaway → Heeds told old → Heeds told new
@@ -117,11 +165,11 @@ module _ {H : Type 0} {hand : Ghosts H} where
 
 module _ {H : Type 0} {hand : Ghosts H} {names : List ℕ → ℕ → Type 0} where
   -- a step that begins no stream
-  pub reads-step : (told : List Step) (step : Step) (old new : Reading H hand) → begun_at step ≡ [] → new.last ≡ old.last → new.begun ≡ old.begun → new.peer_goaway ≡ old.peer_goaway
+  pub reads-step : (told : List Step) (step : Step) (old new : Reading H hand) → IsQuiet step → new.last ≡ old.last → new.begun ≡ old.begun → new.peer_goaway ≡ old.peer_goaway
       → Hears names step old.slots new.slots → Reads names told old → Reads names (step ∷ told) new
-  reads-step told step old new none last count same hears reads = record {
+  reads-step told step old new quiet last count same hears reads = record {
     slots = hears told reads.slots;
-    counts = counts-step step told new none (counts-same (begun told) old new last count reads.counts);
+    counts = counts-step step told new quiet (counts-same (named told) (begun told) old new last count reads.counts);
     heeds = heeds-more told step old new same reads.heeds;
   }
 
@@ -130,28 +178,28 @@ module _ {H : Type 0} {hand : Ghosts H} {names : List ℕ → ℕ → Type 0} wh
       → Hears names (Told events.PeerGoaway fate) old.slots new.slots → Reads names told old → Reads names (Told events.PeerGoaway fate ∷ told) new
   reads-goaway told fate old new last count hears reads = record {
     slots = hears told reads.slots;
-    counts = counts-step (Told events.PeerGoaway fate) told new refl (counts-same (begun told) old new last count reads.counts);
+    counts = counts-step (Told events.PeerGoaway fate) told new (record { begins = refl; goes_on = refl }) (counts-same (named told) (begun told) old new last count reads.counts);
     heeds = λ is. (events_of told, [], refl);
   }
 
   -- a step that is nothing to any call, and begins no stream
-  pub reads-idle : (told : List Step) (step : Step) (reading : Reading H hand) → begun_at step ≡ [] → IsIdle step → Reads names told reading → Reads names (step ∷ told) reading
-  reads-idle told step reading none idle reads =
-      reads-step told step reading reading none refl refl refl (λ told_now kept. kept-idle told_now step reading.slots idle kept) reads
+  pub reads-idle : (told : List Step) (step : Step) (reading : Reading H hand) → IsQuiet step → IsIdle step → Reads names told reading → Reads names (step ∷ told) reading
+  reads-idle told step reading quiet idle reads =
+      reads-step told step reading reading quiet refl refl refl (λ told_now kept. kept-idle told_now step reading.slots quiet.goes_on idle kept) reads
 
   pub stays-same : (old new : Reading H hand) → new.last ≡ old.last → new.begun ≡ old.begun → new.peer_goaway ≡ old.peer_goaway → Keeps names old.slots new.slots → Stays names old new
   stays-same old new last count same keeps told reads = record {
     slots = keeps told reads.slots;
-    counts = counts-same (begun told) old new last count reads.counts;
+    counts = counts-same (named told) (begun told) old new last count reads.counts;
     heeds = heeds-same told old new same reads.heeds;
   }
 
   -- a half that is to be shut
-  pub awaits-cut : (told : List Step) (step : Step) (cut : Cut) (reading : Reading H hand) → begun_at step ≡ [] → Concerns cut.id step → shut_at cut.id step ≡ Some cut.kind
+  pub awaits-cut : (told : List Step) (step : Step) (cut : Cut) (reading : Reading H hand) → IsQuiet step → Concerns cut.id step → shut_at cut.id step ≡ Some cut.kind
       → Reads names told reading → Awaits names told step cut reading
-  awaits-cut told step cut reading none concerns shuts reads = record {
+  awaits-cut told step cut reading quiet concerns shuts reads = record {
     slots = reads.slots;
-    counts = counts-step step told reading none reads.counts;
+    counts = counts-step step told reading quiet reads.counts;
     heeds = reads.heeds;
     concerns = concerns;
     shuts = shuts;
@@ -161,17 +209,19 @@ module _ {H : Type 0} {hand : Ghosts H} {names : List ℕ → ℕ → Type 0} wh
       → ((s : Step) → Concerns cut.id s → shut_at cut.id s ≡ Some cut.kind → Hears names s old.slots new.slots) → Awaits names told step cut old → Reads names (step ∷ told) new
   shuts-awaited told step cut old new last count same hears awaits = record {
     slots = hears step awaits.concerns awaits.shuts told awaits.slots;
-    counts = counts-same (begun (step ∷ told)) old new last count awaits.counts;
+    counts = counts-same (named (step ∷ told)) (begun (step ∷ told)) old new last count awaits.counts;
     heeds = heeds-more told step old new same awaits.heeds;
   }
 
   -- a stream that begins, where the step is nothing to any call
   pub begins-idle : (told : List Step) (step : Step) (id : ℕ) (reading : Reading H hand) → begun_at step ≡ id ∷ [] → IsIdle step → Reads names told reading → Begins names told step id reading
   begins-idle told step id reading begins idle reads = record {
-    slots = kept-idle told step reading.slots idle reads.slots;
+    slots = kept-idle told step reading.slots (goes-one step id begins) idle reads.slots;
     counts = reads.counts;
     heeds = reads.heeds;
     begins = ap (λ (ids : List ℕ). ids ++ begun told) begins;
+    names_on = named-one step told id begins;
+    drains = reads.slots.drains;
   }
 
   -- where it is a call's
@@ -179,9 +229,11 @@ module _ {H : Type 0} {hand : Ghosts H} {names : List ℕ → ℕ → Type 0} wh
       → Hears names step old.slots new.slots → Reads names told old → Begins names told step id new
   begins-call told step id old new begins last count same hears reads = record {
     slots = hears told reads.slots;
-    counts = counts-same (begun told) old new last count reads.counts;
+    counts = counts-same (named told) (begun told) old new last count reads.counts;
     heeds = heeds-same told old new same reads.heeds;
     begins = ap (λ (ids : List ℕ). ids ++ begun told) begins;
+    names_on = named-one step told id begins;
+    drains = (hears told reads.slots).drains ∙ ap (λ (b : Bool). b || is_draining told) (goes-one step id begins);
   }
 
   -- ---- what is decided
@@ -203,34 +255,48 @@ module _ {H : Type 0} {hand : Ghosts H} {names : List ℕ → ℕ → Type 0} wh
   decides-cut told step decided cut reading orders ends some awaits = record { orders = orders; ends = ends; stands = stands-some told step decided.cut cut reading some awaits }
 
   -- a stream begins
+  pub counts-begun : (told : List Step) (step : Step) (id : ℕ) (first : Option (Control Opened)) (old new : Reading H hand) → CountsOn id first old new → Begins names told step id old
+      → Counts (named_with id (is_draining told) (named told)) (id ∷ begun told) new × (order_in first ≡ last_stream id (is_draining told) (begun told))
+  counts-begun told step id first old new counts begins =
+      subst (λ (b : Bool). Counts (named_with id b (named told)) (id ∷ begun told) new × (order_in first ≡ last_stream id b (begun told))) begins.drains
+      (counts (named told) (begun told) begins.counts)
+
+  reads-begun : (told : List Step) (step : Step) (id : ℕ) (old new : Reading H hand) → new.slots ≡ old.slots → new.peer_goaway ≡ old.peer_goaway
+      → Counts (named_with id (is_draining told) (named told)) (id ∷ begun told) new → Begins names told step id old → Reads names (step ∷ told) new
+  reads-begun told step id old new same heeded counts begins = record {
+    slots = subst (λ (slots : Slots H hand). Kept names (step ∷ told) slots) (sym same) begins.slots;
+    counts = subst (λ (n : ℕ). Counts n (begun (step ∷ told)) new) (sym begins.names_on)
+        (subst (λ (ids : List ℕ). Counts (named_with id (is_draining told) (named told)) ids new) (sym begins.begins) counts);
+    heeds = heeds-more told step old new heeded begins.heeds;
+  }
+
   pub decides-begun : (told : List Step) (step : Step) (id : ℕ) (decided : Decided) (order : Order) (old new : Reading H hand) → new.slots ≡ old.slots → new.peer_goaway ≡ old.peer_goaway
-      → ((ids : List ℕ) → Counts ids old → Counts (id ∷ ids) new × (order_in decided.first ≡ last_stream id ids)) → order_in decided.second ≡ order ∷ []
-      → orders_at told step ≡ last_stream id (begun told) ++ order ∷ [] → decided.ends ≡ ends_at step → decided.cut ≡ None → Begins names told step id old → Decides names told step decided new
+      → CountsOn id decided.first old new → order_in decided.second ≡ order ∷ []
+      → orders_at told step ≡ last_stream id (is_draining told) (begun told) ++ order ∷ [] → decided.ends ≡ ends_at step → decided.cut ≡ None → Begins names told step id old → Decides names told step decided new
   decides-begun told step id decided order old new same heeded counts second orders ends none begins =
-      let count = counts (begun told) begins.counts in
+      let count = counts-begun told step id decided.first old new counts begins in
       decides-now told step decided new
-      (ap (λ (os : List Order). os ++ order_in decided.second) count.1 ∙ (ap (λ (os : List Order). last_stream id (begun told) ++ os) second ∙ sym orders))
-      ends none
-      (record {
-        slots = subst (λ (slots : Slots H hand). Kept names (step ∷ told) slots) (sym same) begins.slots;
-        counts = subst (λ (ids : List ℕ). Counts ids new) (sym begins.begins) count.0;
-        heeds = heeds-more told step old new heeded begins.heeds;
-      })
+      (ap (λ (os : List Order). os ++ order_in decided.second) count.1 ∙ (ap (λ (os : List Order). last_stream id (is_draining told) (begun told) ++ os) second ∙ sym orders))
+      ends none (reads-begun told step id old new same heeded count.0 begins)
 
   -- a stream begins, and no more is ordered
   pub decides-passed : (told : List Step) (step : Step) (id : ℕ) (decided : Decided) (old new : Reading H hand) → new.slots ≡ old.slots → new.peer_goaway ≡ old.peer_goaway
-      → ((ids : List ℕ) → Counts ids old → Counts (id ∷ ids) new × (order_in decided.first ≡ last_stream id ids)) → decided.second ≡ None
-      → orders_at told step ≡ last_stream id (begun told) ++ [] → decided.ends ≡ ends_at step → decided.cut ≡ None → Begins names told step id old → Decides names told step decided new
+      → CountsOn id decided.first old new → decided.second ≡ None
+      → orders_at told step ≡ last_stream id (is_draining told) (begun told) ++ [] → decided.ends ≡ ends_at step → decided.cut ≡ None → Begins names told step id old → Decides names told step decided new
   decides-passed told step id decided old new same heeded counts second orders ends none begins =
-      let count = counts (begun told) begins.counts in
+      let count = counts-begun told step id decided.first old new counts begins in
       decides-now told step decided new
       (ap (λ (found : Option (Control Opened)). order_in decided.first ++ order_in found) second ∙ (ap (λ (os : List Order). os ++ []) count.1 ∙ sym orders))
-      ends none
-      (record {
-        slots = subst (λ (slots : Slots H hand). Kept names (step ∷ told) slots) (sym same) begins.slots;
-        counts = subst (λ (ids : List ℕ). Counts ids new) (sym begins.begins) count.0;
-        heeds = heeds-more told step old new heeded begins.heeds;
-      })
+      ends none (reads-begun told step id old new same heeded count.0 begins)
+
+  -- the server drains
+  pub reads-drain : (told : List Step) (old new : Reading H hand) → new.last ≡ greatest (reported told) → new.begun ≡ old.begun → new.peer_goaway ≡ old.peer_goaway → Hears names Drains old.slots new.slots
+      → Reads names told old → Reads names (Drains ∷ told) new
+  reads-drain told old new last count same hears reads = record {
+    slots = hears told reads.slots;
+    counts = record { last_is = last; count = count ∙ reads.counts.count };
+    heeds = heeds-more told Drains old new same reads.heeds;
+  }
 
 -- ---- more of them
 
@@ -246,12 +312,19 @@ module _ {H : Type 0} {hand : Ghosts H} {names : List ℕ → ℕ → Type 0} wh
   plain-as event fate decided old new is decides told reads =
       subst (λ (end : Option Ending). Decides names told (Told event (unless_ended end fate)) decided new) (sym is) (decides told reads)
 
+  -- as the step says it goes on, there was memory
+  pub calm-as : (event : InEvent) (fate : Fate) (decided : Decided) (old new : Reading H hand) → ends_at (Told event fate) ≡ None
+      → DecidesOn names (Told event fate) decided old new → DecidesOn names (Told event (unless_ended decided.ends fate)) decided old new
+  calm-as event fate decided old new calm decides told reads =
+      let now = decides told reads in
+      subst (λ (end : Option Ending). Decides names told (Told event (unless_ended end fate)) decided new) (sym (now.ends ∙ calm)) now
+
   -- a step that concerns a call to which no more may be fed
-  pub reads-unfed : (told : List Step) (step : Step) (id : ℕ) (reading : Reading H hand) → begun_at step ≡ [] → position (λ (seat : Seat H hand). feeds id seat) reading.slots.seats.items ≡ None
+  pub reads-unfed : (told : List Step) (step : Step) (id : ℕ) (reading : Reading H hand) → IsQuiet step → position (λ (seat : Seat H hand). feeds id seat) reading.slots.seats.items ≡ None
       → Concerns id step → Reads names told reading → Reads names (step ∷ told) reading
-  reads-unfed told step id reading none unfed concerns reads = record {
+  reads-unfed told step id reading quiet unfed concerns reads = record {
     slots = kept-none told step reading.slots id unfed (unfed-shut told id reading.slots reads.slots unfed) concerns reads.slots;
-    counts = counts-step step told reading none reads.counts;
+    counts = counts-step step told reading quiet reads.counts;
     heeds = heeds-more told step reading reading refl reads.heeds;
   }
 

@@ -1,13 +1,12 @@
 -- Why the half of a call was reset though its client ended it: a reset of the stream is among the orders.
-use Rattle.std.proofs.Common.{◌≡◌, ◌∙◌, ◌⊎◌, inl, inr, ℕ, Bool, true, false, true≢false, nat_eq, List, [], ◌∷◌, ◌++◌, Option, None, Some, ap, eqb-true, refl, subst, sym}
+use Rattle.std.proofs.Common.{◌≡◌, ◌∙◌, ◌⊎◌, inl, inr, ℕ, Bool, true, false, true≢false, nat_eq, List, [], ◌∷◌, ◌++◌, None, ap, eqb-true, refl, subst, sym}
 use Rattle.std.specs.List.{list_any}
 use Rattle.std.proofs.lemmas.List.Folds.{list_any-append}
 use Rattle.outwriter.specs.declared.control.Control.TheVariants.{Reset}
-use Rattle.std.specs.Prelude.{◌&&◌, ◌||◌, IfSome, if◌then◌else◌, is_none}
+use Rattle.std.specs.Prelude.{◌||◌, IfSome, if◌then◌else◌}
 use Rattle.std.proofs.lemmas.Bool.{and_parts}
 use Rattle.std.specs.Option.{is_some}
 use Rattle.connbook.specs.declared.answers.Receipt.TheVariants.{Feed, Discard, CallWindow, Overrun}
-use Rattle.h2frame.specs.declared.error_code.ErrorCode.{ErrorCode}
 use Rattle.h2frame.specs.declared.error_code.ErrorCode.TheVariants.{FlowControlError, EnhanceYourCalm}
 use Rattle.outwriter.specs.Steps.{Order}
 use Rattle.session.specs.declared.event.InEvent.{InEvent}
@@ -18,7 +17,7 @@ use Rattle.connbook.specs.declared.answers.AdmitFault.{AdmitFault}
 use Rattle.connbook.specs.declared.answers.AdmitFault.TheVariants as refused
 use Rattle.slots.specs.Orders.{IsReset, cut_code, ends_at, ends_by, ends_if_refused, is_fed, orders_at, orders_by}
 use Rattle.slots.specs.Reports.{AreCalm, WasResetFor, is_heard_out}
-use Rattle.slots.specs.Steps.{NoWorker, Stopped, Fate, Plain, Admitted, Unserved, Unknown, TurnedAway, Received, Missed, Lacking, Cause, Step, Told, CutOff, admitted_by, events_of, is_of, lets_go, lost, shut_by, since}
+use Rattle.slots.specs.Steps.{NoWorker, Stopped, Fate, Plain, Admitted, Unserved, Unknown, TurnedAway, Received, Missed, Lacking, Cause, Step, Told, CutOff, Drains, admitted_by, events_of, is_of, lets_go, lost, shut_by, since}
 use Rattle.slots.proofs.LetGo.{let-go-before}
 
 -- ---- among orders
@@ -63,6 +62,7 @@ at-resets id (Told (events.Data other piece counted) fate) before fed lets calm 
     (data-resets id piece counted fate before fed parts.1 calm)
 at-resets id (CutOff other why) before fed lets calm =
     subst (λ (n : ℕ). IsReset id (orders_at before (CutOff n why))) (eqb-true id other lets) (cut-resets id why before fed)
+at-resets id Drains before fed lets calm = absurd cc
 at-resets id (Told (events.End other) fate) before fed lets calm = absurd cc
 at-resets id (Told (events.Reset other code) fate) before fed lets calm = absurd cc
 at-resets id (Told (events.StreamError other code) fate) before fed lets calm = absurd cc
@@ -106,6 +106,7 @@ event-orders id (events.Fatal code) fate before error = absurd cc
 
 step-orders : (id : ℕ) (step : Step) (heard before : List Step) → list_any (is_stream_error id) (events_of (step ∷ heard)) ≡ true → (list_any (is_stream_error id) (events_of heard) ≡ true) ⊎ IsReset id (orders_at before step)
 step-orders id (CutOff other why) heard before error = inl error
+step-orders id Drains heard before error = inl error
 step-orders id (Told event fate) heard before error =
     elim (either (list_any (is_stream_error id) (events_of heard)) (list_any (is_stream_error id) (event ∷ [])) (sym (list_any-append (is_stream_error id) (events_of heard) (event ∷ [])) ∙ error)) [
       | inl earlier ↦ inl earlier
@@ -174,3 +175,4 @@ ends-harsh (Told (events.StreamError id code) fate) = by-harsh fate
 ends-harsh (Told (events.Control control) fate) = by-harsh fate
 ends-harsh (Told events.PeerGoaway fate) = by-harsh fate
 ends-harsh (CutOff id why) = tt
+ends-harsh Drains = tt

@@ -7,7 +7,6 @@ use Rattle.lane.specs.Lawful.{count_of}
 use Rattle.lane.specs.RingLane.{past_in, past_shut, put_in, put_shut}
 use Rattle.account.specs.declared.call.Account.{Account}
 use Rattle.account.specs.declared.call.OutItem.{OutItem}
-use Rattle.account.specs.declared.call.Shut.{Shut}
 use Rattle.callbox.specs.declared.piece.InPiece.{InPiece}
 use Rattle.callbox.specs.InSides.{bytes_of, shut_of}
 use Rattle.callbox.specs.Slots.{IsUnsent}

@@ -1,5 +1,5 @@
 -- The rows of all calls, where the ends of the workers are seen one after another.
-use Rattle.std.proofs.Common.{◌≡◌, ◌∙◌, ◌⊎◌, inl, inr, ap, arith, eq-eqb, refl, subst, sym, ℕ, ◌+◌, ◌<◌, zero, suc, Bool, true, false, true≢false, nat_eq, List, [], ◌∷◌, ◌++◌, Option, None, Some, All, get_or, length, map, slice_get}
+use Rattle.std.proofs.Common.{◌≡◌, ◌∙◌, ◌⊎◌, inl, inr, ap, arith, refl, subst, sym, ℕ, ◌+◌, ◌<◌, suc, Bool, true, false, true≢false, nat_eq, List, [], ◌∷◌, Option, None, Some, All, get_or, length, map, slice_get}
 use Rattle.std.specs.Prelude.{◌||◌, if◌then◌else◌, IfSome}
 use Rattle.std.specs.List.{list_any}
 use Rattle.std.proofs.lemmas.Bool.{eqb-true}

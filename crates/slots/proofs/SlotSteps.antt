@@ -1,6 +1,6 @@
 -- What one step more makes of all slots of a connection.
-use Rattle.std.proofs.Common.{◌≡◌, ◌≢◌, ◌∙◌, ℕ, zero, suc, ◌+◌, ◌<◌, ◌≤◌, Bool, true, false, List, [], ◌∷◌, ◌++◌, None, Some, ap, append-nil, arith, eqb-true, get_or, inl, inr, length, map, refl, set, subst, sym, All}
-use Rattle.std.specs.Prelude.{◌&&◌, nat_eq, nat_lt, position, Result, Ok, Err, OnOk, OnErr}
+use Rattle.std.proofs.Common.{◌≡◌, ◌≢◌, ◌∙◌, ℕ, zero, suc, ◌+◌, ◌<◌, ◌≤◌, Bool, true, false, true≢false, List, [], ◌∷◌, ◌++◌, None, Some, ap, append-nil, arith, eqb-true, get_or, inl, inr, length, map, refl, set, subst, sym, All}
+use Rattle.std.specs.Prelude.{◌&&◌, ◌||◌, max, nat_eq, nat_lt, position, Result, Ok, Err, OnOk, OnErr}
 use Rattle.std.specs.List.{position_or_len}
 use Rattle.std.proofs.lemmas.Bool.{and_left, and_parts, cases_Bool, cases_eq, cases_lt, cond-true, lt-ltb, ne_eqb}
 use Rattle.std.proofs.lemmas.List.{get_or-map, get_or-set_same, get_or-set_other, get_or_append_left, get_or_push, length-map, length-set, length_push, map-append, map-set, map_push, same_from_push}
@@ -8,10 +8,8 @@ use Rattle.std.proofs.lemmas.List.Elements.{All-nil, All-push, All-weaker}
 use Rattle.std.proofs.lemmas.List.Quantifiers.{position-Some}
 use Rattle.std.proofs.lemmas.List.Sums.{fails_before_first}
 use Rattle.std.proofs.Math.Seq.{map-set_same}
-use Rattle.callbox.specs.declared.piece.InPiece.{InPiece}
-use Rattle.account.specs.declared.call.Shut.{Shut}
 use Rattle.slots.specs.Concerns.{Concerns, IsIdle}
-use Rattle.slots.specs.Steps.{Lack, Step, Told, Unserved, admitted, admitted_by, last_of, shut_by, since}
+use Rattle.slots.specs.Steps.{AdmitsNoMore, Drains, Lack, Step, Told, Unserved, admitted, admitted_by, is_drain, is_draining, last_of, reported, reported_by, shut_by, since}
 use Rattle.session.specs.declared.event.InEvent.TheVariants as events
 use Rattle.callhead.specs.declared.head.CallHead.{CallHead}
 use Rattle.callslot.specs.declared.report.CallReport.{CallReport}
@@ -25,6 +23,7 @@ use Rattle.slots.specs.declared.slots.Slots.{Slots}
 use Rattle.slots.specs.Calls.{Rises, is_admitted}
 use Rattle.slots.specs.Halves.{is_open, shown}
 use Rattle.slots.specs.Ids.{times}
+use Rattle.slots.specs.Orders.{greatest}
 use Rattle.slots.specs.Seats.{AreApart, HaveRows, IsSeat, Kept, feeds, ids_of, jobs_of, times_in}
 use Rattle.slots.proofs.Ids.{times-append}
 use Rattle.slots.proofs.ListedRows.{rows-none, rows-open, rows-step, rows-unfed, rows-unserved}
@@ -45,6 +44,44 @@ shut-is-told Moving closed there none = absurd cc
 
 admitted-not : (told : List Step) (step : Step) → admitted_by step ≡ None → admitted (step ∷ told) ≡ admitted told
 admitted-not told step none = rw none (append-nil (admitted told))
+
+-- ---- the greatest stream of a call, and the drain
+
+reported-not : (told : List Step) (step : Step) → reported_by step ≡ None → reported (step ∷ told) ≡ reported told
+reported-not told step none = rw none (append-nil (reported told))
+
+draining-not : (told : List Step) (step : Step) → is_drain step ≡ false → is_draining (step ∷ told) ≡ is_draining told
+draining-not told step not = ap (λ (b : Bool). b || is_draining told) not
+
+greatest-above : (ids : List ℕ) (id : ℕ) → greatest ids < id → greatest (ids ++ id ∷ []) ≡ id
+greatest-above [] id low = grind (arith, low)
+greatest-above (first ∷ ids) id low =
+    let rest = greatest-above ids id (lower first (greatest ids) id low) in
+    ap (λ (n : ℕ). max first n) rest ∙ upper first (greatest ids) id low
+  where
+    lower : (a b c : ℕ) → max a b < c → b < c
+    lower a b c low = grind (arith, low)
+
+    upper : (a b c : ℕ) → max a b < c → max a c ≡ c
+    upper a b c low = grind (arith, low)
+
+module _ {H : Type 0} {hand : Ghosts H} {names : List ℕ → ℕ → Type 0} where
+  -- behind a step that admits none
+  top-still : (told : List Step) (step : Step) (old new : Slots H hand) → reported_by step ≡ None → new.last ≡ old.last → Kept names told old → new.last ≡ greatest (reported (step ∷ told))
+  top-still told step old new none last k = last ∙ (k.top ∙ sym (ap greatest (reported-not told step none)))
+
+  closed-still : (told : List Step) (step : Step) (slots : Slots H hand) → reported_by step ≡ None → Kept names told slots → AdmitsNoMore (step ∷ told)
+  closed-still told step slots none k = (λ draining. none, k.closed)
+
+  drains-still : (told : List Step) (step : Step) (old new : Slots H hand) → is_drain step ≡ false → new.is_draining ≡ old.is_draining → Kept names told old → new.is_draining ≡ is_draining (step ∷ told)
+  drains-still told step old new not same k = same ∙ (k.drains ∙ sym (draining-not told step not))
+
+  -- behind one that admits one
+  top-more : (told : List Step) (id : ℕ) (old new : Slots H hand) → old.last < id → new.last ≡ id → Kept names told old → new.last ≡ greatest (reported told ++ id ∷ [])
+  top-more told id old new above last k = last ∙ sym (greatest-above (reported told) id (subst (λ (n : ℕ). n < id) k.top above))
+
+  closed-more : (told : List Step) (step : Step) (slots : Slots H hand) → slots.is_draining ≡ false → Kept names told slots → AdmitsNoMore (step ∷ told)
+  closed-more told step slots going k = (λ draining. absurd (true≢false (sym draining ∙ (sym k.drains ∙ going))), k.closed)
 
 module _ {H : Type 0} {hand : Ghosts H} {names : List ℕ → ℕ → Type 0} where
   -- its call is of another stream, or was shut
@@ -194,17 +231,42 @@ module _ {X : Type 0} (P Q : X → Type 0) where
 
 -- ---- all slots
 
+idle-drain : IsIdle Drains
+idle-drain = record { admits = refl; reports = refl; shuts = λ id. refl; feeds = λ id. refl }
+
 module _ {H : Type 0} {hand : Ghosts H} {names : List ℕ → ℕ → Type 0} where
   -- a step that is nothing to any call
-  pub kept-idle : (told : List Step) (step : Step) (slots : Slots H hand) → IsIdle step → Kept names told slots → Kept names (step ∷ told) slots
-  kept-idle told step slots idle k = record {
+  pub kept-idle : (told : List Step) (step : Step) (slots : Slots H hand) → is_drain step ≡ false → IsIdle step → Kept names told slots → Kept names (step ∷ told) slots
+  kept-idle told step slots not idle k = record {
     rising = (rises-not told step idle.admits, k.rising);
     last = subst (λ (n : ℕ). n ≤ slots.last) (sym (last-not told step idle.admits)) k.last;
+    top = top-still told step slots slots idle.reports refl k;
+    closed = closed-still told step slots idle.reports k;
+    drains = drains-still told step slots slots not refl k;
     rows = rows-step told step slots.last slots.rows.items idle k.rows;
     each = All-weaker (IsSeat names told) (IsSeat names (step ∷ told)) (λ seat are. seat-idle told step seat idle are) slots.seats.items k.each;
     apart = k.apart;
     all = all-not (λ id. times_in id slots.seats.items) told step idle.admits k.all;
   }
+
+  -- the server drains
+  pub kept-drain : (told : List Step) (old new : Slots H hand) → new.last ≡ old.last → new.rows ≡ old.rows → new.seats ≡ old.seats → new.is_draining ≡ true → Kept names told old
+      → Kept names (Drains ∷ told) new
+  kept-drain told old new last rows seats draining k =
+      let items = ap (λ v. v.items) seats in
+      record {
+        rising = (tt, k.rising);
+        last = subst (λ (n : ℕ). last_of told ≤ n) (sym last) k.last;
+        top = top-still told Drains old new refl last k;
+        closed = closed-still told Drains old refl k;
+        drains = draining;
+        rows = subst (λ (n : ℕ). HaveRows names (Drains ∷ told) n new.rows.items) (sym last)
+            (subst (λ (all : List CallReport). HaveRows names (Drains ∷ told) old.last all) (sym (ap (λ v. v.items) rows)) (rows-step told Drains old.last old.rows.items idle-drain k.rows));
+        each = subst (λ (all : List (Seat H hand)). All (λ (s : Seat H hand). IsSeat names (Drains ∷ told) s) all) (sym items)
+            (All-weaker (IsSeat names told) (IsSeat names (Drains ∷ told)) (λ seat are. seat-idle told Drains seat idle-drain are) old.seats.items k.each);
+        apart = subst (λ (all : List (Seat H hand)). AreApart (ids all)) (sym items) k.apart;
+        all = λ id. ap (λ (v : List (Seat H hand)). times_in id v) items ∙ all-not (λ n. times_in n old.seats.items) told Drains refl k.all id;
+      }
 
 none-passes : {X : Type 0} (p : X → Bool) (xs : List X) → position p xs ≡ None → length xs ≤ position_or_len p xs
 none-passes p xs none = elim (cases_lt (position_or_len p xs) (length xs)) [
@@ -225,6 +287,9 @@ module _ {H : Type 0} {hand : Ghosts H} {names : List ℕ → ℕ → Type 0} wh
   kept-none told step slots id none closed concerns k = record {
     rising = (rises-not told step concerns.admits, k.rising);
     last = subst (λ (n : ℕ). n ≤ slots.last) (sym (last-not told step concerns.admits)) k.last;
+    top = top-still told step slots slots concerns.reports refl k;
+    closed = closed-still told step slots concerns.reports k;
+    drains = drains-still told step slots slots concerns.drains refl k;
     rows = rows-unfed told step slots.last id slots.rows.items concerns closed k.rows;
     each = λ n d within.
         seat-by told step id (get_or slots.seats.items n d) concerns (none-at (λ (seat : Seat H hand). feeds id seat) slots.seats.items n d none within) (k.each n d within);
@@ -277,11 +342,14 @@ module _ {H : Type 0} {hand : Ghosts H} {names : List ℕ → ℕ → Type 0} (o
       subst (λ (n : ℕ). HaveRows names told n new.rows.items) (sym last) (subst (λ (all : List CallReport). HaveRows names told old.last all) (sym (ap (λ v. v.items) still)) has)
 
   -- a step that concerns its call
-  pub kept-set : (told : List Step) (step : Step) (id : ℕ) → new.last ≡ old.last → HaveRows names (step ∷ told) old.last new.rows.items → moved.id ≡ seat.id → jobs_of moved ≡ jobs_of seat → nat_eq seat.id id ≡ true → Concerns id step
+  pub kept-set : (told : List Step) (step : Step) (id : ℕ) → new.last ≡ old.last → new.is_draining ≡ old.is_draining → HaveRows names (step ∷ told) old.last new.rows.items → moved.id ≡ seat.id → jobs_of moved ≡ jobs_of seat → nat_eq seat.id id ≡ true → Concerns id step
       → (IsSeat names told seat → IsSeat names (step ∷ told) moved) → Kept names told old → Kept names (step ∷ told) new
-  kept-set told step id last still same jobs of concerns goes k = record {
+  kept-set told step id last draining still same jobs of concerns goes k = record {
     rising = (rises-not told step concerns.admits, k.rising);
     last = subst (λ (n : ℕ). last_of (step ∷ told) ≤ n) (sym last) (subst (λ (n : ℕ). n ≤ old.last) (sym (last-not told step concerns.admits)) k.last);
+    top = top-still told step old new concerns.reports last k;
+    closed = closed-still told step old concerns.reports k;
+    drains = drains-still told step old new concerns.drains draining k;
     rows = subst (λ (n : ℕ). HaveRows names (step ∷ told) n new.rows.items) (sym last) still;
     each = subst (λ (seats : List (Seat H hand)). All (λ (s : Seat H hand). IsSeat names (step ∷ told) s) seats) (sym items)
         (set-each (IsSeat names told) (IsSeat names (step ∷ told)) old.seats.items place moved there (goes (was told k))
@@ -291,10 +359,13 @@ module _ {H : Type 0} {hand : Ghosts H} {names : List ℕ → ℕ → Type 0} (o
   }
 
   -- no step
-  pub keeps-set : (told : List Step) → new.last ≡ old.last → new.rows ≡ old.rows → moved.id ≡ seat.id → jobs_of moved ≡ jobs_of seat → (IsSeat names told seat → IsSeat names told moved) → Kept names told old → Kept names told new
-  keeps-set told last still same jobs stays k = record {
+  pub keeps-set : (told : List Step) → new.last ≡ old.last → new.is_draining ≡ old.is_draining → new.rows ≡ old.rows → moved.id ≡ seat.id → jobs_of moved ≡ jobs_of seat → (IsSeat names told seat → IsSeat names told moved) → Kept names told old → Kept names told new
+  keeps-set told last draining still same jobs stays k = record {
     rising = k.rising;
     last = subst (λ (n : ℕ). last_of told ≤ n) (sym last) k.last;
+    top = last ∙ k.top;
+    closed = k.closed;
+    drains = draining ∙ k.drains;
     rows = rows-same old new told last still k.rows;
     each = subst (λ (seats : List (Seat H hand)). All (λ (s : Seat H hand). IsSeat names told s) seats) (sym items)
         (set-each (IsSeat names told) (IsSeat names told) old.seats.items place moved there (stays (was told k)) (λ n d within away one. one) k.each);
@@ -303,15 +374,18 @@ module _ {H : Type 0} {hand : Ghosts H} {names : List ℕ → ℕ → Type 0} (o
   }
 
   -- it begins the next call
-  pub kept-begins : (told : List Step) (job : Job) → names job.head.path job.index → old.last < job.id → new.last ≡ job.id → new.rows.items ≡ old.rows.items ++ unanswered job.id job.index ∷ [] → moved.id ≡ job.id → jobs_of moved ≡ jobs_of seat ++ job ∷ []
+  pub kept-begins : (told : List Step) (job : Job) → names job.head.path job.index → old.is_draining ≡ false → new.is_draining ≡ old.is_draining → old.last < job.id → new.last ≡ job.id → new.rows.items ≡ old.rows.items ++ unanswered job.id job.index ∷ [] → moved.id ≡ job.id → jobs_of moved ≡ jobs_of seat ++ job ∷ []
       → (last_of told < job.id → IsSeat names told seat → IsSeat names (opening job ∷ told) moved) → Kept names told old → Kept names (opening job ∷ told) new
-  kept-begins told job named above last row next jobs begins k =
+  kept-begins told job named going draining above last row next jobs begins k =
       let higher : last_of told < job.id = omega (arith, k.last, above) in
       let set_at : ids new.seats.items ≡ set (ids old.seats.items) place job.id =
       ap ids items ∙ (map-set (λ (s : Seat H hand). s.id) old.seats.items place moved ∙ ap (λ (n : ℕ). set (ids old.seats.items) place n) next) in
       record {
         rising = (higher, k.rising);
         last = omega (arith, last);
+        top = top-more told job.id old new above last k;
+        closed = closed-more told (opening job) old going k;
+        drains = draining ∙ k.drains;
         rows = subst (λ (n : ℕ). HaveRows names (opening job ∷ told) n new.rows.items) (sym last) (rows-open told job old.last old.rows.items new.rows.items named above row k.rows);
         each = subst (λ (seats : List (Seat H hand)). All (λ (s : Seat H hand). IsSeat names (opening job ∷ told) s) seats) (sym items)
             (set-each (IsSeat names told) (IsSeat names (opening job ∷ told)) old.seats.items place moved there (begins higher (was told k))
@@ -326,13 +400,16 @@ module _ {H : Type 0} {hand : Ghosts H} {names : List ℕ → ℕ → Type 0} wh
   first-named told seat job jobs are = let same = same_from_push [] are.earlier job are.job (sym jobs ∙ are.all) in subst (λ (j : Job). names j.head.path j.index) (sym same.1) are.last.named
 
   -- no worker serves a call
-  pub kept-unserved : (old new : Slots H hand) (told : List Step) (id method : ℕ) (head : CallHead) (why : Lack) → names head.path method → new.seats ≡ old.seats → old.last < id → new.last ≡ id
+  pub kept-unserved : (old new : Slots H hand) (told : List Step) (id method : ℕ) (head : CallHead) (why : Lack) → names head.path method → old.is_draining ≡ false → new.is_draining ≡ old.is_draining → new.seats ≡ old.seats → old.last < id → new.last ≡ id
       → new.rows.items ≡ old.rows.items ++ unanswered id method ∷ [] → Kept names told old → Kept names (Told (events.Open id head) (Unserved why) ∷ told) new
-  kept-unserved old new told id method head why named seats above last row k =
+  kept-unserved old new told id method head why named going draining seats above last row k =
       let step = Told (events.Open id head) (Unserved why) in
       record {
         rising = (tt, k.rising);
         last = omega (arith, last, above, k.last);
+        top = top-more told id old new above last k;
+        closed = closed-more told step old going k;
+        drains = draining ∙ k.drains;
         rows = subst (λ (n : ℕ). HaveRows names (step ∷ told) n new.rows.items) (sym last) (rows-unserved told id method old.last head why old.rows.items new.rows.items named k.rising k.last above row k.rows);
         each = subst (λ (all : List (Seat H hand)). All (λ (s : Seat H hand). IsSeat names (step ∷ told) s) all) (sym (ap (λ v. v.items) seats))
             (All-weaker (IsSeat names told) (IsSeat names (step ∷ told)) (λ s are. seat-passes told step _ _ s.id (shown s.half) tt (record { shuts = refl; feeds = refl }) are) old.seats.items k.each);
@@ -341,10 +418,10 @@ module _ {H : Type 0} {hand : Ghosts H} {names : List ℕ → ℕ → Type 0} wh
       }
 
   -- a slot is made for a call
-  pub kept-pushed : (old new : Slots H hand) (seat : Seat H hand) (told : List Step) (job : Job) → new.seats.items ≡ old.seats.items ++ seat ∷ [] → old.last < job.id → new.last ≡ job.id
+  pub kept-pushed : (old new : Slots H hand) (seat : Seat H hand) (told : List Step) (job : Job) → new.seats.items ≡ old.seats.items ++ seat ∷ [] → old.is_draining ≡ false → new.is_draining ≡ old.is_draining → old.last < job.id → new.last ≡ job.id
       → new.rows.items ≡ old.rows.items ++ unanswered job.id job.index ∷ [] → seat.id ≡ job.id
       → jobs_of seat ≡ job ∷ [] → IsSeat names (opening job ∷ told) seat → Kept names told old → Kept names (opening job ∷ told) new
-  kept-pushed old new seat told job items above last row next jobs one k =
+  kept-pushed old new seat told job items going draining above last row next jobs one k =
       let higher : last_of told < job.id = omega (arith, k.last, above) in
       let named : names job.head.path job.index = first-named (opening job ∷ told) seat job jobs one in
       let pushed : ids new.seats.items ≡ ids old.seats.items ++ job.id ∷ [] =
@@ -352,6 +429,9 @@ module _ {H : Type 0} {hand : Ghosts H} {names : List ℕ → ℕ → Type 0} wh
       record {
         rising = (higher, k.rising);
         last = omega (arith, last);
+        top = top-more told job.id old new above last k;
+        closed = closed-more told (opening job) old going k;
+        drains = draining ∙ k.drains;
         rows = subst (λ (n : ℕ). HaveRows names (opening job ∷ told) n new.rows.items) (sym last) (rows-open told job old.last old.rows.items new.rows.items named above row k.rows);
         each = subst (λ (seats : List (Seat H hand)). All (λ (s : Seat H hand). IsSeat names (opening job ∷ told) s) seats) (sym items)
             (All-push (IsSeat names (opening job ∷ told)) old.seats.items seat
@@ -363,10 +443,13 @@ module _ {H : Type 0} {hand : Ghosts H} {names : List ℕ → ℕ → Type 0} wh
       }
 
   -- no slot is there yet
-  pub kept-none-yet : (slots : Slots H hand) → slots.seats.items ≡ [] → slots.last ≡ 0 → slots.rows.items ≡ [] → Kept names [] slots
-  kept-none-yet slots none last no_rows = record {
+  pub kept-none-yet : (slots : Slots H hand) → slots.seats.items ≡ [] → slots.last ≡ 0 → slots.is_draining ≡ false → slots.rows.items ≡ [] → Kept names [] slots
+  kept-none-yet slots none last going no_rows = record {
     rising = tt;
     last = omega arith;
+    top = last;
+    closed = tt;
+    drains = going;
     rows = subst (λ (n : ℕ). HaveRows names [] n slots.rows.items) (sym last) (rows-none slots.rows.items no_rows);
     each = subst (λ (seats : List (Seat H hand)). All (λ (s : Seat H hand). IsSeat names [] s) seats) (sym none) (All-nil (λ (s : Seat H hand). IsSeat names [] s));
     apart = subst (λ (seats : List (Seat H hand)). AreApart (ids seats)) (sym none) (λ one other lt more same. absurd (omega (arith, lt)));

@@ -1,10 +1,9 @@
 -- Which call a step concerns, and how it shuts its half.
-use Rattle.std.proofs.Common.{◌≡◌, ◌≢◌, ◌∙◌, ℕ, Bool, List, [], ◌∷◌, Option, None, Some, arith, eq-eqb, length, nat_eq, refl, sym, true, false}
+use Rattle.std.proofs.Common.{◌≡◌, ◌≢◌, ◌∙◌, ℕ, Bool, List, [], ◌∷◌, None, Some, arith, eq-eqb, length, nat_eq, refl, sym, true, false}
 use Rattle.std.specs.Prelude.{◌==◌, if◌then◌else◌, Result, Ok, Err, OnErr}
 use Rattle.std.proofs.lemmas.Bool.{eqb-true}
 use Rattle.account.specs.declared.call.Shut.TheVariants as shut
-use Rattle.connbook.specs.declared.answers.Receipt.{Receipt}
-use Rattle.connbook.specs.declared.answers.Receipt.TheVariants.{Feed, Discard, CallWindow, Overrun}
+use Rattle.connbook.specs.declared.answers.Receipt.TheVariants.{Discard, CallWindow, Overrun}
 use Rattle.h2frame.specs.declared.error_code.ErrorCode.{ErrorCode}
 use Rattle.h2frame.specs.declared.error_code.ErrorCode.TheVariants.{FlowControlError, Cancel}
 use Rattle.h2frame.specs.ErrorCode.{error_number}
@@ -18,19 +17,19 @@ same_number id = eq-eqb id id refl
 -- ---- which call
 
 pub concerns-data : (id counted : ℕ) (piece : List ℕ) (fate : Fate) → Concerns id (Told (events.Data id piece counted) fate)
-concerns-data id counted piece fate = record { admits = refl; reports = refl; shuts = λ other apart. rw apart refl; feeds = λ other apart. rw apart refl }
+concerns-data id counted piece fate = record { admits = refl; reports = refl; drains = refl; shuts = λ other apart. rw apart refl; feeds = λ other apart. rw apart refl }
 
 pub concerns-end : (id : ℕ) → Concerns id (Told (events.End id) Plain)
-concerns-end id = record { admits = refl; reports = refl; shuts = λ other apart. rw apart refl; feeds = λ other apart. refl }
+concerns-end id = record { admits = refl; reports = refl; drains = refl; shuts = λ other apart. rw apart refl; feeds = λ other apart. refl }
 
 pub concerns-reset : (id : ℕ) (code : ErrorCode) → Concerns id (Told (events.Reset id code) Plain)
-concerns-reset id code = record { admits = refl; reports = refl; shuts = λ other apart. rw apart refl; feeds = λ other apart. refl }
+concerns-reset id code = record { admits = refl; reports = refl; drains = refl; shuts = λ other apart. rw apart refl; feeds = λ other apart. refl }
 
 pub concerns-error : (id : ℕ) (code : ErrorCode) → Concerns id (Told (events.StreamError id code) Plain)
-concerns-error id code = record { admits = refl; reports = refl; shuts = λ other apart. rw apart refl; feeds = λ other apart. refl }
+concerns-error id code = record { admits = refl; reports = refl; drains = refl; shuts = λ other apart. rw apart refl; feeds = λ other apart. refl }
 
 pub concerns-cut : (id : ℕ) (why : Cause) → Concerns id (CutOff id why)
-concerns-cut id why = record { admits = refl; reports = refl; shuts = λ other apart. rw apart refl; feeds = λ other apart. refl }
+concerns-cut id why = record { admits = refl; reports = refl; drains = refl; shuts = λ other apart. rw apart refl; feeds = λ other apart. refl }
 
 -- ---- how
 

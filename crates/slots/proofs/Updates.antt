@@ -1,5 +1,5 @@
 -- What becomes of the rows of a report where those of a worker come in.
-use Rattle.std.proofs.Common.{◌≡◌, ◌∙◌, ◌+◌, Some, inl, inr, ap, arith, eq-eqb, refl, subst, sym, ℕ, zero, suc, ◌<◌, ◌≤◌, Bool, true, false, nat_eq, List, [], ◌∷◌, ◌++◌, All, length, map, get_or, set}
+use Rattle.std.proofs.Common.{◌≡◌, ◌∙◌, ◌+◌, Some, inl, inr, ap, arith, eq-eqb, refl, subst, sym, ℕ, zero, suc, ◌<◌, Bool, true, false, nat_eq, List, [], ◌∷◌, ◌++◌, All, length, map, get_or, set}
 use Rattle.std.specs.Prelude.{if◌then◌else◌, min, Result, Ok, Err}
 use Rattle.std.specs.List.{AllPairs, HoldsAt}
 use Rattle.std.specs.List.Sorted.{IsBinarySearchResult, IsNonDecreasingBy, IsPartitionPoint}

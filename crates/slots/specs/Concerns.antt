@@ -1,11 +1,12 @@
 -- Which calls a step is something to.
 use Rattle.std.specs.Prelude.{◌≡◌, ℕ, false, nat_eq, [], None}
-use Rattle.slots.specs.Steps.{Step, admitted_by, reported_by, data_at, shut_at}
+use Rattle.slots.specs.Steps.{Step, admitted_by, reported_by, data_at, is_drain, shut_at}
 
 -- a step that is nothing to any other call, and admits none, served or not
 pub record Concerns (id : ℕ) (step : Step) : Type 0 where
   pub admits : admitted_by step ≡ None
   pub reports : reported_by step ≡ None
+  pub drains : is_drain step ≡ false
   pub shuts : (other : ℕ) → nat_eq other id ≡ false → shut_at other step ≡ None
   pub feeds : (other : ℕ) → nat_eq other id ≡ false → data_at other step ≡ []
 

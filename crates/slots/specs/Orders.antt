@@ -1,6 +1,6 @@
 -- What the reading side of a connection orders its writing side to do, step by step: what the peer tells goes on to it, a call
--- that is admitted is opened, and a stream is refused or reset, or the connection ended, for its cause (RFC 9113, sections 5.4, 6.8,
--- 6.9.1, 8.1.1 and 8.7; gRPC over HTTP/2, "Responses").
+-- that is admitted is opened, a stream is refused or reset, or the connection ended, for its cause, and the client is told where it ends
+-- while calls go on (RFC 9113, sections 5.4, 6.8, 6.9.1, 8.1.1 and 8.7; gRPC over HTTP/2, "Responses").
 -- A list of steps has the latest first, a list of orders the earliest.
 use Rattle.std.specs.Prelude.{◌≡◌, ◌≢◌, ◌⊎◌, ◌&&◌, ℕ, ◌==◌, Bool, true, false, List, [], ◌∷◌, ◌++◌, length, Option, Some, None, is_none, if◌then◌else◌, max}
 use Rattle.connbook.specs.declared.answers.AdmitFault.{AdmitFault}
@@ -19,7 +19,7 @@ use Rattle.session.specs.declared.event.Control.{Control}
 use Rattle.session.specs.declared.event.Control.TheVariants as controls
 use Rattle.session.specs.declared.event.InEvent.TheVariants as events
 use Rattle.slots.specs.Calls.{is_admitted}
-use Rattle.slots.specs.Steps.{Lack, NoWorker, Stopped, Fate, Admitted, Unserved, Unknown, TurnedAway, Received, Missed, Lacking, Cause, AtEnd, NotLive, Step, Told, CutOff, shut_by, since}
+use Rattle.slots.specs.Steps.{NoWorker, Stopped, Fate, Admitted, Unserved, Unknown, TurnedAway, Received, Missed, Lacking, Cause, AtEnd, NotLive, Step, Told, CutOff, Drains, is_draining, reported, shut_by, since}
 
 -- ---- streams that were begun
 
@@ -33,17 +33,31 @@ abbrev pub begun : List Step → List ℕ
 begun [] = []
 begun (step ∷ before) = begun_at step ++ begun before
 
--- the greatest of them, 0 for none: what a GOAWAY names (section 6.8)
+-- the greatest of these, 0 for none
 abbrev pub greatest : List ℕ → ℕ
 greatest [] = 0
 greatest (id ∷ ids) = max id (greatest ids)
 
--- how many streams a client may begin; at the last of them it is told to open no more
+-- What a GOAWAY names (section 6.8): the greatest stream that was begun, or once the server drains the greatest whose call was admitted; 0 for
+-- none. So it never rises behind that of a drain.
+abbrev pub named_with : ℕ → Bool → ℕ → ℕ
+named_with id true last = last
+named_with id false last = max id last
+
+abbrev pub named : List Step → ℕ
+named [] = 0
+named (Told (events.Open id head) fate ∷ before) = named_with id (is_draining before) (named before)
+named (Told (events.BadHead id fault) fate ∷ before) = named_with id (is_draining before) (named before)
+named (Drains ∷ before) = greatest (reported before)
+named (step ∷ before) = named before
+
+-- how many streams a client may begin; at the last of them it is told to open no more, unless the server drains: then it was
 abbrev pub most_streams : ℕ
 most_streams = 4096
 
-abbrev pub last_stream : ℕ → List ℕ → List Order
-last_stream id before = if length before == 4095 then Goaway id NoError ∷ [] else []
+abbrev pub last_stream : ℕ → Bool → List ℕ → List Order
+last_stream id true before = []
+last_stream id false before = if length before == 4095 then Goaway id NoError ∷ [] else []
 
 -- ---- the order of a step
 
@@ -69,7 +83,7 @@ turned_away last id refused.Draining = Reset id RefusedStream true
 turned_away last id refused.NotNew = Goaway last InternalError
 turned_away last id refused.OutOfMemory = Goaway last InternalError
 
--- how a stream that begins is answered: `last` is the greatest that was begun
+-- how a stream that begins is answered: `last` is what a GOAWAY names
 abbrev pub opened : ℕ → ℕ → Fate → List Order
 opened last id Admitted = Open id tt ∷ []
 opened last id Unknown = Refuse id unknown_method ∷ []
@@ -114,15 +128,18 @@ cut_code (NotLive true) = FlowControlError
 
 -- The orders that a step leads to, behind those before it.
 abbrev pub orders_at : List Step → Step → List Order
-orders_at before (Told (events.Open id head) fate) = last_stream id (begun before) ++ opened (greatest (id ∷ begun before)) id fate
-orders_at before (Told (events.BadHead id fault) fate) = last_stream id (begun before) ++ refused_head (greatest (id ∷ begun before)) id fault fate
-orders_at before (Told (events.Data id piece counted) fate) = came (greatest (begun before)) id piece (is_fed id before) fate
-orders_at before (Told (events.Loose counted) fate) = came_loose (greatest (begun before)) fate
+orders_at before (Told (events.Open id head) fate) =
+    last_stream id (is_draining before) (begun before) ++ opened (named_with id (is_draining before) (named before)) id fate
+orders_at before (Told (events.BadHead id fault) fate) =
+    last_stream id (is_draining before) (begun before) ++ refused_head (named_with id (is_draining before) (named before)) id fault fate
+orders_at before (Told (events.Data id piece counted) fate) = came (named before) id piece (is_fed id before) fate
+orders_at before (Told (events.Loose counted) fate) = came_loose (named before) fate
 orders_at before (Told (events.Reset id code) fate) = Reset id code false ∷ []
 orders_at before (Told (events.StreamError id code) fate) = Reset id code true ∷ []
 orders_at before (Told (events.Control control) fate) = news_of control ∷ []
-orders_at before (Told (events.Fatal code) fate) = Goaway (greatest (begun before)) code ∷ []
+orders_at before (Told (events.Fatal code) fate) = Goaway (named before) code ∷ []
 orders_at before (CutOff id why) = if is_fed id before then Reset id (cut_code why) true ∷ [] else []
+orders_at before Drains = Goaway (greatest (reported before)) NoError ∷ []
 orders_at before _ = []
 
 -- The orders that steps lead to.
@@ -150,6 +167,7 @@ abbrev pub ends_at : Step → Option Ending
 ends_at (Told (events.Fatal code) fate) = Some (Failed code)
 ends_at (Told event fate) = ends_by fate
 ends_at (CutOff id why) = None
+ends_at Drains = None
 
 -- a reset of this stream, which the peer is told, is among these orders
 abbrev pub IsReset : ℕ → List Order → Type 0

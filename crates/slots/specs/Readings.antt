@@ -1,7 +1,8 @@
 -- The reading side of a connection, as it is by what it heard, and what it decides of each step.
-use Rattle.std.specs.Prelude.{◌≡◌, ℕ, true, List, [], ◌∷◌, ◌++◌, length, min, Option, None, Some}
+use Rattle.std.specs.Prelude.{◌≡◌, ℕ, Bool, true, false, List, [], ◌∷◌, ◌++◌, length, min, Option, None, Some}
 use Rattle.callslot.specs.declared.order.Opened.{Opened}
 use Rattle.callslot.specs.declared.report.Ending.{Ending}
+use Rattle.connbook.specs.declared.answers.AdmitFault.TheVariants.{Draining}
 use Rattle.connbook.specs.declared.answers.Receipt.{Receipt}
 use Rattle.connbook.specs.declared.answers.Receipt.TheVariants.{Feed, Discard, CallWindow, Overrun}
 use Rattle.outwriter.specs.declared.control.Control.{Control}
@@ -11,10 +12,10 @@ use Rattle.slots.specs.declared.reading.Decided.{Decided}
 use Rattle.slots.specs.declared.reading.Reading.{Reading}
 use Rattle.slots.specs.declared.worker.Worker.{Ghosts}
 use Rattle.slots.specs.Concerns.{Concerns}
-use Rattle.slots.specs.Orders.{IsDue, begun, ends_at, greatest, most_streams, orders_at}
+use Rattle.slots.specs.Orders.{IsDue, begun, ends_at, most_streams, named, named_with, orders_at}
 use Rattle.slots.specs.Seats.{Kept}
 use Rattle.session.specs.declared.event.InEvent.TheVariants.{PeerGoaway}
-use Rattle.slots.specs.Steps.{Fate, Received, Missed, Lacking, Step, WasTold, shut_at}
+use Rattle.slots.specs.Steps.{Fate, Received, Missed, Lacking, TurnedAway, Unknown, Step, WasTold, is_draining, shut_at}
 
 -- ---- what is decided
 
@@ -38,6 +39,11 @@ abbrev pub MayMiss : ℕ → List ℕ → Fate → List Step → Type 0
 MayMiss id piece Missed told = IsDue id piece told
 MayMiss id piece _ told = Unit {0}
 
+-- why a call that begins is not for the lock to admit: the server drains, or else its path names no method
+abbrev pub refused_by : Bool → Fate
+refused_by true = TurnedAway Draining
+refused_by false = Unknown
+
 -- what became of an event, unless there was no memory for what it leads to
 abbrev pub unless_ended : Option Ending → Fate → Fate
 unless_ended None fate = fate
@@ -46,9 +52,9 @@ unless_ended (Some ending) fate = Lacking
 -- ---- by what was heard
 
 module _ {H : Type 0} {hand : Ghosts H} where
-  -- these streams were begun, the latest of which is first
-  pub record Counts (ids : List ℕ) (reading : Reading H hand) : Type 0 where
-    pub last : reading.last ≡ greatest ids
+  -- a GOAWAY names this stream, and these were begun, the latest of which is first
+  pub record Counts (last : ℕ) (ids : List ℕ) (reading : Reading H hand) : Type 0 where
+    pub last_is : reading.last ≡ last
     pub count : reading.begun ≡ min most_streams (length ids)
 
   -- it counts the peer as one that opens no more streams only where that was told
@@ -59,13 +65,13 @@ module _ {H : Type 0} {hand : Ghosts H} (names : List ℕ → ℕ → Type 0) wh
   -- These steps led to the reading side.
   pub record Reads (told : List Step) (reading : Reading H hand) : Type 0 where
     pub slots : Kept names told reading.slots
-    pub counts : Counts (begun told) reading
+    pub counts : Counts (named told) (begun told) reading
     pub heeds : Heeds told reading
 
   -- These steps led to it, and this one does once the half is shut as it says.
   pub record Awaits (told : List Step) (step : Step) (cut : Cut) (reading : Reading H hand) : Type 0 where
     pub slots : Kept names told reading.slots
-    pub counts : Counts (begun (step ∷ told)) reading
+    pub counts : Counts (named (step ∷ told)) (begun (step ∷ told)) reading
     pub heeds : Heeds told reading
     pub concerns : Concerns cut.id step
     pub shuts : shut_at cut.id step ≡ Some cut.kind
@@ -73,9 +79,11 @@ module _ {H : Type 0} {hand : Ghosts H} (names : List ℕ → ℕ → Type 0) wh
   -- This step begins a stream, and the slots are as it leads to.
   pub record Begins (told : List Step) (step : Step) (id : ℕ) (reading : Reading H hand) : Type 0 where
     pub slots : Kept names (step ∷ told) reading.slots
-    pub counts : Counts (begun told) reading
+    pub counts : Counts (named told) (begun told) reading
     pub heeds : Heeds told reading
     pub begins : begun (step ∷ told) ≡ id ∷ begun told
+    pub names_on : named (step ∷ told) ≡ named_with id (is_draining told) (named told)
+    pub drains : reading.slots.is_draining ≡ is_draining told
 
   abbrev pub Stands : List Step → Step → Option Cut → Reading H hand → Type 0
   Stands told step None reading = Reads (step ∷ told) reading

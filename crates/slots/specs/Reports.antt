@@ -28,7 +28,7 @@ use Rattle.slots.specs.Orders.{IsReset, ends_at, orders_by}
 abbrev pub IsFront : List ℕ → List InEvent → Type 0
 IsFront came given = (all : List InEvent) → Events came all → IsPrefix given all
 
--- whether all that came was heard: the input ended, or could not be read on
+-- whether all that came was heard: the input ended, could not be read on, or was not, since no call was live any more
 abbrev pub is_heard_out : Ending → Bool
 is_heard_out ending.InputEnded = true
 is_heard_out ending.PeerGoaway = true
@@ -36,6 +36,7 @@ is_heard_out (ending.ProtocolError code) = false
 is_heard_out ending.ReadFailed = true
 is_heard_out ending.WriteFailed = false
 is_heard_out ending.OutOfMemory = false
+is_heard_out ending.Drained = true
 
 -- These events are the first of those of the bytes that came, and all of them where all that came was heard.
 pub record AreHeard (end : Ending) (came : List ℕ) (given : List InEvent) : Type 0 where

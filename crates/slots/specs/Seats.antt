@@ -1,5 +1,5 @@
 -- The slots of a connection, as they are by what its reading side heard.
-use Rattle.std.specs.Prelude.{◌≡◌, ◌⊎◌, ◌<◌, ◌≤◌, ◌&&◌, ◌+◌, ℕ, Bool, nat_eq, List, [], ◌∷◌, map, length, get_or, All, Option, None, Some, if◌then◌else◌, slice_get, vec_capacity, vec_len}
+use Rattle.std.specs.Prelude.{◌≡◌, ◌⊎◌, ◌<◌, ◌≤◌, ◌&&◌, ◌+◌, ℕ, Bool, false, nat_eq, List, [], ◌∷◌, map, length, get_or, All, Option, None, Some, if◌then◌else◌, slice_get, vec_capacity, vec_len}
 use Rattle.std.specs.List.{AllPairs}
 use Rattle.lane.specs.Ring as ring
 use Rattle.callslot.specs.declared.report.CallReport.{CallReport}
@@ -11,7 +11,8 @@ use Rattle.slots.specs.Calls.{AreCalls}
 use Rattle.slots.specs.Halves.{is_open, past_of, shown}
 use Rattle.slots.specs.Ids.{times}
 use Rattle.slots.specs.Reports.{IsServed, IsUnserved}
-use Rattle.slots.specs.Steps.{Step, admitted, last_of, reported, IsRising}
+use Rattle.slots.specs.Orders.{greatest}
+use Rattle.slots.specs.Steps.{AdmitsNoMore, Step, admitted, is_draining, last_of, reported, IsRising}
 
 -- no two are at the same stream
 abbrev pub AreApart : List ℕ → Type 0
@@ -31,9 +32,9 @@ module _ {H : Type 0} {hand : Ghosts H} where
   times_in id [] = 0
   times_in id (seat ∷ seats) = times id (ids_of seat) + times_in id seats
 
-  -- a call of this stream may be admitted: it is above those before it, and there is room for its row
+  -- a call of this stream may be admitted: it is above those before it, there is room for its row, and calls are admitted
   abbrev pub IsNext : ℕ → Slots H hand → Type 0
-  IsNext id slots = (slots.last < id) × (vec_len slots.rows < vec_capacity slots.rows)
+  IsNext id slots = (slots.last < id) × (vec_len slots.rows < vec_capacity slots.rows) × (slots.is_draining ≡ false)
 
   abbrev pub KeepsNext : Slots H hand → Slots H hand → Type 0
   KeepsNext old new = (id : ℕ) → IsNext id old → IsNext id new
@@ -68,6 +69,9 @@ module _ {H : Type 0} {hand : Ghosts H} (names : List ℕ → ℕ → Type 0) wh
   pub record Kept (told : List Step) (slots : Slots H hand) : Type 0 where
     pub rising : IsRising told
     pub last : last_of told ≤ slots.last
+    pub top : slots.last ≡ greatest (reported told)
+    pub closed : AdmitsNoMore told
+    pub drains : slots.is_draining ≡ is_draining told
     pub rows : HaveRows names told slots.last slots.rows.items
     pub each : All (λ seat. IsSeat told seat) slots.seats.items
     pub apart : AreApart (map (λ seat. seat.id) slots.seats.items)

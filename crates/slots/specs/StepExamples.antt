@@ -5,12 +5,12 @@ use Rattle.account.specs.declared.call.Shut.TheVariants as shut
 use Rattle.callhead.specs.declared.head.CallHead.{CallHead}
 use Rattle.connbook.specs.declared.answers.AdmitFault.TheVariants as refused
 use Rattle.connbook.specs.declared.answers.Receipt.TheVariants.{Feed, Discard, Overrun}
-use Rattle.h2frame.specs.declared.error_code.ErrorCode.TheVariants.{FlowControlError, InternalError, RefusedStream, Cancel, EnhanceYourCalm}
+use Rattle.h2frame.specs.declared.error_code.ErrorCode.TheVariants.{NoError, FlowControlError, InternalError, RefusedStream, Cancel, EnhanceYourCalm}
 use Rattle.callhead.specs.StatusFields.{unknown_method}
 use Rattle.outwriter.specs.declared.control.Control.TheVariants.{Open, Refuse, Reset, Goaway}
 use Rattle.session.specs.declared.event.InEvent.TheVariants as events
 use Rattle.slots.specs.Orders.{orders_at, orders_by}
-use Rattle.slots.specs.Steps.{NoWorker, Stopped, Plain, Admitted, Unserved, Unknown, TurnedAway, Received, Missed, Step, Told, CutOff, AtEnd, admitted, reported, head_of, last_of, IsRising, since, shut_by, fed_by, lets_go, WasLetGo}
+use Rattle.slots.specs.Steps.{AdmitsNoMore, NoWorker, Stopped, Plain, Admitted, Unserved, Unknown, TurnedAway, Received, Missed, Step, Told, CutOff, Drains, AtEnd, admitted, reported, head_of, last_of, IsRising, since, shut_by, fed_by, lets_go, WasLetGo}
 
 -- call 1 is fed four bytes in two pieces, and its half ends
 abbrev pub one_call : CallHead → List Step
@@ -114,6 +114,27 @@ padding_is_not head = refl
 
 pub ended_is_not : (head : CallHead) → orders_at (one_call head) (Told (events.Data 1 (10 ∷ []) 1) (Received Discard)) ≡ []
 ended_is_not head = refl
+
+-- The server drains behind the two calls: GOAWAY names the later of them, though stream 7 was begun. What begins behind that is refused, and an
+-- error's GOAWAY names no greater stream.
+pub drain_names_last : (head : CallHead) → orders_at (two_calls head) Drains ≡ Goaway 5 NoError ∷ []
+drain_names_last head = refl
+
+pub drained_refuses : (head : CallHead) → orders_at (Drains ∷ two_calls head) (Told (events.Open 9 head) (TurnedAway refused.Draining)) ≡ Reset 9 RefusedStream true ∷ []
+drained_refuses head = refl
+
+pub drained_fails : (head : CallHead) → orders_at (Told (events.Open 9 head) (TurnedAway refused.Draining) ∷ Drains ∷ two_calls head) (Told (events.Fatal InternalError) Plain) ≡ Goaway 5 InternalError ∷ []
+drained_fails head = refl
+
+pub drain_of_none : orders_at [] Drains ≡ Goaway 0 NoError ∷ []
+drain_of_none = refl
+
+-- a call that is admitted behind a drain is refused by the law
+pub admitted_late : (head : CallHead) → ¬ AdmitsNoMore (Told (events.Open 9 head) Admitted ∷ Drains ∷ two_calls head)
+admitted_late head (none, rest) = cc-some (none refl)
+  where
+    cc-some : {A : Type 0} {x : A} → Some x ≡ None → ⊥
+    cc-some same = cc
 
 -- a reset of the client's is told to the writing side, and not written
 pub reset_goes_on : (head : CallHead) → orders_at (two_calls head) (Told (events.Reset 1 Cancel) Plain) ≡ Reset 1 Cancel false ∷ []

@@ -1,7 +1,7 @@
 -- What the reader of a connection hears, and what it makes of the client's half of each call (RFC 9113, sections 5.1, 5.4.2,
--- 6.4 and 6.9.1).
+-- 6.4, 6.8 and 6.9.1).
 -- A list of steps has the latest first.
-use Rattle.std.specs.Prelude.{◌≡◌, ◌<◌, ◌&&◌, ℕ, Bool, true, false, nat_eq, if◌then◌else◌, List, [], ◌∷◌, ◌++◌, Option, Some, None, MatchOption, unwrap_or}
+use Rattle.std.specs.Prelude.{◌≡◌, ◌<◌, ◌&&◌, ◌||◌, ℕ, Bool, true, false, nat_eq, if◌then◌else◌, List, [], ◌∷◌, ◌++◌, Option, Some, None, MatchOption, unwrap_or}
 use Rattle.std.specs.List.{list_any}
 use Rattle.std.specs.Option.{is_some}
 use Rattle.account.specs.declared.call.Shut.{Shut}
@@ -9,7 +9,7 @@ use Rattle.account.specs.declared.call.Shut.TheVariants as shut
 use Rattle.callhead.specs.declared.head.CallHead.{CallHead}
 use Rattle.connbook.specs.declared.answers.AdmitFault.{AdmitFault}
 use Rattle.connbook.specs.declared.answers.Receipt.{Receipt}
-use Rattle.connbook.specs.declared.answers.Receipt.TheVariants.{Feed, Discard, CallWindow, Overrun}
+use Rattle.connbook.specs.declared.answers.Receipt.TheVariants.{Discard, CallWindow, Overrun}
 use Rattle.h2frame.specs.declared.error_code.ErrorCode.TheVariants.{FlowControlError, Cancel, EnhanceYourCalm}
 use Rattle.h2frame.specs.ErrorCode.{error_number}
 use Rattle.session.specs.declared.event.InEvent.{InEvent}
@@ -40,10 +40,12 @@ pub data Cause : Type 0 where
   AtEnd : Cause
   NotLive : Bool → Cause
 
--- An event was told; or the call of a stream hears no more.
+-- An event was told; the call of a stream hears no more; or the server drains: it is to stop while its calls go on, and admits no
+-- more (section 6.8).
 pub data Step : Type 0 where
   Told : InEvent → Fate → Step
   CutOff : ℕ → Cause → Step
+  Drains : Step
 
 -- ---- calls that were admitted
 
@@ -89,6 +91,24 @@ abbrev pub IsRising : List Step → Type 0
 IsRising [] = Unit {0}
 IsRising (step ∷ before) = MatchOption (admitted_by step) (Unit {0}) (λ id. last_of before < id) × IsRising before
 
+-- ---- the end while calls go on
+
+abbrev pub is_drain : Step → Bool
+is_drain Drains = true
+is_drain _ = false
+
+-- the server drains
+abbrev pub is_draining : List Step → Bool
+is_draining [] = false
+is_draining (step ∷ before) = is_drain step || is_draining before
+
+-- behind a drain no call is admitted
+abbrev pub AdmitsNoMore : List Step → Type 0
+AdmitsNoMore [] = Unit {0}
+AdmitsNoMore (step ∷ before) = (is_draining before ≡ true → reported_by step ≡ None) × AdmitsNoMore before
+
+-- ---- since a call was admitted
+
 -- what was heard since a call was admitted
 abbrev pub since : ℕ → List Step → List Step
 since id [] = []
@@ -109,6 +129,7 @@ head_of id (step ∷ before) = if is_of id (admitted_by step) then head_at step 
 abbrev pub data_at : ℕ → Step → List ℕ
 data_at id (Told event fate) = piece_of id event
 data_at id (CutOff other why) = []
+data_at id Drains = []
 
 -- a piece that nobody takes; one of padding alone is no loss
 abbrev pub discarded : List ℕ → Option Shut
@@ -156,6 +177,7 @@ abbrev pub events_of : List Step → List InEvent
 events_of [] = []
 events_of (Told event fate ∷ before) = events_of before ++ event ∷ []
 events_of (CutOff id why ∷ before) = events_of before
+events_of (Drains ∷ before) = events_of before
 
 -- this event was told
 abbrev pub WasTold : InEvent → List Step → Type 0

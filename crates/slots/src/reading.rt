@@ -18,13 +18,13 @@ ghost use Rattle.connbook.specs.declared.answers.Receipt.TheVariants.{Feed, Disc
 ghost use Rattle.outwriter.specs.Steps.{order_of};
 ghost use Rattle.outwriter.specs.declared.control.Control.TheVariants as orders;
 ghost use Rattle.session.specs.declared.event.InEvent.TheVariants as events;
-ghost use Rattle.slots.specs.Orders.{begun, ends_at, cut_code, greatest, last_stream, news_of, orders_at, without_head};
-ghost use Rattle.slots.specs.Readings.{Awaits, Begins, Counts, Decides, DecidesOn, MayMiss, Reads, ReadsOn, Stays, fate_of, order_in, unless_ended};
+ghost use Rattle.slots.specs.Orders.{begun, ends_at, cut_code, last_stream, named, named_with, news_of, orders_at, without_head};
+ghost use Rattle.slots.specs.Readings.{Awaits, Begins, Counts, Decides, DecidesOn, MayMiss, Reads, ReadsOn, Stays, fate_of, order_in, refused_by, unless_ended};
 ghost use Rattle.slots.specs.Reports.{AreRows};
 ghost use Rattle.lane.specs.RingLane.{out_name, ring_of};
 ghost use Rattle.slots.specs.Lines.{Aligns, AreEndsOf, HasRoom, IsGivenIn, SlotCalls, calls_from, calls_of, calls_step, raw_in, raw_orders, ring_at};
 ghost use Rattle.slots.specs.Seats.{IsNext, IsSeat, KeepsNext, fed_at, ids_of, jobs_of};
-ghost use Rattle.slots.specs.Steps.{Admitted, AtEnd, Cause, CutOff, Lacking, NoWorker, NotLive, Plain, Received, Step, Stopped, Told, TurnedAway, Unknown, Unserved, WasTold, reported};
+ghost use Rattle.slots.specs.Steps.{Admitted, AtEnd, Cause, CutOff, Drains, Lacking, NoWorker, NotLive, Plain, Received, Step, Stopped, Told, TurnedAway, Unknown, Unserved, WasTold, is_draining, reported};
 
 use crate::seat::Seat;
 use crate::slots::{Ended, Slots};
@@ -109,7 +109,8 @@ impl Decided {
 pub struct Reading<H: Worker> {
     alloc: Global,
     pub(crate) slots: Slots<H>,
-    /// The greatest stream that was begun, 0 for none.
+    /// What a GOAWAY names (RFC 9113, section 6.8): the greatest stream that was begun, or once the server drains the greatest
+    /// whose call was admitted; 0 for none.
     pub(crate) last: StreamId,
     /// How many were begun, up to `STREAMS`.
     pub(crate) begun: u32,
@@ -135,7 +136,8 @@ impl<H: Worker> Reading<H> {
     // ---- a stream that begins
 
     /// A stream begins with the head of a call. `index` is the method that its path names, if one has it, `opened` the moment. A call
-    /// of a method is to be admitted by the lock, and there is room for its row; any other is refused.
+    /// of a method is to be admitted by the lock, and there is room for its row; any other is refused. Once the server drains each is
+    /// turned away.
     pub fn open(
         &mut self,
         id: StreamId,
@@ -150,12 +152,16 @@ impl<H: Worker> Reading<H> {
         ensures stays { OnOk result (Stays H.names self.old self.new) }
         ensures calls { OnOk result (calls_of self.new.slots ≡ calls_of self.old.slots) }
         ensures refused { IfErr result (λ decided. DecidesOn H.names
-            (Told (events.Open id head) (unless_ended decided.ends Unknown)) decided self.old
-            self.new) }
+            (Told (events.Open id head)
+            (unless_ended decided.ends (refused_by self.old.slots.is_draining)))
+            decided self.old self.new) }
         ensures aligns { IfErr result (λ decided. Aligns decided self.old self.new) }
     {
         if id <= self.slots.last {
             return Err(self.lack(id));
+        }
+        if self.slots.is_draining {
+            return Err(self.turn_away(id, AdmitFault::Draining));
         }
         let Some(index) = index else {
             return Err(self.refuse_unknown(id));
@@ -291,7 +297,8 @@ impl<H: Worker> Reading<H> {
         ensures ends { result.ends ≡ None }
         ensures decides { (told : List Step) (step : Step) → Begins H.names told step id self.old
             → ends_at step ≡ None
-            → orders_at told step ≡ last_stream id (begun told) ++ order_of order ∷ []
+            → orders_at told step
+            ≡ last_stream id (is_draining told) (begun told) ++ order_of order ∷ []
             → Decides H.names told step result self.new }
         ensures slots { self.new.slots ≡ self.old.slots }
         ensures calls { (slots : List SlotCalls)
@@ -319,8 +326,8 @@ impl<H: Worker> Reading<H> {
         ensures memory { result.ends ≡ Some ending.OutOfMemory }
         ensures ends { (told : List Step) (step : Step) → Begins H.names told step id self.old
             → ends_at step ≡ Some ending.OutOfMemory
-            → orders_at told step ≡ last_stream id (begun told)
-            ++ orders.Goaway (greatest (id ∷ begun told)) InternalError ∷ []
+            → orders_at told step ≡ last_stream id (is_draining told) (begun told)
+            ++ orders.Goaway (named_with id (is_draining told) (named told)) InternalError ∷ []
             → Decides H.names told step result self.new }
         ensures aligns { Aligns result self.old self.new }
     {
@@ -333,20 +340,23 @@ impl<H: Worker> Reading<H> {
         }
     }
 
-    /// Counts a stream that begins. With the last that a client may begin, it is told to open no more.
+    /// Counts a stream that begins. With the last that a client may begin, it is told to open no more, unless the server drains.
     fn count(&mut self, id: StreamId) -> Option<Order>
         ensures slots { self.new.slots ≡ self.old.slots }
-        ensures counts { (ids : List ℕ) → Counts ids self.old
-            → Counts (id ∷ ids) self.new × (order_in result ≡ last_stream id ids) }
+        ensures counts { (last : ℕ) (ids : List ℕ) → Counts last ids self.old
+            → Counts (named_with id self.old.slots.is_draining last) (id ∷ ids) self.new
+            × (order_in result ≡ last_stream id self.old.slots.is_draining ids) }
         ensures none { (slots : List SlotCalls) → calls_from slots (raw_in result) ≡ slots }
         ensures heeds { self.new.peer_goaway ≡ self.old.peer_goaway }
     {
-        self.last = self.last.max(id);
+        if !self.slots.is_draining {
+            self.last = self.last.max(id);
+        }
         if self.begun >= STREAMS {
             return None;
         }
         self.begun += 1;
-        if self.begun < STREAMS {
+        if self.begun < STREAMS || self.slots.is_draining {
             return None;
         }
         let code = ErrorCode::NoError;
@@ -460,6 +470,7 @@ impl<H: Worker> Reading<H> {
             → Reads H.names (step ∷ told) self.new }
         ensures calls { calls_of self.new.slots ≡ calls_of self.old.slots }
         ensures next { KeepsNext self.old.slots self.new.slots }
+        ensures draining { self.new.slots.is_draining ≡ self.old.slots.is_draining }
     {
         self.slots.shut(cut.id, cut.kind);
     }
@@ -502,12 +513,35 @@ impl<H: Worker> Reading<H> {
     pub fn goaway(&self, code: ErrorCode) -> Order
         ensures order { result ≡ orders.Goaway self.now.last code }
         ensures last { (told : List Step) → Reads H.names told self.now
-            → result ≡ orders.Goaway (greatest (begun told)) code }
+            → result ≡ orders.Goaway (named told) code }
     {
         Control::Goaway {
             last: self.last,
             code,
         }
+    }
+
+    // ---- the end while calls go on
+
+    /// The server is to stop while its calls go on: no more are admitted, and GOAWAY names the greatest stream of those that were
+    /// (RFC 9113, section 6.8).
+    pub fn drain(&mut self) -> Decided
+        ensures decides { DecidesOn H.names Drains result self.old self.new }
+        ensures aligns { Aligns result self.old self.new }
+        ensures ends { result.ends ≡ None }
+        ensures draining { self.new.slots.is_draining ≡ true }
+    {
+        self.last = self.slots.drain();
+        Decided::order(self.goaway(ErrorCode::NoError))
+    }
+
+    /// Whether the server drains.
+    pub fn is_draining(&self) -> bool
+        ensures value { result ≡ self.now.slots.is_draining }
+        ensures told { (told : List Step) → Reads H.names told self.now
+            → result ≡ is_draining told }
+    {
+        self.slots.is_draining
     }
 
     // ---- calls that hear no more
@@ -583,14 +617,20 @@ impl<H: Worker> Reading<H> {
 
     // ---- the end
 
-    /// How the connection has ended where its input has.
+    /// How the connection has ended where its input has, or where the server drains and no call is live.
     pub fn ending(&self) -> Ending
-        ensures input { (result ≡ ending.InputEnded) ⊎ (result ≡ ending.PeerGoaway) }
+        ensures input { (result ≡ ending.InputEnded)
+            ⊎ ((result ≡ ending.PeerGoaway) ⊎ (result ≡ ending.Drained)) }
+        ensures draining { self.now.slots.is_draining ≡ true → result ≡ ending.Drained }
+        ensures drained { result ≡ ending.Drained → (told : List Step)
+            → Reads H.names told self.now → is_draining told ≡ true }
         ensures goaway { result ≡ ending.PeerGoaway → (told : List Step)
             → Reads H.names told self.now
             → WasTold events.PeerGoaway told }
     {
-        if self.peer_goaway {
+        if self.slots.is_draining {
+            Ending::Drained
+        } else if self.peer_goaway {
             Ending::PeerGoaway
         } else {
             Ending::InputEnded

@@ -22,6 +22,8 @@ pub struct Slots<H: Worker> {
     pub(crate) ends: Vec<GivingEnd>,
     /// The stream of the call that was admitted last, 0 for none.
     pub(crate) last: StreamId,
+    /// Whether no more calls are admitted.
+    pub(crate) is_draining: bool,
     /// A row for each call that was admitted, by rising stream, as of one of which nothing was taken yet.
     pub(crate) rows: Vec<CallReport>,
     ghost none_ended: { vec_len ends ≤ 0 },
@@ -44,10 +46,10 @@ impl<H: Worker> Slots<H> {
     ghost use Rattle.session.specs.declared.event.InEvent.TheVariants as events;
     ghost use Rattle.slots.specs.Concerns.{Concerns};
     ghost use Rattle.slots.specs.Lines.{AreEndsOf, HasRoom, IsGivenIn, calls_at, calls_of, goes_on};
-    ghost use Rattle.slots.specs.Orders.{IsDue};
+    ghost use Rattle.slots.specs.Orders.{IsDue, greatest};
     ghost use Rattle.slots.specs.Reports.{AreRows};
     ghost use Rattle.slots.specs.Seats.{Hears, IsNext, IsSeat, Keeps, KeepsNext, Kept, fed_at, feeds, jobs_of};
-    ghost use Rattle.slots.specs.Steps.{Admitted, Lack, Received, Step, Told, Unserved, reported, shut_at};
+    ghost use Rattle.slots.specs.Steps.{Admitted, Drains, Lack, Received, Step, Told, Unserved, reported, shut_at};
 
     pub(crate) fn new(alloc: Global) -> Slots<H>
         ensures kept { Kept H.names [] result }
@@ -58,6 +60,7 @@ impl<H: Worker> Slots<H> {
             seats: Vec::new(alloc),
             ends: Vec::new(alloc),
             last: 0,
+            is_draining: false,
             rows: Vec::new(alloc),
         }
     }
@@ -114,6 +117,7 @@ impl<H: Worker> Slots<H> {
         ensures stays { Keeps H.names self.old self.new }
         ensures calls { calls_of self.new ≡ calls_of self.old }
         ensures last { self.new.last ≡ self.old.last }
+        ensures draining { self.new.is_draining ≡ self.old.is_draining }
     {
         self.rows.reserve(1)
     }
@@ -122,12 +126,25 @@ impl<H: Worker> Slots<H> {
     fn report(&mut self, row: CallReport)
         requires room { vec_len self.old.rows < vec_capacity self.old.rows }
         ensures last { self.new.last ≡ row.id }
+        ensures draining { self.new.is_draining ≡ self.old.is_draining }
         ensures rows { self.new.rows.items ≡ self.old.rows.items ++ row ∷ [] }
         ensures seats { self.new.seats ≡ self.old.seats }
         ensures ends { self.new.ends ≡ self.old.ends }
     {
         self.last = row.id;
         self.rows.push_reserved(row);
+    }
+
+    /// No more calls are admitted. The greatest stream of those that were, 0 for none.
+    pub(crate) fn drain(&mut self) -> StreamId
+        ensures heard { Hears H.names Drains self.old self.new }
+        ensures last { (told : List Step) → Kept H.names told self.old
+            → result ≡ greatest (reported told) }
+        ensures calls { calls_of self.new ≡ calls_of self.old }
+        ensures draining { self.new.is_draining ≡ true }
+    {
+        self.is_draining = true;
+        self.last
     }
 
     /// A call of this method was admitted, and no worker serves it.
@@ -205,6 +222,7 @@ impl<H: Worker> Slots<H> {
             → Hears H.names step self.old self.new }
         ensures calls { calls_of self.new ≡ calls_of self.old }
         ensures next { KeepsNext self.old self.new }
+        ensures draining { self.new.is_draining ≡ self.old.is_draining }
     {
         let Some(place) = self.find(id) else {
             return;

@@ -16,7 +16,7 @@ use Rattle.connwriter.specs.declared.taking.Taking.TheVariants.{Done, Ended, Una
 use Rattle.connwriter.specs.Orders.{Blamed, own_order, parting, steps_of}
 use Rattle.callslot.specs.declared.order.Opened.{Opened}
 use Rattle.slotwriter.specs.declared.inbox.Inbox.{Inbox}
-use Rattle.slotwriter.specs.Orders.{AreAnswered, AreLast, HasGiven, HasTaken, IsAmong, IsAnswer, Obeys, ends_input, loses_by, order_in, orders_of}
+use Rattle.slotwriter.specs.Orders.{AreAnswered, AreLast, HasGiven, HasTaken, IsAmong, IsAnswer, Obeys, Warns, ends_input, loses_by, order_in, orders_of}
 
 -- ---- orders were lost
 
@@ -186,10 +186,18 @@ module _ {S : Type 0} where
       → IsAmong (control.Open id tt) orders → list_any ends_input orders ≡ false → Obeys false orders run
       → Obeys false orders (steps_of (control.Reset id InternalError true) last taking ++ run)
   obeys-reset id last Done orders run blamed among goes_on obeys =
-      (inr (inr (id, refl, among, goes_on), obeys.0), (inl tt, answered-next (control.Reset id InternalError true) run obeys.1))
+      (inr (inr (inl (id, refl, among, goes_on)), obeys.0), (inl tt, answered-next (control.Reset id InternalError true) run obeys.1))
   obeys-reset id last (Ended stream) orders run blamed among goes_on obeys = absurd blamed.0
   obeys-reset id last (Unanswered stream) orders run blamed among goes_on obeys = absurd blamed.0
   obeys-reset id last (HandedBack back) orders run blamed among goes_on obeys = obeys
+
+  -- a warning of the writer's own
+  pub obeys-warning : (one : Control S) (last : ℕ) (taking : Taking S) (orders : List Order) (run : List Step) → Blamed taking one run → ((id : ℕ) → Concerns (PeerWindow id) one → ⊥)
+      → HasRoom (order_of one) run → Warns (order_of one) run → Obeys false orders run → Obeys false orders (steps_of (order_of one) last taking ++ run)
+  obeys-warning one last Done orders run blamed spares room warns obeys = (inr (inr (inr warns), obeys.0), (inl room, answered-next (order_of one) run obeys.1))
+  obeys-warning one last (Ended id) orders run blamed spares room warns obeys = absurd (spares id blamed.0)
+  obeys-warning one last (Unanswered id) orders run blamed spares room warns obeys = absurd (spares id blamed.0)
+  obeys-warning one last (HandedBack back) orders run blamed spares room warns obeys = obeys
 
   -- a GOAWAY of the writer's own
   pub obeys-parting : (last : ℕ) (taking : Taking S) (orders : List Order) (run : List Step) → Blamed taking (control.Goaway last InternalError) run → Obeys true orders run

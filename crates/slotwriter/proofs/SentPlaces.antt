@@ -415,7 +415,7 @@ on-steps order last (Unanswered id) run k plain = on-taken order run k plain
 on-steps order last (HandedBack back) run k plain = (λ never. never, λ items r. r)
 
 -- this control is no Open
-abbrev OpensNone : Control SlotSender → Type 0
+abbrev pub OpensNone : Control SlotSender → Type 0
 OpensNone (Open id sender) = ⊥
 OpensNone _ = Unit {0}
 

@@ -1,5 +1,5 @@
 -- What each step of a connection's writer does to what it wrote.
-use Rattle.std.proofs.Common.{◌≡◌, ◌≢◌, ◌∙◌, ◌+◌, arith, ℕ, zero, suc, Bool, true, false, true≢false, List, [], ◌∷◌, ◌++◌, Option, None, Some, IfSome, ap, append-nil, append_assoc, sym, refl, map, subst}
+use Rattle.std.proofs.Common.{◌≡◌, ◌≢◌, ◌∙◌, ◌+◌, arith, ℕ, zero, suc, Bool, true, false, true≢false, List, [], ◌∷◌, ◌++◌, Option, None, Some, ap, append-nil, append_assoc, sym, refl, map, subst}
 use Rattle.std.specs.Prelude.{◌||◌, All, Result, Ok, Err, OnOk, OnErr, get_or}
 use Rattle.std.specs.List.{list_any}
 use Rattle.std.proofs.lemmas.List.Sums.{sum_by-cons}
@@ -7,9 +7,10 @@ use Rattle.std.proofs.lemmas.List.Elements.{All-append, All-from_get_or, All-get
 use Rattle.account.specs.declared.call.OutItem.{OutItem}
 use Rattle.outwriter.specs.Calls.{TellFronts, TellOthers, TellReturned}
 use Rattle.outwriter.specs.Credit.{granted, granted_by}
-use Rattle.outwriter.specs.Cores.{calls, lane_and_past, lanes}
+use Rattle.outwriter.specs.Drains.{has_failed}
+use Rattle.outwriter.specs.Cores.{IsUnused, calls, lane_and_past, lanes}
 use Rattle.outwriter.specs.declared.control.OutFault.TheVariants.{PeerWindow}
-use Rattle.outwriter.specs.RunState.{Concerns}
+use Rattle.outwriter.specs.RunState.{Concerns, HasRoom}
 use Rattle.outwriter.specs.Runs.{is_opened, opens_stream}
 use Rattle.h2frame.specs.declared.frame.Frame.{Frame}
 use Rattle.outwriter.specs.Frames.{goaway_frame}
@@ -20,7 +21,6 @@ use Rattle.h2frame.specs.declared.error_code.ErrorCode.TheVariants.{InternalErro
 use Rattle.outwriter.specs.Steps.{Order, Step, Taken, Granted, Returned, Written, frames_of, order_of}
 use Rattle.connwriter.specs.declared.filled.Filled.{Filled}
 use Rattle.connwriter.specs.declared.filled.Filled.TheVariants.{Over, Stopped}
-use Rattle.connwriter.specs.declared.standing.Standing.{Standing}
 use Rattle.connwriter.specs.declared.standing.Standing.TheVariants as stands
 use Rattle.connwriter.specs.Spelled.{IsFront, IsAll}
 use Rattle.connwriter.specs.declared.taking.Taking.{Taking}
@@ -38,26 +38,17 @@ use Rattle.callslot.specs.declared.report.Ending.TheVariants as ending
 use Rattle.slotwriter.specs.declared.inbox.Inbox.{Inbox}
 use Rattle.slotwriter.specs.declared.slot_writer.SlotWriter.{SlotWriter}
 use Rattle.slotwriter.specs.declared.senders.Place.{Place}
-use Rattle.slotwriter.specs.Orders.{Gives, HasGiven, IsAmong, Keeps, Obeys, ends_input, order_in, orders_of, loses_by}
+use Rattle.slotwriter.specs.Orders.{Gives, HasGiven, IsAmong, IsWarning, Keeps, Obeys, Warns, ends_input, order_in, orders_of, loses_by}
 use Rattle.slotwriter.specs.Sent.{AreFresh, AreKept, HandsHome, HasStream, HaveTold, KeepsOn, MakesOf, PlacesBy, SamePlaces, SlotSender, TakesAllHome, held_of, ids_of, lines_of}
 use Rattle.slotwriter.specs.Written.{FrameWriter, HasKept, HasSent, HasWritten, IsFlushed, Runs, Ends, RunsOn, RunsOut, SendsOn, StaysOn, Takes, PassesOver, Parts, Heeds, Knows, SameCalls, Led, LedOut, LeadsOn, LeadsOut, LeadsOutTo, LeadsTo, Stays, core_of, places_of}
-use Rattle.slotwriter.proofs.OrderSteps.{all-given, among-last, among-more, given-all, given-next, obeys-closing, obeys-frames, obeys-granted, obeys-last-word, obeys-lost, obeys-more, obeys-parting, obeys-reset, obeys-returned, obeys-taking}
-use Rattle.slotwriter.proofs.SentPlaces.{brings-plain, brings-same, fresh-parts, keeps-same, kept-back-more, kept-frames, kept-more, kept-none, kept-same, kept-still, kept-tells, makes-then, on-steps, own-plain, same-places}
+use Rattle.slotwriter.proofs.OrderSteps.{all-given, among-last, among-more, given-all, given-next, obeys-closing, obeys-frames, obeys-granted, obeys-last-word, obeys-lost, obeys-more, obeys-parting, obeys-reset, obeys-returned, obeys-taking, obeys-warning}
+use Rattle.slotwriter.proofs.SentPlaces.{OpensNone, brings-plain, brings-same, fresh-parts, keeps-same, kept-back-more, kept-frames, kept-more, kept-none, kept-same, kept-still, kept-tells, makes-then, on-steps, own-plain, same-places}
 
 memory-going : stands.OutOfMemory ≢ stands.Going
 memory-going e = cc
 
 broken-going : stands.Broken ≢ stands.Going
 broken-going e = cc
-
-standing-of : {A : Type 0} (standing : Standing) → (standing ≡ stands.Going → A) → (standing ≡ stands.OutOfMemory → A) → (standing ≡ stands.Broken → A) → A
-standing-of stands.Going going memory broken = going refl
-standing-of stands.OutOfMemory going memory broken = memory refl
-standing-of stands.Broken going memory broken = broken refl
-
-unless-lost : {A : Type 0} (standing : Standing) (told : Option Ending) → (standing ≡ stands.OutOfMemory → told ≡ Some ending.OutOfMemory) → standing ≢ stands.Broken
-    → (standing ≡ stands.Going → A) → told ≢ Some ending.OutOfMemory → A
-unless-lost standing told memory sound on other = standing-of standing on (λ stood. absurd (other (memory stood))) (λ stood. absurd (sound stood))
 
 -- ---- what the writer knows by the orders
 
@@ -245,6 +236,39 @@ granted-parting last run credit is =
 
 granted-more : (id n : ℕ) (run : List Step) (credit : ℕ) → granted 0 run ≡ credit → granted 0 (Granted id n ∷ run) ≡ credit + granted_by 0 (Granted id n)
 granted-more id n run credit is = omega (arith, sum_by-cons (granted_by 0) (Granted id n) run, is)
+
+-- ---- a warning
+
+-- it opens no stream, and concerns no window
+record IsMild (one : Control SlotSender) : Type 0 where
+  plain : OpensNone one
+  opens : (k : ℕ) → opens_stream k (order_of one) ≡ false
+  spares : (id : ℕ) → Concerns (PeerWindow id) one → ⊥
+  room : (run : List Step) → HasRoom (order_of one) run
+
+mild : (one : Control SlotSender) → IsWarning one → IsMild one
+mild (control.Goaway last code) own = record { plain = tt; opens = λ k. refl; spares = λ id concerns. concerns; room = λ run. tt }
+mild (control.Probe bytes) own = record { plain = tt; opens = λ k. refl; spares = λ id concerns. concerns; room = λ run. tt }
+mild (control.Settings settings) own = absurd own
+mild (control.Ping bytes) own = absurd own
+mild (control.Window id n) own = absurd own
+mild (control.Open id sender) own = absurd own
+mild (control.Refuse id fields) own = absurd own
+mild (control.Reset id code written) own = absurd own
+mild control.InputEnded own = absurd own
+mild control.Close own = absurd own
+
+pub unused-warning : (one : Control SlotSender) → IsWarning one → IsUnused got one
+unused-warning (control.Goaway last code) own = tt
+unused-warning (control.Probe bytes) own = tt
+unused-warning (control.Settings settings) own = absurd own
+unused-warning (control.Ping bytes) own = absurd own
+unused-warning (control.Window id n) own = absurd own
+unused-warning (control.Open id sender) own = absurd own
+unused-warning (control.Refuse id fields) own = absurd own
+unused-warning (control.Reset id code written) own = absurd own
+unused-warning control.InputEnded own = absurd own
+unused-warning control.Close own = absurd own
 
 module _ {W : Type 0} (contents : W → Option (List ℕ)) (failed : W → Bool) where
   -- ---- frames
@@ -457,6 +481,23 @@ module _ {W : Type 0} (contents : W → Option (List ℕ)) (failed : W → Bool)
     kept-on false orders runs.0 (steps_of (control.Reset id InternalError true) last taking) old new
         (sends-plain (control.Reset id InternalError true) last taking old new (λ k. refl) (brings-plain taking (control.Reset id InternalError true) (core_of old) (core_of new) tt brings) places) runs.3,
     granted-steps (control.Reset id InternalError true) last taking runs.0 credit runs.4,
+  )
+
+  -- a warning of the writer's own
+  warning-on : (one : Control SlotSender) (last : ℕ) (taking : Taking SlotSender) (old new : SlotWriter W) → IsWarning one
+      → WritesOn got contents failed (steps_of (order_of one) last taking) old.frames new.frames
+      → ((before : Option (List ℕ)) (run : List Step) → Wrote got contents failed before run old.frames → Blamed taking one run)
+      → ((before : Option (List ℕ)) (run : List Step) → Wrote got contents failed before run old.frames → Warns (order_of one) run)
+      → BringsBy taking one (core_of old) (core_of new) → SamePlaces (places_of old) (places_of new)
+      → (orders : List (Control Opened)) (before : Option (List ℕ)) (credit : ℕ)
+      → Runs contents failed false orders before credit old → Runs contents failed false orders before credit new
+  warning-on one last taking old new own on blamed warns brings places orders before credit runs = (
+    steps_of (order_of one) last taking ++ runs.0,
+    on before runs.0 runs.1,
+    obeys-warning one last taking (orders_of orders) runs.0 (blamed before runs.0 runs.1) (mild one own).spares ((mild one own).room runs.0) (warns before runs.0 runs.1) runs.2,
+    kept-on false orders runs.0 (steps_of (order_of one) last taking) old new
+        (sends-plain (order_of one) last taking old new (mild one own).opens (brings-plain taking one (core_of old) (core_of new) (mild one own).plain brings) places) runs.3,
+    granted-steps (order_of one) last taking runs.0 credit runs.4,
   )
 
   -- another order there
@@ -693,6 +734,24 @@ module _ {W : Type 0} (contents : W → Option (List ℕ)) (failed : W → Bool)
         );
   }
 
+  -- a warning of the writer's own
+  pub leads-warning : (one : Control SlotSender) (last : ℕ) (taking : Taking SlotSender) (old new : SlotWriter W) → IsWarning one → old.inbox.has_lost ≡ false → new.inbox ≡ old.inbox → SameCalls old new
+      → WritesOn got contents failed (steps_of (order_of one) last taking) old.frames new.frames
+      → ((before : Option (List ℕ)) (run : List Step) → Wrote got contents failed before run old.frames → Blamed taking one run)
+      → ((before : Option (List ℕ)) (run : List Step) → Wrote got contents failed before run old.frames → Warns (order_of one) run)
+      → BringsBy taking one (core_of old) (core_of new) → SamePlaces (places_of old) (places_of new) → LeadsOn contents failed old new
+  leads-warning one last taking old new own kept same calls on blamed warns brings places = record {
+    name = ap (λ (inbox : Inbox). out_name inbox.ring) same;
+    on = λ before credit led. (
+      led.0,
+      subst (λ (inbox : Inbox). HasGiven led.0 inbox) (sym same) led.1,
+      subst (λ (was : Bool). Runs contents failed was led.0 before credit new) (sym (ap (λ (inbox : Inbox). inbox.has_lost) same ∙ kept))
+          (warning-on one last taking old new own on blamed warns brings places led.0 before credit
+          (subst (λ (was : Bool). Runs contents failed was led.0 before credit old) kept led.2)),
+      λ still. knows-same (orders_of led.0) old new calls (led.3 kept),
+    );
+  }
+
   -- a writer that has taken nothing
   pub led-none : (before : Option (List ℕ)) (writer : SlotWriter W) → taken writer.inbox.ring ≡ [] → writer.inbox.set_aside ≡ None → writer.inbox.has_lost ≡ false
       → writer.senders.places.items ≡ [] → core_of writer ≡ [] → writer.input_ended ≡ false → Wrote got contents failed before [] writer.frames → Led contents failed before 0 writer
@@ -707,16 +766,17 @@ module _ {W : Type 0} (contents : W → Option (List ℕ)) (failed : W → Bool)
   )
 
   -- what is left of a writer whose buffer is flushed
-  pub has-written : (before : Option (List ℕ)) (credit : ℕ) (writer : SlotWriter W) (device : W) (told : Option Ending) → device ≡ writer.frames.device → IsFlushed writer
+  pub has-written : (before : Option (List ℕ)) (credit : ℕ) (writer : SlotWriter W) (device : W) (told : Option Ending) (faultless : Bool) → device ≡ writer.frames.device → IsFlushed writer
       → (led : LedOut contents failed before credit writer)
       → TellOthers led.2.0
       → IsFront (frames_of led.2.0) before (contents device)
       → (writer.frames.standing ≢ stands.Broken → writer.frames.buffer.items ≡ [] → IsAll (frames_of led.2.0) before (contents device))
-      → (writer.frames.standing ≡ stands.OutOfMemory → told ≡ Some ending.OutOfMemory)
       → (told ≡ Some ending.WriteFailed → writer.frames.standing ≡ stands.Broken)
       → (told ≢ Some ending.OutOfMemory → told ≢ Some ending.WriteFailed → (writer.inbox.has_lost ≡ false) × (writer.inbox.set_aside ≡ None))
-      → (written : HasWritten contents failed before credit (orders_of (taken writer.inbox.ring)) told device) × (written.run ≡ led.2.0)
-  has-written before credit writer device told same flushed led others front all memory broken each =
+      → (told ≢ Some ending.OutOfMemory → told ≢ Some ending.WriteFailed → writer.frames.standing ≡ stands.Going)
+      → (faultless ≡ true → has_failed led.2.0 ≡ false)
+      → (written : HasWritten contents failed before credit (orders_of (taken writer.inbox.ring)) told faultless device) × (written.run ≡ led.2.0)
+  has-written before credit writer device told faultless same flushed led others front all broken each going clean =
       let ends = led.2 in
       let standing = writer.frames.standing in
       let sound : failed device ≡ false → standing ≢ stands.Broken = λ unmarked stood. true≢false (sym (ap failed same ∙ ends.1.marked stood) ∙ unmarked) in (
@@ -736,18 +796,19 @@ module _ {W : Type 0} (contents : W → Option (List ℕ)) (failed : W → Bool)
           marked = λ sent. ap failed same ∙ ends.1.marked (broken sent);
           front = front;
           all = λ unmarked. all (sound unmarked) (flushed (sound unmarked));
-          over = λ unmarked other. unless-lost standing told memory (sound unmarked) ends.5 other;
+          over = λ spared sent. ends.5 (going spared sent);
+          sound = clean;
         },
         refl,
       )
 
   -- what is left of its orders and senders too
-  pub has-sent : (before : Option (List ℕ)) (credit : ℕ) (writer : SlotWriter W) (places : List Place) (device : W) (told : Option Ending) (led : LedOut contents failed before credit writer)
-      → (written : HasWritten contents failed before credit (orders_of (taken writer.inbox.ring)) told device) → written.run ≡ led.2.0
+  pub has-sent : (before : Option (List ℕ)) (credit : ℕ) (writer : SlotWriter W) (places : List Place) (device : W) (told : Option Ending) (faultless : Bool) (led : LedOut contents failed before credit writer)
+      → (written : HasWritten contents failed before credit (orders_of (taken writer.inbox.ring)) told faultless device) → written.run ≡ led.2.0
       → TellFronts led.2.0 (calls got (core_of writer)) → TellReturned led.2.0 → TakesAllHome (core_of writer) (places_of writer) places
       → (told ≢ Some ending.OutOfMemory → told ≢ Some ending.WriteFailed → (writer.inbox.has_lost ≡ false) × (writer.inbox.set_aside ≡ None))
-      → HasSent contents failed before credit (taken writer.inbox.ring) places told device
-  has-sent before credit writer places device told led written same fronts returned home each =
+      → HasSent contents failed before credit (taken writer.inbox.ring) places told faultless device
+  has-sent before credit writer places device told faultless led written same fronts returned home each =
       let aside : List (Control Opened) = order_in writer.inbox.set_aside in
       let kept : HasKept true (led.0 ++ aside) led.2.0 writer = kept-lost writer.inbox.has_lost led.0 aside led.2.0 writer led.2.3 in
       let are : taken writer.inbox.ring ≡ kept.0 ++ kept.1 = sym led.1 ∙ kept.2 in record {
@@ -770,14 +831,15 @@ module _ {W : Type 0} (contents : W → Option (List ℕ)) (failed : W → Bool)
       }
 
 -- the ending that is told names want of memory, a failed write or that orders are left where there is one
-abbrev pub told-on : {W : Type 0} (contents : W → Option (List ℕ)) (failed : W → Bool) (before : Option (List ℕ)) (credit : ℕ) (took put : List Order) (one other : Option Ending) (device : W)
+abbrev pub told-on : {W : Type 0} (contents : W → Option (List ℕ)) (failed : W → Bool) (before : Option (List ℕ)) (credit : ℕ) (took put : List Order) (one other : Option Ending) (sure surely : Bool) (device : W)
     → (one ≡ Some ending.OutOfMemory → other ≡ Some ending.OutOfMemory)
     → (one ≡ Some ending.WriteFailed → other ≢ Some ending.OutOfMemory → other ≡ Some ending.WriteFailed)
     → (other ≡ Some ending.WriteFailed → one ≡ Some ending.WriteFailed)
     → (left : List Order) → took ++ left ≡ put
     → (other ≢ Some ending.OutOfMemory → other ≢ Some ending.WriteFailed → left ≡ [])
-    → HasWritten contents failed before credit took one device → HasWritten contents failed before credit put other device
-told-on contents failed before credit took put one other device memory failing broken left parts none h = record {
+    → (surely ≡ true → sure ≡ true)
+    → HasWritten contents failed before credit took one sure device → HasWritten contents failed before credit put other surely device
+told-on contents failed before credit took put one other sure surely device memory failing broken left parts none clean h = record {
   run = h.run;
   lawful = h.lawful;
   credited = h.credited;
@@ -789,11 +851,6 @@ told-on contents failed before credit took put one other device memory failing b
   marked = λ sent. h.marked (broken sent);
   front = h.front;
   all = h.all;
-  over = λ unmarked spared. h.over unmarked (λ lacked. spared (memory lacked));
+  over = λ spared sent. h.over (λ lacked. spared (memory lacked)) (λ broke. sent (failing broke spared));
+  sound = λ is. h.sound (clean is);
 }
-
--- some orders are these
-pub some-orders : {W : Type 0} (contents : W → Option (List ℕ)) (failed : W → Bool) (before : Option (List ℕ)) (credit : ℕ) (orders : List Order) (told : Option Ending) (output : Option W)
-    → IfSome output (HasWritten contents failed before credit orders told) → IfSome output (λ device. (put : List Order) × HasWritten contents failed before credit put told device)
-some-orders contents failed before credit orders told None written = written
-some-orders contents failed before credit orders told (Some device) written = (orders, written)

@@ -1,13 +1,15 @@
 -- What the core of a connection's writer takes: the orders of the reader, one after another, and between them orders of the writer's own:
--- its answer to an order by which a window is too large, and its reset of a call that was left without trailers.
+-- its answer to an order by which a window is too large, its reset of a call that was left without trailers, and its warning that this side is
+-- to end the connection.
 -- Lists of orders have the earliest first, runs the latest.
 use Rattle.std.specs.Prelude.{◌≡◌, ◌⊎◌, ℕ, Bool, true, false, List, [], ◌∷◌, ◌++◌, map, Option, None, Some}
 use Rattle.std.specs.List.{list_any}
 use Rattle.lane.specs.Ring.{taken, out_name}
 use Rattle.h2frame.specs.declared.error_code.ErrorCode.TheVariants.{InternalError}
 use Rattle.outwriter.specs.declared.control.Control.{Control}
-use Rattle.outwriter.specs.declared.control.Control.TheVariants.{Open, Settings, Window, Reset, Goaway, InputEnded, Close}
+use Rattle.outwriter.specs.declared.control.Control.TheVariants.{Probe, Open, Settings, Window, Reset, Goaway, InputEnded, Close}
 use Rattle.outwriter.specs.declared.control.OutFault.TheVariants.{PeerWindow}
+use Rattle.outwriter.specs.Drains.{draining, is_going_away, warning, was_probed}
 use Rattle.outwriter.specs.RunState.{Blames, Concerns, HasRoom}
 use Rattle.outwriter.specs.Steps.{Order, Step, Taken, Granted, Written, Returned, order_of}
 use Rattle.connwriter.specs.declared.taking.Taking.{Taking}
@@ -44,12 +46,17 @@ ends_input _ = false
 abbrev pub ResetsCall : Order → List Order → Type 0
 ResetsCall order orders = (id : ℕ) × (order ≡ Reset id InternalError true) × IsAmong (Open id tt) orders × (list_any ends_input orders ≡ false)
 
+-- The writer warns its peer that this side is to end the connection while calls go on (RFC 9113, section 6.8): by the GOAWAY that names the
+-- greatest number of a stream, where no GOAWAY was ordered before; and by a PING, once.
+abbrev pub Warns : Order → List Step → Type 0
+Warns order before = ((order ≡ warning) × (is_going_away before ≡ false)) ⊎ ((order ≡ Probe draining) × (was_probed before ≡ false))
+
 -- each of these orders was taken, in turn; and between them the writer's own
 abbrev pub HasTaken : List Order → List Step → Type 0
 HasTaken orders [] = orders ≡ []
 HasTaken orders (Taken order ∷ before) =
     ((earlier : List Order) × (orders ≡ earlier ++ order ∷ []) × HasTaken earlier before)
-    ⊎ ((IsAnswer order before ⊎ ResetsCall order orders) × HasTaken orders before)
+    ⊎ ((IsAnswer order before ⊎ (ResetsCall order orders ⊎ Warns order before)) × HasTaken orders before)
 HasTaken orders (Granted id n ∷ before) = HasTaken orders before
 HasTaken orders (Written frame ∷ before) = HasTaken orders before
 HasTaken orders (Returned id items ∷ before) = HasTaken orders before
@@ -102,6 +109,12 @@ module _ {S : Type 0} where
   abbrev pub orders_of : List (Control S) → List Order
   orders_of controls = map (λ control. order_of control) controls
 
+  -- a GOAWAY, or a PING of this side's own
+  abbrev pub IsWarning : Control S → Type 0
+  IsWarning (Goaway last code) = Unit {0}
+  IsWarning (Probe bytes) = Unit {0}
+  IsWarning _ = ⊥
+
   -- whether orders are lost by what becomes of one: it is, or an answer to it
   abbrev pub loses_by : Taking S → Bool
   loses_by Done = false
@@ -135,11 +148,12 @@ abbrev pub IsBack : Control Opened → Untaken → Type 0
 IsBack order (Early back) = back ≡ order
 IsBack order OutOfMemory = Unit {0}
 
--- whether one waits, and whether a window of the peer's may overflow by it
+-- whether one waits, and whether a window of the peer's may overflow by it, or it is a GOAWAY
 abbrev pub waiting_of : Option (Control Opened) → Waiting
 waiting_of None = Nothing
 waiting_of (Some (Settings settings)) = waiting.Window
 waiting_of (Some (Window id n)) = waiting.Window
+waiting_of (Some (Goaway last code)) = waiting.Goaway
 waiting_of (Some _) = Other
 
 -- no window of the peer's may overflow by the order

@@ -12,6 +12,7 @@ use Rattle.outwriter.specs.declared.control.Control.{Control}
 use Rattle.outwriter.specs.declared.control.Control.TheVariants.{Open}
 use Rattle.outwriter.specs.Calls.{TellOthers, is_closed}
 use Rattle.outwriter.specs.Credit.{granted}
+use Rattle.outwriter.specs.Drains.{has_failed}
 use Rattle.outwriter.specs.Runs.{IsLawful, is_opened}
 use Rattle.outwriter.specs.RunState.{IsAnswered}
 use Rattle.outwriter.specs.Steps.{Step, Order, frames_of, order_of}
@@ -170,9 +171,9 @@ abbrev pub IsFlushed : {W : Type 0} → SlotWriter W → Type 0
 IsFlushed writer = writer.frames.standing ≢ Broken → writer.frames.buffer.items ≡ []
 
 -- A device had something before, and has more now: a prefix of the bytes of a lawful run's frames (RFC 9113). The run granted so much credit on
--- the connection, and obeyed these orders.
+-- the connection, and obeyed these orders. How the connection ended, as far as it is known, and whether it is known that no error was told.
 pub record HasWritten {W : Type 0} (contents : W → Option (List ℕ)) (failed : W → Bool) (before : Option (List ℕ)) (credit : ℕ) (orders : List Order) (ending : Option Ending)
-    (device : W) : Type 0 where
+    (faultless : Bool) (device : W) : Type 0 where
   pub run : List Step
   pub lawful : IsLawful run
   pub credited : granted 0 run ≡ credit
@@ -184,15 +185,18 @@ pub record HasWritten {W : Type 0} (contents : W → Option (List ℕ)) (failed 
   -- it ends by a failed write only where the device has that mark
   pub marked : ending ≡ Some WriteFailed → failed device ≡ true
   pub front : IsFront (frames_of run) before (contents device)
-  -- where no write failed, all of them; and where memory didn't run out, the run is over
+  -- where no write failed, all of them
   pub all : failed device ≡ false → IsAll (frames_of run) before (contents device)
-  pub over : failed device ≡ false → ending ≢ Some OutOfMemory → IsOver run
+  -- where memory didn't run out and the connection doesn't end by a failed write, the run is over
+  pub over : ending ≢ Some OutOfMemory → ending ≢ Some WriteFailed → IsOver run
+  -- no GOAWAY with an error was ordered, by either side
+  pub sound : faultless ≡ true → has_failed run ≡ false
 
 -- A device has that, and these senders of the slots tell what was sent of each call. The slots' lines are by a front of the orders; the
 -- others were lost.
 pub record HasSent {W : Type 0} (contents : W → Option (List ℕ)) (failed : W → Bool) (before : Option (List ℕ)) (credit : ℕ) (orders : List (Control Opened))
-    (places : List Place) (ending : Option Ending) (device : W) : Type 0 where
-  pub written : HasWritten contents failed before credit (orders_of orders) ending device
+    (places : List Place) (ending : Option Ending) (faultless : Bool) (device : W) : Type 0 where
+  pub written : HasWritten contents failed before credit (orders_of orders) ending faultless device
   pub front : List (Control Opened)
   pub rest : List (Control Opened)
   pub orders_are : orders ≡ front ++ rest

@@ -6,15 +6,16 @@ ghost use Rattle.lane.specs.RingLane.{got};
 ghost use Rattle.outwriter.specs.Cores.{IsUnused, open_stream};
 ghost use Rattle.outwriter.specs.declared.control.Control.TheVariants as orders;
 ghost use Rattle.outwriter.specs.RunState.{is_held};
-ghost use Rattle.outwriter.specs.Steps.{order_of};
+ghost use Rattle.outwriter.specs.Steps.{Step, order_of};
 ghost use Rattle.flow.specs.Windows.{room};
 ghost use Rattle.connwriter.specs.declared.filled.Filled.TheVariants as filling;
+ghost use Rattle.connwriter.specs.Wrote.{Wrote};
 ghost use Rattle.connwriter.specs.declared.standing.Standing.TheVariants as stands;
 ghost use Rattle.callslot.specs.declared.report.Ending.TheVariants as ending;
 ghost use Rattle.slotwriter.specs.declared.steps.Rest.TheVariants as rest;
 ghost use Rattle.slotwriter.specs.declared.steps.Took.TheVariants as took;
 ghost use Rattle.slotwriter.specs.declared.steps.Waiting.TheVariants as waiting;
-ghost use Rattle.slotwriter.specs.Orders.{TakesNoWindow, ends_input, orders_of, waiting_of};
+ghost use Rattle.slotwriter.specs.Orders.{IsWarning, TakesNoWindow, Warns, ends_input, orders_of, waiting_of};
 ghost use Rattle.slotwriter.specs.Sent.{HandsHome, HasStream, SamePlaces, stream_at};
 ghost use Rattle.slotwriter.specs.Written.{HasSent, HasWritten, Heeds, IsFlushed, Led, LedOut};
 ghost use Rattle.slotwriter.specs.Written.{LeadsOn, LeadsOut, LeadsTo, Parts, PassesOver, SameCalls};
@@ -33,6 +34,12 @@ use outwriter::Control;
 use std::alloc::Global;
 use std::snapshot::Snapshot;
 
+/// The greatest number of a stream (RFC 9113, section 5.1.1).
+const GREATEST_STREAM: StreamId = 2_147_483_647;
+
+/// The eight bytes of the PING that goes with a warning: "draining".
+const DRAINING: [u8; 8] = [100, 114, 97, 105, 110, 105, 110, 103];
+
 /// What the writing side of a connection has.
 #[derive(Drop)]
 pub struct SlotWriter<W: ConnWrite> {
@@ -48,11 +55,12 @@ pub struct SlotWriter<W: ConnWrite> {
     failed: Option<ErrorCode>,
 }
 
-/// What a writer hands back: how the connection ended as far as it sees, what it wrote to, its end
-/// of the ring of orders, and the senders of the slots.
+/// What a writer hands back: how the connection ended as far as it sees, whether no error was told
+/// by GOAWAY, what it wrote to, its end of the ring of orders, and the senders of the slots.
 #[derive(Drop)]
 pub struct Written<W: ConnWrite + Drop> {
     pub ending: Option<Ending>,
+    pub is_faultless: bool,
     pub device: W,
     pub orders: RingOut<Order>,
     pub senders: Senders,
@@ -99,6 +107,7 @@ impl<W: ConnWrite + Drop> SlotWriter<W> {
         match &self.inbox.set_aside {
             None => Waiting::Nothing,
             Some(Control::Settings(_) | Control::Window(..)) => Waiting::Window,
+            Some(Control::Goaway { .. }) => Waiting::Goaway,
             Some(_) => Waiting::Other,
         }
     }
@@ -319,6 +328,58 @@ impl<W: ConnWrite + Drop> SlotWriter<W> {
         true
     }
 
+    // ---- the end while calls go on
+
+    /// Warns the peer, once, that this side is to end the connection while calls go on (RFC 9113,
+    /// section 6.8): by a GOAWAY without an error that names the greatest number of a stream, unless
+    /// a GOAWAY was ordered before, and by a PING. Out of memory, or once an order was lost, it may
+    /// be left out.
+    pub fn warn(&mut self)
+        ensures leads { LeadsOn W.contents W.failed self.old self.new }
+    {
+        if !self.inbox.has_lost {
+            self.warn_by_goaway();
+            self.warn_by_ping();
+        }
+    }
+
+    /// The GOAWAY of it.
+    fn warn_by_goaway(&mut self)
+        requires kept { self.old.inbox.has_lost ≡ false }
+        ensures leads { LeadsOn W.contents W.failed self.old self.new }
+        ensures inbox { self.new.inbox ≡ self.old.inbox }
+    {
+        if self.frames.may_leave() {
+            let (last, code) = (GREATEST_STREAM, ErrorCode::NoError);
+            self.warn_by(Control::Goaway { last, code });
+        }
+    }
+
+    /// The PING of it.
+    fn warn_by_ping(&mut self)
+        requires kept { self.old.inbox.has_lost ≡ false }
+        ensures leads { LeadsOn W.contents W.failed self.old self.new }
+        ensures inbox { self.new.inbox ≡ self.old.inbox }
+    {
+        if self.frames.may_probe() {
+            self.warn_by(Control::Probe(DRAINING));
+        }
+    }
+
+    /// Gives the core a warning. Whether it was taken.
+    fn warn_by(&mut self, warning: Control<Sender<OutLane>>) -> bool
+        requires kept { self.old.inbox.has_lost ≡ false }
+        requires own { IsWarning warning }
+        requires warns { (before : Option (List ℕ)) (run : List Step)
+            → Wrote got W.contents W.failed before run self.old.frames
+            → Warns (order_of warning) run }
+        ensures leads { LeadsOn W.contents W.failed self.old self.new }
+        ensures inbox { self.new.inbox ≡ self.old.inbox }
+    {
+        let taking = self.frames.take(warning, GREATEST_STREAM);
+        matches!(taking, Taking::Done)
+    }
+
     // ---- frames
 
     /// Owes the peer n bytes more of credit, on a stream, or on the connection where it is 0.
@@ -509,13 +570,13 @@ impl<W: ConnWrite + Drop> SlotWriter<W> {
         ensures written { (before : Option (List ℕ)) (credit : ℕ)
             → LedOut W.contents W.failed before credit self
             → HasWritten W.contents W.failed before credit (orders_of (taken result.orders))
-            result.ending result.device }
+            result.ending result.is_faultless result.device }
 
         // With the senders of all slots, which tell what was sent of each call.
         ensures sent { (before : Option (List ℕ)) (credit : ℕ)
             → LedOut W.contents W.failed before credit self
             → HasSent W.contents W.failed before credit (taken result.orders)
-            result.senders.places.items result.ending result.device }
+            result.senders.places.items result.ending result.is_faultless result.device }
         ensures ring { result.orders ≡ self.inbox.ring }
     {
         let ending = self.ending();
@@ -525,10 +586,12 @@ impl<W: ConnWrite + Drop> SlotWriter<W> {
             mut senders,
             ..
         } = self;
+        let is_faultless = frames.is_faultless();
         let (core, device) = frames.into_parts();
         senders.keep_all(core);
         Written {
             ending,
+            is_faultless,
             device,
             orders: inbox.ring,
             senders,
@@ -542,6 +605,8 @@ impl<W: ConnWrite + Drop> SlotWriter<W> {
             → self.now.frames.standing ≡ stands.Broken }
         ensures each { result ≢ Some ending.OutOfMemory → result ≢ Some ending.WriteFailed
             → (self.now.inbox.has_lost ≡ false) × (self.now.inbox.set_aside ≡ None) }
+        ensures going { result ≢ Some ending.OutOfMemory → result ≢ Some ending.WriteFailed
+            → self.now.frames.standing ≡ stands.Going }
     {
         if self.inbox.has_lost {
             return Some(Ending::OutOfMemory);

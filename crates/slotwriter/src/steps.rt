@@ -10,6 +10,9 @@ pub enum Waiting {
     /// One by which a window of the peer's may overflow, so that the writer may end the connection:
     /// whoever has it taken tells the greatest stream that was admitted.
     Window,
+    /// A GOAWAY. Where this side ends the connection while calls go on, the peer is warned before it
+    /// (`warn`).
+    Goaway,
     /// Another.
     Other,
 }

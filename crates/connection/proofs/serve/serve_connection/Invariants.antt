@@ -5,15 +5,6 @@ use Rattle.callslot.specs.Accounts.{answers_by}
 use Rattle.slots.specs.Calls.{IsFirstWith}
 use Rattle.connection.proofs.serve.serve_connection.Given as goal
 
-abbrev pub ghosts-serve_over-A-Ledger : goal.ghosts-serve_over-A-Ledger
-ghosts-serve_over-A-Ledger g a = record { name = a.blanks.0.name; parts = a.blanks.0.parts }
-
-abbrev pub ghosts-serve_over-B-Ledger : goal.ghosts-serve_over-B-Ledger
-ghosts-serve_over-B-Ledger g a = record { name = a.blanks.1.name; parts = a.blanks.1.parts }
-
-abbrev pub ghosts-serve_over-C-Ledger : goal.ghosts-serve_over-C-Ledger
-ghosts-serve_over-C-Ledger g a = record { name = a.blanks.2.name; parts = a.blanks.2.parts }
-
 -- what its own methods answer, and their paths
 abbrev pub ghosts-serve_over-M-Answering : goal.ghosts-serve_over-M-Answering
 ghosts-serve_over-M-Answering g a = record { known = answers_by (λ method. (g.dyn-1.0.entry method.vtable).1.answers method.value) (listed a.methods.value); names = IsFirstWith (λ method. (g.dyn-1.0.entry method.vtable).1.name method.value) (listed a.methods.value) }

@@ -15,7 +15,8 @@ use Rattle.slotwriter.proofs.WrittenSteps.{told-on}
 use Rattle.connection.specs.Puts.{put_of, put_orders}
 use Rattle.connection.proofs.Lines.{meeting-put, sent-put}
 use Rattle.connection.proofs.Heard.{consumes-none, kept-none}
-use Rattle.connection.proofs.Reports.{are-served, none-served, rows-sent, served-by, unbegun}
+use Rattle.connection.specs.Served.{is_drained}
+use Rattle.connection.proofs.Reports.{are-served, drained-is, none-served, rows-sent, served-by, unbegun}
 use Rattle.connection.proofs.serve.serve_over.Goals as goal
 
 some-is : {one other : Ending} → Some one ≡ Some other → one ≡ other
@@ -44,18 +45,18 @@ returns g c =
     let has = heard.2.1 in
     let end = c.end-ended.ensures heard.2.0 has.reads in
     let within : c.join-written.result.told.amount ≤ counted_told (events_of heard.2.0) =
-    omega (arith, c.audit-2.ensures.within, heard.2.2, ap (λ share. share.amount) c.new-intake.ensures.0, c.open-received.ensures.amount) in
+    omega (arith, c.audit-2.ensures.within, heard.2.2, ap (λ share. share.amount) c.new-intake.ensures.0, c.requires.came.2) in
     let written = c.join-written.result.written in
     let amount = c.join-written.result.told.amount in
     let is = c.meet-2.ensures in
-    let sent : HasSent contents failed (contents c.args.output) amount (taken written.orders) written.senders.places.items written.ending written.device =
-    subst (λ (before : Option (List ℕ)). HasSent contents failed before amount (taken written.orders) written.senders.places.items written.ending written.device) c.in-Ok-start.ensures.begun c.join-written.ensures.1 in
-    let put = told-on contents failed (contents c.args.output) amount (orders_of (taken written.orders)) (put_orders c.end-ended.result.1) written.ending (Some c.meet-2.result.ending) written.device
+    let sent : HasSent contents failed (contents c.args.output) amount (taken written.orders) written.senders.places.items written.ending written.is_faultless written.device =
+    subst (λ (before : Option (List ℕ)). HasSent contents failed before amount (taken written.orders) written.senders.places.items written.ending written.is_faultless written.device) c.in-Ok-start.ensures.begun c.join-written.ensures.1 in
+    let put = told-on contents failed (contents c.args.output) amount (orders_of (taken written.orders)) (put_orders c.end-ended.result.1) written.ending (Some c.meet-2.result.ending) written.is_faultless (is_drained c.meet-2.result.ending) written.device
     (λ lacked. ap Some (is.memory lacked)) (λ broke spared. ap Some (is.broken broke (λ lacked. spared (ap Some lacked)))) (λ marked. is.marked (some-is marked))
     (orders_of is.obeyed.0)
     (sym (map-append (λ (one : Control Opened). order_of one) (taken written.orders) is.obeyed.0) ∙ ap (λ (os : List (Control Opened)). orders_of os) is.obeyed.1)
     (λ spared broke. ap (λ (os : List (Control Opened)). orders_of os) (is.obeyed.2 (λ lacked. spared (ap Some lacked)) (λ failing. broke (ap Some failing))))
-    sent.written in
+    (λ drained. is.faultless (drained-is c.meet-2.result.ending drained)) sent.written in
     record {
       served = (
         heard.0,
@@ -78,11 +79,11 @@ returns-in-Err g c =
     let is = c.meet.ensures in
     let parted = c.in-Err.field-0 in
     let written = parted.written in
-    let put = told-on contents failed (contents c.args.output) parted.told.amount (orders_of (taken written.orders)) (orders_of (taken written.orders) ++ orders_of is.obeyed.0) written.ending (Some c.meet.result.ending) written.device
+    let put = told-on contents failed (contents c.args.output) parted.told.amount (orders_of (taken written.orders)) (orders_of (taken written.orders) ++ orders_of is.obeyed.0) written.ending (Some c.meet.result.ending) written.is_faultless (is_drained c.meet.result.ending) written.device
     (λ lacked. ap Some (is.memory lacked)) (λ broke spared. ap Some (is.broken broke (λ lacked. spared (ap Some lacked)))) (λ marked. is.marked (some-is marked))
     (orders_of is.obeyed.0) refl
     (λ spared broke. ap (λ (os : List (Control Opened)). orders_of os) (is.obeyed.2 (λ lacked. spared (ap Some lacked)) (λ failing. broke (ap Some failing))))
-    c.in-Err.ensures.written in
+    (λ drained. is.faultless (drained-is c.meet.result.ending drained)) c.in-Err.ensures.written in
     record {
       served = (
         [],
@@ -90,7 +91,7 @@ returns-in-Err g c =
         served-by g.M.Answering.known g.M.Answering.names (λ rows. rows.items) contents failed _ _ _ _ _ _ _ is.output
             (none-served g.M.Answering.known g.M.Answering.names (λ rows. rows.items) contents failed (contents c.args.output) _ _ c.meet.result.ending _
             c.meet.result.calls written.device (is.lacked refl) (is.met.noted ∙ ap (λ rows. map is.met.note rows) c.new-in-Err.ensures.items)
-            (omega (arith, c.audit.ensures.within, ap (λ share. share.amount) c.new-intake.ensures.0, c.open-received.ensures.amount)) put),
+            (omega (arith, c.audit.ensures.within, ap (λ share. share.amount) c.new-intake.ensures.0, c.requires.came.2)) put),
       );
     }
 

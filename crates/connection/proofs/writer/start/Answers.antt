@@ -10,16 +10,16 @@ returns-in-Err-clause-written g c =
     let failed = g.W.ConnWrite.failed in
     let parted = c.write.result in
     let led = subst (λ (credit : ℕ). Led contents failed (contents c.of.result.value) credit c.new-writing.result) (sym c.requires.untold) c.new-writing.ensures.led in
-    let kept : HasWritten contents failed (contents c.of.result.value) parted.told.amount (orders_of (taken parted.written.orders)) parted.written.ending parted.written.device =
+    let kept : HasWritten contents failed (contents c.of.result.value) parted.told.amount (orders_of (taken parted.written.orders)) parted.written.ending parted.written.is_faultless parted.written.device =
     (c.write.ensures.sent (contents c.of.result.value) (rw c.in-Err.ensures.err led)).written in
-    subst (λ (before : Option (List ℕ)). HasWritten contents failed before parted.told.amount (orders_of (taken parted.written.orders)) parted.written.ending parted.written.device) (ap contents c.of.ensures) kept
+    subst (λ (before : Option (List ℕ)). HasWritten contents failed before parted.told.amount (orders_of (taken parted.written.orders)) parted.written.ending parted.written.is_faultless parted.written.device) (ap contents c.of.ensures) kept
 
 pub spawn_with-requires-clause-keeps : goal.spawn_with-requires-clause-keeps
 spawn_with-requires-clause-keeps g c = λ κs within r claims.
     let contents = g.W.ConnWrite.contents in
     let failed = g.W.ConnWrite.failed in
     let kept : (out_name r.written.orders ≡ out_name c.of-2.result.value)
-    × HasSent contents failed (contents c.of.result.value) r.told.amount (taken r.written.orders) r.written.senders.places.items r.written.ending r.written.device
+    × HasSent contents failed (contents c.of.result.value) r.told.amount (taken r.written.orders) r.written.senders.places.items r.written.ending r.written.is_faultless r.written.device
     × (r.told.parts ≡ g.C.Ledger.parts) = (
       claims.0 ∙ (ap out_name c.new-writing.ensures.ring ∙ ap out_name (sym c.of-2.ensures)),
       claims.1.0 (contents c.of.result.value)

@@ -1,6 +1,5 @@
 use Rattle.session.specs.declared.event.InEvent.TheVariants as events
-use Rattle.slots.specs.Steps.{Plain, TurnedAway, Lacking, Admitted}
-use Rattle.slots.specs.Readings.{unless_ended}
+use Rattle.slots.specs.Steps.{Plain}
 use Rattle.connection.proofs.Heard.{to-one}
 use Rattle.connection.proofs.reader.Reader.fail.Goals as goal
 

@@ -1,4 +1,4 @@
-use Rattle.std.proofs.Common.{List, [], ◌∷◌, ◌∙◌, Option, None, ap, arith, length, refl, subst, sym}
+use Rattle.std.proofs.Common.{List, [], ◌∷◌, ◌∙◌, Option, None, ap, arith, length, subst, sym}
 use Rattle.std.specs.Vec.Iter.{into_iter_steps}
 use Rattle.session.specs.declared.event.InEvent.{InEvent}
 use Rattle.connection.proofs.Heard.{none-end, parts-more, some-end, with-end, with-events, with-none, with-stop, with-then}

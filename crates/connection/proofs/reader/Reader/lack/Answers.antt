@@ -1,4 +1,4 @@
-use Rattle.std.proofs.Common.{◌≡◌, List, ap, refl, subst, sym}
+use Rattle.std.proofs.Common.{◌≡◌, refl, subst, sym}
 use Rattle.callslot.specs.declared.order.Opened.{Opened}
 use Rattle.outwriter.specs.declared.control.Control.{Control}
 use Rattle.slots.specs.Lines.{IsNewTo, calls_step}

@@ -1,15 +1,18 @@
-use Rattle.std.proofs.Common.{refl}
+use Rattle.std.proofs.Common.{[], ◌∷◌, refl}
 use Rattle.session.specs.declared.event.InEvent.TheVariants as events
-use Rattle.slots.specs.Readings.{unless_ended}
-use Rattle.slots.specs.Steps.{Unknown}
-use Rattle.connection.proofs.Tallies.{ended-justified}
-use Rattle.connection.proofs.Heard.{cuts-same, to-one, with-behind, with-open-for, with-same}
+use Rattle.slots.specs.Readings.{refused_by, unless_ended}
+use Rattle.slots.specs.Steps.{Told}
+use Rattle.connection.proofs.Tallies.{covers-more, ended-justified, refused-justified}
+use Rattle.connection.proofs.Heard.{cuts-same, with-behind, with-one, with-open-for}
 use Rattle.connection.proofs.reader.Reader.open.Goals as goal
 
 pub returns-in-Err-clause-reads : goal.returns-in-Err-clause-reads
 returns-in-Err-clause-reads g c =
-    with-same _ _ _ _ _ _ _
-    (to-one (events.Open c.args.id c.args.head) (unless_ended c.in-Err.decided.ends Unknown) _ _ _ _ _ _ _ (λ told. ended-justified (events.Open c.args.id c.args.head) Unknown told c.in-Err.decided.ends tt) c.act.ensures.ends c.in-Err.ensures.refused c.in-Err.ensures.aligns c.act.ensures.acts)
+    let draining = c.args.self.now.reading.slots.is_draining in
+    with-one _ _ (events.Open c.args.id c.args.head) (unless_ended c.in-Err.decided.ends (refused_by draining)) _ _ _ _ _ _ _
+    (λ told reads covers.
+    ended-justified (events.Open c.args.id c.args.head) (refused_by draining) told c.in-Err.decided.ends (refused-justified c.args.id c.args.head told draining reads.slots.drains))
+    (λ told covers. covers-more _ (Told (events.Open c.args.id c.args.head) (unless_ended c.in-Err.decided.ends (refused_by draining)) ∷ []) told covers) c.act.ensures.ends c.in-Err.ensures.refused c.in-Err.ensures.aligns c.act.ensures.acts
 
 pub returns-in-Ok-clause-reads : goal.returns-in-Ok-clause-reads
 returns-in-Ok-clause-reads g c =

@@ -23,4 +23,4 @@ lose-requires-in-Err-open_seat-clause-next g c = λ κs within. c.reserve.ensure
 pub add-requires-clause-next : goal.add-requires-clause-next
 add-requires-clause-next g c = λ κs within.
     let next = c.reserve.ensures.next c.args.job.id c.requires.next in
-    (subst (λ (n : ℕ). c.reserve.new.self.slots.last < n) (sym c.in-Ok.ensures.id) next.0, next.1)
+    (subst (λ (n : ℕ). c.reserve.new.self.slots.last < n) (sym c.in-Ok.ensures.id) next.0, next.1, next.2)

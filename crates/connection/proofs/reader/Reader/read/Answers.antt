@@ -1,15 +1,19 @@
-use Rattle.std.proofs.Common.{◌≡◌, ◌∙◌, ◌+◌, ◌≤◌, ℕ, List, [], ◌++◌, None, Some, Result, Ok, Err, OnErr, ap, append-nil, refl, subst, sym, take}
+use Rattle.std.proofs.Common.{◌≡◌, ◌∙◌, ◌≤◌, ℕ, List, [], ◌++◌, Result, Ok, Err, OnErr, ap, append-nil, refl, subst, sym, take}
 use Rattle.session.specs.declared.event.InEvent.{InEvent}
 use Rattle.session.specs.FlowBytes.{counted_told}
-use Rattle.slots.specs.Steps.{events_of}
+use Rattle.slots.specs.Steps.{Step, events_of}
 use Rattle.slots.proofs.LetGo.{events-append}
 use Rattle.slots.proofs.Resets.{calm-more}
-use Rattle.connection.proofs.Heard.{consumes-then, failed-read, input-read, lined-lack, none-more, none-read, not-by-fault, read-failed, reads-same, some-read, some-sound, with-end}
+use Rattle.connection.proofs.Heard.{consumes-then, failed-read, input-read, kept-behind, lined-lack, none-more, none-read, not-by-fault, read-failed, reads-same, some-read, some-sound, with-end}
 use Rattle.connection.proofs.reader.Reader.read.Goals as goal
 
 is-err : {A E P : Type 0} (result : Result A E) → ((a : A) → result ≡ Ok a → ⊥) → OnErr result P → P
 is-err (Ok a) not on = absurd (not a refl)
 is-err (Err fault) not on = on
+
+-- behind what was told before come these events
+all-told : (told more : List Step) (before given : List InEvent) → events_of told ≡ before → events_of more ≡ given → events_of (more ++ told) ≡ before ++ given
+all-told told more before given is all = events-append more told ∙ (ap (λ (es : List InEvent). es ++ events_of more) is ∙ ap (λ (es : List InEvent). before ++ es) all)
 
 pub returns-in_default-clause-heard : goal.returns-in_default-clause-heard
 returns-in_default-clause-heard g c = λ none.
@@ -19,13 +23,39 @@ returns-in_default-clause-heard g c = λ none.
 pub returns-then-has_stopped-clause-heard : goal.returns-then-has_stopped-clause-heard
 returns-then-has_stopped-clause-heard g c = λ none.
     let h = c.pieces.invariant.4 none in
-    (h.0, h.3, (h.2, input-read _ h.1 h.2 h.0 h.0 _ _ _ refl h.4 h.5 h.6 h.7 c.ending.ensures.input c.ending.ensures.goaway, h.8.came))
+    (h.0, h.3, (h.2, input-read _ h.1 h.2 h.0 h.0 _ _ _ refl h.4 h.5 h.6 h.7 c.ending.ensures.input c.ending.ensures.goaway c.ending.ensures.drained, h.8.came))
 
 pub returns-then-count-eq0-clause-heard : goal.returns-then-count-eq0-clause-heard
 returns-then-count-eq0-clause-heard g c = λ none.
     let h = c.pieces.invariant.4 none in
     let came = h.0 ++ take c.in-Ok.count c.read.new.buf in
-    (came, consumes-then _ _ _ h.0 _ h.3 c.in-Ok.ensures.bytes.0, (h.2, input-read _ h.1 h.2 h.0 came _ _ _ (none-more h.0 c.read.new.buf c.in-Ok.count c.if-count-eq0.true) h.4 h.5 h.6 h.7 c.ending-then-count-eq0.ensures.input c.ending-then-count-eq0.ensures.goaway, h.8.came))
+    let b = kept-behind _ h.2 _ _ _ _ c.heed_drain.ensures.cuts h.7 h.8 h.6 in
+    let ending = c.ending-then-count-eq0.ensures in (
+      came,
+      consumes-then _ _ _ h.0 _ h.3 c.in-Ok.ensures.bytes.0,
+      (
+        b.0 ++ h.2,
+        input-read _ h.1 (b.0 ++ h.2) h.0 came _ _ _ (none-more h.0 c.read.new.buf c.in-Ok.count c.if-count-eq0.true) h.4 (b.1 ∙ h.5) b.2 b.3 ending.input ending.goaway ending.drained,
+        b.4.came,
+      ),
+    )
+
+pub returns-then-heed_drain-clause-heard : goal.returns-then-heed_drain-clause-heard
+returns-then-heed_drain-clause-heard g c = λ none.
+    let h = c.pieces.invariant.4 none in
+    let on = c.in-Ok-None.ensures.on h.0 h.1 h.4 in
+    let more = on.2 h.2 h.7 h.8 in
+    let b = kept-behind _ (more.0 ++ h.2) _ _ _ _ c.heed_drain-in-pieces.ensures.cuts more.1.kept more.2 (calm-more more.0 h.2 (more.1.calm c.in-Ok-None.field-0-is) h.6) in
+    let came = h.0 ++ take c.in-Ok.count c.read.new.buf in
+    let ending = c.ending-then-heed_drain.ensures in (
+      came,
+      consumes-then _ _ _ h.0 _ h.3 c.in-Ok.ensures.bytes.0,
+      (
+        b.0 ++ (more.0 ++ h.2),
+        input-read _ (h.1 ++ on.0) (b.0 ++ (more.0 ++ h.2)) came came _ _ _ refl on.1 (b.1 ∙ all-told h.2 more.0 h.1 on.0 h.5 (more.1.all c.in-Ok-None.field-0-is)) b.2 b.3 ending.input ending.goaway ending.drained,
+        b.4.came,
+      ),
+    )
 
 pub pieces-preserved : goal.pieces-preserved
 pieces-preserved g c = (
@@ -36,16 +66,17 @@ pieces-preserved g c = (
   λ none.
       let h = c.pieces.invariant.4 none in
       let on = c.in-Ok-None.ensures.on h.0 h.1 h.4 in
-      let more = on.2 h.2 h.7 h.8 in (
+      let more = on.2 h.2 h.7 h.8 in
+      let b = kept-behind _ (more.0 ++ h.2) _ _ _ _ c.heed_drain-in-pieces.ensures.cuts more.1.kept more.2 (calm-more more.0 h.2 (more.1.calm c.in-Ok-None.field-0-is) h.6) in (
         h.0 ++ take c.in-Ok.count c.read.new.buf,
         h.1 ++ on.0,
-        more.0 ++ h.2,
+        b.0 ++ (more.0 ++ h.2),
         consumes-then _ _ _ h.0 _ h.3 c.in-Ok.ensures.bytes.0,
         on.1,
-        events-append more.0 h.2 ∙ (ap (λ (es : List InEvent). es ++ events_of more.0) h.5 ∙ ap (λ (es : List InEvent). h.1 ++ es) (more.1.all c.in-Ok-None.field-0-is)),
-        calm-more more.0 h.2 (more.1.calm c.in-Ok-None.field-0-is) h.6,
-        more.1.kept,
-        more.2,
+        b.1 ∙ all-told h.2 more.0 h.1 on.0 h.5 (more.1.all c.in-Ok-None.field-0-is),
+        b.2,
+        b.3,
+        b.4,
       ),
 )
 
@@ -79,6 +110,9 @@ returns-then-has_stopped-clause-failed g c = λ none failed. absurd (not-by-faul
 
 pub returns-then-count-eq0-clause-failed : goal.returns-then-count-eq0-clause-failed
 returns-then-count-eq0-clause-failed g c = λ none failed. absurd (not-by-fault _ c.ending-then-count-eq0.ensures.input failed)
+
+pub returns-then-heed_drain-clause-failed : goal.returns-then-heed_drain-clause-failed
+returns-then-heed_drain-clause-failed g c = λ none failed. absurd (not-by-fault _ c.ending-then-heed_drain.ensures.input failed)
 
 pub returns-in-Ok-Some-clause-failed : goal.returns-in-Ok-Some-clause-failed
 returns-in-Ok-Some-clause-failed g c = λ none failed.

@@ -1,8 +1,7 @@
-use Rattle.std.proofs.Common.{◌≡◌, ◌+◌, ◌<◌, ◌≤◌, ℕ, List, []}
+use Rattle.std.proofs.Common.{◌≡◌, ◌<◌, ℕ, List, []}
 use Rattle.std.specs.Io.KnownBytes.{Consumes}
 use Rattle.session.specs.declared.event.InEvent.{InEvent}
 use Rattle.session.specs.CoreStates.{Reached}
-use Rattle.session.specs.FlowBytes.{counted_told}
 use Rattle.slots.specs.Reports.{AreCalm}
 use Rattle.slots.specs.Steps.{Step, events_of}
 use Rattle.connection.specs.Heard.{KeptFor}

@@ -1,5 +1,5 @@
 use Rattle.session.specs.declared.event.InEvent.TheVariants as events
-use Rattle.slots.specs.Steps.{Plain, TurnedAway, Lacking, Admitted}
+use Rattle.slots.specs.Steps.{Plain}
 use Rattle.slots.specs.Readings.{unless_ended}
 use Rattle.connection.proofs.Heard.{to-one}
 use Rattle.connection.proofs.Tallies.{ended-justified}

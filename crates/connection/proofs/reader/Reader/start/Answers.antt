@@ -1,4 +1,4 @@
-use Rattle.std.proofs.Common.{◌∷◌, ◌∙◌, [], ap, refl, subst, sym, ℕ}
+use Rattle.std.proofs.Common.{◌∙◌, ap, refl, subst, sym, ℕ}
 use Rattle.callslot.specs.declared.slot.Job.{Job}
 use Rattle.slots.specs.Seats.{IsNext}
 use Rattle.session.specs.declared.event.InEvent.TheVariants as events

@@ -1,8 +1,9 @@
-use Rattle.std.proofs.Common.{◌∷◌, refl, sym, ◌∙◌, ap, Some}
+use Rattle.std.proofs.Common.{refl, sym, ◌∙◌, ap, Some}
 use Rattle.h2frame.specs.declared.error_code.ErrorCode.TheVariants.{InternalError}
 use Rattle.outwriter.specs.declared.control.Control.TheVariants.{Goaway}
-use Rattle.slots.specs.Orders.{begun, greatest}
-use Rattle.slots.proofs.ReadingSteps.{decides-begun, goaway-order}
+use Rattle.slots.specs.Orders.{named, named_with}
+use Rattle.slots.specs.Steps.{is_draining}
+use Rattle.slots.proofs.ReadingSteps.{counts-begun, decides-begun, goaway-order}
 use Rattle.slots.proofs.Lines.{calls-both}
 use Rattle.callslot.specs.declared.order.Opened.{Opened}
 use Rattle.outwriter.specs.declared.control.Control.{Control}
@@ -12,9 +13,10 @@ use Rattle.slots.proofs.reading.Reading.end_at.Goals as goal
 pub returns-clause-ends : goal.returns-clause-ends
 returns-clause-ends g c = λ told step begins ends orders.
     let count = c.count-first.ensures in
-    let counts = count.counts (begun told) begins.counts in
-    decides-begun told step c.args.id _ (Goaway (greatest (c.args.id ∷ begun told)) InternalError) c.args.self.now c.count-first.new.self count.slots count.heeds count.counts
-    (goaway-order c.goaway.result c.count-first.new.self.last (greatest (c.args.id ∷ begun told)) InternalError c.goaway.ensures.order counts.0.last) orders (sym ends) refl begins
+    let last = named_with c.args.id (is_draining told) (named told) in
+    let counts = counts-begun told step c.args.id _ c.args.self.now c.count-first.new.self count.counts begins in
+    decides-begun told step c.args.id _ (Goaway last InternalError) c.args.self.now c.count-first.new.self count.slots count.heeds count.counts
+    (goaway-order c.goaway.result c.count-first.new.self.last last InternalError c.goaway.ensures.order counts.0.last_is) orders (sym ends) refl begins
 
 pub returns-clause-aligns : goal.returns-clause-aligns
 returns-clause-aligns g c =

@@ -8,7 +8,7 @@ use Rattle.session.specs.declared.event.InEvent.TheVariants as events
 use Rattle.slots.specs.declared.reading.Decided.{Decided}
 use Rattle.slots.specs.Steps.{Plain, Told}
 use Rattle.slots.proofs.Heard.{idle-fatal}
-use Rattle.slots.proofs.ReadingSteps.{decides-now, one-order, reads-idle}
+use Rattle.slots.proofs.ReadingSteps.{decides-now, one-order, quiet, reads-idle}
 use Rattle.slots.proofs.Lines.{calls-plain}
 use Rattle.slots.specs.Lines.{calls_of}
 use Rattle.slots.proofs.reading.Reading.fatal.Goals as goal
@@ -18,8 +18,8 @@ returns-clause-decides g c = λ told reads.
     let done = c.order.ensures in
     let decided : Decided = record c.order.result { ends = Some (ending.ProtocolError c.args.code) } in
     decides-now told (Told (events.Fatal c.args.code) Plain) decided c.args.self.now
-    (one-order decided _ done.0 done.1 ∙ (ap (λ (order : Control Opened). order_of order ∷ []) c.goaway.ensures.order ∙ ap (λ (last : ℕ). Goaway last c.args.code ∷ []) reads.counts.last))
-    refl done.2 (reads-idle told _ _ refl (idle-fatal c.args.code) reads)
+    (one-order decided _ done.0 done.1 ∙ (ap (λ (order : Control Opened). order_of order ∷ []) c.goaway.ensures.order ∙ ap (λ (last : ℕ). Goaway last c.args.code ∷ []) reads.counts.last_is))
+    refl done.2 (reads-idle told _ _ (quiet _ refl refl) (idle-fatal c.args.code) reads)
 
 pub returns-clause-aligns : goal.returns-clause-aligns
 returns-clause-aligns g c =

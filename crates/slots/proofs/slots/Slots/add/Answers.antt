@@ -1,5 +1,5 @@
 use Rattle.std.specs.Prelude.{vec_capacity, vec_len}
-use Rattle.std.proofs.Common.{◌≤◌, ◌<◌, ◌∙◌, ◌++◌, ◌∷◌, [], ℕ, ap, arith, refl, subst, sym}
+use Rattle.std.proofs.Common.{◌≤◌, ◌<◌, ◌∙◌, ◌++◌, ◌∷◌, [], ℕ, ap, arith, subst, sym}
 use Rattle.callslot.specs.declared.report.CallReport.{CallReport}
 use Rattle.callslot.specs.Accounts.{unanswered}
 use Rattle.slots.proofs.SlotSteps.{kept-pushed}
@@ -9,7 +9,7 @@ use Rattle.slots.proofs.slots.Slots.add.Goals as goal
 
 pub returns-clause-heard : goal.returns-clause-heard
 returns-clause-heard g c = λ job same method jobs is told kept.
-    kept-pushed c.args.self.now _ c.args.seat told job (c.push_reserved.ensures.items ∙ ap (λ v. v.items ++ c.args.seat ∷ []) c.report.ensures.seats) (subst (λ (id : ℕ). c.args.self.now.last < id) same c.requires.next.0) (c.report.ensures.last ∙ (ap (λ (row : CallReport). row.id) c.unanswered.ensures ∙ same))
+    kept-pushed c.args.self.now _ c.args.seat told job (c.push_reserved.ensures.items ∙ ap (λ v. v.items ++ c.args.seat ∷ []) c.report.ensures.seats) c.requires.next.2 c.report.ensures.draining (subst (λ (id : ℕ). c.args.self.now.last < id) same c.requires.next.0) (c.report.ensures.last ∙ (ap (λ (row : CallReport). row.id) c.unanswered.ensures ∙ same))
     (c.report.ensures.rows ∙ (ap (λ (row : CallReport). c.args.self.now.rows.items ++ row ∷ []) c.unanswered.ensures
     ∙ (ap (λ (id : ℕ). c.args.self.now.rows.items ++ unanswered id c.args.method ∷ []) same ∙ ap (λ (index : ℕ). c.args.self.now.rows.items ++ unanswered job.id index ∷ []) method)))
     same jobs (is told) kept

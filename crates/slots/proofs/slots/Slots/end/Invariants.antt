@@ -1,4 +1,4 @@
-use Rattle.std.proofs.Common.{◌≡◌, ◌≤◌, ◌++◌, ℕ, List, All, length}
+use Rattle.std.proofs.Common.{◌≡◌, ◌≤◌, ◌++◌, List, All, length}
 use Rattle.std.specs.Prelude.{vec_capacity, vec_len}
 use Rattle.std.specs.Vec.Iter.{into_iter_items, into_iter_len}
 use Rattle.slots.specs.Lines.{AreEndsOf, IsGivenIn, calls_in}

@@ -25,7 +25,7 @@ returns-clause-heard g c = λ counted told k.
     let of = is-at c.args.self.now.seats.items c.in-Some.place c.args.id seat (sym c.in-Some.ensures) c.in-Some-get_mut.ensures.value in
     let both = fed-both told c.args.id c.in-Some.place seat c.args.self.now k (sym c.in-Some.ensures) in
     kept-set c.args.self.now _ c.in-Some.place seat c.feed.new.self c.in-Some-get_mut.ensures.item.3.0 c.in-Some-get_mut.ensures.value refl told
-    (Told (events.Data c.args.id c.args.piece counted) (Received Feed)) c.args.id refl
+    (Told (events.Data c.args.id c.args.piece counted) (Received Feed)) c.args.id refl refl
     (rows-fed told c.args.self.now.last c.args.id counted c.args.piece c.args.self.now.rows.items _ both.0 both.1 (c.note_fed.ensures.rows k.rows.rise ∙ ap (λ (n : ℕ). map (fed_more c.args.id n) c.args.self.now.rows.items) c.len-count.ensures.value) k.rows)
     c.feed.ensures.id c.feed.ensures.jobs of (concerns-data c.args.id counted c.args.piece (Received Feed))
     (λ are. subst (λ (id : ℕ). IsSeat g.H.Worker.names (Told (events.Data id c.args.piece counted) (Received Feed) ∷ told) c.feed.new.self) (eqb-true seat.id c.args.id of) (c.in_ok-feed.ensures.heard told counted are)) k
@@ -33,10 +33,10 @@ returns-clause-heard g c = λ counted told k.
 pub returns-in_err-feed-clause-stays : goal.returns-in_err-feed-clause-stays
 returns-in_err-feed-clause-stays g c = err-any c.from_residual.result _ (λ told k.
     keeps-set c.args.self.now _ c.in-Some.place c.in-Some-get_mut.seat.now c.feed.new.self c.in-Some-get_mut.ensures.item.3.0 c.in-Some-get_mut.ensures.value refl told
-    refl refl c.feed.ensures.id c.feed.ensures.jobs (c.in_err-feed.ensures.stays told) k)
+    refl refl refl c.feed.ensures.id c.feed.ensures.jobs (c.in_err-feed.ensures.stays told) k)
 
 pub returns-clause-next : goal.returns-clause-next
-returns-clause-next g c = λ id next. (next.0, omega (arith, next.1, c.note_fed.ensures.room.0, c.note_fed.ensures.room.1))
+returns-clause-next g c = λ id next. (next.0, omega (arith, next.1, c.note_fed.ensures.room.0, c.note_fed.ensures.room.1), next.2)
 
 pub returns-clause-calls : goal.returns-clause-calls
 returns-clause-calls g c =

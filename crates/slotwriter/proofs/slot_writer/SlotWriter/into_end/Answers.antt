@@ -11,14 +11,15 @@ pub returns : goal.returns
 returns g c =
     let same = ap (λ senders. senders.items) c.into_parts-core.ensures.senders in
     let written = λ (before : Option (List ℕ)) (credit : ℕ) (led : LedOut g.W.ConnWrite.contents g.W.ConnWrite.failed before credit c.args.self).
-    has-written g.W.ConnWrite.contents g.W.ConnWrite.failed before credit c.args.self c.into_parts-core.result.1 c.ending-ending.result c.into_parts-core.ensures.device c.requires.flushed led
+    has-written g.W.ConnWrite.contents g.W.ConnWrite.failed before credit c.args.self c.into_parts-core.result.1 c.ending-ending.result c.is_faultless-is_faultless.result c.into_parts-core.ensures.device c.requires.flushed led
     (c.into_parts-core.ensures.others before led.2.0 led.2.1)
     (c.into_parts-core.ensures.prefix before led.2.0 led.2.1)
     (λ sound empty. c.into_parts-core.ensures.all sound empty before led.2.0 led.2.1)
-    c.ending-ending.ensures.memory c.ending-ending.ensures.broken c.ending-ending.ensures.each in record {
+    c.ending-ending.ensures.broken c.ending-ending.ensures.each c.ending-ending.ensures.going
+    (λ is. c.is_faultless-is_faultless.ensures.none is before led.2.0 led.2.1) in record {
       written = λ before credit led. (written before credit led).0;
       sent = λ before credit led.
-          has-sent g.W.ConnWrite.contents g.W.ConnWrite.failed before credit c.args.self c.keep_all.new.self.places.items c.into_parts-core.result.1 c.ending-ending.result led (written before credit led).0 (written before credit led).1
+          has-sent g.W.ConnWrite.contents g.W.ConnWrite.failed before credit c.args.self c.keep_all.new.self.places.items c.into_parts-core.result.1 c.ending-ending.result c.is_faultless-is_faultless.result led (written before credit led).0 (written before credit led).1
           (subst (λ (core : List (ℕ × SlotSender)). TellFronts led.2.0 (calls got core)) same (c.into_parts-core.ensures.fronts before led.2.0 led.2.1))
           (c.into_parts-core.ensures.returned before led.2.0 led.2.1)
           (subst (λ (core : List (ℕ × SlotSender)). TakesAllHome core (places_of c.args.self) c.keep_all.new.self.places.items) same c.keep_all.ensures.home)

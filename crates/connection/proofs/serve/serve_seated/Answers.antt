@@ -1,0 +1,15 @@
+use Rattle.std.proofs.Common.{[]}
+use Rattle.connection.proofs.Heard.{consumes-none}
+use Rattle.connection.proofs.Reports.{unbegun}
+use Rattle.connection.proofs.serve.serve_seated.Goals as goal
+
+pub returns-in_default : goal.returns-in_default
+returns-in_default g c =
+    let is = c.unserved.ensures in
+    record {
+      served = (
+        [],
+        consumes-none _,
+        unbegun _ _ (λ rows. rows.items) g.O.ConnWrite.contents g.O.ConnWrite.failed _ c.unserved.result.ending c.unserved.result.calls c.args.output c.unserved.result.output is.ending is.output is.calls,
+      );
+    }

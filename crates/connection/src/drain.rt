@@ -1,0 +1,65 @@
+//! How a server ends a connection while its calls go on (RFC 9113, section 6.8).
+
+ghost use Rattle.std.specs.Prelude.{◌≡◌, ◌<◌, IfOk};
+
+use callworker::Shared;
+use connbook::ConnBook;
+use std::alloc::{AllocError, Global};
+use std::sync::ledger::{Blank, Ledger, Share};
+use std::sync::{Arc, Wait};
+
+/// Ends one connection while its calls go on, from any thread.
+#[derive(Drop)]
+pub struct Drainer<A: Ledger, B: Ledger, C: Ledger> {
+    shared: Arc<Shared<A, B, C>>,
+}
+
+/// What a connection is served with, so that its drainer can end it: what its threads share, and the shares of its credit book.
+#[derive(Drop)]
+pub struct DrainSeat<A: Ledger, B: Ledger, C: Ledger> {
+    pub(crate) shared: Arc<Shared<A, B, C>>,
+    pub(crate) came: Share<A>,
+    pub(crate) calls: Share<B>,
+    pub(crate) told: Share<C>,
+}
+
+impl<A: Ledger, B: Ledger, C: Ledger> Drainer<A, B, C> {
+    /// The drainer of a connection, and what the connection is served with.
+    pub fn new(
+        alloc: Global,
+        blanks: (Blank, Blank, Blank),
+    ) -> Result<(Drainer<A, B, C>, DrainSeat<A, B, C>), AllocError>
+        requires received { (blanks.0.name ≡ A.name) × (blanks.0.parts ≡ A.parts)
+            × (0 < A.parts) }
+        requires admitted { (blanks.1.name ≡ B.name) × (blanks.1.parts ≡ B.parts)
+            × (0 < B.parts) }
+        requires announced { (blanks.2.name ≡ C.name) × (blanks.2.parts ≡ C.parts)
+            × (0 < C.parts) }
+        // The shares are whole, and nothing was counted in them.
+        ensures came { IfOk result (λ made. (made.1.came.parts ≡ A.parts)
+            × (made.1.came.amount ≡ 0)) }
+        ensures calls { IfOk result (λ made. (made.1.calls.parts ≡ B.parts)
+            × (made.1.calls.amount ≡ 0)) }
+        ensures told { IfOk result (λ made. (made.1.told.parts ≡ C.parts)
+            × (made.1.told.amount ≡ 0)) }
+    {
+        let (received, came) = blanks.0.open::<A>();
+        let (admitted, calls) = blanks.1.open::<B>();
+        let (announced, told) = blanks.2.open::<C>();
+        let shared = Shared::new(alloc, ConnBook::new(alloc, received, admitted, announced))?;
+        let seat = DrainSeat {
+            shared: Arc::try_clone(&shared)?,
+            came,
+            calls,
+            told,
+        };
+        Ok((Drainer { shared }, seat))
+    }
+
+    /// Lets no more calls be admitted. The peer is warned, and told which calls go on; the connection ends behind the last of them.
+    /// A second drain changes nothing.
+    pub fn drain(&self, rt: &impl Wait) {
+        self.shared.book.lock(rt).close();
+        self.shared.writer.ring();
+    }
+}
