@@ -1,7 +1,10 @@
 //! Devices over memory that fail from a call on, and move little at a time.
 ghost use Rattle.std.specs.Prelude.{◌≤◌, ◌<◌, None, IfOk};
 
+use connection::Drainer;
 use device::{ConnRead, ConnWrite, DeviceFault};
+use std::sync::Wait;
+use std::sync::ledger::Ledger;
 
 /// What the calls of a device do.
 #[derive(Clone, Copy)]
@@ -55,6 +58,31 @@ impl ConnRead for Source {
         buf[..count].copy_from_slice(&rest[..count]);
         self.at = self.at.saturating_add(count);
         Ok(count)
+    }
+}
+
+/// A source behind some reads of which its connection is drained, before what they brought is told.
+#[derive(Drop)]
+pub struct DrainedSource<A: Ledger, B: Ledger, C: Ledger, R: Drop> {
+    pub rt: R,
+    pub source: Source,
+    pub drainer: Drainer<A, B, C>,
+    /// Behind how many more reads, if it is.
+    pub left: Option<u64>,
+}
+
+impl<A: Ledger, B: Ledger, C: Ledger, R: Wait + Drop> ConnRead for DrainedSource<A, B, C, R> {
+    ghost remaining = { λ _. None };
+
+    ghost failed = { λ drained. drained.source.has_failed };
+
+    fn read(&mut self, buf: &mut [u8]) -> Result<usize, DeviceFault> {
+        let result = self.source.read(buf);
+        self.left = self.left.and_then(|left| left.checked_sub(1));
+        if self.left == Some(0) {
+            self.drainer.drain(&self.rt);
+        }
+        result
     }
 }
 

@@ -1,7 +1,7 @@
 //! The server's connections over devices that fail, or that move little at a time, and over clocks that stand still or leap.
 //!
 //! A line of standard input is a run: what the client sends, in hexadecimal digits, behind them words (`plan` reads both). A run serves
-//! it by `serve_undrained`, and prints what became of it, line by line:
+//! it by `serve_connection`, and prints what became of it, line by line:
 //!
 //! - `written` and what was written, in hexadecimal digits;
 //! - `wrote N`, `read N`, in bytes; behind the number ` failed` where a write or a read failed;
@@ -12,6 +12,8 @@
 //! - `over`.
 #![tactic(auto)]
 
+ghost use Rattle.std.specs.Prelude.{◌≡◌, ◌<◌};
+
 mod clock;
 mod devices;
 mod plan;
@@ -19,7 +21,8 @@ mod report;
 
 use anyhow::Result;
 use clock::Timed;
-use connection::{OpenGate, serve_undrained};
+use connection::{Drainer, OpenGate, serve_connection};
+use devices::DrainedSource;
 use handlers::{
     CacheableUnaryCall, EmptyCall, FullDuplexCall, HalfDuplexCall, Method, Methods,
     StreamingInputCall, StreamingOutputCall, UnaryCall,
@@ -27,6 +30,8 @@ use handlers::{
 use plan::Plan;
 use report::print_served;
 use std::alloc::Global;
+use std::marker::Brand;
+use std::sync::ledger::{Blank, Ledger};
 use std::sync::{Arc, Wait};
 use std::thread::Threads;
 use std::time::Clock;
@@ -36,15 +41,47 @@ fn run<R>(rt: R, alloc: Global, methods: Arc<Methods>, plan: Plan) -> Result<()>
 where
     R: Threads + Wait + Clock + Print + Copy + Send + Sync + Drop + 'static,
 {
+    let blanks = (Blank::new(1), Blank::new(1), Blank::new(1));
+    run_over::<Brand, Brand, Brand, R>(rt, alloc, blanks, methods, plan)
+}
+
+/// The same, over these ledgers.
+fn run_over<A, B, C, R>(
+    rt: R,
+    alloc: Global,
+    blanks: (Blank, Blank, Blank),
+    methods: Arc<Methods>,
+    plan: Plan,
+) -> Result<()>
+where
+    A: Ledger + Send + Sync + 'static,
+    B: Ledger + Send + Sync + 'static,
+    C: Ledger + Send + Sync + 'static,
+    R: Threads + Wait + Clock + Print + Copy + Send + Sync + Drop + 'static,
+    requires received { (blanks.0.name ≡ A.name) × (blanks.0.parts ≡ A.parts) × (0 < A.parts) }
+    requires admitted { (blanks.1.name ≡ B.name) × (blanks.1.parts ≡ B.parts) × (0 < B.parts) }
+    requires announced { (blanks.2.name ≡ C.name) × (blanks.2.parts ≡ C.parts) × (0 < C.parts) }
+{
     let Plan {
-        mut source,
+        source,
         sink,
         pace,
+        drain,
     } = plan;
     let gate = Arc::new(alloc, OpenGate)?;
     let timed = Timed { rt, pace };
-    let served = serve_undrained(timed, alloc, &mut source, sink, methods, gate);
-    print_served(&rt, alloc, &source, &served)
+    let (drainer, seat) = Drainer::<A, B, C>::new(alloc, blanks)?;
+    if drain == Some(0) {
+        drainer.drain(&rt);
+    }
+    let mut input = DrainedSource {
+        rt,
+        source,
+        drainer,
+        left: drain,
+    };
+    let served = serve_connection(timed, alloc, &mut input, sink, methods, gate, seat);
+    print_served(&rt, alloc, &input.source, &served)
 }
 
 fn main(rt: HostRuntime) -> Result<()> {

@@ -8,12 +8,13 @@ use std::alloc::Global;
 /// How many bytes a run has room for that are written.
 const ROOM: usize = 65_536;
 
-/// A run: what is read and written, and how the clock goes.
+/// A run: what is read and written, how the clock goes, and behind how many reads the connection is drained, if it is.
 #[derive(Drop)]
 pub struct Plan {
     pub source: Source,
     pub sink: Sink,
     pub pace: Pace,
+    pub drain: Option<u64>,
 }
 
 impl Plan {
@@ -22,7 +23,8 @@ impl Plan {
     /// - `read-good=K`, `write-good=K`: so many reads or writes go well, and each behind them fails;
     /// - `read-most=N`, `write-most=N`: one moves at most so many bytes;
     /// - `cut=N`: no read goes across the N-th byte;
-    /// - `clock=still`, `clock=leaping`.
+    /// - `clock=still`, `clock=leaping`;
+    /// - `drain=N`: the connection is drained behind so many reads, at 0 before it begins.
     pub fn read(alloc: Global, line: &str) -> Result<Plan> {
         let (digits, words) = line.split_once(' ').context("no blank")?;
         let unlimited = Limits {
@@ -43,6 +45,7 @@ impl Plan {
                 has_failed: false,
             },
             pace: Pace::Steady,
+            drain: None,
         };
         for word in words.split_whitespace() {
             plan.add(word)?;
@@ -59,6 +62,7 @@ impl Plan {
             "write-most" => self.sink.limits.most = value.parse::<usize>()?,
             "cut" => self.source.cut = value.parse::<usize>()?,
             "clock" => self.pace = pace_of(value)?,
+            "drain" => self.drain = Some(value.parse::<u64>()?),
             _ => bail!("an unknown word"),
         }
         Ok(())
