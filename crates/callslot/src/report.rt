@@ -2,6 +2,7 @@
 
 ghost use Rattle.std.specs.Prelude.{◌≡◌};
 ghost use Rattle.callslot.specs.Accounts.{unanswered};
+ghost use Rattle.callslot.specs.Endings.{ending_number};
 
 use account::{Shut, Told};
 use h2frame::{ErrorCode, StreamId};
@@ -82,7 +83,9 @@ pub enum Ending {
 
 impl Ending {
     /// The ending's number.
-    pub fn code(self) -> u32 {
+    pub fn code(self) -> u32
+        ensures { result ≡ ending_number self }
+    {
         match self {
             Ending::InputEnded => 1,
             Ending::PeerGoaway => 2,

@@ -1,6 +1,6 @@
 //! What the writing side of a connection has, and its steps.
 
-ghost use Rattle.std.specs.Prelude.{◌≡◌, ◌≢◌, ◌+◌, ℕ, nat_eq, if◌then◌else◌, true, false, List, [], length, slice_get, Option, None, Some, IfNone, IfSome};
+ghost use Rattle.std.specs.Prelude.{◌≡◌, ◌≢◌, ◌+◌, ℕ, nat_eq, if◌then◌else◌, true, false, List, [], length, slice_get, Option, None, Some, IfNone, IfSome, OnErr, OnOk};
 ghost use Rattle.lane.specs.Ring.{taken};
 ghost use Rattle.lane.specs.RingLane.{got};
 ghost use Rattle.outwriter.specs.Cores.{IsUnused, open_stream};
@@ -506,6 +506,8 @@ impl<W: ConnWrite + Drop> SlotWriter<W> {
     pub fn flush(&mut self) -> Result<(), DeviceFault>
         ensures stays { Stays W.contents W.failed self.old self.new }
         ensures flushed { IsFlushed self.new }
+        ensures went { OnOk result (self.new.frames.standing ≢ stands.Broken) }
+        ensures broken { OnErr result (self.new.frames.standing ≡ stands.Broken) }
     {
         self.frames.flush()
     }
