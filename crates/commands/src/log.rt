@@ -23,7 +23,7 @@ const MOST_LINES: usize = 16_384;
 const TICK: u64 = 1_000;
 
 /// How long it pauses once it has printed, in milliseconds: so a busy server's lines are printed many at a time.
-const PAUSE: u64 = 2;
+const PAUSE: u64 = 10;
 
 /// The log of a server.
 #[derive(Drop)]
@@ -136,9 +136,9 @@ impl Log {
             return false;
         };
         let mut lost = dropped;
-        let mut text = String::new(alloc);
+        let (mut text, mut lines) = (String::new(alloc), String::new(alloc));
         for batch in &batches {
-            if self.add_text(alloc, &mut text, batch).is_err() {
+            if self.add_text(alloc, &mut text, &mut lines, batch).is_err() {
                 lost = lost.saturating_add(batch.lines.len());
             }
         }
@@ -150,10 +150,16 @@ impl Log {
         true
     }
 
-    /// Adds the whole lines of a batch to a text, or nothing.
-    fn add_text(&self, alloc: Global, text: &mut String, batch: &Batch) -> Result<(), AllocError> {
-        let mut lines = String::new(alloc);
-        batch.write(alloc, &mut lines, self.form)?;
+    /// Adds the whole lines of a batch to a text, or nothing. They are written to `lines` first, whose memory is used again.
+    fn add_text(
+        &self,
+        alloc: Global,
+        text: &mut String,
+        lines: &mut String,
+        batch: &Batch,
+    ) -> Result<(), AllocError> {
+        lines.clear();
+        batch.write(alloc, lines, self.form)?;
         text.push_str(lines.as_str())
     }
 

@@ -233,12 +233,13 @@ impl Seen {
         if self.is_over {
             return Ok(());
         }
-        let length = i64::from(head.length);
-        if length > self.came {
-            let cause = Cause::Window(WindowCause::Connection(head, self.came));
-            return self.blame(0, ErrorCode::FlowControlError, cause);
+        // The server's credit may be shown behind what it let come.
+        let (left, length) = (self.came, i64::from(head.length));
+        self.came = left.saturating_sub(length);
+        if length > left {
+            let cause = Cause::Window(WindowCause::Connection(head, left));
+            self.blame(0, ErrorCode::FlowControlError, cause)?;
         }
-        self.came = self.came.saturating_sub(length);
         match verdict {
             HalfVerdict::Accept => self.data_of_call(&head),
             HalfVerdict::StreamError(error) => {
@@ -260,7 +261,7 @@ impl Seen {
         call.came = left.saturating_sub(i64::from(head.length));
         if i64::from(head.length) > left {
             let cause = Cause::Window(WindowCause::Stream(*head, left));
-            return self.blame(head.stream, ErrorCode::FlowControlError, cause);
+            self.blame(head.stream, ErrorCode::FlowControlError, cause)?;
         }
         self.is_taken = true;
         if head.length == 0 && head.flags.contains(Flags::END_STREAM) {

@@ -140,6 +140,14 @@ impl Seen {
         None
     }
 
+    /// The server won't end a stream, or at 0 the connection, with this error for what was noted so far.
+    pub fn excuse(&mut self, stream: StreamId, error: ErrorCode) {
+        if !self.blames.is_empty() {
+            self.blames
+                .retain(|blame| blame.stream != stream || blame.error != error);
+        }
+    }
+
     /// The verdict of a frame by the states of streams. An error of the stream resets it.
     pub fn judge(&mut self, head: &FrameHead) -> Result<HalfVerdict, AllocError> {
         if head.stream == 0 {

@@ -9,7 +9,7 @@ use crate::tables::keeps_tables;
 use crate::walk::Part;
 use callhead::read_status;
 use flow::{HalfVerdict, MAX_WINDOW};
-use h2frame::{Flags, FrameHead, FrameKind};
+use h2frame::{ErrorCode, Flags, FrameHead, FrameKind};
 use lists::Field;
 use std::alloc::{AllocError, Global};
 
@@ -106,12 +106,19 @@ impl Seen {
         }
     }
 
-    /// The server gives credit for DATA.
+    /// The server gives credit for DATA. Where these were shown before it, they were no fault.
     fn server_credit(&mut self, head: &FrameHead, increment: i64) {
-        if head.stream == 0 {
+        let window = if head.stream == 0 {
             self.came = self.came.saturating_add(increment);
+            self.came
         } else if let Some(call) = self.calls.get_mut(&head.stream) {
             call.came = call.came.saturating_add(increment);
+            call.came
+        } else {
+            return;
+        };
+        if window >= 0 {
+            self.excuse(head.stream, ErrorCode::FlowControlError);
         }
     }
 }
