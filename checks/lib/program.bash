@@ -105,9 +105,30 @@ copy_needed() {
   printf '%s' "$listed" >"$1/crates.txt" && cp -- "$here/HANDLES" "$1/"
 }
 
-# ROOM FOLDER: proves and builds the program on a copy in ROOM, as the gate does: `rt ci` has as many crates at work as there are
-# processors, and keeps each that passes. Puts the program and what it was built from into FOLDER. A line for each crate goes to
-# standard error, and all that rt said where it fails.
+# The crates that most others wait for, each behind those that it waits for itself.
+first=callbox
+second=connection
+
+# ROOM: proves the copy in ROOM and builds its program, by `rt ci`, which has as many crates at work as there are processors, and keeps
+# each that passes. A line for each crate goes to standard error, and what the last `rt ci` said to ROOM/log.
+#
+# A proof keeps the processors that it began with. So those that most crates wait for come first, with nothing beside them but, at a
+# lower priority, the crates that don't wait for them.
+prove_copy() {
+  local room=$1 name others said='s/^rt: \([a-z0-9_]* proved\)$/\1/p'
+  read -ra others < <(python3 -B "$here/checks/lib/beside.py" "$room/copy" "$first")
+  if [[ ${others[*]} ]]; then
+    (cd -- "$room/copy" && nice -n 10 rt ci "${others[@]}" 2>&1 | sed -un "$said" >&2) &
+    for name in "$first" "$second"; do
+      (set -o pipefail && cd -- "$room/copy" && rt ci "$name" 2>&1 | sed -un "$said" >&2) || break
+    done
+    wait "$!"
+  fi
+  (set -o pipefail && cd -- "$room/copy" && rt ci 2>&1 | tee "$room/log" | sed -un "$said" >&2)
+}
+
+# ROOM FOLDER: proves and builds the program on a copy in ROOM. Puts the program and what it was built from into FOLDER. A line for
+# each crate goes to standard error, and all that rt said where it fails.
 build_into() {
   local room=$1 folder=$2 start=$SECONDS
   know_kit
@@ -119,7 +140,7 @@ build_into() {
     echo "${0##*/}: the sources could not be copied" >&2
     return 1
   fi
-  if (set -o pipefail && cd -- "$room/copy" && rt ci 2>&1 | tee "$room/log" | sed -un 's/^rt: \([a-z0-9_]* proved\)$/\1/p' >&2); then
+  if prove_copy "$room"; then
     mkdir -p "$folder" && rm -f -- "$folder/built-from" && cp -- "$room/copy/crates/interop/out/interop" "$folder/interop.new" &&
       mv -f -- "$folder/interop.new" "$folder/interop" && write_built_from "$folder/built-from" &&
       echo "built interop in $((SECONDS - start)) s" >&2 && return 0
