@@ -1,5 +1,5 @@
 -- Each code of a reset has its cause by what came.
-use Rattle.std.proofs.Common.{◌≡◌, ◌≢◌, ◌∙◌, ◌⊎◌, inl, inr, ◌<◌, ◌≤◌, ℕ, Bool, true, false, nat_eq, List, [], ◌∷◌, ◌++◌, Option, None, Some, ap, append-nil, arith, eqb-true, length, length-append, lt_trans, refl, subst, sym}
+use Rattle.std.proofs.Common.{◌≡◌, ◌≢◌, ◌∙◌, ◌⊎◌, inl, inr, ◌<◌, ◌≤◌, ℕ, Bool, true, false, nat_eq, List, [], ◌∷◌, ◌++◌, Option, None, Some, ap, append-nil, arith, eqb-true, length, length-append, lt_trans, map, refl, subst, sym}
 use Rattle.std.specs.Prelude.{◌&&◌, ◌||◌, MatchOption, if◌then◌else◌, is_none, unwrap_or}
 use Rattle.std.specs.List.{list_any}
 use Rattle.std.proofs.lemmas.Bool.{cases_Bool}
@@ -17,11 +17,12 @@ use Rattle.h2frame.specs.declared.error_code.ErrorCode.{ErrorCode}
 use Rattle.h2frame.specs.declared.error_code.ErrorCode.TheVariants as error
 use Rattle.h2frame.specs.declared.frame.Frame.{Frame}
 use Rattle.h2frame.specs.declared.kind.FrameKind.TheVariants.{RstStream}
-use Rattle.outwriter.specs.declared.control.Control.TheVariants.{InputEnded, Reset}
+use Rattle.outwriter.specs.declared.control.Control.TheVariants.{InputEnded, Open, Reset}
 use Rattle.outwriter.specs.Frames.{reset_frame}
 use Rattle.outwriter.specs.Runs.{IsLawful}
 use Rattle.outwriter.specs.Steps.{Order}
 use Rattle.outwriter.specs.Steps.{Step as RunStep}
+use Rattle.callslot.specs.declared.report.CallReport.{CallReport}
 use Rattle.callslot.specs.declared.report.Ending.{Ending}
 use Rattle.session.specs.declared.event.InEvent.{InEvent}
 use Rattle.session.specs.declared.event.InEvent.TheVariants as events
@@ -33,20 +34,23 @@ use Rattle.session.proofs.OpeningOrder.{events_rise}
 use Rattle.slots.specs.Calls.{is_admitted}
 use Rattle.slots.specs.Orders.{IsDue, is_fed, orders_by}
 use Rattle.slots.specs.Reports.{AreHeard}
-use Rattle.slots.specs.Steps.{AtEnd, Fate, IsRising, Missed, Received, Step, Told, CutOff, Drains, TurnedAway, admitted, admitted_by, data_at, earlier, events_of, fed_by, last_of, lost, once, reported, reported_by, shut_at, shut_by, since, unless}
+use Rattle.slots.specs.Steps.{AtEnd, Cause, Fate, IsRising, Missed, NotLive, Received, Step, Told, CutOff, Drains, TurnedAway, admitted, admitted_by, data_at, earlier, events_of, fed_by, last_of, lost, once, reported, reported_by, shut_at, shut_by, since, unless}
 use Rattle.slots.proofs.EndLemmas.{fed-front, quiet-open}
 use Rattle.slots.proofs.HalfLemmas.{same_number}
 use Rattle.slots.proofs.LawLemmas.{pieces-push}
 use Rattle.slots.proofs.Seats.{known-step, since-step}
-use Rattle.slotwriter.specs.Orders.{Obeys}
-use Rattle.connection.specs.Causes.{HasCauseOf, HasOwnCause, HasWriterCause, LacksData, WasCut, WasTaken, WasWritten}
+use Rattle.slotwriter.specs.Left.{left_in}
+use Rattle.slotwriter.specs.Orders.{IsAmong, Obeys}
+use Rattle.connection.specs.Causes.{HasCauseOf, HasOwnCause, HasWriterCause, LacksData, WasCut, WasOpened, WasTaken, WasWritten}
 use Rattle.connection.specs.Codes.{HasCodeCause, MayHaveCode, MissesData, WasUnended}
 use Rattle.connection.specs.Heard.{HasPut}
+use Rattle.connection.specs.Left.{AreLeft, WasLeft}
 use Rattle.connection.specs.Limits.{AreJustified, EndsLast, IsJustified}
-use Rattle.connection.proofs.Causes.{taken-resets, written-resets}
+use Rattle.connection.proofs.Causes.{IsCaused, put-caused, taken-resets}
 use Rattle.connection.proofs.Heard.{silent-more}
 use Rattle.connection.proofs.Limits.{all-began, all-below, justified-at, one-too-many, over-window, parts-at}
-use Rattle.connection.proofs.RunOrders.{Each, each-append, each-front, each-more}
+use Rattle.connection.proofs.Left.{was-left, written-ordered}
+use Rattle.connection.proofs.RunOrders.{Each, each-among, each-append, each-front, each-more}
 use Rattle.connection.proofs.Tallies.{cut-last}
 
 and-both : (a b : Bool) → (a && b) ≡ true → (a ≡ true) × (b ≡ true)
@@ -256,59 +260,80 @@ is-apart came all told later id head fate before are front is none =
     ∙ ap (λ (xs : List ℕ). xs ++ reported later) (append-nil (reported before))) in
     ap (λ (xs : List ℕ). list_any (nat_eq id) xs) ids ∙ none-among id (reported before ++ reported later) (each-append (λ (other : ℕ). nat_eq id other ≡ false) (reported before) (reported later) first last)
 
+-- ---- 2
+
+cut-known : (id : ℕ) (why : Cause) (told : List Step) → WasCut why id told → is_admitted id told ≡ true
+cut-known id why told was =
+    subst (λ (steps : List Step). is_admitted id steps ≡ true) (sym was.heard.1)
+    (known-more id was.heard.0 (CutOff id why ∷ was.before) (known-more id (CutOff id why ∷ []) was.before (fed-parts id was.before was.open_half).0))
+
+among-front : (order : Order) (front rest : List Order) → IsAmong order front → IsAmong order (front ++ rest)
+among-front order [] rest among = absurd among
+among-front order (one ∷ front) rest (inl is) = inl is
+among-front order (one ∷ front) rest (inr among) = inr (among-front order front rest among)
+
+opened-known : (told : List Step) (put : List Order) (id : ℕ) → HasPut (orders_by told ++ InputEnded ∷ []) put → WasOpened id put → is_admitted id told ≡ true
+opened-known told put id has opened =
+    each-among (IsCaused told) (Open id tt) put
+    (subst (λ (orders : List Order). IsAmong (Open id tt) orders) (sym opened.parts) (among-front (Open id tt) opened.front opened.rest opened.opens)) (put-caused told put has)
+
 -- ---- all
 
-module _ (end : Ending) (came : List ℕ) (told : List Step) (put : List Order) (run : List RunStep) (given : List InEvent) (entries : List Entry) (heard : AreHeard end came (events_of told)) (rising : IsRising told) (just : AreJustified told) (ends : EndsLast told)
-    (are : Events came given) (framed : Framed came given entries) where
-  own-code : (id : ℕ) (code : ErrorCode) → HasOwnCause code id told → HasCodeCause code id entries told put run
-  own-code id error.ProtocolError has = has
-  own-code id error.InternalError has = inr has
-  own-code id error.FlowControlError (inl has) = inl (over-window came given entries told id framed (heard.front given are) just has)
-  own-code id error.FlowControlError (inr has) = inr (inr has)
-  own-code id error.RefusedStream has = (
+module _ (end : Ending) (came : List ℕ) (told : List Step) (put : List Order) (run : List RunStep) (given : List InEvent) (entries : List Entry) (rows : List CallReport)
+    (heard : AreHeard end came (events_of told)) (rising : IsRising told) (just : AreJustified told) (ends : EndsLast told)
+    (are : Events came given) (framed : Framed came given entries) (left : AreLeft (left_in run) rows) (streams : map (λ (row : CallReport). row.id) rows ≡ reported told) where
+  left-so : (id : ℕ) → is_admitted id told ≡ true → WasTaken (Reset id error.InternalError true) run → WasLeft id rows
+  left-so id known was = was-left id told run rows left streams known was
+
+  own-code : (id : ℕ) (code : ErrorCode) → WasTaken (Reset id code true) run → HasOwnCause code id told → HasCodeCause code id entries told put run rows
+  own-code id error.ProtocolError was has = has
+  own-code id error.InternalError was has = (inr has, left-so id (cut-known id (NotLive false) told has) was)
+  own-code id error.FlowControlError was (inl has) = inl (over-window came given entries told id framed (heard.front given are) just has)
+  own-code id error.FlowControlError was (inr has) = inr (inr has)
+  own-code id error.RefusedStream was has = (
     one-too-many came given told id are (heard.front given are) just has,
     is-apart came given told has.heard.0 id has.head (TurnedAway has.fault) has.before are (heard.front given are) has.heard.1 refl,
   )
-  own-code id error.Cancel has = was-unended told id rising ends has
-  own-code id error.EnhanceYourCalm has = misses-data told id rising just has
-  own-code id error.NoError has = absurd has
-  own-code id error.SettingsTimeout has = absurd has
-  own-code id error.StreamClosed has = absurd has
-  own-code id error.FrameSizeError has = absurd has
-  own-code id error.CompressionError has = absurd has
-  own-code id error.ConnectError has = absurd has
-  own-code id error.InadequateSecurity has = absurd has
-  own-code id error.Http11Required has = absurd has
-  own-code id (error.Unknown number) has = absurd has
+  own-code id error.Cancel was has = was-unended told id rising ends has
+  own-code id error.EnhanceYourCalm was has = misses-data told id rising just has
+  own-code id error.NoError was has = absurd has
+  own-code id error.SettingsTimeout was has = absurd has
+  own-code id error.StreamClosed was has = absurd has
+  own-code id error.FrameSizeError was has = absurd has
+  own-code id error.CompressionError was has = absurd has
+  own-code id error.ConnectError was has = absurd has
+  own-code id error.InadequateSecurity was has = absurd has
+  own-code id error.Http11Required was has = absurd has
+  own-code id (error.Unknown number) was has = absurd has
 
-  writer-code : (id : ℕ) (code : ErrorCode) → HasWriterCause code id put run → HasCodeCause code id entries told put run
-  writer-code id error.InternalError has = inl has
-  writer-code id error.FlowControlError has = inr (inl has)
-  writer-code id error.ProtocolError has = absurd has
-  writer-code id error.RefusedStream has = absurd has
-  writer-code id error.Cancel has = absurd has
-  writer-code id error.EnhanceYourCalm has = absurd has
-  writer-code id error.NoError has = absurd has
-  writer-code id error.SettingsTimeout has = absurd has
-  writer-code id error.StreamClosed has = absurd has
-  writer-code id error.FrameSizeError has = absurd has
-  writer-code id error.CompressionError has = absurd has
-  writer-code id error.ConnectError has = absurd has
-  writer-code id error.InadequateSecurity has = absurd has
-  writer-code id error.Http11Required has = absurd has
-  writer-code id (error.Unknown number) has = absurd has
+  module _ (has : HasPut (orders_by told ++ InputEnded ∷ []) put) where
+    writer-code : (id : ℕ) (code : ErrorCode) → WasTaken (Reset id code true) run → HasWriterCause code id put run → HasCodeCause code id entries told put run rows
+    writer-code id error.InternalError was opened = (inl opened, left-so id (opened-known told put id has opened) was)
+    writer-code id error.FlowControlError was would = inr (inl would)
+    writer-code id error.ProtocolError was none = absurd none
+    writer-code id error.RefusedStream was none = absurd none
+    writer-code id error.Cancel was none = absurd none
+    writer-code id error.EnhanceYourCalm was none = absurd none
+    writer-code id error.NoError was none = absurd none
+    writer-code id error.SettingsTimeout was none = absurd none
+    writer-code id error.StreamClosed was none = absurd none
+    writer-code id error.FrameSizeError was none = absurd none
+    writer-code id error.CompressionError was none = absurd none
+    writer-code id error.ConnectError was none = absurd none
+    writer-code id error.InadequateSecurity was none = absurd none
+    writer-code id error.Http11Required was none = absurd none
+    writer-code id (error.Unknown number) was none = absurd none
 
-  code-of : (id : ℕ) (code : ErrorCode) → HasCauseOf code id told put run → MayHaveCode code id entries told put run
-  code-of id code (inl (inl was)) = inl was
-  code-of id code (inl (inr has)) = inr (own-code id code has)
-  code-of id code (inr has) = inr (writer-code id code has)
+    code-of : (id : ℕ) (code : ErrorCode) → WasTaken (Reset id code true) run → HasCauseOf code id told put run → MayHaveCode code id entries told put run rows
+    code-of id code was (inl (inl error)) = inl error
+    code-of id code was (inl (inr own)) = inr (own-code id code was own)
+    code-of id code was (inr writers) = inr (writer-code id code was writers)
 
-  pub order-codes : HasPut (orders_by told ++ InputEnded ∷ []) put → Obeys true put run → (id : ℕ) (code : ErrorCode) → WasTaken (Reset id code true) run
-      → MayHaveCode code id entries told put run
-  order-codes has obeys id code was = code-of id code (taken-resets told put run id code has obeys was)
+    pub order-codes : Obeys true put run → (id : ℕ) (code : ErrorCode) → WasTaken (Reset id code true) run → MayHaveCode code id entries told put run rows
+    order-codes obeys id code was = code-of id code was (taken-resets told put run id code has obeys was)
 
-  pub reset-codes : HasPut (orders_by told ++ InputEnded ∷ []) put → Obeys true put run → IsLawful run → (frame : Frame) → WasWritten frame run → frame.head.kind ≡ RstStream
-      → (code : ErrorCode) × (frame ≡ reset_frame frame.head.stream code) × MayHaveCode code frame.head.stream entries told put run
-  reset-codes has obeys lawful frame was is =
-      let found = written-resets told put run has obeys lawful frame was is in
-      (found.0, found.1, code-of frame.head.stream found.0 found.2)
+    pub reset-codes : Obeys true put run → IsLawful run → (frame : Frame) → WasWritten frame run → frame.head.kind ≡ RstStream
+        → (code : ErrorCode) × (frame ≡ reset_frame frame.head.stream code) × MayHaveCode code frame.head.stream entries told put run rows
+    reset-codes obeys lawful frame was is =
+        let found = written-ordered run lawful frame was is in
+        (found.0, found.1, order-codes obeys frame.head.stream found.0 found.2)

@@ -8,6 +8,7 @@ pub mod Lines
 pub mod MeetSteps
 pub mod Whole
 pub mod RunOrders
+pub mod Left
 pub mod Causes
 pub mod News
 pub mod Limits

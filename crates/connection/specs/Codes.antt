@@ -3,6 +3,7 @@
 -- Lists of steps and runs have the latest first.
 use Rattle.std.specs.Prelude.{◌≡◌, ◌≢◌, ◌⊎◌, ◌<◌, ℕ, true, false, nat_eq, List}
 use Rattle.std.specs.List.{list_any}
+use Rattle.callslot.specs.declared.report.CallReport.{CallReport}
 use Rattle.h2frame.specs.FrameList.{Entry}
 use Rattle.h2frame.specs.declared.error_code.ErrorCode.{ErrorCode}
 use Rattle.h2frame.specs.declared.error_code.ErrorCode.TheVariants as error
@@ -14,6 +15,7 @@ use Rattle.session.specs.StreamData.{Unended, ending_told, pieces}
 use Rattle.slots.specs.Calls.{is_admitted}
 use Rattle.slots.specs.Steps.{NotLive, Step, WasTold, events_of, fed_by, reported, since}
 use Rattle.connection.specs.Causes.{IsMalformed, WasCut, WasOpened, WouldOverflow}
+use Rattle.connection.specs.Left.{WasLeft}
 use Rattle.connection.specs.Limits.{IsOneTooMany, WasDrained}
 
 -- 7: no call of the stream was admitted, but 64 were that have lesser ids, or the server drained
@@ -28,17 +30,18 @@ WasUnended id told = (is_admitted id told ≡ true) × (ending_told id (events_o
 abbrev pub MissesData : ℕ → List Step → Type 0
 MissesData id told = (is_admitted id told ≡ true) × (fed_by id (since id told) ≢ pieces id (events_of (since id told)))
 
--- The cause of a code. 1: the head is malformed. 2: the call was left, as the writer or the reader saw. 3: the payloads of DATA that came,
--- padding too, have more than 65,535 bytes, or a window of the peer's would be too large, as the run tells, or as the reader saw.
-abbrev pub HasCodeCause : ErrorCode → ℕ → List Entry → List Step → List Order → List RunStep → Type 0
-HasCodeCause error.ProtocolError id entries told put run = IsMalformed id told
-HasCodeCause error.InternalError id entries told put run = WasOpened id put ⊎ WasCut (NotLive false) id told
-HasCodeCause error.FlowControlError id entries told put run = (65535 < payloads entries) ⊎ (WouldOverflow id run ⊎ WasCut (NotLive true) id told)
-HasCodeCause error.RefusedStream id entries told put run = WasRefused id told
-HasCodeCause error.Cancel id entries told put run = WasUnended id told
-HasCodeCause error.EnhanceYourCalm id entries told put run = MissesData id told
-HasCodeCause _ id entries told put run = ⊥
+-- The cause of a code. 1: the head is malformed. 2: the call was left, as the writer or the reader saw, and its row has no status. 3: the
+-- payloads of DATA that came, padding too, have more than 65,535 bytes, or a window of the peer's would be too large, as the run tells, or as
+-- the reader saw.
+abbrev pub HasCodeCause : ErrorCode → ℕ → List Entry → List Step → List Order → List RunStep → List CallReport → Type 0
+HasCodeCause error.ProtocolError id entries told put run rows = IsMalformed id told
+HasCodeCause error.InternalError id entries told put run rows = (WasOpened id put ⊎ WasCut (NotLive false) id told) × WasLeft id rows
+HasCodeCause error.FlowControlError id entries told put run rows = (65535 < payloads entries) ⊎ (WouldOverflow id run ⊎ WasCut (NotLive true) id told)
+HasCodeCause error.RefusedStream id entries told put run rows = WasRefused id told
+HasCodeCause error.Cancel id entries told put run rows = WasUnended id told
+HasCodeCause error.EnhanceYourCalm id entries told put run rows = MissesData id told
+HasCodeCause _ id entries told put run rows = ⊥
 
 -- It is the code of an error of the stream that the events tell, or it has that cause.
-abbrev pub MayHaveCode : ErrorCode → ℕ → List Entry → List Step → List Order → List RunStep → Type 0
-MayHaveCode code id entries told put run = WasTold (events.StreamError id code) told ⊎ HasCodeCause code id entries told put run
+abbrev pub MayHaveCode : ErrorCode → ℕ → List Entry → List Step → List Order → List RunStep → List CallReport → Type 0
+MayHaveCode code id entries told put run rows = WasTold (events.StreamError id code) told ⊎ HasCodeCause code id entries told put run rows

@@ -1,3 +1,4 @@
+pub mod Left
 pub mod Limits
 pub mod Codes
 pub mod Puts

@@ -16,8 +16,10 @@ use Rattle.slots.specs.Calls.{is_admitted}
 use Rattle.slots.specs.Orders.{greatest, orders_by}
 use Rattle.slots.specs.Reports.{AreCalm, AreHeard, AreRows, WasResetFor, is_heard_out}
 use Rattle.slots.specs.Steps.{AdmitsNoMore, IsRising, Step, WasTold, events_of, is_draining, reported}
+use Rattle.slotwriter.specs.Left.{left_in}
 use Rattle.slotwriter.specs.Written.{HasWritten}
 use Rattle.connection.specs.Heard.{HasPut, IsEndedBy}
+use Rattle.connection.specs.Left.{AreLeft}
 use Rattle.connection.specs.Sent.{CarriesWhatWasSent}
 use Rattle.connection.specs.Limits.{AreJustified, EndsLast}
 
@@ -66,6 +68,8 @@ module _ {W V : Type 0} (items : V → List CallReport) (contents : W → Option
     -- a row for each call that was admitted, in order, on its lawful account; where no worker served it, nothing was fed, taken or given
     -- and what was sent of each call is what its stream carries
     pub rows : AreRows answers names (CarriesWhatWasSent written.run) told (reported told) (items calls)
+    -- where memory didn't run out, no call has a status whose stream was reset with INTERNAL_ERROR (section 7): it was left without trailers
+    pub left : end ≢ OutOfMemory → AreLeft (left_in written.run) (items calls)
     -- where the server drained, the last GOAWAY that was written has no error, and names the greatest stream of a row, 0 for none (section 6.8)
     pub drained : end ≡ Drained → HasDrained (greatest (reported told)) written.run
     pub cause : HasCause end told read_failed (failed device)

@@ -1,9 +1,10 @@
 //! Laws of what becomes of a connection, by the fields of its record (`IsServed`). None of them does anything.
 
 ghost use mathlib.Core.List.{IsPrefix};
-ghost use Rattle.std.specs.Prelude.{◌≡◌, ◌⊎◌, ◌<◌, ◌++◌, ◌∷◌, ℕ, List, [], false, true};
+ghost use Rattle.std.specs.Prelude.{◌≡◌, ◌⊎◌, ◌<◌, ◌++◌, ◌∷◌, ℕ, List, [], false, map, true};
 ghost use Rattle.std.specs.List.{list_any};
 ghost use Rattle.account.specs.Accounts.{Begins};
+ghost use Rattle.callslot.specs.declared.report.CallReport.{CallReport as Row};
 ghost use Rattle.callslot.specs.declared.report.Ending.{Ending as Ended};
 ghost use Rattle.h2frame.specs.declared.error_code.ErrorCode.{ErrorCode as Code};
 ghost use Rattle.h2frame.specs.declared.frame.Frame.{Frame};
@@ -18,7 +19,8 @@ ghost use Rattle.outwriter.specs.Steps.{Order, Step as RunStep, frames_of};
 ghost use Rattle.slots.specs.Calls.{is_admitted};
 ghost use Rattle.slots.specs.Orders.{orders_by};
 ghost use Rattle.slots.specs.Reports.{AreHeard};
-ghost use Rattle.slots.specs.Steps.{AtEnd, IsRising, Step, events_of};
+ghost use Rattle.slots.specs.Steps.{AtEnd, IsRising, Step, events_of, reported};
+ghost use Rattle.slotwriter.specs.Left.{left_in};
 ghost use Rattle.slotwriter.specs.Orders.{IsAmong, Obeys};
 ghost use Rattle.session.specs.declared.event.InEvent.{InEvent as InEventOf};
 ghost use Rattle.session.specs.Events.{Events};
@@ -27,6 +29,7 @@ ghost use Rattle.session.specs.FlowBytes.{payloads};
 ghost use Rattle.h2frame.specs.FrameList.{Entry};
 ghost use Rattle.connection.specs.Causes.{HasCauseOf, HasResetCause, IsOverWindow, IsRefusal, WasCut, WasTaken, WasTurnedAway, WasWritten};
 ghost use Rattle.connection.specs.Codes.{MayHaveCode};
+ghost use Rattle.connection.specs.Left.{AreLeft};
 ghost use Rattle.connection.specs.Limits.{AreJustified, EndsLast, IsOneTooMany, WasCutLast, WasDrained};
 ghost use Rattle.connection.specs.Heard.{HasPut};
 ghost use Rattle.connection.specs.News.{acknowledgements, answers_to, news_in, news_told, taken_by};
@@ -93,28 +96,32 @@ pub fn all_answers()
         → acknowledgements (duties_told run) ≡ answers_to (news_told (events_of told)) }
 {}
 
-/// Each RST_STREAM that was written has an error code with its cause, by the bytes that came, by the calls that were admitted and what
-/// they were fed, and by the run; and nothing else: sections 5.4.2 and 7.
+/// Each RST_STREAM that was written has an error code with its cause, by the bytes that came, by the calls that were admitted, what
+/// they were fed and whether they have a status, and by the run; and nothing else: sections 5.4.2 and 7.
 pub fn reset_codes()
     ensures { (end : Ended) (came : List ℕ) (told : List Step) (put : List Order)
-        (run : List RunStep) (given : List InEventOf) (entries : List Entry) →
+        (run : List RunStep) (given : List InEventOf) (entries : List Entry)
+        (rows : List Row) →
         AreHeard end came (events_of told) → IsRising told → AreJustified told → EndsLast told
-        → Events came given → Framed came given entries →
+        → Events came given → Framed came given entries
+        → AreLeft (left_in run) rows → map (λ row. row.id) rows ≡ reported told →
         HasPut (orders_by told ++ InputEnded ∷ []) put → Obeys true put run → IsLawful run →
         (frame : Frame) → WasWritten frame run → frame.head.kind ≡ RstStream →
         (code : Code) × (frame ≡ reset_frame frame.head.stream code)
-        × MayHaveCode code frame.head.stream entries told put run }
+        × MayHaveCode code frame.head.stream entries told put run rows }
 {}
 
 /// So has each reset that is to be written, of those that the writer took.
 pub fn order_codes()
     ensures { (end : Ended) (came : List ℕ) (told : List Step) (put : List Order)
-        (run : List RunStep) (given : List InEventOf) (entries : List Entry) →
+        (run : List RunStep) (given : List InEventOf) (entries : List Entry)
+        (rows : List Row) →
         AreHeard end came (events_of told) → IsRising told → AreJustified told → EndsLast told
-        → Events came given → Framed came given entries →
+        → Events came given → Framed came given entries
+        → AreLeft (left_in run) rows → map (λ row. row.id) rows ≡ reported told →
         HasPut (orders_by told ++ InputEnded ∷ []) put → Obeys true put run →
         (id : ℕ) (code : Code) → WasTaken (Reset id code true) run
-        → MayHaveCode code id entries told put run }
+        → MayHaveCode code id entries told put run rows }
 {}
 
 /// A stream is refused only where at least 64 calls were admitted before it, all on lesser streams, or behind a drain: sections 5.1.2

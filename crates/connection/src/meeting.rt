@@ -1,9 +1,11 @@
 //! Where what the workers gave meets what the writer sent, and the rows of the calls are told how much that was.
 
 ghost use Rattle.std.specs.Prelude.{◌≡◌, map, None, Some, get_or, set, slice_get};
+ghost use Rattle.std.specs.List.{list_any};
 ghost use Rattle.lane.specs.RingLane.{out_name, ring_of};
 ghost use Rattle.callslot.specs.Workers.{giving_ring};
 ghost use Rattle.slotwriter.specs.Sent.{SlotSender, held_of, ids_of};
+ghost use Rattle.connection.specs.Left.{is_answered_of};
 ghost use Rattle.connection.specs.Sent.{AreMeeting, HaveMet, MeetsSlot, sent_of, sent_upto};
 
 use callbox::count_out;
@@ -85,4 +87,17 @@ fn note_count(row: &mut CallReport, id: StreamId, count: u64)
         row.sent = count.min(row.given);
         row.trailers_sent = false;
     }
+}
+
+/// Whether one of these calls was answered with a status, though its stream is one of these.
+pub(crate) fn is_one_answered(calls: &[CallReport], streams: &[StreamId]) -> bool
+    ensures { result ≡ list_any (λ row. is_answered_of streams.now row) calls.now }
+{
+    calls.iter().any(|row| is_answered(row, streams))
+}
+
+fn is_answered(row: &CallReport, streams: &[StreamId]) -> bool
+    ensures { result ≡ is_answered_of streams.now row.now }
+{
+    row.status.is_some() && streams.contains(&row.id)
 }

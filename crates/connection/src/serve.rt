@@ -11,6 +11,7 @@ ghost use Rattle.slots.specs.Calls.{AreNames, IsFirstWith};
 ghost use Rattle.slots.specs.Reports.{is_heard_out};
 ghost use Rattle.lane.specs.Ring.{in_name, out_name, put_in, taken};
 ghost use Rattle.slotwriter.specs.Sent.{held_of, ids_of};
+ghost use Rattle.connection.specs.Left.{AreLeft};
 ghost use Rattle.connection.specs.Sent.{AreMeeting, HaveMet};
 ghost use Rattle.callslot.specs.declared.order.Opened.{Opened};
 ghost use Rattle.outwriter.specs.declared.control.Control.{Control};
@@ -19,7 +20,7 @@ ghost use Rattle.connection.specs.Served.{IsServed};
 
 use crate::drain::{DrainSeat, Drainer};
 use crate::intake::Intake;
-use crate::meeting::meet_slots;
+use crate::meeting::{is_one_answered, meet_slots};
 use crate::orders::{ORDERS, Orders, Route};
 use crate::outlet::Outlet;
 use crate::reader::Reader;
@@ -285,6 +286,9 @@ where
     ensures met { HaveMet (ids_of written.senders.places.items)
         (held_of written.senders.places.items) ended.ends.items
         ended.calls.items result.calls.items }
+    // No call has a status whose stream was reset since it was left.
+    ensures left { result.ending ≢ ending.OutOfMemory
+        → AreLeft written.resets.items result.calls.items }
     // None was dropped, unless the ending tells why.
     ensures dropped { result.ending ≢ ending.OutOfMemory → result.ending ≢ ending.WriteFailed
         → ((code : Code) → result.ending ≢ ending.ProtocolError code) → orders.has_dropped ≡ false }
@@ -302,13 +306,16 @@ where
         orders: rx,
         senders,
         is_faultless,
+        resets,
     } = written;
     let has_dropped = orders.has_dropped;
     let are_all = orders.meet(rx);
     let Ended { mut calls, ends } = ended;
     meet_slots(ends, senders, &mut calls);
+    let seen = by_orders(of_both(read, ending), are_all, has_dropped, is_faultless);
+    let is_one_answered = is_one_answered(calls.as_slice(), resets.as_slice());
     Served {
-        ending: by_orders(of_both(read, ending), are_all, has_dropped, is_faultless),
+        ending: by_calls(seen, is_one_answered),
         output: device,
         calls,
     }
@@ -356,5 +363,19 @@ fn by_orders(seen: Ending, are_all: bool, has_dropped: bool, is_faultless: bool)
         _ if has_dropped => Ending::OutOfMemory,
         Ending::Drained if !is_faultless => Ending::OutOfMemory,
         _ => seen,
+    }
+}
+
+/// The same by whether a call was answered whose stream was reset as that of a call that was left. It counts as want of memory; but that
+/// doesn't come.
+fn by_calls(seen: Ending, is_one_answered: bool) -> Ending
+    ensures memory { seen ≡ ending.OutOfMemory → result ≡ ending.OutOfMemory }
+    ensures same { result ≢ ending.OutOfMemory → result ≡ seen }
+    ensures left { result ≢ ending.OutOfMemory → is_one_answered ≡ false }
+{
+    if is_one_answered {
+        Ending::OutOfMemory
+    } else {
+        seen
     }
 }

@@ -1,4 +1,5 @@
 pub mod CreditSteps
+pub mod LeftSteps
 pub mod OrderSteps
 pub mod WrittenSteps
 pub mod SentPlaces

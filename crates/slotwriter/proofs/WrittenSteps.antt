@@ -1,6 +1,6 @@
 -- What each step of a connection's writer does to what it wrote.
 use Rattle.std.proofs.Common.{◌≡◌, ◌≢◌, ◌∙◌, ◌+◌, arith, ℕ, zero, suc, Bool, true, false, true≢false, List, [], ◌∷◌, ◌++◌, Option, None, Some, ap, append-nil, append_assoc, sym, refl, map, subst}
-use Rattle.std.specs.Prelude.{◌||◌, All, Result, Ok, Err, OnOk, OnErr, get_or}
+use Rattle.std.specs.Prelude.{◌||◌, All, Contains, Result, Ok, Err, OnOk, OnErr, get_or}
 use Rattle.std.specs.List.{list_any}
 use Rattle.std.proofs.lemmas.List.Sums.{sum_by-cons}
 use Rattle.std.proofs.lemmas.List.Elements.{All-append, All-from_get_or, All-get_or, All-nil, All-set}
@@ -40,7 +40,9 @@ use Rattle.slotwriter.specs.declared.slot_writer.SlotWriter.{SlotWriter}
 use Rattle.slotwriter.specs.declared.senders.Place.{Place}
 use Rattle.slotwriter.specs.Orders.{Gives, HasGiven, IsAmong, IsWarning, Keeps, Obeys, Warns, ends_input, order_in, orders_of, loses_by}
 use Rattle.slotwriter.specs.Sent.{AreFresh, AreKept, HandsHome, HasStream, HaveTold, KeepsOn, MakesOf, PlacesBy, SamePlaces, SlotSender, TakesAllHome, held_of, ids_of, lines_of}
-use Rattle.slotwriter.specs.Written.{FrameWriter, HasKept, HasSent, HasWritten, IsFlushed, Runs, Ends, RunsOn, RunsOut, SendsOn, StaysOn, Takes, PassesOver, Parts, Heeds, Knows, SameCalls, Led, LedOut, LeadsOn, LeadsOut, LeadsOutTo, LeadsTo, Stays, core_of, places_of}
+use Rattle.slotwriter.specs.Left.{AreNoted, left_by, left_in}
+use Rattle.slotwriter.specs.Written.{FrameWriter, HasKept, HasSent, HasWritten, Holds, IsFlushed, NotesOn, Runs, Ends, RunsOn, RunsOut, SendsOn, StaysOn, Takes, PassesOver, Parts, Heeds, Knows, SameCalls, Led, LedOut, LeadsOn, LeadsOut, LeadsOutTo, LeadsTo, Stays, core_of, noted_by, places_of}
+use Rattle.slotwriter.proofs.LeftSteps.{notes-frames, notes-own, notes-still}
 use Rattle.slotwriter.proofs.OrderSteps.{all-given, among-last, among-more, given-all, given-next, obeys-closing, obeys-frames, obeys-granted, obeys-last-word, obeys-lost, obeys-more, obeys-parting, obeys-reset, obeys-returned, obeys-taking, obeys-warning}
 use Rattle.slotwriter.proofs.SentPlaces.{OpensNone, brings-plain, brings-same, fresh-parts, keeps-same, kept-back-more, kept-frames, kept-more, kept-none, kept-same, kept-still, kept-tells, makes-then, on-steps, own-plain, same-places}
 
@@ -121,7 +123,14 @@ module _ {W : Type 0} where
   knows-stream orders writer id (n, within, at) knows =
       subst (λ (k : ℕ). IsAmong (control.Open k tt) orders) at (All-get_or (λ (k : ℕ). IsAmong (control.Open k tt) orders) (ids_of writer.senders.places.items) n 0 within knows.opened)
 
+none-in : (id : ℕ) → Contains [] id → ⊥
+none-in id (k, within, at) = omega (arith, within)
+
 module _ {W : Type 0} where
+  -- by these steps the writer has the senders still, and notes the streams
+  abbrev GoesOn : List Step → SlotWriter W → SlotWriter W → Type 0
+  GoesOn steps old new = SendsOn steps old new × NotesOn steps old new
+
   -- ---- the senders
 
   -- a further order is lost
@@ -145,30 +154,58 @@ module _ {W : Type 0} where
   kept-here lost orders run writer kept = subst (λ (os : List (Control Opened)). HasKept true os run writer) (append-nil orders) (kept-lost lost orders [] run writer kept)
 
   -- no order is taken
-  pub kept-on : (lost : Bool) (orders : List (Control Opened)) (run steps : List Step) (old new : SlotWriter W) → SendsOn steps old new → HasKept lost orders run old
+  kept-on : (lost : Bool) (orders : List (Control Opened)) (run steps : List Step) (old new : SlotWriter W) → SendsOn steps old new → HasKept lost orders run old
       → HasKept lost orders (steps ++ run) new
   kept-on false orders run steps old new sends kept = λ fresh. sends run (lines_of orders) (kept fresh)
   kept-on true orders run steps old new sends kept = (kept.0, kept.1, kept.2, λ fresh. sends run (lines_of kept.0) (kept.3 fresh))
 
+  -- the same, with the streams that are noted
+  holds-lost : (lost : Bool) (orders more : List (Control Opened)) (run : List Step) (writer : SlotWriter W) → Holds lost orders run writer → Holds true (orders ++ more) run writer
+  holds-lost lost orders more run writer holds = (kept-lost lost orders more run writer holds.0, holds.1)
+
+  holds-here : (lost : Bool) (orders : List (Control Opened)) (run : List Step) (writer : SlotWriter W) → Holds lost orders run writer → Holds true orders run writer
+  holds-here lost orders run writer holds = (kept-here lost orders run writer holds.0, holds.1)
+
+  holds-on : (lost : Bool) (orders : List (Control Opened)) (run steps : List Step) (old new : SlotWriter W) → GoesOn steps old new → Holds lost orders run old
+      → Holds lost orders (steps ++ run) new
+  holds-on lost orders run steps old new goes holds = (kept-on lost orders run steps old new goes.0 holds.0, goes.1 run holds.1)
+
   -- steps that open no stream, with the same senders in the core
-  pub sends-still : (steps : List Step) (old new : SlotWriter W) → ((run : List Step) (id : ℕ) → On run (steps ++ run) id) → core_of new ≡ core_of old → SamePlaces (places_of old) (places_of new)
+  sends-still : (steps : List Step) (old new : SlotWriter W) → ((run : List Step) (id : ℕ) → On run (steps ++ run) id) → core_of new ≡ core_of old → SamePlaces (places_of old) (places_of new)
       → SendsOn steps old new
   sends-still steps old new on core same run lines kept = kept-still run (steps ++ run) lines (places_of old) (places_of new) (core_of old) (core_of new) (on run) core same kept
 
+  -- which take no order
+  pub goes-still : (steps : List Step) (old new : SlotWriter W) → ((run : List Step) (id : ℕ) → On run (steps ++ run) id) → core_of new ≡ core_of old → SamePlaces (places_of old) (places_of new)
+      → ((run : List Step) → left_in (steps ++ run) ≡ left_in run) → noted_by new ≡ noted_by old → GoesOn steps old new
+  goes-still steps old new on core same still noted = (sends-still steps old new on core same, notes-still steps old new still noted)
+
   -- an order that opens nothing, and the writer's own behind it
-  pub sends-plain : (order : Order) (last : ℕ) (taking : Taking SlotSender) (old new : SlotWriter W) → ((k : ℕ) → opens_stream k order ≡ false) → core_of new ≡ core_of old
+  sends-plain : (order : Order) (last : ℕ) (taking : Taking SlotSender) (old new : SlotWriter W) → ((k : ℕ) → opens_stream k order ≡ false) → core_of new ≡ core_of old
       → SamePlaces (places_of old) (places_of new) → SendsOn (steps_of order last taking) old new
   sends-plain order last taking old new plain core same = sends-still (steps_of order last taking) old new (λ run k. on-steps order last taking run k (plain k)) core same
 
-  pub sends-none : (old new : SlotWriter W) → core_of new ≡ core_of old → KeepsOn (places_of old) (places_of new) → SendsOn [] old new
+  -- and leaves no call
+  goes-plain : (order : Order) (last : ℕ) (taking : Taking SlotSender) (old new : SlotWriter W) → ((k : ℕ) → opens_stream k order ≡ false) → core_of new ≡ core_of old
+      → SamePlaces (places_of old) (places_of new) → left_by order ≡ [] → noted_by new ≡ noted_by old → GoesOn (steps_of order last taking) old new
+  goes-plain order last taking old new plain core same none noted = (sends-plain order last taking old new plain core same, notes-own order last taking old new none noted)
+
+  sends-none : (old new : SlotWriter W) → core_of new ≡ core_of old → KeepsOn (places_of old) (places_of new) → SendsOn [] old new
   sends-none old new core keeps run lines kept =
       subst (λ (senders : List (ℕ × SlotSender)). AreKept run lines (places_of new) senders) (sym core) (keeps run lines (core_of old) kept)
 
-  pub sends-frames : (frames : List Frame) (old new : SlotWriter W) → lanes (lane_and_past ring_lane.out_name past_out) (core_of new) ≡ lanes (lane_and_past ring_lane.out_name past_out) (core_of old)
+  pub goes-none : (old new : SlotWriter W) → core_of new ≡ core_of old → KeepsOn (places_of old) (places_of new) → noted_by new ≡ noted_by old → GoesOn [] old new
+  goes-none old new core keeps noted = (sends-none old new core keeps, notes-still [] old new (λ run. refl) noted)
+
+  sends-frames : (frames : List Frame) (old new : SlotWriter W) → lanes (lane_and_past ring_lane.out_name past_out) (core_of new) ≡ lanes (lane_and_past ring_lane.out_name past_out) (core_of old)
       → places_of new ≡ places_of old → SendsOn (map Written frames) old new
   sends-frames frames old new same places run lines kept =
       subst (λ (ps : List Place). AreKept (map Written frames ++ run) lines ps (core_of new)) (sym places)
       (kept-frames run frames lines (places_of old) (core_of old) (core_of new) same kept)
+
+  pub goes-frames : (frames : List Frame) (old new : SlotWriter W) → lanes (lane_and_past ring_lane.out_name past_out) (core_of new) ≡ lanes (lane_and_past ring_lane.out_name past_out) (core_of old)
+      → places_of new ≡ places_of old → noted_by new ≡ noted_by old → GoesOn (map Written frames) old new
+  goes-frames frames old new same places noted = (sends-frames frames old new same places, notes-frames frames old new noted)
 
   -- by an order for a window no call begins
   kept-first : (one : Control SlotSender) (id : ℕ) (order : Control Opened) (orders : List (Control Opened)) (run : List Step) (first old : SlotWriter W) → order_of one ≡ order_of order
@@ -245,10 +282,11 @@ record IsMild (one : Control SlotSender) : Type 0 where
   opens : (k : ℕ) → opens_stream k (order_of one) ≡ false
   spares : (id : ℕ) → Concerns (PeerWindow id) one → ⊥
   room : (run : List Step) → HasRoom (order_of one) run
+  leaves : left_by (order_of one) ≡ []
 
 mild : (one : Control SlotSender) → IsWarning one → IsMild one
-mild (control.Goaway last code) own = record { plain = tt; opens = λ k. refl; spares = λ id concerns. concerns; room = λ run. tt }
-mild (control.Probe bytes) own = record { plain = tt; opens = λ k. refl; spares = λ id concerns. concerns; room = λ run. tt }
+mild (control.Goaway last code) own = record { plain = tt; opens = λ k. refl; spares = λ id concerns. concerns; room = λ run. tt; leaves = refl }
+mild (control.Probe bytes) own = record { plain = tt; opens = λ k. refl; spares = λ id concerns. concerns; room = λ run. tt; leaves = refl }
 mild (control.Settings settings) own = absurd own
 mild (control.Ping bytes) own = absurd own
 mild (control.Window id n) own = absurd own
@@ -275,95 +313,95 @@ module _ {W : Type 0} (contents : W → Option (List ℕ)) (failed : W → Bool)
 
   -- frames are put into the buffer
   pub fills-on : (filled : Option Filled) (old new : SlotWriter W) → Fills got (coming got ahead) contents failed filled old.frames new.frames
-      → ((frames : List Frame) → SendsOn (map Written frames) old new) → RunsOn contents failed old new
+      → ((frames : List Frame) → GoesOn (map Written frames) old new) → RunsOn contents failed old new
   fills-on filled old new fills sends lost orders before credit runs =
       let found = fills before runs.0 runs.1 in
-      (map Written found.0 ++ runs.0, found.1, obeys-frames lost (orders_of orders) found.0 runs.0 runs.2, kept-on lost orders runs.0 (map Written found.0) old new (sends found.0) runs.3, granted-frames found.0 runs.0 credit runs.4)
+      (map Written found.0 ++ runs.0, found.1, obeys-frames lost (orders_of orders) found.0 runs.0 runs.2, holds-on lost orders runs.0 (map Written found.0) old new (sends found.0) runs.3, granted-frames found.0 runs.0 credit runs.4)
 
   over-filled : (old new : SlotWriter W) → Fills got (coming got ahead) contents failed (Some Over) old.frames new.frames
-      → ((frames : List Frame) → SendsOn (map Written frames) old new) → RunsOut contents failed old new
+      → ((frames : List Frame) → GoesOn (map Written frames) old new) → RunsOut contents failed old new
   over-filled old new fills sends lost orders before credit runs =
       let found = fills before runs.0 runs.1 in
       let rest = found.2 in (
         map Written found.0 ++ runs.0,
         found.1,
         obeys-frames lost (orders_of orders) found.0 runs.0 runs.2,
-        kept-on lost orders runs.0 (map Written found.0) old new (sends found.0) runs.3,
+        holds-on lost orders runs.0 (map Written found.0) old new (sends found.0) runs.3,
         granted-frames found.0 runs.0 credit runs.4,
         λ going. record { closed = found.1.leads.closed ∙ rest.1; answered = rest.0.answered },
       )
 
   stopped-filled : (old new : SlotWriter W) → Fills got (coming got ahead) contents failed (Some Stopped) old.frames new.frames
-      → ((frames : List Frame) → SendsOn (map Written frames) old new) → RunsOut contents failed old new
+      → ((frames : List Frame) → GoesOn (map Written frames) old new) → RunsOut contents failed old new
   stopped-filled old new fills sends lost orders before credit runs =
       let found = fills before runs.0 runs.1 in (
         map Written found.0 ++ runs.0,
         found.1,
         obeys-frames lost (orders_of orders) found.0 runs.0 runs.2,
-        kept-on lost orders runs.0 (map Written found.0) old new (sends found.0) runs.3,
+        holds-on lost orders runs.0 (map Written found.0) old new (sends found.0) runs.3,
         granted-frames found.0 runs.0 credit runs.4,
         λ going. absurd (found.2 going),
       )
 
   -- so many that nothing is left to be written
   pub fills-over : (filled : Filled) (old new : SlotWriter W) → Fills got (coming got ahead) contents failed (Some filled) old.frames new.frames
-      → ((frames : List Frame) → SendsOn (map Written frames) old new) → filled ≡ Over → RunsOut contents failed old new
+      → ((frames : List Frame) → GoesOn (map Written frames) old new) → filled ≡ Over → RunsOut contents failed old new
   fills-over filled old new fills sends over =
       over-filled old new (subst (λ (found : Filled). Fills got (coming got ahead) contents failed (Some found) old.frames new.frames) over fills) sends
 
   -- the writer makes no more
   pub fills-stopped : (filled : Filled) (old new : SlotWriter W) → Fills got (coming got ahead) contents failed (Some filled) old.frames new.frames
-      → ((frames : List Frame) → SendsOn (map Written frames) old new) → filled ≡ Stopped → RunsOut contents failed old new
+      → ((frames : List Frame) → GoesOn (map Written frames) old new) → filled ≡ Stopped → RunsOut contents failed old new
   fills-stopped filled old new fills sends stopped =
       stopped-filled old new (subst (λ (found : Filled). Fills got (coming got ahead) contents failed (Some found) old.frames new.frames) stopped fills) sends
 
   -- credit is owed
-  pub grants-on : (id n : ℕ) (old new : SlotWriter W) → WritesOn got contents failed (Granted id n ∷ []) old.frames new.frames → SendsOn (Granted id n ∷ []) old new
+  pub grants-on : (id n : ℕ) (old new : SlotWriter W) → WritesOn got contents failed (Granted id n ∷ []) old.frames new.frames → GoesOn (Granted id n ∷ []) old new
       → (credit : ℕ) (lost : Bool) (orders : List (Control Opened)) (before : Option (List ℕ)) → Runs contents failed lost orders before credit old
       → Runs contents failed lost orders before (credit + granted_by 0 (Granted id n)) new
   grants-on id n old new on sends credit lost orders before runs = (
     Granted id n ∷ runs.0,
     on before runs.0 runs.1,
     obeys-granted lost (orders_of orders) id n runs.0 runs.2,
-    kept-on lost orders runs.0 (Granted id n ∷ []) old new sends runs.3,
+    holds-on lost orders runs.0 (Granted id n ∷ []) old new sends runs.3,
     granted-more id n runs.0 credit runs.4,
   )
 
   -- no step
-  pub runs-same : (lost : Bool) (old new : SlotWriter W) → WritesOn got contents failed [] old.frames new.frames → SendsOn [] old new
+  pub runs-same : (lost : Bool) (old new : SlotWriter W) → WritesOn got contents failed [] old.frames new.frames → GoesOn [] old new
       → (orders : List (Control Opened)) (before : Option (List ℕ)) (credit : ℕ) → Runs contents failed lost orders before credit old → Runs contents failed lost orders before credit new
-  runs-same lost old new on sends orders before credit runs = (runs.0, on before runs.0 runs.1, runs.2, kept-on lost orders runs.0 [] old new sends runs.3, runs.4)
+  runs-same lost old new on sends orders before credit runs = (runs.0, on before runs.0 runs.1, runs.2, holds-on lost orders runs.0 [] old new sends runs.3, runs.4)
 
   -- no step, of a writer that stands as it did
-  pub still-on : (lost : Bool) (old new : SlotWriter W) → WritesOn got contents failed [] old.frames new.frames → SendsOn [] old new
+  pub still-on : (lost : Bool) (old new : SlotWriter W) → WritesOn got contents failed [] old.frames new.frames → GoesOn [] old new
       → (new.frames.standing ≡ stands.Going → old.frames.standing ≡ stands.Going) → StaysOn contents failed lost lost old new
   still-on lost old new on sends still = record {
     runs = runs-same lost old new on sends;
-    ends = λ orders before credit ends. (ends.0, on before ends.0 ends.1, ends.2, kept-on lost orders ends.0 [] old new sends ends.3, ends.4, λ going. ends.5 (still going));
+    ends = λ orders before credit ends. (ends.0, on before ends.0 ends.1, ends.2, holds-on lost orders ends.0 [] old new sends ends.3, ends.4, λ going. ends.5 (still going));
   }
 
   -- the buffer is written, or that failed
-  pub flushes-on : {A E : Type 0} (lost : Bool) (result : Result A E) (old new : SlotWriter W) → WritesOn got contents failed [] old.frames new.frames → SendsOn [] old new
+  pub flushes-on : {A E : Type 0} (lost : Bool) (result : Result A E) (old new : SlotWriter W) → WritesOn got contents failed [] old.frames new.frames → GoesOn [] old new
       → OnOk result (new.frames.standing ≡ old.frames.standing) → OnErr result (new.frames.standing ≡ stands.Broken) → StaysOn contents failed lost lost old new
   flushes-on lost (Ok one) old new on sends stands broken = still-on lost old new on sends (λ going. sym stands ∙ going)
   flushes-on lost (Err fault) old new on sends stands broken = still-on lost old new on sends (λ going. absurd (broken-going (sym broken ∙ going)))
 
   -- a sender is given back
   pub returns-on : (lost : Bool) (id : ℕ) (items : List OutItem) (old new : SlotWriter W) → WritesOn got contents failed (Returned id items ∷ []) old.frames new.frames
-      → SendsOn (Returned id items ∷ []) old new → new.frames.standing ≡ old.frames.standing → StaysOn contents failed lost lost old new
+      → GoesOn (Returned id items ∷ []) old new → new.frames.standing ≡ old.frames.standing → StaysOn contents failed lost lost old new
   returns-on lost id items old new on sends still = record {
     runs = λ orders before credit runs. (
       Returned id items ∷ runs.0,
       on before runs.0 runs.1,
       obeys-returned lost (orders_of orders) id items runs.0 runs.2,
-      kept-on lost orders runs.0 (Returned id items ∷ []) old new sends runs.3,
+      holds-on lost orders runs.0 (Returned id items ∷ []) old new sends runs.3,
       granted-none (Returned id items) runs.0 credit refl runs.4,
     );
     ends = λ orders before credit ends. (
       Returned id items ∷ ends.0,
       on before ends.0 ends.1,
       obeys-returned lost (orders_of orders) id items ends.0 ends.2,
-      kept-on lost orders ends.0 (Returned id items ∷ []) old new sends ends.3,
+      holds-on lost orders ends.0 (Returned id items ∷ []) old new sends ends.3,
       granted-none (Returned id items) ends.0 credit refl ends.4,
       λ going. let over = ends.5 (sym still ∙ going) in record { closed = over.closed; answered = over.answered },
     );
@@ -371,44 +409,44 @@ module _ {W : Type 0} (contents : W → Option (List ℕ)) (failed : W → Bool)
 
   -- the last word of a core
   pub parts-on : (last : ℕ) (lost : Bool) (old new : SlotWriter W) → WritesOn got contents failed (parting last true) old.frames new.frames → core_of new ≡ core_of old
-      → places_of new ≡ places_of old → old.frames.standing ≡ stands.OutOfMemory → new.frames.standing ≡ old.frames.standing → StaysOn contents failed lost true old new
-  parts-on last lost old new on core places memory still =
-      let sends : SendsOn (parting last true) old new = sends-still (parting last true) old new (λ run k. on-taken (control.Goaway last InternalError) run k refl) core (same-places places) in record {
+      → places_of new ≡ places_of old → noted_by new ≡ noted_by old → old.frames.standing ≡ stands.OutOfMemory → new.frames.standing ≡ old.frames.standing → StaysOn contents failed lost true old new
+  parts-on last lost old new on core places noted memory still =
+      let sends : GoesOn (parting last true) old new = goes-still (parting last true) old new (λ run k. on-taken (control.Goaway last InternalError) run k refl) core (same-places places) (λ run. refl) noted in record {
         runs = λ orders before credit runs. (
           parting last true ++ runs.0,
           on before runs.0 runs.1,
           obeys-last-word last lost (orders_of orders) runs.0 runs.2,
-          kept-on true orders runs.0 (parting last true) old new sends (kept-here lost orders runs.0 old runs.3),
+          holds-on true orders runs.0 (parting last true) old new sends (holds-here lost orders runs.0 old runs.3),
           granted-parting last runs.0 credit runs.4,
         );
         ends = λ orders before credit ends. (
           parting last true ++ ends.0,
           on before ends.0 ends.1,
           obeys-last-word last lost (orders_of orders) ends.0 ends.2,
-          kept-on true orders ends.0 (parting last true) old new sends (kept-here lost orders ends.0 old ends.3),
+          holds-on true orders ends.0 (parting last true) old new sends (holds-here lost orders ends.0 old ends.3),
           granted-parting last ends.0 credit ends.4,
           λ going. absurd (memory-going (sym memory ∙ (sym still ∙ going))),
         );
       }
 
   -- between writers of the same frames
-  runs-between : (lost : Bool) (old new : SlotWriter W) → new.frames ≡ old.frames → KeepsOn (places_of old) (places_of new)
+  runs-between : (lost : Bool) (old new : SlotWriter W) → new.frames ≡ old.frames → KeepsOn (places_of old) (places_of new) → noted_by new ≡ noted_by old
       → (orders : List (Control Opened)) (before : Option (List ℕ)) (credit : ℕ) → Runs contents failed lost orders before credit old → Runs contents failed lost orders before credit new
-  runs-between lost old new same keeps orders before credit runs = (
+  runs-between lost old new same keeps noted orders before credit runs = (
     runs.0,
     subst (λ (frames : FrameWriter W). Wrote got contents failed before runs.0 frames) (sym same) runs.1,
     runs.2,
-    kept-on lost orders runs.0 [] old new (sends-none old new (ap (λ (frames : FrameWriter W). frames.core.sending.senders.items) same) keeps) runs.3,
+    holds-on lost orders runs.0 [] old new (goes-none old new (ap (λ (frames : FrameWriter W). frames.core.sending.senders.items) same) keeps noted) runs.3,
     runs.4,
   )
 
-  ends-between : (lost : Bool) (old new : SlotWriter W) → new.frames ≡ old.frames → KeepsOn (places_of old) (places_of new)
+  ends-between : (lost : Bool) (old new : SlotWriter W) → new.frames ≡ old.frames → KeepsOn (places_of old) (places_of new) → noted_by new ≡ noted_by old
       → (orders : List (Control Opened)) (before : Option (List ℕ)) (credit : ℕ) → Ends contents failed lost orders before credit old → Ends contents failed lost orders before credit new
-  ends-between lost old new same keeps orders before credit ends = (
+  ends-between lost old new same keeps noted orders before credit ends = (
     ends.0,
     subst (λ (frames : FrameWriter W). Wrote got contents failed before ends.0 frames) (sym same) ends.1,
     ends.2,
-    kept-on lost orders ends.0 [] old new (sends-none old new (ap (λ (frames : FrameWriter W). frames.core.sending.senders.items) same) keeps) ends.3,
+    holds-on lost orders ends.0 [] old new (goes-none old new (ap (λ (frames : FrameWriter W). frames.core.sending.senders.items) same) keeps noted) ends.3,
     ends.4,
     λ going. ends.5 (sym (ap (λ (frames : FrameWriter W). frames.standing) same) ∙ going),
   )
@@ -420,8 +458,8 @@ module _ {W : Type 0} (contents : W → Option (List ℕ)) (failed : W → Bool)
       → WritesOn got contents failed (steps_of (order_of one) last taking) old.frames mid
       → ((before : Option (List ℕ)) (run : List Step) → Wrote got contents failed before run old.frames → Blamed taking one run)
       → BringsBy taking one (core_of old) mid.core.sending.senders.items → PlacesBy taking (places_of old) (places_of new) → new.inbox.has_lost ≡ loses_by taking
-      → Takes contents failed one old new
-  given-on one last taking old mid new to on blamed brings places lost order first is made same orders before credit runs =
+      → NotesOn (steps_of (order_of one) last taking) old new → Takes contents failed one old new
+  given-on one last taking old mid new to on blamed brings places lost notes order first is made same alike orders before credit runs =
       let wrote : Wrote got contents failed before runs.0 old.frames = subst (λ (frames : FrameWriter W). Wrote got contents failed before runs.0 frames) same runs.1 in
       let steps : List Step = steps_of (order_of one) last taking in
       subst (λ (found : Bool). Runs contents failed found (orders ++ order ∷ []) before credit new) (sym lost) (
@@ -429,41 +467,45 @@ module _ {W : Type 0} (contents : W → Option (List ℕ)) (failed : W → Bool)
         subst (λ (frames : FrameWriter W). Wrote got contents failed before (steps ++ runs.0) frames) (sym to) (on before runs.0 wrote),
         subst (λ (os : List Order). Obeys (loses_by taking) os (steps ++ runs.0)) (ap (λ (o : Order). orders_of orders ++ o ∷ []) is ∙ sym (given-next orders order))
             (obeys-taking one last taking (orders_of orders) runs.0 (blamed before runs.0 wrote) runs.2),
-        kept-taking one last taking order orders runs.0 first old new is made (ap (λ (frames : FrameWriter W). frames.core.sending.senders.items) same) (blamed before runs.0 wrote)
-            (subst (λ (frames : FrameWriter W). BringsBy taking one (core_of old) frames.core.sending.senders.items) (sym to) brings) places runs.3,
+        (
+          kept-taking one last taking order orders runs.0 first old new is made (ap (λ (frames : FrameWriter W). frames.core.sending.senders.items) same) (blamed before runs.0 wrote)
+              (subst (λ (frames : FrameWriter W). BringsBy taking one (core_of old) frames.core.sending.senders.items) (sym to) brings) places runs.3.0,
+          notes runs.0 (subst (λ (ids : List ℕ). AreNoted ids runs.0) alike runs.3.1),
+        ),
         granted-steps (order_of one) last taking runs.0 credit runs.4,
       )
 
   -- the places' senders are the same before
-  pub takes-from : (one : Control SlotSender) (old mid new : SlotWriter W) → mid.frames ≡ old.frames → SamePlaces (places_of old) (places_of mid) → Takes contents failed one mid new
-      → Takes contents failed one old new
-  takes-from one old mid new frames places takes order first is made same =
-      takes order first is (makes-then order one (places_of first) (places_of old) (places_of mid) made places) (same ∙ sym frames)
+  pub takes-from : (one : Control SlotSender) (old mid new : SlotWriter W) → mid.frames ≡ old.frames → SamePlaces (places_of old) (places_of mid) → noted_by mid ≡ noted_by old
+      → Takes contents failed one mid new → Takes contents failed one old new
+  takes-from one old mid new frames places noted takes order first is made same alike =
+      takes order first is (makes-then order one (places_of first) (places_of old) (places_of mid) made places) (same ∙ sym frames) (alike ∙ sym noted)
 
   -- a GOAWAY of the writer's own
   pub parting-on : (last : ℕ) (taking : Taking SlotSender) (old new : SlotWriter W) → WritesOn got contents failed (steps_of (control.Goaway last InternalError) last taking) old.frames new.frames
       → ((before : Option (List ℕ)) (run : List Step) → Wrote got contents failed before run old.frames → Blamed taking (control.Goaway last InternalError) run)
-      → BringsBy taking (control.Goaway last InternalError) (core_of old) (core_of new) → places_of new ≡ places_of old → Parts contents failed old new
-  parting-on last taking old new on blamed brings places orders before credit runs = (
+      → BringsBy taking (control.Goaway last InternalError) (core_of old) (core_of new) → places_of new ≡ places_of old → noted_by new ≡ noted_by old → Parts contents failed old new
+  parting-on last taking old new on blamed brings places noted orders before credit runs = (
     steps_of (control.Goaway last InternalError) last taking ++ runs.0,
     on before runs.0 runs.1,
     obeys-parting last taking (orders_of orders) runs.0 (blamed before runs.0 runs.1) runs.2,
-    kept-on true orders runs.0 (steps_of (control.Goaway last InternalError) last taking) old new
-        (sends-plain (control.Goaway last InternalError) last taking old new (λ k. refl) (brings-plain taking (control.Goaway last InternalError) (core_of old) (core_of new) tt brings) (same-places places)) runs.3,
+    holds-on true orders runs.0 (steps_of (control.Goaway last InternalError) last taking) old new
+        (goes-plain (control.Goaway last InternalError) last taking old new (λ k. refl) (brings-plain taking (control.Goaway last InternalError) (core_of old) (core_of new) tt brings) (same-places places) refl noted) runs.3,
     granted-steps (control.Goaway last InternalError) last taking runs.0 credit runs.4,
   )
 
   -- a Close where orders were lost
   pub closing-on : (last : ℕ) (taking : Taking SlotSender) (old new : SlotWriter W) → WritesOn got contents failed (steps_of control.Close last taking) old.frames new.frames
       → ((before : Option (List ℕ)) (run : List Step) → Wrote got contents failed before run old.frames → Blamed taking control.Close run)
-      → BringsBy taking control.Close (core_of old) (core_of new) → places_of new ≡ places_of old → PassesOver contents failed control.Close old new
-  closing-on last taking old new on blamed brings places orders before credit runs = (
+      → BringsBy taking control.Close (core_of old) (core_of new) → places_of new ≡ places_of old → noted_by new ≡ noted_by old → PassesOver contents failed control.Close old new
+  closing-on last taking old new on blamed brings places noted orders before credit runs = (
     steps_of control.Close last taking ++ runs.0,
     on before runs.0 runs.1,
     subst (λ (os : List Order). Obeys true os (steps_of control.Close last taking ++ runs.0)) (sym (given-next orders control.Close))
         (obeys-closing last taking (orders_of orders) runs.0 (blamed before runs.0 runs.1) runs.2),
-    kept-lost true orders (control.Close ∷ []) (steps_of control.Close last taking ++ runs.0) new
-        (kept-on true orders runs.0 (steps_of control.Close last taking) old new (sends-plain control.Close last taking old new (λ k. refl) (brings-plain taking control.Close (core_of old) (core_of new) tt brings) (same-places places)) runs.3),
+    holds-lost true orders (control.Close ∷ []) (steps_of control.Close last taking ++ runs.0) new
+        (holds-on true orders runs.0 (steps_of control.Close last taking) old new
+        (goes-plain control.Close last taking old new (λ k. refl) (brings-plain taking control.Close (core_of old) (core_of new) tt brings) (same-places places) refl noted) runs.3),
     granted-steps control.Close last taking runs.0 credit runs.4,
   )
 
@@ -472,14 +514,17 @@ module _ {W : Type 0} (contents : W → Option (List ℕ)) (failed : W → Bool)
       → WritesOn got contents failed (steps_of (control.Reset id InternalError true) last taking) old.frames new.frames
       → ((before : Option (List ℕ)) (run : List Step) → Wrote got contents failed before run old.frames → Blamed taking (control.Reset id InternalError true) run)
       → BringsBy taking (control.Reset id InternalError true) (core_of old) (core_of new) → SamePlaces (places_of old) (places_of new)
+      → NotesOn (steps_of (control.Reset id InternalError true) last taking) old new
       → (orders : List (Control Opened)) (before : Option (List ℕ)) (credit : ℕ) → IsAmong (control.Open id tt) (orders_of orders) → list_any ends_input (orders_of orders) ≡ false
       → Runs contents failed false orders before credit old → Runs contents failed false orders before credit new
-  resetting-on id last taking old new on blamed brings places orders before credit among goes_on runs = (
+  resetting-on id last taking old new on blamed brings places notes orders before credit among goes_on runs = (
     steps_of (control.Reset id InternalError true) last taking ++ runs.0,
     on before runs.0 runs.1,
     obeys-reset id last taking (orders_of orders) runs.0 (blamed before runs.0 runs.1) among goes_on runs.2,
-    kept-on false orders runs.0 (steps_of (control.Reset id InternalError true) last taking) old new
-        (sends-plain (control.Reset id InternalError true) last taking old new (λ k. refl) (brings-plain taking (control.Reset id InternalError true) (core_of old) (core_of new) tt brings) places) runs.3,
+    holds-on false orders runs.0 (steps_of (control.Reset id InternalError true) last taking) old new (
+      sends-plain (control.Reset id InternalError true) last taking old new (λ k. refl) (brings-plain taking (control.Reset id InternalError true) (core_of old) (core_of new) tt brings) places,
+      notes,
+    ) runs.3,
     granted-steps (control.Reset id InternalError true) last taking runs.0 credit runs.4,
   )
 
@@ -488,23 +533,23 @@ module _ {W : Type 0} (contents : W → Option (List ℕ)) (failed : W → Bool)
       → WritesOn got contents failed (steps_of (order_of one) last taking) old.frames new.frames
       → ((before : Option (List ℕ)) (run : List Step) → Wrote got contents failed before run old.frames → Blamed taking one run)
       → ((before : Option (List ℕ)) (run : List Step) → Wrote got contents failed before run old.frames → Warns (order_of one) run)
-      → BringsBy taking one (core_of old) (core_of new) → SamePlaces (places_of old) (places_of new)
+      → BringsBy taking one (core_of old) (core_of new) → SamePlaces (places_of old) (places_of new) → noted_by new ≡ noted_by old
       → (orders : List (Control Opened)) (before : Option (List ℕ)) (credit : ℕ)
       → Runs contents failed false orders before credit old → Runs contents failed false orders before credit new
-  warning-on one last taking old new own on blamed warns brings places orders before credit runs = (
+  warning-on one last taking old new own on blamed warns brings places noted orders before credit runs = (
     steps_of (order_of one) last taking ++ runs.0,
     on before runs.0 runs.1,
     obeys-warning one last taking (orders_of orders) runs.0 (blamed before runs.0 runs.1) (mild one own).spares ((mild one own).room runs.0) (warns before runs.0 runs.1) runs.2,
-    kept-on false orders runs.0 (steps_of (order_of one) last taking) old new
-        (sends-plain (order_of one) last taking old new (mild one own).opens (brings-plain taking one (core_of old) (core_of new) (mild one own).plain brings) places) runs.3,
+    holds-on false orders runs.0 (steps_of (order_of one) last taking) old new
+        (goes-plain (order_of one) last taking old new (mild one own).opens (brings-plain taking one (core_of old) (core_of new) (mild one own).plain brings) places (mild one own).leaves noted) runs.3,
     granted-steps (order_of one) last taking runs.0 credit runs.4,
   )
 
   -- another order there
-  pub passes-by : (order : Control Opened) (old new : SlotWriter W) → new.frames ≡ old.frames → places_of new ≡ places_of old → PassesOver contents failed order old new
-  passes-by order old new same places orders before credit runs =
-      let kept = runs-between true old new same (keeps-same (places_of old) (places_of new) (same-places places)) orders before credit runs in
-      (kept.0, kept.1, subst (λ (os : List Order). Obeys true os kept.0) (sym (given-next orders order)) (obeys-more (orders_of orders) (order_of order ∷ []) kept.0 kept.2), kept-lost true orders (order ∷ []) kept.0 new kept.3, kept.4)
+  pub passes-by : (order : Control Opened) (old new : SlotWriter W) → new.frames ≡ old.frames → places_of new ≡ places_of old → noted_by new ≡ noted_by old → PassesOver contents failed order old new
+  passes-by order old new same places noted orders before credit runs =
+      let kept = runs-between true old new same (keeps-same (places_of old) (places_of new) (same-places places)) noted orders before credit runs in
+      (kept.0, kept.1, subst (λ (os : List Order). Obeys true os kept.0) (sym (given-next orders order)) (obeys-more (orders_of orders) (order_of order ∷ []) kept.0 kept.2), holds-lost true orders (order ∷ []) kept.0 new kept.3, kept.4)
 
   -- ---- with the inbox
 
@@ -600,47 +645,50 @@ module _ {W : Type 0} (contents : W → Option (List ℕ)) (failed : W → Bool)
       given-on-to given has = subst (λ (inbox : Inbox). HasGiven given inbox) (sym same) has
 
   -- an order is looked at
-  pub stays-with : (old new : SlotWriter W) → Keeps old.inbox new.inbox → SameCalls old new → KeepsOn (places_of old) (places_of new) → new.frames ≡ old.frames → Stays contents failed old new
-  stays-with old new keeps calls places frames = record {
+  pub stays-with : (old new : SlotWriter W) → Keeps old.inbox new.inbox → SameCalls old new → KeepsOn (places_of old) (places_of new) → new.frames ≡ old.frames → noted_by new ≡ noted_by old
+      → Stays contents failed old new
+  stays-with old new keeps calls places frames noted = record {
     leads = record {
       name = keeps.name;
       on = λ before credit led. (
         led.0,
         keeps.given led.0 led.1,
-        subst (λ (lost : Bool). Runs contents failed lost led.0 before credit new) (sym keeps.lost) (runs-between old.inbox.has_lost old new frames places led.0 before credit led.2),
+        subst (λ (lost : Bool). Runs contents failed lost led.0 before credit new) (sym keeps.lost) (runs-between old.inbox.has_lost old new frames places noted led.0 before credit led.2),
         λ kept. knows-same (orders_of led.0) old new calls (led.3 (sym keeps.lost ∙ kept)),
       );
     };
     out = λ before credit led. (
       led.0,
       keeps.given led.0 led.1,
-      subst (λ (lost : Bool). Ends contents failed lost led.0 before credit new) (sym keeps.lost) (ends-between old.inbox.has_lost old new frames places led.0 before credit led.2),
+      subst (λ (lost : Bool). Ends contents failed lost led.0 before credit new) (sym keeps.lost) (ends-between old.inbox.has_lost old new frames places noted led.0 before credit led.2),
     );
   }
 
   -- nothing is done
-  pub stays-same : (old new : SlotWriter W) → new.inbox ≡ old.inbox → SameCalls old new → KeepsOn (places_of old) (places_of new) → new.frames ≡ old.frames → Stays contents failed old new
-  stays-same old new inbox calls places frames =
-      stays-with old new (record { name = ap (λ (i : Inbox). out_name i.ring) inbox; lost = ap (λ (i : Inbox). i.has_lost) inbox; given = λ given has. subst (λ (i : Inbox). HasGiven given i) (sym inbox) has }) calls places frames
+  pub stays-same : (old new : SlotWriter W) → new.inbox ≡ old.inbox → SameCalls old new → KeepsOn (places_of old) (places_of new) → new.frames ≡ old.frames → noted_by new ≡ noted_by old
+      → Stays contents failed old new
+  stays-same old new inbox calls places frames noted =
+      stays-with old new (record { name = ap (λ (i : Inbox). out_name i.ring) inbox; lost = ap (λ (i : Inbox). i.has_lost) inbox; given = λ given has. subst (λ (i : Inbox). HasGiven given i) (sym inbox) has }) calls places frames noted
 
   -- ---- an order is looked for
 
   -- it gives none
-  pub leads-none : (old new : SlotWriter W) → Gives None old.inbox new.inbox → SameCalls old new → KeepsOn (places_of old) (places_of new) → new.frames ≡ old.frames → LeadsOn contents failed old new
-  leads-none old new gives calls places frames = (stays-with old new (record {
+  pub leads-none : (old new : SlotWriter W) → Gives None old.inbox new.inbox → SameCalls old new → KeepsOn (places_of old) (places_of new) → new.frames ≡ old.frames → noted_by new ≡ noted_by old
+      → LeadsOn contents failed old new
+  leads-none old new gives calls places frames noted = (stays-with old new (record {
     name = gives.name;
     lost = gives.lost;
     given = λ given has. subst (λ (all : List (Control Opened)). HasGiven all new.inbox) (append-nil given) (gives.given given has);
-  }) calls places frames).leads
+  }) calls places frames noted).leads
 
   -- what is given comes back
   pub leads-back : (next back : Control Opened) (old new : SlotWriter W) (mid : Inbox) → Gives (Some next) old.inbox mid → new.inbox ≡ record mid { set_aside = Some back } → back ≡ next
-      → SameCalls old new → KeepsOn (places_of old) (places_of new) → new.frames ≡ old.frames → LeadsOn contents failed old new
-  leads-back next back old new mid gives same is calls places frames = (stays-with old new (record {
+      → SameCalls old new → KeepsOn (places_of old) (places_of new) → new.frames ≡ old.frames → noted_by new ≡ noted_by old → LeadsOn contents failed old new
+  leads-back next back old new mid gives same is calls places frames noted = (stays-with old new (record {
     name = ap (λ (inbox : Inbox). out_name inbox.ring) same ∙ gives.name;
     lost = ap (λ (inbox : Inbox). inbox.has_lost) same ∙ gives.lost;
     given = λ given has. subst (λ (inbox : Inbox). HasGiven given inbox) (sym same) (ap (λ (one : Control Opened). given ++ one ∷ []) is ∙ aside given (gives.given given has));
-  }) calls places frames).leads
+  }) calls places frames noted).leads
     where
       aside : (given : List (Control Opened)) → HasGiven (given ++ next ∷ []) mid → given ++ next ∷ [] ≡ taken mid.ring
       aside given has = sym (append-nil (given ++ next ∷ [])) ∙ (ap (λ (one : Option (Control Opened)). (given ++ next ∷ []) ++ order_in one) (sym gives.none_aside) ∙ has)
@@ -683,19 +731,19 @@ module _ {W : Type 0} (contents : W → Option (List ℕ)) (failed : W → Bool)
 
   -- it is lost
   pub leads-lost : (next : Control Opened) (old new : SlotWriter W) (mid : Inbox) → Gives (Some next) old.inbox mid → new.inbox ≡ record mid { has_lost = true }
-      → KeepsOn (places_of old) (places_of new) → new.frames ≡ old.frames → LeadsOn contents failed old new
-  leads-lost next old new mid gives same places frames = record {
+      → KeepsOn (places_of old) (places_of new) → new.frames ≡ old.frames → noted_by new ≡ noted_by old → LeadsOn contents failed old new
+  leads-lost next old new mid gives same places frames noted = record {
     name = ap (λ (inbox : Inbox). out_name inbox.ring) same ∙ gives.name;
     on = λ before credit led.
         let lost : new.inbox.has_lost ≡ true = ap (λ (inbox : Inbox). inbox.has_lost) same in
-        let runs = runs-between old.inbox.has_lost old new frames places led.0 before credit led.2 in
+        let runs = runs-between old.inbox.has_lost old new frames places noted led.0 before credit led.2 in
         led-next next old new mid before credit gives (same ∙ ap (λ (was : Bool). record mid { has_lost = was }) (sym lost)) led
         (subst (λ (was : Bool). Runs contents failed was (led.0 ++ next ∷ []) before credit new) (sym lost) (
           runs.0,
           runs.1,
           subst (λ (os : List Order). Obeys true os runs.0) (sym (given-next led.0 next))
               (obeys-more (orders_of led.0) (order_of next ∷ []) runs.0 (obeys-lost old.inbox.has_lost (orders_of led.0) runs.0 runs.2)),
-          kept-lost old.inbox.has_lost led.0 (next ∷ []) runs.0 new runs.3,
+          holds-lost old.inbox.has_lost led.0 (next ∷ []) runs.0 new runs.3,
           runs.4,
         ))
         (λ kept. absurd (true≢false (sym lost ∙ kept)));
@@ -720,15 +768,15 @@ module _ {W : Type 0} (contents : W → Option (List ℕ)) (failed : W → Bool)
       → WritesOn got contents failed (steps_of (control.Reset id InternalError true) last taking) old.frames new.frames
       → ((before : Option (List ℕ)) (run : List Step) → Wrote got contents failed before run old.frames → Blamed taking (control.Reset id InternalError true) run)
       → BringsBy taking (control.Reset id InternalError true) (core_of old) (core_of new) → SamePlaces (places_of old) (places_of new)
-      → LeadsOn contents failed old new
-  leads-reset id last taking old new kept going whose same calls on blamed brings places = record {
+      → NotesOn (steps_of (control.Reset id InternalError true) last taking) old new → LeadsOn contents failed old new
+  leads-reset id last taking old new kept going whose same calls on blamed brings places notes = record {
     name = ap (λ (inbox : Inbox). out_name inbox.ring) same;
     on = λ before credit led.
         let knows : Knows (orders_of led.0) old = led.3 kept in (
           led.0,
           subst (λ (inbox : Inbox). HasGiven led.0 inbox) (sym same) led.1,
           subst (λ (was : Bool). Runs contents failed was led.0 before credit new) (sym (ap (λ (inbox : Inbox). inbox.has_lost) same ∙ kept))
-              (resetting-on id last taking old new on blamed brings places led.0 before credit (knows-stream (orders_of led.0) old id whose knows) (sym knows.input ∙ going)
+              (resetting-on id last taking old new on blamed brings places notes led.0 before credit (knows-stream (orders_of led.0) old id whose knows) (sym knows.input ∙ going)
               (subst (λ (was : Bool). Runs contents failed was led.0 before credit old) kept led.2)),
           λ still. knows-same (orders_of led.0) old new calls knows,
         );
@@ -739,14 +787,14 @@ module _ {W : Type 0} (contents : W → Option (List ℕ)) (failed : W → Bool)
       → WritesOn got contents failed (steps_of (order_of one) last taking) old.frames new.frames
       → ((before : Option (List ℕ)) (run : List Step) → Wrote got contents failed before run old.frames → Blamed taking one run)
       → ((before : Option (List ℕ)) (run : List Step) → Wrote got contents failed before run old.frames → Warns (order_of one) run)
-      → BringsBy taking one (core_of old) (core_of new) → SamePlaces (places_of old) (places_of new) → LeadsOn contents failed old new
-  leads-warning one last taking old new own kept same calls on blamed warns brings places = record {
+      → BringsBy taking one (core_of old) (core_of new) → SamePlaces (places_of old) (places_of new) → noted_by new ≡ noted_by old → LeadsOn contents failed old new
+  leads-warning one last taking old new own kept same calls on blamed warns brings places noted = record {
     name = ap (λ (inbox : Inbox). out_name inbox.ring) same;
     on = λ before credit led. (
       led.0,
       subst (λ (inbox : Inbox). HasGiven led.0 inbox) (sym same) led.1,
       subst (λ (was : Bool). Runs contents failed was led.0 before credit new) (sym (ap (λ (inbox : Inbox). inbox.has_lost) same ∙ kept))
-          (warning-on one last taking old new own on blamed warns brings places led.0 before credit
+          (warning-on one last taking old new own on blamed warns brings places noted led.0 before credit
           (subst (λ (was : Bool). Runs contents failed was led.0 before credit old) kept led.2)),
       λ still. knows-same (orders_of led.0) old new calls (led.3 kept),
     );
@@ -758,7 +806,7 @@ module _ {W : Type 0} (contents : W → Option (List ℕ)) (failed : W → Bool)
   led-none before writer none aside kept empty core going wrote = (
     [],
     all-given writer.inbox aside none,
-    subst (λ (lost : Bool). Runs contents failed lost [] before 0 writer) (sym kept) ([], wrote, (refl, tt), (λ fresh. kept-none (places_of writer) (core_of writer) empty core), refl),
+    subst (λ (lost : Bool). Runs contents failed lost [] before 0 writer) (sym kept) ([], wrote, (refl, tt), ((λ fresh. kept-none (places_of writer) (core_of writer) empty core), (λ id there. absurd (none-in id there))), refl),
     λ still. record {
       opened = subst (λ (places : List Place). All (λ id. IsAmong (control.Open id tt) []) (ids_of places)) (sym empty) (All-nil (λ (id : ℕ). IsAmong (control.Open id tt) []));
       input = going;
@@ -807,10 +855,10 @@ module _ {W : Type 0} (contents : W → Option (List ℕ)) (failed : W → Bool)
       → (written : HasWritten contents failed before credit (orders_of (taken writer.inbox.ring)) told faultless device) → written.run ≡ led.2.0
       → TellFronts led.2.0 (calls got (core_of writer)) → TellReturned led.2.0 → TakesAllHome (core_of writer) (places_of writer) places
       → (told ≢ Some ending.OutOfMemory → told ≢ Some ending.WriteFailed → (writer.inbox.has_lost ≡ false) × (writer.inbox.set_aside ≡ None))
-      → HasSent contents failed before credit (taken writer.inbox.ring) places told faultless device
+      → HasSent contents failed before credit (taken writer.inbox.ring) places told faultless (noted_by writer) device
   has-sent before credit writer places device told faultless led written same fronts returned home each =
       let aside : List (Control Opened) = order_in writer.inbox.set_aside in
-      let kept : HasKept true (led.0 ++ aside) led.2.0 writer = kept-lost writer.inbox.has_lost led.0 aside led.2.0 writer led.2.3 in
+      let kept : HasKept true (led.0 ++ aside) led.2.0 writer = kept-lost writer.inbox.has_lost led.0 aside led.2.0 writer led.2.3.0 in
       let are : taken writer.inbox.ring ≡ kept.0 ++ kept.1 = sym led.1 ∙ kept.2 in record {
         written = written;
         front = kept.0;
@@ -827,7 +875,8 @@ module _ {W : Type 0} (contents : W → Option (List ℕ)) (failed : W → Bool)
             subst (λ (run : List Step). is_opened id run ≡ false) (sym same)
             ((kept.3 (fresh-parts (taken writer.inbox.ring) kept.0 kept.1 are fresh).0).sent.opened_old id other);
         each = λ spared sent.
-            let found = each spared sent in rest-none writer.inbox.has_lost led.0 aside led.2.0 writer led.2.3 found.0 (ap (λ (one : Option (Control Opened)). order_in one) found.1);
+            let found = each spared sent in rest-none writer.inbox.has_lost led.0 aside led.2.0 writer led.2.3.0 found.0 (ap (λ (one : Option (Control Opened)). order_in one) found.1);
+        noted = subst (λ (run : List Step). AreNoted (noted_by writer) run) (sym same) led.2.3.1;
       }
 
 -- the ending that is told names want of memory, a failed write or that orders are left where there is one

@@ -1,3 +1,4 @@
+pub mod Left
 pub mod Orders
 pub mod OrderExamples
 pub mod Sent

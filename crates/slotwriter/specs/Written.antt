@@ -30,6 +30,7 @@ use Rattle.slotwriter.specs.declared.senders.Place.{Place}
 use Rattle.slotwriter.specs.declared.slot_writer.SlotWriter.{SlotWriter}
 use Rattle.slotwriter.specs.declared.steps.Rest.{Rest}
 use Rattle.slotwriter.specs.declared.steps.Rest.TheVariants as rests
+use Rattle.slotwriter.specs.Left.{AreNoted}
 use Rattle.slotwriter.specs.Orders.{HasGiven, IsAmong, Obeys, ends_input, orders_of}
 use Rattle.slotwriter.specs.Sent.{AreFresh, AreKept, HaveTold, Lines, MakesOf, SlotSender, held_of, ids_of, lines_of}
 
@@ -79,18 +80,32 @@ module _ {W : Type 0} where
   SendsOn steps old new = (run : List Step) (lines : Lines) → AreKept run lines (places_of old) (core_of old)
       → AreKept (steps ++ run) lines (places_of new) (core_of new)
 
+  -- ---- calls that were left
+
+  -- the streams that it notes as reset since their calls were left
+  abbrev pub noted_by : SlotWriter W → List ℕ
+  noted_by writer = writer.resets.items
+
+  -- if these were all before, by these steps they are after
+  abbrev pub NotesOn : List Step → SlotWriter W → SlotWriter W → Type 0
+  NotesOn steps old new = (run : List Step) → AreNoted (noted_by old) run → AreNoted (noted_by new) (steps ++ run)
+
+  -- it has the senders, and notes these streams
+  abbrev pub Holds : Bool → List (Control Opened) → List Step → SlotWriter W → Type 0
+  Holds lost orders run writer = HasKept lost orders run writer × AreNoted (noted_by writer) run
+
 module _ {W : Type 0} (contents : W → Option (List ℕ)) (failed : W → Bool) where
   -- Some run led to the writer, whose device had something before, and granted so much credit on the connection. It obeyed these orders, and
-  -- the writer has the senders of their lines, unless some were lost.
+  -- the writer has the senders of their lines, unless some were lost, and notes the streams that it reset since their calls were left.
   abbrev pub Runs : Bool → List (Control Opened) → Option (List ℕ) → ℕ → SlotWriter W → Type 0
   Runs lost orders before credit writer =
-      (run : List Step) × Wrote got contents failed before run writer.frames × Obeys lost (orders_of orders) run × HasKept lost orders run writer
+      (run : List Step) × Wrote got contents failed before run writer.frames × Obeys lost (orders_of orders) run × Holds lost orders run writer
       × (granted 0 run ≡ credit)
 
   -- and it is over, unless the writer makes no more frames
   abbrev pub Ends : Bool → List (Control Opened) → Option (List ℕ) → ℕ → SlotWriter W → Type 0
   Ends lost orders before credit writer =
-      (run : List Step) × Wrote got contents failed before run writer.frames × Obeys lost (orders_of orders) run × HasKept lost orders run writer
+      (run : List Step) × Wrote got contents failed before run writer.frames × Obeys lost (orders_of orders) run × Holds lost orders run writer
       × (granted 0 run ≡ credit) × (writer.frames.standing ≡ Going → IsOver run)
 
   -- the run that led to the writer before leads on to the writer after, and takes no order
@@ -110,7 +125,7 @@ module _ {W : Type 0} (contents : W → Option (List ℕ)) (failed : W → Bool)
   -- slot is with the control.
   abbrev pub Takes : Control SlotSender → SlotWriter W → SlotWriter W → Type 0
   Takes control old new = (order : Control Opened) (first : SlotWriter W) → order_of control ≡ order_of order
-      → MakesOf order control (places_of first) (places_of old) → first.frames ≡ old.frames
+      → MakesOf order control (places_of first) (places_of old) → first.frames ≡ old.frames → noted_by first ≡ noted_by old
       → (orders : List (Control Opened)) (before : Option (List ℕ)) (credit : ℕ) → Runs false orders before credit first
       → Runs new.inbox.has_lost (orders ++ order ∷ []) before credit new
 
@@ -193,9 +208,9 @@ pub record HasWritten {W : Type 0} (contents : W → Option (List ℕ)) (failed 
   pub sound : faultless ≡ true → has_failed run ≡ false
 
 -- A device has that, and these senders of the slots tell what was sent of each call. The slots' lines are by a front of the orders; the
--- others were lost.
+-- others were lost. These streams were reset since their calls were left.
 pub record HasSent {W : Type 0} (contents : W → Option (List ℕ)) (failed : W → Bool) (before : Option (List ℕ)) (credit : ℕ) (orders : List (Control Opened))
-    (places : List Place) (ending : Option Ending) (faultless : Bool) (device : W) : Type 0 where
+    (places : List Place) (ending : Option Ending) (faultless : Bool) (resets : List ℕ) (device : W) : Type 0 where
   pub written : HasWritten contents failed before credit (orders_of orders) ending faultless device
   pub front : List (Control Opened)
   pub rest : List (Control Opened)
@@ -208,3 +223,5 @@ pub record HasSent {W : Type 0} (contents : W → Option (List ℕ)) (failed : W
   pub unopened : AreFresh [] orders → (id : ℕ) → (IsOld id (lines_of front) → ⊥) → is_opened id written.run ≡ false
   -- where memory didn't run out and no write failed, none was lost
   pub each : ending ≢ Some OutOfMemory → ending ≢ Some WriteFailed → rest ≡ []
+  -- no other stream was reset so
+  pub noted : AreNoted resets written.run

@@ -1,6 +1,6 @@
 //! What the writing side of a connection has, and its steps.
 
-ghost use Rattle.std.specs.Prelude.{◌≡◌, ◌≢◌, ◌+◌, ℕ, nat_eq, if◌then◌else◌, true, false, List, [], length, slice_get, Option, None, Some, IfNone, IfSome, OnErr, OnOk};
+ghost use Rattle.std.specs.Prelude.{◌≡◌, ◌≢◌, ◌+◌, ◌++◌, ℕ, nat_eq, if◌then◌else◌, true, false, List, [], length, option_to_list, slice_get, Option, None, Some, IfNone, IfSome, OnErr, OnOk};
 ghost use Rattle.lane.specs.Ring.{taken};
 ghost use Rattle.lane.specs.RingLane.{got};
 ghost use Rattle.outwriter.specs.Cores.{IsUnused, open_stream};
@@ -9,17 +9,19 @@ ghost use Rattle.outwriter.specs.RunState.{is_held};
 ghost use Rattle.outwriter.specs.Steps.{Step, order_of};
 ghost use Rattle.flow.specs.Windows.{room};
 ghost use Rattle.connwriter.specs.declared.filled.Filled.TheVariants as filling;
-ghost use Rattle.connwriter.specs.Wrote.{Wrote};
+ghost use Rattle.connwriter.specs.Orders.{Blamed, steps_of};
+ghost use Rattle.connwriter.specs.Wrote.{BringsBy, Wrote, WritesOn};
 ghost use Rattle.connwriter.specs.declared.standing.Standing.TheVariants as stands;
 ghost use Rattle.callslot.specs.declared.report.Ending.TheVariants as ending;
 ghost use Rattle.slotwriter.specs.declared.steps.Rest.TheVariants as rest;
 ghost use Rattle.slotwriter.specs.declared.steps.Took.TheVariants as took;
 ghost use Rattle.slotwriter.specs.declared.steps.Waiting.TheVariants as waiting;
+ghost use Rattle.slotwriter.specs.Left.{left_by};
 ghost use Rattle.slotwriter.specs.Orders.{IsWarning, TakesNoWindow, Warns, ends_input, orders_of, waiting_of};
 ghost use Rattle.slotwriter.specs.Sent.{HandsHome, HasStream, SamePlaces, stream_at};
 ghost use Rattle.slotwriter.specs.Written.{HasSent, HasWritten, Heeds, IsFlushed, Led, LedOut};
-ghost use Rattle.slotwriter.specs.Written.{LeadsOn, LeadsOut, LeadsTo, Parts, PassesOver, SameCalls};
-ghost use Rattle.slotwriter.specs.Written.{Stays, Takes, places_of, rest_of};
+ghost use Rattle.slotwriter.specs.Written.{LeadsOn, LeadsOut, LeadsTo, NotesOn, Parts, PassesOver};
+ghost use Rattle.slotwriter.specs.Written.{SameCalls, Stays, Takes, core_of, places_of, rest_of};
 
 use crate::inbox::Inbox;
 use crate::senders::{Senders, Untaken};
@@ -53,10 +55,13 @@ pub struct SlotWriter<W: ConnWrite> {
     closed: bool,
     /// The error of its own that the writer ended the connection with.
     failed: Option<ErrorCode>,
+    /// The streams that were reset since their calls were left without trailers.
+    resets: Vec<StreamId>,
 }
 
 /// What a writer hands back: how the connection ended as far as it sees, whether no error was told
-/// by GOAWAY, what it wrote to, its end of the ring of orders, and the senders of the slots.
+/// by GOAWAY, what it wrote to, its end of the ring of orders, the senders of the slots, and the
+/// streams that were reset since their calls were left without trailers.
 #[derive(Drop)]
 pub struct Written<W: ConnWrite + Drop> {
     pub ending: Option<Ending>,
@@ -64,6 +69,7 @@ pub struct Written<W: ConnWrite + Drop> {
     pub device: W,
     pub orders: RingOut<Order>,
     pub senders: Senders,
+    pub resets: Vec<StreamId>,
 }
 
 impl<W: ConnWrite + Drop> SlotWriter<W> {
@@ -82,6 +88,7 @@ impl<W: ConnWrite + Drop> SlotWriter<W> {
             input_ended: false,
             closed: false,
             failed: None,
+            resets: Vec::new(alloc),
         }
     }
 
@@ -149,7 +156,7 @@ impl<W: ConnWrite + Drop> SlotWriter<W> {
         ensures lost { result ≡ took.Lost → self.new.inbox.has_lost ≡ true }
     {
         self.note(&order);
-        match self.frames.take(order, last) {
+        match self.give(order, last) {
             Taking::Done => Took::One,
             Taking::Ended(id) => self.end(id),
             Taking::Unanswered(_) => self.lose(),
@@ -157,6 +164,40 @@ impl<W: ConnWrite + Drop> SlotWriter<W> {
                 self.keep(back);
                 self.lose()
             }
+        }
+    }
+
+    /// Gives the core an order. Where it resets a stream since its call was left, that is noted
+    /// before. Without memory for that it is handed back.
+    fn give(&mut self, order: Control<Sender<OutLane>>, last: StreamId) -> Taking<Sender<OutLane>>
+        ensures wrote { IsUnused got order → WritesOn got W.contents W.failed
+            (steps_of (order_of order) last result) self.old.frames self.new.frames }
+        ensures blamed { (before : Option (List ℕ)) (run : List Step)
+            → Wrote got W.contents W.failed before run self.old.frames
+            → Blamed result order run }
+        ensures brings { BringsBy result order (core_of self.old) (core_of self.new) }
+        ensures notes { NotesOn (steps_of (order_of order) last result) self.old self.new }
+        ensures senders { self.new.senders ≡ self.old.senders }
+        ensures inbox { self.new.inbox ≡ self.old.inbox }
+        ensures input { self.new.input_ended ≡ self.old.input_ended }
+    {
+        if !self.note_left(&order) {
+            return Taking::HandedBack(order);
+        }
+        self.frames.take(order, last)
+    }
+
+    /// Notes the stream that an order resets since its call was left, if it does. Whether there was
+    /// memory for that.
+    fn note_left(&mut self, order: &Control<Sender<OutLane>>) -> bool
+        ensures noted { result ≡ true → self.new.resets.items
+            ≡ self.old.resets.items ++ left_by (order_of order.now) }
+        ensures unnoted { result ≡ false → self.new.resets.items ≡ self.old.resets.items }
+        ensures rest { self.new ≡ record self.old { resets = self.new.resets } }
+    {
+        match left_by(order) {
+            Some(id) => self.resets.push(id).is_ok(),
+            None => true,
         }
     }
 
@@ -189,6 +230,7 @@ impl<W: ConnWrite + Drop> SlotWriter<W> {
         ensures places { SamePlaces (places_of self.old) (places_of self.new) }
         ensures frames { self.new.frames ≡ self.old.frames }
         ensures inbox { self.new.inbox ≡ self.old.inbox }
+        ensures resets { self.new.resets ≡ self.old.resets }
     {
         match order {
             Control::InputEnded => self.input_ended = true,
@@ -204,6 +246,7 @@ impl<W: ConnWrite + Drop> SlotWriter<W> {
         ensures places { SamePlaces (places_of self.old) (places_of self.new) }
         ensures frames { self.new.frames ≡ self.old.frames }
         ensures inbox { self.new.inbox ≡ self.old.inbox }
+        ensures resets { self.new.resets ≡ self.old.resets }
         ensures ends { result ≢ took.Lost }
     {
         if id == 0 {
@@ -220,6 +263,7 @@ impl<W: ConnWrite + Drop> SlotWriter<W> {
         ensures frames { self.new.frames ≡ self.old.frames }
         ensures senders { self.new.senders ≡ self.old.senders }
         ensures inbox { self.new.inbox ≡ record self.old.inbox { has_lost = true } }
+        ensures resets { self.new.resets ≡ self.old.resets }
     {
         self.inbox.has_lost = true;
         Took::Lost
@@ -230,6 +274,7 @@ impl<W: ConnWrite + Drop> SlotWriter<W> {
         ensures home { HandsHome order (places_of self.old) (places_of self.new) }
         ensures frames { self.new.frames ≡ self.old.frames }
         ensures inbox { self.new.inbox ≡ self.old.inbox }
+        ensures resets { self.new.resets ≡ self.old.resets }
     {
         if let Control::Open(id, sender) = order {
             self.senders.keep(id, sender, false);
@@ -320,7 +365,7 @@ impl<W: ConnWrite + Drop> SlotWriter<W> {
     {
         let code = ErrorCode::InternalError;
         let written = true;
-        let taking = self.frames.take(Control::Reset { id, code, written }, 0);
+        let taking = self.give(Control::Reset { id, code, written }, 0);
         let Taking::Done = taking else {
             return false;
         };
@@ -576,7 +621,8 @@ impl<W: ConnWrite + Drop> SlotWriter<W> {
         ensures sent { (before : Option (List ℕ)) (credit : ℕ)
             → LedOut W.contents W.failed before credit self
             → HasSent W.contents W.failed before credit (taken result.orders)
-            result.senders.places.items result.ending result.is_faultless result.device }
+            result.senders.places.items result.ending result.is_faultless
+            result.resets.items result.device }
         ensures ring { result.orders ≡ self.inbox.ring }
     {
         let ending = self.ending();
@@ -584,6 +630,7 @@ impl<W: ConnWrite + Drop> SlotWriter<W> {
             inbox,
             frames,
             mut senders,
+            resets,
             ..
         } = self;
         let is_faultless = frames.is_faultless();
@@ -595,6 +642,7 @@ impl<W: ConnWrite + Drop> SlotWriter<W> {
             device,
             orders: inbox.ring,
             senders,
+            resets,
         }
     }
 
@@ -628,6 +676,20 @@ impl<W: ConnWrite + Drop> SlotWriter<W> {
 fn wake_new(order: &Order) {
     if let Control::Open(_, Opened::New(fresh)) = order {
         fresh.slot.ring_for_room();
+    }
+}
+
+/// The stream that an order resets since its call was left without trailers, if it does.
+fn left_by<S>(order: &Control<S>) -> Option<StreamId>
+    ensures { option_to_list result ≡ left_by (order_of order.now) }
+{
+    match order {
+        Control::Reset {
+            id,
+            code: ErrorCode::InternalError,
+            written: true,
+        } => Some(*id),
+        _ => None,
     }
 }
 

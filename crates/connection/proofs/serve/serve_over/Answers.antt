@@ -13,6 +13,7 @@ use Rattle.slotwriter.specs.Orders.{orders_of}
 use Rattle.slotwriter.specs.Written.{HasSent}
 use Rattle.slotwriter.proofs.WrittenSteps.{told-on}
 use Rattle.connection.specs.Puts.{put_of, put_orders}
+use Rattle.connection.proofs.Left.{left-noted}
 use Rattle.connection.proofs.Lines.{meeting-put, sent-put}
 use Rattle.connection.proofs.Heard.{consumes-none, kept-none}
 use Rattle.connection.specs.Served.{is_drained}
@@ -49,8 +50,8 @@ returns g c =
     let written = c.join-written.result.written in
     let amount = c.join-written.result.told.amount in
     let is = c.meet-2.ensures in
-    let sent : HasSent contents failed (contents c.args.output) amount (taken written.orders) written.senders.places.items written.ending written.is_faultless written.device =
-    subst (λ (before : Option (List ℕ)). HasSent contents failed before amount (taken written.orders) written.senders.places.items written.ending written.is_faultless written.device) c.in-Ok-start.ensures.begun c.join-written.ensures.1 in
+    let sent : HasSent contents failed (contents c.args.output) amount (taken written.orders) written.senders.places.items written.ending written.is_faultless written.resets.items written.device =
+    subst (λ (before : Option (List ℕ)). HasSent contents failed before amount (taken written.orders) written.senders.places.items written.ending written.is_faultless written.resets.items written.device) c.in-Ok-start.ensures.begun c.join-written.ensures.1 in
     let put = told-on contents failed (contents c.args.output) amount (orders_of (taken written.orders)) (put_orders c.end-ended.result.1) written.ending (Some c.meet-2.result.ending) written.is_faultless (is_drained c.meet-2.result.ending) written.device
     (λ lacked. ap Some (is.memory lacked)) (λ broke spared. ap Some (is.broken broke (λ lacked. spared (ap Some lacked)))) (λ marked. is.marked (some-is marked))
     (orders_of is.obeyed.0)
@@ -68,7 +69,8 @@ returns g c =
             put
             (rows-sent g.M.Answering.known g.M.Answering.names put.run (IsGivenIn end.1 c.end-ended.result.0.ends.items) _ _ c.end-ended.result.0.ends.items _ _ is.met
             (sent-put contents failed end.1 (put_of c.end-ended.result.1) (taken written.orders) is.obeyed.0 _ _ written.senders.places.items _ _ c.end-ended.result.0.ends.items _ _ is.obeyed.1 (end.4 has.lined) sent is.met)
-            (end.0 ++ heard.2.0) (reported (end.0 ++ heard.2.0)) end.2.rows)),
+            (end.0 ++ heard.2.0) (reported (end.0 ++ heard.2.0)) end.2.rows)
+            (λ spared. left-noted written.resets.items put.run c.meet-2.result.calls.items sent.noted (is.left spared))),
       );
     }
 

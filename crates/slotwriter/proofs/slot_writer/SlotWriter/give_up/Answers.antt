@@ -1,5 +1,5 @@
-use Rattle.std.proofs.Common.{ap, true}
-use Rattle.slotwriter.proofs.WrittenSteps.{leads-parting, runs-same, sends-none}
+use Rattle.std.proofs.Common.{ap, refl, true}
+use Rattle.slotwriter.proofs.WrittenSteps.{goes-none, leads-parting, runs-same}
 use Rattle.slotwriter.proofs.slot_writer.SlotWriter.give_up.Goals as goal
 
 pub returns-then-not-part : goal.returns-then-not-part
@@ -9,7 +9,7 @@ returns-then-not-part g c =
           leads-parting g.W.ConnWrite.contents g.W.ConnWrite.failed c.args.self.now new c.requires.lost c.part.ensures.inbox
           (λ orders before credit runs.
           runs-same g.W.ConnWrite.contents g.W.ConnWrite.failed true c.part.new.self new c.stop.ensures.wrote
-          (sends-none c.part.new.self new (ap (λ frames. frames.core.sending.senders.items) c.stop.ensures.rest) (λ run lines core kept. kept)) orders before credit
+          (goes-none c.part.new.self new (ap (λ frames. frames.core.sending.senders.items) c.stop.ensures.rest) (λ run lines core kept. kept) refl) orders before credit
           (c.part.ensures.parts orders before credit runs));
     }
 

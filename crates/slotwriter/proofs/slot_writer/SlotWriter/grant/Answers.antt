@@ -5,7 +5,7 @@ use Rattle.connwriter.proofs.SentSteps.{on-granted}
 use Rattle.slotwriter.specs.Written.{LeadsTo}
 use Rattle.slotwriter.proofs.CreditSteps.{granted-as}
 use Rattle.slotwriter.proofs.SentPlaces.{same-places}
-use Rattle.slotwriter.proofs.WrittenSteps.{grants-on, leads-to, sends-still}
+use Rattle.slotwriter.proofs.WrittenSteps.{goes-still, grants-on, leads-to}
 use Rattle.slotwriter.proofs.slot_writer.SlotWriter.grant.Goals as goal
 
 pub returns : goal.returns
@@ -16,5 +16,5 @@ returns g c =
       leads = λ had has is. subst (λ (credit : ℕ). LeadsTo contents failed had c.args.self.now credit new) (granted-as c.args.id c.args.n had has is)
           (leads-to contents failed had (had + granted_by 0 (Granted c.args.id c.args.n)) c.args.self.now new refl (record { ids = refl; input = refl })
           (grants-on contents failed c.args.id c.args.n c.args.self.now new c.grant.ensures.wrote
-          (sends-still (Granted c.args.id c.args.n ∷ []) c.args.self.now new (λ run k. on-granted c.args.id c.args.n run k) (ap (λ senders. senders.items) c.grant.ensures.senders) (same-places refl)) had));
+          (goes-still (Granted c.args.id c.args.n ∷ []) c.args.self.now new (λ run k. on-granted c.args.id c.args.n run k) (ap (λ senders. senders.items) c.grant.ensures.senders) (same-places refl) (λ run. refl) refl) had));
     }

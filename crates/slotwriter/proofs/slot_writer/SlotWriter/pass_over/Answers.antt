@@ -10,4 +10,4 @@ returns-then-is_close-clause-passes g c =
     subst (λ (one : Control Opened). PassesOver g.W.ConnWrite.contents g.W.ConnWrite.failed one c.args.self.now c.close.new.self) (sym (c.is_close.ensures.close c.if-is_close.true)) c.close.ensures.passes
 
 pub returns-else-is_close-clause-passes : goal.returns-else-is_close-clause-passes
-returns-else-is_close-clause-passes g c = passes-by g.W.ConnWrite.contents g.W.ConnWrite.failed c.args.order.now c.args.self.now c.args.self.now refl refl
+returns-else-is_close-clause-passes g c = passes-by g.W.ConnWrite.contents g.W.ConnWrite.failed c.args.order.now c.args.self.now c.args.self.now refl refl refl

@@ -8,7 +8,7 @@ returns-then-called_off g c = record {
       stays-then g.W.ConnWrite.contents g.W.ConnWrite.failed _ _ _ c.release_ended-ended.ensures.stays
       (stays-then g.W.ConnWrite.contents g.W.ConnWrite.failed _ _ _ c.release_called_off-called_off.ensures.stays
       (stays-same g.W.ConnWrite.contents g.W.ConnWrite.failed c.release_called_off-called_off.new.self (record c.release_called_off-called_off.new.self { senders = c.catch_up-rest.new.self }) refl
-      (record { ids = c.catch_up-rest.ensures.ids; input = refl }) c.catch_up-rest.ensures.keeps refl));
+      (record { ids = c.catch_up-rest.ensures.ids; input = refl }) c.catch_up-rest.ensures.keeps refl refl));
 }
 
 pub returns-else-called_off : goal.returns-else-called_off
@@ -17,5 +17,5 @@ returns-else-called_off g c = record {
       stays-then g.W.ConnWrite.contents g.W.ConnWrite.failed _ _ _ c.release_ended-ended.ensures.stays
       (stays-then g.W.ConnWrite.contents g.W.ConnWrite.failed _ _ _ c.release_called_off-called_off.ensures.stays
       (stays-same g.W.ConnWrite.contents g.W.ConnWrite.failed c.release_called_off-called_off.new.self (record c.release_called_off-called_off.new.self { senders = c.catch_up-rest.new.self }) refl
-      (record { ids = c.catch_up-rest.ensures.ids; input = refl }) c.catch_up-rest.ensures.keeps refl));
+      (record { ids = c.catch_up-rest.ensures.ids; input = refl }) c.catch_up-rest.ensures.keeps refl refl));
 }

@@ -8,7 +8,7 @@ pub slots-init : goal.slots-init
 slots-init g c =
     stays-same g.W.ConnWrite.contents g.W.ConnWrite.failed c.args.self.now (record c.args.self.now { senders = c.has_called_off.new.self }) refl
     (record { ids = ap (λ places. ids_of places.items) c.has_called_off.ensures.places; input = refl })
-    (keeps-same _ _ (same-places (ap (λ places. places.items) c.has_called_off.ensures.places))) refl
+    (keeps-same _ _ (same-places (ap (λ places. places.items) c.has_called_off.ensures.places))) refl refl
 
 pub slots-preserved : goal.slots-preserved
 slots-preserved g c = stays-then g.W.ConnWrite.contents g.W.ConnWrite.failed _ _ _ c.slots.invariant c.release_called_off_at.ensures.stays
@@ -18,5 +18,5 @@ returns-then-not-has_called_off g c = record {
   stays =
       stays-same g.W.ConnWrite.contents g.W.ConnWrite.failed c.args.self.now (record c.args.self.now { senders = c.has_called_off.new.self }) refl
       (record { ids = ap (λ places. ids_of places.items) c.has_called_off.ensures.places; input = refl })
-      (keeps-same _ _ (same-places (ap (λ places. places.items) c.has_called_off.ensures.places))) refl;
+      (keeps-same _ _ (same-places (ap (λ places. places.items) c.has_called_off.ensures.places))) refl refl;
 }

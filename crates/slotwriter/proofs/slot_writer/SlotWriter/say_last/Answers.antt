@@ -12,5 +12,5 @@ returns-then-part g c =
           stays-by g.W.ConnWrite.contents g.W.ConnWrite.failed c.args.self.now new refl (λ kept. absurd (true≢false kept)) (record { ids = refl; input = refl })
           (parts-on g.W.ConnWrite.contents g.W.ConnWrite.failed c.args.last c.args.self.now.inbox.has_lost c.args.self.now new
           (subst (λ (said : Bool). WritesOn got g.W.ConnWrite.contents g.W.ConnWrite.failed (parting c.args.last said) c.args.self.now.frames c.part.new.self) c.if-part.true c.part.ensures.wrote)
-          (ap (λ senders. senders.items) c.part.ensures.senders) refl (c.part.ensures.dead c.if-part.true).0 (ap (λ w. w.standing) c.part.ensures.rest));
+          (ap (λ senders. senders.items) c.part.ensures.senders) refl refl (c.part.ensures.dead c.if-part.true).0 (ap (λ w. w.standing) c.part.ensures.rest));
     }

@@ -12,7 +12,7 @@ pub returns-in_default-clause-leads : goal.returns-in_default-clause-leads
 returns-in_default-clause-leads g c =
     leads-none g.W.ConnWrite.contents g.W.ConnWrite.failed c.args.self.now (record c.args.self.now { inbox = c.next.new.self })
     (subst (λ (next : Option (Control Opened)). Gives next c.args.self.now.inbox c.next.new.self) c.in_default.is c.next.ensures.gives)
-    (record { ids = refl; input = refl }) (λ run lines core kept. kept) refl
+    (record { ids = refl; input = refl }) (λ run lines core kept. kept) refl refl
 
 pub returns-in-Ok : goal.returns-in-Ok
 returns-in-Ok g c = record {
@@ -20,7 +20,7 @@ returns-in-Ok g c = record {
       leads-taken g.W.ConnWrite.contents g.W.ConnWrite.failed c.in-Some.order c.args.self.now c.take.new.self c.next.new.self
       (subst (λ (next : Option (Control Opened)). Gives next c.args.self.now.inbox c.next.new.self) c.in-Some.is c.next.ensures.gives)
       c.if-self.false c.take.ensures.inbox
-      (λ orders before credit runs. c.take.ensures.takes c.in-Some.order c.args.self.now c.in-Ok.ensures.same c.in-Ok.ensures.makes refl orders before credit runs)
+      (λ orders before credit runs. c.take.ensures.takes c.in-Some.order c.args.self.now c.in-Ok.ensures.same c.in-Ok.ensures.makes refl refl orders before credit runs)
       (λ still. knows-taken c.in-Some.order c.in-Ok.control (order_of c.in-Ok.control) c.args.self.now
       (record c.args.self.now { inbox = c.next.new.self; senders = c.control_of.new.self }) c.take.new.self c.in-Ok.ensures.same c.in-Ok.ensures.makes refl (c.take.ensures.heeds still));
   lost = c.take.ensures.lost;
@@ -31,7 +31,7 @@ returns-in-Err-OutOfMemory g c = record {
   leads =
       leads-lost g.W.ConnWrite.contents g.W.ConnWrite.failed c.in-Some.order c.args.self.now (record c.args.self.now { inbox = record c.next.new.self { has_lost = true }; senders = c.control_of.new.self }) c.next.new.self
       (subst (λ (next : Option (Control Opened)). Gives next c.args.self.now.inbox c.next.new.self) c.in-Some.is c.next.ensures.gives)
-      refl (keeps-same _ _ c.in-Err-OutOfMemory.ensures.stays) refl;
+      refl (keeps-same _ _ c.in-Err-OutOfMemory.ensures.stays) refl refl;
   lost = λ is. refl;
 }
 
@@ -47,4 +47,4 @@ returns-in-Err-Early-clause-leads g c =
     (record c.args.self.now { inbox = record c.next.new.self { set_aside = Some c.in-Err-Early.order }; senders = c.control_of.new.self }) c.next.new.self
     (subst (λ (next : Option (Control Opened)). Gives next c.args.self.now.inbox c.next.new.self) c.in-Some.is c.next.ensures.gives)
     refl (subst (λ (untaken : Untaken). IsBack c.in-Some.order untaken) c.in-Err-Early.field-0-is c.in-Err-Early.ensures.back) (record { ids = c.in-Err-Early.ensures.stays.ids; input = refl })
-    (keeps-same _ _ c.in-Err-Early.ensures.stays) refl
+    (keeps-same _ _ c.in-Err-Early.ensures.stays) refl refl
