@@ -174,7 +174,7 @@ fn connect_and_run<R: Net + AllocGlobal>(
 }
 
 /// Has reads and writes fail that take so many seconds, and small frames leave at once.
-fn set_patience<S: OpenStream>(stream: &S, patience: u16) -> io::Result<()> {
+pub(crate) fn set_patience<S: OpenStream>(stream: &S, patience: u16) -> io::Result<()> {
     let patience = Duration::from_secs(u64::from(patience));
     stream.set_read_timeout(Some(patience))?;
     stream.set_write_timeout(Some(patience))?;

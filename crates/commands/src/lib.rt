@@ -4,9 +4,10 @@
 //!   input is hexadecimal text. The program hands them its standard input and output.
 //! - `run_case` runs test cases against a server, `run_load` several runs at a time, and `run_self` runs them against a server of
 //!   its own (`client`, `load`, `server`).
+//! - `run_drain` drains a server of its own while a client has a call (`drain`).
 //! - `run_wire` lists wire cases, or runs them against a server (`wire_cases`).
-//! - `serve` serves connections to a port (`server`): `listening` is the port, `port` has the threads, `stream` a connection, `served`
-//!   and `reporter` the report, `log` the log.
+//! - `serve` serves connections to a port (`server`): `listening` is the port, `port` has the threads, `stream` a connection, `stopping`
+//!   how it stops, `served` and `reporter` the report, `log` the log.
 //! - `read_words`, of the crate `words`, reads which of them a command line means.
 //!
 //! Below them:
@@ -20,6 +21,7 @@
 mod body;
 mod call;
 mod client;
+mod drain;
 mod listening;
 mod load;
 mod log;
@@ -30,6 +32,7 @@ mod report;
 mod reporter;
 mod served;
 mod server;
+mod stopping;
 mod stream;
 mod streams;
 mod tally;
@@ -38,6 +41,7 @@ mod wire_cases;
 
 pub use body::{RunFault, run_body};
 pub use client::{PATIENCE, Target, run_all_cases, run_case};
+pub use drain::run_drain;
 pub use listening::listen;
 pub use load::run_load;
 pub use memory::{MemoryInput, MemoryOutput};

@@ -6,6 +6,7 @@
 
 use crate::log::{Logs, ended_of};
 use crate::reporter::Reporter;
+use crate::stopping::Stop;
 use crate::stream::{Ended, serve_stream};
 use handlers::Methods;
 use lane::Bell;
@@ -13,7 +14,7 @@ use std::alloc::{AllocError, Global};
 use std::net::{SocketAddr, TcpListener, TcpStream};
 use std::sync::atomic::{AtomicUsize, Ordering};
 use std::sync::{Arc, Wait};
-use std::thread::Threads;
+use std::thread::{JoinHandle, Threads};
 use std::time::{Clock, Duration};
 use std::{io, thread};
 
@@ -37,6 +38,8 @@ pub struct Service<L> {
     pub reporter: Option<Reporter>,
     /// Where it is told what happens on them, if that is wanted.
     pub log: Option<Arc<L>>,
+    /// How it stops, if it does before the program is interrupted.
+    pub stop: Option<Arc<Stop>>,
 }
 
 /// A port, and how many threads wait for a connection to it, those too that pause before they try again.
@@ -49,17 +52,21 @@ struct Port<L> {
     wanted: Bell,
 }
 
-/// Serves all connections that come.
-pub fn serve_all<R, L>(
+/// Serves connections that come, until the server has stopped, if it does. A thread of its own takes them where it does.
+pub fn serve_port<R, L>(
     rt: R,
     alloc: Global,
     listener: TcpListener,
     service: Service<L>,
-) -> Result<(), AllocError>
+) -> io::Result<()>
 where
     R: Print + Threads + Wait + Clock + Copy + Send + Sync + Drop + 'static,
     L: Logs + Send + Sync + Drop + 'static,
 {
+    let stop = match &service.stop {
+        Some(stop) => Some(Arc::try_clone(stop)?),
+        None => None,
+    };
     let port = Arc::new(
         alloc,
         Port {
@@ -69,11 +76,50 @@ where
             wanted: Bell::new(),
         },
     )?;
+    let Some(stop) = stop else {
+        take_all(rt, alloc, &port);
+        return Ok(());
+    };
+    let connections = stop.connections;
+    let _taking = thread::spawn(&rt, move || match connections {
+        Some(count) => take_some(rt, alloc, &port, count),
+        None => take_all(rt, alloc, &port),
+    })?;
+    stop.wait(&rt);
+    Ok(())
+}
+
+/// The same, in a thread of its own. That none can be made counts as want of memory.
+pub fn serve_apart<R, L>(
+    rt: R,
+    alloc: Global,
+    listener: TcpListener,
+    service: Service<L>,
+) -> Result<JoinHandle<()>, AllocError>
+where
+    R: Print + Threads + Wait + Clock + Copy + Send + Sync + Drop + 'static,
+    L: Logs + Send + Sync + Drop + 'static,
+{
+    let serving = thread::spawn(&rt, move || {
+        let _served = serve_port(rt, alloc, listener, service);
+    });
+    match serving {
+        Ok(thread) => Ok(thread),
+        Err(_refused) => Err(AllocError),
+    }
+}
+
+/// Takes all connections that come.
+fn take_all<R, L>(rt: R, alloc: Global, port: &Arc<Port<L>>)
+where
+    R: Print + Threads + Wait + Clock + Copy + Send + Sync + Drop + 'static,
+    L: Logs + Send + Sync + Drop + 'static,
+{
     for _ in rt.forever() {
         let mark = port.wanted.mark();
         if port.waiting.load(Ordering::SeqCst) >= WAITING {
             port.wanted.wait_past(&rt, mark, Duration::from_secs(LOOK));
-        } else if start(rt, alloc, &port).is_err() {
+        } else if start(rt, alloc, port).is_err() {
             pause(&rt);
         }
     }
@@ -114,11 +160,13 @@ where
             pause(&rt);
             continue;
         };
+        let is_awaited = port.service.note_taken(&rt);
         let before = port.waiting.fetch_sub(1, Ordering::SeqCst);
         if before <= 1 {
             port.wanted.ring();
         }
         let served = serve_one(rt, alloc, &port.service, stream, peer);
+        port.service.note_ended(&rt, is_awaited);
         let waiting = port.waiting.fetch_add(1, Ordering::SeqCst);
         if waiting >= MOST_WAITING {
             port.waiting.fetch_sub(1, Ordering::SeqCst);
@@ -130,84 +178,70 @@ where
     }
 }
 
-/// How many connections are being served, and by what.
-#[derive(Drop)]
-struct Live<L> {
-    service: Service<L>,
-    count: AtomicUsize,
-    /// Rung where one has ended.
-    ended: Bell,
-}
-
-/// Serves so many connections, and returns where all of them have ended.
-pub fn serve_some<R, L>(
-    rt: R,
-    alloc: Global,
-    listener: &TcpListener,
-    service: Service<L>,
-    count: u16,
-) -> Result<(), AllocError>
+/// Takes so many connections. Once the last of them has ended, the server stops.
+fn take_some<R, L>(rt: R, alloc: Global, port: &Arc<Port<L>>, count: u16)
 where
     R: Print + Threads + Wait + Clock + Copy + Send + Sync + Drop + 'static,
     L: Logs + Send + Sync + Drop + 'static,
 {
-    let live = Arc::new(
-        alloc,
-        Live {
-            service,
-            count: AtomicUsize::new(0),
-            ended: Bell::new(),
-        },
-    )?;
     let mut left = count;
     for _ in rt.forever() {
         if left == 0 {
-            break;
+            return;
         }
-        if serve_next(rt, alloc, listener, &live).is_ok() {
+        if serve_next(rt, alloc, port, left == 1).is_ok() {
             left -= 1;
         } else {
             pause(&rt);
         }
     }
-    wait_for_ends(&rt, &live);
-    Ok(())
 }
 
 /// Takes the next connection, and serves it in a thread of its own. One that no thread can be made for is ended.
-fn serve_next<R, L>(
-    rt: R,
-    alloc: Global,
-    listener: &TcpListener,
-    live: &Arc<Live<L>>,
-) -> io::Result<()>
+fn serve_next<R, L>(rt: R, alloc: Global, port: &Arc<Port<L>>, is_last: bool) -> io::Result<()>
 where
     R: Print + Threads + Wait + Clock + Copy + Send + Sync + Drop + 'static,
     L: Logs + Send + Sync + Drop + 'static,
 {
-    let shared = Arc::try_clone(live)?;
-    let (stream, peer) = listener.accept()?;
-    live.count.fetch_add(1, Ordering::SeqCst);
+    let shared = Arc::try_clone(port)?;
+    let (stream, peer) = port.listener.accept()?;
+    let is_awaited = port.service.note_taken(&rt);
     let serving = thread::spawn(&rt, move || {
         let _served = serve_one(rt, alloc, &shared.service, stream, peer);
-        shared.count.fetch_sub(1, Ordering::SeqCst);
-        shared.ended.ring();
+        if is_last {
+            shared.service.stop_all(&rt);
+        }
+        shared.service.note_ended(&rt, is_awaited);
     });
     if serving.is_err() {
-        live.count.fetch_sub(1, Ordering::SeqCst);
+        port.service.note_ended(&rt, is_awaited);
         return Err(io::Error::from(io::ErrorKind::OutOfMemory));
     }
     Ok(())
 }
 
-/// Waits until no connection is being served.
-fn wait_for_ends<R: Wait, L>(rt: &R, live: &Live<L>) {
-    for _ in rt.forever() {
-        let mark = live.ended.mark();
-        if live.count.load(Ordering::SeqCst) == 0 {
-            return;
+impl<L> Service<L> {
+    /// A connection was taken. Whether a server that stops waits for it.
+    fn note_taken(&self, rt: &impl Wait) -> bool {
+        match &self.stop {
+            Some(stop) => stop.take(rt),
+            None => false,
         }
-        live.ended.wait_past(rt, mark, Duration::from_secs(LOOK));
+    }
+
+    /// A connection has ended, and was reported on.
+    fn note_ended(&self, rt: &impl Wait, is_awaited: bool) {
+        match &self.stop {
+            Some(stop) if is_awaited => stop.let_go(rt),
+            _ => {}
+        }
+    }
+
+    /// The server stops, if it can.
+    fn stop_all(&self, rt: &impl Wait) {
+        if let Some(stop) = &self.stop {
+            stop.begin(rt);
+        }
     }
 }
 
@@ -227,7 +261,7 @@ where
         Some(log) => L::begin(log, &rt, alloc, peer),
         None => None,
     };
-    let ended = serve_stream(rt, alloc, stream, &service.methods, &logged);
+    let ended = serve_stream(rt, alloc, stream, &service.methods, &logged, &service.stop);
     if let Some(logged) = &logged {
         logged.end(&rt, how_of(&ended));
     }

@@ -8,12 +8,14 @@ ghost use Rattle.cases.specs.declared.report.Outcome.{Outcome};
 use crate::client::{PATIENCE, Target, run_all_cases};
 use crate::listening::listen;
 use crate::log::Log;
-use crate::port::{Service, serve_all, serve_some};
+use crate::port::{Service, serve_apart, serve_port};
 use crate::reporter::Reporter;
+use crate::stopping::Stop;
 use cases::ReportFault;
-use device::ConnWrite;
+use device::{ConnRead, ConnWrite, Marked};
 use handlers::Methods;
 use std::alloc::Global;
+use std::io::StdinLock;
 use std::net::{Net, TcpListener, TcpStream};
 use std::sync::{Arc, Mutex, Wait};
 use std::thread::Threads;
@@ -23,16 +25,19 @@ use words::{LOOPBACK, ServeWords};
 
 /// Listens where the words say, says where that is, and serves `grpc.testing.TestService`: on all connections that come, by
 /// threads that take one after another, or on as many as the words say, each in a thread of its own. It fails where the port
-/// can't be had.
+/// can't be had. It returns where the server has stopped: behind so many connections, or once standard input has ended, where
+/// the words say so.
 pub fn serve<R>(rt: R, methods: Arc<Methods>, words: ServeWords<'_>) -> io::Result<()>
 where
-    R: Net<Stream = TcpStream, Listener = TcpListener> + Print + Eprint + AllocGlobal,
+    R: Net<Stream = TcpStream, Listener = TcpListener> + Input<Reader = StdinLock<'static>>,
+    R: Print + Eprint + AllocGlobal,
     R: Threads + Wait + Clock + Copy + Send + Sync + Drop + 'static,
 {
     let alloc = rt.alloc();
     let listener = listen(&rt, words.host, words.port)?;
     let address = listener.local_addr()?;
     println!(rt; "listening {address}")?;
+    let stop = stop_of(rt, alloc, words)?;
     let turn = Arc::new(alloc, Mutex::new(()))?;
     let reporter = if words.has_report {
         Some(Reporter::new(alloc, Arc::try_clone(&turn)?))
@@ -44,26 +49,58 @@ where
             methods,
             reporter,
             log: None,
+            stop,
         };
-        return serve_port(rt, alloc, listener, service, words.connections);
+        return serve_port(rt, alloc, listener, service);
     };
     let log = Arc::new(alloc, Log::new(alloc, form, turn))?;
     let service = Service {
         methods,
         reporter,
         log: Some(Arc::try_clone(&log)?),
+        stop,
     };
-    serve_logged(rt, alloc, listener, service, log, words.connections)
+    serve_logged(rt, alloc, listener, service, log)
 }
 
-/// Serves all connections that come, or so many, while a thread of its own prints the lines of their log.
+/// How a server of these words stops, if it does.
+fn stop_of<R>(rt: R, alloc: Global, words: ServeWords<'_>) -> io::Result<Option<Arc<Stop>>>
+where
+    R: Input<Reader = StdinLock<'static>> + Threads + Wait + Copy + Send + Sync + Drop + 'static,
+{
+    if words.connections.is_none() && !words.drains_on_eof {
+        return Ok(None);
+    }
+    let stop = Arc::new(alloc, Stop::new(alloc, words.connections))?;
+    if words.drains_on_eof {
+        let shared = Arc::try_clone(&stop)?;
+        let _reading = thread::spawn(&rt, move || {
+            read_out(&rt);
+            shared.begin(&rt);
+        })?;
+    }
+    Ok(Some(stop))
+}
+
+/// Reads standard input to its end. One that can't be read has ended.
+fn read_out<R: Input<Reader = StdinLock<'static>>>(rt: &R) {
+    let mut input = Marked::new(rt.reader());
+    let mut piece = [0u8; 512];
+    for _ in 0..u64::MAX {
+        match input.read(&mut piece) {
+            Ok(0) | Err(_) => return,
+            Ok(_) => {}
+        }
+    }
+}
+
+/// Serves connections that come, while a thread of its own prints the lines of their log.
 fn serve_logged<R>(
     rt: R,
     alloc: Global,
     listener: TcpListener,
     service: Service<Log>,
     log: Arc<Log>,
-    connections: Option<u16>,
 ) -> io::Result<()>
 where
     R: Print + Threads + Wait + Clock + Copy + Send + Sync + Drop + 'static,
@@ -72,28 +109,10 @@ where
     let printing = thread::spawn(&rt, move || {
         shared.print_all(&rt, alloc);
     })?;
-    let served = serve_port(rt, alloc, listener, service, connections);
+    let served = serve_port(rt, alloc, listener, service);
     log.close();
     let _printed = printing.join(&rt);
     served
-}
-
-/// Serves all connections that come, or so many.
-fn serve_port<R>(
-    rt: R,
-    alloc: Global,
-    listener: TcpListener,
-    service: Service<Log>,
-    connections: Option<u16>,
-) -> io::Result<()>
-where
-    R: Print + Threads + Wait + Clock + Copy + Send + Sync + Drop + 'static,
-{
-    match connections {
-        Some(count) => serve_some(rt, alloc, &listener, service, count)?,
-        None => serve_all(rt, alloc, listener, service)?,
-    }
-    Ok(())
 }
 
 /// Serves the port that is listened on in a thread of its own, runs the fourteen cases against it, prints a line of each,
@@ -119,13 +138,9 @@ where
         methods,
         reporter: None,
         log: None,
+        stop: None,
     };
-    let serving = thread::spawn(&rt, move || {
-        let _ended = serve_all(rt, alloc, listener, service);
-    });
-    if serving.is_err() {
-        return Err(ReportFault::OutOfMemory);
-    }
+    let _serving = serve_apart(rt, alloc, listener, service)?;
     let target = Target {
         host: LOOPBACK,
         port,

@@ -2,7 +2,7 @@ pub mod Body
 pub mod Case
 pub mod Misbehave
 pub mod Options
-pub mod SelfTest
+pub mod OwnServer
 pub mod Serve
 pub mod Wire
 pub mod Words

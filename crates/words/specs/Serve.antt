@@ -1,4 +1,5 @@
--- `serve --port P`, or `serve --any-port`, with `--host H`, `--conns N`, `--report` and `--log`, or `--log json`
+-- `serve --port P`, or `serve --any-port`, with `--host H`, `--conns N`, `--report`, `--log`, or
+-- `--log json`, and `--drain-on-eof`
 use Rattle.std.specs.Prelude.{◌≤◌, ⊤, ℕ, Bool, List, Option, None, Some, [], ◌∷◌, if◌then◌else◌, codes, option_map, option_and_then}
 use Rattle.std.specs.Bool.{then_some}
 use Rattle.std.specs.Option.{option_map_or, option_xor}
@@ -26,13 +27,14 @@ log_option = record (text_option (codes "log")) {
 -- P and N are 1 to 65,535
 abbrev pub serve_command : App
 serve_command =
-    with_rule (with_rule (with_rule (with_rule (with_rule (with_rule (new_app (codes "serve"))
+    with_rule (with_rule (with_rule (with_rule (with_rule (with_rule (with_rule (new_app (codes "serve"))
     (number_option (codes "port") 65535))
     (flag (codes "any-port")))
     host_option)
     (number_option (codes "conns") 65535))
     (flag (codes "report")))
-    log_option
+    log_option)
+    (flag (codes "drain-on-eof"))
 
 -- what a server is told
 pub record Serving : Type 0 where
@@ -41,6 +43,7 @@ pub record Serving : Type 0 where
   pub connections : Option ℕ
   pub has_report : Bool
   pub log : Option LogForm
+  pub drains_on_eof : Bool
 
 abbrev pub serving : ServeWords → Serving
 serving words = record {
@@ -49,6 +52,7 @@ serving words = record {
   connections = words.connections;
   has_report = words.has_report;
   log = words.log;
+  drains_on_eof = words.drains_on_eof;
 }
 
 -- the port that is given, or any: one of the two has to be said, and not both
@@ -72,6 +76,7 @@ serving_of rows = option_and_then (λ port. option_and_then (λ host. option_map
   connections = number_of (codes "conns") 65535 rows;
   has_report = has_flag (codes "report") rows;
   log = log;
+  drains_on_eof = has_flag (codes "drain-on-eof") rows;
 }) (log_of rows)) (text_of (codes "host") rows)) (port_of rows)
 
 -- a port's number is not 0

@@ -8,7 +8,7 @@ use Rattle.clap.specs.Kinds.{Kinds}
 use Rattle.words.specs.Body.{body_command, cut_of}
 use Rattle.words.specs.Case.{Trial, case_command, trial, trial_of}
 use Rattle.words.specs.Misbehave.{IsPlayable, Misbehaving, misbehave_command, misbehaving, misbehaving_of}
-use Rattle.words.specs.SelfTest.{own_port_of, self_command}
+use Rattle.words.specs.OwnServer.{own_command, own_port_of}
 use Rattle.words.specs.Serve.{Serving, IsPort, serve_command, serving, serving_of}
 use Rattle.words.specs.Wire.{Told, told, told_of, wire_command}
 use Rattle.words.specs.Wire as wire
@@ -29,12 +29,13 @@ bare_line = on_top (λ top. record top {
 
 abbrev pub command_line : App
 command_line =
-    with_subcommand (with_subcommand (with_subcommand (with_subcommand (with_subcommand (with_subcommand (with_subcommand bare_line
+    with_subcommand (with_subcommand (with_subcommand (with_subcommand (with_subcommand (with_subcommand (with_subcommand (with_subcommand bare_line
     body_command.top)
     (new_app (codes "parts")).top)
     serve_command.top)
     case_command.top)
-    self_command.top)
+    (own_command (codes "self")).top)
+    (own_command (codes "drain")).top)
     misbehave_command.top)
     wire_command.top
 
@@ -45,6 +46,7 @@ pub data Meaning : Type 0 where
   serve : Serving → Meaning
   try_case : Trial → Meaning
   try_itself : ℕ → Meaning
+  drain : ℕ → Meaning
   misbehave : Misbehaving → Meaning
   try_wire : Told → Meaning
 
@@ -54,6 +56,7 @@ meaning words.Parts = print_parts
 meaning (words.Serve told) = serve (serving told)
 meaning (words.Case told) = try_case (trial told)
 meaning (words.SelfTest port) = try_itself port
+meaning (words.Drain port) = drain port
 meaning (words.Misbehave told) = misbehave (misbehaving told)
 meaning (words.Wire words) = try_wire (told words)
 
@@ -65,6 +68,7 @@ command_of p =
     else if bytes_eq p.0 (codes "serve") then option_map serve (serving_of p.1)
     else if bytes_eq p.0 (codes "case") then option_map try_case (trial_of p.1)
     else if bytes_eq p.0 (codes "self") then option_map try_itself (own_port_of p.1)
+    else if bytes_eq p.0 (codes "drain") then option_map drain (own_port_of p.1)
     else if bytes_eq p.0 (codes "misbehave") then option_map misbehave (misbehaving_of p.1)
     else if bytes_eq p.0 (codes "wire") then option_map try_wire (told_of p.1)
     else None
@@ -91,6 +95,7 @@ IsInRange words.Parts = ⊤
 IsInRange (words.Serve told) = IsPort told.port
 IsInRange (words.Case told) = (1 ≤ told.port) × (1 ≤ told.times) × (1 ≤ told.patience)
 IsInRange (words.SelfTest port) = 1 ≤ port
+IsInRange (words.Drain port) = 1 ≤ port
 IsInRange (words.Misbehave told) = IsPlayable told
 IsInRange (words.Wire words) = wire.IsInRange words
 

@@ -1,8 +1,8 @@
 -- Command lines and what they mean.
-use Rattle.std.specs.Prelude.{◌≡◌, [], ◌∷◌, false, Some, None, codes, refl}
+use Rattle.std.specs.Prelude.{◌≡◌, [], ◌∷◌, false, true, Some, None, codes, refl}
 use Rattle.clap.proofs.OnLiterals.{clap_on_literals}
 use Rattle.words.specs.Wire.{list, run}
-use Rattle.words.specs.Words.{command_meant, meaning_of, print_body, serve, try_case, try_wire}
+use Rattle.words.specs.Words.{command_meant, drain, meaning_of, print_body, serve, try_case, try_wire}
 use Rattle.words.specs.declared.serve.LogForm.TheVariants.{Json, Text as Plain}
 use Rattle.words.specs.declared.serve.Port.TheVariants.{Any, Number}
 
@@ -27,6 +27,7 @@ pub any_port : meaning_of (codes "serve" ∷ codes "--any-port" ∷ codes "--hos
   connections = None;
   has_report = false;
   log = None;
+  drains_on_eof = false;
 }))
 unfolding clap_on_literals command_meant
 any_port = refl
@@ -37,6 +38,7 @@ pub bare_log : meaning_of (codes "serve" ∷ codes "--log" ∷ codes "--port" �
   connections = None;
   has_report = false;
   log = Some Plain;
+  drains_on_eof = false;
 }))
 unfolding clap_on_literals command_meant
 bare_log = refl
@@ -47,6 +49,7 @@ pub log_of_objects : meaning_of (codes "serve" ∷ codes "--any-port" ∷ codes 
   connections = None;
   has_report = false;
   log = Some Json;
+  drains_on_eof = false;
 }))
 unfolding clap_on_literals command_meant
 log_of_objects = refl
@@ -54,6 +57,17 @@ log_of_objects = refl
 pub log_of_no_form : meaning_of (codes "serve" ∷ codes "--any-port" ∷ codes "--log" ∷ codes "xml" ∷ []) ≡ None
 unfolding clap_on_literals command_meant
 log_of_no_form = refl
+
+pub drained_at_the_end : meaning_of (codes "serve" ∷ codes "--drain-on-eof" ∷ codes "--any-port" ∷ []) ≡ Some (serve (record {
+  host = codes "127.0.0.1";
+  port = Any;
+  connections = None;
+  has_report = false;
+  log = None;
+  drains_on_eof = true;
+}))
+unfolding clap_on_literals command_meant
+drained_at_the_end = refl
 
 pub two_ports : meaning_of (codes "serve" ∷ codes "--port" ∷ codes "5" ∷ codes "--any-port" ∷ []) ≡ None
 unfolding clap_on_literals command_meant
@@ -70,6 +84,10 @@ pub flags_of_grpc : meaning_of (codes "case" ∷ codes "--server_host=localhost"
     }))
 unfolding clap_on_literals command_meant
 flags_of_grpc = refl
+
+pub own_port : meaning_of (codes "drain" ∷ []) ≡ Some (drain 50051)
+unfolding clap_on_literals command_meant
+own_port = refl
 
 pub port_twice : meaning_of (codes "self" ∷ codes "--port=5" ∷ codes "--port=6" ∷ []) ≡ None
 unfolding clap_on_literals command_meant

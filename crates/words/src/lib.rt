@@ -2,8 +2,8 @@
 //!
 //! `read_words` reads them by `clap`; its contract is `clap`'s meaning of the command line that `specs/Words.antt` defines.
 //!
-//! - `body`, `serve`, `case`, `self_test`, `misbehave`, `wire`: a file for each command that has options: the options, and what is
-//!   read of them.
+//! - `body`, `serve`, `case`, `own_server`, `misbehave`, `wire`: a file for the commands of a kind that have options: the options,
+//!   and what is read of them.
 //! - `read`: all commands, and `read_words`. A further command has a file of its own, a variant of `Words`, and a line each
 //!   in `COMMANDS`, `command_line` and `command_of`.
 //! - `options`: the kinds of option.
@@ -14,9 +14,9 @@ mod body;
 mod case;
 mod misbehave;
 mod options;
+mod own_server;
 mod read;
 mod reason;
-mod self_test;
 mod serve;
 mod wire;
 

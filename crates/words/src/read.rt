@@ -7,8 +7,8 @@ ghost use Rattle.words.specs.declared.read.WordsFault.TheVariants.{OutOfMemory};
 use crate::body::{body_command, cut_of};
 use crate::case::{CaseWords, case_command, trial_of};
 use crate::misbehave::{MisbehaveWords, misbehave_command, misbehaving_of};
+use crate::own_server::{own_command, own_port_of};
 use crate::reason::{Reason, reason_of};
-use crate::self_test::{own_port_of, self_command};
 use crate::serve::{ServeWords, serve_command, serving_of};
 use crate::wire::{WireWords, wire_command, wire_of};
 use clap::error::ErrorKind;
@@ -16,9 +16,10 @@ use clap::{ArgMatches, Command};
 use std::alloc::{AllocError, Global};
 
 /// The names of the commands.
-pub const COMMANDS: [&str; 7] = [
+pub const COMMANDS: [&str; 8] = [
     "body",
     "case",
+    "drain",
     "misbehave",
     "parts",
     "self",
@@ -39,6 +40,8 @@ pub enum Words<'a> {
     Case(CaseWords<'a>),
     /// Run all test cases against a server of its own, on this port.
     SelfTest(u16),
+    /// Drain a server of its own on this port, while a client has a call.
+    Drain(u16),
     /// Misbehave as a server.
     Misbehave(MisbehaveWords<'a>),
     /// Run wire cases against a server, or list them.
@@ -97,7 +100,8 @@ pub(crate) fn command_line<'a>(alloc: Global) -> Result<Command<'a>, AllocError>
         .subcommand(Command::new(alloc, "parts"))?
         .subcommand(serve_command(alloc)?)?
         .subcommand(case_command(alloc)?)?
-        .subcommand(self_command(alloc)?)?
+        .subcommand(own_command(alloc, "self")?)?
+        .subcommand(own_command(alloc, "drain")?)?
         .subcommand(misbehave_command(alloc)?)?
         .subcommand(wire_command(alloc)?)
 }
@@ -113,6 +117,7 @@ fn command_of<'a>(name: &str, options: &ArgMatches<'a>) -> Option<Words<'a>>
         "serve" => Some(Words::Serve(serving_of(options)?)),
         "case" => Some(Words::Case(trial_of(options)?)),
         "self" => Some(Words::SelfTest(own_port_of(options)?)),
+        "drain" => Some(Words::Drain(own_port_of(options)?)),
         "misbehave" => Some(Words::Misbehave(misbehaving_of(options)?)),
         "wire" => Some(Words::Wire(wire_of(options)?)),
         _ => None,

@@ -5,7 +5,7 @@
 
 use crate::read::{COMMANDS, command_line};
 use crate::serve::form_of;
-use crate::{body, case, misbehave, self_test, serve, wire};
+use crate::{body, case, misbehave, own_server, serve, wire};
 use clap::builder::ValueParser;
 use clap::{Arg, ArgAction, Command};
 use std::alloc::{AllocError, Global};
@@ -65,7 +65,7 @@ fn takes(command: &str) -> &'static str {
         "body" => body::TAKES,
         "case" => case::TAKES,
         "misbehave" => misbehave::TAKES,
-        "self" => self_test::TAKES,
+        "self" | "drain" => own_server::TAKES,
         "serve" => serve::TAKES,
         "wire" => wire::TAKES,
         _ => "no words",

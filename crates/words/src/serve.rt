@@ -1,4 +1,5 @@
-//! `serve --port P`, or `serve --any-port`, with `--host H`, `--conns N`, `--report` and `--log`, or `--log json`.
+//! `serve --port P`, or `serve --any-port`, with `--host H`, `--conns N`, `--report`, `--log`, or `--log json`, and
+//! `--drain-on-eof`.
 
 ghost use Rattle.std.specs.Prelude.{◌≡◌, ◌≤◌, false, IfOk, IfSome, option_map};
 ghost use Rattle.clap.specs.Words.{app_of, found_of, rows_of};
@@ -41,11 +42,13 @@ pub struct ServeWords<'a> {
     pub has_report: bool,
     /// How it tells what happens, as it does, if it does.
     pub log: Option<LogForm>,
+    /// Whether it drains its connections, and ends, where standard input closes.
+    pub drains_on_eof: bool,
 }
 
 /// The words that it takes.
 pub(crate) const TAKES: &str =
-    "--port P or --any-port, --host H, --conns N, --report, --log [text|json]";
+    "--port P or --any-port, --host H, --conns N, --report, --log [text|json], --drain-on-eof";
 
 // `--host H`.
 fn host_option<'a>(alloc: Global) -> Arg<'a>
@@ -70,13 +73,15 @@ pub(crate) fn serve_command<'a>(alloc: Global) -> Result<Command<'a>, AllocError
     let any_port = flag(alloc, "any-port");
     let connections = number_option(alloc, "conns", "a number of connections, 1 to 65535");
     let report = flag(alloc, "report");
+    let drains = flag(alloc, "drain-on-eof");
     Command::new(alloc, "serve")
         .arg(port)?
         .arg(any_port)?
         .arg(host_option(alloc))?
         .arg(connections)?
         .arg(report)?
-        .arg(log_option(alloc))
+        .arg(log_option(alloc))?
+        .arg(drains)
 }
 
 // The port that is given, or any: one of the two has to be said, and not both.
@@ -125,5 +130,6 @@ pub(crate) fn serving_of<'a>(options: &ArgMatches<'a>) -> Option<ServeWords<'a>>
         connections: small_number_of(options, "conns"),
         has_report: has_flag(options, "report"),
         log,
+        drains_on_eof: has_flag(options, "drain-on-eof"),
     })
 }

@@ -8,7 +8,8 @@ returns c =
     let parts = with_command _ _ _ _ _ c.in_ok-subcommand-2.ensures body (is_command _ _ c.new.ensures.app c.new.ensures.local) in
     let serve = with_command _ _ _ _ _ c.in_ok-subcommand-3.ensures parts c.in_ok-serve_command.ensures in
     let case = with_command _ _ _ _ _ c.in_ok-subcommand-4.ensures serve c.in_ok-case_command.ensures in
-    let own = with_command _ _ _ _ _ c.in_ok-subcommand-5.ensures case c.in_ok-self_command.ensures in
-    let misbehave = with_command _ _ _ _ _ c.in_ok-subcommand-6.ensures own c.in_ok-misbehave_command.ensures in
-    IfOk-weaker c.subcommand-7.result _ _ (λ command added.
-    with_command _ _ _ _ _ added misbehave c.in_ok-wire_command.ensures) c.subcommand-7.ensures
+    let own = with_command _ _ _ _ _ c.in_ok-subcommand-5.ensures case c.in_ok-own_command.ensures in
+    let drain = with_command _ _ _ _ _ c.in_ok-subcommand-6.ensures own c.in_ok-own_command-2.ensures in
+    let misbehave = with_command _ _ _ _ _ c.in_ok-subcommand-7.ensures drain c.in_ok-misbehave_command.ensures in
+    IfOk-weaker c.subcommand-8.result _ _ (λ command added.
+    with_command _ _ _ _ _ added misbehave c.in_ok-wire_command.ensures) c.subcommand-8.ensures

@@ -1,0 +1,207 @@
+//! The command `drain`: a server is drained while a client has a call, in one process (RFC 9113, section 6.8).
+//!
+//! The caller's thread is the client. Once it has read the first reply it stops the server, whose connection is drained by a thread of
+//! its own, and goes on behind that. Another takes that connection, and reads it; others write it and answer its call.
+
+ghost use Rattle.std.specs.Prelude.{◌≡◌, ◌++◌, List, Result, is_ok, IfOk, OnOk};
+ghost use Rattle.std.specs.Io.KnownBytes.{Appends};
+ghost use Rattle.cases.specs.declared.fault.CaseFault.{CaseFault as Fault};
+ghost use Rattle.commands.specs.Drain.{drain_report, goaway_line, goaway_lines};
+ghost use Rattle.commands.specs.declared.drain.Goaway.{Goaway as Seen};
+
+use crate::client::{PATIENCE, set_patience};
+use crate::log::Log;
+use crate::port::{Service, serve_apart};
+use crate::stopping::Stop;
+use cases::{CaseFault, ReportFault, print_line};
+use device::{ConnWrite, Marked, write_all};
+use h2frame::{Frame, FrameKind, FrameReader, StreamId};
+use handlers::Methods;
+use std::alloc::{AllocError, Global};
+use std::io;
+use std::io::{Read, Write};
+use std::net::{Net, TcpListener, TcpStream};
+use std::sync::{Arc, Wait};
+use std::thread::Threads;
+use std::time::Clock;
+use words::LOOPBACK;
+
+/// What the client runs: one call, of four messages, each with its reply.
+const CASE: &str = "ping_pong";
+
+/// The stream of its call.
+const CALL: StreamId = 1;
+
+/// What a GOAWAY says.
+#[derive(Clone, Copy, Debug, PartialEq, Eq)]
+pub struct Goaway {
+    pub last: StreamId,
+    pub code: u32,
+}
+
+/// The client's connection. What is read of it is looked at: GOAWAYs are kept, and the first reply stops the server.
+#[derive(Drop)]
+struct Watched<R> {
+    rt: R,
+    stream: TcpStream,
+    stop: Arc<Stop>,
+    frames: FrameReader,
+    goaways: Vec<Goaway>,
+    has_stopped: bool,
+}
+
+/// Serves one connection to the port that is listened on, runs a case over it, and drains it behind the first reply. It prints the
+/// GOAWAYs that the client read, and the case's line, and answers whether the case passed.
+pub fn run_drain<R, W>(
+    rt: R,
+    methods: Arc<Methods>,
+    listener: TcpListener,
+    port: u16,
+    output: &mut W,
+) -> Result<bool, ReportFault>
+where
+    W: ConnWrite,
+    R: Net<Stream = TcpStream, Listener = TcpListener> + Print + Eprint + AllocGlobal,
+    R: Threads + Wait + Clock + Copy + Send + Sync + Drop + 'static,
+    ensures { IfOk result (λ passed. (goaways : List Seen) × (answer : Result (Unit {0}) Fault)
+        × Appends (W.contents output.old) (W.contents output.new) (drain_report goaways answer)
+        × (passed ≡ is_ok answer)) }
+{
+    let alloc = rt.alloc();
+    let stop = Arc::new(alloc, Stop::new(alloc, Some(1)))?;
+    let Ok(stream) = connect(&rt, port) else {
+        return Err(ReportFault::OutOfMemory);
+    };
+    let service: Service<Log> = Service {
+        methods,
+        reporter: None,
+        log: None,
+        stop: Some(Arc::try_clone(&stop)?),
+    };
+    let serving = serve_apart(rt, alloc, listener, service)?;
+    let (answer, goaways) = run_client(rt, alloc, stream, stop);
+    serving.join(&rt);
+    print_drain(alloc, goaways.as_slice(), answer, output)?;
+    Ok(answer.is_ok())
+}
+
+/// Runs the case over this connection, closes it, and answers what came of it, and the GOAWAYs that were read.
+fn run_client<R: Wait + Eprint + Copy + Drop>(
+    rt: R,
+    alloc: Global,
+    stream: TcpStream,
+    stop: Arc<Stop>,
+) -> (Result<(), CaseFault>, Vec<Goaway>) {
+    let mut watched = Watched {
+        rt,
+        stream,
+        stop,
+        frames: FrameReader::new(alloc),
+        goaways: Vec::new(alloc),
+        has_stopped: false,
+    };
+    let mut notes = String::new(alloc);
+    let answer = cases::run_case(alloc, CASE, Marked::new(&mut watched), &mut notes);
+    let Watched { rt, goaways, .. } = watched;
+    if answer.is_err() {
+        // The line that is printed tells of the fault even where nothing can be said here.
+        let _said = eprint!(rt; "{notes}");
+    }
+    (answer, goaways)
+}
+
+/// A connection to the port, whose reads and writes fail in time.
+fn connect<R: Net<Stream = TcpStream>>(rt: &R, port: u16) -> io::Result<TcpStream> {
+    let stream = TcpStream::connect(rt, (LOOPBACK, port))?;
+    set_patience(&stream, PATIENCE)?;
+    Ok(stream)
+}
+
+/// Prints a line of each GOAWAY, and that of the case.
+fn print_drain<W: ConnWrite>(
+    alloc: Global,
+    goaways: &[Goaway],
+    answer: Result<(), CaseFault>,
+    output: &mut W,
+) -> Result<(), ReportFault>
+    ensures { OnOk result (Appends (W.contents output.old) (W.contents output.new)
+        (drain_report goaways.now answer)) }
+{
+    let text = goaway_lines(alloc, goaways)?;
+    write_all(output, text.as_slice())?;
+    print_line(alloc, CASE, answer, output)
+}
+
+fn goaway_lines(alloc: Global, goaways: &[Goaway]) -> Result<Vec<u8>, AllocError>
+    ensures { IfOk result (λ text. text.items ≡ goaway_lines goaways.now) }
+{
+    let mut text = Vec::new(alloc);
+    for goaway in goaways {
+        push_goaway(&mut text, *goaway)?;
+    }
+    Ok(text)
+}
+
+fn push_goaway(text: &mut Vec<u8>, goaway: Goaway) -> Result<(), AllocError>
+    ensures { OnOk result (text.new.items ≡ text.old.items ++ goaway_line goaway) }
+{
+    let Goaway { last, code } = goaway;
+    writeln!(text, "goaway {last} {code}").map_err(|_| AllocError)
+}
+
+impl<R: Wait> Watched<R> {
+    /// Looks at what was read. Behind bytes that are no frames it sees nothing more: the case itself judges them.
+    fn look(&mut self, bytes: &[u8]) -> Result<(), AllocError> {
+        if self.frames.feed(bytes).is_err() {
+            return Ok(());
+        }
+        for _ in 0..u64::MAX {
+            match self.frames.next() {
+                Some(Ok(frame)) => self.see(&frame)?,
+                Some(Err(_)) | None => return Ok(()),
+            }
+        }
+        Ok(())
+    }
+
+    fn see(&mut self, frame: &Frame) -> Result<(), AllocError> {
+        match frame.head.kind {
+            FrameKind::GoAway => self.goaways.push(goaway_of(frame.content.as_slice()))?,
+            FrameKind::Data if frame.head.stream == CALL && !self.has_stopped => {
+                self.has_stopped = true;
+                self.stop.begin(&self.rt);
+            }
+            _ => {}
+        }
+        Ok(())
+    }
+}
+
+/// What a GOAWAY of this content says (RFC 9113, section 6.8).
+fn goaway_of(content: &[u8]) -> Goaway {
+    match content {
+        [a, b, c, d, e, f, g, h, ..] => Goaway {
+            last: u32::from_be_bytes([*a, *b, *c, *d]) & 0x7fff_ffff,
+            code: u32::from_be_bytes([*e, *f, *g, *h]),
+        },
+        _ => Goaway { last: 0, code: 0 },
+    }
+}
+
+impl<R: Wait> Read for Watched<R> {
+    fn read(&mut self, buf: &mut [u8]) -> io::Result<usize> {
+        let count = self.stream.read(buf)?;
+        self.look(buf.get(..count).unwrap_or(b"".as_slice()))?;
+        Ok(count)
+    }
+}
+
+impl<R: Wait> Write for Watched<R> {
+    fn write(&mut self, buf: &[u8]) -> io::Result<usize> {
+        self.stream.write(buf)
+    }
+
+    fn flush(&mut self) -> io::Result<()> {
+        self.stream.flush()
+    }
+}
