@@ -1,15 +1,21 @@
 //! A call doesn't wait for another: three calls of one connection, of which a gate holds the first back until the second was answered.
+//! And calls are answered whenever their connection is drained.
+
+ghost use Rattle.std.specs.Prelude.{◌≡◌, ◌<◌};
 
 use commands::{MemoryInput, MemoryOutput, run_parts};
-use connection::Gate;
+use connection::{Drainer, Ending, Gate, Served, serve_connection};
 use device::Marked;
 use h2frame::StreamId;
 use handlers::{EmptyCall, Method, Methods, StreamingInputCall, UnaryCall};
 use lane::Bell;
 use std::alloc::{AllocError, Global};
+use std::marker::Brand;
 use std::sync::atomic::{AtomicBool, AtomicU32, Ordering};
+use std::sync::ledger::{Blank, Ledger};
 use std::sync::{Arc, Wait};
 use std::test::Fail;
+use std::thread;
 use std::thread::Threads;
 use std::time::{Clock, Duration};
 
@@ -194,5 +200,136 @@ fn a_worker_that_is_kept_holds_no_other_call_back(rt: HostRuntime) -> Result<(),
     let theirs = Arc::try_clone(&gate)?;
     assert!(rt; are_answered(rt, rt.alloc(), theirs)?);
     assert!(rt; gate.turns.load(Ordering::SeqCst) < MOST);
+    Ok(())
+}
+
+/// At one of its turns another thread drains the connection, and the turn waits for that.
+#[derive(Drop)]
+struct Draining<R: Wait + Drop> {
+    rt: R,
+    /// How many turns were before that one.
+    at: u32,
+    turns: AtomicU32,
+    is_wanted: AtomicBool,
+    is_drained: AtomicBool,
+    /// Rung where a drain is wanted, and where it is done.
+    bell: Bell,
+}
+
+impl<R: Wait + Drop> Draining<R> {
+    fn new(rt: R, at: u32) -> Draining<R> {
+        Draining {
+            rt,
+            at,
+            turns: AtomicU32::new(0),
+            is_wanted: AtomicBool::new(false),
+            is_drained: AtomicBool::new(false),
+            bell: Bell::new(),
+        }
+    }
+
+    /// Waits until this is set.
+    fn wait_for(&self, is_set: &AtomicBool) {
+        for _ in 0..MOST {
+            let mark = self.bell.mark();
+            if is_set.load(Ordering::SeqCst) {
+                return;
+            }
+            self.bell
+                .wait_past(&self.rt, mark, Duration::from_millis(1));
+        }
+    }
+
+    fn set(&self, flag: &AtomicBool) {
+        flag.store(true, Ordering::SeqCst);
+        self.bell.ring();
+    }
+}
+
+impl<R: Wait + Drop> Gate for Draining<R> {
+    fn may_go(&self, _id: StreamId) -> bool {
+        if self.turns.fetch_add(1, Ordering::SeqCst) == self.at {
+            self.set(&self.is_wanted);
+            self.wait_for(&self.is_drained);
+        }
+        true
+    }
+
+    fn trailers_written(&self, _id: StreamId) {}
+
+    fn writing_ended(&self) {}
+}
+
+/// The three calls over these ledgers, while another thread drains their connection at the gate's turn, or else behind them.
+fn serve_drained<A, B, C, R>(
+    rt: R,
+    alloc: Global,
+    blanks: (Blank, Blank, Blank),
+    methods: Arc<Methods>,
+    gate: &Arc<Draining<R>>,
+) -> Result<Served<Marked<MemoryOutput>>, Fail>
+where
+    A: Ledger + Send + Sync + 'static,
+    B: Ledger + Send + Sync + 'static,
+    C: Ledger + Send + Sync + 'static,
+    R: Threads + Wait + Clock + Copy + Send + Sync + Drop + 'static,
+    requires received { (blanks.0.name ≡ A.name) × (blanks.0.parts ≡ A.parts) × (0 < A.parts) }
+    requires admitted { (blanks.1.name ≡ B.name) × (blanks.1.parts ≡ B.parts) × (0 < B.parts) }
+    requires announced { (blanks.2.name ≡ C.name) × (blanks.2.parts ≡ C.parts) × (0 < C.parts) }
+{
+    let bytes = hex::decode(alloc, three_calls(alloc)?.as_str())
+        .ok()
+        .ok_or("no bytes")?;
+    let mut input = Marked::new(MemoryInput::new(bytes));
+    let output = Marked::new(MemoryOutput {
+        bytes: Vec::new(alloc),
+    });
+    let (drainer, seat) = Drainer::<A, B, C>::new(alloc, blanks)?;
+    let (theirs, ours) = (Arc::try_clone(gate)?, Arc::try_clone(gate)?);
+    let draining = thread::spawn(&rt, move || {
+        theirs.wait_for(&theirs.is_wanted);
+        drainer.drain(&rt);
+        theirs.set(&theirs.is_drained);
+    });
+    let draining = draining.ok().ok_or("no thread")?;
+    let served = serve_connection(rt, alloc, &mut input, output, methods, ours, seat);
+    gate.set(&gate.is_wanted);
+    draining.join(&rt);
+    Ok(served)
+}
+
+/// Whether the gate had so many turns. Each call that was admitted is answered, wherever the drain came.
+fn is_drained_at<R>(rt: R, alloc: Global, at: u32) -> Result<bool, Fail>
+where
+    R: Threads + Wait + Clock + Copy + Send + Sync + Drop + 'static,
+{
+    let mut methods: Vec<Box<dyn Method>> = Vec::new(alloc);
+    methods.push(Box::new(alloc, EmptyCall)?)?;
+    methods.push(Box::new(alloc, StreamingInputCall)?)?;
+    methods.push(Box::new(alloc, UnaryCall)?)?;
+    let methods = Arc::new(alloc, Methods::new(methods))?;
+    let gate = Arc::new(alloc, Draining::new(rt, at))?;
+    let blanks = (Blank::new(1), Blank::new(1), Blank::new(1));
+    let Served { ending, calls, .. } = serve_drained::<Brand, Brand, Brand, R>(
+        rt, alloc, blanks, methods, &gate,
+    )?;
+    let has_ended = matches!(ending, Ending::InputEnded | Ending::Drained);
+    let are_answered = calls
+        .iter()
+        .all(|call| call.trailers_sent && call.status == Some(0));
+    (has_ended && are_answered)
+        .then_some(())
+        .ok_or("a call isn't answered")?;
+    Ok(gate.turns.load(Ordering::SeqCst) > at)
+}
+
+#[test]
+fn calls_are_answered_whenever_their_connection_is_drained(rt: HostRuntime) -> Result<(), Fail> {
+    for at in 0..MOST {
+        if !is_drained_at(rt, rt.alloc(), at)? {
+            assert!(rt; at >= 3);
+            return Ok(());
+        }
+    }
     Ok(())
 }

@@ -1,12 +1,13 @@
 //! The program `interop`: the gRPC interop test server, and the client that tries such a server.
 //!
-//! It has seven commands:
+//! It has eight commands:
 //!
 //! - `interop serve --port P` serves `grpc.testing.TestService` on a port of this machine.
 //! - `interop misbehave NAME --port P` misbehaves as a server, and says whether the client does right.
 //! - `interop case NAME --port P` runs test cases as a client, against whatever server listens there.
 //! - `interop wire CASES --port P` sends a server what no client should, and judges what it answers.
 //! - `interop self` runs the test cases against a server of its own.
+//! - `interop drain` drains a server of its own while a client has a call.
 //! - `interop parts` serves the bytes of one connection, read as hexadecimal text, and prints what they are answered with.
 //! - `interop body --cut N` reads the joined DATA bytes of one call as hexadecimal text, takes them in pieces of N bytes, and
 //!   prints the messages that they spell (gRPC over HTTP/2, "Length-Prefixed-Message"), then the end or the fault. It reads all of
@@ -25,7 +26,7 @@ mod misbehaving;
 
 use commands::{
     CaseWords, Reason, RunFault, ServeWords, WireFault, WireWords, Words, WordsFault, listen,
-    read_words, run_body, run_case, run_load, run_parts, run_self, run_wire, serve,
+    read_words, run_body, run_case, run_drain, run_load, run_parts, run_self, run_wire, serve,
 };
 use connection::OpenGate;
 use device::Marked;
@@ -34,7 +35,7 @@ use handlers::{
     StreamingInputCall, StreamingOutputCall, UnaryCall,
 };
 use std::alloc::{AllocError, Global};
-use std::io::ErrorKind;
+use std::io::{ErrorKind, StdinLock};
 use std::net::{Net, TcpListener, TcpStream};
 use std::process::ExitCode;
 use std::rt::{Env, Files};
@@ -57,11 +58,12 @@ The gRPC interop test server's program.
 
 Usage: interop [body --cut N]
        interop case NAME --port P [--host H] [--times N] [--streams K] [--timeout S]
+       interop drain [--port P]
        interop misbehave (NAME --port P [--timeout S] | --list)
        interop parts
        interop self [--port P]
        interop serve (--port P | --any-port) [--host H] [--conns N] [--report]
-                     [--log [text | json]]
+                     [--log [text | json]] [--drain-on-eof]
        interop wire (all | GROUP | GROUP/N) --port P [--host H] [--silence S] [--verbose]
                     [--json FILE]
        interop wire --list
@@ -77,6 +79,9 @@ Usage: interop [body --cut N]
                  tells within which times 50 and 99 of 100 ended. A read or a write that takes S
                  seconds (10 if not given) fails. The flags of gRPC's own
                  clients do too: --test_case=NAME --server_host=H --server_port=P --use_tls=false
+  drain          serve on port P of 127.0.0.1 (50051 if none is given), run ping_pong against this
+                 server, drain the server behind the first reply, and print the GOAWAYs that
+                 came (last stream and error) and a line of the case
   misbehave NAME misbehave as a server on port P of 127.0.0.1 in the way of this name, or in all ways,
                  each on the next port, where NAME is all, and print whether the client does right;
                  it ends when the client has gone, or after S seconds (30 if not given); with --list
@@ -90,7 +95,9 @@ Usage: interop [body --cut N]
                  were served; the line listening HOST:PORT tells where; with --report print a
                  line of each connection that ends, and of each call on it; with --log print at
                  once what happens, and why: a line as each call, stream and connection ends, and
-                 where a call waits; with --log json an object of JSON for each
+                 where a call waits; with --log json an object of JSON for each. With
+                 --drain-on-eof it ends once standard input has: calls that began are answered,
+                 others refused, and so where the last of N connections has ended
   wire           send the server at port P of H what no real client would, judge what it answers
                  by RFC 9113, RFC 7541 and gRPC, and print a line of each case: of all, of a
                  group (start, conn, hpack, stream, flow, control, grpc), or of one, as grpc/4.
@@ -181,12 +188,14 @@ enum Server<'a> {
     Parts,
     Serve(ServeWords<'a>),
     SelfTest(u16),
+    Drain(u16),
 }
 
 // Does what a command says over the methods of `grpc.testing.TestService`, and answers the exit status.
 fn obey_server<R>(rt: R, server: Server<'_>) -> Result<u8, AllocError>
 where
-    R: Net<Stream = TcpStream, Listener = TcpListener> + Input + Print + Eprint + AllocGlobal,
+    R: Net<Stream = TcpStream, Listener = TcpListener> + Input<Reader = StdinLock<'static>>,
+    R: Print + Eprint + AllocGlobal,
     R: Threads + Wait + Clock + Copy + Send + Sync + Drop + 'static,
 {
     let alloc = rt.alloc();
@@ -203,13 +212,15 @@ where
         Server::Parts => print_parts(rt, methods),
         Server::Serve(words) => serve_all(rt, methods, words),
         Server::SelfTest(port) => try_cases(rt, methods, port),
+        Server::Drain(port) => try_drain(rt, methods, port),
     })
 }
 
 // Serves `grpc.testing.TestService`, and answers the exit status.
 fn serve_all<R>(rt: R, methods: Arc<Methods>, words: ServeWords<'_>) -> u8
 where
-    R: Net<Stream = TcpStream, Listener = TcpListener> + Print + Eprint + AllocGlobal,
+    R: Net<Stream = TcpStream, Listener = TcpListener> + Input<Reader = StdinLock<'static>>,
+    R: Print + Eprint + AllocGlobal,
     R: Threads + Wait + Clock + Copy + Send + Sync + Drop + 'static,
 {
     match serve(rt, methods, words) {
@@ -229,6 +240,23 @@ where
     };
     let mut output = Marked::new(io::writer(&rt));
     match run_self(rt, methods, listener, port, &mut output) {
+        Ok(true) => 0,
+        Ok(false) => CASE_FAILED,
+        Err(_) => FAILED,
+    }
+}
+
+// Drains a server of its own while a client has a call, and answers the exit status.
+fn try_drain<R>(rt: R, methods: Arc<Methods>, port: u16) -> u8
+where
+    R: Net<Stream = TcpStream, Listener = TcpListener> + Print + Eprint + AllocGlobal,
+    R: Threads + Wait + Clock + Copy + Send + Sync + Drop + 'static,
+{
+    let Ok(listener) = listen(&rt, LOOPBACK, Port::Number(port)) else {
+        return FAILED;
+    };
+    let mut output = Marked::new(io::writer(&rt));
+    match run_drain(rt, methods, listener, port, &mut output) {
         Ok(true) => 0,
         Ok(false) => CASE_FAILED,
         Err(_) => FAILED,
@@ -266,7 +294,8 @@ where
 // Does what the words after the program's name say, and answers the exit status.
 fn obey<R>(rt: &R, words: &[String]) -> u8
 where
-    R: Net<Stream = TcpStream, Listener = TcpListener> + Input + Print + Eprint + AllocGlobal,
+    R: Net<Stream = TcpStream, Listener = TcpListener> + Input<Reader = StdinLock<'static>>,
+    R: Print + Eprint + AllocGlobal,
     R: Threads + Wait + Clock + Copy + Send + Sync + Drop + 'static,
     R: Files,
 {
@@ -286,7 +315,8 @@ where
 // Does what the words mean, and answers the exit status.
 fn obey_words<R>(rt: &R, words: Words<'_>) -> Result<u8, AllocError>
 where
-    R: Net<Stream = TcpStream, Listener = TcpListener> + Input + Print + Eprint + AllocGlobal,
+    R: Net<Stream = TcpStream, Listener = TcpListener> + Input<Reader = StdinLock<'static>>,
+    R: Print + Eprint + AllocGlobal,
     R: Threads + Wait + Clock + Copy + Send + Sync + Drop + 'static,
     R: Files,
     requires { IsInRange words }
@@ -297,6 +327,7 @@ where
         Words::Parts => obey_server(*rt, Server::Parts),
         Words::Serve(words) => obey_server(*rt, Server::Serve(words)),
         Words::SelfTest(port) => obey_server(*rt, Server::SelfTest(port)),
+        Words::Drain(port) => obey_server(*rt, Server::Drain(port)),
         Words::Misbehave(words) => Ok(misbehaving::obey_misbehave(*rt, words)),
         Words::Wire(words) => Ok(try_wire(rt, words)),
     }
