@@ -48,49 +48,68 @@ fn account_of_ends<I: Lane<Item = InPiece>, O: Lane<Item = OutItem>>(
     })
 }
 
-/// The accounts that a row's events make, each with the name of the way.
-fn accounts_of(alloc: Global, events: &[CallEvent]) -> Result<[(&'static str, Account); 3]> {
-    let ring = account_of_ends::<RingLane<InPiece>, RingLane<OutItem>>(alloc, events)?;
-    let row = account_of_ends::<RowLane<InPiece>, RowLane<OutItem>>(alloc, events)?;
-    let serial = replay(alloc, events)?;
-    Ok([("serial", serial), ("ring", ring), ("row", row)])
+/// The text of the account that events make through the serial core, and of that over rings or over rows of cells.
+fn serial_text(alloc: Global, events: &[CallEvent]) -> Result<String> {
+    let account = replay(alloc, events)?;
+    text_of(alloc, &account)
+}
+
+fn ring_text(alloc: Global, events: &[CallEvent]) -> Result<String> {
+    let account = account_of_ends::<RingLane<InPiece>, RingLane<OutItem>>(alloc, events)?;
+    text_of(alloc, &account)
+}
+
+fn row_text(alloc: Global, events: &[CallEvent]) -> Result<String> {
+    let account = account_of_ends::<RowLane<InPiece>, RowLane<OutItem>>(alloc, events)?;
+    text_of(alloc, &account)
 }
 
 /// Runs one row, and says whether each way made the wanted account.
 fn is_met(rt: &(impl Print + AllocGlobal), row: &str, place: &str) -> Result<bool> {
-    let alloc = rt.alloc();
     let (events, wanted) = row.split_once("=>").context("no `=>`")?;
-    let events = events_of(alloc, events)?;
-    let mut is_met = true;
-    for (way, account) in accounts_of(alloc, events.as_slice())? {
-        let got = text_of(alloc, &account)?;
-        if got.as_str() != wanted.trim() {
-            println!(rt; "{place}, {way}\n  wanted {}\n  got {got}", wanted.trim())?;
-            is_met = false;
-        }
+    let wanted = wanted.trim();
+    let events = events_of(rt.alloc(), events)?;
+    let serial = serial_text(rt.alloc(), events.as_slice())?;
+    let by_serial = is_same(rt, "serial", place, serial.as_str(), wanted)?;
+    let ring = ring_text(rt.alloc(), events.as_slice())?;
+    let by_ring = is_same(rt, "ring", place, ring.as_str(), wanted)?;
+    let row = row_text(rt.alloc(), events.as_slice())?;
+    let by_row = is_same(rt, "row", place, row.as_str(), wanted)?;
+    Ok(by_serial && by_ring && by_row)
+}
+
+/// Whether a way made the wanted account, which is printed if it didn't.
+fn is_same(rt: &impl Print, way: &str, place: &str, got: &str, wanted: &str) -> Result<bool> {
+    if got != wanted {
+        println!(rt; "{place}, {way}\n  wanted {wanted}\n  got {got}")?;
     }
-    Ok(is_met)
+    Ok(got == wanted)
 }
 
 /// Runs the rows of a file, and answers how many differ.
 fn run_file(rt: &(impl Print + Files + AllocGlobal), name: &str) -> Result<u64> {
-    let alloc = rt.alloc();
     let text = fs::read_to_string(rt, name)?;
+    let (rows, differing) = run_lines(rt, name, text.as_str())?;
+    println!(rt; "{name}: {rows} rows")?;
+    Ok(differing)
+}
+
+/// How many rows the text of a file has, and how many of them differ.
+fn run_lines(rt: &(impl Print + AllocGlobal), name: &str, text: &str) -> Result<(u64, u64)> {
     let mut rows = 0_u64;
     let mut differing = 0_u64;
-    for (number, line) in text.as_str().lines().enumerate() {
+    for (number, line) in text.lines().enumerate() {
         let row = line.trim();
         if row.is_empty() || row.starts_with('#') {
             continue;
         }
-        let place = format!(in alloc; "{name}, line {}", number.saturating_add(1))?;
+        let place = format!(in rt.alloc(); "{name}, line {}", number.saturating_add(1))?;
         rows = rows.saturating_add(1);
         if !is_met(rt, row, place.as_str()).context(place.as_str())? {
             differing = differing.saturating_add(1);
         }
     }
-    println!(rt; "{name}: {rows} rows")?;
-    Ok(differing)
+    Ok((rows, differing))
 }
 
 fn main(rt: HostRuntime) -> Result<()> {

@@ -8,6 +8,7 @@ use anyhow::{Context, Result, ensure};
 use bytes::Bytes;
 use callbox::{GivenShut, Giver, Sender, open_out, settle_out};
 use lane::{End, Lane};
+use lists::{Field, Sequence};
 use lpm::{MAX_MESSAGE_LEN, is_frame};
 use std::alloc::Global;
 
@@ -30,21 +31,8 @@ fn give_open<L: Lane<Item = OutItem>>(
 {
     let mut giver = giver;
     match item {
-        OutItem::Head(fields) => {
-            if !giver.has_head() {
-                given.push(item.copy()?)?;
-                giver.head(fields.copy()?).context("a head is refused")?;
-            }
-        }
-        OutItem::Message(bytes) => {
-            if giver.has_head() && is_frame(bytes.as_slice()) {
-                let message = bytes.as_slice().get(PREFIX_LEN..).context("no prefix")?;
-                ensure!(message.len() <= MAX_MESSAGE_LEN, "a message is too long");
-                let message = Bytes::copy_from_slice(alloc, message)?;
-                given.push(item.copy()?)?;
-                giver.give(message).context("a message is refused")?;
-            }
-        }
+        OutItem::Head(fields) => give_head::<L>(&mut giver, fields, given)?,
+        OutItem::Message(bytes) => give_message::<L>(alloc, &mut giver, bytes, given)?,
         OutItem::Trailers(fields) => {
             given.push(item.copy()?)?;
             return Ok(End::Shut(giver.trailers(fields.copy()?)));
@@ -55,6 +43,40 @@ fn give_open<L: Lane<Item = OutItem>>(
         }
     }
     Ok(End::Open(giver))
+}
+
+/// Gives a head, where none was given.
+fn give_head<L: Lane<Item = OutItem>>(
+    giver: &mut Giver<L>,
+    fields: &Sequence<Field>,
+    given: &mut Vec<OutItem>,
+) -> Result<()>
+    ensures { OnOk result (L.in_name giver.new.tx ≡ L.in_name giver.old.tx) }
+{
+    if !giver.has_head() {
+        given.push(OutItem::Head(fields.copy()?))?;
+        giver.head(fields.copy()?).context("a head is refused")?;
+    }
+    Ok(())
+}
+
+/// Gives a message behind a head, where the bytes are one.
+fn give_message<L: Lane<Item = OutItem>>(
+    alloc: Global,
+    giver: &mut Giver<L>,
+    bytes: &Bytes,
+    given: &mut Vec<OutItem>,
+) -> Result<()>
+    ensures { OnOk result (L.in_name giver.new.tx ≡ L.in_name giver.old.tx) }
+{
+    if giver.has_head() && is_frame(bytes.as_slice()) {
+        let message = bytes.as_slice().get(PREFIX_LEN..).context("no prefix")?;
+        ensure!(message.len() <= MAX_MESSAGE_LEN, "a message is too long");
+        given.push(OutItem::Message(bytes.clone()?))?;
+        let message = Bytes::copy_from_slice(alloc, message)?;
+        giver.give(message).context("a message is refused")?;
+    }
+    Ok(())
 }
 
 /// Gives an item, where neither trailers nor that the call was left was given.

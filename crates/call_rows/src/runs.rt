@@ -13,6 +13,7 @@ mod lanes;
 mod messages;
 mod methods;
 mod out_ends;
+mod protobuf;
 mod rings;
 mod slots;
 mod threads;
@@ -50,6 +51,11 @@ fn run_lists<R: Print + AllocGlobal>(rt: &R) -> Result<()> {
         rt,
         "a message that is too long is refused",
         messages::too_long(alloc)?,
+    )?;
+    tell(
+        rt,
+        "a message that is written is read again",
+        protobuf::is_read_again(alloc)?,
     )?;
     tell(
         rt,

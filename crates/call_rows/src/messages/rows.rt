@@ -65,18 +65,28 @@ pub fn try_file<S: Subject + Drop>(
     subject: S,
 ) -> Result<u32> {
     let text = fs::read_to_string(rt, name).context(format_args!("{name}"))?;
+    let tried = try_lines(rt, name, text.as_str(), &subject)?;
+    let rows = tried.rows;
+    println!(rt; "{name}: {rows} rows")?;
+    Ok(tried.differing)
+}
+
+fn try_lines<S: Subject>(
+    rt: &(impl Print + AllocGlobal),
+    name: &str,
+    text: &str,
+    subject: &S,
+) -> Result<Tried> {
     let mut tried = Tried {
         rows: 0,
         differing: 0,
     };
-    for (index, line) in text.as_str().lines().enumerate() {
+    for (index, line) in text.lines().enumerate() {
         let number = index.saturating_add(1);
         let place = format!(in rt.alloc(); "{name}, line {number}")?;
         if let Some(row) = read_line(line).context(format_args!("{place}"))? {
-            tried = try_row(rt, &subject, place.as_str(), row, tried)?;
+            tried = try_row(rt, subject, place.as_str(), row, tried)?;
         }
     }
-    let rows = tried.rows;
-    println!(rt; "{name}: {rows} rows")?;
-    Ok(tried.differing)
+    Ok(tried)
 }

@@ -1,6 +1,6 @@
 //! Rows of `callrun`: calls by their turns.
 
-ghost use Rattle.std.specs.Prelude.{◌<◌, length};
+ghost use Rattle.std.specs.Prelude.{◌≡◌, ◌<◌, length, OnOk};
 ghost use Rattle.handlers.specs.Listed.{listed};
 
 use super::rows::Subject;
@@ -199,80 +199,96 @@ fn shut(feeder: Option<Feeder<InLane>>, code: Option<u32>) {
     }
 }
 
-/// The answer of the last turn, the status that was given, and the items.
-fn answer_text(alloc: Global, end: Ended, items: &str) -> Result<String> {
-    let last = end.last;
-    let mut text = format!(in alloc; "{last:?}")?;
-    match end.code {
-        Some(code) => write!(text, " {code}")?,
-        None if end.left => text.push_str(" left")?,
-        None if last == Turn::Over => text.push_str(" without memory for trailers")?,
-        None => {}
-    }
-    if end.ready {
-        text.push_str(" ready")?;
-    }
-    text.push_str(items)?;
-    Ok(text)
+/// The client's ends of a call.
+#[derive(Drop)]
+struct Client {
+    feeder: Option<Feeder<InLane>>,
+    sender: Sender<OutLane>,
 }
 
 /// How a call stands behind its events.
-#[derive(Clone, Copy)]
-struct Ended {
+#[derive(Drop)]
+struct Seen {
+    now: u64,
+    /// What its last turn answered.
     last: Turn,
     left: bool,
     /// Whether there was something to take when the call was looked at last.
     ready: bool,
-    code: Option<u32>,
+    /// The items that were sent.
+    items: String,
+}
+
+/// The answer of the last turn, the status that was given, and the items.
+fn answer_text(alloc: Global, seen: &Seen, code: Option<u32>) -> Result<String> {
+    let last = seen.last;
+    let mut text = format!(in alloc; "{last:?}")?;
+    match code {
+        Some(code) => write!(text, " {code}")?,
+        None if seen.left => text.push_str(" left")?,
+        None if last == Turn::Over => text.push_str(" without memory for trailers")?,
+        None => {}
+    }
+    if seen.ready {
+        text.push_str(" ready")?;
+    }
+    text.push_str(seen.items.as_str())?;
+    Ok(text)
+}
+
+/// What comes of an event.
+fn follow(
+    methods: &Methods,
+    run: &mut CallRun<InLane, OutLane>,
+    client: &mut Client,
+    event: Event,
+    seen: &mut Seen,
+) -> Result<()>
+    requires { run.old.index < length (listed methods.now) }
+    ensures { OnOk result (run.new.index ≡ run.old.index) }
+{
+    match event {
+        Event::Feed(piece) => feed(&mut client.feeder, piece)?,
+        Event::End => shut(client.feeder.take(), None),
+        Event::Reset(code) => shut(client.feeder.take(), Some(code)),
+        Event::At(moment) => seen.now = moment,
+        Event::Turn => seen.last = run.turn(methods, seen.now),
+        Event::Send => {
+            send(&mut client.sender, &mut seen.items)?;
+        }
+        Event::Leave => {
+            run.leave(methods);
+            seen.left = true;
+        }
+        Event::Look => seen.ready = run.is_ready(),
+    }
+    Ok(())
 }
 
 /// What comes of a call of the method at this index.
 fn run_course(alloc: Global, methods: &Methods, index: usize, course: Course) -> Result<String>
     requires { index < length (listed methods.now) }
 {
-    let (feeder, taker, giver, sender) = open_call::<InLane, OutLane>(
-        alloc,
-        STREAM,
-        ROOM,
-        course.room,
-    )?;
-    let mut feeder = Some(feeder);
-    let mut sender = sender;
-    let mut run = CallRun::new(alloc, methods, index, course.head, taker, giver, OPENED);
-    let mut now = OPENED;
-    let mut last = Turn::Nothing;
-    let mut left = false;
-    let mut ready = false;
-    let mut items = String::new(alloc);
-    for event in course.events {
-        match event {
-            Event::Feed(piece) => feed(&mut feeder, piece)?,
-            Event::End => shut(feeder.take(), None),
-            Event::Reset(code) => shut(feeder.take(), Some(code)),
-            Event::At(moment) => now = moment,
-            Event::Turn => last = run.turn(methods, now),
-            Event::Send => {
-                send(&mut sender, &mut items)?;
-            }
-            Event::Leave => {
-                run.leave(methods);
-                left = true;
-            }
-            Event::Look => ready = run.is_ready(),
-        }
+    let Course { head, room, events } = course;
+    let (feeder, taker, giver, sender) = open_call::<InLane, OutLane>(alloc, STREAM, ROOM, room)?;
+    let mut client = Client {
+        feeder: Some(feeder),
+        sender,
+    };
+    let mut run = CallRun::new(alloc, methods, index, head, taker, giver, OPENED);
+    let mut seen = Seen {
+        now: OPENED,
+        last: Turn::Nothing,
+        left: false,
+        ready: false,
+        items: String::new(alloc),
+    };
+    for event in events {
+        follow(methods, &mut run, &mut client, event, &mut seen)?;
     }
     let (_taker, _end, code) = run.into_ends();
-    send_all(&mut sender, &mut items)?;
-    answer_text(
-        alloc,
-        Ended {
-            last,
-            left,
-            ready,
-            code,
-        },
-        items.as_str(),
-    )
+    send_all(&mut client.sender, &mut seen.items)?;
+    answer_text(alloc, &seen, code)
 }
 
 /// A call: the name of its method, words for its head, and its events, each behind a `;`.

@@ -5,7 +5,7 @@ ghost use Rattle.std.specs.Prelude.{IfOk, All, length, ◌≤◌};
 use super::out_ends::fields;
 use crate::account_text::text_of;
 use account::{Account, OutItem, Shut};
-use anyhow::Result;
+use anyhow::{Result, ensure};
 use bytes::Bytes;
 use callbox::{InPiece, RanCalls, Reply, Request, SentCall, SlotCall, TookCall, run_calls};
 use lane::RingLane;
@@ -114,6 +114,35 @@ fn seen(alloc: Global, took: TookCall, sent: SentCall) -> Account {
     }
 }
 
+/// The text of that.
+fn text_seen(alloc: Global, took: TookCall, sent: SentCall) -> Result<String> {
+    let account = seen(alloc, took, sent);
+    text_of(alloc, &account)
+}
+
+/// The texts of all calls.
+fn texts_of(alloc: Global, ran: RanCalls) -> Result<Vec<String>> {
+    let RanCalls { taken, sent } = ran;
+    ensure!(taken.len() == sent.len(), "calls were taken and not sent");
+    let mut texts = Vec::new(alloc);
+    for (took, sent) in taken.into_iter().zip(sent.into_iter()) {
+        texts.push(text_seen(alloc, took, sent)?)?;
+    }
+    Ok(texts)
+}
+
+/// Whether these are the texts of `ROWS`. Those that aren't are printed.
+fn are_wanted(rt: &impl Print, texts: &[String]) -> Result<bool> {
+    let mut is_met = texts.len() == ROWS.len();
+    for (got, wanted) in texts.iter().zip(ROWS) {
+        if got.as_str() != wanted {
+            println!(rt; "a call of a slot\n  wanted {wanted}\n  got {got}")?;
+            is_met = false;
+        }
+    }
+    Ok(is_met)
+}
+
 pub fn one_after_another<R: Threads + Wait + Sync + Print>(rt: &R, alloc: Global) -> Result<bool> {
     let calls = three(alloc)?;
     let ran = run_calls::<RingLane<InPiece>, RingLane<OutItem>, R>(
@@ -122,14 +151,6 @@ pub fn one_after_another<R: Threads + Wait + Sync + Print>(rt: &R, alloc: Global
         (ROOM, ROOM),
         calls.as_slice(),
     )?;
-    let RanCalls { taken, sent } = ran;
-    let mut is_met = taken.len() == ROWS.len() && sent.len() == ROWS.len();
-    for ((took, sent), wanted) in taken.into_iter().zip(sent.into_iter()).zip(ROWS) {
-        let got = text_of(alloc, &seen(alloc, took, sent))?;
-        if got.as_str() != wanted {
-            println!(rt; "a call of a slot\n  wanted {wanted}\n  got {got}")?;
-            is_met = false;
-        }
-    }
-    Ok(is_met)
+    let texts = texts_of(alloc, ran)?;
+    are_wanted(rt, texts.as_slice())
 }
