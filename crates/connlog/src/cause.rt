@@ -119,6 +119,8 @@ pub enum CallCause {
 /// What the server ends streams for by its own bounds.
 #[derive(Clone, Copy)]
 pub enum ServerCause {
+    /// It stops while calls go on.
+    Drain,
     /// So many calls are live.
     LiveCalls,
     /// All streams were begun that a connection may have.
@@ -482,6 +484,7 @@ impl fmt::Display for CallCause {
 impl fmt::Display for ServerCause {
     fn fmt<W: fmt::Write>(&self, f: &mut fmt::Formatter<W>) -> fmt::Result {
         let text = match *self {
+            ServerCause::Drain => "the server stops (RFC 9113, 6.8)",
             ServerCause::LiveCalls => "64 calls are live, which is the most (RFC 9113, 5.1.2)",
             ServerCause::AllStreams =>
                 "it is the 4,096th stream, which is the last (RFC 9113, 6.8)",

@@ -17,6 +17,9 @@ use std::alloc::{AllocError, Global};
 /// How many seconds a call waits before a line says so.
 const PATIENCE: u64 = 5;
 
+/// How many streams a client may begin on a connection.
+const MOST_STREAMS: u64 = 4_096;
+
 /// How many causes wait at most for what the server does about them.
 const MOST_BLAMES: usize = 64;
 
@@ -56,6 +59,8 @@ pub struct Seen {
     pub begun: u64,
     /// Whether the first SETTINGS came.
     pub has_settings: bool,
+    /// Whether the server said that it stops.
+    is_draining: bool,
     /// Whether the call of the DATA that come takes them.
     pub is_taken: bool,
     /// Whether the client has ended the connection by an error.
@@ -86,6 +91,7 @@ impl Seen {
             greatest: 0,
             begun: 0,
             has_settings: false,
+            is_draining: false,
             is_taken: false,
             is_over: false,
             came: i64::from(INITIAL_WINDOW),
@@ -234,7 +240,9 @@ impl Seen {
         self.forget(stream);
         self.cut(stream)?;
         let error = ErrorCode::from_code(code);
-        let why = self.cause_of(stream, error).or(own_cause(error));
+        let why = self
+            .cause_of(stream, error)
+            .or(own_cause(error, self.is_draining));
         self.tell(stream, Event::Reset(code), why)
     }
 
@@ -242,7 +250,13 @@ impl Seen {
     pub fn go_away(&mut self, code: u32, last: StreamId) -> Result<(), AllocError> {
         let error = ErrorCode::from_code(code);
         let why = match error {
-            ErrorCode::NoError => Some(Cause::Server(ServerCause::AllStreams)),
+            ErrorCode::NoError if self.begun >= MOST_STREAMS => {
+                Some(Cause::Server(ServerCause::AllStreams))
+            }
+            ErrorCode::NoError => {
+                self.is_draining = true;
+                Some(Cause::Server(ServerCause::Drain))
+            }
             _ => self.cause_of(0, error),
         };
         self.tell(0, Event::GoAway(code, last), why)
@@ -315,9 +329,10 @@ pub fn traffic_of(call: &Call) -> Traffic {
     }
 }
 
-/// What the server resets a stream for where its client broke no rule.
-fn own_cause(error: ErrorCode) -> Option<Cause> {
+/// What the server resets a stream for where its client broke no rule, and where it stops or not.
+fn own_cause(error: ErrorCode, is_draining: bool) -> Option<Cause> {
     match error {
+        ErrorCode::RefusedStream if is_draining => Some(Cause::Server(ServerCause::Drain)),
         ErrorCode::RefusedStream => Some(Cause::Server(ServerCause::LiveCalls)),
         ErrorCode::EnhanceYourCalm => Some(Cause::Server(ServerCause::NoRoom)),
         ErrorCode::Cancel => Some(Cause::Server(ServerCause::InputEnded)),
