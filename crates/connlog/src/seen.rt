@@ -17,8 +17,8 @@ use std::alloc::{AllocError, Global};
 /// How many seconds a call waits before a line says so.
 const PATIENCE: u64 = 5;
 
-/// How many streams a client may begin on a connection.
-const MOST_STREAMS: u64 = 4_096;
+/// The last stream of a GOAWAY that says no more than that more will follow (RFC 9113, section 6.8).
+const GREATEST_STREAM: StreamId = 2_147_483_647;
 
 /// How many causes wait at most for what the server does about them.
 const MOST_BLAMES: usize = 64;
@@ -250,12 +250,14 @@ impl Seen {
     pub fn go_away(&mut self, code: u32, last: StreamId) -> Result<(), AllocError> {
         let error = ErrorCode::from_code(code);
         let why = match error {
-            ErrorCode::NoError if self.begun >= MOST_STREAMS => {
-                Some(Cause::Server(ServerCause::AllStreams))
-            }
             ErrorCode::NoError => {
-                self.is_draining = true;
-                Some(Cause::Server(ServerCause::Drain))
+                self.is_draining = self.is_draining || last == GREATEST_STREAM;
+                let cause = if self.is_draining {
+                    ServerCause::Drain
+                } else {
+                    ServerCause::AllStreams
+                };
+                Some(Cause::Server(cause))
             }
             _ => self.cause_of(0, error),
         };
