@@ -76,8 +76,17 @@ fn judge_timed(
     rounds: u32,
 ) -> Result<(Count, u128)> {
     let mut halves = opened(rt.alloc(), streams)?;
+    timed_over(rt, &mut halves, streams, rounds)
+}
+
+fn timed_over(
+    rt: &impl Clock,
+    halves: &mut Halves,
+    streams: u16,
+    rounds: u32,
+) -> Result<(Count, u128)> {
     let start = Instant::now(rt)?;
-    let count = judge(&mut halves, streams, rounds)?;
+    let count = judge(halves, streams, rounds)?;
     Ok((count, start.elapsed(rt)?.as_nanos()))
 }
 

@@ -61,12 +61,22 @@ fn read(alloc: Global, bytes: &[u8], rounds: usize, piece: usize) -> Result<Coun
         contents: 0,
     };
     for _ in 0..rounds {
-        for part in bytes.chunks(piece.max(1)) {
-            reader.feed(part)?;
-            drain(&mut reader, &mut count)?;
-        }
+        read_once(&mut reader, bytes, piece, &mut count)?;
     }
     Ok(count)
+}
+
+fn read_once(
+    reader: &mut FrameReader,
+    bytes: &[u8],
+    piece: usize,
+    count: &mut Count,
+) -> Result<()> {
+    for part in bytes.chunks(piece.max(1)) {
+        reader.feed(part)?;
+        drain(reader, count)?;
+    }
+    Ok(())
 }
 
 /// `h2frame-feed PIECE TOTAL`: prints the bytes fed, the frames read, the bytes of their contents and the nanoseconds.

@@ -35,14 +35,24 @@ fn in_place(alloc: Global, reply: &Reply) -> Result<Vec<u8>, AllocError> {
 /// `handlers-reply LENGTH`: the frame of a reply of so many zeros, copied and in place.
 pub fn reply<R: Clock + AllocGlobal + Print>(rt: &R, sizes: &[String]) -> Result<()> {
     let reply = Reply::Zeros(number32(sizes, 0)?);
-    let start = Instant::now(rt)?;
-    let first = copied(rt.alloc(), &reply)?;
-    let copying = start.elapsed(rt)?.as_nanos();
-    let start = Instant::now(rt)?;
-    let second = in_place(rt.alloc(), &reply)?;
-    let filling = start.elapsed(rt)?.as_nanos();
-    println!(rt; "{} {} {copying} {filling}", first.len(), second.len())?;
+    let (first, copying) = copied_timed(rt, &reply)?;
+    let (second, filling) = in_place_timed(rt, &reply)?;
+    println!(rt; "{first} {second} {copying} {filling}")?;
     Ok(())
+}
+
+/// How many bytes the copied frame of a reply has, and the nanoseconds.
+fn copied_timed<R: Clock + AllocGlobal>(rt: &R, reply: &Reply) -> Result<(usize, u128)> {
+    let start = Instant::now(rt)?;
+    let framed = copied(rt.alloc(), reply)?;
+    Ok((framed.len(), start.elapsed(rt)?.as_nanos()))
+}
+
+/// The same of the frame that is made in place.
+fn in_place_timed<R: Clock + AllocGlobal>(rt: &R, reply: &Reply) -> Result<(usize, u128)> {
+    let start = Instant::now(rt)?;
+    let framed = in_place(rt.alloc(), reply)?;
+    Ok((framed.len(), start.elapsed(rt)?.as_nanos()))
 }
 
 /// A request whose body, of so many zeros, is the one field of its payload; both have a length of four bytes.
@@ -69,30 +79,38 @@ fn push_tag(bytes: &mut Vec<u8>, tag: u8, len: usize) -> Result<(), AllocError> 
 /// `handlers-request LENGTH`: StreamingInputCall takes a request whose body has so many bytes.
 pub fn one_request<R: Clock + AllocGlobal + Print>(rt: &R, sizes: &[String]) -> Result<()> {
     let bytes = request(rt.alloc(), number(sizes, 0)?)?;
-    let mut state = StreamingInputCall.first();
-    let start = Instant::now(rt)?;
-    let step = StreamingInputCall.message(rt.alloc(), &mut state, &bytes)?;
-    let taking = start.elapsed(rt)?.as_nanos();
-    println!(rt;
-        "{} {} {taking}",
-        bytes.len(),
-        step.replies.as_slice().len()
-    )?;
+    let (replies, taking) = taken_timed(rt, bytes.as_slice())?;
+    println!(rt; "{} {replies} {taking}", bytes.len())?;
     Ok(())
 }
 
-pub fn small(rt: &(impl AllocGlobal + Print)) -> Result<()> {
-    let reply = Reply::Zeros(300);
-    let first = copied(rt.alloc(), &reply)?;
-    let second = in_place(rt.alloc(), &reply)?;
-    println!(rt;
-        "handlers-reply: {} and {} bytes",
-        first.len(),
-        second.len()
-    )?;
-    let bytes = request(rt.alloc(), 300)?;
+/// How many replies come of a request, and the nanoseconds.
+fn taken_timed<R: Clock + AllocGlobal>(rt: &R, request: &[u8]) -> Result<(usize, u128)> {
     let mut state = StreamingInputCall.first();
-    StreamingInputCall.message(rt.alloc(), &mut state, &bytes)?;
-    println!(rt; "handlers-request: {} bytes", bytes.len())?;
+    let start = Instant::now(rt)?;
+    let step = StreamingInputCall.message(rt.alloc(), &mut state, request)?;
+    Ok((step.replies.as_slice().len(), start.elapsed(rt)?.as_nanos()))
+}
+
+/// How many bytes the frame of a small reply has, copied and in place.
+fn small_reply(alloc: Global) -> Result<(usize, usize)> {
+    let reply = Reply::Zeros(300);
+    let first = copied(alloc, &reply)?.len();
+    Ok((first, in_place(alloc, &reply)?.len()))
+}
+
+/// How many bytes a small request has, which is taken.
+fn small_request(alloc: Global) -> Result<usize> {
+    let bytes = request(alloc, 300)?;
+    let mut state = StreamingInputCall.first();
+    StreamingInputCall.message(alloc, &mut state, &bytes)?;
+    Ok(bytes.len())
+}
+
+pub fn small(rt: &(impl AllocGlobal + Print)) -> Result<()> {
+    let (first, second) = small_reply(rt.alloc())?;
+    println!(rt; "handlers-reply: {first} and {second} bytes")?;
+    let request = small_request(rt.alloc())?;
+    println!(rt; "handlers-request: {request} bytes")?;
     Ok(())
 }

@@ -53,12 +53,17 @@ fn read_timed(
     times: usize,
 ) -> Result<(usize, u128)> {
     let mut decoder = Decoder::new(rt.alloc());
-    let mut bytes = 0usize;
     let start = Instant::now(rt)?;
-    for _ in 0..times {
-        bytes = bytes.wrapping_add(read(&mut decoder, block)?);
-    }
+    let bytes = read_often(&mut decoder, block, times)?;
     Ok((bytes, start.elapsed(rt)?.as_nanos()))
+}
+
+fn read_often(decoder: &mut Decoder, block: &[u8], times: usize) -> Result<usize> {
+    let mut bytes = 0usize;
+    for _ in 0..times {
+        bytes = bytes.wrapping_add(read(decoder, block)?);
+    }
+    Ok(bytes)
 }
 
 /// `hpack-huffman LENGTH`: prints what was read in a Huffman text of this many bytes, and the nanoseconds.
@@ -79,10 +84,13 @@ pub fn evictions(rt: &(impl Clock + AllocGlobal + Print), sizes: &[String]) -> R
 
 /// Reads both blocks by one decoder, one after another.
 fn read_small(alloc: Global) -> Result<(usize, usize)> {
+    let (huffman, evictions) = (text(alloc, 500)?, entries(alloc)?);
     let mut decoder = Decoder::new(alloc);
-    let huffman = read(&mut decoder, &text(alloc, 500)?)?;
-    let evictions = read(&mut decoder, &entries(alloc)?)?;
-    Ok((huffman, evictions))
+    read_both(&mut decoder, huffman.as_slice(), evictions.as_slice())
+}
+
+fn read_both(decoder: &mut Decoder, first: &[u8], second: &[u8]) -> Result<(usize, usize)> {
+    Ok((read(decoder, first)?, read(decoder, second)?))
 }
 
 pub fn small(rt: &(impl AllocGlobal + Print)) -> Result<()> {

@@ -79,13 +79,19 @@ fn trailers(alloc: Global) -> Result<Vec<Field>, AllocError> {
 fn written(rt: &(impl Clock + AllocGlobal), times: usize) -> Result<(usize, u128)> {
     let (head, trailers) = (head(rt.alloc())?, trailers(rt.alloc())?);
     let mut encoder = Encoder::new(rt.alloc());
-    let mut bytes = 0usize;
     let start = Instant::now(rt)?;
-    for _ in 0..times {
-        bytes = bytes.wrapping_add(encoder.block(head.as_slice())?.len());
-        bytes = bytes.wrapping_add(encoder.block(trailers.as_slice())?.len());
-    }
+    let bytes = write(&mut encoder, head.as_slice(), trailers.as_slice(), times)?;
     Ok((bytes, start.elapsed(rt)?.as_nanos()))
+}
+
+/// Writes a head and trailers so often. Answers how many bytes their blocks have.
+fn write(encoder: &mut Encoder, head: &[Field], trailers: &[Field], times: usize) -> Result<usize> {
+    let mut bytes = 0usize;
+    for _ in 0..times {
+        bytes = bytes.wrapping_add(encoder.block(head)?.len());
+        bytes = bytes.wrapping_add(encoder.block(trailers)?.len());
+    }
+    Ok(bytes)
 }
 
 /// `hpack-heads CALLS`: prints the bytes of the head and the trailers of so many calls, and the nanoseconds of writing them.
@@ -148,6 +154,16 @@ fn connection(rt: &(impl AllocGlobal + Print), chance: &mut Chance, blocks: usiz
     let mut encoder = Encoder::new(rt.alloc());
     let mut decoder = Decoder::new(rt.alloc());
     println!(rt; "connection")?;
+    print_blocks(rt, chance, &mut encoder, &mut decoder, blocks)
+}
+
+fn print_blocks(
+    rt: &(impl AllocGlobal + Print),
+    chance: &mut Chance,
+    encoder: &mut Encoder,
+    decoder: &mut Decoder,
+    blocks: usize,
+) -> Result<()> {
     for _ in 0..blocks {
         if chance.below(20) == 0 {
             let limit = LIMITS.get(chance.below(LIMITS.len())).copied().unwrap_or(0);
@@ -155,18 +171,23 @@ fn connection(rt: &(impl AllocGlobal + Print), chance: &mut Chance, blocks: usiz
             println!(rt; "limit {limit}")?;
         }
         let fields = random_fields(rt.alloc(), chance)?;
-        let block = encoder.block(fields.as_slice())?;
-        let again = decoder.block(block.as_slice())?;
-        ensure!(
-            again.as_slice() == fields.as_slice(),
-            "a block is read as other fields"
-        );
-        println!(rt;
-            "{}",
-            line_of(rt.alloc(), block.as_slice(), fields.as_slice())?
-        )?;
+        let line = written_line(rt.alloc(), encoder, decoder, fields.as_slice())?;
+        println!(rt; "{line}")?;
     }
     Ok(())
+}
+
+/// Writes a block, which is read back, and answers its line.
+fn written_line(
+    alloc: Global,
+    encoder: &mut Encoder,
+    decoder: &mut Decoder,
+    fields: &[Field],
+) -> Result<String> {
+    let block = encoder.block(fields)?;
+    let is_same = decoder.block(block.as_slice())?.as_slice() == fields;
+    ensure!(is_same, "a block is read as other fields");
+    Ok(line_of(alloc, block.as_slice(), fields)?)
 }
 
 /// `hpack-random SEED CONNECTIONS BLOCKS`: prints so many random blocks of each of so many connections.

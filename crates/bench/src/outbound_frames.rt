@@ -58,22 +58,43 @@ fn field(alloc: Global, name: &str, value: &str) -> Result<Sequence<Field>> {
 
 /// The sender of a call that gave a head, so many replies of a length, and trailers.
 fn sender(alloc: Global, id: u32, replies: usize, len: usize) -> Result<Sender<Ring>> {
-    let head = field(alloc, ":status", "200")?;
-    let (mut giver, sender) = open_out::<Ring>(alloc, id, ROOM)?;
-    giver.head(head).ok().context("the head is refused")?;
+    let (giver, sender) = open_out::<Ring>(alloc, id, ROOM)?;
     give_all(alloc, giver, replies, len)?;
     Ok(sender)
 }
 
-/// Gives what comes behind the head.
+/// Gives a head, so many replies and trailers.
 fn give_all(alloc: Global, mut giver: Giver<Ring>, replies: usize, len: usize) -> Result<()> {
-    for _ in 0..replies {
-        let reply = Bytes::from_vec(vec![in alloc; 0; len.min(LONG_LEN)]?)?;
-        if giver.has_head() {
-            giver.give(reply).ok().context("a reply is refused")?;
-        }
-    }
+    give_some(alloc, &mut giver, replies, len)?;
     let _shut = giver.trailers(field(alloc, "grpc-status", "0")?);
+    Ok(())
+}
+
+/// Gives a head and so many replies.
+fn give_some(alloc: Global, giver: &mut Giver<Ring>, replies: usize, len: usize) -> Result<()> {
+    give_head(alloc, giver)?;
+    for _ in 0..replies {
+        give(
+            giver,
+            Bytes::from_vec(vec![in alloc; 0; len.min(LONG_LEN)]?)?,
+        )?;
+    }
+    Ok(())
+}
+
+fn give_head(alloc: Global, giver: &mut Giver<Ring>) -> Result<()> {
+    let head = field(alloc, ":status", "200")?;
+    if !giver.has_head() {
+        giver.head(head).ok().context("the head is refused")?;
+    }
+    Ok(())
+}
+
+/// Gives a reply behind the head.
+fn give(giver: &mut Giver<Ring>, reply: Bytes) -> Result<()> {
+    if giver.has_head() && reply.len() <= LONG_LEN {
+        giver.give(reply).ok().context("a reply is refused")?;
+    }
     Ok(())
 }
 
@@ -201,18 +222,26 @@ fn small_calls(streams: u32, replies: usize) -> Calls {
 }
 
 /// Opens calls that give their heads, and no more yet.
-fn stand(alloc: Global, core: &mut OutCore<Ring>, streams: u32) -> Result<Vec<Giver<Ring>>> {
+fn stand(
+    alloc: Global,
+    core: &mut OutCore<Ring>,
+    givers: &mut Vec<Giver<Ring>>,
+    streams: u32,
+) -> Result<()> {
     widen(alloc, core)?;
-    let mut givers = Vec::new(alloc);
     for index in 0..streams {
         let id = index.wrapping_mul(2).wrapping_add(1);
-        let (mut giver, sender) = open_out::<Ring>(alloc, id, ROOM)?;
-        let head = field(alloc, ":status", "200")?;
-        giver.head(head).ok().context("the head is refused")?;
-        tell(core, Control::Open(id, sender))?;
-        givers.push(giver)?;
+        givers.push(opened(alloc, core, id)?)?;
     }
-    Ok(givers)
+    Ok(())
+}
+
+/// Opens a call that gives its head.
+fn opened(alloc: Global, core: &mut OutCore<Ring>, id: u32) -> Result<Giver<Ring>> {
+    let (mut giver, sender) = open_out::<Ring>(alloc, id, ROOM)?;
+    tell(core, Control::Open(id, sender))?;
+    give_head(alloc, &mut giver)?;
+    Ok(giver)
 }
 
 /// Gives so many small replies, each on the stream behind the last one's, and writes each before the next is given.
@@ -228,12 +257,7 @@ fn write_each(
     for index in 0..replies {
         let place = index.checked_rem(givers.len()).unwrap_or(0);
         let giver = givers.get_mut(place).context("no call stands")?;
-        if giver.has_head() {
-            giver
-                .give(reply.clone()?)
-                .ok()
-                .context("a reply is refused")?;
-        }
+        give(giver, reply.clone()?)?;
         write_some(core, &mut out, &mut count)?;
     }
     count.bytes = count.bytes.wrapping_add(out.len() as u64);
@@ -247,10 +271,20 @@ fn each_written(
     replies: usize,
 ) -> Result<(Count, Duration)> {
     let mut core = OutCore::<Ring>::new(rt.alloc());
-    let mut givers = stand(rt.alloc(), &mut core, streams)?;
-    let _heads = write_all(rt.alloc(), &mut core)?;
+    let mut givers = Vec::new(rt.alloc());
+    stand(rt.alloc(), &mut core, &mut givers, streams)?;
+    each_timed(rt, &mut core, &mut givers, replies)
+}
+
+fn each_timed(
+    rt: &(impl Clock + AllocGlobal),
+    core: &mut OutCore<Ring>,
+    givers: &mut Vec<Giver<Ring>>,
+    replies: usize,
+) -> Result<(Count, Duration)> {
+    let _heads = write_all(rt.alloc(), core)?;
     let start = Instant::now(rt)?;
-    let count = write_each(rt.alloc(), &mut core, &mut givers, replies)?;
+    let count = write_each(rt.alloc(), core, givers, replies)?;
     Ok((count, start.elapsed(rt)?))
 }
 

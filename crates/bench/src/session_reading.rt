@@ -102,11 +102,22 @@ fn opening(alloc: Global) -> Result<Vec<u8>, AllocError> {
 
 /// Reads a connection with one stream, on which frames of DATA come so often.
 fn read_data(alloc: Global, frames: &[u8], rounds: usize) -> Result<Count, AllocError> {
+    let opening = opening(alloc)?;
     let mut core = InCore::new(alloc);
+    feed_often(&mut core, opening.as_slice(), frames, rounds)
+}
+
+/// Feeds an opening, and frames so often.
+fn feed_often(
+    core: &mut InCore,
+    opening: &[u8],
+    frames: &[u8],
+    rounds: usize,
+) -> Result<Count, AllocError> {
     let mut count = NOTHING;
-    feed(&mut core, &opening(alloc)?, &mut count)?;
+    feed(core, opening, &mut count)?;
     for _ in 0..rounds {
-        feed(&mut core, frames, &mut count)?;
+        feed(core, frames, &mut count)?;
     }
     Ok(count)
 }

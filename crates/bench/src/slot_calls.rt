@@ -66,19 +66,41 @@ fn serve<I: Lane<Item = InPiece>, O: Lane<Item = OutItem>>(
     let (mut feeder, mut taker) = open_in::<I>(alloc, ROOM)?;
     let (mut giver, mut sender) = open_out::<O>(alloc, 1, ROOM)?;
     for served in 0..calls {
-        let (fed, is_taken) = feed_and_take(feeder, &mut taker);
-        let (given, is_sent) = give_and_send(alloc, giver, &mut sender);
-        if !is_taken || !is_sent || !taker.begin(alloc) || !sender.begin(served) {
+        let Some(next) = take_in(alloc, feeder, &mut taker) else {
             return Ok(served);
-        }
-        match fed.begin() {
-            Ok(next) => feeder = next,
-            Err(_) => return Ok(served),
-        }
-        match given.begin(alloc) {
-            Ok(next) => giver = next,
-            Err(_) => return Ok(served),
-        }
+        };
+        feeder = next;
+        let Some(next) = give_out(alloc, giver, &mut sender, served) else {
+            return Ok(served);
+        };
+        giver = next;
     }
     Ok(calls)
+}
+
+/// The in side of a call. Where it went whole, both ends go on to the next.
+fn take_in<L: Lane<Item = InPiece>>(
+    alloc: Global,
+    feeder: Feeder<L>,
+    taker: &mut Taker<L>,
+) -> Option<Feeder<L>> {
+    let (fed, is_taken) = feed_and_take(feeder, taker);
+    if !is_taken || !taker.begin(alloc) {
+        return None;
+    }
+    fed.begin().ok()
+}
+
+/// The out side of a call. Where it went whole, both ends go on to the next, on this stream.
+fn give_out<L: Lane<Item = OutItem>>(
+    alloc: Global,
+    giver: Giver<L>,
+    sender: &mut Sender<L>,
+    next: u32,
+) -> Option<Giver<L>> {
+    let (given, is_sent) = give_and_send(alloc, giver, sender);
+    if !is_sent || !sender.begin(next) {
+        return None;
+    }
+    given.begin(alloc).ok()
 }

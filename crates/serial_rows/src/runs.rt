@@ -75,16 +75,21 @@ pub struct Ran {
 pub fn frames_of(alloc: Global, bytes: &[u8]) -> Result<Vec<Vec<u8>>> {
     let mut frames = Vec::new(alloc);
     let (preface, mut rest) = bytes.split_at(PREFACE_LEN.min(bytes.len()));
-    frames.push(Vec::from_slice(alloc, preface)?)?;
+    push_frame(&mut frames, alloc, preface)?;
     for _ in 0..FRAMES {
         if rest.is_empty() {
             break;
         }
         let (frame, behind) = rest.split_at(frame_len(rest).min(rest.len()));
-        frames.push(Vec::from_slice(alloc, frame)?)?;
+        push_frame(&mut frames, alloc, frame)?;
         rest = behind;
     }
     Ok(frames)
+}
+
+fn push_frame(frames: &mut Vec<Vec<u8>>, alloc: Global, frame: &[u8]) -> Result<()> {
+    frames.push(Vec::from_slice(alloc, frame)?)?;
+    Ok(())
 }
 
 /// How many bytes the frame has that begins here.
@@ -118,8 +123,8 @@ fn run_over<A: Ledger, B: Ledger, C: Ledger>(
     requires announced { (blanks.2.name ≡ C.name) × (blanks.2.parts ≡ C.parts) }
     requires one_part { (A.parts ≡ 1) × (B.parts ≡ 1) × (C.parts ≡ 1) }
 {
-    let mut credit = Credit::<A, B, C>::open(alloc, blanks);
     let bytes = Vec::with_capacity(alloc, WRITTEN)?;
+    let mut credit = Credit::<A, B, C>::open(alloc, blanks);
     let pipe = Pipe::new(bytes, course.most, course.fails_at);
     let mut run = Run {
         serial: Serial::new(alloc, methods, pipe, course.orders, course.lacks)?,

@@ -77,10 +77,7 @@ impl<R: Files + AllocGlobal> Subject for Connections<'_, R> {
 
     fn answer(&mut self, alloc: Global, given: Given<'_>, answer: &mut String) -> Result<()> {
         let words = words_of(given)?;
-        let name = format!(in alloc; "{}.hex", words.name)?;
-        let text = fs::read_to_string(self.rt, name.as_str()).context("no bytes")?;
-        let bytes = bytes_of(alloc, text.as_str())?;
-        let frames = frames_of(alloc, bytes.as_slice())?;
+        let frames = frames_in(self.rt, alloc, words.name)?;
         let trial = Trial {
             alloc,
             methods: self.methods,
@@ -89,14 +86,30 @@ impl<R: Files + AllocGlobal> Subject for Connections<'_, R> {
         };
         let plain = trial.run(Schedule::Plain, None, None)?;
         let streams = Streams::read(alloc, plain.written.as_slice())?;
-        if words.is_recorded {
-            let wanted = trial.text_of(&streams, &plain)?;
-            return trial.answer(&plain, &streams, wanted.as_str(), answer);
-        }
-        let name = format!(in alloc; "{}.out", words.name)?;
-        let wanted = fs::read_to_string(self.rt, name.as_str()).context("no text")?;
-        trial.answer(&plain, &streams, wanted.as_str(), answer)
+        let text = trial.wanted_text(self.rt, &streams, &plain)?;
+        let wanted = Wanted {
+            plain: &plain,
+            streams: &streams,
+            text: text.as_str(),
+        };
+        trial.answer(wanted, answer)
     }
+}
+
+/// The frames of the connection of this name.
+fn frames_in(rt: &(impl Files + AllocGlobal), alloc: Global, name: &str) -> Result<Vec<Vec<u8>>> {
+    let name = format!(in alloc; "{name}.hex")?;
+    let text = fs::read_to_string(rt, name.as_str()).context("no bytes")?;
+    let bytes = bytes_of(alloc, text.as_str())?;
+    frames_of(alloc, bytes.as_slice())
+}
+
+/// What the runs of a row are compared with: the plain run, what a peer reads of it, and the text that is wanted.
+#[derive(Clone, Copy)]
+struct Wanted<'a> {
+    plain: &'a Ran,
+    streams: &'a Streams,
+    text: &'a str,
 }
 
 /// The words of a row: the name of its connection, words with `=`, and steps.
@@ -124,31 +137,64 @@ fn words_of(given: Given<'_>) -> Result<Words<'_>> {
     };
     for word in options.split_ascii_whitespace() {
         match word.split_once('=') {
-            None if word == "recorded" => words.is_recorded = true,
-            None if word == "alone" => words.is_alone = true,
-            None if word == "in_order" => words.in_order = true,
-            None if word == "rows" => words.has_rows = true,
-            None if word == "fails" => words.fails = true,
-            Some(("from", id)) => words.from = id.parse::<u32>()?,
-            Some(("pieces", count)) => words.pieces = count.parse::<usize>()?,
-            Some(("orders", count)) => words.orders = Some(count.parse::<usize>()?),
-            Some(("breaks", count)) => words.breaks = Some(count.parse::<u64>()?),
-            Some(("lacks", call)) => {
-                let (id, turns) = call.split_once('@').context("no turns")?;
-                words.lacks = Some((id.parse::<u32>()?, turns.parse::<u64>()?));
-            }
-            Some(("seeds", count)) => words.seeds = count.parse::<u64>()?,
-            Some(("most", count)) => words.most = count.parse::<usize>()?,
-            Some(("resets", id)) => {
-                words.resets = true;
-                words.stream = id.parse::<u32>()?;
-            }
-            Some(("stream", id)) => words.stream = id.parse::<u32>()?,
-            Some(("jump", moment)) => words.jump = Some(moment.parse::<u64>()?),
-            _ => bail!("{word} says nothing of a run"),
+            None => words.set_flag(word)?,
+            Some(("lacks", call)) => words.lacks = Some(call_of(call)?),
+            Some((name, value)) => words.set_number(name, value.parse::<u64>()?)?,
         }
     }
     Ok(words)
+}
+
+/// A stream and a number of turns, with `@` between them.
+fn call_of(text: &str) -> Result<(StreamId, u64)> {
+    let (id, turns) = text.split_once('@').context("no turns")?;
+    Ok((id.parse::<u32>()?, turns.parse::<u64>()?))
+}
+
+impl Words<'_> {
+    fn set_flag(&mut self, word: &str) -> Result<()> {
+        match word {
+            "recorded" => self.is_recorded = true,
+            "alone" => self.is_alone = true,
+            "in_order" => self.in_order = true,
+            "rows" => self.has_rows = true,
+            "fails" => self.fails = true,
+            _ => bail!("{word} says nothing of a run"),
+        }
+        Ok(())
+    }
+
+    fn set_number(&mut self, name: &str, number: u64) -> Result<()> {
+        match name {
+            "seeds" => self.seeds = number,
+            "breaks" => self.breaks = Some(number),
+            "jump" => self.jump = Some(number),
+            "pieces" | "orders" | "most" => self.set_size(name, usize::try_from(number)?),
+            _ => return self.set_stream(name, u32::try_from(number)?),
+        }
+        Ok(())
+    }
+
+    fn set_size(&mut self, name: &str, size: usize) {
+        match name {
+            "pieces" => self.pieces = size,
+            "orders" => self.orders = Some(size),
+            _ => self.most = size,
+        }
+    }
+
+    fn set_stream(&mut self, name: &str, id: StreamId) -> Result<()> {
+        match name {
+            "from" => self.from = id,
+            "stream" => self.stream = id,
+            "resets" => {
+                self.resets = true;
+                self.stream = id;
+            }
+            _ => bail!("{name} says nothing of a run"),
+        }
+        Ok(())
+    }
 }
 
 /// The runs of a row.
@@ -161,18 +207,34 @@ struct Trial<'a> {
 }
 
 impl Trial<'_> {
+    /// The text that is wanted: that of the plain run, or of a file.
+    fn wanted_text(
+        &self,
+        rt: &(impl Files + AllocGlobal),
+        streams: &Streams,
+        plain: &Ran,
+    ) -> Result<String> {
+        if self.words.is_recorded {
+            return self.text_of(streams, plain);
+        }
+        let name = format!(in self.alloc; "{}.out", self.words.name)?;
+        fs::read_to_string(rt, name.as_str()).context("no text")
+    }
+
     /// The text of what a peer reads, and how the connection ended.
     fn text_of(&self, streams: &Streams, ran: &Ran) -> Result<String> {
-        let mut text = streams.text(self.words.from)?;
+        let mut text = String::new(self.alloc);
+        self.push_text(&mut text, streams, ran)?;
+        Ok(text)
+    }
+
+    fn push_text(&self, text: &mut String, streams: &Streams, ran: &Ran) -> Result<()> {
+        streams.push_text(text, self.words.from)?;
         if self.words.has_rows {
-            push_rows(&mut text, ran.rows.as_slice())?;
+            push_rows(text, ran.rows.as_slice())?;
         }
         if self.words.orders.is_some() {
-            text.push_str("orders")?;
-            for kind in ran.orders.as_slice() {
-                write!(text, " {kind}")?;
-            }
-            text.push('\n')?;
+            push_orders(text, ran.orders.as_slice())?;
         }
         if self.words.in_order {
             text.push_str("in order\n")?;
@@ -180,7 +242,7 @@ impl Trial<'_> {
         }
         let ending = ran.ending.code();
         writeln!(text, "ending {ending}")?;
-        Ok(text)
+        Ok(())
     }
 
     /// A run, which is disturbed behind so many turns, or whose writes fail behind so many.
@@ -212,95 +274,121 @@ impl Trial<'_> {
     }
 
     /// Writes the worst verdict on the runs of the row; of one that differs, what came of it.
-    fn answer(
-        &self,
-        plain: &Ran,
-        streams: &Streams,
-        wanted: &str,
-        answer: &mut String,
-    ) -> Result<()> {
+    fn answer(&self, wanted: Wanted<'_>, answer: &mut String) -> Result<()> {
         let words = self.words;
-        let is_disturbed = words.resets || words.jump.is_some();
         let mut worst = Verdict::Same;
         if !words.is_alone {
-            worst = self.verdict(plain, plain, streams, wanted, answer)?;
+            worst = self.verdict(wanted.plain, wanted, answer)?;
         }
         if !words.steps.is_empty() {
-            let ran = self.run(Schedule::Listed(words.steps), None, None)?;
-            worst = worst.max(self.verdict(&ran, plain, streams, wanted, answer)?);
+            let listed = Schedule::Listed(words.steps);
+            worst = worst.max(self.judge(listed, None, None, wanted, answer)?);
         }
         for seed in 0..words.seeds {
-            let ran = self.run(Schedule::Seeded(seed, STEPS), None, None)?;
-            worst = worst.max(self.verdict(&ran, plain, streams, wanted, answer)?);
+            let seeded = Schedule::Seeded(seed, STEPS);
+            worst = worst.max(self.judge(seeded, None, None, wanted, answer)?);
         }
-        if words.fails {
-            for at in 0..plain.writes {
-                let ran = self.run(Schedule::Plain, None, Some(at))?;
-                worst = worst.max(self.verdict(&ran, plain, streams, wanted, answer)?);
-            }
-        }
-        if is_disturbed {
-            for turn in 0..plain.turns {
-                let ran = self.run(Schedule::Plain, Some(turn), None)?;
-                worst = worst.max(self.verdict(&ran, plain, streams, wanted, answer)?);
-            }
-        }
+        worst = worst.max(self.judge_disturbed(wanted, answer)?);
         write!(answer, "{worst:?}")?;
         Ok(())
     }
 
-    /// How a run compares with what is wanted.
-    fn verdict(
+    /// The worst verdict on the runs of which each write fails in turn, or that are disturbed behind each turn.
+    fn judge_disturbed(&self, wanted: Wanted<'_>, answer: &mut String) -> Result<Verdict> {
+        let mut worst = Verdict::Same;
+        if self.words.fails {
+            for at in 0..wanted.plain.writes {
+                worst = worst.max(self.judge(Schedule::Plain, None, Some(at), wanted, answer)?);
+            }
+        }
+        if self.words.resets || self.words.jump.is_some() {
+            for turn in 0..wanted.plain.turns {
+                worst = worst.max(self.judge(Schedule::Plain, Some(turn), None, wanted, answer)?);
+            }
+        }
+        Ok(worst)
+    }
+
+    /// The verdict on a run.
+    fn judge(
         &self,
-        ran: &Ran,
-        plain: &Ran,
-        whole: &Streams,
-        wanted: &str,
+        schedule: Schedule<'_>,
+        turn: Option<u64>,
+        fails_at: Option<u64>,
+        wanted: Wanted<'_>,
         answer: &mut String,
     ) -> Result<Verdict> {
+        let ran = self.run(schedule, turn, fails_at)?;
+        self.verdict(&ran, wanted, answer)
+    }
+
+    /// How a run compares with what is wanted.
+    fn verdict(&self, ran: &Ran, wanted: Wanted<'_>, answer: &mut String) -> Result<Verdict> {
         let streams = Streams::read(self.alloc, ran.written.as_slice())?;
         let text = self.text_of(&streams, ran)?;
         let is_lawful = streams.is_lawful() && ran.is_accounted;
-        if is_lawful && text.as_str() == wanted {
-            return Ok(Verdict::Same);
-        }
-        if is_lawful && ran.ran_out {
-            bail!("out of memory");
-        }
-        let begins = if self.words.fails {
-            plain.written.as_slice().starts_with(ran.written.as_slice())
-        } else {
-            self.words.stream != 0 && streams.begins(whole, self.words.stream)
-        };
-        if is_lawful && begins {
-            return Ok(Verdict::Begins);
-        }
         if !is_lawful {
             answer.push_str("unlawful; ")?;
+        } else if text.as_str() == wanted.text {
+            return Ok(Verdict::Same);
+        } else if ran.ran_out {
+            bail!("out of memory");
+        } else if self.begins(ran, &streams, wanted) {
+            return Ok(Verdict::Begins);
         }
-        for line in text.lines() {
-            write!(answer, "{line}; ")?;
-        }
+        push_line(answer, text.as_str())?;
         Ok(Verdict::Differs)
     }
+
+    /// Whether what was written begins what is wanted, where a write may fail or a stream be reset.
+    fn begins(&self, ran: &Ran, streams: &Streams, wanted: Wanted<'_>) -> bool {
+        if self.words.fails {
+            let whole = wanted.plain.written.as_slice();
+            return whole.starts_with(ran.written.as_slice());
+        }
+        self.words.stream != 0 && streams.begins(wanted.streams, self.words.stream)
+    }
+}
+
+/// Writes the lines of a text as one.
+fn push_line(answer: &mut String, text: &str) -> Result<()> {
+    for line in text.lines() {
+        write!(answer, "{line}; ")?;
+    }
+    Ok(())
+}
+
+/// Tells the kinds of the orders that were put.
+fn push_orders(text: &mut String, kinds: &[&'static str]) -> Result<()> {
+    text.push_str("orders")?;
+    for kind in kinds {
+        write!(text, " {kind}")?;
+    }
+    text.push('\n')?;
+    Ok(())
 }
 
 /// Tells the rows of the calls: of each the stream, how many messages were taken and given, and the status, if it has one.
 fn push_rows(text: &mut String, rows: &[CallReport]) -> Result<()> {
     text.push_str("calls\n")?;
     for row in rows {
-        let CallReport {
-            id,
-            messages,
-            replies,
-            status,
-            ..
-        } = row;
-        write!(text, "  {id} took {messages} gave {replies}")?;
-        if let Some(status) = status {
-            write!(text, " status {status}")?;
-        }
-        text.push('\n')?;
+        push_row(text, row)?;
     }
+    Ok(())
+}
+
+fn push_row(text: &mut String, row: &CallReport) -> Result<()> {
+    let CallReport {
+        id,
+        messages,
+        replies,
+        status,
+        ..
+    } = row;
+    write!(text, "  {id} took {messages} gave {replies}")?;
+    if let Some(status) = status {
+        write!(text, " status {status}")?;
+    }
+    text.push('\n')?;
     Ok(())
 }

@@ -3,6 +3,7 @@
 use anyhow::Result;
 use h2frame::{Flags, Frame, FrameKind, FrameReader, StreamId};
 use hpack_codec::Decoder;
+use lists::Field;
 use std::alloc::Global;
 use std::collections::BTreeMap;
 
@@ -58,14 +59,20 @@ impl Streams {
             is_unlawful: false,
         };
         let mut reader = FrameReader::new(alloc);
+        streams.tell_all(&mut reader, written)?;
+        Ok(streams)
+    }
+
+    /// Tells the frames of these bytes.
+    fn tell_all(&mut self, reader: &mut FrameReader, written: &[u8]) -> Result<()> {
         reader.feed(written)?;
         for _ in 0..u64::MAX {
             let Some(frame) = reader.next() else {
                 break;
             };
-            streams.tell(&frame?)?;
+            self.tell(&frame?)?;
         }
-        Ok(streams)
+        Ok(())
     }
 
     /// Whether each stream had at most a header block, DATA and trailers, in this order, and nothing behind them; and one RST_STREAM
@@ -90,18 +97,17 @@ impl Streams {
         true
     }
 
-    /// All streams from this one on in ascending order, behind that of the connection.
-    pub fn text(&self, from: StreamId) -> Result<String> {
-        let mut text = String::new(self.alloc);
+    /// Writes all streams from this one on in ascending order, behind that of the connection.
+    pub fn push_text(&self, text: &mut String, from: StreamId) -> Result<()> {
         for (id, stream) in self.streams.iter() {
             if *id != 0 && *id < from {
                 continue;
             }
             writeln!(text, "stream {id}")?;
             text.push_str(stream.text.as_str())?;
-            push_data(&mut text, stream.piece.as_slice())?;
+            push_data(text, stream.piece.as_slice())?;
         }
-        Ok(text)
+        Ok(())
     }
 
     /// All frames in the order in which they came: the stream and the kind of each; how many bytes DATA have, and by how much a
@@ -177,20 +183,20 @@ impl Streams {
         }
         let fields = self.decoder.block(self.block.as_slice())?;
         self.block.clear();
+        self.tell_fields(frame.head.stream, fields.as_slice())
+    }
+
+    /// Tells the fields of a header block.
+    fn tell_fields(&mut self, id: StreamId, fields: &[Field]) -> Result<()> {
         let ends = self.ends_stream;
-        let stream = self.entry(frame.head.stream)?;
+        let stream = self.entry(id)?;
         let next = course_behind(stream.course, ends);
         stream.course = next.unwrap_or(Course::Ended);
         stream.end_piece()?;
-        stream
-            .text
-            .push_str(if ends { "headers end\n" } else { "headers\n" })?;
-        for field in fields.as_slice() {
-            stream.text.push_str("  ")?;
-            push_octets(&mut stream.text, field.name.as_slice())?;
-            stream.text.push_str(": ")?;
-            push_octets(&mut stream.text, field.value.as_slice())?;
-            stream.text.push('\n')?;
+        let text = &mut stream.text;
+        text.push_str(if ends { "headers end\n" } else { "headers\n" })?;
+        for field in fields {
+            push_field(text, field)?;
         }
         if next.is_none() {
             self.is_unlawful = true;
@@ -256,6 +262,16 @@ impl StreamText {
     fn is_same(&self, other: &StreamText) -> bool {
         self.text.as_str() == other.text.as_str() && self.data.as_slice() == other.data.as_slice()
     }
+}
+
+/// Tells a field.
+fn push_field(text: &mut String, field: &Field) -> Result<()> {
+    text.push_str("  ")?;
+    push_octets(text, field.name.as_slice())?;
+    text.push_str(": ")?;
+    push_octets(text, field.value.as_slice())?;
+    text.push('\n')?;
+    Ok(())
 }
 
 /// Tells DATA, if there are some.

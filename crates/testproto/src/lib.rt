@@ -30,6 +30,3 @@ pub use messages::{
     SimpleResponse, StreamingInputCallRequest, StreamingInputCallResponse,
     StreamingOutputCallRequest, StreamingOutputCallResponse,
 };
-
-#[cfg(test)]
-mod tests;
