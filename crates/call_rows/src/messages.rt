@@ -9,7 +9,6 @@ use anyhow::Result;
 use handlers::{
     EmptyCall, FullDuplexCall, Method, Methods, StreamingInputCall, StreamingOutputCall, UnaryCall,
 };
-use std::alloc::Global;
 use std::rt::Files;
 
 mod bodies;
@@ -52,17 +51,12 @@ fn try_messages(rt: &(impl Files + Print + AllocGlobal)) -> Result<u32> {
     Ok(messages.saturating_add(read).saturating_add(faults))
 }
 
-/// The methods of the rows of paths.
-fn add_two(alloc: Global, methods: &mut Vec<Box<dyn Method>>) -> Result<()> {
-    methods.push(Box::new(alloc, EmptyCall)?)?;
-    methods.push(Box::new(alloc, StreamingInputCall)?)?;
-    Ok(())
-}
-
 /// The seven methods.
 fn try_calls(rt: &(impl Files + Print + AllocGlobal)) -> Result<u32> {
-    let mut methods = Vec::new(rt.alloc());
-    add_two(rt.alloc(), &mut methods)?;
+    let alloc = rt.alloc();
+    let mut methods: Vec<Box<dyn Method>> = Vec::new(alloc);
+    methods.push(Box::new(alloc, EmptyCall)?)?;
+    methods.push(Box::new(alloc, StreamingInputCall)?)?;
     let methods = Methods::new(methods);
     let calls = rows::try_file(rt, "calls.rows", calls::Calls)?;
     let sums = rows::try_file(rt, "sums.rows", calls::Sums)?;
@@ -70,20 +64,15 @@ fn try_calls(rt: &(impl Files + Print + AllocGlobal)) -> Result<u32> {
     Ok(calls.saturating_add(sums).saturating_add(paths))
 }
 
-/// The methods of the rows of turns.
-fn add_five(alloc: Global, methods: &mut Vec<Box<dyn Method>>) -> Result<()> {
+/// Calls by their turns.
+fn try_turns(rt: &(impl Files + Print + AllocGlobal)) -> Result<u32> {
+    let alloc = rt.alloc();
+    let mut methods: Vec<Box<dyn Method>> = Vec::new(alloc);
     methods.push(Box::new(alloc, EmptyCall)?)?;
     methods.push(Box::new(alloc, UnaryCall)?)?;
     methods.push(Box::new(alloc, StreamingInputCall)?)?;
     methods.push(Box::new(alloc, StreamingOutputCall)?)?;
     methods.push(Box::new(alloc, FullDuplexCall)?)?;
-    Ok(())
-}
-
-/// Calls by their turns.
-fn try_turns(rt: &(impl Files + Print + AllocGlobal)) -> Result<u32> {
-    let mut methods = Vec::new(rt.alloc());
-    add_five(rt.alloc(), &mut methods)?;
     let methods = Methods::new(methods);
     rows::try_file(rt, "turns.rows", turns::Turns { methods: &methods })
 }
