@@ -13,7 +13,6 @@ use handlers::{
     StreamingInputCall, StreamingOutputCall, UnaryCall,
 };
 use rows::try_file;
-use std::alloc::Global;
 
 mod credit;
 mod digits;
@@ -30,7 +29,9 @@ mod work;
 mod worker;
 mod writing;
 
-fn add_methods(alloc: Global, methods: &mut Vec<Box<dyn Method>>) -> Result<()> {
+fn main(rt: HostRuntime) -> Result<()> {
+    let alloc = rt.alloc();
+    let mut methods: Vec<Box<dyn Method>> = Vec::new(alloc);
     methods.push(Box::new(alloc, EmptyCall)?)?;
     methods.push(Box::new(alloc, UnaryCall)?)?;
     methods.push(Box::new(alloc, CacheableUnaryCall)?)?;
@@ -38,12 +39,6 @@ fn add_methods(alloc: Global, methods: &mut Vec<Box<dyn Method>>) -> Result<()> 
     methods.push(Box::new(alloc, StreamingOutputCall)?)?;
     methods.push(Box::new(alloc, FullDuplexCall)?)?;
     methods.push(Box::new(alloc, HalfDuplexCall)?)?;
-    Ok(())
-}
-
-fn main(rt: HostRuntime) -> Result<()> {
-    let mut methods = Vec::new(rt.alloc());
-    add_methods(rt.alloc(), &mut methods)?;
     let methods = Methods::new(methods);
     let mut connections = subject::Connections {
         rt: &rt,
