@@ -63,7 +63,8 @@ struct Question {
     has_gone_on: bool,
     /// Whether one of the windows was opened already.
     is_half_open: bool,
-    /// Whether it was asked twice since.
+    /// Whether it was asked twice of windows that were the same. It is so once at most: a server may count PINGs that
+    /// come while it sends nothing, and grpc C++ ends a connection at the fourth.
     is_asked_twice: bool,
 }
 
@@ -175,6 +176,7 @@ impl Credit {
         if question.has_gone_on && self.left(stream) > 0 {
             self.question = Some(Question {
                 has_gone_on: false,
+                is_asked_twice: true,
                 ..question
             });
             return Step::Ask;
@@ -192,10 +194,9 @@ impl Credit {
             return Step::OpenBoth(stream);
         }
         self.question = Some(Question {
-            stream,
             has_gone_on: false,
             is_half_open: true,
-            is_asked_twice: false,
+            ..question
         });
         let first = if self.stream_first { stream } else { 0 };
         self.stream_first = !self.stream_first;

@@ -237,6 +237,8 @@ fn lines_of(observer: &mut Observer) -> Option<Vec<Line>> {
 
 impl Logged {
     /// A connection of this peer begins.
+    // (kept out of its caller, whose frame is on the stack of each connection that lives)
+    #[inline(never)]
     pub fn begin(
         rt: &impl Wait,
         alloc: Global,
@@ -294,6 +296,8 @@ impl Logged {
     }
 
     /// The connection has ended.
+    // (kept out of its caller, as `begin` is)
+    #[inline(never)]
     pub fn end(&self, rt: &impl Wait, how: Ended) {
         self.log.forget(rt, self.watch.connection);
         let lines = {

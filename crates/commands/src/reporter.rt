@@ -48,6 +48,8 @@ impl Reporter {
 
     /// Reports on a connection of this peer: by this thread, or by one that prints already. Where too many lines wait, and where
     /// there is no memory for these, they are counted in place of being printed.
+    // (kept out of its caller, whose frame is on the stack of each connection that lives)
+    #[inline(never)]
     pub fn tell<R: Print + Wait>(
         &self,
         rt: &R,

@@ -10,25 +10,33 @@
 //!   `fault`, `nothing`), messages and bytes of replies, items given and sent, whether trailers were `sent`, `given` alone or `none`, and its
 //!   status, or `left`;
 //! - `over`.
+//!
+//! Behind another gate than the open one, where what is written first depends on the schedule, a run prints its calls alone, and before
+//! them `held true` where the gate had no need to give up. One that drains prints `answered` and `turns`, each with `true` where it is
+//! so: each call was answered with status 0 at whichever turn its connection was drained, and there were three turns at least.
 #![tactic(auto)]
 
 ghost use Rattle.std.specs.Prelude.{◌≡◌, ◌<◌};
 
 mod clock;
 mod devices;
+mod drained;
+mod gates;
 mod plan;
 mod report;
 
 use anyhow::Result;
 use clock::Timed;
-use connection::{Drainer, OpenGate, serve_connection};
-use devices::DrainedSource;
+use connection::{Drainer, Gate, OpenGate, Served, serve_connection};
+use devices::{DrainedSource, Sink, Source};
+use drained::drain_at_each_turn;
+use gates::{Keeping, Refusing};
 use handlers::{
     CacheableUnaryCall, EmptyCall, FullDuplexCall, HalfDuplexCall, Method, Methods,
     StreamingInputCall, StreamingOutputCall, UnaryCall,
 };
-use plan::Plan;
-use report::print_served;
+use plan::{Hold, Plan};
+use report::{print_held, print_served};
 use std::alloc::Global;
 use std::marker::Brand;
 use std::sync::ledger::{Blank, Ledger};
@@ -36,28 +44,71 @@ use std::sync::{Arc, Wait};
 use std::thread::Threads;
 use std::time::Clock;
 
-/// Serves the connection of a plan, and prints what became of it.
-fn run<R>(rt: R, alloc: Global, methods: Arc<Methods>, plan: Plan) -> Result<()>
+/// How many calls a connection has that is drained at each turn: a gate has a turn of each at least.
+const CALLS: u32 = 3;
+
+/// Runs a line, and prints what became of it.
+fn run<R>(rt: R, alloc: Global, methods: &Arc<Methods>, line: &str) -> Result<()>
 where
     R: Threads + Wait + Clock + Print + Copy + Send + Sync + Drop + 'static,
 {
+    let plan = Plan::read(alloc, line)?;
+    let theirs = Arc::try_clone(methods)?;
+    match plan.hold {
+        Hold::Open => {
+            let gate = Arc::new(alloc, OpenGate)?;
+            let (source, served) = serve(rt, alloc, theirs, plan, gate)?;
+            print_served(&rt, alloc, &source, &served)
+        }
+        Hold::Refusing => {
+            let gate = Arc::new(alloc, Refusing::new())?;
+            let (_, served) = serve(rt, alloc, theirs, plan, Arc::try_clone(&gate)?)?;
+            print_held(&rt, gate.refusals(), &served)
+        }
+        Hold::Keeping => {
+            let gate = Arc::new(alloc, Keeping::new(rt))?;
+            let (_, served) = serve(rt, alloc, theirs, plan, Arc::try_clone(&gate)?)?;
+            print_held(&rt, gate.turns(), &served)
+        }
+        Hold::Draining => {
+            let (are_answered, turns) = drain_at_each_turn(rt, alloc, methods, line)?;
+            println!(rt; "answered {are_answered}\nturns {}\nover", turns >= CALLS)?;
+            Ok(())
+        }
+    }
+}
+
+/// Serves the connection of a plan behind a gate. Answers what was read from, and what became of it.
+fn serve<R, G>(
+    rt: R,
+    alloc: Global,
+    methods: Arc<Methods>,
+    plan: Plan,
+    gate: Arc<G>,
+) -> Result<(Source, Served<Sink>)>
+where
+    R: Threads + Wait + Clock + Copy + Send + Sync + Drop + 'static,
+    G: Gate + Send + Sync + Drop + 'static,
+{
     let blanks = (Blank::new(1), Blank::new(1), Blank::new(1));
-    run_over::<Brand, Brand, Brand, R>(rt, alloc, blanks, methods, plan)
+    serve_over::<Brand, Brand, Brand, R, G>(rt, alloc, blanks, methods, plan, gate)
 }
 
 /// The same, over these ledgers.
-fn run_over<A, B, C, R>(
+fn serve_over<A, B, C, R, G>(
     rt: R,
     alloc: Global,
     blanks: (Blank, Blank, Blank),
     methods: Arc<Methods>,
     plan: Plan,
-) -> Result<()>
+    gate: Arc<G>,
+) -> Result<(Source, Served<Sink>)>
 where
     A: Ledger + Send + Sync + 'static,
     B: Ledger + Send + Sync + 'static,
     C: Ledger + Send + Sync + 'static,
-    R: Threads + Wait + Clock + Print + Copy + Send + Sync + Drop + 'static,
+    R: Threads + Wait + Clock + Copy + Send + Sync + Drop + 'static,
+    G: Gate + Send + Sync + Drop + 'static,
     requires received { (blanks.0.name ≡ A.name) × (blanks.0.parts ≡ A.parts) × (0 < A.parts) }
     requires admitted { (blanks.1.name ≡ B.name) × (blanks.1.parts ≡ B.parts) × (0 < B.parts) }
     requires announced { (blanks.2.name ≡ C.name) × (blanks.2.parts ≡ C.parts) × (0 < C.parts) }
@@ -67,8 +118,8 @@ where
         sink,
         pace,
         drain,
+        ..
     } = plan;
-    let gate = Arc::new(alloc, OpenGate)?;
     let timed = Timed { rt, pace };
     let (drainer, seat) = Drainer::<A, B, C>::new(alloc, blanks)?;
     if drain == Some(0) {
@@ -81,7 +132,7 @@ where
         left: drain,
     };
     let served = serve_connection(timed, alloc, &mut input, sink, methods, gate, seat);
-    print_served(&rt, alloc, &input.source, &served)
+    Ok((input.source, served))
 }
 
 fn main(rt: HostRuntime) -> Result<()> {
@@ -100,8 +151,7 @@ fn main(rt: HostRuntime) -> Result<()> {
         if rt.read_line(&mut line)? == 0 {
             break;
         }
-        let plan = Plan::read(alloc, line.as_str())?;
-        run(rt, alloc, Arc::try_clone(&methods)?, plan)?;
+        run(rt, alloc, &methods, line.as_str())?;
     }
     Ok(())
 }

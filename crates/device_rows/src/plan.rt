@@ -8,13 +8,27 @@ use std::alloc::Global;
 /// How many bytes a run has room for that are written.
 const ROOM: usize = 65_536;
 
-/// A run: what is read and written, how the clock goes, and behind how many reads the connection is drained, if it is.
+/// The gate of a run's calls.
+#[derive(Clone, Copy)]
+pub enum Hold {
+    /// All calls may go.
+    Open,
+    /// The first is refused until the second was answered.
+    Refusing,
+    /// The first one's worker is kept until the second was answered.
+    Keeping,
+    /// All may go. The connection is drained at a turn of the gate, in one run at each.
+    Draining,
+}
+
+/// A run: what is read and written, how the clock goes, behind how many reads the connection is drained, if it is, and its gate.
 #[derive(Drop)]
 pub struct Plan {
     pub source: Source,
     pub sink: Sink,
     pub pace: Pace,
     pub drain: Option<u64>,
+    pub hold: Hold,
 }
 
 impl Plan {
@@ -24,7 +38,8 @@ impl Plan {
     /// - `read-most=N`, `write-most=N`: one moves at most so many bytes;
     /// - `cut=N`: no read goes across the N-th byte;
     /// - `clock=still`, `clock=leaping`;
-    /// - `drain=N`: the connection is drained behind so many reads, at 0 before it begins.
+    /// - `drain=N`: the connection is drained behind so many reads, at 0 before it begins;
+    /// - `gate=refusing`, `gate=keeping`, `gate=draining`.
     pub fn read(alloc: Global, line: &str) -> Result<Plan> {
         let (digits, words) = line.split_once(' ').context("no blank")?;
         let unlimited = Limits {
@@ -46,6 +61,7 @@ impl Plan {
             },
             pace: Pace::Steady,
             drain: None,
+            hold: Hold::Open,
         };
         for word in words.split_whitespace() {
             plan.add(word)?;
@@ -63,6 +79,7 @@ impl Plan {
             "cut" => self.source.cut = value.parse::<usize>()?,
             "clock" => self.pace = pace_of(value)?,
             "drain" => self.drain = Some(value.parse::<u64>()?),
+            "gate" => self.hold = hold_of(value)?,
             _ => bail!("an unknown word"),
         }
         Ok(())
@@ -74,5 +91,14 @@ fn pace_of(value: &str) -> Result<Pace> {
         "still" => Ok(Pace::Still),
         "leaping" => Ok(Pace::Leaping),
         _ => bail!("an unknown clock"),
+    }
+}
+
+fn hold_of(value: &str) -> Result<Hold> {
+    match value {
+        "refusing" => Ok(Hold::Refusing),
+        "keeping" => Ok(Hold::Keeping),
+        "draining" => Ok(Hold::Draining),
+        _ => bail!("an unknown gate"),
     }
 }

@@ -1,6 +1,7 @@
 //! What became of a run.
 
 use crate::devices::{Sink, Source};
+use crate::gates::MOST;
 use account::Told;
 use anyhow::Result;
 use connection::{CallReport, Served};
@@ -16,6 +17,14 @@ pub fn print_served(
     print_written(rt, alloc, &served.output)?;
     println!(rt; "read {}{}", source.at, failure(source.has_failed))?;
     println!(rt; "ending {}", served.ending.code())?;
+    print_calls(rt, served.calls.as_slice())?;
+    println!(rt; "over")?;
+    Ok(())
+}
+
+/// Prints whether a gate needn't have given up, which was asked so many times in vain, and what became of the calls behind it.
+pub fn print_held(rt: &impl Print, times: u32, served: &Served<Sink>) -> Result<()> {
+    println!(rt; "held {}", times < MOST)?;
     print_calls(rt, served.calls.as_slice())?;
     println!(rt; "over")?;
     Ok(())

@@ -20,8 +20,6 @@
 ghost use Rattle.std.specs.Prelude.{◌<◌};
 ghost use Rattle.words.specs.Words.{IsInRange};
 
-#[cfg(test)]
-mod gates;
 mod misbehaving;
 
 use commands::{
