@@ -52,17 +52,19 @@ module _ {L In Out Shut : Type 0} (got : Out → List OutItem) where
       )
 
   -- whether that ends with the word that its call was left
-  pub was-left : (senders now : List (ℕ × Sender L In Out Shut)) (id place : ℕ) (entry : ℕ × Sender L In Out Shut) (answer : Bool) → IsAt id place senders → entry ≡ get_or senders place entry
-      → calls got now ≡ calls got senders → answer ≡ is_left (last_of (got entry.1.rx)) → answer ≡ true → WasLeft id (calls got now)
-  was-left senders now id place entry answer at is same answers yes =
-      subst (λ (all : List (ℕ × List OutItem)). WasLeft id all) (sym same)
-      (got entry.1.rx, call-at senders id place entry at is, item-left (last_of (got entry.1.rx)) (sym answers ∙ yes))
+  pub was-left : (senders : List (ℕ × Sender L In Out Shut)) (id place : ℕ) (entry : ℕ × Sender L In Out Shut) (new : Sender L In Out Shut) (answer : Bool) → IsAt id place senders
+      → entry ≡ get_or senders place entry → got new.rx ≡ got entry.1.rx → answer ≡ is_left (last_of (got entry.1.rx)) → answer ≡ true
+      → WasLeft id (calls got (set senders place (entry.0, new)))
+  was-left senders id place entry new answer at is same answers says =
+      subst (λ (all : List (ℕ × List OutItem)). WasLeft id all) (sym (calls-same senders place entry new is same))
+      (got entry.1.rx, call-at senders id place entry at is, item-left (last_of (got entry.1.rx)) (sym answers ∙ says))
 
-  pub not-left : (senders now : List (ℕ × Sender L In Out Shut)) (id place : ℕ) (entry : ℕ × Sender L In Out Shut) (answer : Bool) → IsAt id place senders → entry ≡ get_or senders place entry
-      → calls got now ≡ calls got senders → answer ≡ is_left (last_of (got entry.1.rx)) → answer ≡ false → WasNotLeft id (calls got now)
-  not-left senders now id place entry answer at is same answers no =
-      subst (λ (all : List (ℕ × List OutItem)). WasNotLeft id all) (sym same)
-      (inr (got entry.1.rx, call-at senders id place entry at is, item-other (last_of (got entry.1.rx)) (sym answers ∙ no)))
+  pub not-left : (senders : List (ℕ × Sender L In Out Shut)) (id place : ℕ) (entry : ℕ × Sender L In Out Shut) (new : Sender L In Out Shut) (answer : Bool) → IsAt id place senders
+      → entry ≡ get_or senders place entry → got new.rx ≡ got entry.1.rx → answer ≡ is_left (last_of (got entry.1.rx)) → answer ≡ false
+      → WasNotLeft id (calls got (set senders place (entry.0, new)))
+  not-left senders id place entry new answer at is same answers denies =
+      subst (λ (all : List (ℕ × List OutItem)). WasNotLeft id all) (sym (calls-same senders place entry new is same))
+      (inr (got entry.1.rx, call-at senders id place entry at is, item-other (last_of (got entry.1.rx)) (sym answers ∙ denies)))
 
   -- none of a stream is kept
   pub none-left : (senders : List (ℕ × Sender L In Out Shut)) (id : ℕ) → HasNone id senders → WasNotLeft id (calls got senders)
