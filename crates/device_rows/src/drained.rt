@@ -85,7 +85,9 @@ where
     requires announced { (blanks.2.name ≡ C.name) × (blanks.2.parts ≡ C.parts) × (0 < C.parts) }
 {
     let Plan {
-        mut source, sink, ..
+        mut source,
+        sink,
+        ..
     } = plan;
     let (drainer, seat) = Drainer::<A, B, C>::new(alloc, blanks)?;
     let (theirs, ours) = (Arc::try_clone(gate)?, Arc::try_clone(gate)?);

@@ -12,6 +12,7 @@ pub const MOST: u32 = 10_000;
 
 /// The streams of the first call and the second.
 const FIRST: StreamId = 1;
+
 const SECOND: StreamId = 3;
 
 /// Refuses the first call until the second was answered.
