@@ -4,10 +4,10 @@ ghost use Rattle.std.specs.Prelude.{◌≡◌, ◌==◌, ◌↔◌, [], length, 
 ghost use Rattle.std.specs.Cmp.{partial_equiv_from_equiv};
 ghost use Rattle.std.specs.Cmp.Lexicographic.{nat_list_eq_equiv};
 
+use bytes::Bytes;
 use std::alloc::AllocError;
 use std::fmt;
 use std::marker::Model;
-use std::sync::Arc;
 
 /// Bytes that a field or a text owns. A clause sees the list of them.
 pub struct Octets {
@@ -17,12 +17,10 @@ pub struct Octets {
 /// Where the bytes are.
 #[derive(Drop)]
 enum Holding {
-    /// In the program.
-    Fixed(&'static [u8]),
     /// In memory of their own.
     Own(Vec<u8>),
-    /// In memory that copies share.
-    Shared(Arc<Vec<u8>>),
+    /// In the program, or in memory that copies share.
+    Shared(Bytes),
 }
 
 impl Model for Octets {
@@ -41,7 +39,7 @@ impl Octets {
         ensures { result ≡ bytes.now }
     {
         Octets {
-            holding: Holding::Fixed(bytes),
+            holding: Holding::Shared(Bytes::from_static(bytes)),
         }
     }
 
@@ -50,7 +48,6 @@ impl Octets {
         ensures { result.now ≡ self.now }
     {
         match &self.holding {
-            Holding::Fixed(bytes) => *bytes,
             Holding::Own(bytes) => bytes.as_slice(),
             Holding::Shared(bytes) => bytes.as_slice(),
         }
@@ -75,10 +72,9 @@ impl Octets {
         ensures { IfOk result (λ copy. copy ≡ self.now) }
     {
         match &self.holding {
-            Holding::Fixed(bytes) => Ok(Octets::fixed(*bytes)),
             Holding::Own(bytes) => Ok(Octets::from(bytes.clone()?)),
             Holding::Shared(bytes) => Ok(Octets {
-                holding: Holding::Shared(Arc::try_clone(bytes)?),
+                holding: Holding::Shared(bytes.clone()?),
             }),
         }
     }
@@ -90,7 +86,7 @@ impl Octets {
         let Octets { holding } = self;
         match holding {
             Holding::Own(bytes) => Ok(Octets {
-                holding: Holding::Shared(Arc::new(*bytes.allocator(), bytes)?),
+                holding: Holding::Shared(Bytes::from_vec(bytes)?),
             }),
             holding => Ok(Octets { holding }),
         }
