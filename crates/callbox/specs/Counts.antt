@@ -1,4 +1,4 @@
--- Which item ends a response.
+-- Which item ends a response, and which says that there is none.
 use Rattle.std.specs.Prelude.{Bool, true, false, Option, None, Some}
 use Rattle.account.specs.declared.call.OutItem.{OutItem}
 use Rattle.account.specs.declared.call.OutItem.TheVariants.{Head, Message, Trailers, Left}
@@ -10,3 +10,11 @@ is_last (Some (Head fields)) = false
 is_last (Some (Message bytes)) = false
 is_last (Some (Trailers fields)) = true
 is_last (Some Left) = true
+
+-- whether an item says that its call was left without trailers
+abbrev pub is_left : Option OutItem → Bool
+is_left None = false
+is_left (Some (Head fields)) = false
+is_left (Some (Message bytes)) = false
+is_left (Some (Trailers fields)) = false
+is_left (Some Left) = true

@@ -4,6 +4,8 @@ ghost use Rattle.std.specs.Prelude.{◌≡◌, true, false, ◌<◌, [], ◌∷�
 ghost use Rattle.std.specs.Borrow.{sem};
 ghost use denote.Follow.{follows_so};
 ghost use mathlib.Core.Option.{none};
+ghost use Rattle.lane.specs.Lawful.{last_of};
+ghost use Rattle.callbox.specs.Counts.{is_left};
 
 use account::OutItem;
 use lane::Lane;
@@ -51,6 +53,19 @@ impl<L: Lane<Item = OutItem>> Sender<L> {
     {
         L::poll(&mut self.rx)
     }
+
+    /// Whether the item that was got last says that the call was left. It takes no memory.
+    pub fn was_left(&mut self) -> bool
+        ensures left { result ≡ is_left (last_of (L.got self.old.rx)) }
+        ensures name { L.out_name self.new.rx ≡ L.out_name self.old.rx }
+        ensures past { L.past_out self.new.rx ≡ L.past_out self.old.rx }
+        ensures got { L.got self.new.rx ≡ L.got self.old.rx }
+        ensures ahead { L.ahead self.new.rx ≡ L.ahead self.old.rx }
+        ensures id { self.new.id ≡ self.old.id }
+    {
+        matches!(L::again(&mut self.rx), Some(OutItem::Left))
+    }
+
     /// Goes on to the next call over the same lane, that of this stream, where the last item of this call was got.
     pub fn begin(&mut self, id: u32) -> bool
         ensures name { result ≡ true → L.out_name self.new.rx

@@ -64,7 +64,7 @@ struct Question {
     /// Whether one of the windows was opened already.
     is_half_open: bool,
     /// Whether it was asked twice of windows that were the same. It is so once at most: a server may count PINGs that
-    /// come while it sends nothing, and grpc C++ ends a connection at the fourth.
+    /// come while it sends nothing, and end the connection (grpc C++ does).
     is_asked_twice: bool,
 }
 

@@ -46,8 +46,9 @@ use std::time::{Clock, Duration, Instant};
 /// How many bytes are read at a time: the DATA that a window lets through, with the heads of its frames.
 const PIECE: usize = 65_664;
 
-/// How many bytes are read at a time until a read brought so many: a connection that is silent takes no more memory.
-const FIRST_PIECE: usize = 4_096;
+/// How many bytes are read at a time until a read brought so many: a connection that is silent takes no more memory, on its reader's
+/// stack.
+const FIRST_PIECE: usize = 2_048;
 
 /// From how many bytes on the writer isn't rung for what came, where it is DATA that are fed to calls: these ring once they have taken that.
 const LARGE_PIECE: usize = 8_192;

@@ -11,6 +11,7 @@ ghost use Rattle.outwriter.specs.Calls.{TellFronts, TellReturned, TellOthers};
 ghost use Rattle.outwriter.specs.Cores.{calls, lanes, lane_and_past, open_stream, IsUnused};
 ghost use Rattle.outwriter.specs.Drains.{has_failed, is_going_away, was_probed};
 ghost use Rattle.outwriter.specs.Frames.{IsSound, ends_stream};
+ghost use Rattle.outwriter.specs.LeftCalls.{WasLeft, WasNotLeft};
 ghost use Rattle.outwriter.specs.Polls.{coming};
 ghost use Rattle.outwriter.specs.Releases.{IsThrough, HasNone, Releases};
 ghost use Rattle.outwriter.specs.RunState.{is_held};
@@ -116,6 +117,26 @@ impl<L: Lane<Item = OutItem>, W: ConnWrite> ConnWriter<L, W> {
             (room self.now.core.sending.outbound.states.windows id) }
     {
         self.core.held(id)
+    }
+
+    /// Whether the sender of this stream's call gave last that the call was left: so all else that was given of it was
+    /// taken. It takes no memory.
+    pub fn was_left(&mut self, id: StreamId) -> bool
+        ensures left { result ≡ true
+            → WasLeft id (calls L.got self.new.core.sending.senders.items) }
+        ensures not_left { result ≡ false
+            → WasNotLeft id (calls L.got self.new.core.sending.senders.items) }
+
+        // Nothing more is got of a sender, and nothing else changes.
+        ensures calls { calls L.got self.new.core.sending.senders.items
+            ≡ calls L.got self.old.core.sending.senders.items }
+        ensures senders { lanes (lane_and_past L.out_name L.past_out)
+            self.new.core.sending.senders.items
+            ≡ lanes (lane_and_past L.out_name L.past_out) self.old.core.sending.senders.items }
+        ensures wrote { WritesOn L.got W.contents W.failed [] self.old self.new }
+        ensures rest { self.new ≡ record self.old { core = self.new.core } }
+    {
+        self.core.was_left(id)
     }
 
     /// Whether the peer may be told that this side ends the connection, as it wasn't told so before (RFC 9113, section 6.8).

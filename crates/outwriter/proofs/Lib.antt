@@ -34,3 +34,4 @@ pub mod LawExamples
 pub mod CreditGranted
 pub mod Drained
 pub mod ReturnSteps
+pub mod LeftSteps

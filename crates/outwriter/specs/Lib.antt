@@ -12,6 +12,7 @@ pub mod HeaderBlocks
 pub mod Blocks
 pub mod States
 pub mod Polls
+pub mod LeftCalls
 pub mod Resizes
 pub mod TableLimits
 pub mod RunState

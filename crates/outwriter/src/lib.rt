@@ -11,8 +11,8 @@
 //!
 //! Read `control` for what goes in; `frames`, `small` and `blocks` for the frames that come out; `stream`, `due`,
 //! `resize` and `states` for what is kept, and `outbound`, `writing` and `sending`, which bring it together; `out_core` for
-//! what a control does, `next` for the choice of a frame, and `release` for what a call that is through gives back. `laws` has
-//! what follows from the definitions.
+//! what a control does, `next` for the choice of a frame, `left` for which calls were left without trailers, and `release` for
+//! what a call that is through gives back. `laws` has what follows from the definitions.
 #![tactic(auto)]
 
 mod blocks;
@@ -20,6 +20,7 @@ mod control;
 mod due;
 mod frames;
 pub mod laws;
+mod left;
 pub mod next;
 pub mod out_core;
 mod outbound;

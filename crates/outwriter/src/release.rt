@@ -78,7 +78,7 @@ impl<L: Lane<Item = OutItem>> Sending<L> {
     }
 
     /// Where the first sender of this stream stands.
-    fn place_of(&self, id: StreamId) -> Option<usize>
+    pub(crate) fn place_of(&self, id: StreamId) -> Option<usize>
         ensures some { IfSome result (λ place. IsAt id place self.now.senders.items) }
         ensures none { IfNone result (HasNone id self.now.senders.items) }
     {

@@ -21,3 +21,7 @@ left_in (Returned id items ∷ before) = left_in before
 -- each of them is one of these
 abbrev pub AreNoted : List ℕ → List Step → Type 0
 AreNoted ids run = (id : ℕ) → Contains (left_in run) id → Contains ids id
+
+-- each of these streams is one of those
+abbrev pub AreAmong : List ℕ → List ℕ → Type 0
+AreAmong ids those = (id : ℕ) → Contains ids id → Contains those id

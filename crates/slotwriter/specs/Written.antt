@@ -1,5 +1,5 @@
 -- What the writer of a connection wrote: the frames of a lawful run of its core, as far as they went out.
-use Rattle.std.specs.Prelude.{◌≡◌, ◌≢◌, ◌||◌, All, ℕ, Bool, true, false, List, [], ◌∷◌, ◌++◌, Option, Some}
+use Rattle.std.specs.Prelude.{◌≡◌, ◌≢◌, ◌⊎◌, ◌||◌, All, Contains, ℕ, Bool, true, false, List, [], ◌∷◌, ◌++◌, Option, Some}
 use Rattle.std.specs.List.{list_any}
 use Rattle.account.specs.declared.call.OutItem.{OutItem}
 use Rattle.lane.specs.declared.ring_lane.RingLane.{RingLane}
@@ -11,8 +11,10 @@ use Rattle.lane.specs.RingLane.{got}
 use Rattle.outwriter.specs.declared.control.Control.{Control}
 use Rattle.outwriter.specs.declared.control.Control.TheVariants.{Open}
 use Rattle.outwriter.specs.Calls.{TellOthers, is_closed}
+use Rattle.outwriter.specs.Cores.{calls}
 use Rattle.outwriter.specs.Credit.{granted}
 use Rattle.outwriter.specs.Drains.{has_failed}
+use Rattle.outwriter.specs.LeftCalls.{WasLeft}
 use Rattle.outwriter.specs.Runs.{IsLawful, is_opened}
 use Rattle.outwriter.specs.RunState.{IsAnswered}
 use Rattle.outwriter.specs.Steps.{Step, Order, frames_of, order_of}
@@ -89,6 +91,16 @@ module _ {W : Type 0} where
   -- if these were all before, by these steps they are after
   abbrev pub NotesOn : List Step → SlotWriter W → SlotWriter W → Type 0
   NotesOn steps old new = (run : List Step) → AreNoted (noted_by old) run → AreNoted (noted_by new) (steps ++ run)
+
+  -- what the senders gave that the core has, of each call's stream
+  abbrev pub calls_of : SlotWriter W → List (ℕ × List OutItem)
+  calls_of writer = calls got (core_of writer)
+
+  -- Of each stream that it notes in addition, the sender gave last that its call was left: so no other is reset, since each that is reset so is
+  -- noted. No sender gives more.
+  pub record ResetsOnlyLeft (old new : SlotWriter W) : Type 0 where
+    pub calls : calls_of new ≡ calls_of old
+    pub left : (id : ℕ) → Contains (noted_by new) id → Contains (noted_by old) id ⊎ WasLeft id (calls_of old)
 
   -- it has the senders, and notes these streams
   abbrev pub Holds : Bool → List (Control Opened) → List Step → SlotWriter W → Type 0

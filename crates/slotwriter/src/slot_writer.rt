@@ -4,6 +4,7 @@ ghost use Rattle.std.specs.Prelude.{◌≡◌, ◌≢◌, ◌+◌, ◌++◌, ℕ
 ghost use Rattle.lane.specs.Ring.{taken};
 ghost use Rattle.lane.specs.RingLane.{got};
 ghost use Rattle.outwriter.specs.Cores.{IsUnused, open_stream};
+ghost use Rattle.outwriter.specs.LeftCalls.{WasLeft};
 ghost use Rattle.outwriter.specs.declared.control.Control.TheVariants as orders;
 ghost use Rattle.outwriter.specs.RunState.{is_held};
 ghost use Rattle.outwriter.specs.Steps.{Step, order_of};
@@ -16,12 +17,13 @@ ghost use Rattle.callslot.specs.declared.report.Ending.TheVariants as ending;
 ghost use Rattle.slotwriter.specs.declared.steps.Rest.TheVariants as rest;
 ghost use Rattle.slotwriter.specs.declared.steps.Took.TheVariants as took;
 ghost use Rattle.slotwriter.specs.declared.steps.Waiting.TheVariants as waiting;
-ghost use Rattle.slotwriter.specs.Left.{left_by};
+ghost use Rattle.slotwriter.specs.Left.{AreAmong, left_by};
 ghost use Rattle.slotwriter.specs.Orders.{IsWarning, TakesNoWindow, Warns, ends_input, orders_of, waiting_of};
 ghost use Rattle.slotwriter.specs.Sent.{HandsHome, HasStream, SamePlaces, stream_at};
 ghost use Rattle.slotwriter.specs.Written.{HasSent, HasWritten, Heeds, IsFlushed, Led, LedOut};
 ghost use Rattle.slotwriter.specs.Written.{LeadsOn, LeadsOut, LeadsTo, NotesOn, Parts, PassesOver};
-ghost use Rattle.slotwriter.specs.Written.{SameCalls, Stays, Takes, core_of, places_of, rest_of};
+ghost use Rattle.slotwriter.specs.Written.{ResetsOnlyLeft, SameCalls, Stays, Takes, calls_of, core_of};
+ghost use Rattle.slotwriter.specs.Written.{noted_by, places_of, rest_of};
 
 use crate::inbox::Inbox;
 use crate::senders::{Senders, Untaken};
@@ -97,6 +99,7 @@ impl<W: ConnWrite + Drop> SlotWriter<W> {
     /// Which order is the next to be taken.
     pub fn look(&mut self) -> Waiting
         ensures stays { Stays W.contents W.failed self.old self.new }
+        ensures rest { self.new ≡ record self.old { inbox = self.new.inbox } }
         ensures waiting { result ≡ waiting_of self.new.inbox.set_aside }
         ensures nothing { result ≡ waiting.Nothing → self.new.inbox.set_aside ≡ None }
         ensures other { result ≡ waiting.Other → IfSome self.new.inbox.set_aside TakesNoWindow }
@@ -177,6 +180,8 @@ impl<W: ConnWrite + Drop> SlotWriter<W> {
             → Blamed result order run }
         ensures brings { BringsBy result order (core_of self.old) (core_of self.new) }
         ensures notes { NotesOn (steps_of (order_of order) last result) self.old self.new }
+        ensures resets { AreAmong (noted_by self.new)
+            (noted_by self.old ++ left_by (order_of order)) }
         ensures senders { self.new.senders ≡ self.old.senders }
         ensures inbox { self.new.inbox ≡ self.old.inbox }
         ensures input { self.new.input_ended ≡ self.old.input_ended }
@@ -330,6 +335,9 @@ impl<W: ConnWrite + Drop> SlotWriter<W> {
     /// is to go on at once, since a call was reset, or is seen to be left only now.
     pub fn reset_left(&mut self) -> bool
         ensures leads { LeadsOn W.contents W.failed self.old self.new }
+
+        // No call is reset whose sender gave something else last, as trailers, or nothing.
+        ensures only_left { ResetsOnlyLeft self.old self.new }
     {
         let Waiting::Nothing = self.look() else {
             return false;
@@ -346,22 +354,37 @@ impl<W: ConnWrite + Drop> SlotWriter<W> {
     /// The same of one, by its slot's number.
     fn reset_left_at(&mut self, number: usize) -> bool
         ensures leads { LeadsOn W.contents W.failed self.old self.new }
+        ensures only_left { ResetsOnlyLeft self.old self.new }
     {
         if self.inbox.has_lost || self.input_ended {
             return false;
         }
         match self.senders.left(number) {
-            Some(id) => !self.frames.held(id) && self.reset(id),
+            Some(id) if self.frames.held(id) => false,
+            Some(id) => self.was_left(id) && self.reset(id),
             None => self.senders.sees_left(number),
         }
     }
 
-    /// Resets the stream of a slot's call. Whether there was memory for that.
+    /// Whether the sender of this stream's call, which the core has, gave last that the call was left.
+    fn was_left(&mut self, id: StreamId) -> bool
+        ensures left { result ≡ true → WasLeft id (calls_of self.new) }
+        ensures leads { LeadsOn W.contents W.failed self.old self.new }
+        ensures only_left { ResetsOnlyLeft self.old self.new }
+        ensures rest { self.new ≡ record self.old { frames = self.new.frames } }
+    {
+        self.frames.was_left(id)
+    }
+
+    /// Resets the stream of a slot's call that was left, by what its sender gave. Whether there was
+    /// memory for that.
     fn reset(&mut self, id: StreamId) -> bool
         requires kept { self.old.inbox.has_lost ≡ false }
         requires going { self.old.input_ended ≡ false }
         requires whose { HasStream id self.old.senders.places.items }
+        requires left { WasLeft id (calls_of self.old) }
         ensures leads { LeadsOn W.contents W.failed self.old self.new }
+        ensures only_left { ResetsOnlyLeft self.old self.new }
     {
         let code = ErrorCode::InternalError;
         let written = true;
@@ -381,6 +404,7 @@ impl<W: ConnWrite + Drop> SlotWriter<W> {
     /// be left out.
     pub fn warn(&mut self)
         ensures leads { LeadsOn W.contents W.failed self.old self.new }
+        ensures resets { self.new.resets ≡ self.old.resets }
     {
         if !self.inbox.has_lost {
             self.warn_by_goaway();
@@ -393,6 +417,7 @@ impl<W: ConnWrite + Drop> SlotWriter<W> {
         requires kept { self.old.inbox.has_lost ≡ false }
         ensures leads { LeadsOn W.contents W.failed self.old self.new }
         ensures inbox { self.new.inbox ≡ self.old.inbox }
+        ensures resets { self.new.resets ≡ self.old.resets }
     {
         if self.frames.may_leave() {
             let (last, code) = (GREATEST_STREAM, ErrorCode::NoError);
@@ -405,6 +430,7 @@ impl<W: ConnWrite + Drop> SlotWriter<W> {
         requires kept { self.old.inbox.has_lost ≡ false }
         ensures leads { LeadsOn W.contents W.failed self.old self.new }
         ensures inbox { self.new.inbox ≡ self.old.inbox }
+        ensures resets { self.new.resets ≡ self.old.resets }
     {
         if self.frames.may_probe() {
             self.warn_by(Control::Probe(DRAINING));
@@ -420,6 +446,7 @@ impl<W: ConnWrite + Drop> SlotWriter<W> {
             → Warns (order_of warning) run }
         ensures leads { LeadsOn W.contents W.failed self.old self.new }
         ensures inbox { self.new.inbox ≡ self.old.inbox }
+        ensures resets { self.new.resets ≡ self.old.resets }
     {
         let taking = self.frames.take(warning, GREATEST_STREAM);
         matches!(taking, Taking::Done)
@@ -432,6 +459,7 @@ impl<W: ConnWrite + Drop> SlotWriter<W> {
         // On the connection just so much more credit was granted.
         ensures leads { (had has : ℕ) → has ≡ had + (if nat_eq id 0 then n else 0)
             → LeadsTo W.contents W.failed had self.old has self.new }
+        ensures resets { self.new.resets ≡ self.old.resets }
     {
         self.frames.grant(id, n);
     }
@@ -442,6 +470,7 @@ impl<W: ConnWrite + Drop> SlotWriter<W> {
         ensures over { result ≡ filling.Over → LeadsOut W.contents W.failed self.old self.new }
         ensures stopped { result ≡ filling.Stopped
             → LeadsOut W.contents W.failed self.old self.new }
+        ensures resets { self.new.resets ≡ self.old.resets }
     {
         self.frames.fill()
     }

@@ -8,13 +8,12 @@ use Rattle.slotwriter.proofs.SentPlaces.{same-places}
 use Rattle.slotwriter.proofs.WrittenSteps.{goes-still, grants-on, leads-to}
 use Rattle.slotwriter.proofs.slot_writer.SlotWriter.grant.Goals as goal
 
-pub returns : goal.returns
-returns g c =
+pub returns-clause-leads : goal.returns-clause-leads
+returns-clause-leads g c =
     let contents = g.W.ConnWrite.contents in
     let failed = g.W.ConnWrite.failed in
-    let new = record c.args.self.now { frames = c.grant.new.self } in record {
-      leads = λ had has is. subst (λ (credit : ℕ). LeadsTo contents failed had c.args.self.now credit new) (granted-as c.args.id c.args.n had has is)
-          (leads-to contents failed had (had + granted_by 0 (Granted c.args.id c.args.n)) c.args.self.now new refl (record { ids = refl; input = refl })
-          (grants-on contents failed c.args.id c.args.n c.args.self.now new c.grant.ensures.wrote
-          (goes-still (Granted c.args.id c.args.n ∷ []) c.args.self.now new (λ run k. on-granted c.args.id c.args.n run k) (ap (λ senders. senders.items) c.grant.ensures.senders) (same-places refl) (λ run. refl) refl) had));
-    }
+    let new = record c.args.self.now { frames = c.grant.new.self } in
+    λ had has is. subst (λ (credit : ℕ). LeadsTo contents failed had c.args.self.now credit new) (granted-as c.args.id c.args.n had has is)
+    (leads-to contents failed had (had + granted_by 0 (Granted c.args.id c.args.n)) c.args.self.now new refl (record { ids = refl; input = refl })
+    (grants-on contents failed c.args.id c.args.n c.args.self.now new c.grant.ensures.wrote
+    (goes-still (Granted c.args.id c.args.n ∷ []) c.args.self.now new (λ run k. on-granted c.args.id c.args.n run k) (ap (λ senders. senders.items) c.grant.ensures.senders) (same-places refl) (λ run. refl) refl) had))
