@@ -6,8 +6,9 @@ pub mod Rising
 pub mod Noted
 pub mod Lines
 pub mod MeetSteps
-pub mod Whole
 pub mod RunOrders
+pub mod OpenedOnce
+pub mod Whole
 pub mod Left
 pub mod Causes
 pub mod News

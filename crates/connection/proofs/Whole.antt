@@ -1,13 +1,34 @@
--- A stream that ended: all that was given of its call was sent.
-use Rattle.std.proofs.Common.{◌≡◌, ◌∙◌, ℕ, List, [], ◌∷◌, ◌++◌, true, ap, append-nil, inl, inr, map, refl, subst, sym}
+-- A stream that ended: its frames tell the whole response to its call.
+use Rattle.std.proofs.Common.{◌≡◌, ◌∙◌, ℕ, Bool, List, [], ◌∷◌, ◌++◌, Option, true, false, ap, append-nil, inl, inr, map, refl, subst, sym}
+use Rattle.std.specs.Prelude.{IsSome}
 use Rattle.account.specs.declared.call.Account.{Account}
 use Rattle.account.specs.declared.call.OutItem.{OutItem}
 use Rattle.account.specs.declared.call.OutItem.TheVariants.{Head, Message, Trailers, Left}
+use Rattle.account.specs.declared.call.Told.{Told}
 use Rattle.account.specs.Accounts.{Begins, IsBody, IsLawful, IsResponse}
-use Rattle.outwriter.specs.Calls.{is_served}
+use Rattle.callhead.specs.declared.head.CallHead.{CallHead}
+use Rattle.callrun.specs.Outcomes.{IsBegun, IsOutcome}
+use Rattle.callrun.specs.Responses.{reply_item}
+use Rattle.callslot.specs.declared.report.CallReport.{CallReport}
+use Rattle.callslot.specs.declared.report.Ending.{Ending}
+use Rattle.callslot.specs.Accounts.{IsGivenAs, StandsOn}
+use Rattle.handlers.specs.declared.reply.Reply.{Reply}
+use Rattle.handlers.specs.declared.step.Step.{Step as Answer}
+use Rattle.outwriter.specs.declared.control.Control.TheVariants.{InputEnded}
+use Rattle.outwriter.specs.Calls.{IsOther, TellOthers, is_served}
 use Rattle.outwriter.specs.Parts.{Mark, Byte, Fields, End, Reset, IsFrontOf, IsPart, spelled}
-use Rattle.outwriter.specs.Steps.{Step}
-use Rattle.connection.specs.Sent.{CarriesWhatWasSent}
+use Rattle.outwriter.specs.Runs.{is_opened}
+use Rattle.outwriter.specs.Steps.{Order, Step}
+use Rattle.session.specs.declared.event.InEvent.{InEvent}
+use Rattle.session.specs.Events.{Events}
+use Rattle.slots.specs.Calls.{is_admitted}
+use Rattle.slots.specs.Orders.{orders_by}
+use Rattle.slots.specs.Reports.{AreHeard, IsAccounted}
+use Rattle.slots.specs.Steps.{Step as Heard, events_of}
+use Rattle.slotwriter.specs.Orders.{Obeys}
+use Rattle.connection.specs.Heard.{HasPut}
+use Rattle.connection.specs.Sent.{CarriesWhatWasSent, IsWholeResponse}
+use Rattle.connection.proofs.OpenedOnce.{never-refused, once-opened}
 
 -- the end of the stream is among these marks
 abbrev HasEnd : List Mark → Type 0
@@ -140,7 +161,108 @@ ended account part front lawful (inl begins) is =
     (same, sym (begins.1 ∙ (ap (λ (marks : List Mark). part ++ marks) none ∙ append-nil part)) ∙ ap (λ (items : List OutItem). spelled items) same)
 ended account part front lawful (inr (some, code, begins, reset)) is = absurd (not-reset front some code (sym is ∙ reset))
 
-pub whole-answer : (run : List Step) (id : ℕ) (account : Account) → IsLawful account → CarriesWhatWasSent run id account → is_served id run ≡ true
+whole-answer : (run : List Step) (id : ℕ) (account : Account) → IsLawful account → CarriesWhatWasSent run id account → is_served id run ≡ true
     → (part : List Mark) × IsPart id run part × ((front : List Mark) → part ≡ front ++ End ∷ [] → (account.sent ≡ account.given) × (part ≡ spelled account.given))
 whole-answer run id account lawful carries served =
     let told = carries served in (told.0, told.1, λ front is. ended account told.0 front lawful told.2 is)
+
+-- ---- the outcome
+
+abbrev AreMessages : List OutItem → Type 0
+AreMessages [] = Unit {0}
+AreMessages (Head fields ∷ items) = ⊥
+AreMessages (Message bytes ∷ items) = AreMessages items
+AreMessages (Trailers fields ∷ items) = ⊥
+AreMessages (Left ∷ items) = ⊥
+
+messages-unended : (items : List OutItem) → AreMessages items → HasEnd (spelled items) → ⊥
+messages-unended [] are has = has
+messages-unended (Head fields ∷ items) are has = are
+messages-unended (Message bytes ∷ items) are has = messages-unended items are (end-behind bytes (spelled items) has)
+messages-unended (Trailers fields ∷ items) are has = are
+messages-unended (Left ∷ items) are has = are
+
+replies-are : (replies : List Reply) → AreMessages (map reply_item replies)
+replies-are [] = tt
+replies-are (reply ∷ replies) = replies-are replies
+
+begun-unended : (head : CallHead) (replies : List Reply) (items : List OutItem) → IsBegun head replies items → HasEnd (spelled items) → ⊥
+begun-unended head replies items (inl none) has = subst (λ (given : List OutItem). HasEnd (spelled given)) none.1 has
+begun-unended head replies items (inr is) has =
+    messages-unended (map reply_item replies) (replies-are replies) (subst (λ (given : List OutItem). HasEnd (spelled given)) is has)
+
+-- an outcome that ends a stream has a status
+ended-status : (head : CallHead) (overdue : Bool) (said : Option Told) (answer : Answer) (items : List OutItem) (code : Option ℕ) → IsOutcome head overdue said answer items code → HasEnd (spelled items) → IsSome code
+ended-status head overdue said answer items code (IsOutcome.Whole status ends is same) has = subst (λ (found : Option ℕ). IsSome found) (sym same) refl
+ended-status head overdue said answer items code (IsOutcome.CutShort cause replies stood begins is same) has = subst (λ (found : Option ℕ). IsSome found) (sym same) refl
+ended-status head overdue said answer items code (IsOutcome.CutShortBehindHead cause replies stood begins is same) has = subst (λ (found : Option ℕ). IsSome found) (sym same) refl
+ended-status head overdue said answer items code (IsOutcome.Unended replies begins begun none) has = absurd (begun-unended head replies items begun has)
+
+not-none : (items : List OutItem) → items ++ Left ∷ [] ≡ [] → ⊥
+not-none [] is = cc
+not-none (item ∷ items) is = cc
+
+body-left : (items : List OutItem) → IsBody (items ++ Left ∷ []) → HasEnd (spelled (items ++ Left ∷ [])) → ⊥
+body-left [] is has = has
+body-left (Head fields ∷ items) is has = is
+body-left (Message bytes ∷ items) is has = body-left items is.1 (end-behind bytes (spelled (items ++ Left ∷ [])) has)
+body-left (Trailers fields ∷ items) is has = not-none items is
+body-left (Left ∷ items) is has = not-none items is
+
+-- a response that was left ends no stream
+response-left : (items : List OutItem) → IsResponse (items ++ Left ∷ []) → HasEnd (spelled (items ++ Left ∷ [])) → ⊥
+response-left [] is has = has
+response-left (Head fields ∷ items) is has = body-left items is has
+response-left (Message bytes ∷ items) is has = is
+response-left (Trailers fields ∷ items) is has = not-none items is
+response-left (Left ∷ items) is has = not-none items is
+
+given-items : (account : Account) (items : List OutItem) → IsLawful account → IsGivenAs items account.given → HasEnd (spelled account.given) → account.given ≡ items
+given-items account items lawful (inl is) has = is
+given-items account items lawful (inr left) has =
+    absurd (response-left items (subst (λ (given : List OutItem). IsResponse given) left lawful.given) (subst (λ (given : List OutItem). HasEnd (spelled given)) left has))
+
+end-last : (front : List Mark) → HasEnd (front ++ End ∷ [])
+end-last front = subst (λ (marks : List Mark). HasEnd marks) (append-nil (front ++ End ∷ [])) (end-there front [])
+
+response-of : (answers : ℕ → List (List ℕ) → Bool → Answer → Type 0) (head : CallHead) (account : Account) (row : CallReport) (part front : List Mark) → StandsOn answers head account row
+    → (account.sent ≡ account.given) × (part ≡ spelled account.given) → part ≡ front ++ End ∷ [] → IsWholeResponse answers head account row part
+response-of answers head account row part front stands whole is =
+    let says = stands.answered in
+    let has = subst (λ (marks : List Mark). HasEnd marks) (sym is ∙ whole.1) (end-last front) in
+    let same = given-items account says.items stands.lawful says.ends has in record {
+      sent = whole.0;
+      tells = whole.1;
+      overdue = says.overdue;
+      timed = says.timed;
+      outcome = λ answer known. subst (λ (items : List OutItem). IsOutcome head says.overdue account.told answer items row.status) (sym same) (says.outcome answer known);
+      status = λ answer known. ended-status head says.overdue account.told answer says.items row.status (says.outcome answer known) (subst (λ (items : List OutItem). HasEnd (spelled items)) same has);
+    }
+
+-- ---- the stream of a call that was admitted
+
+not-empty : (front : List Mark) → front ++ End ∷ [] ≡ [] → ⊥
+not-empty [] is = cc
+not-empty (mark ∷ front) is = cc
+
+module _ (answers : ℕ → List (List ℕ) → Bool → Answer → Type 0) (names : List ℕ → ℕ → Type 0) (end : Ending) (came : List ℕ) (told : List Heard) (put : List Order) (run : List Step)
+    (given : List InEvent) (heard : AreHeard end came (events_of told)) (are : Events came given) (has : HasPut (orders_by told ++ InputEnded ∷ []) put) (obeys : Obeys true put run) where
+  -- a stream that no Open opened doesn't end
+  other-unended : (id : ℕ) (part front : List Mark) → is_admitted id told ≡ true → IsOther id run part → part ≡ front ++ End ∷ [] → ⊥
+  other-unended id part front known (inl none) is = not-empty front (sym is ∙ none)
+  other-unended id part front known (inr (inl reset)) is = not-reset front [] reset.0 (sym is ∙ reset.1)
+  other-unended id part front known (inr (inr refused)) is = never-refused end came told put run given heard are has obeys id refused.0 known refused.1
+
+  pub whole-response : TellOthers run → (row : CallReport) (accounted : IsAccounted answers names (CarriesWhatWasSent run) told row)
+      → (part : List Mark) × IsPart row.id run part × ((front : List Mark) → part ≡ front ++ End ∷ [] → IsWholeResponse answers accounted.head accounted.account row part)
+  whole-response others row accounted = by (is_opened row.id run) refl
+    where
+      by : (b : Bool) → is_opened row.id run ≡ b
+          → (part : List Mark) × IsPart row.id run part × ((front : List Mark) → part ≡ front ++ End ∷ [] → IsWholeResponse answers accounted.head accounted.account row part)
+      by true opened =
+          let served = once-opened end came told put run given heard are has obeys row.id opened in
+          let found = whole-answer run row.id accounted.account accounted.stands.lawful accounted.carried served in
+          (found.0, found.1, λ front is. response-of answers accounted.head accounted.account row found.0 front accounted.stands (found.2 front is) is)
+      by false unopened =
+          let found = others row.id unopened in
+          (found.0, found.1, λ front is. absurd (other-unended row.id found.0 front accounted.known found.2 is))

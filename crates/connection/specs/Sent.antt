@@ -1,18 +1,22 @@
 -- What was sent of each call: where a slot's giving end meets its sender, and by which orders its calls began.
 use mathlib.Core.List.{IsPrefix}
-use Rattle.std.specs.Prelude.{◌≡◌, ◌⊎◌, ◌<◌, ◌≤◌, min, ℕ, false, if◌then◌else◌, nat_eq, nat_le, List, [], ◌∷◌, ◌++◌, length, map, get_or, Option, None, Some, slice_get, All}
+use Rattle.std.specs.Prelude.{◌≡◌, ◌⊎◌, ◌<◌, ◌≤◌, min, ℕ, Bool, true, false, if◌then◌else◌, nat_eq, nat_le, List, [], ◌∷◌, ◌++◌, length, map, get_or, Option, None, Some, IsSome, slice_get, All}
 use Rattle.account.specs.declared.call.Account.{Account}
 use Rattle.callbox.specs.OutSides.{has_end}
 use Rattle.callbox.specs.Slots.{EachBegins}
+use Rattle.callhead.specs.declared.head.CallHead.{CallHead}
+use Rattle.callrun.specs.Outcomes.{IsOutcome, is_end}
 use Rattle.callslot.specs.declared.order.Opened.{Opened}
 use Rattle.callslot.specs.declared.report.CallReport.{CallReport}
 use Rattle.callslot.specs.Workers.{GivingEnd, given_at, giving_ring}
 use Rattle.connwriter.specs.Sent.{IsTold}
+use Rattle.handlers.specs.declared.step.Step.{Step as Answer}
 use Rattle.lane.specs.Cuts.{segment}
 use Rattle.lane.specs.Lawful.{count_of}
 use Rattle.lane.specs.RingLane.{got, out_name, past_out, ring_of}
 use Rattle.outwriter.specs.declared.control.Control.{Control}
 use Rattle.outwriter.specs.declared.control.Control.TheVariants.{Close}
+use Rattle.outwriter.specs.Parts.{Mark, spelled}
 use Rattle.outwriter.specs.Steps.{Step}
 use Rattle.slots.specs.Lines.{AreNew, SlotCalls, calls_from}
 use Rattle.slotwriter.specs.Sent.{SlotSender}
@@ -23,6 +27,21 @@ use Rattle.connection.specs.Puts.{put_of}
 -- What the frames of a call's stream tell begins what was sent of it, or is a front of that with a reset behind it.
 abbrev pub CarriesWhatWasSent : List Step → ℕ → Account → Type 0
 CarriesWhatWasSent run id account = IsTold run id account.sent
+
+-- What the frames of a stream tell is the whole response to its call: all that was given, which is an outcome of what the method of the row's
+-- index answers to all that was taken, with the row's status.
+pub record IsWholeResponse (answers : ℕ → List (List ℕ) → Bool → Answer → Type 0) (head : CallHead) (account : Account) (row : CallReport) (part : List Mark) : Type 0 where
+  -- all that was given was sent
+  pub sent : account.sent ≡ account.given
+  -- the frames spell each item of it, in order, and nothing else
+  pub tells : part ≡ spelled account.given
+  -- whether the deadline had come, which is so only where the head has a timeout
+  pub overdue : Bool
+  pub timed : overdue ≡ true → IsSome head.timeout
+  -- whatever the method answers, that is an outcome of it
+  pub outcome : (answer : Answer) → answers row.method account.taken (is_end account.told) answer → IsOutcome head overdue account.told answer account.given row.status
+  -- and one with trailers, whose status the row has
+  pub status : (answer : Answer) → answers row.method account.taken (is_end account.told) answer → IsSome row.status
 
 -- ---- the orders
 

@@ -1,18 +1,42 @@
 //! What follows of what was sent of a call, by the rows of the record of a connection (`IsServed`).
 
 ghost use Rattle.std.specs.Prelude.{◌≡◌, ◌∷◌, ◌++◌, ℕ, List, [], true};
-ghost use Rattle.account.specs.declared.call.Account.{Account};
-ghost use Rattle.account.specs.Accounts.{IsLawful};
-ghost use Rattle.outwriter.specs.Calls.{is_served};
-ghost use Rattle.outwriter.specs.Parts.{End, IsPart, Mark, spelled};
-ghost use Rattle.outwriter.specs.Steps.{Step as RunStep};
-ghost use Rattle.connection.specs.Sent.{CarriesWhatWasSent};
+ghost use Rattle.callslot.specs.declared.report.CallReport.{CallReport as Row};
+ghost use Rattle.callslot.specs.declared.report.Ending.{Ending as Ended};
+ghost use Rattle.outwriter.specs.Calls.{TellOthers, is_served};
+ghost use Rattle.outwriter.specs.declared.control.Control.TheVariants.{InputEnded};
+ghost use Rattle.outwriter.specs.Parts.{End, IsPart, Mark};
+ghost use Rattle.outwriter.specs.Runs.{is_opened};
+ghost use Rattle.outwriter.specs.Steps.{Order, Step as RunStep};
+ghost use Rattle.session.specs.declared.event.InEvent.{InEvent as InEventOf};
+ghost use Rattle.session.specs.Events.{Events};
+ghost use Rattle.slots.specs.Orders.{orders_by};
+ghost use Rattle.slots.specs.Reports.{AreHeard, IsAccounted};
+ghost use Rattle.slots.specs.Steps.{Step, events_of};
+ghost use Rattle.slotwriter.specs.Orders.{Obeys};
+ghost use Rattle.connection.specs.Heard.{HasPut};
+ghost use Rattle.connection.specs.Sent.{CarriesWhatWasSent, IsWholeResponse};
 
-/// Where END_STREAM was written on the stream of a call (RFC 9113, section 8.1), all that was given of the call was sent, and the
-/// frames of the stream tell just that: the head, each message and the trailers, in the order given.
-pub fn whole_answer()
-    ensures { (run : List RunStep) (id : ℕ) (account : Account) → IsLawful account
-        → CarriesWhatWasSent run id account → is_served id run ≡ true
-        → (part : List Mark) × IsPart id run part × ((front : List Mark) → part ≡ front ++ End ∷ []
-        → (account.sent ≡ account.given) × (part ≡ spelled account.given)) }
+use callworker::Answering;
+
+/// An Open that the writer took is the only one of its stream, and no Refuse of the stream was taken before it: the numbers of the
+/// streams that begin rise (RFC 9113, section 5.1.1).
+pub fn opened_once()
+    ensures { (end : Ended) (came : List ℕ) (told : List Step) (put : List Order)
+        (run : List RunStep) (given : List InEventOf) →
+        AreHeard end came (events_of told) → Events came given
+        → HasPut (orders_by told ++ InputEnded ∷ []) put → Obeys true put run
+        → (id : ℕ) → is_opened id run ≡ true → is_served id run ≡ true }
+{}
+
+/// Where END_STREAM was written on the stream of an admitted call (RFC 9113, section 8.1), its frames spell the whole response: the
+/// answer of the call's method to all that was taken, or replies of it and a status of the server's own, and the row has the status.
+pub fn whole_response<M: Answering>()
+    ensures { (end : Ended) (came : List ℕ) (told : List Step) (put : List Order)
+        (run : List RunStep) (given : List InEventOf) →
+        AreHeard end came (events_of told) → Events came given
+        → HasPut (orders_by told ++ InputEnded ∷ []) put → Obeys true put run → TellOthers run
+        → (row : Row) (on : IsAccounted M.known M.names (CarriesWhatWasSent run) told row)
+        → (part : List Mark) × IsPart row.id run part × ((front : List Mark)
+        → part ≡ front ++ End ∷ [] → IsWholeResponse M.known on.head on.account row part) }
 {}
