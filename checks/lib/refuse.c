@@ -1,7 +1,8 @@
 // Loaded before the C library (LD_PRELOAD): refuses one allocation of a program, the one whose number stands in the
 // environment as REFUSE, counted from 1, or as many in a row as stand there as IN_A_ROW. Where there is none it refuses
 // nothing. At the program's end it writes how many there were to the file that is named there as COUNT. Where the
-// environment has LEAST, only those of so many bytes and more count.
+// environment has LEAST, only those of so many bytes and more count. While there is a file that is named there as
+// NEW_THREADS, the first allocation of each thread is refused, too.
 #include <errno.h>
 #include <stdatomic.h>
 #include <stddef.h>
@@ -18,6 +19,8 @@ extern void *__libc_memalign(size_t alignment, size_t size);
 static atomic_ulong seen;
 static unsigned long refused, in_a_row;
 static size_t least;
+static const char *new_threads;
+static __thread int has_allocated __attribute__((tls_model("initial-exec")));
 
 __attribute__((constructor)) static void begin(void) {
   const char *number = getenv("REFUSE");
@@ -26,6 +29,7 @@ __attribute__((constructor)) static void begin(void) {
   in_a_row = row ? strtoul(row, NULL, 10) : 1;
   const char *bytes = getenv("LEAST");
   least = bytes ? strtoul(bytes, NULL, 10) : 0;
+  new_threads = getenv("NEW_THREADS");
   atomic_store(&seen, 0);
 }
 
@@ -50,12 +54,18 @@ void _exit(int status) {
   }
 }
 
+static int is_first_refused(void) {
+  const int is_first = !has_allocated;
+  has_allocated = 1;
+  return is_first && new_threads && access(new_threads, F_OK) == 0;
+}
+
 static int is_refused(size_t size) {
   if (size < least) {
     return 0;
   }
   const unsigned long number = atomic_fetch_add(&seen, 1) + 1;
-  if (number < refused || number >= refused + in_a_row) {
+  if (!is_first_refused() && (number < refused || number >= refused + in_a_row)) {
     return 0;
   }
   errno = ENOMEM;

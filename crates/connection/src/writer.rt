@@ -26,12 +26,17 @@ use std::time::Duration;
 /// How long the writer waits at most before it looks again, in milliseconds.
 const STEP: u64 = 1000;
 
+/// How many turns that write something come at most before it looks for calls that were left, which looks at each slot.
+const TURNS: u32 = 16;
+
 /// What the writing thread of a connection has.
 #[derive(Drop)]
 struct Writer<A: Ledger, B: Ledger, C: Ledger, W: ConnWrite, G: Drop> {
     outlet: Outlet<A, B, C>,
     gate: Arc<G>,
     writing: SlotWriter<W>,
+    /// How many more turns that write something come before it looks for calls that were left.
+    turns: u32,
 }
 
 impl<A: Ledger, B: Ledger, C: Ledger, W: ConnWrite + Drop, G: Gate + Drop> Writer<A, B, C, W, G> {
@@ -77,7 +82,10 @@ impl<A: Ledger, B: Ledger, C: Ledger, W: ConnWrite + Drop, G: Gate + Drop> Write
         let mark = self.outlet.shared.writer.mark();
         let (filled, is_silent) = self.write_once(rt);
         match self.writing.rest(filled, is_silent) {
-            Rest::None => return false,
+            Rest::None => {
+                self.reset_between(rt, filled);
+                return false;
+            }
             Rest::Over => return true,
             Rest::StoppedOver => {
                 self.stop(rt);
@@ -107,6 +115,25 @@ impl<A: Ledger, B: Ledger, C: Ledger, W: ConnWrite + Drop, G: Gate + Drop> Write
             return;
         }
         self.wait(rt, mark);
+    }
+
+    /// Behind a turn that wrote something: where nothing more can be written, once in some turns, takes the orders that wait, and has the calls
+    /// reset that were left without trailers.
+    fn reset_between(&mut self, rt: &impl Wait, filled: Filled)
+        ensures outlet { self.new.outlet ≡ self.old.outlet }
+        ensures leads { LeadsOn W.contents W.failed self.old.writing self.new.writing }
+    {
+        if filled != Filled::Idle {
+            return;
+        }
+        if self.turns > 0 {
+            self.turns -= 1;
+            return;
+        }
+        self.drain(rt);
+        if !self.writing.reset_left() {
+            self.turns = TURNS;
+        }
     }
 
     /// Waits for what is to be written.
@@ -390,6 +417,7 @@ where
         outlet,
         gate,
         writing,
+        turns: TURNS,
     };
     let write = move || -> Parted<C, W>
         ensures name { out_name result.written.orders ≡ out_name writer.writing.inbox.ring }

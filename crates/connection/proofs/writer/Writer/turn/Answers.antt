@@ -9,3 +9,8 @@ pub returns-in-Idle-clause-leads : goal.returns-in-Idle-clause-leads
 returns-in-Idle-clause-leads g c =
     to-still g.W.ConnWrite.contents g.W.ConnWrite.failed _ _ _ _ _ _ c.write_once-filled.ensures.leads c.reset_left.ensures.leads
     (ap (λ outlet. outlet.told.amount) c.reset_left.ensures.outlet)
+
+pub returns-in-None-clause-leads : goal.returns-in-None-clause-leads
+returns-in-None-clause-leads g c =
+    to-still g.W.ConnWrite.contents g.W.ConnWrite.failed _ _ _ _ _ _ c.write_once-filled.ensures.leads c.reset_between.ensures.leads
+    (ap (λ outlet. outlet.told.amount) c.reset_between.ensures.outlet)
