@@ -1,6 +1,15 @@
+use Rattle.std.proofs.Common.{ap, refl, subst}
+use Rattle.slots.specs.Lines.{calls_of}
+use Rattle.slots.specs.Seats.{KeepsNext}
 use Rattle.slots.specs.Steps.{NotLive}
-use Rattle.connection.proofs.Heard.{cuts-one}
+use Rattle.connection.proofs.Heard.{cuts-one, cuts-same}
 use Rattle.connection.proofs.reader.Reader.abandon_at.Goals as goal
 
-pub returns-clause-cuts : goal.returns-clause-cuts
-returns-clause-cuts g c = cuts-one _ _ _ (NotLive _) _ _ _ _ (λ is. tt) c.abandon-decided.ensures.decides c.abandon-decided.ensures.aligns c.act.ensures.acts
+pub returns-in-Some : goal.returns-in-Some
+returns-in-Some g c = record {
+  cuts = cuts-one _ _ _ (NotLive _) _ _ _ _ _ (λ is. tt) c.in-Some.ensures.decides c.in-Some.ensures.aligns c.act.ensures.acts;
+  next = subst (λ slots. KeepsNext slots c.act.new.self.reading.slots) c.abandon.ensures.slots c.act.ensures.next;
+}
+
+pub returns-in_default : goal.returns-in_default
+returns-in_default g c = ?
