@@ -677,6 +677,15 @@ where
         if !self.is_lost(id) {
             return;
         }
+        self.abandon(id, has_trailers);
+    }
+
+    /// Cuts a call that is no longer live, unless there is no memory for that.
+    fn abandon(&mut self, id: StreamId, has_trailers: bool)
+        ensures cuts { CutsSome M.names false self.old.reading self.old.orders
+            self.new.reading self.new.orders }
+        ensures next { KeepsNext self.old.reading.slots self.new.reading.slots }
+    {
         if let Some(decided) = self.reading.abandon(id, has_trailers) {
             self.act(decided);
         }

@@ -1,9 +1,9 @@
-use Rattle.std.proofs.Common.{ap, refl, subst}
+use Rattle.std.proofs.Common.{ap, refl, subst, sym}
 use Rattle.slots.specs.Lines.{calls_of}
 use Rattle.slots.specs.Seats.{KeepsNext}
 use Rattle.slots.specs.Steps.{NotLive}
 use Rattle.connection.proofs.Heard.{cuts-one, cuts-same}
-use Rattle.connection.proofs.reader.Reader.abandon_at.Goals as goal
+use Rattle.connection.proofs.reader.Reader.abandon.Goals as goal
 
 pub returns-in-Some : goal.returns-in-Some
 returns-in-Some g c = record {
@@ -12,4 +12,7 @@ returns-in-Some g c = record {
 }
 
 pub returns-in_default : goal.returns-in_default
-returns-in_default g c = ?
+returns-in_default g c = record {
+  cuts = cuts-same _ _ _ _ _ c.in_default.ensures.none (ap (λ slots. calls_of slots) c.abandon.ensures.slots) (refl, refl);
+  next = subst (λ slots. KeepsNext c.args.self.now.reading.slots slots) (sym c.abandon.ensures.slots) (λ id next. next);
+}
