@@ -46,6 +46,7 @@ use Rattle.connection.specs.Codes.{HasCodeCause, MayHaveCode, MissesData, WasUne
 use Rattle.connection.specs.Heard.{HasPut}
 use Rattle.connection.specs.Left.{AreLeft, WasLeft}
 use Rattle.connection.specs.Limits.{AreJustified, EndsLast, IsJustified}
+use Rattle.connection.specs.Overrun.{AreOverrun}
 use Rattle.connection.proofs.Causes.{IsCaused, put-caused, taken-resets}
 use Rattle.connection.proofs.Heard.{silent-more}
 use Rattle.connection.proofs.Limits.{all-began, all-below, justified-at, one-too-many, over-window, parts-at}
@@ -281,7 +282,8 @@ opened-known told put id has opened =
 
 module _ (end : Ending) (came : List ℕ) (told : List Step) (put : List Order) (run : List RunStep) (given : List InEvent) (entries : List Entry) (rows : List CallReport)
     (heard : AreHeard end came (events_of told)) (rising : IsRising told) (just : AreJustified told) (ends : EndsLast told)
-    (are : Events came given) (framed : Framed came given entries) (left : AreLeft (left_in run) rows) (streams : map (λ (row : CallReport). row.id) rows ≡ reported told) where
+    (are : Events came given) (framed : Framed came given entries) (left : AreLeft (left_in run) rows) (streams : map (λ (row : CallReport). row.id) rows ≡ reported told)
+    (overran : AreOverrun told run) where
   left-so : (id : ℕ) → is_admitted id told ≡ true → WasTaken (Reset id error.InternalError true) run → WasLeft id rows
   left-so id known was = was-left id told run rows left streams known was
 
@@ -289,7 +291,7 @@ module _ (end : Ending) (came : List ℕ) (told : List Step) (put : List Order) 
   own-code id error.ProtocolError was has = has
   own-code id error.InternalError was has = (inr has, left-so id (cut-known id (NotLive false) told has) was)
   own-code id error.FlowControlError was (inl has) = inl (over-window came given entries told id framed (heard.front given are) just has)
-  own-code id error.FlowControlError was (inr has) = inr (inr has)
+  own-code id error.FlowControlError was (inr has) = inr (overran id has)
   own-code id error.RefusedStream was has = (
     one-too-many came given told id are (heard.front given are) just has,
     is-apart came given told has.heard.0 id has.head (TurnedAway has.fault) has.before are (heard.front given are) has.heard.1 refl,
@@ -309,7 +311,7 @@ module _ (end : Ending) (came : List ℕ) (told : List Step) (put : List Order) 
   module _ (has : HasPut (orders_by told ++ InputEnded ∷ []) put) where
     writer-code : (id : ℕ) (code : ErrorCode) → WasTaken (Reset id code true) run → HasWriterCause code id put run → HasCodeCause code id entries told put run rows
     writer-code id error.InternalError was opened = (inl opened, left-so id (opened-known told put id has opened) was)
-    writer-code id error.FlowControlError was would = inr (inl would)
+    writer-code id error.FlowControlError was would = inr would
     writer-code id error.ProtocolError was none = absurd none
     writer-code id error.RefusedStream was none = absurd none
     writer-code id error.Cancel was none = absurd none

@@ -278,13 +278,13 @@ module _ {H : Type 0} {hand : Hands H} {A B C N : Type 0} {route : Ghosts N} {na
         },
       )
 
-  pub cuts-one : (ended : Bool) (decided : Decided) (id : ℕ) (why : Cause) (reading new_reading : Reading H hand) (old new : Orders A B C N route) → (ended ≡ false → AreGoing (CutOff id why ∷ []))
-      → DecidesOn names (CutOff id why) decided reading reading → Aligns decided reading reading → Acts names decided reading old new_reading new → CutsSome names ended reading old new_reading new
-  cuts-one ended decided id why reading new_reading old new going decides aligns acts told reads =
+  pub cuts-one : (ended : Bool) (decided : Decided) (id : ℕ) (why : Cause) (one two three : Reading H hand) (old new : Orders A B C N route) → (ended ≡ false → AreGoing (CutOff id why ∷ []))
+      → DecidesOn names (CutOff id why) decided one two → Aligns decided one two → Acts names decided two old three new → CutsSome names ended one old three new
+  cuts-one ended decided id why one two three old new going decides aligns acts told reads =
       let decision = decides told reads in
       let done = acts.0 told (CutOff id why) decision in
-      let fresh = opens-new names told (CutOff id why) decided reading.slots reads.slots done.0.slots.rising decision.orders in
-      (CutOff id why ∷ [], record { silent = refl; calm = (refl, tt); going = going; reads = done.0; ordered = done.1; lined = λ lined. acts.1 (calls_of reading.slots) aligns fresh lined })
+      let fresh = opens-new names told (CutOff id why) decided one.slots reads.slots done.0.slots.rising decision.orders in
+      (CutOff id why ∷ [], record { silent = refl; calm = (refl, tt); going = going; reads = done.0; ordered = done.1; lined = λ lined. acts.1 (calls_of one.slots) aligns fresh lined })
 
   -- the server drains
   pub cuts-drain : (decided : Decided) (one two three : Reading H hand) (old new : Orders A B C N route) → DecidesOn names Drains decided one two → Aligns decided one two → Acts names decided two old three new

@@ -4,6 +4,7 @@ pub mod Heard
 pub mod Reports
 pub mod Rising
 pub mod Noted
+pub mod Overrun
 pub mod Lines
 pub mod MeetSteps
 pub mod RunOrders

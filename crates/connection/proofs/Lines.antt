@@ -703,21 +703,21 @@ few-lined slots put lined = subst (λ (calls : List SlotCalls). AreFew calls) li
 
 module _ {W : Type 0} (contents : W → Option (List ℕ)) (failed : W → Bool) where
   -- the orders that were taken are some of those that were put
-  pub fits-sent : {faultless : Bool} {resets : List ℕ} (slots : List SlotCalls) (put took left : List (Control Opened)) (before : Option (List ℕ)) (credit : ℕ) (places : List Place) (ending : Option Ending) (device : W) → took ++ left ≡ put → LinedTo slots put
-      → (sent : HasSent contents failed before credit took places ending faultless resets device) → Fits slots took × Fits slots sent.front
+  pub fits-sent : {faultless : Bool} {resets blamed : List ℕ} (slots : List SlotCalls) (put took left : List (Control Opened)) (before : Option (List ℕ)) (credit : ℕ) (places : List Place) (ending : Option Ending) (device : W) → took ++ left ≡ put → LinedTo slots put
+      → (sent : HasSent contents failed before credit took places ending faultless resets blamed device) → Fits slots took × Fits slots sent.front
   fits-sent slots put took left before credit places ending device is lined sent =
       let fits = fits-front slots put took left is (fits-put slots put lined) in
       (fits, fits-front slots took sent.front sent.rest (sym sent.orders_are) fits)
 
-  pub meeting-put : {faultless : Bool} {resets : List ℕ} (slots : List SlotCalls) (put took : List (Control Opened)) (before : Option (List ℕ)) (credit : ℕ) (places : List Place) (ending : Option Ending) (device : W) (ends : List GivingEnd)
-      → IsPrefix took put → LinedTo slots put → HasSent contents failed before credit took places ending faultless resets device → AreEndsOf slots ends → AreMeeting (held_of places) ends
+  pub meeting-put : {faultless : Bool} {resets blamed : List ℕ} (slots : List SlotCalls) (put took : List (Control Opened)) (before : Option (List ℕ)) (credit : ℕ) (places : List Place) (ending : Option Ending) (device : W) (ends : List GivingEnd)
+      → IsPrefix took put → LinedTo slots put → HasSent contents failed before credit took places ending faultless resets blamed device → AreEndsOf slots ends → AreMeeting (held_of places) ends
   meeting-put slots put took before credit places ending device ends begins lined sent are =
       let fits = fits-sent slots put took begins.0 before credit places ending device begins.1 lined sent in
       meeting sent.written.run sent.front (held_of places) slots ends fits.1 (sent.told fits.0.fresh) are
 
   -- what was sent of a call that a slot has
-  pub sent-put : {faultless : Bool} {resets : List ℕ} (slots : List SlotCalls) (put took left : List (Control Opened)) (before : Option (List ℕ)) (credit : ℕ) (places : List Place) (ending : Option Ending) (device : W) (ends : List GivingEnd) (rows new : List CallReport)
-      → took ++ left ≡ put → LinedTo slots put → (sent : HasSent contents failed before credit took places ending faultless resets device) → (met : HaveMet (ids_of places) (held_of places) ends rows new)
+  pub sent-put : {faultless : Bool} {resets blamed : List ℕ} (slots : List SlotCalls) (put took left : List (Control Opened)) (before : Option (List ℕ)) (credit : ℕ) (places : List Place) (ending : Option Ending) (device : W) (ends : List GivingEnd) (rows new : List CallReport)
+      → took ++ left ≡ put → LinedTo slots put → (sent : HasSent contents failed before credit took places ending faultless resets blamed device) → (met : HaveMet (ids_of places) (held_of places) ends rows new)
       → (row : CallReport) (account : Account) → IsGivenIn slots ends row.id account → IsSentRow sent.written.run account.given row (met.note row)
   sent-put slots put took left before credit places ending device ends rows new is lined sent met row account given =
       let fits = fits-sent slots put took left before credit places ending device is lined sent in

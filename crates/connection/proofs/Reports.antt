@@ -22,12 +22,14 @@ use Rattle.slots.specs.Orders.{IsReset, orders_by}
 use Rattle.slots.specs.Reports.{AreRows, IsAccounted, IsFront, IsReported, IsUnserved, is_heard_out}
 use Rattle.slots.specs.Steps.{Step, events_of, is_drain, is_draining, reported}
 use Rattle.slots.proofs.Resets.{calm-more, reset-left, reset-ordered}
+use Rattle.slotwriter.specs.Blamed.{WouldOverflow}
 use Rattle.slotwriter.specs.Left.{left_in}
 use Rattle.slotwriter.specs.Written.{HasWritten}
 use Rattle.connection.specs.declared.orders.Orders.{Orders}
 use Rattle.connection.specs.declared.orders.Route.{Ghosts}
 use Rattle.connection.specs.Heard.{EndsOrders, HasEnded, HasRead, IsEndedBy}
 use Rattle.connection.specs.Left.{AreLeft}
+use Rattle.connection.specs.Overrun.{AreOverrun}
 use Rattle.connection.specs.Puts.{put_orders}
 use Rattle.connection.specs.Sent.{CarriesWhatWasSent, HaveMet}
 use Rattle.slotwriter.specs.Sent.{SlotSender}
@@ -81,8 +83,8 @@ abbrev ending_orders : List Order
 ending_orders = orders.InputEnded ∷ orders.Close ∷ []
 
 -- that the writer blames its peer is no cause of the reader's
-blamed-so : (told : List Step) (read : Ending) (code : ErrorCode) → ((c : ErrorCode) → read ≡ ProtocolError c → IsEndedBy (ProtocolError c) told)
-    → (read ≡ ProtocolError code) ⊎ (code ≡ FlowControlError) → IsEndedBy (ProtocolError code) told ⊎ (code ≡ FlowControlError)
+blamed-so : {B : Type 0} (told : List Step) (read : Ending) (code : ErrorCode) → ((c : ErrorCode) → read ≡ ProtocolError c → IsEndedBy (ProtocolError c) told)
+    → (read ≡ ProtocolError code) ⊎ B → IsEndedBy (ProtocolError code) told ⊎ B
 blamed-so told read code failed (inl is) = inl (failed code is)
 blamed-so told read code failed (inr is) = inr is
 
@@ -142,13 +144,15 @@ module _ (answers : ℕ → List (List ℕ) → Bool → Answer → Type 0) (nam
   pub are-served : {H : Type 0} {hand : Hands H} {A B C N : Type 0} {route : Ghosts N} (came : List ℕ) (before : Option (List ℕ)) (granted : ℕ) (read_failed : Bool) (read ending : Ending) (told cuts : List Step)
       (reading : Reading H hand) (old new : Orders A B C N route) (given calls : V) (device : W) → HasRead names read came told reading old
       → (carries : ℕ → Account → Type 0) → HasEnded items answers names carries told cuts given → EndsOrders told cuts old new → (is_heard_out ending ≡ true → ending ≡ read)
-      → ((code : ErrorCode) → ending ≡ ProtocolError code → (read ≡ ProtocolError code) ⊎ (code ≡ FlowControlError)) → (ending ≢ OutOfMemory → read ≢ OutOfMemory)
+      → (ending ≢ OutOfMemory → read ≢ OutOfMemory)
       → (ending ≢ OutOfMemory → ending ≢ WriteFailed → ((code : ErrorCode) → ending ≢ ProtocolError code) → new.has_dropped ≡ false) → (read ≡ ReadFailed → read_failed ≡ true)
       → granted ≤ counted_told (events_of told)
       → (written : HasWritten contents failed before granted (put_orders new) (Some ending) (is_drained ending) device)
       → AreRows answers names (CarriesWhatWasSent written.run) (cuts ++ told) (reported (cuts ++ told)) (items calls) → (ending ≢ OutOfMemory → AreLeft (left_in written.run) (items calls))
+      → (ending ≢ OutOfMemory → AreOverrun (cuts ++ told) written.run)
+      → ((code : ErrorCode) → ending ≡ ProtocolError code → (read ≡ ProtocolError code) ⊎ ((code ≡ FlowControlError) × WouldOverflow 0 written.run))
       → IsServed items contents failed answers names came before read_failed ending calls device
-  are-served came before granted read_failed read ending told cuts reading old new given calls device has carries ended ends input blamed spared undropped unread within written rows left =
+  are-served came before granted read_failed read ending told cuts reading old new given calls device has carries ended ends input spared undropped unread within written rows left overran blamed =
       let is : events_of (cuts ++ told) ≡ events_of told = silent-more cuts told ended.silent in
       let also : is_heard_out ending ≡ true → is_heard_out read ≡ true = λ out. subst (λ (e : Ending). is_heard_out e ≡ true) (input out) out in
       let whole : is_heard_out ending ≡ true → put_orders new ≡ orders_by (cuts ++ told) ++ ending_orders =
@@ -176,6 +180,7 @@ module _ (answers : ℕ → List (List ℕ) → Bool → Answer → Type 0) (nam
             (subst (λ (es : List InEvent). granted ≤ counted_told es) (sym is) within);
         rows = rows;
         left = left;
+        overran = overran;
         drained = λ is.
             let out = drained-out ending is in
             has-drained (cuts ++ told) (put_orders new) written.run (calm-more cuts told ended.calm (has.calm (also out))) ended.closed
@@ -228,6 +233,7 @@ module _ (answers : ℕ → List (List ℕ) → Bool → Answer → Type 0) (nam
         credit = told-within contents failed before granted put (Some ending) device 0 written within;
         rows = none-rows (CarriesWhatWasSent written.run) calls none;
         left = λ spared. absurd (spared lacked);
+        overran = λ spared. absurd (spared lacked);
         drained = λ is. absurd (not (drained-out ending is));
         cause = record { drains = λ is. absurd (not (drained-out ending is)); unread = λ is. absurd cc; unsent = λ sent. absurd cc; goaway = λ is. absurd cc; failed = λ code is. absurd cc };
       }

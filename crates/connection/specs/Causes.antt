@@ -14,14 +14,13 @@ use Rattle.h2frame.specs.declared.error_code.ErrorCode.TheVariants as error
 use Rattle.h2frame.specs.declared.frame.Frame.{Frame}
 use Rattle.lists.specs.declared.field.Field.{Field}
 use Rattle.outwriter.specs.declared.control.Control.TheVariants.{Open}
-use Rattle.outwriter.specs.declared.control.OutFault.TheVariants.{PeerWindow}
 use Rattle.outwriter.specs.Parts.{Mark, Fields, End, Reset}
-use Rattle.outwriter.specs.RunState.{Blames, Concerns}
 use Rattle.outwriter.specs.Steps.{Order, Taken, Granted, Written, Returned}
 use Rattle.outwriter.specs.Steps.{Step as RunStep}
 use Rattle.session.specs.declared.event.InEvent.TheVariants as events
 use Rattle.slots.specs.Orders.{is_fed}
 use Rattle.slots.specs.Steps.{Fate, Unknown, TurnedAway, Received, Missed, Cause, AtEnd, NotLive, Step, Told, CutOff, WasTold}
+use Rattle.slotwriter.specs.Blamed.{WouldOverflow}
 use Rattle.slotwriter.specs.Orders.{IsAmong, ends_input}
 
 -- this step was heard, behind these
@@ -81,15 +80,6 @@ abbrev pub HasResetCause : ErrorCode → ℕ → List Step → Type 0
 HasResetCause code id told = WasTold (events.StreamError id code) told ⊎ HasOwnCause code id told
 
 -- ---- what the side that writes resets a stream for by itself
-
--- With a control of the peer that was taken, the stream's window would be over 2^31 - 1 bytes (section 6.9.1).
-pub record WouldOverflow (id : ℕ) (run : List RunStep) : Type 0 where
-  pub order : Order
-  pub before : List RunStep
-  pub later : List RunStep
-  pub taken : run ≡ later ++ Taken order ∷ before
-  pub concerns : Concerns (PeerWindow id) order
-  pub blames : Blames (PeerWindow id) order before
 
 -- Its call was opened by the first of the orders, by which the input goes on.
 pub record WasOpened (id : ℕ) (put : List Order) : Type 0 where

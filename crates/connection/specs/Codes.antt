@@ -14,7 +14,8 @@ use Rattle.session.specs.FlowBytes.{payloads}
 use Rattle.session.specs.StreamData.{Unended, ending_told, pieces}
 use Rattle.slots.specs.Calls.{is_admitted}
 use Rattle.slots.specs.Steps.{NotLive, Step, WasTold, events_of, fed_by, reported, since}
-use Rattle.connection.specs.Causes.{IsMalformed, WasCut, WasOpened, WouldOverflow}
+use Rattle.slotwriter.specs.Blamed.{WouldOverflow}
+use Rattle.connection.specs.Causes.{IsMalformed, WasCut, WasOpened}
 use Rattle.connection.specs.Left.{WasLeft}
 use Rattle.connection.specs.Limits.{IsOneTooMany, WasDrained}
 
@@ -31,12 +32,12 @@ abbrev pub MissesData : ℕ → List Step → Type 0
 MissesData id told = (is_admitted id told ≡ true) × (fed_by id (since id told) ≢ pieces id (events_of (since id told)))
 
 -- The cause of a code. 1: the head is malformed. 2: the call was left, as the writer or the reader saw, and its row has no status. 3: the
--- payloads of DATA that came, padding too, have more than 65,535 bytes, or a window of the peer's would be too large, as the run tells, or as
--- the reader saw.
+-- payloads of DATA that came, padding too, have more than 65,535 bytes, or with a control of the peer that the run took the stream's window
+-- would be too large.
 abbrev pub HasCodeCause : ErrorCode → ℕ → List Entry → List Step → List Order → List RunStep → List CallReport → Type 0
 HasCodeCause error.ProtocolError id entries told put run rows = IsMalformed id told
 HasCodeCause error.InternalError id entries told put run rows = (WasOpened id put ⊎ WasCut (NotLive false) id told) × WasLeft id rows
-HasCodeCause error.FlowControlError id entries told put run rows = (65535 < payloads entries) ⊎ (WouldOverflow id run ⊎ WasCut (NotLive true) id told)
+HasCodeCause error.FlowControlError id entries told put run rows = (65535 < payloads entries) ⊎ WouldOverflow id run
 HasCodeCause error.RefusedStream id entries told put run rows = WasRefused id told
 HasCodeCause error.Cancel id entries told put run rows = WasUnended id told
 HasCodeCause error.EnhanceYourCalm id entries told put run rows = MissesData id told

@@ -7,3 +7,4 @@ pub mod Served
 pub mod Sent
 pub mod Causes
 pub mod News
+pub mod Overrun

@@ -9,6 +9,7 @@ use Rattle.handlers.specs.declared.step.Step.{Step as Answer}
 use Rattle.outwriter.specs.Credit.{updated}
 use Rattle.outwriter.specs.Drains.{HasDrained}
 use Rattle.outwriter.specs.Steps.{Order}
+use Rattle.outwriter.specs.Steps.{Step as RunStep}
 use Rattle.outwriter.specs.declared.control.Control.TheVariants.{InputEnded, Close}
 use Rattle.session.specs.declared.event.InEvent.TheVariants as events
 use Rattle.session.specs.FlowBytes.{counted_told}
@@ -16,21 +17,24 @@ use Rattle.slots.specs.Calls.{is_admitted}
 use Rattle.slots.specs.Orders.{greatest, orders_by}
 use Rattle.slots.specs.Reports.{AreCalm, AreHeard, AreRows, WasResetFor, is_heard_out}
 use Rattle.slots.specs.Steps.{AdmitsNoMore, IsRising, Step, WasTold, events_of, is_draining, reported}
+use Rattle.slotwriter.specs.Blamed.{WouldOverflow}
 use Rattle.slotwriter.specs.Left.{left_in}
 use Rattle.slotwriter.specs.Written.{HasWritten}
 use Rattle.connection.specs.Heard.{HasPut, IsEndedBy}
 use Rattle.connection.specs.Left.{AreLeft}
+use Rattle.connection.specs.Overrun.{AreOverrun}
 use Rattle.connection.specs.Sent.{CarriesWhatWasSent}
 use Rattle.connection.specs.Limits.{AreJustified, EndsLast}
 
 -- An ending has its cause: a read failed, or a write; the peer told that it opens no more streams; the server drained; a step that was heard ended
--- the connection with this error, or the writer did, since a window of the peer's would be too large (RFC 9113, sections 5.4.1, 6.8 and 6.9.1).
-pub record HasCause (end : Ending) (told : List Step) (read_failed write_failed : Bool) : Type 0 where
+-- the connection with this error, or the writer did, since with a control of the peer that its run took the connection's window would be too
+-- large, or some stream's by an initial size (RFC 9113, sections 5.4.1, 6.8, 6.9.1 and 6.9.2).
+pub record HasCause (end : Ending) (told : List Step) (run : List RunStep) (read_failed write_failed : Bool) : Type 0 where
   pub unread : end ≡ ReadFailed → read_failed ≡ true
   pub unsent : end ≡ WriteFailed → write_failed ≡ true
   pub goaway : end ≡ PeerGoaway → WasTold events.PeerGoaway told
   pub drains : end ≡ Drained → is_draining told ≡ true
-  pub failed : (code : ErrorCode) → end ≡ ProtocolError code → IsEndedBy (ProtocolError code) told ⊎ (code ≡ FlowControlError)
+  pub failed : (code : ErrorCode) → end ≡ ProtocolError code → IsEndedBy (ProtocolError code) told ⊎ ((code ≡ FlowControlError) × WouldOverflow 0 run)
 
 -- the connection ended since the server drained
 abbrev pub is_drained : Ending → Bool
@@ -72,4 +76,6 @@ module _ {W V : Type 0} (items : V → List CallReport) (contents : W → Option
     pub left : end ≢ OutOfMemory → AreLeft (left_in written.run) (items calls)
     -- where the server drained, the last GOAWAY that was written has no error, and names the greatest stream of a row, 0 for none (section 6.8)
     pub drained : end ≡ Drained → HasDrained (greatest (reported told)) written.run
-    pub cause : HasCause end told read_failed (failed device)
+    -- where memory didn't run out, a call that was answered was cut as live no more only since its window would be too large (section 6.9.1)
+    pub overran : end ≢ OutOfMemory → AreOverrun told written.run
+    pub cause : HasCause end told written.run read_failed (failed device)

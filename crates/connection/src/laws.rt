@@ -30,6 +30,7 @@ ghost use Rattle.h2frame.specs.FrameList.{Entry};
 ghost use Rattle.connection.specs.Causes.{HasCauseOf, HasResetCause, IsOverWindow, IsRefusal, WasCut, WasTaken, WasTurnedAway, WasWritten};
 ghost use Rattle.connection.specs.Codes.{MayHaveCode};
 ghost use Rattle.connection.specs.Left.{AreLeft};
+ghost use Rattle.connection.specs.Overrun.{AreOverrun};
 ghost use Rattle.connection.specs.Limits.{AreJustified, EndsLast, IsOneTooMany, WasCutLast, WasDrained};
 ghost use Rattle.connection.specs.Heard.{HasPut};
 ghost use Rattle.connection.specs.News.{acknowledgements, answers_to, news_in, news_told, taken_by};
@@ -104,7 +105,8 @@ pub fn reset_codes()
         (rows : List Row) →
         AreHeard end came (events_of told) → IsRising told → AreJustified told → EndsLast told
         → Events came given → Framed came given entries
-        → AreLeft (left_in run) rows → map (λ row. row.id) rows ≡ reported told →
+        → AreLeft (left_in run) rows → map (λ row. row.id) rows ≡ reported told
+        → AreOverrun told run →
         HasPut (orders_by told ++ InputEnded ∷ []) put → Obeys true put run → IsLawful run →
         (frame : Frame) → WasWritten frame run → frame.head.kind ≡ RstStream →
         (code : Code) × (frame ≡ reset_frame frame.head.stream code)
@@ -118,7 +120,8 @@ pub fn order_codes()
         (rows : List Row) →
         AreHeard end came (events_of told) → IsRising told → AreJustified told → EndsLast told
         → Events came given → Framed came given entries
-        → AreLeft (left_in run) rows → map (λ row. row.id) rows ≡ reported told →
+        → AreLeft (left_in run) rows → map (λ row. row.id) rows ≡ reported told
+        → AreOverrun told run →
         HasPut (orders_by told ++ InputEnded ∷ []) put → Obeys true put run →
         (id : ℕ) (code : Code) → WasTaken (Reset id code true) run
         → MayHaveCode code id entries told put run rows }

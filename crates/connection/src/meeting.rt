@@ -6,6 +6,7 @@ ghost use Rattle.lane.specs.RingLane.{out_name, ring_of};
 ghost use Rattle.callslot.specs.Workers.{giving_ring};
 ghost use Rattle.slotwriter.specs.Sent.{SlotSender, held_of, ids_of};
 ghost use Rattle.connection.specs.Left.{is_answered_of};
+ghost use Rattle.connection.specs.Overrun.{is_lacking};
 ghost use Rattle.connection.specs.Sent.{AreMeeting, HaveMet, MeetsSlot, sent_of, sent_upto};
 
 use callbox::count_out;
@@ -100,4 +101,17 @@ fn is_answered(row: &CallReport, streams: &[StreamId]) -> bool
     ensures { result ≡ is_answered_of streams.now row.now }
 {
     row.status.is_some() && streams.contains(&row.id)
+}
+
+/// Whether one of these streams is none of those.
+pub(crate) fn lacks_one(streams: &[StreamId], those: &[StreamId]) -> bool
+    ensures { result ≡ list_any (λ id. is_lacking those.now id) streams.now }
+{
+    streams.iter().any(|id| is_lacking(*id, those))
+}
+
+fn is_lacking(id: StreamId, those: &[StreamId]) -> bool
+    ensures { result ≡ is_lacking those.now id }
+{
+    !those.contains(&id)
 }

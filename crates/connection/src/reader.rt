@@ -14,7 +14,7 @@ ghost use Rattle.lane.specs.RingLane.{out_name, ring_of};
 ghost use Rattle.slots.specs.Lines.{AreEndsOf, HasRoom, IsGivenIn, SlotCalls, calls_of, ring_at};
 ghost use Rattle.slots.specs.Readings.{Reads};
 ghost use Rattle.slots.specs.Seats.{IsNext, IsSeat, KeepsNext, jobs_of};
-ghost use Rattle.slots.specs.Steps.{Admitted, Step, Told, events_of};
+ghost use Rattle.slots.specs.Steps.{Admitted, AreAbandoned, Step, Told, events_of};
 ghost use Rattle.callslot.specs.declared.slot.Job.{Job as Called};
 ghost use Rattle.std.specs.Io.KnownBytes.{Consumes};
 ghost use Rattle.connection.specs.Heard.{Acts, CutsSome, EndsOrders, HasEnded, HasRead, KeptFor, ReadsTo, ReadsWith};
@@ -191,6 +191,7 @@ where
             → (cuts : List Step) × (slots : List SlotCalls)
             × HasEnded (λ rows. rows.items) M.known M.names (IsGivenIn slots result.0.ends.items)
             told cuts result.0.calls
+            × AreAbandoned (cuts ++ told) result.0.abandoned.items
             × AreEndsOf slots result.0.ends.items
             × (Lined (calls_of self.reading.slots) self.orders → LinedTo slots (put_of result.1))
             × EndsOrders told cuts self.orders result.1 }
@@ -676,8 +677,18 @@ where
         if !self.is_lost(id) {
             return;
         }
-        let decided = self.reading.abandon(id, has_trailers);
-        self.act(decided);
+        self.abandon(id, has_trailers);
+    }
+
+    /// Cuts a call that is no longer live, unless there is no memory for that.
+    fn abandon(&mut self, id: StreamId, has_trailers: bool)
+        ensures cuts { CutsSome M.names false self.old.reading self.old.orders
+            self.new.reading self.new.orders }
+        ensures next { KeepsNext self.old.reading.slots self.new.reading.slots }
+    {
+        if let Some(decided) = self.reading.abandon(id, has_trailers) {
+            self.act(decided);
+        }
     }
 
     /// Whether a call is no longer live, but not since the writer has stopped.

@@ -5,11 +5,11 @@ ghost use Rattle.callslot.specs.declared.report.Ending.TheVariants as ending;
 ghost use Rattle.std.specs.Io.KnownBytes.{Consumes};
 ghost use Rattle.handlers.specs.Listed.{listed};
 ghost use Rattle.h2frame.specs.declared.error_code.ErrorCode.{ErrorCode as Code};
-ghost use Rattle.h2frame.specs.declared.error_code.ErrorCode.TheVariants.{FlowControlError};
 ghost use Rattle.callslot.specs.Accounts.{IsWithin, answers_by};
 ghost use Rattle.slots.specs.Calls.{AreNames, IsFirstWith};
 ghost use Rattle.slots.specs.Reports.{is_heard_out};
 ghost use Rattle.lane.specs.Ring.{in_name, out_name, put_in, taken};
+ghost use Rattle.slotwriter.specs.Left.{AreAmong};
 ghost use Rattle.slotwriter.specs.Sent.{held_of, ids_of};
 ghost use Rattle.connection.specs.Left.{AreLeft};
 ghost use Rattle.connection.specs.Sent.{AreMeeting, HaveMet};
@@ -20,7 +20,7 @@ ghost use Rattle.connection.specs.Served.{IsServed};
 
 use crate::drain::{DrainSeat, Drainer};
 use crate::intake::Intake;
-use crate::meeting::{is_one_answered, meet_slots};
+use crate::meeting::{is_one_answered, lacks_one, meet_slots};
 use crate::orders::{ORDERS, Orders, Route};
 use crate::outlet::Outlet;
 use crate::reader::Reader;
@@ -30,7 +30,6 @@ use crate::writer::Parted;
 use callslot::{Ending, Order};
 use callworker::{Answering, Gate, Shared};
 use device::{ConnRead, ConnWrite};
-use h2frame::ErrorCode;
 use handlers::{Method, Methods};
 use lane::{Ring, RingIn, RingOut};
 use slots::Ended;
@@ -237,6 +236,7 @@ where
             let ended = Ended {
                 calls: Vec::new(alloc),
                 ends: Vec::new(alloc),
+                abandoned: Vec::new(alloc),
             };
             return meet(Ending::OutOfMemory, ended, orders, written);
         }
@@ -289,6 +289,9 @@ where
     // No call has a status whose stream was reset since it was left.
     ensures left { result.ending ≢ ending.OutOfMemory
         → AreLeft written.resets.items result.calls.items }
+    // For each call that was cut though it was answered the writer has blamed its peer.
+    ensures overran { result.ending ≢ ending.OutOfMemory
+        → AreAmong ended.abandoned.items written.blamed.items }
     // None was dropped, unless the ending tells why.
     ensures dropped { result.ending ≢ ending.OutOfMemory → result.ending ≢ ending.WriteFailed
         → ((code : Code) → result.ending ≢ ending.ProtocolError code) → orders.has_dropped ≡ false }
@@ -296,7 +299,8 @@ where
     ensures faultless { result.ending ≡ ending.Drained → written.is_faultless ≡ true }
     ensures input { is_heard_out result.ending ≡ true → result.ending ≡ read }
     ensures blamed { (code : Code) → result.ending ≡ ending.ProtocolError code
-        → (read ≡ ending.ProtocolError code) ⊎ (code ≡ FlowControlError) }
+        → (read ≡ ending.ProtocolError code)
+        ⊎ (written.ending ≡ Some (ending.ProtocolError code)) }
     ensures spared { result.ending ≢ ending.OutOfMemory → read ≢ ending.OutOfMemory }
     ensures lacked { read ≡ ending.OutOfMemory → result.ending ≡ ending.OutOfMemory }
 {
@@ -307,15 +311,21 @@ where
         senders,
         is_faultless,
         resets,
+        blamed,
     } = written;
     let has_dropped = orders.has_dropped;
     let are_all = orders.meet(rx);
-    let Ended { mut calls, ends } = ended;
+    let Ended {
+        mut calls,
+        ends,
+        abandoned,
+    } = ended;
     meet_slots(ends, senders, &mut calls);
     let seen = by_orders(of_both(read, ending), are_all, has_dropped, is_faultless);
     let is_one_answered = is_one_answered(calls.as_slice(), resets.as_slice());
+    let is_one_unblamed = lacks_one(abandoned.as_slice(), blamed.as_slice());
     Served {
-        ending: by_calls(seen, is_one_answered),
+        ending: by_calls(seen, is_one_answered, is_one_unblamed),
         output: device,
         calls,
     }
@@ -329,15 +339,14 @@ fn of_both(read: Ending, written: Option<Ending>) -> Ending
         → result ≡ ending.WriteFailed }
     ensures marked { result ≡ ending.WriteFailed → written ≡ Some ending.WriteFailed }
     ensures blamed { (code : Code) → result ≡ ending.ProtocolError code
-        → (read ≡ ending.ProtocolError code) ⊎ (code ≡ FlowControlError) }
+        → (read ≡ ending.ProtocolError code) ⊎ (written ≡ Some (ending.ProtocolError code)) }
     ensures input { is_heard_out result ≡ true → result ≡ read }
     ensures lacked { read ≡ ending.OutOfMemory → result ≡ ending.OutOfMemory }
 {
     match (read, written) {
         (Ending::OutOfMemory, _) => Ending::OutOfMemory,
         (_, Some(Ending::OutOfMemory)) => Ending::OutOfMemory,
-        // The writer blames its peer for nothing but a window that would be too large.
-        (_, Some(Ending::ProtocolError(_))) => Ending::ProtocolError(ErrorCode::FlowControlError),
+        (_, Some(Ending::ProtocolError(code))) => Ending::ProtocolError(code),
         (_, Some(Ending::WriteFailed)) => Ending::WriteFailed,
         (_, Some(_)) | (Ending::WriteFailed, None) => Ending::OutOfMemory,
         (ending, None) => ending,
@@ -366,14 +375,15 @@ fn by_orders(seen: Ending, are_all: bool, has_dropped: bool, is_faultless: bool)
     }
 }
 
-/// The same by whether a call was answered whose stream was reset as that of a call that was left. It counts as want of memory; but that
-/// doesn't come.
-fn by_calls(seen: Ending, is_one_answered: bool) -> Ending
+/// The same by whether a call was answered whose stream was reset as that of a call that was left, and whether one was cut though it was
+/// answered, for which the writer hadn't blamed its peer. Either counts as want of memory; but that doesn't come.
+fn by_calls(seen: Ending, is_one_answered: bool, is_one_unblamed: bool) -> Ending
     ensures memory { seen ≡ ending.OutOfMemory → result ≡ ending.OutOfMemory }
     ensures same { result ≢ ending.OutOfMemory → result ≡ seen }
     ensures left { result ≢ ending.OutOfMemory → is_one_answered ≡ false }
+    ensures overran { result ≢ ending.OutOfMemory → is_one_unblamed ≡ false }
 {
-    if is_one_answered {
+    if is_one_answered || is_one_unblamed {
         Ending::OutOfMemory
     } else {
         seen

@@ -48,7 +48,7 @@ impl<A: Ledger, B: Ledger, C: Ledger, W: ConnWrite + Drop, G: Gate + Drop> Write
             → HasSent W.contents W.failed before result.told.amount
             (taken result.written.orders) result.written.senders.places.items
             result.written.ending result.written.is_faultless result.written.resets.items
-            result.written.device }
+            result.written.blamed.items result.written.device }
         ensures name { out_name result.written.orders ≡ out_name self.writing.inbox.ring }
         ensures parts { result.told.parts ≡ self.outlet.told.parts }
     {
@@ -370,7 +370,8 @@ pub(crate) struct Begun<W: ConnWrite> {
 impl<C: Ledger, W: ConnWrite + Drop> Promise<Parted<C, W>> for Begun<W> {
     ghost kept_by = { λ begun r. (out_name r.written.orders ≡ out_name begun.orders.value)
         × HasSent W.contents W.failed (W.contents begun.device.value) r.told.amount (taken r.written.orders) r.written.senders.places.items
-        r.written.ending r.written.is_faultless r.written.resets.items r.written.device
+        r.written.ending r.written.is_faultless r.written.resets.items r.written.blamed.items
+        r.written.device
         × (r.told.parts ≡ C.parts) };
 }
 
@@ -426,7 +427,7 @@ where
             → HasSent W.contents W.failed before result.told.amount
             (taken result.written.orders) result.written.senders.places.items
             result.written.ending result.written.is_faultless result.written.resets.items
-            result.written.device }
+            result.written.blamed.items result.written.device }
         ensures parts { result.told.parts ≡ writer.outlet.told.parts }
     { writer.write(&rt) };
     match thread::spawn_with(&rt, begun, write) {

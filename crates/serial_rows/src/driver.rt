@@ -342,8 +342,9 @@ impl<'a> Serial<'a> {
         'places: for place in 0..self.reading.slots() {
             if let Some((id, has_trailers)) = self.reading.answered(place) {
                 if !credit.book.has_stopped() && !credit.book.is_live(id) {
-                    let decided = self.reading.abandon(id, has_trailers);
-                    self.act(credit, decided)?;
+                    if let Some(decided) = self.reading.abandon(id, has_trailers) {
+                        self.act(credit, decided)?;
+                    }
                 }
             }
         }

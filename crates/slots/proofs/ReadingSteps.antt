@@ -1,8 +1,9 @@
 -- What one step more makes of the reading side, and what is decided of it.
 use Rattle.std.proofs.Common.{◌≡◌, ◌≢◌, ◌∙◌, inl, inr, ℕ, ◌<◌, Bool, true, false, true≢false, nat_eq, List, [], ◌∷◌, ◌++◌, Option, None, Some, ap, arith, eqb-true, get_or, refl, subst, sym}
-use Rattle.std.specs.Prelude.{◌&&◌, ◌||◌, if◌then◌else◌, is_none, is_some, min, position}
+use Rattle.std.specs.Prelude.{◌&&◌, ◌||◌, Contains, if◌then◌else◌, is_none, is_some, min, position}
 use Rattle.std.proofs.lemmas.Bool.{and_parts, cases_Bool}
 use Rattle.std.proofs.lemmas.List.{append_assoc}
+use Rattle.std.proofs.lemmas.List.Elements.{Contains-append_cases, Contains-append_right}
 use Rattle.std.proofs.lemmas.List.Quantifiers.{position-Some}
 use Rattle.callslot.specs.declared.order.Opened.{Opened}
 use Rattle.callslot.specs.declared.report.Ending.{Ending}
@@ -27,9 +28,9 @@ use Rattle.slots.specs.Calls.{is_admitted}
 use Rattle.slots.specs.Concerns.{Concerns, IsIdle}
 use Rattle.slots.specs.Halves.{is_open, shown}
 use Rattle.slots.specs.Orders.{begun, begun_at, came_loose, cut_code, ends_at, greatest, is_fed, last_stream, named, named_with, orders_at}
-use Rattle.slots.specs.Readings.{Awaits, Begins, Counts, Decides, DecidesOn, Heeds, Reads, Stands, Stays, order_in, orders_in, unless_ended}
+use Rattle.slots.specs.Readings.{Awaits, Begins, Counts, Decides, DecidesOn, Heeds, IsNoted, Reads, Stands, Stays, heeded, order_in, orders_in, unless_ended}
 use Rattle.slots.specs.Seats.{Hears, Keeps, Kept, feeds}
-use Rattle.slots.specs.Steps.{Cause, CutOff, Drains, Fate, Lacking, Received, Step, Told, WasTold, events_of, is_drain, is_draining, reported, shut_at, shut_by, since}
+use Rattle.slots.specs.Steps.{AreAbandoned, Cause, CutOff, Drains, Fate, Lacking, NotLive, Received, Step, Told, WasTold, abandoned, abandoned_by, events_of, is_drain, is_draining, reported, shut_at, shut_by, since}
 use Rattle.slots.proofs.SlotSteps.{kept-idle, kept-none}
 use Rattle.slots.proofs.Unfed.{unfed-shut}
 
@@ -154,63 +155,127 @@ told-more event (Told other fate) told (before, after, is) =
 told-more event (CutOff id why) told was = was
 told-more event Drains told was = was
 
-module _ {H : Type 0} {hand : Ghosts H} where
-  heeds-same : (told : List Step) (old new : Reading H hand) → new.peer_goaway ≡ old.peer_goaway → Heeds told old → Heeds told new
-  heeds-same told old new same heeds is = heeds (sym same ∙ is)
+-- ---- calls that were cut though they were answered
 
-  heeds-more : (told : List Step) (step : Step) (old new : Reading H hand) → new.peer_goaway ≡ old.peer_goaway → Heeds told old → Heeds (step ∷ told) new
-  heeds-more told step old new same heeds is = told-more events.PeerGoaway step told (heeds (sym same ∙ is))
+none-in : {X : Type 0} (id : ℕ) → Contains [] id → X
+none-in id (k, within, at) = absurd (omega (arith, within))
+
+-- an event cuts none so, nor does one that begins a stream
+told-none : (event : InEvent) (fate : Fate) (ids : List ℕ) (id : ℕ) → Contains (abandoned_by (Told event fate)) id → Contains ids id
+told-none event fate ids id there = none-in id there
+
+begun-cuts-none : (step : Step) (id : ℕ) → begun_at step ≡ id ∷ [] → abandoned_by step ≡ []
+begun-cuts-none (Told event fate) id is = refl
+begun-cuts-none (CutOff other why) id is = absurd cc
+begun-cuts-none Drains id is = refl
+
+-- nor does one of a call that was left
+pub left-calm : (id : ℕ) (answered : Bool) (ids : List ℕ) → answered ≡ false → (other : ℕ) → Contains (abandoned_by (CutOff id (NotLive answered))) other → Contains ids other
+left-calm id true ids left other there = absurd (true≢false left)
+left-calm id false ids left other there = none-in other there
+
+-- that is noted as the last one
+pub last-noted : (id : ℕ) (answered : Bool) (before : List ℕ) (other : ℕ) → Contains (abandoned_by (CutOff id (NotLive answered))) other → Contains (before ++ id ∷ []) other
+last-noted id false before other there = none-in other there
+last-noted id true before other there = Contains-append_right before (id ∷ []) other there
+
+abandoned-more : (told : List Step) (step : Step) (ids : List ℕ) → AreAbandoned told ids → ((id : ℕ) → Contains (abandoned_by step) id → Contains ids id) → AreAbandoned (step ∷ told) ids
+abandoned-more told step ids all now id there = elim (Contains-append_cases (abandoned told) (abandoned_by step) id there) [
+  | inl before ↦ all id before
+  | inr here ↦ now id here
+]
+
+module _ {H : Type 0} {hand : Ghosts H} where
+  goaway-as : (old new : Reading H hand) → heeded new ≡ heeded old → new.peer_goaway ≡ old.peer_goaway
+  goaway-as old new same = ap (λ (kept : Bool × List ℕ). kept.0) same
+
+  noted-as : (old new : Reading H hand) → heeded new ≡ heeded old → new.abandoned.items ≡ old.abandoned.items
+  noted-as old new same = ap (λ (kept : Bool × List ℕ). kept.1) same
+
+  heeds-same : (told : List Step) (old new : Reading H hand) → heeded new ≡ heeded old → Heeds told old → Heeds told new
+  heeds-same told old new same heeds = record {
+    goaway = λ is. heeds.goaway (sym (goaway-as old new same) ∙ is);
+    noted = subst (λ (ids : List ℕ). AreAbandoned told ids) (sym (noted-as old new same)) heeds.noted;
+  }
+
+  heeds-more : (told : List Step) (step : Step) (old new : Reading H hand) → heeded new ≡ heeded old → IsNoted step old → Heeds told old → Heeds (step ∷ told) new
+  heeds-more told step old new same now heeds = record {
+    goaway = λ is. told-more events.PeerGoaway step told (heeds.goaway (sym (goaway-as old new same) ∙ is));
+    noted = subst (λ (ids : List ℕ). AreAbandoned (step ∷ told) ids) (sym (noted-as old new same)) (abandoned-more told step old.abandoned.items heeds.noted now);
+  }
+
+  pub noted-none : (step : Step) (reading : Reading H hand) → abandoned_by step ≡ [] → IsNoted step reading
+  noted-none step reading none id there = none-in id (subst (λ (ids : List ℕ). Contains ids id) none there)
+
+  -- more streams are noted
+  pub heeds-wider : (told : List Step) (old new : Reading H hand) → new.peer_goaway ≡ old.peer_goaway → ((id : ℕ) → Contains old.abandoned.items id → Contains new.abandoned.items id)
+      → Heeds told old → Heeds told new
+  heeds-wider told old new same wider heeds = record { goaway = λ is. heeds.goaway (sym same ∙ is); noted = λ id there. wider id (heeds.noted id there) }
 
 -- ---- the reading side
 
 module _ {H : Type 0} {hand : Ghosts H} {names : List ℕ → ℕ → Type 0} where
   -- a step that begins no stream
-  pub reads-step : (told : List Step) (step : Step) (old new : Reading H hand) → IsQuiet step → new.last ≡ old.last → new.begun ≡ old.begun → new.peer_goaway ≡ old.peer_goaway
+  pub reads-step : (told : List Step) (step : Step) (old new : Reading H hand) → IsQuiet step → abandoned_by step ≡ [] → new.last ≡ old.last → new.begun ≡ old.begun → heeded new ≡ heeded old
       → Hears names step old.slots new.slots → Reads names told old → Reads names (step ∷ told) new
-  reads-step told step old new quiet last count same hears reads = record {
+  reads-step told step old new quiet none last count same hears reads = record {
     slots = hears told reads.slots;
     counts = counts-step step told new quiet (counts-same (named told) (begun told) old new last count reads.counts);
-    heeds = heeds-more told step old new same reads.heeds;
+    heeds = heeds-more told step old new same (noted-none step old none) reads.heeds;
   }
 
   -- the peer opens no more streams
-  pub reads-goaway : (told : List Step) (fate : Fate) (old new : Reading H hand) → new.last ≡ old.last → new.begun ≡ old.begun
+  pub reads-goaway : (told : List Step) (fate : Fate) (old new : Reading H hand) → new.last ≡ old.last → new.begun ≡ old.begun → new.abandoned.items ≡ old.abandoned.items
       → Hears names (Told events.PeerGoaway fate) old.slots new.slots → Reads names told old → Reads names (Told events.PeerGoaway fate ∷ told) new
-  reads-goaway told fate old new last count hears reads = record {
+  reads-goaway told fate old new last count same hears reads = record {
     slots = hears told reads.slots;
     counts = counts-step (Told events.PeerGoaway fate) told new (record { begins = refl; goes_on = refl }) (counts-same (named told) (begun told) old new last count reads.counts);
-    heeds = λ is. (events_of told, [], refl);
+    heeds = record {
+      goaway = λ is. (events_of told, [], refl);
+      noted = subst (λ (ids : List ℕ). AreAbandoned (Told events.PeerGoaway fate ∷ told) ids) (sym same)
+          (abandoned-more told (Told events.PeerGoaway fate) old.abandoned.items reads.heeds.noted (told-none events.PeerGoaway fate old.abandoned.items));
+    };
   }
 
   -- a step that is nothing to any call, and begins no stream
-  pub reads-idle : (told : List Step) (step : Step) (reading : Reading H hand) → IsQuiet step → IsIdle step → Reads names told reading → Reads names (step ∷ told) reading
-  reads-idle told step reading quiet idle reads =
-      reads-step told step reading reading quiet refl refl refl (λ told_now kept. kept-idle told_now step reading.slots quiet.goes_on idle kept) reads
+  pub reads-idle : (told : List Step) (step : Step) (reading : Reading H hand) → IsQuiet step → abandoned_by step ≡ [] → IsIdle step → Reads names told reading → Reads names (step ∷ told) reading
+  reads-idle told step reading quiet none idle reads =
+      reads-step told step reading reading quiet none refl refl refl (λ told_now kept. kept-idle told_now step reading.slots quiet.goes_on idle kept) reads
 
-  pub stays-same : (old new : Reading H hand) → new.last ≡ old.last → new.begun ≡ old.begun → new.peer_goaway ≡ old.peer_goaway → Keeps names old.slots new.slots → Stays names old new
+  pub stays-same : (old new : Reading H hand) → new.last ≡ old.last → new.begun ≡ old.begun → heeded new ≡ heeded old → Keeps names old.slots new.slots → Stays names old new
   stays-same old new last count same keeps told reads = record {
     slots = keeps told reads.slots;
     counts = counts-same (named told) (begun told) old new last count reads.counts;
     heeds = heeds-same told old new same reads.heeds;
   }
 
+  -- more streams are noted
+  pub reads-wider : (told : List Step) (old new : Reading H hand) → new.slots ≡ old.slots → new.last ≡ old.last → new.begun ≡ old.begun → new.peer_goaway ≡ old.peer_goaway
+      → ((id : ℕ) → Contains old.abandoned.items id → Contains new.abandoned.items id) → Reads names told old → Reads names told new
+  reads-wider told old new slots last count same wider reads = record {
+    slots = subst (λ (found : Slots H hand). Kept names told found) (sym slots) reads.slots;
+    counts = counts-same (named told) (begun told) old new last count reads.counts;
+    heeds = heeds-wider told old new same wider reads.heeds;
+  }
+
   -- a half that is to be shut
-  pub awaits-cut : (told : List Step) (step : Step) (cut : Cut) (reading : Reading H hand) → IsQuiet step → Concerns cut.id step → shut_at cut.id step ≡ Some cut.kind
+  pub awaits-cut : (told : List Step) (step : Step) (cut : Cut) (reading : Reading H hand) → IsQuiet step → IsNoted step reading → Concerns cut.id step → shut_at cut.id step ≡ Some cut.kind
       → Reads names told reading → Awaits names told step cut reading
-  awaits-cut told step cut reading quiet concerns shuts reads = record {
+  awaits-cut told step cut reading quiet noted concerns shuts reads = record {
     slots = reads.slots;
     counts = counts-step step told reading quiet reads.counts;
     heeds = reads.heeds;
+    noted = noted;
     concerns = concerns;
     shuts = shuts;
   }
 
-  pub shuts-awaited : (told : List Step) (step : Step) (cut : Cut) (old new : Reading H hand) → new.last ≡ old.last → new.begun ≡ old.begun → new.peer_goaway ≡ old.peer_goaway
+  pub shuts-awaited : (told : List Step) (step : Step) (cut : Cut) (old new : Reading H hand) → new.last ≡ old.last → new.begun ≡ old.begun → heeded new ≡ heeded old
       → ((s : Step) → Concerns cut.id s → shut_at cut.id s ≡ Some cut.kind → Hears names s old.slots new.slots) → Awaits names told step cut old → Reads names (step ∷ told) new
   shuts-awaited told step cut old new last count same hears awaits = record {
     slots = hears step awaits.concerns awaits.shuts told awaits.slots;
     counts = counts-same (named (step ∷ told)) (begun (step ∷ told)) old new last count awaits.counts;
-    heeds = heeds-more told step old new same awaits.heeds;
+    heeds = heeds-more told step old new same awaits.noted awaits.heeds;
   }
 
   -- a stream that begins, where the step is nothing to any call
@@ -220,18 +285,20 @@ module _ {H : Type 0} {hand : Ghosts H} {names : List ℕ → ℕ → Type 0} wh
     counts = reads.counts;
     heeds = reads.heeds;
     begins = ap (λ (ids : List ℕ). ids ++ begun told) begins;
+    cuts_none = begun-cuts-none step id begins;
     names_on = named-one step told id begins;
     drains = reads.slots.drains;
   }
 
   -- where it is a call's
-  pub begins-call : (told : List Step) (step : Step) (id : ℕ) (old new : Reading H hand) → begun_at step ≡ id ∷ [] → new.last ≡ old.last → new.begun ≡ old.begun → new.peer_goaway ≡ old.peer_goaway
+  pub begins-call : (told : List Step) (step : Step) (id : ℕ) (old new : Reading H hand) → begun_at step ≡ id ∷ [] → new.last ≡ old.last → new.begun ≡ old.begun → heeded new ≡ heeded old
       → Hears names step old.slots new.slots → Reads names told old → Begins names told step id new
   begins-call told step id old new begins last count same hears reads = record {
     slots = hears told reads.slots;
     counts = counts-same (named told) (begun told) old new last count reads.counts;
     heeds = heeds-same told old new same reads.heeds;
     begins = ap (λ (ids : List ℕ). ids ++ begun told) begins;
+    cuts_none = begun-cuts-none step id begins;
     names_on = named-one step told id begins;
     drains = (hears told reads.slots).drains ∙ ap (λ (b : Bool). b || is_draining told) (goes-one step id begins);
   }
@@ -261,41 +328,41 @@ module _ {H : Type 0} {hand : Ghosts H} {names : List ℕ → ℕ → Type 0} wh
       subst (λ (b : Bool). Counts (named_with id b (named told)) (id ∷ begun told) new × (order_in first ≡ last_stream id b (begun told))) begins.drains
       (counts (named told) (begun told) begins.counts)
 
-  reads-begun : (told : List Step) (step : Step) (id : ℕ) (old new : Reading H hand) → new.slots ≡ old.slots → new.peer_goaway ≡ old.peer_goaway
+  reads-begun : (told : List Step) (step : Step) (id : ℕ) (old new : Reading H hand) → new.slots ≡ old.slots → heeded new ≡ heeded old
       → Counts (named_with id (is_draining told) (named told)) (id ∷ begun told) new → Begins names told step id old → Reads names (step ∷ told) new
-  reads-begun told step id old new same heeded counts begins = record {
+  reads-begun told step id old new same heeds counts begins = record {
     slots = subst (λ (slots : Slots H hand). Kept names (step ∷ told) slots) (sym same) begins.slots;
     counts = subst (λ (n : ℕ). Counts n (begun (step ∷ told)) new) (sym begins.names_on)
         (subst (λ (ids : List ℕ). Counts (named_with id (is_draining told) (named told)) ids new) (sym begins.begins) counts);
-    heeds = heeds-more told step old new heeded begins.heeds;
+    heeds = heeds-more told step old new heeds (noted-none step old begins.cuts_none) begins.heeds;
   }
 
-  pub decides-begun : (told : List Step) (step : Step) (id : ℕ) (decided : Decided) (order : Order) (old new : Reading H hand) → new.slots ≡ old.slots → new.peer_goaway ≡ old.peer_goaway
+  pub decides-begun : (told : List Step) (step : Step) (id : ℕ) (decided : Decided) (order : Order) (old new : Reading H hand) → new.slots ≡ old.slots → heeded new ≡ heeded old
       → CountsOn id decided.first old new → order_in decided.second ≡ order ∷ []
       → orders_at told step ≡ last_stream id (is_draining told) (begun told) ++ order ∷ [] → decided.ends ≡ ends_at step → decided.cut ≡ None → Begins names told step id old → Decides names told step decided new
-  decides-begun told step id decided order old new same heeded counts second orders ends none begins =
+  decides-begun told step id decided order old new same heeds counts second orders ends none begins =
       let count = counts-begun told step id decided.first old new counts begins in
       decides-now told step decided new
       (ap (λ (os : List Order). os ++ order_in decided.second) count.1 ∙ (ap (λ (os : List Order). last_stream id (is_draining told) (begun told) ++ os) second ∙ sym orders))
-      ends none (reads-begun told step id old new same heeded count.0 begins)
+      ends none (reads-begun told step id old new same heeds count.0 begins)
 
   -- a stream begins, and no more is ordered
-  pub decides-passed : (told : List Step) (step : Step) (id : ℕ) (decided : Decided) (old new : Reading H hand) → new.slots ≡ old.slots → new.peer_goaway ≡ old.peer_goaway
+  pub decides-passed : (told : List Step) (step : Step) (id : ℕ) (decided : Decided) (old new : Reading H hand) → new.slots ≡ old.slots → heeded new ≡ heeded old
       → CountsOn id decided.first old new → decided.second ≡ None
       → orders_at told step ≡ last_stream id (is_draining told) (begun told) ++ [] → decided.ends ≡ ends_at step → decided.cut ≡ None → Begins names told step id old → Decides names told step decided new
-  decides-passed told step id decided old new same heeded counts second orders ends none begins =
+  decides-passed told step id decided old new same heeds counts second orders ends none begins =
       let count = counts-begun told step id decided.first old new counts begins in
       decides-now told step decided new
       (ap (λ (found : Option (Control Opened)). order_in decided.first ++ order_in found) second ∙ (ap (λ (os : List Order). os ++ []) count.1 ∙ sym orders))
-      ends none (reads-begun told step id old new same heeded count.0 begins)
+      ends none (reads-begun told step id old new same heeds count.0 begins)
 
   -- the server drains
-  pub reads-drain : (told : List Step) (old new : Reading H hand) → new.last ≡ greatest (reported told) → new.begun ≡ old.begun → new.peer_goaway ≡ old.peer_goaway → Hears names Drains old.slots new.slots
+  pub reads-drain : (told : List Step) (old new : Reading H hand) → new.last ≡ greatest (reported told) → new.begun ≡ old.begun → heeded new ≡ heeded old → Hears names Drains old.slots new.slots
       → Reads names told old → Reads names (Drains ∷ told) new
   reads-drain told old new last count same hears reads = record {
     slots = hears told reads.slots;
     counts = record { last_is = last; count = count ∙ reads.counts.count };
-    heeds = heeds-more told Drains old new same reads.heeds;
+    heeds = heeds-more told Drains old new same (noted-none Drains old refl) reads.heeds;
   }
 
 -- ---- more of them
@@ -320,12 +387,12 @@ module _ {H : Type 0} {hand : Ghosts H} {names : List ℕ → ℕ → Type 0} wh
       subst (λ (end : Option Ending). Decides names told (Told event (unless_ended end fate)) decided new) (sym (now.ends ∙ calm)) now
 
   -- a step that concerns a call to which no more may be fed
-  pub reads-unfed : (told : List Step) (step : Step) (id : ℕ) (reading : Reading H hand) → IsQuiet step → position (λ (seat : Seat H hand). feeds id seat) reading.slots.seats.items ≡ None
+  pub reads-unfed : (told : List Step) (step : Step) (id : ℕ) (reading : Reading H hand) → IsQuiet step → abandoned_by step ≡ [] → position (λ (seat : Seat H hand). feeds id seat) reading.slots.seats.items ≡ None
       → Concerns id step → Reads names told reading → Reads names (step ∷ told) reading
-  reads-unfed told step id reading quiet unfed concerns reads = record {
+  reads-unfed told step id reading quiet none unfed concerns reads = record {
     slots = kept-none told step reading.slots id unfed (unfed-shut told id reading.slots reads.slots unfed) concerns reads.slots;
     counts = counts-step step told reading quiet reads.counts;
-    heeds = heeds-more told step reading reading refl reads.heeds;
+    heeds = heeds-more told step reading reading refl (noted-none step reading none) reads.heeds;
   }
 
 -- the order that ends the connection names this stream

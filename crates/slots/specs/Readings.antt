@@ -1,5 +1,5 @@
 -- The reading side of a connection, as it is by what it heard, and what it decides of each step.
-use Rattle.std.specs.Prelude.{◌≡◌, ℕ, Bool, true, false, List, [], ◌∷◌, ◌++◌, length, min, Option, None, Some}
+use Rattle.std.specs.Prelude.{◌≡◌, ℕ, Bool, Contains, true, false, List, [], ◌∷◌, ◌++◌, length, min, Option, None, Some}
 use Rattle.callslot.specs.declared.order.Opened.{Opened}
 use Rattle.callslot.specs.declared.report.Ending.{Ending}
 use Rattle.connbook.specs.declared.answers.AdmitFault.TheVariants.{Draining}
@@ -15,7 +15,7 @@ use Rattle.slots.specs.Concerns.{Concerns}
 use Rattle.slots.specs.Orders.{IsDue, begun, ends_at, most_streams, named, named_with, orders_at}
 use Rattle.slots.specs.Seats.{Kept}
 use Rattle.session.specs.declared.event.InEvent.TheVariants.{PeerGoaway}
-use Rattle.slots.specs.Steps.{Fate, Received, Missed, Lacking, TurnedAway, Unknown, Step, WasTold, is_draining, shut_at}
+use Rattle.slots.specs.Steps.{AreAbandoned, Fate, Received, Missed, Lacking, TurnedAway, Unknown, Step, WasTold, abandoned_by, is_draining, shut_at}
 
 -- ---- what is decided
 
@@ -57,9 +57,19 @@ module _ {H : Type 0} {hand : Ghosts H} where
     pub last_is : reading.last ≡ last
     pub count : reading.begun ≡ min most_streams (length ids)
 
-  -- it counts the peer as one that opens no more streams only where that was told
-  abbrev pub Heeds : List Step → Reading H hand → Type 0
-  Heeds told reading = reading.peer_goaway ≡ true → WasTold PeerGoaway told
+  -- It counts the peer as one that opens no more streams only where that was told, and notes each call that was cut though it was answered
+  -- with trailers.
+  pub record Heeds (told : List Step) (reading : Reading H hand) : Type 0 where
+    pub goaway : reading.peer_goaway ≡ true → WasTold PeerGoaway told
+    pub noted : AreAbandoned told reading.abandoned.items
+
+  -- the call that this step cuts so is noted
+  abbrev pub IsNoted : Step → Reading H hand → Type 0
+  IsNoted step reading = (id : ℕ) → Contains (abandoned_by step) id → Contains reading.abandoned.items id
+
+  -- what it keeps of these
+  abbrev pub heeded : Reading H hand → Bool × List ℕ
+  heeded reading = (reading.peer_goaway, reading.abandoned.items)
 
 module _ {H : Type 0} {hand : Ghosts H} (names : List ℕ → ℕ → Type 0) where
   -- These steps led to the reading side.
@@ -73,6 +83,7 @@ module _ {H : Type 0} {hand : Ghosts H} (names : List ℕ → ℕ → Type 0) wh
     pub slots : Kept names told reading.slots
     pub counts : Counts (named (step ∷ told)) (begun (step ∷ told)) reading
     pub heeds : Heeds told reading
+    pub noted : IsNoted step reading
     pub concerns : Concerns cut.id step
     pub shuts : shut_at cut.id step ≡ Some cut.kind
 
@@ -84,6 +95,7 @@ module _ {H : Type 0} {hand : Ghosts H} (names : List ℕ → ℕ → Type 0) wh
     pub begins : begun (step ∷ told) ≡ id ∷ begun told
     pub names_on : named (step ∷ told) ≡ named_with id (is_draining told) (named told)
     pub drains : reading.slots.is_draining ≡ is_draining told
+    pub cuts_none : abandoned_by step ≡ []
 
   abbrev pub Stands : List Step → Step → Option Cut → Reading H hand → Type 0
   Stands told step None reading = Reads (step ∷ told) reading

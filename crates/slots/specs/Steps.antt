@@ -1,7 +1,7 @@
 -- What the reader of a connection hears, and what it makes of the client's half of each call (RFC 9113, sections 5.1, 5.4.2,
 -- 6.4, 6.8 and 6.9.1).
 -- A list of steps has the latest first.
-use Rattle.std.specs.Prelude.{◌≡◌, ◌<◌, ◌&&◌, ◌||◌, ℕ, Bool, true, false, nat_eq, if◌then◌else◌, List, [], ◌∷◌, ◌++◌, Option, Some, None, MatchOption, unwrap_or}
+use Rattle.std.specs.Prelude.{◌≡◌, ◌<◌, ◌&&◌, ◌||◌, ℕ, Bool, Contains, true, false, nat_eq, if◌then◌else◌, List, [], ◌∷◌, ◌++◌, Option, Some, None, MatchOption, unwrap_or}
 use Rattle.std.specs.List.{list_any}
 use Rattle.std.specs.Option.{is_some}
 use Rattle.account.specs.declared.call.Shut.{Shut}
@@ -90,6 +90,25 @@ last_of (step ∷ before) = unwrap_or (admitted_by step) (last_of before)
 abbrev pub IsRising : List Step → Type 0
 IsRising [] = Unit {0}
 IsRising (step ∷ before) = MatchOption (admitted_by step) (Unit {0}) (λ id. last_of before < id) × IsRising before
+
+-- ---- calls that are live no more
+
+-- the stream of a call that was cut since it is live no more, though it was answered with trailers
+abbrev pub abandoned_by : Step → List ℕ
+abandoned_by (Told event fate) = []
+abandoned_by (CutOff id AtEnd) = []
+abandoned_by (CutOff id (NotLive false)) = []
+abandoned_by (CutOff id (NotLive true)) = id ∷ []
+abandoned_by Drains = []
+
+-- those of all, the earliest first
+abbrev pub abandoned : List Step → List ℕ
+abandoned [] = []
+abandoned (step ∷ before) = abandoned before ++ abandoned_by step
+
+-- each of them is one of these streams
+abbrev pub AreAbandoned : List Step → List ℕ → Type 0
+AreAbandoned told ids = (id : ℕ) → Contains (abandoned told) id → Contains ids id
 
 -- ---- the end while calls go on
 

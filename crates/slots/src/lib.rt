@@ -21,7 +21,7 @@ mod visit;
 pub mod worker;
 
 pub use half::Half;
-pub use reading::{Cut, Decided, Reading};
+pub use reading::{Cut, Decided, Ended, Reading};
 pub use seat::Seat;
-pub use slots::{Ended, Slots};
+pub use slots::Slots;
 pub use worker::Worker;

@@ -19,20 +19,20 @@ ghost use Rattle.outwriter.specs.Steps.{order_of};
 ghost use Rattle.outwriter.specs.declared.control.Control.TheVariants as orders;
 ghost use Rattle.session.specs.declared.event.InEvent.TheVariants as events;
 ghost use Rattle.slots.specs.Orders.{begun, ends_at, cut_code, last_stream, named, named_with, news_of, orders_at, without_head};
-ghost use Rattle.slots.specs.Readings.{Awaits, Begins, Counts, Decides, DecidesOn, MayMiss, Reads, ReadsOn, Stays, fate_of, order_in, refused_by, unless_ended};
+ghost use Rattle.slots.specs.Readings.{Awaits, Begins, Counts, Decides, DecidesOn, IsNoted, MayMiss, Reads, ReadsOn, Stays, fate_of, heeded, order_in, refused_by, unless_ended};
 ghost use Rattle.slots.specs.Reports.{AreRows};
 ghost use Rattle.lane.specs.RingLane.{out_name, ring_of};
 ghost use Rattle.slots.specs.Lines.{Aligns, AreEndsOf, HasRoom, IsGivenIn, SlotCalls, calls_from, calls_of, calls_step, raw_in, raw_orders, ring_at};
 ghost use Rattle.slots.specs.Seats.{IsNext, IsSeat, KeepsNext, fed_at, ids_of, jobs_of};
-ghost use Rattle.slots.specs.Steps.{Admitted, AtEnd, Cause, CutOff, Drains, Lacking, NoWorker, NotLive, Plain, Received, Step, Stopped, Told, TurnedAway, Unknown, Unserved, WasTold, is_draining, reported};
+ghost use Rattle.slots.specs.Steps.{Admitted, AreAbandoned, AtEnd, Cause, CutOff, Drains, Lacking, NoWorker, NotLive, Plain, Received, Step, Stopped, Told, TurnedAway, Unknown, Unserved, WasTold, is_draining, reported};
 
 use crate::seat::Seat;
-use crate::slots::{Ended, Slots};
+use crate::slots::Slots;
 use crate::worker::Worker;
 use account::Shut;
 use bytes::Bytes;
 use callhead::{CallHead, HeadFault, unknown_method};
-use callslot::{Ending, Fresh, Job, Opened, Order};
+use callslot::{CallReport, Ending, Fresh, GivingEnd, Job, Opened, Order};
 use connbook::{AdmitFault, Receipt};
 use h2frame::{ErrorCode, StreamId};
 use lists::Sequence;
@@ -104,6 +104,17 @@ impl Decided {
     }
 }
 
+/// What is there once each worker has answered its calls.
+#[derive(Drop)]
+pub struct Ended {
+    /// A row for each call that was admitted, in the order in which these were.
+    pub calls: Vec<CallReport>,
+    /// The ends by which the slots' workers gave, by the slots' numbers.
+    pub ends: Vec<GivingEnd>,
+    /// The streams of calls that were cut since they are live no more, though they were answered with trailers.
+    pub abandoned: Vec<StreamId>,
+}
+
 /// The reading side of a connection: its slots, and which streams were begun.
 #[derive(Drop)]
 pub struct Reading<H: Worker> {
@@ -116,6 +127,8 @@ pub struct Reading<H: Worker> {
     pub(crate) begun: u32,
     /// Whether the peer opens no more streams.
     pub(crate) peer_goaway: bool,
+    /// The streams of calls that were cut since they are live no more, though they were answered with trailers.
+    pub(crate) abandoned: Vec<StreamId>,
 }
 
 impl<H: Worker> Reading<H> {
@@ -130,6 +143,7 @@ impl<H: Worker> Reading<H> {
             last: 0,
             begun: 0,
             peer_goaway: false,
+            abandoned: Vec::new(alloc),
         }
     }
 
@@ -347,7 +361,7 @@ impl<H: Worker> Reading<H> {
             → Counts (named_with id self.old.slots.is_draining last) (id ∷ ids) self.new
             × (order_in result ≡ last_stream id self.old.slots.is_draining ids) }
         ensures none { (slots : List SlotCalls) → calls_from slots (raw_in result) ≡ slots }
-        ensures heeds { self.new.peer_goaway ≡ self.old.peer_goaway }
+        ensures heeds { heeded self.new ≡ heeded self.old }
     {
         if !self.slots.is_draining {
             self.last = self.last.max(id);
@@ -583,23 +597,37 @@ impl<H: Worker> Reading<H> {
     }
 
     /// A call is no longer live, though its client neither ended nor reset it; it was answered with trailers or not. Its stream was reset by
-    /// the writing side.
-    pub fn abandon(&self, id: StreamId, has_trailers: bool) -> Decided
-        ensures decides { DecidesOn H.names
-            (CutOff id (NotLive has_trailers)) result self.now self.now }
-        ensures aligns { Aligns result self.now self.now }
+    /// the writing side: where it has trailers, since a window of the peer's would be too large, and that is noted. Without memory for
+    /// that the call isn't cut now.
+    pub fn abandon(&mut self, id: StreamId, has_trailers: bool) -> Option<Decided>
+        ensures decides { IfSome result (λ decided. DecidesOn H.names
+            (CutOff id (NotLive has_trailers)) decided self.old self.new) }
+        ensures aligns { IfSome result (λ decided. Aligns decided self.old self.new) }
+        ensures none { IfNone result (Stays H.names self.old self.new) }
+        ensures slots { self.new.slots ≡ self.old.slots }
     {
-        let code = if has_trailers {
-            ErrorCode::FlowControlError
-        } else {
-            ErrorCode::InternalError
-        };
-        self.cut_call(id, code)
+        if !has_trailers {
+            return Some(self.cut_call(id, ErrorCode::InternalError));
+        }
+        if !self.note_abandoned(id) {
+            return None;
+        }
+        Some(self.cut_call(id, ErrorCode::FlowControlError))
+    }
+
+    /// Notes the stream of a call that is cut though it was answered with trailers. Whether there was memory for that.
+    fn note_abandoned(&mut self, id: StreamId) -> bool
+        ensures noted { result ≡ true
+            → self.new.abandoned.items ≡ self.old.abandoned.items ++ id ∷ [] }
+        ensures unnoted { result ≡ false → self.new.abandoned.items ≡ self.old.abandoned.items }
+        ensures rest { self.new ≡ record self.old { abandoned = self.new.abandoned } }
+    {
+        self.abandoned.push(id).is_ok()
     }
 
     /// A call hears no more of its client: its stream is reset with this code, where more could be fed to it.
     fn cut_call(&self, id: StreamId, code: ErrorCode) -> Decided
-        ensures decides { (why : Cause) → cut_code why ≡ code
+        ensures decides { (why : Cause) → cut_code why ≡ code → IsNoted (CutOff id why) self.now
             → DecidesOn H.names (CutOff id why) result self.now self.now }
         ensures aligns { Aligns result self.now self.now }
         ensures whose { IsSomeAnd result.cut (λ cut. cut.id ≡ id) }
@@ -648,8 +676,15 @@ impl<H: Worker> Reading<H> {
             → AreRows H.known H.names (IsGivenIn (calls_of self.slots) result.ends.items)
             told (reported told) result.calls.items }
         ensures ends { H.tells → AreEndsOf (calls_of self.slots) result.ends.items }
+        ensures abandoned { (told : List Step) → Reads H.names told self
+            → AreAbandoned told result.abandoned.items }
     {
-        self.slots.end()
+        let (calls, ends) = self.slots.end();
+        Ended {
+            calls,
+            ends,
+            abandoned: self.abandoned,
+        }
     }
 }
 

@@ -30,15 +30,6 @@ pub struct Slots<H: Worker> {
     ghost ends_room: { vec_len seats ≤ vec_capacity ends },
 }
 
-/// What is there once each worker has answered its calls.
-#[derive(Drop)]
-pub struct Ended {
-    /// A row for each call that was admitted, in the order in which these were.
-    pub calls: Vec<CallReport>,
-    /// The ends by which the slots' workers gave, by the slots' numbers.
-    pub ends: Vec<GivingEnd>,
-}
-
 impl<H: Worker> Slots<H> {
     ghost use Rattle.std.specs.Prelude.{◌≡◌, ◌<◌, ◌≤◌, ℕ, List, [], ◌∷◌, ◌++◌, Bool, true, false, length, None, Some, IfErr, IfOk, IfSome, OnErr, OnOk, is_some, position};
     ghost use Rattle.callhead.specs.declared.head.CallHead.{CallHead as Head};
@@ -285,12 +276,13 @@ impl<H: Worker> Slots<H> {
         }
     }
 
-    /// Has each worker answer its call to the end, and waits for all. It takes no memory.
-    pub(crate) fn end(self) -> Ended
+    /// Has each worker answer its call to the end, and waits for all: the rows of the calls, in the order in which these were admitted, and
+    /// the ends by which the workers gave, by the slots' numbers. It takes no memory.
+    pub(crate) fn end(self) -> (Vec<CallReport>, Vec<GivingEnd>)
         ensures rows { (told : List Step) → H.tells → Kept H.names told self
-            → AreRows H.known H.names (IsGivenIn (calls_of self) result.ends.items)
-            told (reported told) result.calls.items }
-        ensures ends { H.tells → AreEndsOf (calls_of self) result.ends.items }
+            → AreRows H.known H.names (IsGivenIn (calls_of self) result.1.items)
+            told (reported told) result.0.items }
+        ensures ends { H.tells → AreEndsOf (calls_of self) result.1.items }
     {
         let Slots {
             seats,
@@ -306,6 +298,6 @@ impl<H: Worker> Slots<H> {
             put_all(&mut rows, answered);
             ends.push_reserved(end);
         }
-        Ended { calls: rows, ends }
+        (rows, ends)
     }
 }

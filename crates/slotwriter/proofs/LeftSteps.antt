@@ -61,7 +61,7 @@ noted-frames ids [] run noted = noted
 noted-frames ids (frame ∷ frames) run noted = noted-frames ids frames run noted
 
 -- one of a single stream is that
-one-of : (id other : ℕ) → Contains (id ∷ []) other → id ≡ other
+pub one-of : (id other : ℕ) → Contains (id ∷ []) other → id ≡ other
 one-of id other (zero, within, at) = at
 one-of id other (suc k, within, at) = omega (arith, within)
 

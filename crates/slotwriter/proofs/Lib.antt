@@ -1,3 +1,4 @@
+pub mod BlamedSteps
 pub mod CreditSteps
 pub mod LeftSteps
 pub mod OrderSteps

@@ -17,7 +17,8 @@ use Rattle.outwriter.specs.Frames.{goaway_frame}
 use Rattle.outwriter.specs.Polls.{coming}
 use Rattle.outwriter.specs.declared.control.Control.{Control}
 use Rattle.outwriter.specs.declared.control.Control.TheVariants as control
-use Rattle.h2frame.specs.declared.error_code.ErrorCode.TheVariants.{InternalError}
+use Rattle.h2frame.specs.declared.error_code.ErrorCode.{ErrorCode}
+use Rattle.h2frame.specs.declared.error_code.ErrorCode.TheVariants.{FlowControlError, InternalError}
 use Rattle.outwriter.specs.Steps.{Order, Step, Taken, Granted, Returned, Written, frames_of, order_of}
 use Rattle.connwriter.specs.declared.filled.Filled.{Filled}
 use Rattle.connwriter.specs.declared.filled.Filled.TheVariants.{Over, Stopped}
@@ -40,8 +41,10 @@ use Rattle.slotwriter.specs.declared.slot_writer.SlotWriter.{SlotWriter}
 use Rattle.slotwriter.specs.declared.senders.Place.{Place}
 use Rattle.slotwriter.specs.Orders.{Gives, HasGiven, IsAmong, IsWarning, Keeps, Obeys, Warns, ends_input, order_in, orders_of, loses_by}
 use Rattle.slotwriter.specs.Sent.{AreFresh, AreKept, HandsHome, HasStream, HaveTold, KeepsOn, MakesOf, PlacesBy, SamePlaces, SlotSender, TakesAllHome, held_of, ids_of, lines_of}
+use Rattle.slotwriter.specs.Blamed.{AreBlamed, blamed_by}
 use Rattle.slotwriter.specs.Left.{AreNoted, left_by, left_in}
-use Rattle.slotwriter.specs.Written.{FrameWriter, HasKept, HasSent, HasWritten, Holds, IsFlushed, NotesOn, Runs, Ends, RunsOn, RunsOut, SendsOn, StaysOn, Takes, PassesOver, Parts, Heeds, Knows, SameCalls, Led, LedOut, LeadsOn, LeadsOut, LeadsOutTo, LeadsTo, Stays, core_of, noted_by, places_of}
+use Rattle.slotwriter.specs.Written.{FrameWriter, HasKept, HasSent, HasWritten, Holds, IsFlushed, NotesOn, Runs, Ends, RunsOn, RunsOut, SendsOn, StaysOn, Takes, PassesOver, Parts, Heeds, Knows, SameCalls, Led, LedOut, LeadsOn, LeadsOut, LeadsOutTo, LeadsTo, Stays, blamed_of, core_of, noted_by, notes_of, places_of}
+use Rattle.slotwriter.proofs.BlamedSteps.{blamed-later, blamed-none, blamed-taking, ends-none}
 use Rattle.slotwriter.proofs.LeftSteps.{notes-frames, notes-own, notes-still}
 use Rattle.slotwriter.proofs.OrderSteps.{all-given, among-last, among-more, given-all, given-next, obeys-closing, obeys-frames, obeys-granted, obeys-last-word, obeys-lost, obeys-more, obeys-parting, obeys-reset, obeys-returned, obeys-taking, obeys-warning}
 use Rattle.slotwriter.proofs.SentPlaces.{OpensNone, brings-plain, brings-same, fresh-parts, keeps-same, kept-back-more, kept-frames, kept-more, kept-none, kept-same, kept-still, kept-tells, makes-then, on-steps, own-plain, same-places}
@@ -127,9 +130,16 @@ none-in : (id : ℕ) → Contains [] id → ⊥
 none-in id (k, within, at) = omega (arith, within)
 
 module _ {W : Type 0} where
-  -- by these steps the writer has the senders still, and notes the streams
+  -- by these steps the writer has the senders still, notes the streams of calls that were left, and ends no stream by itself
   abbrev GoesOn : List Step → SlotWriter W → SlotWriter W → Type 0
-  GoesOn steps old new = SendsOn steps old new × NotesOn steps old new
+  GoesOn steps old new = SendsOn steps old new × NotesOn steps old new × (blamed_of new ≡ blamed_of old)
+
+  -- the same streams are noted
+  lefts-of : (old new : SlotWriter W) → notes_of new ≡ notes_of old → noted_by new ≡ noted_by old
+  lefts-of old new same = ap (λ (notes : List ℕ × List ℕ). notes.0) same
+
+  blames-of : (old new : SlotWriter W) → notes_of new ≡ notes_of old → blamed_of new ≡ blamed_of old
+  blames-of old new same = ap (λ (notes : List ℕ × List ℕ). notes.1) same
 
   -- ---- the senders
 
@@ -161,14 +171,18 @@ module _ {W : Type 0} where
 
   -- the same, with the streams that are noted
   holds-lost : (lost : Bool) (orders more : List (Control Opened)) (run : List Step) (writer : SlotWriter W) → Holds lost orders run writer → Holds true (orders ++ more) run writer
-  holds-lost lost orders more run writer holds = (kept-lost lost orders more run writer holds.0, holds.1)
+  holds-lost lost orders more run writer holds = (kept-lost lost orders more run writer holds.0, holds.1, holds.2)
 
   holds-here : (lost : Bool) (orders : List (Control Opened)) (run : List Step) (writer : SlotWriter W) → Holds lost orders run writer → Holds true orders run writer
-  holds-here lost orders run writer holds = (kept-here lost orders run writer holds.0, holds.1)
+  holds-here lost orders run writer holds = (kept-here lost orders run writer holds.0, holds.1, holds.2)
 
   holds-on : (lost : Bool) (orders : List (Control Opened)) (run steps : List Step) (old new : SlotWriter W) → GoesOn steps old new → Holds lost orders run old
       → Holds lost orders (steps ++ run) new
-  holds-on lost orders run steps old new goes holds = (kept-on lost orders run steps old new goes.0 holds.0, goes.1 run holds.1)
+  holds-on lost orders run steps old new goes holds = (
+    kept-on lost orders run steps old new goes.0 holds.0,
+    goes.1 run holds.1,
+    blamed-later (blamed_of new) steps run (subst (λ (ids : List ℕ). AreBlamed ids run) (sym goes.2) holds.2),
+  )
 
   -- steps that open no stream, with the same senders in the core
   sends-still : (steps : List Step) (old new : SlotWriter W) → ((run : List Step) (id : ℕ) → On run (steps ++ run) id) → core_of new ≡ core_of old → SamePlaces (places_of old) (places_of new)
@@ -177,8 +191,9 @@ module _ {W : Type 0} where
 
   -- which take no order
   pub goes-still : (steps : List Step) (old new : SlotWriter W) → ((run : List Step) (id : ℕ) → On run (steps ++ run) id) → core_of new ≡ core_of old → SamePlaces (places_of old) (places_of new)
-      → ((run : List Step) → left_in (steps ++ run) ≡ left_in run) → noted_by new ≡ noted_by old → GoesOn steps old new
-  goes-still steps old new on core same still noted = (sends-still steps old new on core same, notes-still steps old new still noted)
+      → ((run : List Step) → left_in (steps ++ run) ≡ left_in run) → notes_of new ≡ notes_of old → GoesOn steps old new
+  goes-still steps old new on core same still noted =
+      (sends-still steps old new on core same, notes-still steps old new still (lefts-of old new noted), blames-of old new noted)
 
   -- an order that opens nothing, and the writer's own behind it
   sends-plain : (order : Order) (last : ℕ) (taking : Taking SlotSender) (old new : SlotWriter W) → ((k : ℕ) → opens_stream k order ≡ false) → core_of new ≡ core_of old
@@ -187,15 +202,17 @@ module _ {W : Type 0} where
 
   -- and leaves no call
   goes-plain : (order : Order) (last : ℕ) (taking : Taking SlotSender) (old new : SlotWriter W) → ((k : ℕ) → opens_stream k order ≡ false) → core_of new ≡ core_of old
-      → SamePlaces (places_of old) (places_of new) → left_by order ≡ [] → noted_by new ≡ noted_by old → GoesOn (steps_of order last taking) old new
-  goes-plain order last taking old new plain core same none noted = (sends-plain order last taking old new plain core same, notes-own order last taking old new none noted)
+      → SamePlaces (places_of old) (places_of new) → left_by order ≡ [] → notes_of new ≡ notes_of old → GoesOn (steps_of order last taking) old new
+  goes-plain order last taking old new plain core same none noted =
+      (sends-plain order last taking old new plain core same, notes-own order last taking old new none (lefts-of old new noted), blames-of old new noted)
 
   sends-none : (old new : SlotWriter W) → core_of new ≡ core_of old → KeepsOn (places_of old) (places_of new) → SendsOn [] old new
   sends-none old new core keeps run lines kept =
       subst (λ (senders : List (ℕ × SlotSender)). AreKept run lines (places_of new) senders) (sym core) (keeps run lines (core_of old) kept)
 
-  pub goes-none : (old new : SlotWriter W) → core_of new ≡ core_of old → KeepsOn (places_of old) (places_of new) → noted_by new ≡ noted_by old → GoesOn [] old new
-  goes-none old new core keeps noted = (sends-none old new core keeps, notes-still [] old new (λ run. refl) noted)
+  pub goes-none : (old new : SlotWriter W) → core_of new ≡ core_of old → KeepsOn (places_of old) (places_of new) → notes_of new ≡ notes_of old → GoesOn [] old new
+  goes-none old new core keeps noted =
+      (sends-none old new core keeps, notes-still [] old new (λ run. refl) (lefts-of old new noted), blames-of old new noted)
 
   sends-frames : (frames : List Frame) (old new : SlotWriter W) → lanes (lane_and_past ring_lane.out_name past_out) (core_of new) ≡ lanes (lane_and_past ring_lane.out_name past_out) (core_of old)
       → places_of new ≡ places_of old → SendsOn (map Written frames) old new
@@ -204,8 +221,9 @@ module _ {W : Type 0} where
       (kept-frames run frames lines (places_of old) (core_of old) (core_of new) same kept)
 
   pub goes-frames : (frames : List Frame) (old new : SlotWriter W) → lanes (lane_and_past ring_lane.out_name past_out) (core_of new) ≡ lanes (lane_and_past ring_lane.out_name past_out) (core_of old)
-      → places_of new ≡ places_of old → noted_by new ≡ noted_by old → GoesOn (map Written frames) old new
-  goes-frames frames old new same places noted = (sends-frames frames old new same places, notes-frames frames old new noted)
+      → places_of new ≡ places_of old → notes_of new ≡ notes_of old → GoesOn (map Written frames) old new
+  goes-frames frames old new same places noted =
+      (sends-frames frames old new same places, notes-frames frames old new (lefts-of old new noted), blames-of old new noted)
 
   -- by an order for a window no call begins
   kept-first : (one : Control SlotSender) (id : ℕ) (order : Control Opened) (orders : List (Control Opened)) (run : List Step) (first old : SlotWriter W) → order_of one ≡ order_of order
@@ -409,7 +427,7 @@ module _ {W : Type 0} (contents : W → Option (List ℕ)) (failed : W → Bool)
 
   -- the last word of a core
   pub parts-on : (last : ℕ) (lost : Bool) (old new : SlotWriter W) → WritesOn got contents failed (parting last true) old.frames new.frames → core_of new ≡ core_of old
-      → places_of new ≡ places_of old → noted_by new ≡ noted_by old → old.frames.standing ≡ stands.OutOfMemory → new.frames.standing ≡ old.frames.standing → StaysOn contents failed lost true old new
+      → places_of new ≡ places_of old → notes_of new ≡ notes_of old → old.frames.standing ≡ stands.OutOfMemory → new.frames.standing ≡ old.frames.standing → StaysOn contents failed lost true old new
   parts-on last lost old new on core places noted memory still =
       let sends : GoesOn (parting last true) old new = goes-still (parting last true) old new (λ run k. on-taken (control.Goaway last InternalError) run k refl) core (same-places places) (λ run. refl) noted in record {
         runs = λ orders before credit runs. (
@@ -430,7 +448,7 @@ module _ {W : Type 0} (contents : W → Option (List ℕ)) (failed : W → Bool)
       }
 
   -- between writers of the same frames
-  runs-between : (lost : Bool) (old new : SlotWriter W) → new.frames ≡ old.frames → KeepsOn (places_of old) (places_of new) → noted_by new ≡ noted_by old
+  runs-between : (lost : Bool) (old new : SlotWriter W) → new.frames ≡ old.frames → KeepsOn (places_of old) (places_of new) → notes_of new ≡ notes_of old
       → (orders : List (Control Opened)) (before : Option (List ℕ)) (credit : ℕ) → Runs contents failed lost orders before credit old → Runs contents failed lost orders before credit new
   runs-between lost old new same keeps noted orders before credit runs = (
     runs.0,
@@ -440,7 +458,7 @@ module _ {W : Type 0} (contents : W → Option (List ℕ)) (failed : W → Bool)
     runs.4,
   )
 
-  ends-between : (lost : Bool) (old new : SlotWriter W) → new.frames ≡ old.frames → KeepsOn (places_of old) (places_of new) → noted_by new ≡ noted_by old
+  ends-between : (lost : Bool) (old new : SlotWriter W) → new.frames ≡ old.frames → KeepsOn (places_of old) (places_of new) → notes_of new ≡ notes_of old
       → (orders : List (Control Opened)) (before : Option (List ℕ)) (credit : ℕ) → Ends contents failed lost orders before credit old → Ends contents failed lost orders before credit new
   ends-between lost old new same keeps noted orders before credit ends = (
     ends.0,
@@ -458,8 +476,8 @@ module _ {W : Type 0} (contents : W → Option (List ℕ)) (failed : W → Bool)
       → WritesOn got contents failed (steps_of (order_of one) last taking) old.frames mid
       → ((before : Option (List ℕ)) (run : List Step) → Wrote got contents failed before run old.frames → Blamed taking one run)
       → BringsBy taking one (core_of old) mid.core.sending.senders.items → PlacesBy taking (places_of old) (places_of new) → new.inbox.has_lost ≡ loses_by taking
-      → NotesOn (steps_of (order_of one) last taking) old new → Takes contents failed one old new
-  given-on one last taking old mid new to on blamed brings places lost notes order first is made same alike orders before credit runs =
+      → NotesOn (steps_of (order_of one) last taking) old new → blamed_of new ≡ blamed_of old ++ blamed_by taking → Takes contents failed one old new
+  given-on one last taking old mid new to on blamed brings places lost notes ended order first is made same alike orders before credit runs =
       let wrote : Wrote got contents failed before runs.0 old.frames = subst (λ (frames : FrameWriter W). Wrote got contents failed before runs.0 frames) same runs.1 in
       let steps : List Step = steps_of (order_of one) last taking in
       subst (λ (found : Bool). Runs contents failed found (orders ++ order ∷ []) before credit new) (sym lost) (
@@ -470,13 +488,16 @@ module _ {W : Type 0} (contents : W → Option (List ℕ)) (failed : W → Bool)
         (
           kept-taking one last taking order orders runs.0 first old new is made (ap (λ (frames : FrameWriter W). frames.core.sending.senders.items) same) (blamed before runs.0 wrote)
               (subst (λ (frames : FrameWriter W). BringsBy taking one (core_of old) frames.core.sending.senders.items) (sym to) brings) places runs.3.0,
-          notes runs.0 (subst (λ (ids : List ℕ). AreNoted ids runs.0) alike runs.3.1),
+          notes runs.0 (subst (λ (found : List ℕ × List ℕ). AreNoted found.0 runs.0) alike runs.3.1),
+          subst (λ (ids : List ℕ). AreBlamed ids (steps ++ runs.0)) (sym ended)
+              (blamed-taking one last taking (blamed_of old) runs.0 (blamed before runs.0 wrote)
+              (subst (λ (found : List ℕ × List ℕ). AreBlamed found.1 runs.0) alike runs.3.2)),
         ),
         granted-steps (order_of one) last taking runs.0 credit runs.4,
       )
 
   -- the places' senders are the same before
-  pub takes-from : (one : Control SlotSender) (old mid new : SlotWriter W) → mid.frames ≡ old.frames → SamePlaces (places_of old) (places_of mid) → noted_by mid ≡ noted_by old
+  pub takes-from : (one : Control SlotSender) (old mid new : SlotWriter W) → mid.frames ≡ old.frames → SamePlaces (places_of old) (places_of mid) → notes_of mid ≡ notes_of old
       → Takes contents failed one mid new → Takes contents failed one old new
   takes-from one old mid new frames places noted takes order first is made same alike =
       takes order first is (makes-then order one (places_of first) (places_of old) (places_of mid) made places) (same ∙ sym frames) (alike ∙ sym noted)
@@ -484,7 +505,7 @@ module _ {W : Type 0} (contents : W → Option (List ℕ)) (failed : W → Bool)
   -- a GOAWAY of the writer's own
   pub parting-on : (last : ℕ) (taking : Taking SlotSender) (old new : SlotWriter W) → WritesOn got contents failed (steps_of (control.Goaway last InternalError) last taking) old.frames new.frames
       → ((before : Option (List ℕ)) (run : List Step) → Wrote got contents failed before run old.frames → Blamed taking (control.Goaway last InternalError) run)
-      → BringsBy taking (control.Goaway last InternalError) (core_of old) (core_of new) → places_of new ≡ places_of old → noted_by new ≡ noted_by old → Parts contents failed old new
+      → BringsBy taking (control.Goaway last InternalError) (core_of old) (core_of new) → places_of new ≡ places_of old → notes_of new ≡ notes_of old → Parts contents failed old new
   parting-on last taking old new on blamed brings places noted orders before credit runs = (
     steps_of (control.Goaway last InternalError) last taking ++ runs.0,
     on before runs.0 runs.1,
@@ -497,7 +518,7 @@ module _ {W : Type 0} (contents : W → Option (List ℕ)) (failed : W → Bool)
   -- a Close where orders were lost
   pub closing-on : (last : ℕ) (taking : Taking SlotSender) (old new : SlotWriter W) → WritesOn got contents failed (steps_of control.Close last taking) old.frames new.frames
       → ((before : Option (List ℕ)) (run : List Step) → Wrote got contents failed before run old.frames → Blamed taking control.Close run)
-      → BringsBy taking control.Close (core_of old) (core_of new) → places_of new ≡ places_of old → noted_by new ≡ noted_by old → PassesOver contents failed control.Close old new
+      → BringsBy taking control.Close (core_of old) (core_of new) → places_of new ≡ places_of old → notes_of new ≡ notes_of old → PassesOver contents failed control.Close old new
   closing-on last taking old new on blamed brings places noted orders before credit runs = (
     steps_of control.Close last taking ++ runs.0,
     on before runs.0 runs.1,
@@ -514,16 +535,19 @@ module _ {W : Type 0} (contents : W → Option (List ℕ)) (failed : W → Bool)
       → WritesOn got contents failed (steps_of (control.Reset id InternalError true) last taking) old.frames new.frames
       → ((before : Option (List ℕ)) (run : List Step) → Wrote got contents failed before run old.frames → Blamed taking (control.Reset id InternalError true) run)
       → BringsBy taking (control.Reset id InternalError true) (core_of old) (core_of new) → SamePlaces (places_of old) (places_of new)
-      → NotesOn (steps_of (control.Reset id InternalError true) last taking) old new
+      → NotesOn (steps_of (control.Reset id InternalError true) last taking) old new → blamed_of new ≡ blamed_of old ++ blamed_by taking
       → (orders : List (Control Opened)) (before : Option (List ℕ)) (credit : ℕ) → IsAmong (control.Open id tt) (orders_of orders) → list_any ends_input (orders_of orders) ≡ false
       → Runs contents failed false orders before credit old → Runs contents failed false orders before credit new
-  resetting-on id last taking old new on blamed brings places notes orders before credit among goes_on runs = (
+  resetting-on id last taking old new on blamed brings places notes ended orders before credit among goes_on runs = (
     steps_of (control.Reset id InternalError true) last taking ++ runs.0,
     on before runs.0 runs.1,
     obeys-reset id last taking (orders_of orders) runs.0 (blamed before runs.0 runs.1) among goes_on runs.2,
     holds-on false orders runs.0 (steps_of (control.Reset id InternalError true) last taking) old new (
       sends-plain (control.Reset id InternalError true) last taking old new (λ k. refl) (brings-plain taking (control.Reset id InternalError true) (core_of old) (core_of new) tt brings) places,
       notes,
+      ended
+          ∙ (ap (λ (ids : List ℕ). blamed_of old ++ ids) (ends-none (control.Reset id InternalError true) taking runs.0 (λ stream concerns. concerns) (blamed before runs.0 runs.1))
+          ∙ append-nil (blamed_of old)),
     ) runs.3,
     granted-steps (control.Reset id InternalError true) last taking runs.0 credit runs.4,
   )
@@ -533,7 +557,7 @@ module _ {W : Type 0} (contents : W → Option (List ℕ)) (failed : W → Bool)
       → WritesOn got contents failed (steps_of (order_of one) last taking) old.frames new.frames
       → ((before : Option (List ℕ)) (run : List Step) → Wrote got contents failed before run old.frames → Blamed taking one run)
       → ((before : Option (List ℕ)) (run : List Step) → Wrote got contents failed before run old.frames → Warns (order_of one) run)
-      → BringsBy taking one (core_of old) (core_of new) → SamePlaces (places_of old) (places_of new) → noted_by new ≡ noted_by old
+      → BringsBy taking one (core_of old) (core_of new) → SamePlaces (places_of old) (places_of new) → notes_of new ≡ notes_of old
       → (orders : List (Control Opened)) (before : Option (List ℕ)) (credit : ℕ)
       → Runs contents failed false orders before credit old → Runs contents failed false orders before credit new
   warning-on one last taking old new own on blamed warns brings places noted orders before credit runs = (
@@ -546,7 +570,7 @@ module _ {W : Type 0} (contents : W → Option (List ℕ)) (failed : W → Bool)
   )
 
   -- another order there
-  pub passes-by : (order : Control Opened) (old new : SlotWriter W) → new.frames ≡ old.frames → places_of new ≡ places_of old → noted_by new ≡ noted_by old → PassesOver contents failed order old new
+  pub passes-by : (order : Control Opened) (old new : SlotWriter W) → new.frames ≡ old.frames → places_of new ≡ places_of old → notes_of new ≡ notes_of old → PassesOver contents failed order old new
   passes-by order old new same places noted orders before credit runs =
       let kept = runs-between true old new same (keeps-same (places_of old) (places_of new) (same-places places)) noted orders before credit runs in
       (kept.0, kept.1, subst (λ (os : List Order). Obeys true os kept.0) (sym (given-next orders order)) (obeys-more (orders_of orders) (order_of order ∷ []) kept.0 kept.2), holds-lost true orders (order ∷ []) kept.0 new kept.3, kept.4)
@@ -645,7 +669,7 @@ module _ {W : Type 0} (contents : W → Option (List ℕ)) (failed : W → Bool)
       given-on-to given has = subst (λ (inbox : Inbox). HasGiven given inbox) (sym same) has
 
   -- an order is looked at
-  pub stays-with : (old new : SlotWriter W) → Keeps old.inbox new.inbox → SameCalls old new → KeepsOn (places_of old) (places_of new) → new.frames ≡ old.frames → noted_by new ≡ noted_by old
+  pub stays-with : (old new : SlotWriter W) → Keeps old.inbox new.inbox → SameCalls old new → KeepsOn (places_of old) (places_of new) → new.frames ≡ old.frames → notes_of new ≡ notes_of old
       → Stays contents failed old new
   stays-with old new keeps calls places frames noted = record {
     leads = record {
@@ -665,7 +689,7 @@ module _ {W : Type 0} (contents : W → Option (List ℕ)) (failed : W → Bool)
   }
 
   -- nothing is done
-  pub stays-same : (old new : SlotWriter W) → new.inbox ≡ old.inbox → SameCalls old new → KeepsOn (places_of old) (places_of new) → new.frames ≡ old.frames → noted_by new ≡ noted_by old
+  pub stays-same : (old new : SlotWriter W) → new.inbox ≡ old.inbox → SameCalls old new → KeepsOn (places_of old) (places_of new) → new.frames ≡ old.frames → notes_of new ≡ notes_of old
       → Stays contents failed old new
   stays-same old new inbox calls places frames noted =
       stays-with old new (record { name = ap (λ (i : Inbox). out_name i.ring) inbox; lost = ap (λ (i : Inbox). i.has_lost) inbox; given = λ given has. subst (λ (i : Inbox). HasGiven given i) (sym inbox) has }) calls places frames noted
@@ -673,7 +697,7 @@ module _ {W : Type 0} (contents : W → Option (List ℕ)) (failed : W → Bool)
   -- ---- an order is looked for
 
   -- it gives none
-  pub leads-none : (old new : SlotWriter W) → Gives None old.inbox new.inbox → SameCalls old new → KeepsOn (places_of old) (places_of new) → new.frames ≡ old.frames → noted_by new ≡ noted_by old
+  pub leads-none : (old new : SlotWriter W) → Gives None old.inbox new.inbox → SameCalls old new → KeepsOn (places_of old) (places_of new) → new.frames ≡ old.frames → notes_of new ≡ notes_of old
       → LeadsOn contents failed old new
   leads-none old new gives calls places frames noted = (stays-with old new (record {
     name = gives.name;
@@ -683,7 +707,7 @@ module _ {W : Type 0} (contents : W → Option (List ℕ)) (failed : W → Bool)
 
   -- what is given comes back
   pub leads-back : (next back : Control Opened) (old new : SlotWriter W) (mid : Inbox) → Gives (Some next) old.inbox mid → new.inbox ≡ record mid { set_aside = Some back } → back ≡ next
-      → SameCalls old new → KeepsOn (places_of old) (places_of new) → new.frames ≡ old.frames → noted_by new ≡ noted_by old → LeadsOn contents failed old new
+      → SameCalls old new → KeepsOn (places_of old) (places_of new) → new.frames ≡ old.frames → notes_of new ≡ notes_of old → LeadsOn contents failed old new
   leads-back next back old new mid gives same is calls places frames noted = (stays-with old new (record {
     name = ap (λ (inbox : Inbox). out_name inbox.ring) same ∙ gives.name;
     lost = ap (λ (inbox : Inbox). inbox.has_lost) same ∙ gives.lost;
@@ -731,7 +755,7 @@ module _ {W : Type 0} (contents : W → Option (List ℕ)) (failed : W → Bool)
 
   -- it is lost
   pub leads-lost : (next : Control Opened) (old new : SlotWriter W) (mid : Inbox) → Gives (Some next) old.inbox mid → new.inbox ≡ record mid { has_lost = true }
-      → KeepsOn (places_of old) (places_of new) → new.frames ≡ old.frames → noted_by new ≡ noted_by old → LeadsOn contents failed old new
+      → KeepsOn (places_of old) (places_of new) → new.frames ≡ old.frames → notes_of new ≡ notes_of old → LeadsOn contents failed old new
   leads-lost next old new mid gives same places frames noted = record {
     name = ap (λ (inbox : Inbox). out_name inbox.ring) same ∙ gives.name;
     on = λ before credit led.
@@ -768,15 +792,15 @@ module _ {W : Type 0} (contents : W → Option (List ℕ)) (failed : W → Bool)
       → WritesOn got contents failed (steps_of (control.Reset id InternalError true) last taking) old.frames new.frames
       → ((before : Option (List ℕ)) (run : List Step) → Wrote got contents failed before run old.frames → Blamed taking (control.Reset id InternalError true) run)
       → BringsBy taking (control.Reset id InternalError true) (core_of old) (core_of new) → SamePlaces (places_of old) (places_of new)
-      → NotesOn (steps_of (control.Reset id InternalError true) last taking) old new → LeadsOn contents failed old new
-  leads-reset id last taking old new kept going whose same calls on blamed brings places notes = record {
+      → NotesOn (steps_of (control.Reset id InternalError true) last taking) old new → blamed_of new ≡ blamed_of old ++ blamed_by taking → LeadsOn contents failed old new
+  leads-reset id last taking old new kept going whose same calls on blamed brings places notes ended = record {
     name = ap (λ (inbox : Inbox). out_name inbox.ring) same;
     on = λ before credit led.
         let knows : Knows (orders_of led.0) old = led.3 kept in (
           led.0,
           subst (λ (inbox : Inbox). HasGiven led.0 inbox) (sym same) led.1,
           subst (λ (was : Bool). Runs contents failed was led.0 before credit new) (sym (ap (λ (inbox : Inbox). inbox.has_lost) same ∙ kept))
-              (resetting-on id last taking old new on blamed brings places notes led.0 before credit (knows-stream (orders_of led.0) old id whose knows) (sym knows.input ∙ going)
+              (resetting-on id last taking old new on blamed brings places notes ended led.0 before credit (knows-stream (orders_of led.0) old id whose knows) (sym knows.input ∙ going)
               (subst (λ (was : Bool). Runs contents failed was led.0 before credit old) kept led.2)),
           λ still. knows-same (orders_of led.0) old new calls knows,
         );
@@ -787,7 +811,7 @@ module _ {W : Type 0} (contents : W → Option (List ℕ)) (failed : W → Bool)
       → WritesOn got contents failed (steps_of (order_of one) last taking) old.frames new.frames
       → ((before : Option (List ℕ)) (run : List Step) → Wrote got contents failed before run old.frames → Blamed taking one run)
       → ((before : Option (List ℕ)) (run : List Step) → Wrote got contents failed before run old.frames → Warns (order_of one) run)
-      → BringsBy taking one (core_of old) (core_of new) → SamePlaces (places_of old) (places_of new) → noted_by new ≡ noted_by old → LeadsOn contents failed old new
+      → BringsBy taking one (core_of old) (core_of new) → SamePlaces (places_of old) (places_of new) → notes_of new ≡ notes_of old → LeadsOn contents failed old new
   leads-warning one last taking old new own kept same calls on blamed warns brings places noted = record {
     name = ap (λ (inbox : Inbox). out_name inbox.ring) same;
     on = λ before credit led. (
@@ -802,11 +826,22 @@ module _ {W : Type 0} (contents : W → Option (List ℕ)) (failed : W → Bool)
 
   -- a writer that has taken nothing
   pub led-none : (before : Option (List ℕ)) (writer : SlotWriter W) → taken writer.inbox.ring ≡ [] → writer.inbox.set_aside ≡ None → writer.inbox.has_lost ≡ false
-      → writer.senders.places.items ≡ [] → core_of writer ≡ [] → writer.input_ended ≡ false → Wrote got contents failed before [] writer.frames → Led contents failed before 0 writer
-  led-none before writer none aside kept empty core going wrote = (
+      → writer.senders.places.items ≡ [] → core_of writer ≡ [] → writer.input_ended ≡ false → blamed_of writer ≡ [] → Wrote got contents failed before [] writer.frames
+      → Led contents failed before 0 writer
+  led-none before writer none aside kept empty core going blames wrote = (
     [],
     all-given writer.inbox aside none,
-    subst (λ (lost : Bool). Runs contents failed lost [] before 0 writer) (sym kept) ([], wrote, (refl, tt), ((λ fresh. kept-none (places_of writer) (core_of writer) empty core), (λ id there. absurd (none-in id there))), refl),
+    subst (λ (lost : Bool). Runs contents failed lost [] before 0 writer) (sym kept) (
+      [],
+      wrote,
+      (refl, tt),
+      (
+        λ fresh. kept-none (places_of writer) (core_of writer) empty core,
+        λ id there. absurd (none-in id there),
+        subst (λ (ids : List ℕ). AreBlamed ids []) (sym blames) (blamed-none []),
+      ),
+      refl,
+    ),
     λ still. record {
       opened = subst (λ (places : List Place). All (λ id. IsAmong (control.Open id tt) []) (ids_of places)) (sym empty) (All-nil (λ (id : ℕ). IsAmong (control.Open id tt) []));
       input = going;
@@ -855,8 +890,9 @@ module _ {W : Type 0} (contents : W → Option (List ℕ)) (failed : W → Bool)
       → (written : HasWritten contents failed before credit (orders_of (taken writer.inbox.ring)) told faultless device) → written.run ≡ led.2.0
       → TellFronts led.2.0 (calls got (core_of writer)) → TellReturned led.2.0 → TakesAllHome (core_of writer) (places_of writer) places
       → (told ≢ Some ending.OutOfMemory → told ≢ Some ending.WriteFailed → (writer.inbox.has_lost ≡ false) × (writer.inbox.set_aside ≡ None))
-      → HasSent contents failed before credit (taken writer.inbox.ring) places told faultless (noted_by writer) device
-  has-sent before credit writer places device told faultless led written same fronts returned home each =
+      → ((code : ErrorCode) → told ≡ Some (ending.ProtocolError code) → (code ≡ FlowControlError) × Contains (blamed_of writer) 0)
+      → HasSent contents failed before credit (taken writer.inbox.ring) places told faultless (noted_by writer) (blamed_of writer) device
+  has-sent before credit writer places device told faultless led written same fronts returned home each blames =
       let aside : List (Control Opened) = order_in writer.inbox.set_aside in
       let kept : HasKept true (led.0 ++ aside) led.2.0 writer = kept-lost writer.inbox.has_lost led.0 aside led.2.0 writer led.2.3.0 in
       let are : taken writer.inbox.ring ≡ kept.0 ++ kept.1 = sym led.1 ∙ kept.2 in record {
@@ -877,6 +913,8 @@ module _ {W : Type 0} (contents : W → Option (List ℕ)) (failed : W → Bool)
         each = λ spared sent.
             let found = each spared sent in rest-none writer.inbox.has_lost led.0 aside led.2.0 writer led.2.3.0 found.0 (ap (λ (one : Option (Control Opened)). order_in one) found.1);
         noted = subst (λ (run : List Step). AreNoted (noted_by writer) run) (sym same) led.2.3.1;
+        overran = subst (λ (run : List Step). AreBlamed (blamed_of writer) run) (sym same) led.2.3.2;
+        blames = blames;
       }
 
 -- the ending that is told names want of memory, a failed write or that orders are left where there is one

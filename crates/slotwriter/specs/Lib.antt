@@ -1,3 +1,4 @@
+pub mod Blamed
 pub mod Left
 pub mod Orders
 pub mod OrderExamples

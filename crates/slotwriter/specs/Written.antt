@@ -8,6 +8,8 @@ use Rattle.lane.specs.declared.ring_lane.RingLaneOut.{RingLaneOut}
 use Rattle.lane.specs.declared.ring_lane.RingLaneShut.{RingLaneShut}
 use Rattle.lane.specs.Ring.{out_name}
 use Rattle.lane.specs.RingLane.{got}
+use Rattle.h2frame.specs.declared.error_code.ErrorCode.{ErrorCode}
+use Rattle.h2frame.specs.declared.error_code.ErrorCode.TheVariants.{FlowControlError}
 use Rattle.outwriter.specs.declared.control.Control.{Control}
 use Rattle.outwriter.specs.declared.control.Control.TheVariants.{Open}
 use Rattle.outwriter.specs.Calls.{TellOthers, is_closed}
@@ -27,11 +29,12 @@ use Rattle.connwriter.specs.Sent.{IsOld, last_ids}
 use Rattle.connwriter.specs.Wrote.{Wrote}
 use Rattle.callslot.specs.declared.order.Opened.{Opened}
 use Rattle.callslot.specs.declared.report.Ending.{Ending}
-use Rattle.callslot.specs.declared.report.Ending.TheVariants.{OutOfMemory, WriteFailed}
+use Rattle.callslot.specs.declared.report.Ending.TheVariants.{OutOfMemory, ProtocolError, WriteFailed}
 use Rattle.slotwriter.specs.declared.senders.Place.{Place}
 use Rattle.slotwriter.specs.declared.slot_writer.SlotWriter.{SlotWriter}
 use Rattle.slotwriter.specs.declared.steps.Rest.{Rest}
 use Rattle.slotwriter.specs.declared.steps.Rest.TheVariants as rests
+use Rattle.slotwriter.specs.Blamed.{AreBlamed}
 use Rattle.slotwriter.specs.Left.{AreNoted}
 use Rattle.slotwriter.specs.Orders.{HasGiven, IsAmong, Obeys, ends_input, orders_of}
 use Rattle.slotwriter.specs.Sent.{AreFresh, AreKept, HaveTold, Lines, MakesOf, SlotSender, held_of, ids_of, lines_of}
@@ -102,13 +105,24 @@ module _ {W : Type 0} where
     pub calls : calls_of new ≡ calls_of old
     pub left : (id : ℕ) → Contains (noted_by new) id → Contains (noted_by old) id ⊎ WasLeft id (calls_of old)
 
-  -- it has the senders, and notes these streams
+  -- ---- streams that it ended by itself
+
+  -- those that it notes as ended since a window of the peer's would be too large
+  abbrev pub blamed_of : SlotWriter W → List ℕ
+  blamed_of writer = writer.blamed.items
+
+  -- all streams that it notes
+  abbrev pub notes_of : SlotWriter W → List ℕ × List ℕ
+  notes_of writer = (noted_by writer, blamed_of writer)
+
+  -- It has the senders, notes each stream that was reset since its call was left, and blames its peer for none but by its run.
   abbrev pub Holds : Bool → List (Control Opened) → List Step → SlotWriter W → Type 0
-  Holds lost orders run writer = HasKept lost orders run writer × AreNoted (noted_by writer) run
+  Holds lost orders run writer = HasKept lost orders run writer × AreNoted (noted_by writer) run × AreBlamed (blamed_of writer) run
 
 module _ {W : Type 0} (contents : W → Option (List ℕ)) (failed : W → Bool) where
   -- Some run led to the writer, whose device had something before, and granted so much credit on the connection. It obeyed these orders, and
-  -- the writer has the senders of their lines, unless some were lost, and notes the streams that it reset since their calls were left.
+  -- the writer has the senders of their lines, unless some were lost, and notes the streams that it reset since their calls were left, and those
+  -- that it ended since a window would be too large.
   abbrev pub Runs : Bool → List (Control Opened) → Option (List ℕ) → ℕ → SlotWriter W → Type 0
   Runs lost orders before credit writer =
       (run : List Step) × Wrote got contents failed before run writer.frames × Obeys lost (orders_of orders) run × Holds lost orders run writer
@@ -137,7 +151,7 @@ module _ {W : Type 0} (contents : W → Option (List ℕ)) (failed : W → Bool)
   -- slot is with the control.
   abbrev pub Takes : Control SlotSender → SlotWriter W → SlotWriter W → Type 0
   Takes control old new = (order : Control Opened) (first : SlotWriter W) → order_of control ≡ order_of order
-      → MakesOf order control (places_of first) (places_of old) → first.frames ≡ old.frames → noted_by first ≡ noted_by old
+      → MakesOf order control (places_of first) (places_of old) → first.frames ≡ old.frames → notes_of first ≡ notes_of old
       → (orders : List (Control Opened)) (before : Option (List ℕ)) (credit : ℕ) → Runs false orders before credit first
       → Runs new.inbox.has_lost (orders ++ order ∷ []) before credit new
 
@@ -220,9 +234,9 @@ pub record HasWritten {W : Type 0} (contents : W → Option (List ℕ)) (failed 
   pub sound : faultless ≡ true → has_failed run ≡ false
 
 -- A device has that, and these senders of the slots tell what was sent of each call. The slots' lines are by a front of the orders; the
--- others were lost. These streams were reset since their calls were left.
+-- others were lost. These streams were reset since their calls were left, and those ended since a window would be too large.
 pub record HasSent {W : Type 0} (contents : W → Option (List ℕ)) (failed : W → Bool) (before : Option (List ℕ)) (credit : ℕ) (orders : List (Control Opened))
-    (places : List Place) (ending : Option Ending) (faultless : Bool) (resets : List ℕ) (device : W) : Type 0 where
+    (places : List Place) (ending : Option Ending) (faultless : Bool) (resets blamed : List ℕ) (device : W) : Type 0 where
   pub written : HasWritten contents failed before credit (orders_of orders) ending faultless device
   pub front : List (Control Opened)
   pub rest : List (Control Opened)
@@ -237,3 +251,7 @@ pub record HasSent {W : Type 0} (contents : W → Option (List ℕ)) (failed : W
   pub each : ending ≢ Some OutOfMemory → ending ≢ Some WriteFailed → rest ≡ []
   -- no other stream was reset so
   pub noted : AreNoted resets written.run
+  -- with a control of the peer each of those windows would be too large
+  pub overran : AreBlamed blamed written.run
+  -- the connection ended with no error but for its own window, or for an initial size
+  pub blames : (code : ErrorCode) → ending ≡ Some (ProtocolError code) → (code ≡ FlowControlError) × Contains blamed 0

@@ -1,8 +1,10 @@
 //! What the writing side of a connection has, and its steps.
 
-ghost use Rattle.std.specs.Prelude.{◌≡◌, ◌≢◌, ◌+◌, ◌++◌, ℕ, nat_eq, if◌then◌else◌, true, false, List, [], length, option_to_list, slice_get, Option, None, Some, IfNone, IfSome, OnErr, OnOk};
+ghost use Rattle.std.specs.Prelude.{◌≡◌, ◌≢◌, ◌+◌, ◌++◌, ◌∷◌, ◌<◌, ℕ, Contains, nat_eq, if◌then◌else◌, true, false, List, [], length, option_to_list, slice_get, vec_capacity, vec_len, Option, None, Some, IfNone, IfSome, OnErr, OnOk};
 ghost use Rattle.lane.specs.Ring.{taken};
 ghost use Rattle.lane.specs.RingLane.{got};
+ghost use Rattle.h2frame.specs.declared.error_code.ErrorCode.{ErrorCode as Code};
+ghost use Rattle.h2frame.specs.declared.error_code.ErrorCode.TheVariants.{FlowControlError};
 ghost use Rattle.outwriter.specs.Cores.{IsUnused, open_stream};
 ghost use Rattle.outwriter.specs.LeftCalls.{WasLeft};
 ghost use Rattle.outwriter.specs.declared.control.Control.TheVariants as orders;
@@ -17,13 +19,14 @@ ghost use Rattle.callslot.specs.declared.report.Ending.TheVariants as ending;
 ghost use Rattle.slotwriter.specs.declared.steps.Rest.TheVariants as rest;
 ghost use Rattle.slotwriter.specs.declared.steps.Took.TheVariants as took;
 ghost use Rattle.slotwriter.specs.declared.steps.Waiting.TheVariants as waiting;
+ghost use Rattle.slotwriter.specs.Blamed.{blamed_by, ended_by};
 ghost use Rattle.slotwriter.specs.Left.{AreAmong, left_by};
 ghost use Rattle.slotwriter.specs.Orders.{IsWarning, TakesNoWindow, Warns, ends_input, orders_of, waiting_of};
 ghost use Rattle.slotwriter.specs.Sent.{HandsHome, HasStream, SamePlaces, stream_at};
 ghost use Rattle.slotwriter.specs.Written.{HasSent, HasWritten, Heeds, IsFlushed, Led, LedOut};
 ghost use Rattle.slotwriter.specs.Written.{LeadsOn, LeadsOut, LeadsTo, NotesOn, Parts, PassesOver};
-ghost use Rattle.slotwriter.specs.Written.{ResetsOnlyLeft, SameCalls, Stays, Takes, calls_of, core_of};
-ghost use Rattle.slotwriter.specs.Written.{noted_by, places_of, rest_of};
+ghost use Rattle.slotwriter.specs.Written.{ResetsOnlyLeft, SameCalls, Stays, Takes, blamed_of, calls_of};
+ghost use Rattle.slotwriter.specs.Written.{core_of, noted_by, notes_of, places_of, rest_of};
 
 use crate::inbox::Inbox;
 use crate::senders::{Senders, Untaken};
@@ -55,15 +58,17 @@ pub struct SlotWriter<W: ConnWrite> {
     input_ended: bool,
     /// Whether no more orders come.
     closed: bool,
-    /// The error of its own that the writer ended the connection with.
-    failed: Option<ErrorCode>,
     /// The streams that were reset since their calls were left without trailers.
     resets: Vec<StreamId>,
+    /// The streams that the writer ended by itself, and the connection as stream 0, since a window
+    /// of the peer's would be too large.
+    blamed: Vec<StreamId>,
 }
 
 /// What a writer hands back: how the connection ended as far as it sees, whether no error was told
-/// by GOAWAY, what it wrote to, its end of the ring of orders, the senders of the slots, and the
-/// streams that were reset since their calls were left without trailers.
+/// by GOAWAY, what it wrote to, its end of the ring of orders, the senders of the slots, the
+/// streams that were reset since their calls were left without trailers, and those that the writer
+/// ended by itself since a window of the peer's would be too large.
 #[derive(Drop)]
 pub struct Written<W: ConnWrite + Drop> {
     pub ending: Option<Ending>,
@@ -72,6 +77,7 @@ pub struct Written<W: ConnWrite + Drop> {
     pub orders: RingOut<Order>,
     pub senders: Senders,
     pub resets: Vec<StreamId>,
+    pub blamed: Vec<StreamId>,
 }
 
 impl<W: ConnWrite + Drop> SlotWriter<W> {
@@ -89,8 +95,8 @@ impl<W: ConnWrite + Drop> SlotWriter<W> {
             senders: Senders::new(alloc),
             input_ended: false,
             closed: false,
-            failed: None,
             resets: Vec::new(alloc),
+            blamed: Vec::new(alloc),
         }
     }
 
@@ -127,6 +133,8 @@ impl<W: ConnWrite + Drop> SlotWriter<W> {
     pub fn take_next(&mut self, last: StreamId) -> Took
         ensures leads { LeadsOn W.contents W.failed self.old self.new }
         ensures lost { result ≡ took.Lost → self.new.inbox.has_lost ≡ true }
+        // What it has ended by itself is noted.
+        ensures ended { AreAmong (ended_by result) (blamed_of self.new) }
     {
         let Some(order) = self.inbox.next() else {
             return Took::Nothing;
@@ -157,6 +165,7 @@ impl<W: ConnWrite + Drop> SlotWriter<W> {
         ensures heeds { self.new.inbox.has_lost ≡ false
             → Heeds (order_of order) self.old self.new }
         ensures lost { result ≡ took.Lost → self.new.inbox.has_lost ≡ true }
+        ensures ended { AreAmong (ended_by result) (blamed_of self.new) }
     {
         self.note(&order);
         match self.give(order, last) {
@@ -171,7 +180,8 @@ impl<W: ConnWrite + Drop> SlotWriter<W> {
     }
 
     /// Gives the core an order. Where it resets a stream since its call was left, that is noted
-    /// before. Without memory for that it is handed back.
+    /// before; and so there is room to note a stream that the core ends by itself. Without memory
+    /// for that the order is handed back.
     fn give(&mut self, order: Control<Sender<OutLane>>, last: StreamId) -> Taking<Sender<OutLane>>
         ensures wrote { IsUnused got order → WritesOn got W.contents W.failed
             (steps_of (order_of order) last result) self.old.frames self.new.frames }
@@ -182,14 +192,42 @@ impl<W: ConnWrite + Drop> SlotWriter<W> {
         ensures notes { NotesOn (steps_of (order_of order) last result) self.old self.new }
         ensures resets { AreAmong (noted_by self.new)
             (noted_by self.old ++ left_by (order_of order)) }
+        ensures ended { blamed_of self.new ≡ blamed_of self.old ++ blamed_by result }
         ensures senders { self.new.senders ≡ self.old.senders }
         ensures inbox { self.new.inbox ≡ self.old.inbox }
         ensures input { self.new.input_ended ≡ self.old.input_ended }
     {
-        if !self.note_left(&order) {
+        if !self.prepare(&order) {
             return Taking::HandedBack(order);
         }
-        self.frames.take(order, last)
+        let taking = self.frames.take(order, last);
+        self.note_blamed(&taking);
+        taking
+    }
+
+    /// Makes room to note a stream that the core may end by an order, and notes the one that the
+    /// order resets since its call was left, if it does. Whether there was memory for that.
+    fn prepare(&mut self, order: &Control<Sender<OutLane>>) -> bool
+        ensures noted { result ≡ true → self.new.resets.items
+            ≡ self.old.resets.items ++ left_by (order_of order.now) }
+        ensures unnoted { result ≡ false → self.new.resets.items ≡ self.old.resets.items }
+        ensures room { result ≡ true → vec_len self.new.blamed < vec_capacity self.new.blamed }
+        ensures blamed { self.new.blamed.items ≡ self.old.blamed.items }
+        ensures rest { self.new
+            ≡ record self.old { resets = self.new.resets; blamed = self.new.blamed } }
+    {
+        self.blamed.reserve(1).is_ok() && self.note_left(order)
+    }
+
+    /// Notes the stream that the core has ended by itself, if it has.
+    fn note_blamed(&mut self, taking: &Taking<Sender<OutLane>>)
+        requires room { vec_len self.old.blamed < vec_capacity self.old.blamed }
+        ensures noted { blamed_of self.new ≡ blamed_of self.old ++ blamed_by taking.now }
+        ensures rest { self.new ≡ record self.old { blamed = self.new.blamed } }
+    {
+        if let Taking::Ended(id) = taking {
+            self.blamed.push_reserved(*id);
+        }
     }
 
     /// Notes the stream that an order resets since its call was left, if it does. Whether there was
@@ -235,7 +273,7 @@ impl<W: ConnWrite + Drop> SlotWriter<W> {
         ensures places { SamePlaces (places_of self.old) (places_of self.new) }
         ensures frames { self.new.frames ≡ self.old.frames }
         ensures inbox { self.new.inbox ≡ self.old.inbox }
-        ensures resets { self.new.resets ≡ self.old.resets }
+        ensures notes { notes_of self.new ≡ notes_of self.old }
     {
         match order {
             Control::InputEnded => self.input_ended = true,
@@ -251,11 +289,11 @@ impl<W: ConnWrite + Drop> SlotWriter<W> {
         ensures places { SamePlaces (places_of self.old) (places_of self.new) }
         ensures frames { self.new.frames ≡ self.old.frames }
         ensures inbox { self.new.inbox ≡ self.old.inbox }
-        ensures resets { self.new.resets ≡ self.old.resets }
+        ensures notes { notes_of self.new ≡ notes_of self.old }
         ensures ends { result ≢ took.Lost }
+        ensures ended { ended_by result ≡ id ∷ [] }
     {
         if id == 0 {
-            self.failed = Some(ErrorCode::FlowControlError);
             return Took::Stops;
         }
         self.senders.call_off(id);
@@ -268,7 +306,7 @@ impl<W: ConnWrite + Drop> SlotWriter<W> {
         ensures frames { self.new.frames ≡ self.old.frames }
         ensures senders { self.new.senders ≡ self.old.senders }
         ensures inbox { self.new.inbox ≡ record self.old.inbox { has_lost = true } }
-        ensures resets { self.new.resets ≡ self.old.resets }
+        ensures notes { notes_of self.new ≡ notes_of self.old }
     {
         self.inbox.has_lost = true;
         Took::Lost
@@ -279,7 +317,7 @@ impl<W: ConnWrite + Drop> SlotWriter<W> {
         ensures home { HandsHome order (places_of self.old) (places_of self.new) }
         ensures frames { self.new.frames ≡ self.old.frames }
         ensures inbox { self.new.inbox ≡ self.old.inbox }
-        ensures resets { self.new.resets ≡ self.old.resets }
+        ensures notes { notes_of self.new ≡ notes_of self.old }
     {
         if let Control::Open(id, sender) = order {
             self.senders.keep(id, sender, false);
@@ -405,6 +443,7 @@ impl<W: ConnWrite + Drop> SlotWriter<W> {
     pub fn warn(&mut self)
         ensures leads { LeadsOn W.contents W.failed self.old self.new }
         ensures resets { self.new.resets ≡ self.old.resets }
+        ensures blamed { self.new.blamed ≡ self.old.blamed }
     {
         if !self.inbox.has_lost {
             self.warn_by_goaway();
@@ -418,6 +457,7 @@ impl<W: ConnWrite + Drop> SlotWriter<W> {
         ensures leads { LeadsOn W.contents W.failed self.old self.new }
         ensures inbox { self.new.inbox ≡ self.old.inbox }
         ensures resets { self.new.resets ≡ self.old.resets }
+        ensures blamed { self.new.blamed ≡ self.old.blamed }
     {
         if self.frames.may_leave() {
             let (last, code) = (GREATEST_STREAM, ErrorCode::NoError);
@@ -431,6 +471,7 @@ impl<W: ConnWrite + Drop> SlotWriter<W> {
         ensures leads { LeadsOn W.contents W.failed self.old self.new }
         ensures inbox { self.new.inbox ≡ self.old.inbox }
         ensures resets { self.new.resets ≡ self.old.resets }
+        ensures blamed { self.new.blamed ≡ self.old.blamed }
     {
         if self.frames.may_probe() {
             self.warn_by(Control::Probe(DRAINING));
@@ -447,6 +488,7 @@ impl<W: ConnWrite + Drop> SlotWriter<W> {
         ensures leads { LeadsOn W.contents W.failed self.old self.new }
         ensures inbox { self.new.inbox ≡ self.old.inbox }
         ensures resets { self.new.resets ≡ self.old.resets }
+        ensures blamed { self.new.blamed ≡ self.old.blamed }
     {
         let taking = self.frames.take(warning, GREATEST_STREAM);
         matches!(taking, Taking::Done)
@@ -460,6 +502,7 @@ impl<W: ConnWrite + Drop> SlotWriter<W> {
         ensures leads { (had has : ℕ) → has ≡ had + (if nat_eq id 0 then n else 0)
             → LeadsTo W.contents W.failed had self.old has self.new }
         ensures resets { self.new.resets ≡ self.old.resets }
+        ensures blamed { self.new.blamed ≡ self.old.blamed }
     {
         self.frames.grant(id, n);
     }
@@ -471,6 +514,7 @@ impl<W: ConnWrite + Drop> SlotWriter<W> {
         ensures stopped { result ≡ filling.Stopped
             → LeadsOut W.contents W.failed self.old self.new }
         ensures resets { self.new.resets ≡ self.old.resets }
+        ensures blamed { self.new.blamed ≡ self.old.blamed }
     {
         self.frames.fill()
     }
@@ -651,7 +695,7 @@ impl<W: ConnWrite + Drop> SlotWriter<W> {
             → LedOut W.contents W.failed before credit self
             → HasSent W.contents W.failed before credit (taken result.orders)
             result.senders.places.items result.ending result.is_faultless
-            result.resets.items result.device }
+            result.resets.items result.blamed.items result.device }
         ensures ring { result.orders ≡ self.inbox.ring }
     {
         let ending = self.ending();
@@ -660,6 +704,7 @@ impl<W: ConnWrite + Drop> SlotWriter<W> {
             frames,
             mut senders,
             resets,
+            blamed,
             ..
         } = self;
         let is_faultless = frames.is_faultless();
@@ -672,6 +717,7 @@ impl<W: ConnWrite + Drop> SlotWriter<W> {
             orders: inbox.ring,
             senders,
             resets,
+            blamed,
         }
     }
 
@@ -684,6 +730,8 @@ impl<W: ConnWrite + Drop> SlotWriter<W> {
             → (self.now.inbox.has_lost ≡ false) × (self.now.inbox.set_aside ≡ None) }
         ensures going { result ≢ Some ending.OutOfMemory → result ≢ Some ending.WriteFailed
             → self.now.frames.standing ≡ stands.Going }
+        ensures blames { (code : Code) → result ≡ Some (ending.ProtocolError code)
+            → (code ≡ FlowControlError) × Contains (blamed_of self.now) 0 }
     {
         if self.inbox.has_lost {
             return Some(Ending::OutOfMemory);
@@ -693,11 +741,18 @@ impl<W: ConnWrite + Drop> SlotWriter<W> {
             Standing::Broken => Some(Ending::WriteFailed),
             // It doesn't come that an order is set aside still.
             Standing::Going if self.inbox.set_aside.is_some() => Some(Ending::OutOfMemory),
-            Standing::Going => match self.failed {
-                Some(code) => Some(Ending::ProtocolError(code)),
-                None => None,
-            },
+            Standing::Going if self.blames() => {
+                Some(Ending::ProtocolError(ErrorCode::FlowControlError))
+            }
+            Standing::Going => None,
         }
+    }
+
+    /// Whether the writer has ended the connection by itself.
+    fn blames(&self) -> bool
+        ensures { result ≡ true → Contains (blamed_of self.now) 0 }
+    {
+        self.blamed.contains(&0)
     }
 }
 

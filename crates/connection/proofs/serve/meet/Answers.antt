@@ -4,7 +4,9 @@ use Rattle.callslot.specs.declared.report.Ending.{Ending}
 use Rattle.callslot.specs.declared.report.Ending.TheVariants.{Drained, OutOfMemory, ProtocolError, WriteFailed}
 use Rattle.slots.specs.Reports.{is_heard_out}
 use Rattle.connection.specs.Left.{AreLeft}
+use Rattle.slotwriter.specs.Left.{AreAmong}
 use Rattle.connection.proofs.Left.{are-left}
+use Rattle.connection.proofs.Overrun.{are-among}
 use Rattle.connection.proofs.serve.meet.Goals as goal
 
 -- an ending that isn't want of memory is none that became it
@@ -44,6 +46,12 @@ returns-clause-left g c = λ spared.
     let left = are-left c.as_slice-2.result.now c.as_slice.result.now (sym c.is_one_answered-is_one_answered.ensures ∙ c.by_calls.ensures.left spared) in
     subst (λ (rows : List CallReport). AreLeft c.args.written.resets.items rows) c.as_slice.ensures.value
     (subst (λ (streams : List ℕ). AreLeft streams c.as_slice.result.now) c.as_slice-2.ensures.value left)
+
+pub returns-clause-overran : goal.returns-clause-overran
+returns-clause-overran g c = λ spared.
+    let among = are-among c.as_slice-3.result.now c.as_slice-4.result.now (sym c.lacks_one-is_one_unblamed.ensures ∙ c.by_calls.ensures.overran spared) in
+    subst (λ (those : List ℕ). AreAmong c.args.ended.abandoned.items those) c.as_slice-4.ensures.value
+    (subst (λ (ids : List ℕ). AreAmong ids c.as_slice-4.result.now) c.as_slice-3.ensures.value among)
 
 pub returns-clause-dropped : goal.returns-clause-dropped
 returns-clause-dropped g c = λ spared sent calm.

@@ -14,6 +14,7 @@ use Rattle.slotwriter.specs.Written.{HasSent}
 use Rattle.slotwriter.proofs.WrittenSteps.{told-on}
 use Rattle.connection.specs.Puts.{put_of, put_orders}
 use Rattle.connection.proofs.Left.{left-noted}
+use Rattle.connection.proofs.Overrun.{are-overrun, ended-so}
 use Rattle.connection.proofs.Lines.{meeting-put, sent-put}
 use Rattle.connection.proofs.Heard.{consumes-none, kept-none}
 use Rattle.connection.specs.Served.{is_drained}
@@ -34,7 +35,7 @@ meet-requires-2-clause-rings g c = λ κs within begins.
     let unused = subst (λ o. put_of o ≡ []) (sym (c.new-reader.ensures.orders ∙ c.in-Ok-start.ensures.same)) (c.new-orders.ensures.put ∙ c.requires.unused.0) in
     let heard = c.read-read.ensures.heard (kept-none _ _ c.new-reader.ensures.reads c.new-reader.ensures.calls unused) in
     let end = c.end-ended.ensures heard.2.0 heard.2.1.reads in
-    meeting-put g.O.ConnWrite.contents g.O.ConnWrite.failed end.1 _ _ _ _ _ _ _ _ begins (end.4 heard.2.1.lined) c.join-written.ensures.1 end.3
+    meeting-put g.O.ConnWrite.contents g.O.ConnWrite.failed end.1 _ _ _ _ _ _ _ _ begins (end.5 heard.2.1.lined) c.join-written.ensures.1 end.4
 
 pub returns : goal.returns
 returns g c =
@@ -50,8 +51,8 @@ returns g c =
     let written = c.join-written.result.written in
     let amount = c.join-written.result.told.amount in
     let is = c.meet-2.ensures in
-    let sent : HasSent contents failed (contents c.args.output) amount (taken written.orders) written.senders.places.items written.ending written.is_faultless written.resets.items written.device =
-    subst (λ (before : Option (List ℕ)). HasSent contents failed before amount (taken written.orders) written.senders.places.items written.ending written.is_faultless written.resets.items written.device) c.in-Ok-start.ensures.begun c.join-written.ensures.1 in
+    let sent : HasSent contents failed (contents c.args.output) amount (taken written.orders) written.senders.places.items written.ending written.is_faultless written.resets.items written.blamed.items written.device =
+    subst (λ (before : Option (List ℕ)). HasSent contents failed before amount (taken written.orders) written.senders.places.items written.ending written.is_faultless written.resets.items written.blamed.items written.device) c.in-Ok-start.ensures.begun c.join-written.ensures.1 in
     let put = told-on contents failed (contents c.args.output) amount (orders_of (taken written.orders)) (put_orders c.end-ended.result.1) written.ending (Some c.meet-2.result.ending) written.is_faultless (is_drained c.meet-2.result.ending) written.device
     (λ lacked. ap Some (is.memory lacked)) (λ broke spared. ap Some (is.broken broke (λ lacked. spared (ap Some lacked)))) (λ marked. is.marked (some-is marked))
     (orders_of is.obeyed.0)
@@ -65,12 +66,14 @@ returns g c =
         served-by g.M.Answering.known g.M.Answering.names (λ rows. rows.items) contents failed _ _ _ _ _ _ _ is.output
             (are-served g.M.Answering.known g.M.Answering.names (λ rows. rows.items) contents failed heard.0 (contents c.args.output) amount _ c.read-read.result c.meet-2.result.ending
             heard.2.0 end.0 _ _ c.end-ended.result.1 c.end-ended.result.0.calls c.meet-2.result.calls written.device has
-            (IsGivenIn end.1 c.end-ended.result.0.ends.items) end.2 end.5 is.input is.blamed is.spared is.dropped (c.read-read.ensures.failed start) within
+            (IsGivenIn end.1 c.end-ended.result.0.ends.items) end.2 end.6 is.input is.spared is.dropped (c.read-read.ensures.failed start) within
             put
             (rows-sent g.M.Answering.known g.M.Answering.names put.run (IsGivenIn end.1 c.end-ended.result.0.ends.items) _ _ c.end-ended.result.0.ends.items _ _ is.met
-            (sent-put contents failed end.1 (put_of c.end-ended.result.1) (taken written.orders) is.obeyed.0 _ _ written.senders.places.items _ _ c.end-ended.result.0.ends.items _ _ is.obeyed.1 (end.4 has.lined) sent is.met)
+            (sent-put contents failed end.1 (put_of c.end-ended.result.1) (taken written.orders) is.obeyed.0 _ _ written.senders.places.items _ _ c.end-ended.result.0.ends.items _ _ is.obeyed.1 (end.5 has.lined) sent is.met)
             (end.0 ++ heard.2.0) (reported (end.0 ++ heard.2.0)) end.2.rows)
-            (λ spared. left-noted written.resets.items put.run c.meet-2.result.calls.items sent.noted (is.left spared))),
+            (λ spared. left-noted written.resets.items put.run c.meet-2.result.calls.items sent.noted (is.left spared))
+            (λ spared. are-overrun (end.0 ++ heard.2.0) put.run c.end-ended.result.0.abandoned.items written.blamed.items end.3 (is.overran spared) sent.overran)
+            (λ code failed. ended-so written.blamed.items put.run c.read-read.result written.ending code sent.overran sent.blames (is.blamed code failed))),
       );
     }
 

@@ -19,7 +19,7 @@ spawn_with-requires-clause-keeps g c = λ κs within r claims.
     let contents = g.W.ConnWrite.contents in
     let failed = g.W.ConnWrite.failed in
     let kept : (out_name r.written.orders ≡ out_name c.of-2.result.value)
-    × HasSent contents failed (contents c.of.result.value) r.told.amount (taken r.written.orders) r.written.senders.places.items r.written.ending r.written.is_faultless r.written.resets.items r.written.device
+    × HasSent contents failed (contents c.of.result.value) r.told.amount (taken r.written.orders) r.written.senders.places.items r.written.ending r.written.is_faultless r.written.resets.items r.written.blamed.items r.written.device
     × (r.told.parts ≡ g.C.Ledger.parts) = (
       claims.0 ∙ (ap out_name c.new-writing.ensures.ring ∙ ap out_name (sym c.of-2.ensures)),
       claims.1.0 (contents c.of.result.value)

@@ -13,6 +13,7 @@ returns g c = λ told reads.
       a.0,
       calls_of c.cut_all.new.self.reading.slots,
       record { silent = a.1.silent; calm = a.1.calm; rising = a.1.reads.slots.rising; closed = a.1.reads.slots.closed; rows = c.end-ended.ensures.rows steps tt a.1.reads },
+      c.end-ended.ensures.abandoned steps a.1.reads,
       c.end-ended.ensures.ends tt,
       λ lined. lined-closed _ c.put.new.self c.close.new.self c.close.ensures.put (lined-plain _ InputEnded c.cut_all.new.self.orders c.put.new.self refl tt c.put.ensures.puts (a.1.lined lined)),
       λ ordered.

@@ -17,7 +17,7 @@ pub returns-then-turn : goal.returns-then-turn
 returns-then-turn g c =
     let written = c.into_end.result in record {
       sent = λ before led.
-          subst (λ (credit : ℕ). HasSent g.W.ConnWrite.contents g.W.ConnWrite.failed before credit (taken written.orders) written.senders.places.items written.ending written.is_faultless written.resets.items written.device)
+          subst (λ (credit : ℕ). HasSent g.W.ConnWrite.contents g.W.ConnWrite.failed before credit (taken written.orders) written.senders.places.items written.ending written.is_faultless written.resets.items written.blamed.items written.device)
           (sym (ap (λ share. share.amount) c.into_share.ensures))
           (c.into_end.ensures.sent before _ (c.turn.ensures.over c.if-turn.true before (c.turns.invariant.0.on before led)));
       name = ap out_name c.into_end.ensures.ring ∙ (c.turn.ensures.leads.name ∙ c.turns.invariant.0.name);

@@ -19,7 +19,7 @@ returns-clause-decides g c = λ told reads.
     let decided : Decided = record c.order.result { ends = Some (ending.ProtocolError c.args.code) } in
     decides-now told (Told (events.Fatal c.args.code) Plain) decided c.args.self.now
     (one-order decided _ done.0 done.1 ∙ (ap (λ (order : Control Opened). order_of order ∷ []) c.goaway.ensures.order ∙ ap (λ (last : ℕ). Goaway last c.args.code ∷ []) reads.counts.last_is))
-    refl done.2 (reads-idle told _ _ (quiet _ refl refl) (idle-fatal c.args.code) reads)
+    refl done.2 (reads-idle told _ _ (quiet _ refl refl) refl (idle-fatal c.args.code) reads)
 
 pub returns-clause-aligns : goal.returns-clause-aligns
 returns-clause-aligns g c =

@@ -17,7 +17,7 @@ returns-in-Ok-clause-decides g c = λ counted told reads.
     as-step told (Told (events.Data c.args.id c.args.piece counted) (Received Feed)) _ c.nothing.result new
     (ap (λ (order : Option (Control Opened)). Told (events.Data c.args.id c.args.piece counted) (fate_of Feed order)) done.1)
     (decides-now told (Told (events.Data c.args.id c.args.piece counted) (Received Feed)) c.nothing.result new (no-order c.nothing.result done.0 done.1) done.3 done.2
-    (reads-step told _ c.args.self.now new (quiet _ refl refl) refl refl refl (c.in-Ok.ensures.heard counted) reads))
+    (reads-step told _ c.args.self.now new (quiet _ refl refl) refl refl refl refl (c.in-Ok.ensures.heard counted) reads))
 
 pub returns-in-Ok-clause-aligns : goal.returns-in-Ok-clause-aligns
 returns-in-Ok-clause-aligns g c = calls-nothing (calls_of c.args.self.now.slots) _ _ c.nothing.ensures.0 c.nothing.ensures.1 ∙ sym c.feed.ensures.calls

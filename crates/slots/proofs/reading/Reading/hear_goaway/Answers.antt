@@ -8,4 +8,4 @@ use Rattle.slots.proofs.reading.Reading.hear_goaway.Goals as goal
 
 pub returns-clause-reads : goal.returns-clause-reads
 returns-clause-reads g c = λ told reads.
-    reads-goaway told Plain c.args.self.now _ refl refl (λ steps kept. kept-idle steps (Told events.PeerGoaway Plain) _ refl idle-goaway kept) reads
+    reads-goaway told Plain c.args.self.now _ refl refl refl (λ steps kept. kept-idle steps (Told events.PeerGoaway Plain) _ refl idle-goaway kept) reads

@@ -17,14 +17,14 @@ returns-in-Overrun-clause-decides g c = λ counted told reads.
     subst (λ (receipt : Receipt). Decides g.H.Worker.names told (Told (events.Loose counted) (Received receipt)) c.fatal.result c.args.self.now) (sym c.in-Overrun.is)
     (decides-now told (Told (events.Loose counted) (Received Overrun)) c.fatal.result _
     (one-order c.fatal.result _ c.fatal.ensures.orders.0 c.fatal.ensures.orders.1 ∙ ap (λ (last : ℕ). Goaway last FlowControlError ∷ []) reads.counts.last_is)
-    c.fatal.ensures.ends.1 c.fatal.ensures.ends.0 (reads-idle told _ _ (quiet _ refl refl) (idle-loose counted (Received Overrun)) reads))
+    c.fatal.ensures.ends.1 c.fatal.ensures.ends.0 (reads-idle told _ _ (quiet _ refl refl) refl (idle-loose counted (Received Overrun)) reads))
 
 pub returns-in_default-clause-decides : goal.returns-in_default-clause-decides
 returns-in_default-clause-decides g c = λ counted told reads.
     let done = c.nothing.ensures in
     decides-now told (Told (events.Loose counted) (Received c.args.receipt)) c.nothing.result _
     (no-order c.nothing.result done.0 done.1 ∙ sym (loose-none _ c.args.receipt c.in_default.not-Overrun)) (done.3 ∙ sym (loose-calm counted c.args.receipt c.in_default.not-Overrun)) done.2
-    (reads-idle told _ _ (quiet _ refl refl) (idle-loose counted (Received c.args.receipt)) reads)
+    (reads-idle told _ _ (quiet _ refl refl) refl (idle-loose counted (Received c.args.receipt)) reads)
 
 pub returns-in_default-clause-aligns : goal.returns-in_default-clause-aligns
 returns-in_default-clause-aligns g c = calls-nothing (calls_of c.args.self.now.slots) _ _ c.nothing.ensures.0 c.nothing.ensures.1

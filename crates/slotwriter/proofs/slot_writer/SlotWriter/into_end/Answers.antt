@@ -23,6 +23,6 @@ returns g c =
           (subst (λ (core : List (ℕ × SlotSender)). TellFronts led.2.0 (calls got core)) same (c.into_parts-core.ensures.fronts before led.2.0 led.2.1))
           (c.into_parts-core.ensures.returned before led.2.0 led.2.1)
           (subst (λ (core : List (ℕ × SlotSender)). TakesAllHome core (places_of c.args.self) c.keep_all.new.self.places.items) same c.keep_all.ensures.home)
-          c.ending-ending.ensures.each;
+          c.ending-ending.ensures.each c.ending-ending.ensures.blames;
       ring = refl;
     }

@@ -13,7 +13,7 @@ returns-in-Some g c =
           stays-by g.W.ConnWrite.contents g.W.ConnWrite.failed old new refl (λ kept. kept)
           (record { ids = home-ids c.args.self.now.senders.places.items c.keep.new.self.places.items c.args.id c.in-Some.sender c.keep.ensures.home; input = refl })
           (returns-on g.W.ConnWrite.contents g.W.ConnWrite.failed c.args.self.now.inbox.has_lost c.args.id (got c.in-Some.sender.rx) old new c.in-Some.ensures.wrote
-          ((λ run lines kept. kept-home run lines (places_of old) (places_of new) (core_of old) (core_of new) c.args.id c.in-Some.sender c.keep.ensures.home c.in-Some.ensures.releases kept), (λ run noted. noted))
+          ((λ run lines kept. kept-home run lines (places_of old) (places_of new) (core_of old) (core_of new) c.args.id c.in-Some.sender c.keep.ensures.home c.in-Some.ensures.releases kept), (λ run noted. noted), refl)
           (ap (λ w. w.standing) c.release.ensures.rest));
     }
 

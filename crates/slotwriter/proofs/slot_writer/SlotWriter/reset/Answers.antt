@@ -16,7 +16,7 @@ returns g c =
       leads =
           leads-reset g.W.ConnWrite.contents g.W.ConnWrite.failed c.args.id 0 c.give-taking.result old new
           c.requires.kept c.requires.going c.requires.whose c.give-taking.ensures.inbox (record { ids = same.ids; input = c.give-taking.ensures.input }) (c.give-taking.ensures.wrote tt) c.give-taking.ensures.blamed
-          c.give-taking.ensures.brings same c.give-taking.ensures.notes;
+          c.give-taking.ensures.brings same c.give-taking.ensures.notes c.give-taking.ensures.ended;
       only_left =
           only-reset c.args.id old new c.requires.left (brings-plain c.give-taking.result (Reset c.args.id InternalError true) (core_of old) (core_of new) tt c.give-taking.ensures.brings)
           c.give-taking.ensures.resets;
@@ -30,7 +30,7 @@ returns-in_default g c =
       leads =
           leads-reset g.W.ConnWrite.contents g.W.ConnWrite.failed c.args.id 0 c.give-taking.result old new
           c.requires.kept c.requires.going c.requires.whose c.give-taking.ensures.inbox (record { ids = same.ids; input = c.give-taking.ensures.input }) (c.give-taking.ensures.wrote tt) c.give-taking.ensures.blamed
-          c.give-taking.ensures.brings same c.give-taking.ensures.notes;
+          c.give-taking.ensures.brings same c.give-taking.ensures.notes c.give-taking.ensures.ended;
       only_left =
           only-reset c.args.id old new c.requires.left (brings-plain c.give-taking.result (Reset c.args.id InternalError true) (core_of old) (core_of new) tt c.give-taking.ensures.brings)
           c.give-taking.ensures.resets;

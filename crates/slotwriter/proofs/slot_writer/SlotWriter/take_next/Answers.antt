@@ -1,9 +1,11 @@
-use Rattle.std.proofs.Common.{Option, Some, refl, subst, true}
+use Rattle.std.proofs.Common.{[], Option, Some, refl, subst, true}
 use Rattle.outwriter.specs.declared.control.Control.{Control}
 use Rattle.outwriter.specs.Steps.{order_of}
 use Rattle.callslot.specs.declared.order.Opened.{Opened}
 use Rattle.slotwriter.specs.declared.senders.Untaken.{Untaken}
 use Rattle.slotwriter.specs.Orders.{Gives, IsBack}
+use Rattle.slotwriter.specs.Written.{blamed_of}
+use Rattle.slotwriter.proofs.BlamedSteps.{among-none}
 use Rattle.slotwriter.proofs.SentPlaces.{keeps-same}
 use Rattle.slotwriter.proofs.WrittenSteps.{knows-taken, leads-back, leads-lost, leads-none, leads-passed, leads-taken}
 use Rattle.slotwriter.proofs.slot_writer.SlotWriter.take_next.Goals as goal
@@ -24,6 +26,7 @@ returns-in-Ok g c = record {
       (λ still. knows-taken c.in-Some.order c.in-Ok.control (order_of c.in-Ok.control) c.args.self.now
       (record c.args.self.now { inbox = c.next.new.self; senders = c.control_of.new.self }) c.take.new.self c.in-Ok.ensures.same c.in-Ok.ensures.makes refl (c.take.ensures.heeds still));
   lost = c.take.ensures.lost;
+  ended = c.take.ensures.ended;
 }
 
 pub returns-in-Err-OutOfMemory : goal.returns-in-Err-OutOfMemory
@@ -33,6 +36,7 @@ returns-in-Err-OutOfMemory g c = record {
       (subst (λ (next : Option (Control Opened)). Gives next c.args.self.now.inbox c.next.new.self) c.in-Some.is c.next.ensures.gives)
       refl (keeps-same _ _ c.in-Err-OutOfMemory.ensures.stays) refl refl;
   lost = λ is. refl;
+  ended = among-none (blamed_of c.args.self.now) [] refl;
 }
 
 pub returns-then-self-clause-leads : goal.returns-then-self-clause-leads

@@ -1,0 +1,10 @@
+use Rattle.std.proofs.Common.{◌∙◌, ℕ, List, ap, nat_eq, sym}
+use Rattle.std.specs.List.{list_any}
+use Rattle.slotwriter.specs.Written.{blamed_of}
+use Rattle.slotwriter.proofs.BlamedSteps.{found-in}
+use Rattle.slotwriter.proofs.slot_writer.SlotWriter.blames.Goals as goal
+
+pub returns : goal.returns
+returns g c = λ is.
+    found-in 0 (blamed_of c.args.self.now)
+    (sym (c.contains.ensures.value ∙ ap (λ (ids : List ℕ). list_any (λ (one : ℕ). nat_eq one 0) ids) c.deref.ensures.value) ∙ is)
