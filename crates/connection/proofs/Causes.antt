@@ -29,7 +29,7 @@ use Rattle.session.specs.declared.event.InEvent.{InEvent}
 use Rattle.session.specs.declared.event.InEvent.TheVariants as events
 use Rattle.slots.specs.Calls.{is_admitted}
 use Rattle.slots.specs.Orders.{begun, came, came_loose, cut_code, is_fed, last_stream, named, named_with, news_of, opened, orders_at, orders_by, refused_head, untaken, without_head}
-use Rattle.slots.specs.Steps.{Fate, Plain, Admitted, Unserved, NoWorker, Stopped, Unknown, TurnedAway, Received, Missed, Lacking, Cause, AtEnd, NotLive, Step, Told, CutOff, Drains, is_draining, WasTold, admitted, admitted_by, events_of, once}
+use Rattle.slots.specs.Steps.{Fate, Plain, Admitted, Unserved, NoWorker, Stopped, Unknown, TurnedAway, Received, Missed, Lacking, Cause, AtEnd, NotLive, Step, Told, CutOff, Drains, Lacks, is_draining, WasTold, admitted, admitted_by, events_of, once}
 use Rattle.slotwriter.specs.Orders.{IsAmong, Obeys}
 use Rattle.connection.specs.Causes.{HasCauseOf, HasOwnCause, HasResetCause, IsRefusal, IsRefusedWith, WasHeard, WasTaken, WasWritten}
 use Rattle.connection.specs.Heard.{HasPut}
@@ -75,6 +75,7 @@ told-more (Told other fate) event told was =
     (was.0, was.1 ++ other ∷ [], ap (λ (es : List InEvent). es ++ other ∷ []) was.2 ∙ append_assoc was.0 (event ∷ was.1) (other ∷ []))
 told-more (CutOff id why) event told was = was
 told-more Drains event told was = was
+told-more Lacks event told was = was
 
 pub told-now : (event : InEvent) (fate : Fate) (before : List Step) → WasTold event (Told event fate ∷ before)
 told-now event fate before = (events_of before, [], refl)
@@ -248,6 +249,7 @@ at-caused before (Told (events.Fatal code) fate) = (tt, tt)
 at-caused before (Told (events.End id) fate) = tt
 at-caused before (Told events.PeerGoaway fate) = tt
 at-caused before Drains = (tt, tt)
+at-caused before Lacks = (tt, tt)
 at-caused before (CutOff id why) = cut-caused id why before (is_fed id before) refl
 
 -- ---- of all steps

@@ -24,6 +24,7 @@ use Rattle.outwriter.specs.Steps.{Order}
 use Rattle.outwriter.specs.Steps.{Step as RunStep}
 use Rattle.callslot.specs.declared.report.CallReport.{CallReport}
 use Rattle.callslot.specs.declared.report.Ending.{Ending}
+use Rattle.callslot.specs.declared.report.Ending.TheVariants.{Drained, InputEnded as HasEnded, OutOfMemory, PeerGoaway, ProtocolError, ReadFailed, WriteFailed}
 use Rattle.session.specs.declared.event.InEvent.{InEvent}
 use Rattle.session.specs.declared.event.InEvent.TheVariants as events
 use Rattle.session.specs.Events.{Events}
@@ -34,7 +35,7 @@ use Rattle.session.proofs.OpeningOrder.{events_rise}
 use Rattle.slots.specs.Calls.{is_admitted}
 use Rattle.slots.specs.Orders.{IsDue, is_fed, orders_by}
 use Rattle.slots.specs.Reports.{AreHeard}
-use Rattle.slots.specs.Steps.{AtEnd, Cause, Fate, IsRising, Missed, NotLive, Received, Step, Told, CutOff, Drains, TurnedAway, admitted, admitted_by, data_at, earlier, events_of, fed_by, last_of, lost, once, reported, reported_by, shut_at, shut_by, since, unless}
+use Rattle.slots.specs.Steps.{AtEnd, Cause, Fate, IsRising, Missed, NotLive, Received, Step, Told, CutOff, Drains, Lacks, TurnedAway, admitted, admitted_by, data_at, earlier, events_of, fed_by, last_of, lost, once, reported, reported_by, shut_at, shut_by, since, unless}
 use Rattle.slots.proofs.EndLemmas.{fed-front, quiet-open}
 use Rattle.slots.proofs.HalfLemmas.{same_number}
 use Rattle.slots.proofs.LawLemmas.{pieces-push}
@@ -42,7 +43,7 @@ use Rattle.slots.proofs.Seats.{known-step, since-step}
 use Rattle.slotwriter.specs.Left.{left_in}
 use Rattle.slotwriter.specs.Orders.{IsAmong, Obeys}
 use Rattle.connection.specs.Causes.{HasCauseOf, HasOwnCause, HasWriterCause, LacksData, WasCut, WasOpened, WasTaken, WasWritten}
-use Rattle.connection.specs.Codes.{HasCodeCause, MayHaveCode, MissesData, WasUnended}
+use Rattle.connection.specs.Codes.{HasCodeCause, IsOverrun, MayHaveCode, MissesData, WasUnended}
 use Rattle.connection.specs.Heard.{HasPut}
 use Rattle.connection.specs.Left.{AreLeft, WasLeft}
 use Rattle.connection.specs.Limits.{AreJustified, EndsLast, IsJustified}
@@ -122,6 +123,10 @@ least : (shut : Option Shut) (bytes : List ℕ) → length (unless shut bytes) �
 least None bytes = omega arith
 least (Some kind) bytes = omega arith
 
+no-bytes : (found : Option Shut) → length (unless found []) ≡ 0
+no-bytes None = refl
+no-bytes (Some kind) = refl
+
 short-step : (id : ℕ) (step : Step) (before : List Step) → length (fed_by id before) < length (pieces id (events_of before))
     → length (fed_by id (step ∷ before)) < length (pieces id (events_of (step ∷ before)))
 short-step id (Told event fate) before short =
@@ -135,19 +140,11 @@ short-step id (Told event fate) before short =
       length-append (pieces id (events_of before)) (piece_of id event),
     )
 short-step id (CutOff other why) before short =
-    let found = shut_by id (CutOff other why ∷ before) in
-    omega (arith, short, length-append (fed_by id before) (unless found []), none found)
-  where
-    none : (found : Option Shut) → length (unless found []) ≡ 0
-    none None = refl
-    none (Some kind) = refl
+    let found = shut_by id (CutOff other why ∷ before) in omega (arith, short, length-append (fed_by id before) (unless found []), no-bytes found)
 short-step id Drains before short =
-    let found = shut_by id (Drains ∷ before) in
-    omega (arith, short, length-append (fed_by id before) (unless found []), none found)
-  where
-    none : (found : Option Shut) → length (unless found []) ≡ 0
-    none None = refl
-    none (Some kind) = refl
+    let found = shut_by id (Drains ∷ before) in omega (arith, short, length-append (fed_by id before) (unless found []), no-bytes found)
+short-step id Lacks before short =
+    let found = shut_by id (Lacks ∷ before) in omega (arith, short, length-append (fed_by id before) (unless found []), no-bytes found)
 
 -- what came more was fed at most
 short-more : (id : ℕ) (later rest : List Step) → length (fed_by id rest) < length (pieces id (events_of rest)) → length (fed_by id (later ++ rest)) < length (pieces id (events_of (later ++ rest)))
@@ -280,18 +277,33 @@ opened-known told put id has opened =
 
 -- ---- all
 
+ran-out : (end : Ending) → (end ≡ OutOfMemory) ⊎ (end ≢ OutOfMemory)
+ran-out OutOfMemory = inl refl
+ran-out HasEnded = inr (λ is. cc)
+ran-out PeerGoaway = inr (λ is. cc)
+ran-out (ProtocolError code) = inr (λ is. cc)
+ran-out ReadFailed = inr (λ is. cc)
+ran-out WriteFailed = inr (λ is. cc)
+ran-out Drained = inr (λ is. cc)
+
 module _ (end : Ending) (came : List ℕ) (told : List Step) (put : List Order) (run : List RunStep) (given : List InEvent) (entries : List Entry) (rows : List CallReport)
     (heard : AreHeard end came (events_of told)) (rising : IsRising told) (just : AreJustified told) (ends : EndsLast told)
-    (are : Events came given) (framed : Framed came given entries) (left : AreLeft (left_in run) rows) (streams : map (λ (row : CallReport). row.id) rows ≡ reported told)
-    (overran : AreOverrun told run) where
-  left-so : (id : ℕ) → is_admitted id told ≡ true → WasTaken (Reset id error.InternalError true) run → WasLeft id rows
-  left-so id known was = was-left id told run rows left streams known was
+    (are : Events came given) (framed : Framed came given entries) (left : end ≢ OutOfMemory → AreLeft (left_in run) rows) (streams : map (λ (row : CallReport). row.id) rows ≡ reported told)
+    (overran : end ≢ OutOfMemory → AreOverrun told run) where
+  left-so : (id : ℕ) → is_admitted id told ≡ true → WasTaken (Reset id error.InternalError true) run → end ≢ OutOfMemory → WasLeft id rows
+  left-so id known was = λ spared. was-left id told run rows (left spared) streams known was
 
-  own-code : (id : ℕ) (code : ErrorCode) → WasTaken (Reset id code true) run → HasOwnCause code id told → HasCodeCause code id entries told put run rows
+  overrun-so : (id : ℕ) → WasCut (NotLive true) id told → IsOverrun end id told run
+  overrun-so id was = elim (ran-out end) [
+    | inl lacked ↦ inr (lacked, was)
+    | inr spared ↦ inl (overran spared id was)
+  ]
+
+  own-code : (id : ℕ) (code : ErrorCode) → WasTaken (Reset id code true) run → HasOwnCause code id told → HasCodeCause end code id entries told put run rows
   own-code id error.ProtocolError was has = has
   own-code id error.InternalError was has = (inr has, left-so id (cut-known id (NotLive false) told has) was)
   own-code id error.FlowControlError was (inl has) = inl (over-window came given entries told id framed (heard.front given are) just has)
-  own-code id error.FlowControlError was (inr has) = inr (overran id has)
+  own-code id error.FlowControlError was (inr has) = inr (overrun-so id has)
   own-code id error.RefusedStream was has = (
     one-too-many came given told id are (heard.front given are) just has,
     is-apart came given told has.heard.0 id has.head (TurnedAway has.fault) has.before are (heard.front given are) has.heard.1 refl,
@@ -309,9 +321,9 @@ module _ (end : Ending) (came : List ℕ) (told : List Step) (put : List Order) 
   own-code id (error.Unknown number) was has = absurd has
 
   module _ (has : HasPut (orders_by told ++ InputEnded ∷ []) put) where
-    writer-code : (id : ℕ) (code : ErrorCode) → WasTaken (Reset id code true) run → HasWriterCause code id put run → HasCodeCause code id entries told put run rows
+    writer-code : (id : ℕ) (code : ErrorCode) → WasTaken (Reset id code true) run → HasWriterCause code id put run → HasCodeCause end code id entries told put run rows
     writer-code id error.InternalError was opened = (inl opened, left-so id (opened-known told put id has opened) was)
-    writer-code id error.FlowControlError was would = inr would
+    writer-code id error.FlowControlError was would = inr (inl would)
     writer-code id error.ProtocolError was none = absurd none
     writer-code id error.RefusedStream was none = absurd none
     writer-code id error.Cancel was none = absurd none
@@ -326,16 +338,16 @@ module _ (end : Ending) (came : List ℕ) (told : List Step) (put : List Order) 
     writer-code id error.Http11Required was none = absurd none
     writer-code id (error.Unknown number) was none = absurd none
 
-    code-of : (id : ℕ) (code : ErrorCode) → WasTaken (Reset id code true) run → HasCauseOf code id told put run → MayHaveCode code id entries told put run rows
+    code-of : (id : ℕ) (code : ErrorCode) → WasTaken (Reset id code true) run → HasCauseOf code id told put run → MayHaveCode end code id entries told put run rows
     code-of id code was (inl (inl error)) = inl error
     code-of id code was (inl (inr own)) = inr (own-code id code was own)
     code-of id code was (inr writers) = inr (writer-code id code was writers)
 
-    pub order-codes : Obeys true put run → (id : ℕ) (code : ErrorCode) → WasTaken (Reset id code true) run → MayHaveCode code id entries told put run rows
+    pub order-codes : Obeys true put run → (id : ℕ) (code : ErrorCode) → WasTaken (Reset id code true) run → MayHaveCode end code id entries told put run rows
     order-codes obeys id code was = code-of id code was (taken-resets told put run id code has obeys was)
 
     pub reset-codes : Obeys true put run → IsLawful run → (frame : Frame) → WasWritten frame run → frame.head.kind ≡ RstStream
-        → (code : ErrorCode) × (frame ≡ reset_frame frame.head.stream code) × MayHaveCode code frame.head.stream entries told put run rows
+        → (code : ErrorCode) × (frame ≡ reset_frame frame.head.stream code) × MayHaveCode end code frame.head.stream entries told put run rows
     reset-codes obeys lawful frame was is =
         let found = written-ordered run lawful frame was is in
         (found.0, found.1, order-codes obeys frame.head.stream found.0 found.2)

@@ -25,7 +25,7 @@ use Rattle.session.specs.declared.event.InEvent.{InEvent}
 use Rattle.session.specs.declared.event.InEvent.TheVariants as events
 use Rattle.slots.specs.Orders.{begun, came, came_loose, cut_code, ends_at, ends_by, greatest, is_fed, last_stream, named, named_with, news_of, opened, orders_at, orders_by, refused_head, untaken, without_head}
 use Rattle.slots.specs.Reports.{AreCalm}
-use Rattle.slots.specs.Steps.{AdmitsNoMore, NoWorker, Stopped, Fate, Plain, Admitted, Unserved, Unknown, TurnedAway, Received, Missed, Lacking, Step, Told, CutOff, Drains, is_draining, reported, reported_by}
+use Rattle.slots.specs.Steps.{AdmitsNoMore, NoWorker, Stopped, Fate, Plain, Admitted, Unserved, Unknown, TurnedAway, Received, Missed, Lacking, Step, Told, CutOff, Drains, Lacks, is_draining, reported, reported_by}
 use Rattle.slotwriter.specs.Orders.{HasTaken, IsAnswer, Obeys, ResetsCall, Warns}
 
 -- that of the last Goaway among orders, the earliest of which is first
@@ -196,10 +196,14 @@ names-still before step none unreported names =
     still : reported (step ∷ before) ≡ reported before
     still = rw unreported (append-nil (reported before))
 
+none-ends : {A : Type 0} {end : A} → Some end ≡ None → ⊥
+none-ends is = cc
+
 drain-names : (told : List Step) → AreCalm told → AdmitsNoMore told → is_draining told ≡ true → Names told
 drain-names [] calm closed draining = absurd (true≢false (sym draining))
 drain-names (Drains ∷ before) calm closed draining =
     goaway-append (orders_by before) (orders_at before Drains) ∙ ap (λ (ids : List ℕ). Some (goaway_frame (greatest ids) NoError)) (sym (append-nil (reported before)))
+drain-names (Lacks ∷ before) calm closed draining = absurd (none-ends calm.0)
 drain-names (Told event fate ∷ before) calm closed draining =
     names-still before (Told event fate) (event-none before event fate draining calm.0) (closed.0 draining) (drain-names before calm.1 closed.1 draining)
 drain-names (CutOff id why ∷ before) calm closed draining =

@@ -28,7 +28,7 @@ use Rattle.slots.specs.Lines.{Aligns, AreNew, IsNewTo, SlotCalls, calls_from, ca
 use Rattle.slots.specs.Orders.{ends_at, orders_at, orders_by}
 use Rattle.slots.specs.Readings.{Awaits, Decides, DecidesOn, Reads, ReadsOn, Stands, Stays}
 use Rattle.slots.specs.Reports.{AreCalm, AreHeard, IsFront, is_heard_out}
-use Rattle.slots.specs.Steps.{Cause, CutOff, Drains, Fate, Step, Told, WasTold, events_of, is_draining}
+use Rattle.slots.specs.Steps.{Cause, CutOff, Drains, Lacks, Fate, Step, Told, WasTold, events_of, is_draining}
 use Rattle.slots.proofs.LetGo.{events-append}
 use Rattle.slots.proofs.Lines.{calls-append}
 use Rattle.slots.proofs.Opens.{opens-new}
@@ -536,7 +536,7 @@ module _ {H : Type 0} {hand : Hands H} {A B C N : Type 0} {route : Ghosts N} {na
       whole = λ ended. subst (λ (es : List InEvent). Events bytes es) (sym is) (reached_events bytes before core reached);
     });
     calm = λ ended. calm;
-    ordered = λ spared. kept.ordered;
+    ordered = kept.ordered;
     lined = kept.lined;
     goaway = goaway;
     drained = drained;
@@ -577,7 +577,7 @@ module _ {H : Type 0} {hand : Hands H} {A B C N : Type 0} {route : Ghosts N} {na
             whole = λ ended. absurd (not ended);
           };
           calm = λ ended. absurd (not ended);
-          ordered = λ spared. more.1.kept.ordered;
+          ordered = more.1.kept.ordered;
           lined = more.1.kept.lined;
           goaway = λ gone. absurd (not (ap (λ (e : Ending). is_heard_out e) gone));
           drained = λ drains. absurd (not (ap (λ (e : Ending). is_heard_out e) drains));
@@ -593,22 +593,30 @@ module _ {H : Type 0} {hand : Hands H} {A B C N : Type 0} {route : Ghosts N} {na
       true≢false (sym (ap (λ (e : Ending). is_heard_out e) is) ∙ ended-harsh end more.0 more.1.ended)
 
   -- the connection ends for want of memory
-  pub lined-lack : (told : List Step) (reading reading_new : Reading H hand) (orders mid orders_new : Orders A B C N route) → reading_new ≡ reading → mid ≡ orders
-      → (Lined (calls_of reading.slots) mid → Lined (calls_of reading.slots) orders_new) → KeptFor names told reading orders → Lined (calls_of reading_new.slots) orders_new
-  lined-lack told reading reading_new orders mid orders_new is same lacks kept =
-      subst (λ (r : Reading H hand). Lined (calls_of r.slots) orders_new) (sym is) (lacks (subst (λ (os : Orders A B C N route). Lined (calls_of reading.slots) os) (sym same) kept.lined))
+  pub kept-lack : (told : List Step) (decided : Decided) (one two three : Reading H hand) (old new : Orders A B C N route) → DecidesOn names Lacks decided one two → Aligns decided one two → Acts names decided two old three new
+      → KeptFor names told one old → KeptFor names (Lacks ∷ told) three new
+  kept-lack told decided one two three old new decides aligns acts kept =
+      let decision = decides told kept.reads in
+      let done = acts.0 told Lacks decision in
+      let fresh = opens-new names told Lacks decided one.slots kept.reads.slots done.0.slots.rising decision.orders in
+      record { reads = done.0; ordered = done.1 kept.ordered; lined = acts.1 (calls_of one.slots) aligns fresh kept.lined; justified = (tt, kept.justified); going = kept.going }
+
+  -- by other names
+  pub kept-as : (told : List Step) (one two : Reading H hand) (old new : Orders A B C N route) → two ≡ one → new ≡ old → KeptFor names told one old → KeptFor names told two new
+  kept-as told one two old new is same kept =
+      subst (λ (reading : Reading H hand). KeptFor names told reading new) (sym is) (subst (λ (orders : Orders A B C N route). KeptFor names told one orders) (sym same) kept)
 
   -- none of the last bytes were heard
   pub none-read : (before : List InEvent) (told : List Step) (bytes more : List ℕ) (core : Core) (reading : Reading H hand) (orders : Orders A B C N route)
-      → Reached bytes before core → events_of told ≡ before → AreJustified told → AreGoing told → Reads names told reading → Lined (calls_of reading.slots) orders → HasRead names OutOfMemory (bytes ++ more) told reading orders
-  none-read before told bytes more core reading orders reached is justified going reads lined = record {
-    reads = reads;
-    justified = justified;
-    going = going;
+      → Reached bytes before core → events_of told ≡ before → KeptFor names (Lacks ∷ told) reading orders → HasRead names OutOfMemory (bytes ++ more) (Lacks ∷ told) reading orders
+  none-read before told bytes more core reading orders reached is kept = record {
+    reads = kept.reads;
+    justified = kept.justified;
+    going = kept.going;
     heard = record { front = subst (λ (es : List InEvent). IsFront (bytes ++ more) es) (sym is) (front-before bytes more before core reached); whole = λ ended. absurd cc };
     calm = λ ended. absurd cc;
-    ordered = λ spared. absurd (spared refl);
-    lined = lined;
+    ordered = kept.ordered;
+    lined = kept.lined;
     goaway = λ gone. absurd cc;
     drained = λ drains. absurd cc;
     failed = λ code failed. absurd cc;

@@ -18,7 +18,7 @@ use Rattle.outwriter.specs.Steps.{Step as RunStep}
 use Rattle.outwriter.proofs.Leads.{either-false}
 use Rattle.session.specs.declared.event.InEvent.TheVariants as events
 use Rattle.slots.specs.Calls.{is_admitted}
-use Rattle.slots.specs.Steps.{Plain, Admitted, Unserved, Unknown, TurnedAway, Received, Missed, Lacking, Step, Told, CutOff, Drains, admitted, admitted_by, once, reported, reported_by}
+use Rattle.slots.specs.Steps.{Plain, Admitted, Unserved, Unknown, TurnedAway, Received, Missed, Lacking, Step, Told, CutOff, Drains, Lacks, admitted, admitted_by, once, reported, reported_by}
 use Rattle.slotwriter.specs.Left.{AreNoted, left_by, left_in}
 use Rattle.connection.specs.Causes.{WasTaken, WasWritten}
 use Rattle.connection.specs.Left.{AreLeft, WasLeft, is_answered_of}
@@ -116,6 +116,7 @@ both-admitted (Told events.PeerGoaway fate) = inl refl
 both-admitted (Told (events.Fatal code) fate) = inl refl
 both-admitted (CutOff id why) = inl refl
 both-admitted Drains = inl refl
+both-admitted Lacks = inl refl
 
 once-there : (id : ℕ) (found : Option ℕ) → list_any (nat_eq id) (once found) ≡ true → Contains (once found) id
 once-there id None is = absurd cc

@@ -17,7 +17,7 @@ use Rattle.h2frame.specs.FrameList.{Entry}
 use Rattle.connbook.specs.declared.answers.Receipt.TheVariants.{CallWindow}
 use Rattle.session.specs.Openings.{AreRising, RiseFrom, opening_of, openings}
 use Rattle.session.proofs.OpeningOrder.{events_rise}
-use Rattle.slots.specs.Steps.{Fate, Plain, Admitted, Unserved, Unknown, TurnedAway, Received, Missed, Lacking, AtEnd, Step, Told, CutOff, Drains, events_of, is_draining, once, reported, reported_by}
+use Rattle.slots.specs.Steps.{Fate, Plain, Admitted, Unserved, Unknown, TurnedAway, Received, Missed, Lacking, AtEnd, Step, Told, CutOff, Drains, Lacks, events_of, is_draining, once, reported, reported_by}
 use Rattle.slots.proofs.LetGo.{events-append}
 use Rattle.connection.specs.Causes.{IsOverWindow, WasCut, WasTurnedAway}
 use Rattle.connection.specs.Limits.{AreJustified, EndsLast, IsJustified, IsOneTooMany, MayTurnAway, WasCutLast, WasDrained}
@@ -71,6 +71,7 @@ pub all-began : (P : ℕ → Type 0) (told : List Step) → Each P (openings (ev
 all-began P [] all = tt
 all-began P (CutOff id why ∷ before) all = each-append P (reported before) [] (all-began P before all) tt
 all-began P (Drains ∷ before) all = each-append P (reported before) [] (all-began P before all) tt
+all-began P (Lacks ∷ before) all = each-append P (reported before) [] (all-began P before all) tt
 all-began P (Told event fate ∷ before) all =
     let parts = subst (λ (ids : List ℕ). Each P ids) (flat_map-append opening_of (events_of before) (event ∷ [])) all in
     each-append P (reported before) (once (reported_by (Told event fate)))

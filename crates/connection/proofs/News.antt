@@ -28,7 +28,7 @@ use Rattle.session.specs.declared.event.Control.TheVariants as controls
 use Rattle.session.specs.declared.event.InEvent.{InEvent}
 use Rattle.session.specs.declared.event.InEvent.TheVariants as events
 use Rattle.slots.specs.Orders.{begun, came, came_loose, cut_code, is_fed, last_stream, named, named_with, news_of, opened, orders_at, orders_by, refused_head, untaken, without_head}
-use Rattle.slots.specs.Steps.{Fate, Plain, Admitted, Unserved, NoWorker, Stopped, Unknown, TurnedAway, Received, Missed, Lacking, Step, Told, CutOff, Drains, events_of, is_draining}
+use Rattle.slots.specs.Steps.{Fate, Plain, Admitted, Unserved, NoWorker, Stopped, Unknown, TurnedAway, Received, Missed, Lacking, Step, Told, CutOff, Drains, Lacks, events_of, is_draining}
 use Rattle.slotwriter.specs.Orders.{AreLast, HasParted, HasTaken, IsAmong, IsAnswer, Obeys, ResetsCall, Warns}
 use Rattle.connection.specs.Heard.{HasPut}
 use Rattle.connection.specs.News.{acknowledgements, answer_to, answers_to, is_news, is_probe, news_at, news_in, news_told, taken_by}
@@ -144,6 +144,8 @@ orders-news (Told event fate ∷ before) =
     ∙ sym (flat_map-append news_at (events_of before) (event ∷ []))))
 orders-news (Drains ∷ before) =
     news-append (orders_by before) (orders_at before Drains) ∙ (append-nil (news_in (orders_by before)) ∙ orders-news before)
+orders-news (Lacks ∷ before) =
+    news-append (orders_by before) (orders_at before Lacks) ∙ (append-nil (news_in (orders_by before)) ∙ orders-news before)
 orders-news (CutOff id why ∷ before) =
     news-append (orders_by before) (orders_at before (CutOff id why))
     ∙ (ap (λ (os : List Order). news_in (orders_by before) ++ os) (cut-news id (cut_code why) (is_fed id before))

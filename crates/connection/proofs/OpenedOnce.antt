@@ -29,7 +29,7 @@ use Rattle.session.proofs.OpeningOrder.{events_rise}
 use Rattle.slots.specs.Calls.{is_admitted}
 use Rattle.slots.specs.Orders.{begun, came, came_loose, cut_code, is_fed, last_stream, named, named_with, news_of, opened, orders_at, orders_by, refused_head, untaken, without_head}
 use Rattle.slots.specs.Reports.{AreHeard}
-use Rattle.slots.specs.Steps.{Fate, Plain, Admitted, Unserved, NoWorker, Stopped, Unknown, TurnedAway, Received, Missed, Lacking, Cause, Step, Told, CutOff, Drains, admitted, admitted_by, events_of, is_draining, once}
+use Rattle.slots.specs.Steps.{Fate, Plain, Admitted, Unserved, NoWorker, Stopped, Unknown, TurnedAway, Received, Missed, Lacking, Cause, Step, Told, CutOff, Drains, Lacks, admitted, admitted_by, events_of, is_draining, once}
 use Rattle.slots.proofs.Opens.{opens-at, opens_of}
 use Rattle.slotwriter.specs.Orders.{AreLast, HasTaken, IsAmong, IsAnswer, Obeys, ResetsCall, Warns}
 use Rattle.connection.specs.Heard.{HasPut}
@@ -233,6 +233,7 @@ ordered-once id (Told event fate ∷ before) =
 ordered-once id (CutOff stream why ∷ before) =
     omega (arith, touches-append id (orders_by before) (orders_at before (CutOff stream why)), cut-none id stream why (is_fed stream before), ordered-once id before)
 ordered-once id (Drains ∷ before) = omega (arith, touches-append id (orders_by before) (orders_at before Drains), ordered-once id before)
+ordered-once id (Lacks ∷ before) = omega (arith, touches-append id (orders_by before) (orders_at before Lacks), ordered-once id before)
 
 -- ---- the streams of calls that were admitted
 

@@ -144,7 +144,6 @@ module _ (answers : ℕ → List (List ℕ) → Bool → Answer → Type 0) (nam
   pub are-served : {H : Type 0} {hand : Hands H} {A B C N : Type 0} {route : Ghosts N} (came : List ℕ) (before : Option (List ℕ)) (granted : ℕ) (read_failed : Bool) (read ending : Ending) (told cuts : List Step)
       (reading : Reading H hand) (old new : Orders A B C N route) (given calls : V) (device : W) → HasRead names read came told reading old
       → (carries : ℕ → Account → Type 0) → HasEnded items answers names carries told cuts given → EndsOrders told cuts old new → (is_heard_out ending ≡ true → ending ≡ read)
-      → (ending ≢ OutOfMemory → read ≢ OutOfMemory)
       → (ending ≢ OutOfMemory → ending ≢ WriteFailed → ((code : ErrorCode) → ending ≢ ProtocolError code) → new.has_dropped ≡ false) → (read ≡ ReadFailed → read_failed ≡ true)
       → granted ≤ counted_told (events_of told)
       → (written : HasWritten contents failed before granted (put_orders new) (Some ending) (is_drained ending) device)
@@ -152,11 +151,11 @@ module _ (answers : ℕ → List (List ℕ) → Bool → Answer → Type 0) (nam
       → (ending ≢ OutOfMemory → AreOverrun (cuts ++ told) written.run)
       → ((code : ErrorCode) → ending ≡ ProtocolError code → (read ≡ ProtocolError code) ⊎ ((code ≡ FlowControlError) × WouldOverflow 0 written.run))
       → IsServed items contents failed answers names came before read_failed ending calls device
-  are-served came before granted read_failed read ending told cuts reading old new given calls device has carries ended ends input spared undropped unread within written rows left overran blamed =
+  are-served came before granted read_failed read ending told cuts reading old new given calls device has carries ended ends input undropped unread within written rows left overran blamed =
       let is : events_of (cuts ++ told) ≡ events_of told = silent-more cuts told ended.silent in
       let also : is_heard_out ending ≡ true → is_heard_out read ≡ true = λ out. subst (λ (e : Ending). is_heard_out e ≡ true) (input out) out in
       let whole : is_heard_out ending ≡ true → put_orders new ≡ orders_by (cuts ++ told) ++ ending_orders =
-      λ out. calm-so ending _ out (λ spares sends calm. (ends (has.ordered (spared spares))).1 (undropped spares sends calm)) in
+      λ out. calm-so ending _ out (λ spares sends calm. (ends has.ordered).1 (undropped spares sends calm)) in
       record {
         told = cuts ++ told;
         put = put_orders new;
@@ -169,7 +168,7 @@ module _ (answers : ℕ → List (List ℕ) → Bool → Answer → Type 0) (nam
         justified = cuts-justified cuts told ended.silent has.justified;
         closed = ended.closed;
         ended = record { cuts = cuts; heard = told; parts = refl; silent = ended.silent; going = has.going };
-        ordered = λ spares. (ends (has.ordered (spared spares))).0;
+        ordered = (ends has.ordered).0;
         whole = whole;
         resets = λ out id known code finished closed.
             subst (λ (os : List Order). IsReset id os) (sym (whole out))
@@ -212,9 +211,9 @@ module _ (answers : ℕ → List (List ℕ) → Bool → Answer → Type 0) (nam
 
   -- no memory was there, and nothing was read
   pub none-served : (before : Option (List ℕ)) (granted : ℕ) (read_failed : Bool) (ending : Ending) (put : List Order) (calls : V) (device : W) → ending ≡ OutOfMemory
-      → items calls ≡ [] → granted ≤ 0 → HasWritten contents failed before granted put (Some ending) (is_drained ending) device
+      → items calls ≡ [] → put ≡ orders.Close ∷ [] → granted ≤ 0 → HasWritten contents failed before granted put (Some ending) (is_drained ending) device
       → IsServed items contents failed answers names [] before read_failed ending calls device
-  none-served before granted read_failed ending put calls device lacked none within written =
+  none-served before granted read_failed ending put calls device lacked none closed within written =
       let not : is_heard_out ending ≡ true → ⊥ = λ out. true≢false (sym out ∙ ap (λ (e : Ending). is_heard_out e) lacked) in
       record {
         told = [];
@@ -225,7 +224,7 @@ module _ (answers : ℕ → List (List ℕ) → Bool → Answer → Type 0) (nam
         justified = tt;
         closed = tt;
         ended = record { cuts = []; heard = []; parts = refl; silent = refl; going = tt };
-        ordered = λ spared. absurd (spared lacked);
+        ordered = record { front = []; begins = (orders.InputEnded ∷ [], refl); closed = closed };
         whole = λ out. absurd (not out);
         resets = λ out. absurd (not out);
         granted = granted;
@@ -243,12 +242,12 @@ module _ (answers : ℕ → List (List ℕ) → Bool → Answer → Type 0) (nam
   appends-none (Some bytes) = sym (append-nil bytes)
 
   -- nothing was written either
-  pub none-written : (device : W) (ending : Ending) → ending ≡ OutOfMemory → HasWritten contents failed (contents device) 0 [] (Some ending) (is_drained ending) device
+  pub none-written : (device : W) (ending : Ending) → ending ≡ OutOfMemory → HasWritten contents failed (contents device) 0 (orders.Close ∷ []) (Some ending) (is_drained ending) device
   none-written device ending lacked = record {
     run = [];
     lawful = tt;
     credited = refl;
-    some = record { front = []; rest = []; ends = []; steps = []; orders_are = refl; run_is = refl; took = refl; answered = tt; ended = tt };
+    some = record { front = []; rest = orders.Close ∷ []; ends = []; steps = []; orders_are = refl; run_is = refl; took = refl; answered = tt; ended = tt };
     each = λ spared. absurd (spared (ap Some lacked));
     others = λ id unopened. ([], (_, [], (refl, refl), refl), inl refl);
     marked = λ sent. absurd cc;
@@ -262,5 +261,5 @@ module _ (answers : ℕ → List (List ℕ) → Bool → Answer → Type 0) (nam
   pub unbegun : (read_failed : Bool) (ending : Ending) (calls : V) (old device : W) → ending ≡ OutOfMemory → device ≡ old → items calls ≡ []
       → IsServed items contents failed answers names [] (contents old) read_failed ending calls device
   unbegun read_failed ending calls old device lacked same none =
-      none-served (contents old) 0 read_failed ending [] calls device lacked none (omega arith)
-      (subst (λ (d : W). HasWritten contents failed (contents d) 0 [] (Some ending) (is_drained ending) device) same (none-written device ending lacked))
+      none-served (contents old) 0 read_failed ending (orders.Close ∷ []) calls device lacked none refl (omega arith)
+      (subst (λ (d : W). HasWritten contents failed (contents d) 0 (orders.Close ∷ []) (Some ending) (is_drained ending) device) same (none-written device ending lacked))

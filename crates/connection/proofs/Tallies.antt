@@ -15,7 +15,7 @@ use Rattle.session.specs.declared.event.InEvent.{InEvent}
 use Rattle.session.specs.declared.event.InEvent.TheVariants as events
 use Rattle.session.specs.FlowBytes.{counted_by, counted_told}
 use Rattle.slots.specs.Readings.{MayMiss, fate_of, refused_by, unless_ended}
-use Rattle.slots.specs.Steps.{AtEnd, NotLive, CutOff, Drains, Fate, Step, Told, events_of, is_draining, once, reported, reported_by}
+use Rattle.slots.specs.Steps.{AtEnd, NotLive, CutOff, Drains, Lacks, Fate, Step, Told, events_of, is_draining, once, reported, reported_by}
 use Rattle.connection.specs.Limits.{AreGoing, AreJustified, Covers, IsJustified, MayRefuse, MayTurnAway, Tally, one_more}
 
 zero-least : (n : ℕ) → 0 ≤ n
@@ -40,6 +40,7 @@ came-more [] told = omega arith
 came-more (Told event fate ∷ more) told = le_trans (came-more more told) (more-came (events_of (more ++ told)) (event ∷ []))
 came-more (CutOff id why ∷ more) told = came-more more told
 came-more (Drains ∷ more) told = came-more more told
+came-more (Lacks ∷ more) told = came-more more told
 
 calls-more : (more told : List Step) → length (reported told) ≤ length (reported (more ++ told))
 calls-more [] told = omega arith
@@ -87,6 +88,7 @@ pub cuts-justified : (cuts told : List Step) → events_of cuts ≡ [] → AreJu
 cuts-justified [] told silent all = all
 cuts-justified (CutOff id why ∷ cuts) told silent all = (tt, cuts-justified cuts told silent all)
 cuts-justified (Drains ∷ cuts) told silent all = (tt, cuts-justified cuts told silent all)
+cuts-justified (Lacks ∷ cuts) told silent all = (tt, cuts-justified cuts told silent all)
 cuts-justified (Told event fate ∷ cuts) told silent all = absurd (not-nil (events_of cuts) event silent)
 
 -- nor is one for which there was no memory
@@ -143,6 +145,7 @@ going-more (Told event fate ∷ more) told first going = going-more more told fi
 going-more (CutOff id (NotLive answered) ∷ more) told first going = going-more more told first going
 going-more (CutOff id AtEnd ∷ more) told first going = absurd first
 going-more (Drains ∷ more) told first going = going-more more told first going
+going-more (Lacks ∷ more) told first going = going-more more told first going
 
 not-going : (id : ℕ) (later before : List Step) → AreGoing (later ++ CutOff id AtEnd ∷ before) → ⊥
 not-going id [] before going = going
@@ -150,6 +153,7 @@ not-going id (Told event fate ∷ later) before going = not-going id later befor
 not-going id (CutOff other (NotLive answered) ∷ later) before going = not-going id later before going
 not-going id (CutOff other AtEnd ∷ later) before going = going
 not-going id (Drains ∷ later) before going = not-going id later before going
+not-going id (Lacks ∷ later) before going = not-going id later before going
 
 pub cut-last : (id : ℕ) (cuts heard later before : List Step) → cuts ++ heard ≡ later ++ CutOff id AtEnd ∷ before → events_of cuts ≡ [] → AreGoing heard → events_of later ≡ []
 cut-last id cuts heard [] before is silent going = refl
@@ -161,5 +165,9 @@ cut-last id (CutOff other why ∷ cuts) heard (step ∷ later) before is silent 
     subst (λ (one : Step). events_of (one ∷ later) ≡ []) same (cut-last id cuts heard later before rest silent going)
 cut-last id (Drains ∷ cuts) heard (step ∷ later) before is silent going =
     let same : Drains ≡ step = cc in
+    let rest : cuts ++ heard ≡ later ++ CutOff id AtEnd ∷ before = cc in
+    subst (λ (one : Step). events_of (one ∷ later) ≡ []) same (cut-last id cuts heard later before rest silent going)
+cut-last id (Lacks ∷ cuts) heard (step ∷ later) before is silent going =
+    let same : Lacks ≡ step = cc in
     let rest : cuts ++ heard ≡ later ++ CutOff id AtEnd ∷ before = cc in
     subst (λ (one : Step). events_of (one ∷ later) ≡ []) same (cut-last id cuts heard later before rest silent going)

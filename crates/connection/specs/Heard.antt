@@ -80,15 +80,15 @@ module _ {H : Type 0} {hand : Hands H} {A B C N : Type 0} {route : Ghosts N} (na
   ReadsWith tally tally_new given end reading orders reading_new orders_new = (told : List Step) → KeptFor told reading orders → Covers told tally
       → (more : List Step) × Tells given end told more reading_new orders_new × Covers (more ++ told) tally_new
 
-  -- These steps were heard of the bytes that came, all of them where all that came was heard, and then none ended the connection; but
-  -- where memory ran out, what was ordered is what they lead to. The ending has its cause among them.
+  -- These steps were heard of the bytes that came, all of them where all that came was heard, and then none ended the connection. What was
+  -- ordered is what they lead to. The ending has its cause among them.
   pub record HasRead (end : Ending) (came : List ℕ) (told : List Step) (reading : Reading H hand) (orders : Orders A B C N route) : Type 0 where
     pub reads : Reads names told reading
     pub justified : AreJustified told
     pub going : AreGoing told
     pub heard : AreHeard end came (events_of told)
     pub calm : is_heard_out end ≡ true → AreCalm told
-    pub ordered : end ≢ OutOfMemory → Ordered (orders_by told) orders
+    pub ordered : Ordered (orders_by told) orders
     pub lined : Lined (calls_of reading.slots) orders
     pub goaway : end ≡ PeerGoaway → WasTold events.PeerGoaway told
     pub drained : end ≡ Drained → is_draining told ≡ true

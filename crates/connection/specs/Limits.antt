@@ -11,7 +11,7 @@ use Rattle.session.specs.declared.event.InEvent.{InEvent}
 use Rattle.session.specs.declared.event.InEvent.TheVariants as events
 use Rattle.session.specs.FlowBytes.{counted_by, counted_told}
 use Rattle.slots.specs.Orders.{IsDue}
-use Rattle.slots.specs.Steps.{Received, Missed, TurnedAway, AtEnd, NotLive, Step, Told, CutOff, Drains, events_of, is_draining, reported}
+use Rattle.slots.specs.Steps.{Received, Missed, TurnedAway, AtEnd, NotLive, Step, Told, CutOff, Drains, Lacks, events_of, is_draining, reported}
 use Rattle.connection.specs.declared.intake.Intake.{Intake}
 
 -- A call isn't admitted behind 64 or more that were, where the server drains, for want of memory, or since its number doesn't rise.
@@ -53,6 +53,7 @@ AreGoing (Told event fate ∷ before) = AreGoing before
 AreGoing (CutOff id (NotLive answered) ∷ before) = AreGoing before
 AreGoing (CutOff id AtEnd ∷ before) = ⊥
 AreGoing (Drains ∷ before) = AreGoing before
+AreGoing (Lacks ∷ before) = AreGoing before
 
 -- such cuts come last: no event was told behind the first of them
 pub record EndsLast (told : List Step) : Type 0 where

@@ -61,7 +61,7 @@ module _ {W V : Type 0} (items : V → List CallReport) (contents : W → Option
     pub ended : EndsLast told
     -- The orders are those that these steps lead to, one by one, or a beginning; and where all that came was heard, all of them. So a
     -- half was reset, though END_STREAM came, only where a reset of the stream was ordered.
-    pub ordered : end ≢ OutOfMemory → HasPut (orders_by told ++ InputEnded ∷ []) put
+    pub ordered : HasPut (orders_by told ++ InputEnded ∷ []) put
     pub whole : is_heard_out end ≡ true → put ≡ orders_by told ++ InputEnded ∷ Close ∷ []
     pub resets : is_heard_out end ≡ true → (id : ℕ) → is_admitted id told ≡ true → WasResetFor told put id
     -- a lawful run obeyed them, granted so much credit on the connection, and what was written are its frames

@@ -1,11 +1,12 @@
 //! Laws of what becomes of a connection, by the fields of its record (`IsServed`). None of them does anything.
 
 ghost use mathlib.Core.List.{IsPrefix};
-ghost use Rattle.std.specs.Prelude.{◌≡◌, ◌⊎◌, ◌<◌, ◌++◌, ◌∷◌, ℕ, List, [], false, map, true};
+ghost use Rattle.std.specs.Prelude.{◌≡◌, ◌≢◌, ◌⊎◌, ◌<◌, ◌++◌, ◌∷◌, ℕ, List, [], false, map, true};
 ghost use Rattle.std.specs.List.{list_any};
 ghost use Rattle.account.specs.Accounts.{Begins};
 ghost use Rattle.callslot.specs.declared.report.CallReport.{CallReport as Row};
 ghost use Rattle.callslot.specs.declared.report.Ending.{Ending as Ended};
+ghost use Rattle.callslot.specs.declared.report.Ending.TheVariants.{OutOfMemory};
 ghost use Rattle.h2frame.specs.declared.error_code.ErrorCode.{ErrorCode as Code};
 ghost use Rattle.h2frame.specs.declared.frame.Frame.{Frame};
 ghost use Rattle.h2frame.specs.declared.kind.FrameKind.TheVariants.{RstStream};
@@ -98,19 +99,20 @@ pub fn all_answers()
 {}
 
 /// Each RST_STREAM that was written has an error code with its cause, by the bytes that came, by the calls that were admitted, what
-/// they were fed and whether they have a status, and by the run; and nothing else: sections 5.4.2 and 7.
+/// they were fed and whether they have a status, and by the run; and nothing else: sections 5.4.2 and 7. However the connection ended.
 pub fn reset_codes()
     ensures { (end : Ended) (came : List ℕ) (told : List Step) (put : List Order)
         (run : List RunStep) (given : List InEventOf) (entries : List Entry)
         (rows : List Row) →
         AreHeard end came (events_of told) → IsRising told → AreJustified told → EndsLast told
         → Events came given → Framed came given entries
-        → AreLeft (left_in run) rows → map (λ row. row.id) rows ≡ reported told
-        → AreOverrun told run →
+        → (end ≢ OutOfMemory → AreLeft (left_in run) rows)
+        → map (λ row. row.id) rows ≡ reported told
+        → (end ≢ OutOfMemory → AreOverrun told run) →
         HasPut (orders_by told ++ InputEnded ∷ []) put → Obeys true put run → IsLawful run →
         (frame : Frame) → WasWritten frame run → frame.head.kind ≡ RstStream →
         (code : Code) × (frame ≡ reset_frame frame.head.stream code)
-        × MayHaveCode code frame.head.stream entries told put run rows }
+        × MayHaveCode end code frame.head.stream entries told put run rows }
 {}
 
 /// So has each reset that is to be written, of those that the writer took.
@@ -120,11 +122,12 @@ pub fn order_codes()
         (rows : List Row) →
         AreHeard end came (events_of told) → IsRising told → AreJustified told → EndsLast told
         → Events came given → Framed came given entries
-        → AreLeft (left_in run) rows → map (λ row. row.id) rows ≡ reported told
-        → AreOverrun told run →
+        → (end ≢ OutOfMemory → AreLeft (left_in run) rows)
+        → map (λ row. row.id) rows ≡ reported told
+        → (end ≢ OutOfMemory → AreOverrun told run) →
         HasPut (orders_by told ++ InputEnded ∷ []) put → Obeys true put run →
         (id : ℕ) (code : Code) → WasTaken (Reset id code true) run
-        → MayHaveCode code id entries told put run rows }
+        → MayHaveCode end code id entries told put run rows }
 {}
 
 /// A stream is refused only where at least 64 calls were admitted before it, all on lesser streams, or behind a drain: sections 5.1.2

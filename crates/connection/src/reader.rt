@@ -14,7 +14,7 @@ ghost use Rattle.lane.specs.RingLane.{out_name, ring_of};
 ghost use Rattle.slots.specs.Lines.{AreEndsOf, HasRoom, IsGivenIn, SlotCalls, calls_of, ring_at};
 ghost use Rattle.slots.specs.Readings.{Reads};
 ghost use Rattle.slots.specs.Seats.{IsNext, IsSeat, KeepsNext, jobs_of};
-ghost use Rattle.slots.specs.Steps.{Admitted, AreAbandoned, Step, Told, events_of};
+ghost use Rattle.slots.specs.Steps.{Admitted, AreAbandoned, Lacks, Step, Told, events_of};
 ghost use Rattle.callslot.specs.declared.slot.Job.{Job as Called};
 ghost use Rattle.std.specs.Io.KnownBytes.{Consumes};
 ghost use Rattle.connection.specs.Heard.{Acts, CutsSome, EndsOrders, HasEnded, HasRead, KeptFor, ReadsTo, ReadsWith};
@@ -268,13 +268,11 @@ where
 
     /// There is no memory for what was read: the connection ends.
     fn lack(&mut self)
-        ensures same { self.new.reading ≡ self.old.reading }
-        ensures lined { (slots : List SlotCalls) → Lined slots self.old.orders
-            → Lined slots self.new.orders }
+        ensures { (told : List Step) → KeptFor M.names told self.old.reading self.old.orders
+            → KeptFor M.names (Lacks ∷ told) self.new.reading self.new.orders }
     {
-        let rt = self.rt;
-        let order = self.reading.goaway(ErrorCode::InternalError);
-        self.orders.put(&rt, order);
+        let decided = self.reading.run_out();
+        self.act(decided);
     }
 
     /// The connection ends: no call is live.

@@ -301,7 +301,6 @@ where
     ensures blamed { (code : Code) → result.ending ≡ ending.ProtocolError code
         → (read ≡ ending.ProtocolError code)
         ⊎ (written.ending ≡ Some (ending.ProtocolError code)) }
-    ensures spared { result.ending ≢ ending.OutOfMemory → read ≢ ending.OutOfMemory }
     ensures lacked { read ≡ ending.OutOfMemory → result.ending ≡ ending.OutOfMemory }
 {
     let Written {

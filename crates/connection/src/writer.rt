@@ -1,8 +1,10 @@
 //! The writing thread of a connection: it turns a `SlotWriter`, takes the lock for it, rings and waits.
 
-ghost use Rattle.std.specs.Prelude.{◌≡◌, ◌⊎◌, ℕ, List, [], Option, IfErr, IfOk, OnOk, true};
+ghost use Rattle.std.specs.Prelude.{◌≡◌, ◌⊎◌, ◌∷◌, ◌++◌, ℕ, List, [], Option, IfErr, IfOk, OnErr, OnOk, true};
 ghost use Rattle.lane.specs.Ring.{out_name, taken};
 ghost use Rattle.connwriter.specs.declared.filled.Filled.TheVariants as filling;
+ghost use Rattle.outwriter.specs.declared.control.Control.TheVariants.{Close};
+ghost use Rattle.connection.specs.Puts.{put_of};
 ghost use Rattle.slotwriter.specs.Orders.{orders_of};
 ghost use Rattle.slotwriter.specs.Written.{HasSent, HasWritten, IsFlushed, Led, LeadsOn, LeadsOutTo, LeadsTo, Stays};
 
@@ -83,7 +85,7 @@ impl<A: Ledger, B: Ledger, C: Ledger, W: ConnWrite + Drop, G: Gate + Drop> Write
         let (filled, is_silent) = self.write_once(rt);
         match self.writing.rest(filled, is_silent) {
             Rest::None => {
-                self.reset_between(rt, filled);
+                self.reset_between(rt);
                 return false;
             }
             Rest::Over => return true,
@@ -117,15 +119,12 @@ impl<A: Ledger, B: Ledger, C: Ledger, W: ConnWrite + Drop, G: Gate + Drop> Write
         self.wait(rt, mark);
     }
 
-    /// Behind a turn that wrote something: where nothing more can be written, once in some turns, takes the orders that wait, and has the calls
-    /// reset that were left without trailers.
-    fn reset_between(&mut self, rt: &impl Wait, filled: Filled)
+    /// Behind a turn that wrote something: once in some turns takes the orders that wait, and has the calls reset that were left without
+    /// trailers.
+    fn reset_between(&mut self, rt: &impl Wait)
         ensures outlet { self.new.outlet ≡ self.old.outlet }
         ensures leads { LeadsOn W.contents W.failed self.old.writing self.new.writing }
     {
-        if filled != Filled::Idle {
-            return;
-        }
         if self.turns > 0 {
             self.turns -= 1;
             return;
@@ -403,6 +402,7 @@ where
         ≡ W.contents device) }
     ensures ring { IfOk result (λ writing. writing.promise.orders.value ≡ taking) }
     ensures same { OnOk result (orders.new ≡ orders.old) }
+    ensures put { OnErr result (put_of orders.new ≡ put_of orders.old ++ Close ∷ []) }
     ensures name { IfErr result (λ parted. out_name parted.written.orders ≡ out_name taking) }
     ensures written { IfErr result (λ parted. HasWritten W.contents W.failed (W.contents device)
         parted.told.amount (orders_of (taken parted.written.orders)) parted.written.ending

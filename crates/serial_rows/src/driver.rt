@@ -20,7 +20,7 @@ use anyhow::{Result, bail};
 use callhead::CallHead;
 use callslot::{CallReport, Ending, Job, Order};
 use connbook::{AdmitFault, ConnBook};
-use h2frame::{ErrorCode, StreamId};
+use h2frame::StreamId;
 use handlers::Methods;
 use outwriter::Control;
 use session::{InCore, InEvent};
@@ -162,10 +162,8 @@ impl<'a> Serial<'a> {
                 Ok(())
             }
             Err(AllocError) => {
-                let order = self.reading.goaway(ErrorCode::InternalError);
-                self.put(credit, order)?;
-                self.finish(&mut credit.book, Ending::OutOfMemory);
-                Ok(())
+                let decided = self.reading.run_out();
+                self.act(credit, decided)
             }
         }
     }

@@ -14,7 +14,7 @@ use Rattle.session.specs.declared.event.InEvent.{InEvent}
 use Rattle.session.specs.declared.event.InEvent.TheVariants as events
 use Rattle.session.specs.StreamData.{Ending, Unended, Finished, Aborted, piece_of, pieces, end_told, first_end, ending_told}
 use Rattle.session.proofs.StreamEnds.{told_append}
-use Rattle.slots.specs.Steps.{Cause, Fate, Plain, Admitted, Unserved, Unknown, TurnedAway, Received, Missed, Lacking, Step, Told, CutOff, Drains, admitted, admitted_by, data_at, discarded, earlier, events_of, fed_by, is_of, lost, once, shut_at, shut_by, since, unless}
+use Rattle.slots.specs.Steps.{Cause, Fate, Plain, Admitted, Unserved, Unknown, TurnedAway, Received, Missed, Lacking, Step, Told, CutOff, Drains, Lacks, admitted, admitted_by, data_at, discarded, earlier, events_of, fed_by, is_of, lost, once, shut_at, shut_by, since, unless}
 use Rattle.slots.proofs.HalfLemmas.{same_number}
 use Rattle.slots.proofs.LawLemmas.{fed-open, none-before, pieces-push}
 
@@ -40,21 +40,21 @@ front-with id event fate before (Some kind) closed behind =
       ap (λ (fed : List ℕ). fed ++ more.0) (fed-before id (Told event fate) before kind closed) ∙ more.1 ∙ sym (pieces-push id (events_of before) event),
     )
 
-front-cut : (id other : ℕ) (why : Cause) (before : List Step) (found : Option Shut) → shut_by id (CutOff other why ∷ before) ≡ found
-    → IsPrefix (fed_by id before) (pieces id (events_of before)) → IsPrefix (fed_by id (CutOff other why ∷ before)) (pieces id (events_of before))
-front-cut id other why before None unshut behind = all-fed id (CutOff other why ∷ before) unshut
-front-cut id other why before (Some kind) closed behind = (behind.0, ap (λ (fed : List ℕ). fed ++ behind.0) (fed-before id (CutOff other why) before kind closed) ∙ behind.1)
-
-front-drain : (id : ℕ) (before : List Step) (found : Option Shut) → shut_by id (Drains ∷ before) ≡ found
-    → IsPrefix (fed_by id before) (pieces id (events_of before)) → IsPrefix (fed_by id (Drains ∷ before)) (pieces id (events_of before))
-front-drain id before None unshut behind = all-fed id (Drains ∷ before) unshut
-front-drain id before (Some kind) closed behind = (behind.0, ap (λ (fed : List ℕ). fed ++ behind.0) (fed-before id Drains before kind closed) ∙ behind.1)
+-- a step of which no event tells
+front-silent : (id : ℕ) (step : Step) (before : List Step) (found : Option Shut) → events_of (step ∷ before) ≡ events_of before → shut_by id (step ∷ before) ≡ found
+    → IsPrefix (fed_by id before) (pieces id (events_of before)) → IsPrefix (fed_by id (step ∷ before)) (pieces id (events_of (step ∷ before)))
+front-silent id step before None silent unshut behind = all-fed id (step ∷ before) unshut
+front-silent id step before (Some kind) silent closed behind = (
+  behind.0,
+  ap (λ (fed : List ℕ). fed ++ behind.0) (fed-before id step before kind closed) ∙ behind.1 ∙ ap (λ (es : List InEvent). pieces id es) (sym silent),
+)
 
 pub fed-front : (id : ℕ) (told : List Step) → IsPrefix (fed_by id told) (pieces id (events_of told))
 fed-front id [] = ([], refl)
 fed-front id (Told event fate ∷ before) = front-with id event fate before (shut_by id (Told event fate ∷ before)) refl (fed-front id before)
-fed-front id (CutOff other why ∷ before) = front-cut id other why before (shut_by id (CutOff other why ∷ before)) refl (fed-front id before)
-fed-front id (Drains ∷ before) = front-drain id before (shut_by id (Drains ∷ before)) refl (fed-front id before)
+fed-front id (CutOff other why ∷ before) = front-silent id (CutOff other why) before (shut_by id (CutOff other why ∷ before)) refl refl (fed-front id before)
+fed-front id (Drains ∷ before) = front-silent id Drains before (shut_by id (Drains ∷ before)) refl refl (fed-front id before)
+fed-front id (Lacks ∷ before) = front-silent id Lacks before (shut_by id (Lacks ∷ before)) refl refl (fed-front id before)
 
 -- ---- as long as a half isn't shut, no end is told
 
@@ -87,6 +87,7 @@ quiet-open id (Told event fate ∷ before) unshut =
     ∙ ap (λ (e : Ending). first_end e (first_end (end_told id event) Unended)) behind ∙ ap (λ (e : Ending). first_end e Unended) now
 quiet-open id (CutOff other why ∷ before) unshut = quiet-open id before (none-before (shut_by id before) (shut_at id (CutOff other why)) unshut)
 quiet-open id (Drains ∷ before) unshut = quiet-open id before (none-before (shut_by id before) None unshut)
+quiet-open id (Lacks ∷ before) unshut = quiet-open id before (none-before (shut_by id before) None unshut)
 
 -- ---- a half that ends was fed all that was told before
 
@@ -135,6 +136,7 @@ ends-by id (Told (events.Control control) fate) e = absurd cc
 ends-by id (Told events.PeerGoaway fate) e = absurd cc
 ends-by id (Told (events.Fatal code) fate) e = absurd cc
 ends-by id Drains e = absurd cc
+ends-by id Lacks e = absurd cc
 ends-by id (CutOff other why) e = absurd (not-reset (nat_eq id other) _ e)
 
 abbrev pub IsWhole : ℕ → List ℕ → List InEvent → Type 0
@@ -192,6 +194,7 @@ ended-with id step before (Some kind) shut_before behind closed =
     more-of (Told event fate) same whole = ended-before id (fed_by id before) _ (events_of before) event same whole
     more-of (CutOff other why) same whole = whole-same id (fed_by id before) _ (events_of before) same whole
     more-of Drains same whole = whole-same id (fed_by id before) _ (events_of before) same whole
+    more-of Lacks same whole = whole-same id (fed_by id before) _ (events_of before) same whole
 
 pub ended-whole : (id : ℕ) (told : List Step) → shut_by id told ≡ Some shut.End → IsWhole id (fed_by id told) (events_of told)
 ended-whole id [] closed = absurd cc
@@ -235,6 +238,7 @@ since-step : (id : ℕ) (step : Step) (before : List Step) → IsSince id (event
 since-step id (Told event fate) before behind = since-more id (events_of before) (events_of (since id before)) event behind
 since-step id (CutOff other why) before behind = behind
 since-step id Drains before behind = behind
+since-step id Lacks before behind = behind
 
 since-with : (id : ℕ) (step : Step) (before : List Step) (here : Bool) → is_of id (admitted_by step) ≡ here → (list_any (nat_eq id) (admitted before) ≡ true → IsSince id (events_of before) (events_of (since id before)))
     → list_any (nat_eq id) (admitted (step ∷ before)) ≡ true → IsSince id (events_of (step ∷ before)) (events_of (if here then [] else step ∷ since id before))

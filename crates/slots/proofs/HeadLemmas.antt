@@ -6,7 +6,7 @@ use Rattle.std.proofs.lemmas.Bool.Decides.{nat_tests}
 use Rattle.callhead.specs.declared.head.CallHead.{CallHead}
 use Rattle.session.specs.declared.event.InEvent.{InEvent}
 use Rattle.session.specs.declared.event.InEvent.TheVariants as events
-use Rattle.slots.specs.Steps.{Admitted, Step, Told, CutOff, Drains, admitted, admitted_by, events_of, head_at, head_of, is_of, last_of, since, IsRising}
+use Rattle.slots.specs.Steps.{Admitted, Step, Told, CutOff, Drains, Lacks, admitted, admitted_by, events_of, head_at, head_of, is_of, last_of, since, IsRising}
 use Rattle.slots.proofs.EndLemmas.{admits, known-before, one-more}
 use Rattle.slots.proofs.HalfLemmas.{same_number}
 
@@ -77,6 +77,7 @@ behind-step : (id : ℕ) (head : CallHead) (step : Step) (before : List Step) �
 behind-step id head (Told event fate) before behind = behind-more id head (events_of before) (events_of (since id before)) event behind
 behind-step id head (CutOff other why) before behind = behind
 behind-step id head Drains before behind = behind
+behind-step id head Lacks before behind = behind
 
 head-with : (id : ℕ) (head : CallHead) (step : Step) (before : List Step) (here : Bool) → is_of id (admitted_by step) ≡ here
     → (head_of id before ≡ Some head → IsBehind id head (events_of before) (events_of (since id before)))

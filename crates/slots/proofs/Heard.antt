@@ -1,6 +1,6 @@
 -- What was heard, one after another.
 use Rattle.std.proofs.Common.{◌≡◌, ◌≢◌, ℕ, Option, None, Some, List, eq-eqb, refl, subst}
-use Rattle.slots.specs.Steps.{Fate, Plain, Admitted, Unserved, Unknown, TurnedAway, Received, Missed, Lacking, Told, admitted_by, reported_by, shut_at}
+use Rattle.slots.specs.Steps.{Fate, Plain, Admitted, Unserved, Unknown, TurnedAway, Received, Missed, Lacking, Told, Lacks, admitted_by, reported_by, shut_at}
 use Rattle.account.specs.declared.call.Shut.TheVariants as shut
 use Rattle.h2frame.specs.ErrorCode.{error_number}
 use Rattle.h2frame.specs.declared.error_code.ErrorCode.TheVariants.{EnhanceYourCalm}
@@ -41,6 +41,9 @@ idle-goaway = record { admits = refl; reports = refl; shuts = λ other. refl; fe
 
 pub idle-fatal : (code : ErrorCode) → IsIdle (Told (events.Fatal code) Plain)
 idle-fatal code = record { admits = refl; reports = refl; shuts = λ other. refl; feeds = λ other. refl }
+
+pub idle-lacks : IsIdle Lacks
+idle-lacks = record { admits = refl; reports = refl; shuts = λ other. refl; feeds = λ other. refl }
 
 -- a piece that the lane of its call refused
 pub shuts-missed : (id counted : ℕ) (piece : List ℕ) → shut_at id (Told (events.Data id piece counted) Missed) ≡ Some (shut.Reset (error_number EnhanceYourCalm))

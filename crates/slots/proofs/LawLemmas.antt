@@ -5,7 +5,7 @@ use Rattle.std.proofs.lemmas.List.{append-nil}
 use Rattle.account.specs.declared.call.Shut.{Shut}
 use Rattle.session.specs.declared.event.InEvent.{InEvent}
 use Rattle.session.specs.StreamData.{piece_of, pieces}
-use Rattle.slots.specs.Steps.{Step, Told, CutOff, Drains, earlier, events_of, fed_by, shut_at, shut_by, unless}
+use Rattle.slots.specs.Steps.{Step, Told, CutOff, Drains, Lacks, earlier, events_of, fed_by, shut_at, shut_by, unless}
 
 pub none-before : (first second : Option Shut) → earlier first second ≡ None → first ≡ None
 none-before None second e = refl
@@ -24,5 +24,8 @@ fed-open id (CutOff other why ∷ before) e =
     let behind = fed-open id before (none-before (shut_by id before) (shut_at id (CutOff other why)) e) in
     ap (λ (closed : Option Shut). fed_by id before ++ unless closed []) e ∙ (append-nil (fed_by id before) ∙ behind)
 fed-open id (Drains ∷ before) e =
+    let behind = fed-open id before (none-before (shut_by id before) None e) in
+    ap (λ (closed : Option Shut). fed_by id before ++ unless closed []) e ∙ (append-nil (fed_by id before) ∙ behind)
+fed-open id (Lacks ∷ before) e =
     let behind = fed-open id before (none-before (shut_by id before) None e) in
     ap (λ (closed : Option Shut). fed_by id before ++ unless closed []) e ∙ (append-nil (fed_by id before) ∙ behind)

@@ -9,7 +9,7 @@ use Rattle.session.specs.declared.event.InEvent.{InEvent}
 use Rattle.session.specs.declared.event.InEvent.TheVariants as events
 use Rattle.session.specs.StreamData.{Ending, Unended, Finished, Aborted, end_told, ending_told, first_end}
 use Rattle.session.proofs.StreamEnds.{told_append}
-use Rattle.slots.specs.Steps.{Step, Told, CutOff, Drains, WasLetGo, admitted, admitted_by, earlier, events_of, is_of, lets_go, lost, shut_at, shut_by, since}
+use Rattle.slots.specs.Steps.{Step, Told, CutOff, Drains, Lacks, WasLetGo, admitted, admitted_by, earlier, events_of, is_of, lets_go, lost, shut_at, shut_by, since}
 use Rattle.slots.proofs.EndLemmas.{known-before, quiet-open}
 
 pub events-append : (more first : List Step) → events_of (more ++ first) ≡ events_of first ++ events_of more
@@ -17,6 +17,7 @@ events-append [] first = sym (append-nil (events_of first))
 events-append (Told event fate ∷ more) first = ap (λ (es : List InEvent). es ++ event ∷ []) (events-append more first) ∙ append_assoc (events_of first) (events_of more) (event ∷ [])
 events-append (CutOff id why ∷ more) first = events-append more first
 events-append (Drains ∷ more) first = events-append more first
+events-append (Lacks ∷ more) first = events-append more first
 
 -- ---- the step that shut it
 
@@ -71,6 +72,7 @@ abbrev Behind : ℕ → Step → Ending → Type 0
 Behind id (Told event fate) behind = first_end (end_told id event) behind ≡ Finished
 Behind id (CutOff other why) behind = behind ≡ Finished
 Behind id Drains behind = behind ≡ Finished
+Behind id Lacks behind = behind ≡ Finished
 
 abbrev LetsGo : ℕ → Step → Ending → Type 0
 LetsGo id step behind = (lets_go id step ≡ true) × (behind ≡ Finished)
@@ -105,6 +107,7 @@ lets-go id code (Told (events.Control control) fate) behind shuts ends = absurd 
 lets-go id code (Told events.PeerGoaway fate) behind shuts ends = absurd cc
 lets-go id code (Told (events.Fatal error) fate) behind shuts ends = absurd cc
 lets-go id code Drains behind shuts ends = absurd cc
+lets-go id code Lacks behind shuts ends = absurd cc
 lets-go id code (CutOff other why) behind shuts ends = (cut-here (nat_eq id other) _ code shuts, ends)
 
 -- what is told behind a step of a half that was not shut is told behind all steps
@@ -122,6 +125,11 @@ told-behind id (CutOff other why) before later unshut ends =
 told-behind id Drains before later unshut ends =
     let all : ending_told id (events_of (later ++ Drains ∷ before)) ≡ ending_told id (events_of later) =
     ap (ending_told id) (events-append later (Drains ∷ before)) ∙ told_append id (events_of before) (events_of later)
+    ∙ ap (λ (e : Ending). first_end e (ending_told id (events_of later))) (quiet-open id before unshut) in
+    sym all ∙ ends
+told-behind id Lacks before later unshut ends =
+    let all : ending_told id (events_of (later ++ Lacks ∷ before)) ≡ ending_told id (events_of later) =
+    ap (ending_told id) (events-append later (Lacks ∷ before)) ∙ told_append id (events_of before) (events_of later)
     ∙ ap (λ (e : Ending). first_end e (ending_told id (events_of later))) (quiet-open id before unshut) in
     sym all ∙ ends
 

@@ -23,7 +23,7 @@ use Rattle.slots.specs.Lines.{AreNew, HasCall, SlotCalls, calls_in, calls_of, ra
 use Rattle.slots.specs.Orders.{begun, came, came_loose, is_fed, last_stream, named, named_with, news_of, opened, orders_at, refused_head, untaken, without_head}
 use Rattle.slots.specs.Readings.{order_in, orders_in}
 use Rattle.slots.specs.Seats.{Kept, ids_of, times_in}
-use Rattle.slots.specs.Steps.{NoWorker, Stopped, Fate, Plain, Admitted, Unserved, Unknown, TurnedAway, Received, Missed, Lacking, Step, Told, CutOff, Drains, IsRising, admitted, admitted_by, is_draining, last_of, once}
+use Rattle.slots.specs.Steps.{NoWorker, Stopped, Fate, Plain, Admitted, Unserved, Unknown, TurnedAway, Received, Missed, Lacking, Step, Told, CutOff, Drains, Lacks, IsRising, admitted, admitted_by, is_draining, last_of, once}
 use Rattle.slots.proofs.KeptLemmas.{below-last}
 use Rattle.slots.proofs.Unfed.{among, split-first}
 
@@ -157,6 +157,7 @@ opens-at told (Told (events.Control control) fate) = news-opens-none control
 opens-at told (Told events.PeerGoaway fate) = refl
 opens-at told (Told (events.Fatal code) fate) = refl
 opens-at told Drains = refl
+opens-at told Lacks = refl
 opens-at told (CutOff id why) = cut-opens id (is_fed id told) _ refl
 
 -- ---- what was decided

@@ -30,7 +30,7 @@ use Rattle.slots.specs.Halves.{is_open, shown}
 use Rattle.slots.specs.Orders.{begun, begun_at, came_loose, cut_code, ends_at, greatest, is_fed, last_stream, named, named_with, orders_at}
 use Rattle.slots.specs.Readings.{Awaits, Begins, Counts, Decides, DecidesOn, Heeds, IsNoted, Reads, Stands, Stays, heeded, order_in, orders_in, unless_ended}
 use Rattle.slots.specs.Seats.{Hears, Keeps, Kept, feeds}
-use Rattle.slots.specs.Steps.{AreAbandoned, Cause, CutOff, Drains, Fate, Lacking, NotLive, Received, Step, Told, WasTold, abandoned, abandoned_by, events_of, is_drain, is_draining, reported, shut_at, shut_by, since}
+use Rattle.slots.specs.Steps.{AreAbandoned, Cause, CutOff, Drains, Lacks, Fate, Lacking, NotLive, Received, Step, Told, WasTold, abandoned, abandoned_by, events_of, is_drain, is_draining, reported, shut_at, shut_by, since}
 use Rattle.slots.proofs.SlotSteps.{kept-idle, kept-none}
 use Rattle.slots.proofs.Unfed.{unfed-shut}
 
@@ -107,6 +107,7 @@ named-none (Told events.PeerGoaway fate) told none goes = refl
 named-none (Told (events.Fatal code) fate) told none goes = refl
 named-none (CutOff id why) told none goes = refl
 named-none Drains told none goes = absurd (true≢false goes)
+named-none Lacks told none goes = refl
 
 one-same : {one other : ℕ} → one ∷ [] ≡ other ∷ [] → one ≡ other
 one-same is = cc
@@ -124,11 +125,13 @@ named-one (Told events.PeerGoaway fate) told id is = absurd cc
 named-one (Told (events.Fatal code) fate) told id is = absurd cc
 named-one (CutOff other why) told id is = absurd cc
 named-one Drains told id is = absurd cc
+named-one Lacks told id is = absurd cc
 
 goes-one : (step : Step) (id : ℕ) → begun_at step ≡ id ∷ [] → is_drain step ≡ false
 goes-one (Told event fate) id is = refl
 goes-one (CutOff other why) id is = refl
 goes-one Drains id is = absurd cc
+goes-one Lacks id is = refl
 
 module _ {H : Type 0} {hand : Ghosts H} where
   pub counts-same : (n : ℕ) (ids : List ℕ) (old new : Reading H hand) → new.last ≡ old.last → new.begun ≡ old.begun → Counts n ids old → Counts n ids new
@@ -154,6 +157,7 @@ told-more event (Told other fate) told (before, after, is) =
     (before, after ++ other ∷ [], ap (λ (es : List InEvent). es ++ other ∷ []) is ∙ append_assoc before (event ∷ after) (other ∷ []))
 told-more event (CutOff id why) told was = was
 told-more event Drains told was = was
+told-more event Lacks told was = was
 
 -- ---- calls that were cut though they were answered
 
@@ -168,6 +172,7 @@ begun-cuts-none : (step : Step) (id : ℕ) → begun_at step ≡ id ∷ [] → a
 begun-cuts-none (Told event fate) id is = refl
 begun-cuts-none (CutOff other why) id is = absurd cc
 begun-cuts-none Drains id is = refl
+begun-cuts-none Lacks id is = refl
 
 -- nor does one of a call that was left
 pub left-calm : (id : ℕ) (answered : Bool) (ids : List ℕ) → answered ≡ false → (other : ℕ) → Contains (abandoned_by (CutOff id (NotLive answered))) other → Contains ids other

@@ -17,7 +17,7 @@ use Rattle.connbook.specs.declared.answers.AdmitFault.{AdmitFault}
 use Rattle.connbook.specs.declared.answers.AdmitFault.TheVariants as refused
 use Rattle.slots.specs.Orders.{IsReset, cut_code, ends_at, ends_by, ends_if_refused, is_fed, orders_at, orders_by}
 use Rattle.slots.specs.Reports.{AreCalm, WasResetFor, is_heard_out}
-use Rattle.slots.specs.Steps.{NoWorker, Stopped, Fate, Plain, Admitted, Unserved, Unknown, TurnedAway, Received, Missed, Lacking, Cause, Step, Told, CutOff, Drains, admitted_by, events_of, is_of, lets_go, lost, shut_by, since}
+use Rattle.slots.specs.Steps.{NoWorker, Stopped, Fate, Plain, Admitted, Unserved, Unknown, TurnedAway, Received, Missed, Lacking, Cause, Step, Told, CutOff, Drains, Lacks, admitted_by, events_of, is_of, lets_go, lost, shut_by, since}
 use Rattle.slots.proofs.LetGo.{let-go-before}
 
 -- ---- among orders
@@ -63,6 +63,7 @@ at-resets id (Told (events.Data other piece counted) fate) before fed lets calm 
 at-resets id (CutOff other why) before fed lets calm =
     subst (λ (n : ℕ). IsReset id (orders_at before (CutOff n why))) (eqb-true id other lets) (cut-resets id why before fed)
 at-resets id Drains before fed lets calm = absurd cc
+at-resets id Lacks before fed lets calm = absurd cc
 at-resets id (Told (events.End other) fate) before fed lets calm = absurd cc
 at-resets id (Told (events.Reset other code) fate) before fed lets calm = absurd cc
 at-resets id (Told (events.StreamError other code) fate) before fed lets calm = absurd cc
@@ -107,6 +108,7 @@ event-orders id (events.Fatal code) fate before error = absurd cc
 step-orders : (id : ℕ) (step : Step) (heard before : List Step) → list_any (is_stream_error id) (events_of (step ∷ heard)) ≡ true → (list_any (is_stream_error id) (events_of heard) ≡ true) ⊎ IsReset id (orders_at before step)
 step-orders id (CutOff other why) heard before error = inl error
 step-orders id Drains heard before error = inl error
+step-orders id Lacks heard before error = inl error
 step-orders id (Told event fate) heard before error =
     elim (either (list_any (is_stream_error id) (events_of heard)) (list_any (is_stream_error id) (event ∷ [])) (sym (list_any-append (is_stream_error id) (events_of heard) (event ∷ [])) ∙ error)) [
       | inl earlier ↦ inl earlier
@@ -176,3 +178,4 @@ ends-harsh (Told (events.Control control) fate) = by-harsh fate
 ends-harsh (Told events.PeerGoaway fate) = by-harsh fate
 ends-harsh (CutOff id why) = tt
 ends-harsh Drains = tt
+ends-harsh Lacks = refl

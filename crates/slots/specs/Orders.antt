@@ -19,7 +19,7 @@ use Rattle.session.specs.declared.event.Control.{Control}
 use Rattle.session.specs.declared.event.Control.TheVariants as controls
 use Rattle.session.specs.declared.event.InEvent.TheVariants as events
 use Rattle.slots.specs.Calls.{is_admitted}
-use Rattle.slots.specs.Steps.{NoWorker, Stopped, Fate, Admitted, Unserved, Unknown, TurnedAway, Received, Missed, Lacking, Cause, AtEnd, NotLive, Step, Told, CutOff, Drains, is_draining, reported, shut_by, since}
+use Rattle.slots.specs.Steps.{NoWorker, Stopped, Fate, Admitted, Unserved, Unknown, TurnedAway, Received, Missed, Lacking, Cause, AtEnd, NotLive, Step, Told, CutOff, Drains, Lacks, is_draining, reported, shut_by, since}
 
 -- ---- streams that were begun
 
@@ -140,6 +140,7 @@ orders_at before (Told (events.Control control) fate) = news_of control ∷ []
 orders_at before (Told (events.Fatal code) fate) = Goaway (named before) code ∷ []
 orders_at before (CutOff id why) = if is_fed id before then Reset id (cut_code why) true ∷ [] else []
 orders_at before Drains = Goaway (greatest (reported before)) NoError ∷ []
+orders_at before Lacks = Goaway (named before) InternalError ∷ []
 orders_at before _ = []
 
 -- The orders that steps lead to.
@@ -168,6 +169,7 @@ ends_at (Told (events.Fatal code) fate) = Some (Failed code)
 ends_at (Told event fate) = ends_by fate
 ends_at (CutOff id why) = None
 ends_at Drains = None
+ends_at Lacks = Some RanOut
 
 -- a reset of this stream, which the peer is told, is among these orders
 abbrev pub IsReset : ℕ → List Order → Type 0

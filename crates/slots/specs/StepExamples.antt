@@ -3,14 +3,15 @@ use Rattle.std.proofs.Common.{lit<}
 use Rattle.std.specs.Prelude.{◌≡◌, true, false, refl, List, [], ◌∷◌, Some, None}
 use Rattle.account.specs.declared.call.Shut.TheVariants as shut
 use Rattle.callhead.specs.declared.head.CallHead.{CallHead}
+use Rattle.callslot.specs.declared.report.Ending.TheVariants.{OutOfMemory}
 use Rattle.connbook.specs.declared.answers.AdmitFault.TheVariants as refused
 use Rattle.connbook.specs.declared.answers.Receipt.TheVariants.{Feed, Discard, Overrun}
 use Rattle.h2frame.specs.declared.error_code.ErrorCode.TheVariants.{NoError, FlowControlError, InternalError, RefusedStream, Cancel, EnhanceYourCalm}
 use Rattle.callhead.specs.StatusFields.{unknown_method}
 use Rattle.outwriter.specs.declared.control.Control.TheVariants.{Open, Refuse, Reset, Goaway}
 use Rattle.session.specs.declared.event.InEvent.TheVariants as events
-use Rattle.slots.specs.Orders.{orders_at, orders_by}
-use Rattle.slots.specs.Steps.{AdmitsNoMore, NoWorker, Stopped, Plain, Admitted, Unserved, Unknown, TurnedAway, Received, Missed, Step, Told, CutOff, Drains, AtEnd, admitted, reported, head_of, last_of, IsRising, since, shut_by, fed_by, lets_go, WasLetGo}
+use Rattle.slots.specs.Orders.{ends_at, orders_at, orders_by}
+use Rattle.slots.specs.Steps.{AdmitsNoMore, NoWorker, Stopped, Plain, Admitted, Unserved, Unknown, TurnedAway, Received, Missed, Step, Told, CutOff, Drains, Lacks, AtEnd, admitted, reported, head_of, last_of, IsRising, since, shut_by, fed_by, lets_go, WasLetGo}
 
 -- call 1 is fed four bytes in two pieces, and its half ends
 abbrev pub one_call : CallHead → List Step
@@ -128,6 +129,13 @@ drained_fails head = refl
 
 pub drain_of_none : orders_at [] Drains ≡ Goaway 0 NoError ∷ []
 drain_of_none = refl
+
+-- where memory runs out behind a drain, GOAWAY names no greater stream either, and the connection ends
+pub drained_lacks : (head : CallHead) → orders_at (Told (events.Open 9 head) (TurnedAway refused.Draining) ∷ Drains ∷ two_calls head) Lacks ≡ Goaway 5 InternalError ∷ []
+drained_lacks head = refl
+
+pub lacks_ends : ends_at Lacks ≡ Some OutOfMemory
+lacks_ends = refl
 
 -- a call that is admitted behind a drain is refused by the law
 pub admitted_late : (head : CallHead) → ¬ AdmitsNoMore (Told (events.Open 9 head) Admitted ∷ Drains ∷ two_calls head)

@@ -40,12 +40,13 @@ pub data Cause : Type 0 where
   AtEnd : Cause
   NotLive : Bool → Cause
 
--- An event was told; the call of a stream hears no more; or the server drains: it is to stop while its calls go on, and admits no
--- more (section 6.8).
+-- An event was told; the call of a stream hears no more; the server drains: it is to stop while its calls go on, and admits no more (section
+-- 6.8); or there was no memory for what came, and the connection ends with an error (section 5.4.1).
 pub data Step : Type 0 where
   Told : InEvent → Fate → Step
   CutOff : ℕ → Cause → Step
   Drains : Step
+  Lacks : Step
 
 -- ---- calls that were admitted
 
@@ -100,6 +101,7 @@ abandoned_by (CutOff id AtEnd) = []
 abandoned_by (CutOff id (NotLive false)) = []
 abandoned_by (CutOff id (NotLive true)) = id ∷ []
 abandoned_by Drains = []
+abandoned_by Lacks = []
 
 -- those of all, the earliest first
 abbrev pub abandoned : List Step → List ℕ
@@ -149,6 +151,7 @@ abbrev pub data_at : ℕ → Step → List ℕ
 data_at id (Told event fate) = piece_of id event
 data_at id (CutOff other why) = []
 data_at id Drains = []
+data_at id Lacks = []
 
 -- a piece that nobody takes; one of padding alone is no loss
 abbrev pub discarded : List ℕ → Option Shut
@@ -197,6 +200,7 @@ events_of [] = []
 events_of (Told event fate ∷ before) = events_of before ++ event ∷ []
 events_of (CutOff id why ∷ before) = events_of before
 events_of (Drains ∷ before) = events_of before
+events_of (Lacks ∷ before) = events_of before
 
 -- this event was told
 abbrev pub WasTold : InEvent → List Step → Type 0

@@ -24,7 +24,7 @@ ghost use Rattle.slots.specs.Reports.{AreRows};
 ghost use Rattle.lane.specs.RingLane.{out_name, ring_of};
 ghost use Rattle.slots.specs.Lines.{Aligns, AreEndsOf, HasRoom, IsGivenIn, SlotCalls, calls_from, calls_of, calls_step, raw_in, raw_orders, ring_at};
 ghost use Rattle.slots.specs.Seats.{IsNext, IsSeat, KeepsNext, fed_at, ids_of, jobs_of};
-ghost use Rattle.slots.specs.Steps.{Admitted, AreAbandoned, AtEnd, Cause, CutOff, Drains, Lacking, NoWorker, NotLive, Plain, Received, Step, Stopped, Told, TurnedAway, Unknown, Unserved, WasTold, is_draining, reported};
+ghost use Rattle.slots.specs.Steps.{Admitted, AreAbandoned, AtEnd, Cause, CutOff, Drains, Lacking, Lacks, NoWorker, NotLive, Plain, Received, Step, Stopped, Told, TurnedAway, Unknown, Unserved, WasTold, is_draining, reported};
 
 use crate::seat::Seat;
 use crate::slots::Slots;
@@ -523,11 +523,21 @@ impl<H: Worker> Reading<H> {
         }
     }
 
-    /// The order that ends the connection with this error: where it is that for want of memory, no event needs to tell it.
-    pub fn goaway(&self, code: ErrorCode) -> Order
+    /// There was no memory for what came: the connection ends, with INTERNAL_ERROR (RFC 9113, section 5.4.1).
+    pub fn run_out(&self) -> Decided
+        ensures decides { DecidesOn H.names Lacks result self.now self.now }
+        ensures aligns { Aligns result self.now self.now }
+        ensures ends { result.ends ≡ Some ending.OutOfMemory }
+    {
+        Decided {
+            ends: Some(Ending::OutOfMemory),
+            ..Decided::order(self.goaway(ErrorCode::InternalError))
+        }
+    }
+
+    /// The order that ends the connection with this error, or by which the peer learns that the server drains.
+    fn goaway(&self, code: ErrorCode) -> Order
         ensures order { result ≡ orders.Goaway self.now.last code }
-        ensures last { (told : List Step) → Reads H.names told self.now
-            → result ≡ orders.Goaway (named told) code }
     {
         Control::Goaway {
             last: self.last,

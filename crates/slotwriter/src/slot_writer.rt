@@ -368,9 +368,9 @@ impl<W: ConnWrite + Drop> SlotWriter<W> {
 
     /// Resets the streams of calls that were left without trailers, with INTERNAL_ERROR, so that
     /// their clients don't wait: of those that were seen to be left when this was asked last, where
-    /// the peer sends on and no order waits. It is asked where nothing can be written: so all that
-    /// was given of such a call is written, but what a window keeps back. Answers whether its owner
-    /// is to go on at once, since a call was reset, or is seen to be left only now.
+    /// the peer sends on and no order waits. Such a call's sender gave that last, so all else that it
+    /// gave is in frames; a call of which a window keeps something back isn't reset. Answers whether
+    /// its owner is to go on at once, since a call was reset, or is seen to be left only now.
     pub fn reset_left(&mut self) -> bool
         ensures leads { LeadsOn W.contents W.failed self.old self.new }
 

@@ -77,8 +77,5 @@ returns-clause-blamed g c = λ code failed.
     let seen = either-seen c.by_orders-seen.result c.of_both.result c.by_orders-seen.ensures.seen (λ lacked. spared (c.by_calls.ensures.memory lacked)) in
     c.of_both.ensures.blamed code (sym (same ∙ seen) ∙ failed)
 
-pub returns-clause-spared : goal.returns-clause-spared
-returns-clause-spared g c = λ spared lacked. spared (c.by_calls.ensures.memory (c.by_orders-seen.ensures.memory (c.of_both.ensures.lacked lacked)))
-
 pub returns-clause-lacked : goal.returns-clause-lacked
 returns-clause-lacked g c = λ lacked. c.by_calls.ensures.memory (c.by_orders-seen.ensures.memory (c.of_both.ensures.lacked lacked))

@@ -1,10 +1,11 @@
-use Rattle.std.proofs.Common.{◌≡◌, ◌∙◌, ◌++◌, ◌≤◌, arith, ℕ, List, [], Option, Some, ap, map, refl, slice_get, subst, sym}
+use Rattle.std.proofs.Common.{◌≡◌, ◌∙◌, ◌∷◌, ◌++◌, ◌≤◌, arith, ℕ, List, [], Option, Some, ap, map, refl, slice_get, subst, sym}
 use Rattle.std.proofs.lemmas.List.{map-append}
 use Rattle.callslot.specs.declared.order.Opened.{Opened}
 use Rattle.callslot.specs.declared.report.Ending.{Ending}
 use Rattle.callslot.specs.Workers.{GivingEnd}
 use Rattle.lane.specs.Ring.{taken}
 use Rattle.outwriter.specs.declared.control.Control.{Control}
+use Rattle.outwriter.specs.declared.control.Control.TheVariants.{Close}
 use Rattle.outwriter.specs.Steps.{order_of}
 use Rattle.session.specs.FlowBytes.{counted_told}
 use Rattle.slots.specs.Lines.{IsGivenIn}
@@ -66,7 +67,7 @@ returns g c =
         served-by g.M.Answering.known g.M.Answering.names (λ rows. rows.items) contents failed _ _ _ _ _ _ _ is.output
             (are-served g.M.Answering.known g.M.Answering.names (λ rows. rows.items) contents failed heard.0 (contents c.args.output) amount _ c.read-read.result c.meet-2.result.ending
             heard.2.0 end.0 _ _ c.end-ended.result.1 c.end-ended.result.0.calls c.meet-2.result.calls written.device has
-            (IsGivenIn end.1 c.end-ended.result.0.ends.items) end.2 end.6 is.input is.spared is.dropped (c.read-read.ensures.failed start) within
+            (IsGivenIn end.1 c.end-ended.result.0.ends.items) end.2 end.6 is.input is.dropped (c.read-read.ensures.failed start) within
             put
             (rows-sent g.M.Answering.known g.M.Answering.names put.run (IsGivenIn end.1 c.end-ended.result.0.ends.items) _ _ c.end-ended.result.0.ends.items _ _ is.met
             (sent-put contents failed end.1 (put_of c.end-ended.result.1) (taken written.orders) is.obeyed.0 _ _ written.senders.places.items _ _ c.end-ended.result.0.ends.items _ _ is.obeyed.1 (end.5 has.lined) sent is.met)
@@ -89,13 +90,16 @@ returns-in-Err g c =
     (orders_of is.obeyed.0) refl
     (λ spared broke. ap (λ (os : List (Control Opened)). orders_of os) (is.obeyed.2 (λ lacked. spared (ap Some lacked)) (λ failing. broke (ap Some failing))))
     (λ drained. is.faultless (drained-is c.meet.result.ending drained)) c.in-Err.ensures.written in
+    let closed : orders_of (taken written.orders) ++ orders_of is.obeyed.0 ≡ Close ∷ [] =
+    sym (map-append (λ (one : Control Opened). order_of one) (taken written.orders) is.obeyed.0)
+    ∙ ap (λ (os : List (Control Opened)). orders_of os) (is.obeyed.1 ∙ (c.in-Err.ensures.put ∙ ap (λ (os : List (Control Opened)). os ++ Close ∷ []) (c.new-orders.ensures.put ∙ c.requires.unused.0))) in
     record {
       served = (
         [],
         consumes-none _,
         served-by g.M.Answering.known g.M.Answering.names (λ rows. rows.items) contents failed _ _ _ _ _ _ _ is.output
             (none-served g.M.Answering.known g.M.Answering.names (λ rows. rows.items) contents failed (contents c.args.output) _ _ c.meet.result.ending _
-            c.meet.result.calls written.device (is.lacked refl) (is.met.noted ∙ ap (λ rows. map is.met.note rows) c.new-in-Err.ensures.items)
+            c.meet.result.calls written.device (is.lacked refl) (is.met.noted ∙ ap (λ rows. map is.met.note rows) c.new-in-Err.ensures.items) closed
             (omega (arith, c.audit.ensures.within, ap (λ share. share.amount) c.new-intake.ensures.0, c.requires.came.2)) put),
       );
     }

@@ -1,10 +1,10 @@
-use Rattle.std.proofs.Common.{◌≡◌, ◌∙◌, ◌≤◌, ℕ, List, [], ◌++◌, Result, Ok, Err, OnErr, ap, append-nil, refl, subst, sym, take}
+use Rattle.std.proofs.Common.{◌≡◌, ◌∙◌, ◌≤◌, ℕ, List, [], ◌∷◌, ◌++◌, Result, Ok, Err, OnErr, ap, append-nil, refl, subst, sym, take}
 use Rattle.session.specs.declared.event.InEvent.{InEvent}
 use Rattle.session.specs.FlowBytes.{counted_told}
-use Rattle.slots.specs.Steps.{Step, events_of}
+use Rattle.slots.specs.Steps.{Lacks, Step, events_of}
 use Rattle.slots.proofs.LetGo.{events-append}
 use Rattle.slots.proofs.Resets.{calm-more}
-use Rattle.connection.proofs.Heard.{consumes-then, failed-read, input-read, kept-behind, lined-lack, none-more, none-read, not-by-fault, read-failed, reads-same, some-read, some-sound, with-end}
+use Rattle.connection.proofs.Heard.{consumes-then, failed-read, input-read, kept-as, kept-behind, none-more, none-read, not-by-fault, read-failed, some-read, some-sound, with-end}
 use Rattle.connection.proofs.reader.Reader.read.Goals as goal
 
 is-err : {A E P : Type 0} (result : Result A E) → ((a : A) → result ≡ Ok a → ⊥) → OnErr result P → P
@@ -95,9 +95,8 @@ returns-in-Err-clause-heard g c = λ none.
       h.0 ++ take c.in-Ok.count c.read.new.buf,
       consumes-then _ _ _ h.0 _ h.3 c.in-Ok.ensures.bytes.0,
       (
-        h.2,
-        none-read h.1 h.2 h.0 _ _ _ _ h.4 h.5 h.7.justified h.7.going (reads-same h.2 _ _ (c.lack.ensures.same ∙ c.in-Err.ensures.same.0) h.7.reads)
-            (lined-lack h.2 _ _ _ _ _ (c.lack.ensures.same ∙ c.in-Err.ensures.same.0) c.in-Err.ensures.same.1 (c.lack.ensures.lined _) h.7),
+        Lacks ∷ h.2,
+        none-read h.1 h.2 h.0 _ _ _ _ h.4 h.5 (c.lack.ensures h.2 (kept-as h.2 _ _ _ _ c.in-Err.ensures.same.0 c.in-Err.ensures.same.1 h.7)),
         subst (λ (n : ℕ). n ≤ counted_told (events_of h.2)) (sym (ap (λ share. share.amount) c.in-Err.ensures.uncounted)) h.8.came,
       ),
     )
