@@ -38,7 +38,7 @@ use Rattle.connection.specs.declared.orders.Orders.{Orders}
 use Rattle.connection.specs.declared.orders.Outbox.{Outbox}
 use Rattle.connection.specs.declared.orders.Route.{Ghosts}
 use Rattle.connection.specs.Heard.{Acts, CutsSome, HasPut, HasRead, IsEndedBy, KeptFor, ReadsTo, ReadsWith}
-use Rattle.connection.specs.Limits.{AreGoing, AreJustified, Covers, IsJustified, Tally}
+use Rattle.connection.specs.Limits.{AreGoing, Covers, IsJustified, Tally}
 use Rattle.connection.specs.Sent.{Lined, LinedTo}
 use Rattle.connection.proofs.Lines.{new-append, new-parts}
 use Rattle.connection.proofs.Tallies.{going-more, covers-as, covers-more, covers-none, cuts-justified}
