@@ -27,7 +27,7 @@ use Rattle.slotwriter.specs.Left.{left_in}
 use Rattle.slotwriter.specs.Written.{HasWritten}
 use Rattle.connection.specs.declared.orders.Orders.{Orders}
 use Rattle.connection.specs.declared.orders.Route.{Ghosts}
-use Rattle.connection.specs.Heard.{EndsOrders, HasEnded, HasRead, IsEndedBy}
+use Rattle.connection.specs.Heard.{EndsOrders, HasEnded, HasPut, HasRead, IsEndedBy}
 use Rattle.connection.specs.Left.{AreLeft}
 use Rattle.connection.specs.Overrun.{AreOverrun}
 use Rattle.connection.specs.Puts.{put_orders}
@@ -211,9 +211,9 @@ module _ (answers : ℕ → List (List ℕ) → Bool → Answer → Type 0) (nam
 
   -- no memory was there, and nothing was read
   pub none-served : (before : Option (List ℕ)) (granted : ℕ) (read_failed : Bool) (ending : Ending) (put : List Order) (calls : V) (device : W) → ending ≡ OutOfMemory
-      → items calls ≡ [] → put ≡ orders.Close ∷ [] → granted ≤ 0 → HasWritten contents failed before granted put (Some ending) (is_drained ending) device
+      → items calls ≡ [] → HasPut (orders.InputEnded ∷ []) put → granted ≤ 0 → HasWritten contents failed before granted put (Some ending) (is_drained ending) device
       → IsServed items contents failed answers names [] before read_failed ending calls device
-  none-served before granted read_failed ending put calls device lacked none closed within written =
+  none-served before granted read_failed ending put calls device lacked none ordered within written =
       let not : is_heard_out ending ≡ true → ⊥ = λ out. true≢false (sym out ∙ ap (λ (e : Ending). is_heard_out e) lacked) in
       record {
         told = [];
@@ -224,7 +224,7 @@ module _ (answers : ℕ → List (List ℕ) → Bool → Answer → Type 0) (nam
         justified = tt;
         closed = tt;
         ended = record { cuts = []; heard = []; parts = refl; silent = refl; going = tt };
-        ordered = record { front = []; begins = (orders.InputEnded ∷ [], refl); closed = closed };
+        ordered = ordered;
         whole = λ out. absurd (not out);
         resets = λ out. absurd (not out);
         granted = granted;
@@ -261,5 +261,5 @@ module _ (answers : ℕ → List (List ℕ) → Bool → Answer → Type 0) (nam
   pub unbegun : (read_failed : Bool) (ending : Ending) (calls : V) (old device : W) → ending ≡ OutOfMemory → device ≡ old → items calls ≡ []
       → IsServed items contents failed answers names [] (contents old) read_failed ending calls device
   unbegun read_failed ending calls old device lacked same none =
-      none-served (contents old) 0 read_failed ending (orders.Close ∷ []) calls device lacked none refl (omega arith)
+      none-served (contents old) 0 read_failed ending (orders.Close ∷ []) calls device lacked none (record { front = []; begins = (orders.InputEnded ∷ [], refl); closed = refl }) (omega arith)
       (subst (λ (d : W). HasWritten contents failed (contents d) 0 (orders.Close ∷ []) (Some ending) (is_drained ending) device) same (none-written device ending lacked))

@@ -1,10 +1,9 @@
 //! The writing thread of a connection: it turns a `SlotWriter`, takes the lock for it, rings and waits.
 
-ghost use Rattle.std.specs.Prelude.{◌≡◌, ◌⊎◌, ◌∷◌, ◌++◌, ℕ, List, [], Option, IfErr, IfOk, OnErr, OnOk, true};
+ghost use Rattle.std.specs.Prelude.{◌≡◌, ◌⊎◌, ℕ, List, [], Option, IfErr, IfOk, OnErr, OnOk, true};
 ghost use Rattle.lane.specs.Ring.{out_name, taken};
 ghost use Rattle.connwriter.specs.declared.filled.Filled.TheVariants as filling;
-ghost use Rattle.outwriter.specs.declared.control.Control.TheVariants.{Close};
-ghost use Rattle.connection.specs.Puts.{put_of};
+ghost use Rattle.connection.specs.Heard.{EndsOrders};
 ghost use Rattle.slotwriter.specs.Orders.{orders_of};
 ghost use Rattle.slotwriter.specs.Written.{HasSent, HasWritten, IsFlushed, Led, LeadsOn, LeadsOutTo, LeadsTo, Stays};
 
@@ -16,6 +15,7 @@ use connwriter::Filled;
 use device::ConnWrite;
 use h2frame::StreamId;
 use lane::RingOut;
+use outwriter::Control;
 use slotwriter::{Rest, SlotWriter, Took, Waiting, Written};
 use std::alloc::Global;
 use std::snapshot::Snapshot;
@@ -377,7 +377,8 @@ impl<C: Ledger, W: ConnWrite + Drop> Promise<Parted<C, W>> for Begun<W> {
 /// The thread that writes, and what it comes to.
 pub(crate) type Writing<C, W> = PromisedHandle<Parted<C, W>, Begun<W>>;
 
-/// Starts the thread that writes. Where it can't be made, no order but Close comes, and this thread writes what is to be written then.
+/// Starts the thread that writes. Where it can't be made, it is ordered that the input has ended, and no more: this thread writes what is to
+/// be written then. So Close isn't the first order, for which there may be no memory.
 pub(crate) fn start<A, B, C, N, W, G, R>(
     rt: R,
     alloc: Global,
@@ -402,7 +403,7 @@ where
         ≡ W.contents device) }
     ensures ring { IfOk result (λ writing. writing.promise.orders.value ≡ taking) }
     ensures same { OnOk result (orders.new ≡ orders.old) }
-    ensures put { OnErr result (put_of orders.new ≡ put_of orders.old ++ Close ∷ []) }
+    ensures put { OnErr result (EndsOrders [] [] orders.old orders.new) }
     ensures name { IfErr result (λ parted. out_name parted.written.orders ≡ out_name taking) }
     ensures written { IfErr result (λ parted. HasWritten W.contents W.failed (W.contents device)
         parted.told.amount (orders_of (taken parted.written.orders)) parted.written.ending
@@ -433,6 +434,7 @@ where
     match thread::spawn_with(&rt, begun, write) {
         Ok(handle) => Ok(handle),
         Err(refused) => {
+            orders.put(&rt, Control::InputEnded);
             orders.close(&rt);
             let write_here = refused.value;
             Err(write_here())

@@ -5,8 +5,8 @@ use Rattle.callslot.specs.declared.report.Ending.{Ending}
 use Rattle.callslot.specs.Workers.{GivingEnd}
 use Rattle.lane.specs.Ring.{taken}
 use Rattle.outwriter.specs.declared.control.Control.{Control}
-use Rattle.outwriter.specs.declared.control.Control.TheVariants.{Close}
-use Rattle.outwriter.specs.Steps.{order_of}
+use Rattle.outwriter.specs.declared.control.Control.TheVariants.{InputEnded}
+use Rattle.outwriter.specs.Steps.{Order, order_of}
 use Rattle.session.specs.FlowBytes.{counted_told}
 use Rattle.slots.specs.Lines.{IsGivenIn}
 use Rattle.slots.specs.Steps.{events_of, reported}
@@ -17,7 +17,8 @@ use Rattle.connection.specs.Puts.{put_of, put_orders}
 use Rattle.connection.proofs.Left.{left-noted}
 use Rattle.connection.proofs.Overrun.{are-overrun, ended-so}
 use Rattle.connection.proofs.Lines.{meeting-put, sent-put}
-use Rattle.connection.proofs.Heard.{consumes-none, kept-none}
+use Rattle.connection.specs.Heard.{HasPut}
+use Rattle.connection.proofs.Heard.{consumes-none, kept-none, ordered-none}
 use Rattle.connection.specs.Served.{is_drained}
 use Rattle.connection.proofs.Reports.{are-served, drained-is, none-served, rows-sent, served-by, unbegun}
 use Rattle.connection.proofs.serve.serve_over.Goals as goal
@@ -90,16 +91,16 @@ returns-in-Err g c =
     (orders_of is.obeyed.0) refl
     (λ spared broke. ap (λ (os : List (Control Opened)). orders_of os) (is.obeyed.2 (λ lacked. spared (ap Some lacked)) (λ failing. broke (ap Some failing))))
     (λ drained. is.faultless (drained-is c.meet.result.ending drained)) c.in-Err.ensures.written in
-    let closed : orders_of (taken written.orders) ++ orders_of is.obeyed.0 ≡ Close ∷ [] =
-    sym (map-append (λ (one : Control Opened). order_of one) (taken written.orders) is.obeyed.0)
-    ∙ ap (λ (os : List (Control Opened)). orders_of os) (is.obeyed.1 ∙ (c.in-Err.ensures.put ∙ ap (λ (os : List (Control Opened)). os ++ Close ∷ []) (c.new-orders.ensures.put ∙ c.requires.unused.0))) in
+    let all : put_orders c.start.new.orders ≡ orders_of (taken written.orders) ++ orders_of is.obeyed.0 =
+    sym (sym (map-append (λ (one : Control Opened). order_of one) (taken written.orders) is.obeyed.0) ∙ ap (λ (os : List (Control Opened)). orders_of os) is.obeyed.1) in
+    let ordered = subst (λ (os : List Order). HasPut (InputEnded ∷ []) os) all (c.in-Err.ensures.put (ordered-none c.new-orders.result (c.new-orders.ensures.put ∙ c.requires.unused.0))).0 in
     record {
       served = (
         [],
         consumes-none _,
         served-by g.M.Answering.known g.M.Answering.names (λ rows. rows.items) contents failed _ _ _ _ _ _ _ is.output
             (none-served g.M.Answering.known g.M.Answering.names (λ rows. rows.items) contents failed (contents c.args.output) _ _ c.meet.result.ending _
-            c.meet.result.calls written.device (is.lacked refl) (is.met.noted ∙ ap (λ rows. map is.met.note rows) c.new-in-Err.ensures.items) closed
+            c.meet.result.calls written.device (is.lacked refl) (is.met.noted ∙ ap (λ rows. map is.met.note rows) c.new-in-Err.ensures.items) ordered
             (omega (arith, c.audit.ensures.within, ap (λ share. share.amount) c.new-intake.ensures.0, c.requires.came.2)) put),
       );
     }

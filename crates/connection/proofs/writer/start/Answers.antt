@@ -1,7 +1,9 @@
-use Rattle.std.proofs.Common.{◌≡◌, ◌∙◌, List, Option, ap, subst, sym, ℕ}
+use Rattle.std.proofs.Common.{◌≡◌, ◌∙◌, ◌∷◌, [], List, Option, ap, subst, sym, ℕ}
 use Rattle.lane.specs.Ring.{out_name, taken}
 use Rattle.slotwriter.specs.Orders.{orders_of}
 use Rattle.slotwriter.specs.Written.{HasSent, HasWritten, Led}
+use Rattle.outwriter.specs.declared.control.Control.TheVariants.{InputEnded}
+use Rattle.connection.proofs.Heard.{ordered-put, put-ended, put-whole}
 use Rattle.connection.proofs.writer.start.Goals as goal
 
 pub returns-in-Err-clause-written : goal.returns-in-Err-clause-written
@@ -13,6 +15,13 @@ returns-in-Err-clause-written g c =
     let kept : HasWritten contents failed (contents c.of.result.value) parted.told.amount (orders_of (taken parted.written.orders)) parted.written.ending parted.written.is_faultless parted.written.device =
     (c.write.ensures.sent (contents c.of.result.value) (rw c.in-Err.ensures.err led)).written in
     subst (λ (before : Option (List ℕ)). HasWritten contents failed before parted.told.amount (orders_of (taken parted.written.orders)) parted.written.ending parted.written.is_faultless parted.written.device) (ap contents c.of.ensures) kept
+
+pub returns-in-Err-clause-put : goal.returns-in-Err-clause-put
+returns-in-Err-clause-put g c = λ ordered.
+    let more = ordered-put [] InputEnded c.args.orders.now c.put.new.self c.put.ensures.puts ordered in (
+      put-ended (InputEnded ∷ []) c.put.new.self c.close.new.self c.close.ensures.put more,
+      λ none. put-whole (InputEnded ∷ []) c.put.new.self c.close.new.self c.close.ensures.put c.close.ensures.dropped more none,
+    )
 
 pub spawn_with-requires-clause-keeps : goal.spawn_with-requires-clause-keeps
 spawn_with-requires-clause-keeps g c = λ κs within r claims.
