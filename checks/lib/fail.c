@@ -1,6 +1,7 @@
 // Loaded before the C library (LD_PRELOAD): from some call on a program can't read from sockets, write to them, or start threads. The
 // environment says from which, counted from 1: FAIL_READS, FAIL_WRITES, FAIL_THREADS; 0 or nothing for none. Behind each write to a
-// socket the program sleeps for as many microseconds as stand there as SLOW_WRITES.
+// socket, or before it fails, the program sleeps for as many microseconds as stand there as SLOW_WRITES. Before it shuts one down for the
+// first time it waits until it has started as many threads as stand there as AWAIT_THREADS, for some seconds at most.
 #define _GNU_SOURCE
 #include <dlfcn.h>
 #include <errno.h>
@@ -19,10 +20,14 @@ struct calls {
 
 static struct calls reads = {"FAIL_READS", 0}, writes = {"FAIL_WRITES", 0}, threads = {"FAIL_THREADS", 0};
 
+static long number_of(const char *name) {
+  const char *number = getenv(name);
+  return number ? atol(number) : 0;
+}
+
 static int fails(struct calls *calls) {
-  const char *number = getenv(calls->name);
-  const long first = number ? atol(number) : 0;
-  return first > 0 && atomic_fetch_add(&calls->seen, 1) + 1 >= first;
+  const long first = number_of(calls->name), number = atomic_fetch_add(&calls->seen, 1) + 1;
+  return first > 0 && number >= first;
 }
 
 static int is_socket(int fd) {
@@ -30,18 +35,27 @@ static int is_socket(int fd) {
   return fstat(fd, &is) == 0 && S_ISSOCK(is.st_mode);
 }
 
+static void sleep_slow_write(void) {
+  const long slow = number_of("SLOW_WRITES");
+  if (slow > 0) {
+    usleep(slow);
+  }
+}
+
 static int fails_at(struct calls *calls, int fd) {
   if (!is_socket(fd) || !fails(calls)) {
     return 0;
+  }
+  if (calls == &writes) {
+    sleep_slow_write();
   }
   errno = calls == &reads ? ECONNRESET : EPIPE;
   return 1;
 }
 
 static ssize_t slowed(int fd, ssize_t count) {
-  const char *slow = getenv("SLOW_WRITES");
-  if (count > 0 && slow && is_socket(fd)) {
-    usleep(atol(slow));
+  if (count > 0 && is_socket(fd)) {
+    sleep_slow_write();
   }
   return count;
 }
@@ -68,4 +82,13 @@ ssize_t send(int fd, const void *bytes, size_t count, int flags) {
 
 int pthread_create(pthread_t *thread, const pthread_attr_t *how, void *(*begin)(void *), void *with) {
   return fails(&threads) ? EAGAIN : REAL(pthread_create)(thread, how, begin, with);
+}
+
+int shutdown(int fd, int how) {
+  static atomic_int seen;
+  const long awaited = number_of("AWAIT_THREADS");
+  for (int turn = atomic_exchange(&seen, 20000); turn < 20000 && atomic_load(&threads.seen) < awaited; turn++) {
+    usleep(100);
+  }
+  return REAL(shutdown)(fd, how);
 }
