@@ -17,8 +17,15 @@ pub fn is_named(field: &Field, name: &[u8]) -> bool
 pub fn first_value<'a>(fields: &'a [Field], name: &[u8]) -> Option<&'a [u8]>
     ensures { option_copied result ≡ first_of name.now fields.now }
 {
+    Some(first_octets(fields, name)?.as_slice())
+}
+
+/// The same value, as the field owns it.
+pub fn first_octets<'a>(fields: &'a [Field], name: &[u8]) -> Option<&'a Octets>
+    ensures { option_copied result ≡ first_of name.now fields.now }
+{
     let field = fields.iter().find(|field| is_named(field, name))?;
-    Some(field.value.as_slice())
+    Some(&field.value)
 }
 
 /// How many fields have this name.
@@ -28,26 +35,40 @@ pub fn count_named(fields: &[Field], name: &[u8]) -> usize
     fields.iter().filter(|field| is_named(field, name)).count()
 }
 
-/// A field of this name and value.
-pub fn field(alloc: Global, name: &[u8], value: Vec<u8>) -> Result<Field, AllocError>
-    ensures { IfOk result (λ made. made ≡ field_of name.now value.items) }
+/// A field of a name that the program has, and of this value. It takes no memory.
+pub fn field(name: &'static [u8], value: Octets) -> Field
+    ensures { result ≡ field_of name.now value }
 {
-    Ok(Field {
-        name: Octets::from(Vec::from_slice(alloc, name)?),
-        value: Octets::from(value),
-    })
+    Field {
+        name: Octets::fixed(name),
+        value,
+    }
+}
+
+/// Appends a field that the program has.
+pub fn push_known(
+    fields: &mut Vec<Field>,
+    name: &'static [u8],
+    value: &'static [u8],
+) -> Result<(), AllocError>
+    ensures { OnOk result
+        (fields.new.items ≡ fields.old.items ++ field_of name.now value.now ∷ []) }
+{
+    fields.push(field(name, Octets::fixed(value)))?;
+    Ok(())
 }
 
 /// Appends a field with a copy of this value.
-pub fn push_known(
+pub fn push_copied(
     alloc: Global,
     fields: &mut Vec<Field>,
-    name: &[u8],
+    name: &'static [u8],
     value: &[u8],
 ) -> Result<(), AllocError>
     ensures { OnOk result
         (fields.new.items ≡ fields.old.items ++ field_of name.now value.now ∷ []) }
 {
-    fields.push(field(alloc, name, Vec::from_slice(alloc, value)?)?)?;
+    let value = Octets::from(Vec::from_slice(alloc, value)?);
+    fields.push(field(name, value))?;
     Ok(())
 }

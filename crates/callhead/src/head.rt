@@ -14,7 +14,7 @@ ghost use Rattle.callhead.specs.Requests.{IsRequest};
 
 use crate::bin::read_bin_values;
 use crate::fault::HeadFault;
-use crate::fields::{first_value, is_named};
+use crate::fields::{first_octets, first_value, is_named};
 use crate::malformed::is_malformed;
 use crate::names::{CONTENT_TYPE, ECHO_INITIAL, ECHO_TRAILING, GRPC_TYPE};
 use crate::texts::Texts;
@@ -57,11 +57,11 @@ impl CallHead {
         ensures first { (fault : HeadFault) → IsFirstFault fields.now fault → result ≡ Err fault }
     {
         let timeout = lawful_timeout(fields)?;
-        let Some(path) = first_value(fields, b":path") else {
+        let Some(path) = first_octets(fields, b":path") else {
             return Err(HeadFault::Malformed);
         };
         Ok(CallHead {
-            path: Octets::from(Vec::from_slice(alloc, path)?),
+            path: path.copy()?,
             timeout,
             encoding: encoding_of(fields),
             echo_initial: initial_echoes(alloc, fields)?,

@@ -8,9 +8,9 @@ ghost use Rattle.callhead.specs.Heads.{IsHead};
 ghost use Rattle.callhead.specs.RequestFields.{IsPathText, is_text_value, IsTimeoutText, timeout_fields, opening_fields, request_fields, AsksFor};
 
 use crate::bin::bin_value;
-use crate::fields::{field, push_known};
+use crate::fields::{field, push_copied, push_known};
 use crate::names::{CONTENT_TYPE, ECHO_INITIAL, ECHO_TRAILING, GRPC_TYPE};
-use lists::Field;
+use lists::{Field, Octets};
 use std::alloc::{AllocError, Global};
 
 /// The fields of a request: `:method`, `:scheme`, `:path`, `:authority`, `te` and `content-type`; then the timeout, a
@@ -47,12 +47,12 @@ fn opening_fields(alloc: Global, path: &str) -> Result<Vec<Field>, AllocError>
     ensures { IfOk result (λ fields. fields.items ≡ opening_fields path.now) }
 {
     let mut fields = Vec::new(alloc);
-    push_known(alloc, &mut fields, b":method", b"POST")?;
-    push_known(alloc, &mut fields, b":scheme", b"http")?;
-    push_known(alloc, &mut fields, b":path", path.as_bytes())?;
-    push_known(alloc, &mut fields, b":authority", b"localhost")?;
-    push_known(alloc, &mut fields, b"te", b"trailers")?;
-    push_known(alloc, &mut fields, CONTENT_TYPE, GRPC_TYPE)?;
+    push_known(&mut fields, b":method", b"POST")?;
+    push_known(&mut fields, b":scheme", b"http")?;
+    push_copied(alloc, &mut fields, b":path", path.as_bytes())?;
+    push_known(&mut fields, b":authority", b"localhost")?;
+    push_known(&mut fields, b"te", b"trailers")?;
+    push_known(&mut fields, CONTENT_TYPE, GRPC_TYPE)?;
     Ok(fields)
 }
 
@@ -65,7 +65,7 @@ fn push_timeout(
         (fields.new.items ≡ fields.old.items ++ timeout_fields (option_copied timeout.entry)) }
 {
     if let Some(text) = timeout {
-        push_known(alloc, fields, b"grpc-timeout", text.as_bytes())?;
+        push_copied(alloc, fields, b"grpc-timeout", text.as_bytes())?;
     }
     Ok(())
 }
@@ -77,7 +77,7 @@ fn push_initial(alloc: Global, fields: &mut Vec<Field>, values: &[&str]) -> Resu
         (map (λ value. value.now) values.now)) }
 {
     for value in values {
-        push_known(alloc, fields, ECHO_INITIAL, value.as_bytes())?;
+        push_copied(alloc, fields, ECHO_INITIAL, value.as_bytes())?;
     }
     Ok(())
 }
@@ -91,7 +91,7 @@ fn push_trailing(alloc: Global, fields: &mut Vec<Field>, values: &[&[u8]]) -> Re
 {
     for value in values {
         let text = bin_value(alloc, value)?;
-        fields.push(field(alloc, ECHO_TRAILING, text.into_bytes())?)?;
+        fields.push(field(ECHO_TRAILING, Octets::from(text.into_bytes())))?;
     }
     Ok(())
 }

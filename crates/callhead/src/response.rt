@@ -1,17 +1,17 @@
 //! The fields that answer a call (gRPC over HTTP/2, "Responses").
 
-ghost use Rattle.std.specs.Prelude.{◌≡◌, ◌++◌, [], ◌∷◌, Some, None, MatchOption, IfOk, OnOk, codes};
+ghost use Rattle.std.specs.Prelude.{◌≡◌, ◌++◌, [], ◌∷◌, Some, None, MatchOption, IfOk, OnOk, codes, decimal};
 ghost use Rattle.callhead.specs.StatusFields.{response_fields, status_fields, message_fields, trailers_only, unknown_method, refusal_of, status_alone};
 
 use crate::bin::bin_value;
 use crate::fault::HeadFault;
-use crate::fields::{field, push_known};
+use crate::fields::{field, push_copied, push_known};
 use crate::names::{CONTENT_TYPE, ECHO_INITIAL, ECHO_TRAILING, GRPC_TYPE};
 use crate::percent::percent_text;
 use crate::texts::Texts;
 use crate::values::Values;
 use grpc_status::StatusCode;
-use lists::Field;
+use lists::{Field, Octets};
 use std::alloc::{AllocError, Global};
 
 /// The fields that begin the response to a call, with one for each echo.
@@ -20,7 +20,7 @@ pub fn response_fields(alloc: Global, echo_initial: &Texts) -> Result<Vec<Field>
 {
     let mut fields = opening_fields(alloc)?;
     for echo in echo_initial.as_slice() {
-        push_known(alloc, &mut fields, ECHO_INITIAL, echo.as_bytes())?;
+        push_copied(alloc, &mut fields, ECHO_INITIAL, echo.as_bytes())?;
     }
     Ok(fields)
 }
@@ -39,7 +39,7 @@ pub fn status_fields(
     push_status(alloc, &mut fields, code, text)?;
     for echo in echo_trailing.as_slice() {
         let value = bin_value(alloc, echo.as_slice())?;
-        fields.push(field(alloc, ECHO_TRAILING, value.into_bytes())?)?;
+        fields.push(field(ECHO_TRAILING, Octets::from(value.into_bytes())))?;
     }
     Ok(fields)
 }
@@ -82,11 +82,11 @@ impl HeadFault {
 }
 
 /// A response of HTTP alone.
-fn status_alone(alloc: Global, status: &[u8]) -> Result<Vec<Field>, AllocError>
+fn status_alone(alloc: Global, status: &'static [u8]) -> Result<Vec<Field>, AllocError>
     ensures { IfOk result (λ fields. fields.items ≡ status_alone status.now) }
 {
     let mut fields = Vec::new(alloc);
-    push_known(alloc, &mut fields, b":status", status)?;
+    push_known(&mut fields, b":status", status)?;
     Ok(fields)
 }
 
@@ -95,7 +95,7 @@ fn opening_fields(alloc: Global) -> Result<Vec<Field>, AllocError>
     ensures { IfOk result (λ fields. fields.items ≡ response_fields []) }
 {
     let mut fields = status_alone(alloc, b"200")?;
-    push_known(alloc, &mut fields, CONTENT_TYPE, GRPC_TYPE)?;
+    push_known(&mut fields, CONTENT_TYPE, GRPC_TYPE)?;
     Ok(fields)
 }
 
@@ -108,10 +108,20 @@ fn push_status(
 ) -> Result<(), AllocError>
     ensures { OnOk result (fields.new.items ≡ fields.old.items ++ status_fields code text.now []) }
 {
-    let number = code.to_string(alloc)?;
-    push_known(alloc, fields, b"grpc-status", number.as_bytes())?;
+    let number = number_text(alloc, code)?;
+    fields.push(field(b"grpc-status", number))?;
     push_message(alloc, fields, text)?;
     Ok(())
+}
+
+/// The text of a status's number, which takes no memory for that of OK.
+fn number_text(alloc: Global, code: u32) -> Result<Octets, AllocError>
+    ensures { IfOk result (λ text. text ≡ decimal code) }
+{
+    if code == StatusCode::Ok.number() {
+        return Ok(Octets::fixed(b"0"));
+    }
+    Ok(Octets::from(code.to_string(alloc)?.into_bytes()))
 }
 
 /// Appends the status's text, unless that is empty.
@@ -120,7 +130,7 @@ fn push_message(alloc: Global, fields: &mut Vec<Field>, text: &str) -> Result<()
 {
     if !text.is_empty() {
         let value = percent_text(alloc, text)?;
-        fields.push(field(alloc, b"grpc-message", value.into_bytes())?)?;
+        fields.push(field(b"grpc-message", Octets::from(value.into_bytes())))?;
     }
     Ok(())
 }

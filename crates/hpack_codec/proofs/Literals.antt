@@ -13,10 +13,9 @@ use Rattle.hpack_codec.specs.Reading.{OrMemory, TakesInteger, TakesString, Takes
 use Rattle.hpack_codec.proofs.Integers.{parted}
 use Rattle.hpack_codec.proofs.Strings.{flags_from}
 
-pub name_entry : (table : Table) (index : ℕ) (bytes octets name_now value_now : List ℕ) → index ≢ 0 → entry_at table index ≡ Some (entry name_now value_now) → octets ≡ name_now
-    → TakesName table index bytes octets bytes
-name_entry table zero bytes octets name_now value_now some is same = absurd (some refl)
-name_entry table (suc place) bytes octets name_now value_now some is same = ([], refl, (refl, (entry name_now value_now, is, same)))
+pub name_entry : (table : Table) (index : ℕ) (bytes : List ℕ) (field : Field) → index ≢ 0 → entry_at table index ≡ Some field → TakesName table index bytes field.name bytes
+name_entry table zero bytes field some is = absurd (some refl)
+name_entry table (suc place) bytes field some is = ([], refl, (refl, (field, is, refl)))
 
 pub literal_taken : (table : Table) (prefix_bits index : ℕ) (bytes behind third rest name_octets value_octets : List ℕ)
     → TakesInteger prefix_bits bytes index behind → TakesName table index behind name_octets third → TakesString third value_octets rest

@@ -23,6 +23,9 @@ use std::marker::Model;
 /// The sizes that the fields of a block may have together.
 const MAX_SIZES: usize = 65536;
 
+/// For how many fields a block's memory is taken at once, if it has as many bytes: no field has none.
+const MOST_AT_ONCE: usize = 16;
+
 /// Reads the blocks of one connection in their order. A clause sees the dynamic table, and none once it is dead.
 #[derive(Drop)]
 pub struct Decoder {
@@ -127,7 +130,7 @@ fn fields_of(
     ensures lawful { IfOk result (λ fields. sizes_of fields.items ≤ 65536) }
     ensures err { IfErr result (λ fault. IsFieldsFault fault table.old bytes.now) }
 {
-    let mut fields = Vec::new(alloc);
+    let mut fields = Vec::with_capacity(alloc, bytes.len().min(MOST_AT_ONCE))?;
     let mut room = MAX_SIZES;
     let mut rest = bytes;
     while !rest.is_empty() {
@@ -172,11 +175,11 @@ fn field_at<'b>(
 {
     let first = bytes[0];
     if first >= INDEXED {
-        let (field, rest) = indexed(alloc, table, bytes)?;
+        let (field, rest) = indexed(table, bytes)?;
         return Ok((field, false, rest));
     }
     if first >= LITERAL_INDEXED {
-        let (field, rest) = literal(alloc, table, LITERAL_INDEXED_PREFIX, bytes)?;
+        let (field, rest) = new_entry(alloc, table, bytes)?;
         return Ok((field, true, rest));
     }
     if first >= SIZE_UPDATE {
@@ -186,23 +189,35 @@ fn field_at<'b>(
     Ok((field, false, rest))
 }
 
-fn indexed<'b>(
-    alloc: Global,
-    table: &DynamicTable,
-    bytes: &'b [u8],
-) -> Result<(Field, &'b [u8]), HpackFault>
+fn indexed<'b>(table: &DynamicTable, bytes: &'b [u8]) -> Result<(Field, &'b [u8]), HpackFault>
     requires { flags_of 7 bytes.now ≡ 128 }
     ensures ok { IfOk result (λ taken. TakesIndexed table.now bytes.now taken.0 taken.1.now) }
     ensures err { IfErr result
         (λ fault. OrMemory fault (IsIndexedFault fault table.now bytes.now)) }
 {
     let (index, rest) = integer(INDEXED_PREFIX, bytes)?;
-    let Some((name, value)) = table.get(index) else {
+    let Some(field) = table.field(index)? else {
         return Err(HpackFault::Index);
     };
-    let name = Octets::from(Vec::from_slice(alloc, name)?);
-    let value = Octets::from(Vec::from_slice(alloc, value)?);
-    Ok((Field { name, value }, rest))
+    Ok((field, rest))
+}
+
+/// The literal at the front, which becomes an entry: no copy of it takes memory.
+fn new_entry<'b>(
+    alloc: Global,
+    table: &DynamicTable,
+    bytes: &'b [u8],
+) -> Result<(Field, &'b [u8]), HpackFault>
+    ensures ok { IfOk result (λ taken. TakesLiteral 6 table.now bytes.now taken.0 taken.1.now) }
+    ensures err { IfErr result (λ fault. OrMemory fault
+        (IsLiteralFault fault 6 (flags_of 6 bytes.now) table.now bytes.now)) }
+{
+    let (Field { name, value }, rest) = literal(alloc, table, LITERAL_INDEXED_PREFIX, bytes)?;
+    let field = Field {
+        name: name.share()?,
+        value: value.share()?,
+    };
+    Ok((field, rest))
 }
 
 fn literal<'b>(
@@ -236,8 +251,8 @@ fn literal_name<'b>(
     if index == NEW_NAME {
         return string(alloc, bytes);
     }
-    let Some((name, _)) = table.get(index) else {
+    let Some(Field { name, .. }) = table.field(index)? else {
         return Err(HpackFault::Index);
     };
-    Ok((Octets::from(Vec::from_slice(alloc, name)?), bytes))
+    Ok((name, bytes))
 }

@@ -4,6 +4,7 @@ ghost use Rattle.hpack_codec.specs.StaticTable.{static_table, entry};
 ghost use Rattle.hpack_codec.specs.Reading.{IsStatic};
 
 use crate::found::Found;
+use lists::{Field, Octets};
 
 /// How many entries there are.
 pub const LEN: usize = 61;
@@ -82,6 +83,18 @@ pub fn static_entry(place: usize) -> Pair
     ensures { slice_get static_table place ≡ Some (entry result.0.now result.1.now) }
 {
     pair_at(&ENTRIES, place)
+}
+
+/// The field that an entry is, with no memory taken. The first one has the place 0.
+pub fn static_field(place: usize) -> Field
+    requires { place < LEN }
+    ensures { slice_get static_table place ≡ Some result }
+{
+    let (name, value) = static_entry(place);
+    Field {
+        name: Octets::fixed(name),
+        value: Octets::fixed(value),
+    }
 }
 
 fn pair_at(pairs: &[Pair], place: usize) -> Pair

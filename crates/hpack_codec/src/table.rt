@@ -1,5 +1,5 @@
 //! The table of entries that blocks name by index (RFC 7541, sections 2.3 and 4).
-ghost use Rattle.std.specs.Prelude.{◌≡◌, ◌<◌, ◌≤◌, ◌^◌, ◌+◌, length, Some, None, MatchOption, IfOk, OnOk, min};
+ghost use Rattle.std.specs.Prelude.{◌≡◌, ◌<◌, ◌≤◌, ◌^◌, ◌+◌, length, slice_get, Some, None, MatchOption, IfOk, OnOk, min};
 ghost use Rattle.hpack_codec.specs.StaticTable.{entry};
 ghost use Rattle.hpack_codec.specs.Table.{size_of, entry_at, insert_entry, resize, empty_table, sizes_of, fitting};
 
@@ -73,6 +73,30 @@ impl DynamicTable {
         match self.recent.get(index - 1 - static_table::LEN) {
             Some(field) => Some((field.name.as_slice(), field.value.as_slice())),
             None => None,
+        }
+    }
+
+    /// The field at an index of both tables. Its bytes are the entry's, so it takes no memory.
+    pub fn field(&self, index: u32) -> Result<Option<Field>, AllocError>
+        ensures { IfOk result (λ found. entry_at self.now index ≡ found) }
+    {
+        let index = index as usize;
+        if index > static_table::LEN {
+            return self.recent_field(index - 1 - static_table::LEN);
+        }
+        if index > 0 {
+            return Ok(Some(static_table::static_field(index - 1)));
+        }
+        Ok(None)
+    }
+
+    /// The field that an entry is. The newest one has the place 0.
+    fn recent_field(&self, place: usize) -> Result<Option<Field>, AllocError>
+        ensures { IfOk result (λ found. slice_get self.now.entries place ≡ found) }
+    {
+        match self.recent.get(place) {
+            Some(field) => Ok(Some(copy_of(field)?)),
+            None => Ok(None),
         }
     }
 

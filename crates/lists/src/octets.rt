@@ -4,14 +4,23 @@ ghost use Rattle.std.specs.Prelude.{◌≡◌, ◌==◌, ◌↔◌, [], length, 
 ghost use Rattle.std.specs.Cmp.{partial_equiv_from_equiv};
 ghost use Rattle.std.specs.Cmp.Lexicographic.{nat_list_eq_equiv};
 
+use bytes::Bytes;
 use std::alloc::AllocError;
 use std::fmt;
 use std::marker::Model;
 
 /// Bytes that a field or a text owns. A clause sees the list of them.
-#[derive(Drop)]
 pub struct Octets {
-    bytes: Vec<u8>,
+    holding: Holding,
+}
+
+/// Where the bytes are.
+#[derive(Drop)]
+enum Holding {
+    /// In memory of their own.
+    Own(Vec<u8>),
+    /// In the program, or in memory that copies share.
+    Shared(Bytes),
 }
 
 impl Model for Octets {
@@ -19,46 +28,76 @@ impl Model for Octets {
 
     ghost Value = { List ℕ };
 
-    ghost view = { λ octets. octets.bytes.items };
+    ghost use Rattle.lists.specs.Octets.{bytes_of};
+
+    ghost view = { λ octets. bytes_of octets.holding };
 }
 
 impl Octets {
+    /// Bytes of the program, with no memory taken.
+    pub fn fixed(bytes: &'static [u8]) -> Octets
+        ensures { result ≡ bytes.now }
+    {
+        Octets {
+            holding: Holding::Shared(Bytes::from_static(bytes)),
+        }
+    }
+
     /// The bytes as a slice.
     pub fn as_slice(&self) -> &[u8]
         ensures { result.now ≡ self.now }
     {
-        self.bytes.as_slice()
-    }
-
-    /// The bytes, with no memory taken.
-    pub fn into_vec(self) -> Vec<u8>
-        ensures { result.items ≡ self }
-    {
-        let Octets { bytes } = self;
-        bytes
+        match &self.holding {
+            Holding::Own(bytes) => bytes.as_slice(),
+            Holding::Shared(bytes) => bytes.as_slice(),
+        }
     }
 
     /// How many bytes there are.
     pub fn len(&self) -> usize
         ensures { result ≡ length self.now }
     {
-        self.bytes.len()
+        self.as_slice().len()
     }
 
     /// Whether there are none.
     pub fn is_empty(&self) -> bool
         ensures { IsTrue result ↔ (self.now ≡ []) }
     {
-        self.bytes.is_empty()
+        self.as_slice().is_empty()
     }
 
-    /// The same bytes, in memory of their own.
+    /// The same bytes. Those that have memory of their own are copied, the others take none.
     pub fn copy(&self) -> Result<Octets, AllocError>
         ensures { IfOk result (λ copy. copy ≡ self.now) }
     {
-        Ok(Octets {
-            bytes: self.bytes.clone()?,
-        })
+        match &self.holding {
+            Holding::Own(bytes) => Ok(Octets::from(bytes.clone()?)),
+            Holding::Shared(bytes) => Ok(Octets {
+                holding: Holding::Shared(bytes.clone()?),
+            }),
+        }
+    }
+
+    /// The same bytes, of which no copy takes memory. They stay where they are.
+    pub fn share(self) -> Result<Octets, AllocError>
+        ensures { IfOk result (λ shared. shared ≡ self) }
+    {
+        let Octets { holding } = self;
+        match holding {
+            Holding::Own(bytes) => Ok(Octets {
+                holding: Holding::Shared(Bytes::from_vec(bytes)?),
+            }),
+            holding => Ok(Octets { holding }),
+        }
+    }
+}
+
+/// One call, so that a proof of who drops octets doesn't ask where they are.
+impl Drop for Octets {
+    fn drop(self) {
+        let Octets { holding } = self;
+        drop(holding);
     }
 }
 
@@ -69,7 +108,9 @@ impl From<Vec<u8>> for Octets {
     ghost from_gives = { λ bytes octets. octets ≡ bytes.items };
 
     fn from(bytes: Vec<u8>) -> Octets {
-        Octets { bytes }
+        Octets {
+            holding: Holding::Own(bytes),
+        }
     }
 }
 

@@ -10,7 +10,7 @@ pub fn octets(alloc: Global) -> Result<bool> {
     let octets = Octets::from(BYTES.to_vec(alloc)?);
     let copy = octets.copy()?;
     let text = format!(in alloc; "{octets:?}")?;
-    let clone = octets.clone()?.into_vec();
+    let clone = octets.clone()?;
     Ok(
         octets.as_slice() == BYTES.as_slice()
             && octets.len() == 3

@@ -3,11 +3,11 @@ use Rattle.hpack_codec.proofs.Decoding.{taking_none, taking_more, too_large, who
 use Rattle.hpack_codec.proofs.decoder.fields_of.Goals as goal
 
 pub loop-rest-init : goal.loop-rest-init
-loop-rest-init c = rw c.new-fields.ensures.items (taking_none c.args.table.now c.args.bytes.now c.requires)
+loop-rest-init c = rw c.in_ok-fields.ensures.items (taking_none c.args.table.now c.args.bytes.now c.requires)
 
 pub returns-in_err-field-clause-err : goal.returns-in_err-field-clause-err
 returns-in_err-field-clause-err c =
-    let p = err_from_is_err_and c.from_residual.result c.from_residual.ensures.1 in
+    let p = err_from_is_err_and c.from_residual-in_err-field.result c.from_residual-in_err-field.ensures.1 in
     rw (p.1, p.2)
     (fields_fault _ c.args.table.now c.loop-rest.table c.args.bytes.now c.loop-rest.rest.now c.loop-rest.fields.items c.loop-rest.room
     c.loop-rest.invariant c.in_err-field.ensures.err)
