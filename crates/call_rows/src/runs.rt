@@ -39,6 +39,11 @@ fn run_lists<R: Print + AllocGlobal>(rt: &R) -> Result<()> {
     tell(rt, "octets are their bytes", values::octets(alloc)?)?;
     tell(
         rt,
+        "octets share their bytes",
+        values::shared_octets(alloc)?,
+    )?;
+    tell(
+        rt,
         "fields and sequences are copied whole",
         values::fields(alloc)?,
     )?;

@@ -76,7 +76,7 @@ impl DynamicTable {
         }
     }
 
-    /// The field at an index of both tables. Its bytes are the entry's, so it takes no memory.
+    /// The field at an index of both tables. It takes no memory where the entry shares its bytes, or the static table has it.
     pub fn field(&self, index: u32) -> Result<Option<Field>, AllocError>
         ensures { IfOk result (λ found. entry_at self.now index ≡ found) }
     {
