@@ -14,7 +14,7 @@ use Rattle.session.specs.declared.event.InEvent.{InEvent}
 use Rattle.session.specs.declared.event.InEvent.TheVariants as events
 use Rattle.session.specs.StreamData.{Ending, Unended, Finished, Aborted, piece_of, pieces, end_told, first_end, ending_told}
 use Rattle.session.proofs.StreamEnds.{told_append}
-use Rattle.slots.specs.Steps.{Cause, Fate, Plain, Admitted, Unserved, Unknown, TurnedAway, Received, Missed, Lacking, Step, Told, CutOff, Drains, Lacks, admitted, admitted_by, data_at, discarded, earlier, events_of, fed_by, is_of, lost, once, shut_at, shut_by, since, unless}
+use Rattle.slots.specs.Steps.{Fate, Plain, Admitted, Unserved, Unknown, TurnedAway, Received, Missed, Lacking, Step, Told, CutOff, Drains, Lacks, admitted, admitted_by, data_at, discarded, earlier, events_of, fed_by, is_of, lost, once, shut_at, shut_by, since, unless}
 use Rattle.slots.proofs.HalfLemmas.{same_number}
 use Rattle.slots.proofs.LawLemmas.{fed-open, none-before, pieces-push}
 
