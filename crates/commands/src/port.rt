@@ -21,9 +21,8 @@ use std::{io, thread};
 /// How many threads are to wait for a connection where there were too few.
 const WAITING: usize = 4;
 
-/// How many threads wait for a connection at most, so that as many that come at once wait for no thread to start. One more ends once
-/// its connection has.
-const MOST_WAITING: usize = 1024;
+/// How many threads wait for a connection at most. One more ends once its connection has.
+const MOST_WAITING: usize = 16;
 
 /// How long no connection is taken after one could not be, in milliseconds.
 const PAUSE: u64 = 10;
