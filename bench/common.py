@@ -12,6 +12,7 @@ import sys
 
 ROOT = os.path.dirname(os.path.dirname(os.path.abspath(__file__)))
 PROGRAM = f"{ROOT}/crates/bench/out/bench"
+THREE_THREADS = f"{ROOT}/bench/out/release/three_threads"
 SCRIPT = f"bench/{os.path.basename(sys.argv[0])}"
 
 
@@ -31,6 +32,11 @@ def build(*words, folder=ROOT):
     needs(words[0])
     if subprocess.run(words, cwd=folder, stdin=subprocess.DEVNULL, stdout=subprocess.DEVNULL, check=False).returncode:
         stop(f"`{' '.join(words)}` failed in {os.path.relpath(folder, ROOT)}, so nothing was measured")
+
+
+def build_three_threads():
+    """Builds the program that only starts threads and hands over between them (bench/three_threads). It needs cargo, and no network."""
+    build("cargo", "build", "--offline", "--quiet", "--release", "--manifest-path", "bench/three_threads/Cargo.toml", "--target-dir", "bench/out")
 
 
 def printed(*command, **how):

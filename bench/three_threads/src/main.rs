@@ -3,9 +3,13 @@
 //! `three_threads trips THREADS COUNT` prints the nanoseconds of a round trip of 30 bytes over loopback, as of a message and its reply.
 //! `three_threads window THREADS MIB` prints those of so many MiB in frames of 16,384 bytes behind a window of 65,535 bytes, half of which
 //! is given back at a time. THREADS is 1, 2 or 3: one that reads and writes, one that reads and one that writes, or all three.
+//!
+//! `three_threads connections` serves the listener that is its standard input, each connection by a thread that reads and one that writes
+//! SETTINGS and their acknowledgement.
 
-use std::io::{Read, Result, Write};
+use std::io::{stdin, Read, Result, Write};
 use std::net::{TcpListener, TcpStream};
+use std::os::fd::AsFd;
 use std::sync::atomic::{AtomicU64, Ordering::SeqCst};
 use std::sync::Arc;
 use std::thread::{self, Thread};
@@ -129,8 +133,55 @@ fn window(mut server: TcpStream, mib: u64) -> Result<()> {
     Ok(())
 }
 
+/// Each of these is one empty frame; the second has the flag ACK.
+const SETTINGS: &[u8] = &[0, 0, 0, 4, 0, 0, 0, 0, 0];
+const ACKNOWLEDGED: &[u8] = &[0, 0, 0, 4, 1, 0, 0, 0, 0];
+/// What a writer is handed once nothing more comes.
+const ENDED: u64 = u64::MAX;
+
+fn connections() -> Result<()> {
+    let listener = TcpListener::from(stdin().as_fd().try_clone_to_owned()?);
+    loop {
+        let (stream, _) = listener.accept()?;
+        thread::spawn(move || read_all(Arc::new(stream)));
+    }
+}
+
+/// Reads to the end of a connection, beside a thread that writes.
+fn read_all(stream: Arc<TcpStream>) -> Result<()> {
+    stream.set_nodelay(true)?;
+    let output = Arc::clone(&stream);
+    let stage = Arc::new(Stage { bytes: AtomicU64::new(0), next: None });
+    let own = Arc::clone(&stage);
+    let writer = thread::spawn(move || {
+        let mut output = &*output;
+        // The client has gone where a write fails.
+        let _ = output.write_all(SETTINGS);
+        let mut seen = own.more_than(0);
+        let _ = output.write_all(ACKNOWLEDGED);
+        while seen != ENDED {
+            seen = own.more_than(seen);
+        }
+    });
+    let mut piece = [0; 2048];
+    let mut came = 0;
+    loop {
+        let count = (&*stream).read(&mut piece).unwrap_or(0);
+        came += count as u64;
+        stage.hand_over(if count == 0 { ENDED } else { came });
+        writer.thread().unpark();
+        if count == 0 {
+            let _ = writer.join();
+            return Ok(());
+        }
+    }
+}
+
 fn main() -> Result<()> {
     let words: Vec<String> = std::env::args().collect();
+    if words.get(1).is_some_and(|it| it == "connections") {
+        return connections();
+    }
     let number = |at: usize| words.get(at).and_then(|it| it.parse().ok()).unwrap_or(1);
     let (is_window, threads, count) = (words.get(1).is_some_and(|it| it == "window"), number(2) as usize, number(3));
     let listener = TcpListener::bind("127.0.0.1:0")?;
