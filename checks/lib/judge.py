@@ -355,7 +355,8 @@ def judge_rows(client, wanted, written, outcome, lacks):
 
 def judge_stream(asked, answer, stream, row, outcome, lacks):
     """What stands on the stream begins what is wanted, and breaks off only where there is a cause. A call that is left for want of
-    memory once the input has ended needs no reset, since the connection ends."""
+    memory once the input has ended needs no reset, since the connection ends. Where the connection ends with an error, all calls do
+    (RFC 9113, section 5.4.1): one may be answered so before the GOAWAY is written."""
     lines = stream.lines
     rest = begun(lines, answer.lines)
     if asked.is_reset:
@@ -370,8 +371,10 @@ def judge_stream(asked, answer, stream, row, outcome, lacks):
     if not rest:
         is_left = lacks and row and row.status is None
         want(is_left or outcome.ending in CUT, f"it has {lines} alone, and {answer.lines} were wanted")
-    elif rest == ["reset 8"] or is_ended_by(CANCELLED, rest):
+    elif rest == ["reset 8"]:
         want(not asked.is_ended, f"it has {rest}, though its half ended")
+    elif is_ended_by(CANCELLED, rest):
+        want(not asked.is_ended or outcome.ending in CUT, f"it has {rest}, though its half ended, and the connection ended with no error")
     else:
         is_without_memory = is_ended_by(NO_MEMORY, rest) or rest in (["reset 2"], ["reset 11"])
         want(lacks and is_without_memory, f"it has {rest} in place of {answer.lines}")
