@@ -70,7 +70,8 @@ impl<A: Ledger, B: Ledger, C: Ledger> Outlet<A, B, C> {
     }
 }
 
-/// Has the writer owe the peer what credit is due on a stream, or on the connection where it is 0.
+/// Has the writer owe the peer what credit is due on a stream, or on the connection where it is 0. It stays due on a stream that the
+/// writer hasn't opened yet, though the reader has admitted its call and its worker given bytes back: what is granted there wouldn't count.
 fn announce_on<A, B, C, W>(
     book: &mut ConnBook<A, B, C>,
     told: &mut Share<C>,
@@ -87,6 +88,9 @@ where
     ensures leads { LeadsTo W.contents W.failed told.old.amount writing.old
         told.new.amount writing.new }
 {
+    if !writing.takes_credit(id) {
+        return;
+    }
     let increment = book.announce(id, told);
     if increment > 0 {
         writing.grant(id, increment);

@@ -8,7 +8,7 @@ ghost use Rattle.std.specs.Io.KnownBytes.{Appends};
 ghost use Rattle.device.specs.Bytes.{AppendsPrefix};
 ghost use Rattle.flow.specs.Windows.{room};
 ghost use Rattle.outwriter.specs.Calls.{TellFronts, TellReturned, TellOthers};
-ghost use Rattle.outwriter.specs.Cores.{calls, lanes, lane_and_past, open_stream, IsUnused};
+ghost use Rattle.outwriter.specs.Cores.{calls, lanes, lane_and_past, open_stream, takes_credit, IsUnused};
 ghost use Rattle.outwriter.specs.Drains.{has_failed, is_going_away, was_probed};
 ghost use Rattle.outwriter.specs.Frames.{IsSound, ends_stream};
 ghost use Rattle.outwriter.specs.LeftCalls.{WasLeft, WasNotLeft};
@@ -194,8 +194,17 @@ impl<L: Lane<Item = OutItem>, W: ConnWrite> ConnWriter<L, W> {
         }
     }
 
+    /// Whether credit that is granted on a stream counts: its Open was taken, and it wasn't reset. On the connection, which is
+    /// stream 0, it always does.
+    pub fn takes_credit(&self, id: StreamId) -> bool
+        ensures { result ≡ takes_credit self.now.core id }
+    {
+        self.core.takes_credit(id)
+    }
+
     /// Owes n bytes more of credit, on a stream, or on the connection where it is 0.
     pub fn grant(&mut self, id: StreamId, n: u32)
+        requires counts { takes_credit self.old.core id ≡ true }
         ensures wrote { WritesOn L.got W.contents W.failed (Granted id n ∷ []) self.old self.new }
         ensures senders { self.new.core.sending.senders ≡ self.old.core.sending.senders }
         ensures rest { self.new ≡ record self.old { core = self.new.core } }

@@ -1,9 +1,9 @@
 -- What callers see of a writer's core: which runs lead to it, and where no frame comes from it.
-use Rattle.std.specs.Prelude.{◌≡◌, ◌⊎◌, ℕ, true, false, All, List, [], ◌∷◌, ◌++◌, map, get_or, Option, None, Some, Result, Ok, Err}
+use Rattle.std.specs.Prelude.{◌≡◌, ◌⊎◌, ℕ, Bool, true, false, All, List, [], ◌∷◌, ◌++◌, map, get_or, Option, None, Some, Result, Ok, Err}
 use Rattle.account.specs.declared.call.OutItem.{OutItem}
 use Rattle.callbox.specs.declared.sender.Sender.{Sender}
 use Rattle.flow.specs.Windows.{room}
-use Rattle.outwriter.specs.States.{open_at}
+use Rattle.outwriter.specs.States.{open_at, pays}
 use Rattle.outwriter.specs.declared.control.Control.{Control}
 use Rattle.outwriter.specs.declared.control.Control.TheVariants.{Open, Goaway}
 use Rattle.outwriter.specs.declared.control.OutFault.{OutFault}
@@ -43,6 +43,10 @@ module _ {L In Out Shut : Type 0} where
   -- what is kept of a stream, if it is open
   abbrev pub open_stream : OutCore L In Out Shut → ℕ → Option OpenStream
   open_stream core id = (open_at core.sending.outbound.states) id
+
+  -- credit that is granted on a stream counts (RFC 9113, section 6.9): it is the stream of a call that wasn't reset, or the connection, stream 0
+  abbrev pub takes_credit : OutCore L In Out Shut → ℕ → Bool
+  takes_credit core id = pays core.sending.outbound.states id
 
   -- each call's stream, with the items that its sender gave, in the order of the Opens
   abbrev pub calls : (Out → List OutItem) → List (ℕ × Sender L In Out Shut) → List (ℕ × List OutItem)

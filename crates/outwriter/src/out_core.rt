@@ -9,8 +9,9 @@
 
 ghost use Rattle.std.specs.Prelude.{◌≡◌, ◌≢◌, ◌&&◌, ◌||◌, not, ℕ, List, [], ◌∷◌, Some, None, Err, false, true, IsOk, OnOk, IfErr, IfSome};
 ghost use Rattle.outwriter.specs.CallState.{Takes, none_is_new};
-ghost use Rattle.outwriter.specs.Cores.{Brings, Leads, LeadsControl, LeadsOn, LeadsStill, calls, open_stream};
+ghost use Rattle.outwriter.specs.Cores.{Brings, Leads, LeadsControl, LeadsOn, LeadsStill, calls, open_stream, takes_credit};
 ghost use Rattle.outwriter.specs.declared.control.OutFault.TheVariants as out_fault;
+ghost use Rattle.outwriter.specs.Runs.{may_owe};
 ghost use Rattle.outwriter.specs.RunState.{Blames, Concerns, HasRoom, is_held};
 ghost use Rattle.flow.specs.Windows.{room};
 ghost use Rattle.outwriter.specs.Calls.{TellFronts, TellReturned, TellOthers};
@@ -228,9 +229,21 @@ impl<L: Lane<Item = OutItem>> OutCore<L> {
         }
     }
 
+    /// Whether credit that is granted on a stream counts: its Open was taken, and it wasn't reset. On the connection, which is
+    /// stream 0, it always does.
+    pub fn takes_credit(&self, id: StreamId) -> bool
+        ensures value { result ≡ takes_credit self.now id }
+        ensures owes { self.now.is_dead ≡ false → (run : List Step) → Leads L.got run self.now
+            → result ≡ may_owe id run }
+    {
+        self.sending.outbound.states.pays(id)
+    }
+
     /// Owes n bytes more of credit, which a WINDOW_UPDATE will tell: on a stream, or on the connection where it is 0. At
-    /// most 2^31 - 1 are owed at once. Nothing changes for a stream of no call, for one that was reset, and of a dead core.
+    /// most 2^31 - 1 are owed at once. Nothing changes of a dead core.
     pub fn grant(&mut self, id: StreamId, n: u32)
+        // So none is lost that was granted.
+        requires counts { takes_credit self.old id ≡ true }
         // That it is granted is the next step of the run, by which what is owed is counted.
         ensures leads { LeadsOn L.got (Granted id n) self.old self.new }
         ensures dead_stays { self.old.is_dead ≡ true → self.new ≡ self.old }

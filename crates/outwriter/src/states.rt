@@ -8,7 +8,7 @@ ghost use Rattle.indexmap.specs.IndexMap.{IsUnique};
 ghost use Rattle.flow.specs.WindowHistory.{CanCredit, CanResize, Closing, Credit, Follows, Resizing};
 ghost use Rattle.flow.specs.WindowHistory.{Step as WindowStep};
 ghost use Rattle.flow.specs.Windows.{CreditFault, Meets, room};
-ghost use Rattle.outwriter.specs.States.{nothing_known, open_at, is_reset, state_on, amount_of, by_reset, more, is_heard, can_write, balance_after as balance_after_of, fits_with, room_in, steps_of, Changes, CreditsEntry, CreditsStream, IsAfter, KeepsAmount, PutsAfter, SetsBalance, Hears, Opens, BecomesOpen, Grants, Moves, Resets, SameButWindows, SameEnds, SameOver, SameOwed, SameOpen, StandAs, SetsEnd, Edits, TakesAll, Adds, AllFit, IsSettledBut, IsSettledFrom, TakesAt, TakesLast, opened_of, opening};
+ghost use Rattle.outwriter.specs.States.{nothing_known, open_at, is_reset, pays, state_on, amount_of, by_reset, more, is_heard, can_write, balance_after as balance_after_of, fits_with, room_in, steps_of, Changes, CreditsEntry, CreditsStream, IsAfter, KeepsAmount, PutsAfter, SetsBalance, Hears, Opens, BecomesOpen, Grants, Moves, Resets, SameButWindows, SameEnds, SameOver, SameOwed, SameOpen, StandAs, SetsEnd, Edits, TakesAll, Adds, AllFit, IsSettledBut, IsSettledFrom, TakesAt, TakesLast, opened_of, opening};
 ghost use Rattle.outwriter.specs.Resizes.{FitsOn};
 ghost use Rattle.outwriter.specs.Cores.{calls, lanes, lane_and_past};
 ghost use Rattle.outwriter.specs.Data.{BeginsOnStream, LooksAtStream};
@@ -69,6 +69,17 @@ impl StreamState {
             StreamState::NoCall { .. } => false,
             StreamState::Call { .. } => true,
             StreamState::Reset { is_call, .. } => *is_call,
+        }
+    }
+
+    /// Whether credit may be owed on it.
+    fn is_paid(&self) -> bool
+        ensures { result ≡ is_paid self.now }
+    {
+        match self {
+            StreamState::Call { .. } => true,
+            StreamState::NoCall { .. } => false,
+            StreamState::Reset { .. } => false,
         }
     }
 
@@ -426,6 +437,13 @@ impl StreamStates {
             Some(stream) => stream.opened.is_some(),
             None => false,
         }
+    }
+
+    /// Whether credit may be owed on a stream: it is a call's that wasn't reset, or the connection, which is 0.
+    pub(crate) fn pays(&self, id: StreamId) -> bool
+        ensures { result ≡ pays self.now id }
+    {
+        id == 0 || self.state(id).is_paid()
     }
 
     /// Whether a stream is open, and takes no turns.

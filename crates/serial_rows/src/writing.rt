@@ -116,12 +116,15 @@ impl Writing {
         self.announce_on(credit, 0);
     }
 
-    /// The same of a stream, or of the connection where it is 0.
+    /// The same of a stream, or of the connection where it is 0. It stays due where the writer hasn't opened the stream.
     fn announce_on<A: Ledger, B: Ledger, C: Ledger>(
         &mut self,
         credit: &mut Credit<A, B, C>,
         id: StreamId,
     ) {
+        if !self.machine.takes_credit(id) {
+            return;
+        }
         let increment = credit.announce(id);
         if increment > 0 {
             self.machine.grant(id, increment);

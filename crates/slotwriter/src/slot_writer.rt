@@ -5,7 +5,7 @@ ghost use Rattle.lane.specs.Ring.{taken};
 ghost use Rattle.lane.specs.RingLane.{got};
 ghost use Rattle.h2frame.specs.declared.error_code.ErrorCode.{ErrorCode as Code};
 ghost use Rattle.h2frame.specs.declared.error_code.ErrorCode.TheVariants.{FlowControlError};
-ghost use Rattle.outwriter.specs.Cores.{IsUnused, open_stream};
+ghost use Rattle.outwriter.specs.Cores.{IsUnused, open_stream, takes_credit};
 ghost use Rattle.outwriter.specs.LeftCalls.{WasLeft};
 ghost use Rattle.outwriter.specs.declared.control.Control.TheVariants as orders;
 ghost use Rattle.outwriter.specs.RunState.{is_held};
@@ -496,8 +496,17 @@ impl<W: ConnWrite + Drop> SlotWriter<W> {
 
     // ---- frames
 
+    /// Whether credit that is granted on a stream counts: the order that opens it was taken, and none
+    /// that resets it. On the connection, which is stream 0, it always does.
+    pub fn takes_credit(&self, id: StreamId) -> bool
+        ensures { result ≡ takes_credit self.now.frames.core id }
+    {
+        self.frames.takes_credit(id)
+    }
+
     /// Owes the peer n bytes more of credit, on a stream, or on the connection where it is 0.
     pub fn grant(&mut self, id: StreamId, n: u32)
+        requires counts { takes_credit self.old.frames.core id ≡ true }
         // On the connection just so much more credit was granted.
         ensures leads { (had has : ℕ) → has ≡ had + (if nat_eq id 0 then n else 0)
             → LeadsTo W.contents W.failed had self.old has self.new }

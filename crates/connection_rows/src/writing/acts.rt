@@ -4,7 +4,7 @@ use super::calls::{Ring, fields, sender};
 use super::peer::Peer;
 use anyhow::{Context, Result, bail};
 use callbox::Sender;
-use h2frame::{ErrorCode, PeerSetting, PeerSettings};
+use h2frame::{ErrorCode, PeerSetting, PeerSettings, StreamId};
 use outwriter::{Control, Next, OutCore, OutFault};
 use std::alloc::Global;
 use std::mem;
@@ -19,10 +19,7 @@ pub fn perform(alloc: Global, core: &mut Core, peer: &mut Peer, act: &str) -> Re
     let words = words.as_slice();
     match word(words, 0)? {
         "write" => write_all(core, peer, number(words, 1)?),
-        "grant" => {
-            core.grant(number(words, 1)?, number(words, 2)?);
-            Ok(())
-        }
+        "grant" => grant(core, peer, number(words, 1)?, number(words, 2)?),
         "held" => {
             let is_held = core.held(number(words, 1)?);
             peer.tell(if is_held { "held" } else { "free" })
@@ -31,6 +28,15 @@ pub fn perform(alloc: Global, core: &mut Core, peer: &mut Peer, act: &str) -> Re
         "senders" => tell_senders(mem::replace(core, Core::new(alloc)), peer),
         _ => take(core, peer, order(alloc, words)?),
     }
+}
+
+/// Owes credit, where it counts.
+fn grant(core: &mut Core, peer: &mut Peer, id: StreamId, n: u32) -> Result<()> {
+    if !core.takes_credit(id) {
+        return peer.tell("stays");
+    }
+    core.grant(id, n);
+    Ok(())
 }
 
 /// Takes a control. One that is refused for what it says is told.
