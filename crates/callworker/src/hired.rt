@@ -14,9 +14,12 @@ use std::marker::PhantomData;
 use std::snapshot::Snapshot;
 use std::sync::ledger::Ledger;
 use std::sync::{Arc, Wait};
-use std::thread;
-use std::thread::{Promise, PromisedHandle, Threads};
+use std::thread::{Builder, Promise, PromisedHandle, Threads};
 use std::time::Clock;
+
+/// How large the stacks of a connection's threads are, in bytes. They need less than 20,000: nothing that they call calls itself. Those of the
+/// usual size, 8 MiB, take address space, and longer to make.
+pub const STACK: usize = 262_144;
 
 /// What a worker was given. It promises that the ends that it hands back are of the same lanes and ring, and that each job that it took
 /// has its row, as these ends say, and as is known of what methods answer.
@@ -57,7 +60,7 @@ where
         requires unused { IsUnused ends }
         ensures { HasWorked M.known ends result }
     { worker.work::<M, R>(&rt, &methods, ends) };
-    match thread::spawn_with(&rt, hired, job) {
+    match Builder::new().stack_size(STACK).spawn_with(&rt, hired, job) {
         Ok(handle) => Some(handle),
         Err(_refused) => None,
     }

@@ -25,7 +25,7 @@ pub mod worker;
 pub use answering::Answering;
 pub use ends::Ends;
 pub use gate::{Gate, OpenGate};
-pub use hired::{Hired, hire};
+pub use hired::{Hired, STACK, hire};
 pub use jobs::next_call;
 pub use shared::Shared;
 pub use worker::{Worker, moment};

@@ -8,13 +8,14 @@ use crate::log::{Logs, ended_of};
 use crate::reporter::Reporter;
 use crate::stopping::Stop;
 use crate::stream::{Ended, serve_stream};
+use connection::STACK;
 use handlers::Methods;
 use lane::Bell;
 use std::alloc::{AllocError, Global};
 use std::net::{SocketAddr, TcpListener, TcpStream};
 use std::sync::atomic::{AtomicUsize, Ordering};
 use std::sync::{Arc, Wait};
-use std::thread::{JoinHandle, Threads};
+use std::thread::{Builder, JoinHandle, Threads};
 use std::time::{Clock, Duration};
 use std::{io, thread};
 
@@ -139,7 +140,7 @@ where
 {
     let shared = Arc::try_clone(port)?;
     port.waiting.fetch_add(1, Ordering::SeqCst);
-    let serving = thread::spawn(&rt, move || {
+    let serving = Builder::new().stack_size(STACK).spawn(&rt, move || {
         take_connections(rt, alloc, &shared);
     });
     if serving.is_err() {
@@ -206,7 +207,7 @@ where
     let shared = Arc::try_clone(port)?;
     let (stream, peer) = port.listener.accept()?;
     let is_awaited = port.service.note_taken(&rt);
-    let serving = thread::spawn(&rt, move || {
+    let serving = Builder::new().stack_size(STACK).spawn(&rt, move || {
         let _served = serve_one(rt, alloc, &shared.service, stream, peer);
         if is_last {
             shared.service.stop_all(&rt);

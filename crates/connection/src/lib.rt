@@ -34,7 +34,7 @@ mod served;
 mod writer;
 
 pub use callslot::{CallReport, Ending};
-pub use callworker::{Gate, OpenGate};
+pub use callworker::{Gate, OpenGate, STACK};
 pub use drain::{DrainSeat, Drainer};
 pub use serve::{serve_connection, serve_undrained};
 pub use served::Served;

@@ -10,7 +10,7 @@ ghost use Rattle.slotwriter.specs.Written.{HasSent, HasWritten, IsFlushed, Led, 
 use crate::orders::{Orders, Route};
 use crate::outlet::Outlet;
 use callslot::Order;
-use callworker::Gate;
+use callworker::{Gate, STACK};
 use connwriter::Filled;
 use device::ConnWrite;
 use h2frame::StreamId;
@@ -21,8 +21,7 @@ use std::alloc::Global;
 use std::snapshot::Snapshot;
 use std::sync::ledger::{Ledger, Share};
 use std::sync::{Arc, Wait};
-use std::thread;
-use std::thread::{Promise, PromisedHandle, Threads};
+use std::thread::{Builder, Promise, PromisedHandle, Threads};
 use std::time::Duration;
 
 /// How long the writer waits at most before it looks again, in milliseconds.
@@ -431,7 +430,7 @@ where
             result.written.blamed.items result.written.device }
         ensures parts { result.told.parts ≡ writer.outlet.told.parts }
     { writer.write(&rt) };
-    match thread::spawn_with(&rt, begun, write) {
+    match Builder::new().stack_size(STACK).spawn_with(&rt, begun, write) {
         Ok(handle) => Ok(handle),
         Err(refused) => {
             orders.put(&rt, Control::InputEnded);

@@ -470,7 +470,7 @@ impl<L: Lane<Item = OutItem>, W: ConnWrite> ConnWriter<L, W> {
     }
 }
 
-/// Room for one frame more, and for one stream more in both lists.
+/// Room for one frame more, and for one stream more in both lists. A buffer without memory gets all that it needs, so that it never moves.
 fn make_room(
     buffer: &mut Vec<u8>,
     ended: &mut Vec<StreamId>,
@@ -483,7 +483,8 @@ fn make_room(
     ensures room { OnOk result (vec_len ended.new < vec_capacity ended.new) }
     ensures room_to_note { OnOk result (vec_len streams.new < vec_capacity streams.new) }
 {
-    buffer.reserve(LONGEST_FRAME)?;
+    let bytes = if buffer.is_empty() { BUFFER } else { LONGEST_FRAME };
+    buffer.reserve(bytes)?;
     ended.reserve(1)?;
     streams.reserve(1)
 }
