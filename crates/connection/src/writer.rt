@@ -430,7 +430,10 @@ where
             result.written.blamed.items result.written.device }
         ensures parts { result.told.parts ≡ writer.outlet.told.parts }
     { writer.write(&rt) };
-    match Builder::new().stack_size(STACK).spawn_with(&rt, begun, write) {
+    match Builder::new()
+        .stack_size(STACK)
+        .spawn_with(&rt, begun, write)
+    {
         Ok(handle) => Ok(handle),
         Err(refused) => {
             orders.put(&rt, Control::InputEnded);

@@ -483,7 +483,11 @@ fn make_room(
     ensures room { OnOk result (vec_len ended.new < vec_capacity ended.new) }
     ensures room_to_note { OnOk result (vec_len streams.new < vec_capacity streams.new) }
 {
-    let bytes = if buffer.is_empty() { BUFFER } else { LONGEST_FRAME };
+    let bytes = if buffer.is_empty() {
+        BUFFER
+    } else {
+        LONGEST_FRAME
+    };
     buffer.reserve(bytes)?;
     ended.reserve(1)?;
     streams.reserve(1)
