@@ -5,14 +5,14 @@
 //! is given back at a time. THREADS is 1, 2 or 3: one that reads and writes, one that reads and one that writes, or all three.
 //!
 //! `three_threads connections` serves the listener that is its standard input, each connection by a thread that reads and one that writes
-//! SETTINGS and their acknowledgement.
+//! SETTINGS and their acknowledgement, and by a third one where a call comes with the first bytes, whose answer is that to an EmptyCall.
 
 use std::io::{stdin, Read, Result, Write};
 use std::net::{TcpListener, TcpStream};
 use std::os::fd::AsFd;
-use std::sync::atomic::{AtomicU64, Ordering::SeqCst};
+use std::sync::atomic::{AtomicBool, AtomicU64, AtomicUsize, Ordering::SeqCst};
 use std::sync::Arc;
-use std::thread::{self, Thread};
+use std::thread::{self, JoinHandle, Thread};
 use std::time::Instant;
 
 const HEAD: u64 = 9;
@@ -136,45 +136,97 @@ fn window(mut server: TcpStream, mib: u64) -> Result<()> {
 /// Each of these is one empty frame; the second has the flag ACK.
 const SETTINGS: &[u8] = &[0, 0, 0, 4, 0, 0, 0, 0, 0];
 const ACKNOWLEDGED: &[u8] = &[0, 0, 0, 4, 1, 0, 0, 0, 0];
-/// What a writer is handed once nothing more comes.
-const ENDED: u64 = u64::MAX;
+/// HEADERS, DATA with an empty message, and HEADERS with status 0, all of stream 1.
+const ANSWER: &[u8] = b"\0\0\x0e\x01\x04\0\0\0\x01\x88\x5f\x8b\x1d\x75\xd0\x62\x0d\x26\x3d\x4c\x4d\x65\x64\
+    \0\0\x05\0\0\0\0\0\x01\0\0\0\0\0\
+    \0\0\x0c\x01\x05\0\0\0\x01\x40\x88\x9a\xca\xc8\xb2\x12\x34\xda\x8f\x01\x30";
+/// How many bytes come first at least where a call is among them: more than the preface, SETTINGS and WINDOW_UPDATE.
+const CALL: usize = 100;
+/// How many threads whose connections have ended wait for a next one.
+const MOST_WAITING: usize = 16;
+
+/// What the threads of a connection tell each other.
+struct Link {
+    stream: TcpStream,
+    has_come: AtomicBool,
+    is_answered: AtomicBool,
+    has_ended: AtomicBool,
+}
 
 fn connections() -> Result<()> {
-    let listener = TcpListener::from(stdin().as_fd().try_clone_to_owned()?);
+    let listener = Arc::new(TcpListener::from(stdin().as_fd().try_clone_to_owned()?));
+    let waiting = Arc::new(AtomicUsize::new(0));
     loop {
         let (stream, _) = listener.accept()?;
-        thread::spawn(move || read_all(Arc::new(stream)));
+        let (listener, waiting) = (Arc::clone(&listener), Arc::clone(&waiting));
+        thread::spawn(move || {
+            let _ = read_all(stream);
+            take_more(&listener, &waiting)
+        });
     }
 }
 
-/// Reads to the end of a connection, beside a thread that writes.
-fn read_all(stream: Arc<TcpStream>) -> Result<()> {
-    stream.set_nodelay(true)?;
-    let output = Arc::clone(&stream);
-    let stage = Arc::new(Stage { bytes: AtomicU64::new(0), next: None });
-    let own = Arc::clone(&stage);
-    let writer = thread::spawn(move || {
-        let mut output = &*output;
-        // The client has gone where a write fails.
-        let _ = output.write_all(SETTINGS);
-        let mut seen = own.more_than(0);
-        let _ = output.write_all(ACKNOWLEDGED);
-        while seen != ENDED {
-            seen = own.more_than(seen);
-        }
-    });
-    let mut piece = [0; 2048];
-    let mut came = 0;
-    loop {
-        let count = (&*stream).read(&mut piece).unwrap_or(0);
-        came += count as u64;
-        stage.hand_over(if count == 0 { ENDED } else { came });
-        writer.thread().unpark();
-        if count == 0 {
-            let _ = writer.join();
-            return Ok(());
-        }
+/// A thread whose connection has ended takes the next one, unless enough others wait for it.
+fn take_more(listener: &TcpListener, waiting: &AtomicUsize) -> Result<()> {
+    while waiting.fetch_add(1, SeqCst) < MOST_WAITING {
+        let taken = listener.accept();
+        waiting.fetch_sub(1, SeqCst);
+        let _ = read_all(taken?.0);
     }
+    waiting.fetch_sub(1, SeqCst);
+    Ok(())
+}
+
+/// Reads to the end of a connection, beside a thread that writes and, where a call comes, one that answers.
+fn read_all(stream: TcpStream) -> Result<()> {
+    stream.set_nodelay(true)?;
+    let new = || AtomicBool::new(false);
+    let link = Arc::new(Link { stream, has_come: new(), is_answered: new(), has_ended: new() });
+    let writer = write_all(Arc::clone(&link));
+    let mut worker: Option<JoinHandle<()>> = None;
+    let mut piece = [0; 2048];
+    loop {
+        let count = (&link.stream).read(&mut piece).unwrap_or(0);
+        if count == 0 {
+            break;
+        }
+        link.has_come.store(true, SeqCst);
+        if count >= CALL && worker.is_none() {
+            worker = Some(answer(Arc::clone(&link), writer.thread().clone()));
+        }
+        writer.thread().unpark();
+    }
+    link.has_ended.store(true, SeqCst);
+    for thread in worker.into_iter().chain([writer]) {
+        thread.thread().unpark();
+        let _ = thread.join();
+    }
+    Ok(())
+}
+
+/// A thread that writes. Its client has gone where a write fails.
+fn write_all(link: Arc<Link>) -> JoinHandle<()> {
+    thread::spawn(move || {
+        let mut left = [(&link.has_come, ACKNOWLEDGED), (&link.is_answered, ANSWER)].into_iter().peekable();
+        let _ = (&link.stream).write_all(SETTINGS);
+        while !link.has_ended.load(SeqCst) {
+            while let Some((_, frames)) = left.next_if(|(is_due, _)| is_due.load(SeqCst)) {
+                let _ = (&link.stream).write_all(frames);
+            }
+            thread::park();
+        }
+    })
+}
+
+/// A thread that answers a call, and waits for the next.
+fn answer(link: Arc<Link>, writer: Thread) -> JoinHandle<()> {
+    thread::spawn(move || {
+        link.is_answered.store(true, SeqCst);
+        writer.unpark();
+        while !link.has_ended.load(SeqCst) {
+            thread::park();
+        }
+    })
 }
 
 fn main() -> Result<()> {
