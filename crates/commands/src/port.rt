@@ -1,8 +1,8 @@
 //! The threads that serve a port.
 //!
-//! Where all connections that come are served, each thread takes one, serves it to its end, and takes the next one. So a client
-//! that makes a connection a call waits for no thread to start. A connection that stays keeps its thread, and one more is started
-//! for those that come. Where only so many are served, each has a thread of its own.
+//! One thread takes connections, and starts a thread for each that it takes. Where all that come are served, a thread whose
+//! connection has ended takes connections too, beside that one: so a client that makes a connection a call seldom waits for a
+//! thread to start. Where only so many are served, each has a thread of its own.
 
 use crate::log::{Logs, ended_of};
 use crate::reporter::Reporter;
@@ -10,7 +10,6 @@ use crate::stopping::Stop;
 use crate::stream::{Ended, serve_stream};
 use connection::STACK;
 use handlers::Methods;
-use lane::Bell;
 use std::alloc::{AllocError, Global};
 use std::net::{SocketAddr, TcpListener, TcpStream};
 use std::sync::atomic::{AtomicUsize, Ordering};
@@ -19,17 +18,11 @@ use std::thread::{Builder, JoinHandle, Threads};
 use std::time::{Clock, Duration};
 use std::{io, thread};
 
-/// How many threads are to wait for a connection where there were too few.
-const WAITING: usize = 4;
-
-/// How many threads wait for a connection at most. One more ends once its connection has.
+/// How many threads whose connections have ended wait for a next one at most. One more ends.
 const MOST_WAITING: usize = 16;
 
 /// How long no connection is taken after one could not be, in milliseconds.
 const PAUSE: u64 = 10;
-
-/// How long a thread sleeps at most before it looks again at what it waits for, in seconds.
-const LOOK: u64 = 3600;
 
 /// What all connections to a port are served by.
 #[derive(Drop)]
@@ -43,14 +36,23 @@ pub struct Service<L> {
     pub stop: Option<Arc<Stop>>,
 }
 
-/// A port, and how many threads wait for a connection to it, those too that pause before they try again.
+/// A port, and how many threads whose connections have ended wait for a next one.
 #[derive(Drop)]
 struct Port<L> {
     listener: TcpListener,
     service: Service<L>,
     waiting: AtomicUsize,
-    /// Rung where the last one that waited has taken a connection.
-    wanted: Bell,
+}
+
+/// What a thread does once the connection that it was started for has ended.
+#[derive(Clone, Copy)]
+enum Afterwards {
+    /// It takes more connections.
+    TakesMore,
+    /// It ends.
+    Ends,
+    /// It has the server stop, since that connection was the last, and ends.
+    StopsServer,
 }
 
 /// Serves connections that come, until the server has stopped, if it does. A thread of its own takes them where it does.
@@ -74,7 +76,6 @@ where
             listener,
             service,
             waiting: AtomicUsize::new(0),
-            wanted: Bell::new(),
         },
     )?;
     let Some(stop) = stop else {
@@ -117,10 +118,7 @@ where
     L: Logs + Send + Sync + Drop + 'static,
 {
     for _ in rt.forever() {
-        let mark = port.wanted.mark();
-        if port.waiting.load(Ordering::SeqCst) >= WAITING {
-            port.wanted.wait_past(&rt, mark, Duration::from_secs(LOOK));
-        } else if start(rt, alloc, port).is_err() {
+        if serve_next(rt, alloc, port, Afterwards::TakesMore).is_err() {
             pause(&rt);
         }
     }
@@ -130,53 +128,6 @@ where
 /// Sleeps until another connection may be taken, or another thread started.
 fn pause(rt: &impl Clock) {
     let _ = thread::sleep(rt, Duration::from_millis(PAUSE));
-}
-
-/// Starts one more thread. That none can be made counts as want of memory.
-fn start<R, L>(rt: R, alloc: Global, port: &Arc<Port<L>>) -> Result<(), AllocError>
-where
-    R: Print + Threads + Wait + Clock + Copy + Send + Sync + Drop + 'static,
-    L: Logs + Send + Sync + Drop + 'static,
-{
-    let shared = Arc::try_clone(port)?;
-    port.waiting.fetch_add(1, Ordering::SeqCst);
-    let serving = Builder::new().stack_size(STACK).spawn(&rt, move || {
-        take_connections(rt, alloc, &shared);
-    });
-    if serving.is_err() {
-        port.waiting.fetch_sub(1, Ordering::SeqCst);
-        return Err(AllocError);
-    }
-    Ok(())
-}
-
-/// Takes one connection after another, and serves each to its end. It ends where enough others wait.
-fn take_connections<R, L>(rt: R, alloc: Global, port: &Port<L>)
-where
-    R: Print + Threads + Wait + Clock + Copy + Send + Sync + Drop + 'static,
-    L: Logs + Send + Sync + Drop + 'static,
-{
-    for _ in rt.forever() {
-        let Ok((stream, peer)) = port.listener.accept() else {
-            pause(&rt);
-            continue;
-        };
-        let is_awaited = port.service.note_taken(&rt);
-        let before = port.waiting.fetch_sub(1, Ordering::SeqCst);
-        if before <= 1 {
-            port.wanted.ring();
-        }
-        let served = serve_one(rt, alloc, &port.service, stream, peer);
-        port.service.note_ended(&rt, is_awaited);
-        let waiting = port.waiting.fetch_add(1, Ordering::SeqCst);
-        if waiting >= MOST_WAITING {
-            port.waiting.fetch_sub(1, Ordering::SeqCst);
-            return;
-        }
-        if served.is_err() {
-            pause(&rt);
-        }
-    }
 }
 
 /// Takes so many connections. Once the last of them has ended, the server stops.
@@ -190,7 +141,11 @@ where
         if left == 0 {
             return;
         }
-        if serve_next(rt, alloc, port, left == 1).is_ok() {
+        let afterwards = match left {
+            1 => Afterwards::StopsServer,
+            _ => Afterwards::Ends,
+        };
+        if serve_next(rt, alloc, port, afterwards).is_ok() {
             left -= 1;
         } else {
             pause(&rt);
@@ -198,8 +153,13 @@ where
     }
 }
 
-/// Takes the next connection, and serves it in a thread of its own. One that no thread can be made for is ended.
-fn serve_next<R, L>(rt: R, alloc: Global, port: &Arc<Port<L>>, is_last: bool) -> io::Result<()>
+/// Takes the next connection, and starts a thread that serves it. One that no thread can be made for is ended.
+fn serve_next<R, L>(
+    rt: R,
+    alloc: Global,
+    port: &Arc<Port<L>>,
+    afterwards: Afterwards,
+) -> io::Result<()>
 where
     R: Print + Threads + Wait + Clock + Copy + Send + Sync + Drop + 'static,
     L: Logs + Send + Sync + Drop + 'static,
@@ -209,16 +169,61 @@ where
     let is_awaited = port.service.note_taken(&rt);
     let serving = Builder::new().stack_size(STACK).spawn(&rt, move || {
         let _served = serve_one(rt, alloc, &shared.service, stream, peer);
-        if is_last {
+        if let Afterwards::StopsServer = afterwards {
             shared.service.stop_all(&rt);
         }
         shared.service.note_ended(&rt, is_awaited);
+        if let Afterwards::TakesMore = afterwards {
+            take_more(rt, alloc, &shared);
+        }
     });
     if serving.is_err() {
         port.service.note_ended(&rt, is_awaited);
         return Err(io::Error::from(io::ErrorKind::OutOfMemory));
     }
     Ok(())
+}
+
+/// Takes one connection after another, and serves each to its end, until enough other threads wait for the next one.
+fn take_more<R, L>(rt: R, alloc: Global, port: &Port<L>)
+where
+    R: Print + Threads + Wait + Clock + Copy + Send + Sync + Drop + 'static,
+    L: Logs + Send + Sync + Drop + 'static,
+{
+    for _ in rt.forever() {
+        let others = port.waiting.fetch_add(1, Ordering::SeqCst);
+        let taken = if others < MOST_WAITING {
+            Some(port.listener.accept())
+        } else {
+            None
+        };
+        port.waiting.fetch_sub(1, Ordering::SeqCst);
+        let Some(taken) = taken else {
+            return;
+        };
+        if serve_taken(rt, alloc, &port.service, taken).is_err() {
+            pause(&rt);
+        }
+    }
+    unreachable!()
+}
+
+/// Serves a connection that was taken, if it could be. It fails where it couldn't, and where nothing was read of it.
+fn serve_taken<R, L>(
+    rt: R,
+    alloc: Global,
+    service: &Service<L>,
+    taken: io::Result<(TcpStream, SocketAddr)>,
+) -> io::Result<()>
+where
+    R: Print + Threads + Wait + Clock + Copy + Send + Sync + Drop + 'static,
+    L: Logs + Send + Sync + Drop + 'static,
+{
+    let (stream, peer) = taken?;
+    let is_awaited = service.note_taken(&rt);
+    let served = serve_one(rt, alloc, service, stream, peer);
+    service.note_ended(&rt, is_awaited);
+    served
 }
 
 impl<L> Service<L> {
