@@ -17,7 +17,7 @@ use std::sync::{Arc, Wait};
 use std::thread::{Builder, Promise, PromisedHandle, Threads};
 use std::time::Clock;
 
-/// How large the stacks of a connection's threads are, in bytes. They need less than 20,000: nothing that they call calls itself. Those of the
+/// How large the stacks of a connection's threads are, in bytes. They need less than 20,000: none of their direct calls recurs. Those of the
 /// usual size, 8 MiB, take address space, and longer to make.
 pub const STACK: usize = 262_144;
 

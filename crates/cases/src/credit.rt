@@ -11,7 +11,7 @@ ghost use Rattle.std.specs.Prelude.{◌≡◌, ◌<◌, ◌≤◌, IsSome, OnOk,
 ghost use Rattle.flow.specs.Books.{call_at, window_of};
 ghost use Rattle.cases.specs.Windows.{IsPast};
 
-use crate::figures::{ByteCount, Grouped};
+use figures::{ByteCount, Grouped};
 use flow::{Book, BookFault};
 use h2frame::{MAX_PAYLOAD, StreamId};
 use std::alloc::Global;

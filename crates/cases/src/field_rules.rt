@@ -6,7 +6,7 @@ use crate::fields::{
     count_named, first_value, has_inner_colon, is_blank, is_connection_specific,
     is_forbidden_in_names, is_forbidden_in_values, is_pseudo_header, is_unknown,
 };
-use crate::figures::shown;
+use figures::shown;
 use lists::Field;
 use std::alloc::{AllocError, Global};
 use std::fmt;

@@ -14,7 +14,7 @@ ghost use Rattle.cases.specs.declared.fields.ResponseHead.TheVariants.{Final};
 use crate::field_rules::{
     FieldViolation, content_type_violation, head_violation, trailers_violation,
 };
-use crate::figures::shown;
+use figures::shown;
 use lists::Field;
 use std::alloc::{AllocError, Global};
 

@@ -7,7 +7,6 @@ use crate::connection::{Arrival, Connection, Content};
 use crate::credit::{Step, WindowViolation};
 use crate::fault::Fault;
 use crate::fields::{FieldFault, ResponseHead, judge_head, judge_trailers};
-use crate::figures::shown;
 use crate::outgoing::Outgoing;
 use crate::response::Phase;
 use crate::settings::read_setting;
@@ -15,6 +14,7 @@ use crate::silence::Awaited;
 use crate::violation::{BlockViolation, Violation};
 use bytes::Bytes;
 use device::{ConnRead, ConnWrite};
+use figures::shown;
 use flow::WindowFault;
 use h2frame::{
     Flags, Frame, FrameHead, FrameKind, MAX_PAYLOAD, PeerSetting, StreamId, increment, ping_bytes,

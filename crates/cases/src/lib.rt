@@ -10,8 +10,7 @@
 //! `response` and `streams` for their order on a stream, `fields` and `field_rules` for header fields, `settings`, `credit` for the windows
 //! of what is received, `pings`, and `violation` for the rest; `outgoing` for what is written; `connection` and `incoming`
 //! put them together; `silence` is for a server that says nothing more. Then `call` for what comes back of one call;
-//! `expect` for what it is compared with, and `mismatch` for how it differs; `case` and `runs` for the cases; `report` for all of them and what is printed;
-//! `figures` for how numbers and names are written.
+//! `expect` for what it is compared with, and `mismatch` for how it differs; `case` and `runs` for the cases; `report` for all of them and what is printed.
 #![tactic(auto)]
 
 mod call;
@@ -22,7 +21,6 @@ mod expect;
 mod fault;
 mod field_rules;
 mod fields;
-mod figures;
 mod frame_rules;
 mod incoming;
 mod input;

@@ -1,7 +1,7 @@
 //! How what came of a call differs from what was wanted.
 
-use crate::figures::{ErrorName, Grouped, byte_count};
 use crate::method::INITIAL_VALUE;
+use figures::{ErrorName, Grouped, byte_count};
 use lpm::LpmFault;
 use std::fmt;
 use testproto::ProtoFault;
@@ -123,7 +123,7 @@ impl fmt::Display for StatusFault {
         match self {
             StatusFault::Reset(code, wanted) => {
                 let error = ErrorName(*code);
-                write!(f, "RST_STREAM {error}, wanted {wanted}")
+                write!(f, "RST_STREAM {code} ({error}), wanted {wanted}")
             }
             StatusFault::NoTrailers(wanted) => {
                 write!(f, "the stream ended without trailers, wanted {wanted}")

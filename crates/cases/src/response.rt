@@ -6,7 +6,7 @@
 ghost use Rattle.std.specs.Prelude.{◌≡◌, true, false, IfOk, IfErr};
 ghost use Rattle.cases.specs.Responses.{is_lawful, phase_after};
 
-use crate::figures::FrameName;
+use figures::FrameName;
 use h2frame::{Flags, FrameHead, FrameKind, StreamId};
 use std::fmt;
 

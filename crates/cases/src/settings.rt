@@ -2,7 +2,7 @@
 
 ghost use Rattle.std.specs.Prelude.{◌≡◌, length};
 
-use crate::figures::Grouped;
+use figures::Grouped;
 use h2frame::{PeerSetting, SettingId};
 use session::Parameter;
 use std::fmt;

@@ -1,7 +1,7 @@
 //! Why nothing more comes, and what was waited for.
 
-use crate::figures::{ByteCount, FrameName, Grouped};
 use crate::input::Progress;
+use figures::{ByteCount, FrameName, Grouped};
 use h2frame::StreamId;
 use std::fmt;
 

@@ -2,11 +2,11 @@
 
 use crate::credit::WindowViolation;
 use crate::field_rules::FieldViolation;
-use crate::figures::{ErrorName, FrameName, byte_count};
 use crate::frame_rules::FrameViolation;
 use crate::pings::PingViolation;
 use crate::response::StreamViolation;
 use crate::settings::SettingViolation;
+use figures::{ErrorName, FrameName, byte_count};
 use h2frame::{FrameHead, StreamId};
 use hpack_codec::HpackFault;
 use std::fmt;
@@ -100,7 +100,10 @@ impl fmt::Display for Violation {
             }
             Violation::GoAway { code, last, text } => {
                 let error = ErrorName(*code);
-                write!(f, "GOAWAY {error} with the last stream {last}: {text:?}")
+                write!(
+                    f,
+                    "GOAWAY {code} ({error}) with the last stream {last}: {text:?}"
+                )
             }
             Violation::GoAwayRises { before, last } => {
                 write!(

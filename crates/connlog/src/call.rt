@@ -5,9 +5,9 @@ ghost use Rattle.connlog.specs.Methods.{name_of};
 
 use crate::cause::{CallCause, Cause, HeadCause};
 use crate::fields::first_value;
-use crate::figures::shown;
 use crate::messages::Messages;
 use callhead::read_timeout;
+use figures::shown;
 use lists::Field;
 use std::alloc::{AllocError, Global};
 

@@ -1,6 +1,6 @@
 //! Which rule the fields of a request break (RFC 9113, sections 8.1 to 8.3), and the text of each.
 
-use crate::figures::shown;
+use figures::shown;
 use lists::Field;
 use std::alloc::{AllocError, Global};
 use std::fmt;

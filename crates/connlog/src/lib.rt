@@ -14,7 +14,6 @@ mod call;
 mod cause;
 mod client;
 mod fields;
-mod figures;
 mod known;
 mod line;
 mod messages;

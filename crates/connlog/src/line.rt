@@ -2,8 +2,8 @@
 
 use crate::call::MethodName;
 use crate::cause::Cause;
-use crate::figures::{ByteCount, ErrorName, Grouped};
 use crate::messages::Messages;
+use figures::{ByteCount, ErrorName, Grouped};
 use h2frame::StreamId;
 use std::alloc::{AllocError, Global};
 use std::fmt;
@@ -184,16 +184,16 @@ fn write_event(text: &mut String, stream: StreamId, event: &Event) -> Result<(),
             let (method, error) = (method.text(), ErrorName(*code));
             write!(
                 text,
-                "call {stream} {method} reset by the client, {error}, {traffic}"
+                "call {stream} {method} reset by the client, {code} {error}, {traffic}"
             )
         }
         Event::Reset(code) => {
             let error = ErrorName(*code);
-            write!(text, "stream {stream} RST {error}")
+            write!(text, "stream {stream} RST {code} {error}")
         }
         Event::GoAway(code, _) => {
             let error = ErrorName(*code);
-            write!(text, "GOAWAY {error}")
+            write!(text, "GOAWAY {code} {error}")
         }
         Event::Waits(method, seconds, waiting) => {
             let method = method.text();

@@ -2,12 +2,12 @@
 
 use crate::client::number;
 use crate::fields::first_value;
-use crate::figures::shown;
 use crate::line::Status;
 use crate::seen::Seen;
 use crate::tables::keeps_tables;
 use crate::walk::Part;
 use callhead::read_status;
+use figures::shown;
 use flow::{HalfVerdict, MAX_WINDOW};
 use h2frame::{ErrorCode, Flags, FrameHead, FrameKind};
 use lists::Field;

@@ -7,32 +7,12 @@ use crate::host::Host;
 use crate::line::World;
 use crate::misbehaviour::Misbehaviour;
 use crate::verdict::Why;
+use figures::error_name;
 use std::alloc::{AllocError, Global};
 
-/// The names of error codes (RFC 9113, section 7).
-const ERRORS: [&str; 14] = [
-    "NO_ERROR",
-    "PROTOCOL_ERROR",
-    "INTERNAL_ERROR",
-    "FLOW_CONTROL_ERROR",
-    "SETTINGS_TIMEOUT",
-    "STREAM_CLOSED",
-    "FRAME_SIZE_ERROR",
-    "REFUSED_STREAM",
-    "CANCEL",
-    "COMPRESSION_ERROR",
-    "CONNECT_ERROR",
-    "ENHANCE_YOUR_CALM",
-    "INADEQUATE_SECURITY",
-    "HTTP_1_1_REQUIRED",
-];
-
-/// The name of an error code.
-fn error_name(code: u32) -> &'static str {
-    match ERRORS.get(code as usize) {
-        Some(name) => name,
-        None => "an unknown error",
-    }
+/// The name of an error code, as a sentence has it.
+fn error_text(code: u32) -> &'static str {
+    error_name(code).unwrap_or("an unknown error")
 }
 
 /// The lines that tell what was done, what is right, what the client did, and whether that is right.
@@ -65,11 +45,11 @@ fn push_deeds(text: &mut String, deeds: &Deeds) -> Result<(), AllocError> {
         "made {calls} calls on the connection and {elsewhere} on others"
     )?;
     if let Some(code) = deeds.reset {
-        let error = error_name(code);
+        let error = error_text(code);
         write!(text, ", reset the call with {error}")?;
     }
     if let Some(code) = deeds.goaway {
-        let error = error_name(code);
+        let error = error_text(code);
         write!(text, ", sent GOAWAY with {error}")?;
     }
     if deeds.has_answered {
@@ -95,11 +75,11 @@ fn push_why(text: &mut String, why: Why) -> Result<(), AllocError> {
     match why {
         Why::Wrong(wrong) => text.push_str(wrong.text()),
         Why::GoAway(code) => {
-            let error = error_name(code);
+            let error = error_text(code);
             write!(text, "it sent GOAWAY with {error}")
         }
         Why::Reset(code) => {
-            let error = error_name(code);
+            let error = error_text(code);
             write!(text, "it reset the call with {error}")
         }
         Why::NoCall => text.push_str("no call came"),

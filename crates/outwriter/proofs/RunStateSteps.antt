@@ -15,10 +15,10 @@ use Rattle.outwriter.specs.declared.blocks.HeaderBlock.{HeaderBlock}
 use Rattle.outwriter.specs.declared.control.Control.TheVariants.{Open, Refuse, Reset}
 use Rattle.outwriter.specs.declared.due.Due.{Due}
 use Rattle.outwriter.specs.declared.outbound.Outbound.{Outbound}
-use Rattle.outwriter.specs.declared.states.StreamState.{StreamState}
+use Rattle.outwriter.specs.declared.stream_state.StreamState.{StreamState}
 use Rattle.outwriter.specs.declared.stream.OpenStream.{OpenStream}
-use Rattle.outwriter.specs.declared.states.StreamState.TheVariants.{NoCall, Call}
-use Rattle.outwriter.specs.declared.states.StreamState.TheVariants.{Reset as StreamReset}
+use Rattle.outwriter.specs.declared.stream_state.StreamState.TheVariants.{NoCall, Call}
+use Rattle.outwriter.specs.declared.stream_state.StreamState.TheVariants.{Reset as StreamReset}
 use Rattle.outwriter.specs.States.{States, StandAs, Grants, SameButWindows, SameEnds, SameOver, SameOwed, amount_of, is_paid, is_reset, knows, more, owed_on, pays, state_on}
 use Rattle.outwriter.specs.Histories.{Takes, is_stream, resets_stream, was_reset}
 use Rattle.outwriter.specs.RunState.{Mirrors, HasWindows, HasOver, HasDue, HasBlock, HasOwed, HasResets, HasStates, AreAsked, MirrorsOf, MirrorsOn, SameButOpen, duties_of, resets_of}

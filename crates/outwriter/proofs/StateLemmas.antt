@@ -9,11 +9,11 @@ use Rattle.std.proofs.lemmas.Bool.Decides.{nat_tests}
 use Rattle.std.proofs.lemmas.Map.Entries.{All-lookup}
 use Rattle.indexmap.specs.IndexMap.{insert_entry, set_value_at}
 use Rattle.indexmap.proofs.ReorderLemmas.{get_or-swap, exchange}
-use Rattle.outwriter.specs.declared.states.Change.{Change}
-use Rattle.outwriter.specs.declared.states.Change.TheVariants as change_by
-use Rattle.outwriter.specs.declared.states.Over.{Over}
-use Rattle.outwriter.specs.declared.states.StreamState.{StreamState}
-use Rattle.outwriter.specs.declared.states.StreamState.TheVariants.{NoCall, Call, Reset}
+use Rattle.outwriter.specs.declared.stream_state.Change.{Change}
+use Rattle.outwriter.specs.declared.stream_state.Change.TheVariants as change_by
+use Rattle.outwriter.specs.declared.stream_state.Over.{Over}
+use Rattle.outwriter.specs.declared.stream_state.StreamState.{StreamState}
+use Rattle.outwriter.specs.declared.stream_state.StreamState.TheVariants.{NoCall, Call, Reset}
 use Rattle.outwriter.specs.declared.states.Stream.{Stream}
 use Rattle.outwriter.specs.declared.stream.OpenStream.{OpenStream}
 use Rattle.flow.specs.WindowHistory.{Closing, Follows, Opening}
@@ -28,7 +28,7 @@ use Rattle.outwriter.specs.declared.stream.Found.{Found}
 use Rattle.outwriter.specs.declared.stream.Found.TheVariants.{Nothing, Message, Block}
 use Rattle.outwriter.specs.declared.stream.Polled.{Polled}
 use Rattle.outwriter.specs.declared.stream.Polled.TheVariants as polled
-use Rattle.outwriter.specs.declared.states.Over.TheVariants as end_by
+use Rattle.outwriter.specs.declared.stream_state.Over.TheVariants as end_by
 use Rattle.outwriter.specs.NextOn.{Asks, AsksNone, EndsOn, EndsStream, NextAtEntry, NextOnStream, TakesNext, TakesUp, TakesUpStream}
 use Rattle.outwriter.specs.declared.stream.Looked.{Looked}
 use Rattle.outwriter.specs.Data.{BeginsMessage, BeginsOnStream, TakesFrames}

@@ -13,8 +13,8 @@ use Rattle.outwriter.specs.declared.stream.Polled.TheVariants as polled
 use Rattle.outwriter.specs.declared.stream.Looked.{Looked}
 use Rattle.outwriter.specs.declared.stream.Looked.TheVariants as looked
 use Rattle.outwriter.specs.Cores.{calls, IsStuck}
-use Rattle.outwriter.specs.declared.states.StreamState.{StreamState}
-use Rattle.outwriter.specs.declared.states.StreamState.TheVariants.{NoCall, Call, Reset}
+use Rattle.outwriter.specs.declared.stream_state.StreamState.{StreamState}
+use Rattle.outwriter.specs.declared.stream_state.StreamState.TheVariants.{NoCall, Call, Reset}
 use Rattle.outwriter.specs.Histories.{is_stream}
 use Rattle.outwriter.specs.States.{IsShut, by_reset, can_write, end_of, is_reset, is_reset_state, state_on, open_at}
 use Rattle.outwriter.specs.OpenStreams.{HandIs, OpenStreams, Shown, shown, shows, with_hand}

@@ -5,8 +5,8 @@ use Rattle.account.specs.declared.call.OutItem.{OutItem}
 use Rattle.callbox.specs.declared.sender.Sender.{Sender}
 use Rattle.flow.specs.Windows.{Shared}
 use Rattle.hpack_codec.specs.Codec.{Encoding}
-use Rattle.outwriter.specs.declared.states.Change.TheVariants as change
-use Rattle.outwriter.specs.declared.states.Over.TheVariants as end_by
+use Rattle.outwriter.specs.declared.stream_state.Change.TheVariants as change
+use Rattle.outwriter.specs.declared.stream_state.Over.TheVariants as end_by
 use Rattle.outwriter.specs.declared.states.Stream.{Stream}
 use Rattle.outwriter.specs.declared.stream.Found.{Found}
 use Rattle.outwriter.specs.declared.stream.Found.TheVariants as found

@@ -8,12 +8,12 @@ use Rattle.flow.specs.WindowHistory.{Step, Follows, Opening, Closing}
 use Rattle.flow.specs.declared.send_windows.WindowFault.{WindowFault}
 use Rattle.flow.specs.declared.send_windows.WindowFault.TheVariants.{Overflow, Unknown}
 use Rattle.flow.specs.Windows.{Shared, Windows, Fits as FitsWindow, balance, lesser_if_open, new_windows}
-use Rattle.outwriter.specs.declared.states.Change.{Change}
-use Rattle.outwriter.specs.declared.states.Change.TheVariants as change
-use Rattle.outwriter.specs.declared.states.Over.{Over}
-use Rattle.outwriter.specs.declared.states.Over.TheVariants as end_by
-use Rattle.outwriter.specs.declared.states.StreamState.{StreamState}
-use Rattle.outwriter.specs.declared.states.StreamState.TheVariants.{NoCall, Call, Reset}
+use Rattle.outwriter.specs.declared.stream_state.Change.{Change}
+use Rattle.outwriter.specs.declared.stream_state.Change.TheVariants as change
+use Rattle.outwriter.specs.declared.stream_state.Over.{Over}
+use Rattle.outwriter.specs.declared.stream_state.Over.TheVariants as end_by
+use Rattle.outwriter.specs.declared.stream_state.StreamState.{StreamState}
+use Rattle.outwriter.specs.declared.stream_state.StreamState.TheVariants.{NoCall, Call, Reset}
 use Rattle.outwriter.specs.declared.states.Stream.{Stream}
 use Rattle.outwriter.specs.declared.stream.OpenStream.{OpenStream}
 use Rattle.outwriter.specs.OpenStreams.{OpenStreams}

@@ -10,7 +10,7 @@
 //! for, whole header blocks, nothing behind a stream's end. `specs/Parts.antt` says what the frames of one stream tell, and what items spell.
 //!
 //! Read `control` for what goes in; `frames`, `small` and `blocks` for the frames that come out; `stream`, `due`,
-//! `resize` and `states` for what is kept, and `outbound`, `writing` and `sending`, which bring it together; `out_core` for
+//! `stream_state`, `resize` and `states` for what is kept, and `outbound`, `writing` and `sending`, which bring it together; `out_core` for
 //! what a control does, `next` for the choice of a frame, `left` for which calls were left without trailers, and `release` for
 //! what a call that is through gives back. `laws` has what follows from the definitions.
 #![tactic(auto)]
@@ -30,6 +30,7 @@ mod sending;
 mod small;
 mod states;
 mod stream;
+mod stream_state;
 mod writing;
 
 pub use control::{Control, OutFault};

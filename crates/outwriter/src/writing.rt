@@ -10,8 +10,8 @@ use crate::frames::{
     make_update,
 };
 use crate::outbound::{Outbound, is_stream};
-use crate::states::Over;
 use crate::stream::encoded;
+use crate::stream_state::Over;
 use bytes::Bytes;
 use h2frame::{ErrorCode, Frame, StreamId};
 use lists::{Field, Sequence};

@@ -6,8 +6,8 @@ use Rattle.std.proofs.lemmas.Bool.{eqb-true}
 use Rattle.indexmap.specs.IndexMap.{set_value_at}
 use Rattle.indexmap.proofs.CallerLemmas.{updates-with_value_at}
 use Rattle.outwriter.specs.declared.states.Stream.{Stream}
-use Rattle.outwriter.specs.declared.states.StreamState.{StreamState}
-use Rattle.outwriter.specs.declared.states.StreamState.TheVariants.{Call}
+use Rattle.outwriter.specs.declared.stream_state.StreamState.{StreamState}
+use Rattle.outwriter.specs.declared.stream_state.StreamState.TheVariants.{Call}
 use Rattle.outwriter.proofs.StateLemmas.{stored, value-at}
 use Rattle.outwriter.proofs.states.add.Goals as goal
 

@@ -3,8 +3,8 @@ use Rattle.std.specs.Map.{lookup}
 use Rattle.std.proofs.lemmas.Cmp.{nat_eq_equiv}
 use Rattle.indexmap.proofs.CallerLemmas.{updates-with_value_at}
 use Rattle.outwriter.specs.declared.states.Stream.{Stream}
-use Rattle.outwriter.specs.declared.states.StreamState.{StreamState}
-use Rattle.outwriter.specs.declared.states.StreamState.TheVariants.{Call}
+use Rattle.outwriter.specs.declared.stream_state.StreamState.{StreamState}
+use Rattle.outwriter.specs.declared.stream_state.StreamState.TheVariants.{Call}
 use Rattle.outwriter.proofs.StateLemmas.{value-at}
 use Rattle.outwriter.proofs.states.take_at.Goals as goal
 

@@ -1,5 +1,5 @@
 use Rattle.std.proofs.Common.{◌≡◌, ◌∙◌, None, ap, subst, sym}
-use Rattle.outwriter.specs.declared.states.StreamState.TheVariants.{NoCall}
+use Rattle.outwriter.specs.declared.stream_state.StreamState.TheVariants.{NoCall}
 use Rattle.outwriter.specs.States.{States, state_in, state_of, state_on}
 use Rattle.outwriter.proofs.StateLemmas.{state-found}
 use Rattle.outwriter.proofs.states.StreamStates.state.Goals as goal
