@@ -3,8 +3,10 @@
 //!
 //! `CallHead::read` answers the head of a call where the fields are one (`specs/Heads.antt`), else the first of the
 //! faults that stand in them; which fields are malformed says `specs/MalformedHeads.antt`; `laws` that there is one
-//! such answer. `are_malformed_trailers` says the same of the trailers of a request. `response_fields`, `status_fields`, `trailers_only`, `unknown_method` and `HeadFault::refusal` make the
-//! fields that answer a call (`specs/StatusFields.antt`).
+//! such answer. `are_malformed_trailers` says the same of the trailers of a request. Each cause has its own test
+//! (`has_bad_name` and others), for who judges a response or tells the cause. `response_fields`, `status_fields`,
+//! `trailers_only`, `unknown_method` and `HeadFault::refusal` make the fields that answer a call
+//! (`specs/StatusFields.antt`).
 //!
 //! For a client `request_fields` makes the fields that open a call, which are the head that asks for what it was given
 //! (`specs/RequestFields.antt`), and `read_status` reads the status in trailers (`specs/Statuses.antt`).
@@ -35,8 +37,13 @@ pub mod values;
 
 pub use bin::{bin_value, read_bin_values};
 pub use fault::HeadFault;
+pub use fields::{count_named, first_value, is_named};
 pub use head::{CallHead, Encoding};
-pub use malformed::are_malformed_trailers;
+pub use malformed::{
+    are_malformed_trailers, has_bad_name, has_bad_value, has_inner_colon, has_late_pseudo_header,
+    is_blank, is_connection_specific, is_empty_path, is_forbidden_in_names, is_forbidden_in_values,
+    is_other_te, is_pseudo_header, is_unknown,
+};
 pub use percent::{percent_text, read_percent_text};
 pub use request::request_fields;
 pub use response::{response_fields, status_fields, trailers_only, unknown_method};

@@ -50,8 +50,8 @@ fn is_malformed_field(field: &Field) -> bool
         || is_empty_path(field)
 }
 
-/// Whether the name is empty, has a forbidden byte, or a colon that isn't its first byte.
-fn has_bad_name(field: &Field) -> bool
+/// Whether the name is empty, has a forbidden byte, or a colon that isn't its first byte (RFC 9113, section 8.2.1).
+pub fn has_bad_name(field: &Field) -> bool
     ensures { result ≡ has_bad_name field.now }
 {
     let name = field.name.as_slice();
@@ -64,20 +64,22 @@ fn has_forbidden_byte(name: &[u8]) -> bool
     name.iter().any(|byte| is_forbidden_in_names(*byte))
 }
 
-fn has_inner_colon(name: &[u8]) -> bool
+/// Whether a colon stands behind the name's first byte.
+pub fn has_inner_colon(name: &[u8]) -> bool
     ensures { result ≡ list_any (λ byte. byte == 0x3A) (drop 1 name.now) }
 {
     name.iter().skip(1).any(|byte| *byte == b':')
 }
 
-fn is_forbidden_in_names(byte: u8) -> bool
+/// Whether no name has this byte (RFC 9113, section 8.2.1).
+pub fn is_forbidden_in_names(byte: u8) -> bool
     ensures { result ≡ is_forbidden_in_names byte }
 {
     byte <= b' ' || (b'A' <= byte && byte <= b'Z') || 0x7f <= byte
 }
 
-/// Whether the value has a forbidden byte, or a blank at an end.
-fn has_bad_value(field: &Field) -> bool
+/// Whether the value has a forbidden byte, or a blank at an end (RFC 9113, section 8.2.1).
+pub fn has_bad_value(field: &Field) -> bool
     ensures { result ≡ has_bad_value field.now }
 {
     let value = field.value.as_slice();
@@ -91,13 +93,15 @@ fn ends_the_line(value: &[u8]) -> bool
     value.iter().any(|byte| is_forbidden_in_values(*byte))
 }
 
-fn is_forbidden_in_values(byte: u8) -> bool
+/// Whether no value has this byte (RFC 9113, section 8.2.1).
+pub fn is_forbidden_in_values(byte: u8) -> bool
     ensures { result ≡ is_forbidden_in_values byte }
 {
     byte == 0 || byte == b'\n' || byte == b'\r'
 }
 
-fn is_blank(byte: Option<&u8>) -> bool
+/// Whether there is a byte, and it is a space or a tab.
+pub fn is_blank(byte: Option<&u8>) -> bool
     ensures { result ≡ is_blank (option_copied byte.entry) }
 {
     match byte {
@@ -106,8 +110,8 @@ fn is_blank(byte: Option<&u8>) -> bool
     }
 }
 
-/// Whether the field speaks of one connection alone.
-fn is_connection_specific(field: &Field) -> bool
+/// Whether the field speaks of one connection alone (RFC 9113, section 8.2.2), but for `te`, which a request may have.
+pub fn is_connection_specific(field: &Field) -> bool
     ensures { result ≡ is_connection_specific field.now }
 {
     is_named(field, b"connection")
@@ -117,19 +121,22 @@ fn is_connection_specific(field: &Field) -> bool
         || is_named(field, b"upgrade")
 }
 
-fn is_other_te(field: &Field) -> bool
+/// Whether it is a `te` that is no `trailers` (RFC 9113, section 8.2.2).
+pub fn is_other_te(field: &Field) -> bool
     ensures { result ≡ is_other_te field.now }
 {
     is_named(field, b"te") && field.value.as_slice() != TRAILERS
 }
 
-fn is_pseudo_header(field: &Field) -> bool
+/// Whether its name begins with a colon (RFC 9113, section 8.3).
+pub fn is_pseudo_header(field: &Field) -> bool
     ensures { result ≡ is_pseudo_header field.now }
 {
     field.name.as_slice().first() == Some(&b':')
 }
 
-fn is_unknown(field: &Field) -> bool
+/// Whether it is a pseudo-header that no request has.
+pub fn is_unknown(field: &Field) -> bool
     ensures { result ≡ is_unknown field.now }
 {
     is_pseudo_header(field)
@@ -139,14 +146,15 @@ fn is_unknown(field: &Field) -> bool
             || is_named(field, AUTHORITY))
 }
 
-fn is_empty_path(field: &Field) -> bool
+/// Whether it is a `:path` of no bytes (RFC 9113, section 8.3.1).
+pub fn is_empty_path(field: &Field) -> bool
     ensures { result ≡ is_empty_path field.now }
 {
     is_named(field, PATH) && field.value.is_empty()
 }
 
-/// Whether a pseudo-header stands behind another field.
-fn has_late_pseudo_header(fields: &[Field]) -> bool
+/// Whether a pseudo-header stands behind another field (RFC 9113, section 8.3).
+pub fn has_late_pseudo_header(fields: &[Field]) -> bool
     ensures { result ≡ has_late_pseudo_header fields.now }
 {
     fields
