@@ -2,11 +2,10 @@
 
 use crate::call::Call;
 use crate::fault::Fault;
-use crate::fields::first_value;
 use crate::method::{INITIAL_VALUE, TRAILING_VALUE};
 use crate::mismatch::{EchoFault, ReplyFault, StatusFault, Wanted};
 use bytes::Bytes;
-use callhead::{read_bin_values, read_status};
+use callhead::{first_value, read_bin_values, read_status};
 use figures::shown;
 use lists::Field;
 use std::alloc::{AllocError, Global};

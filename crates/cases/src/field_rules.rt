@@ -2,11 +2,9 @@
 //!
 //! Whether fields are malformed is decided in `fields`; here is what is said of them.
 
-use crate::fields::{
-    count_named, first_value, has_inner_colon, is_blank, is_connection_specific,
-    is_forbidden_in_names, is_forbidden_in_values, is_pseudo_header, is_unknown,
-};
-use figures::shown;
+use crate::fields::is_unknown;
+use callhead::{count_named, first_value, is_named, is_pseudo_header};
+use figures::{BrokenRule, FieldRule, field_rule, shown};
 use lists::Field;
 use std::alloc::{AllocError, Global};
 use std::fmt;
@@ -14,24 +12,10 @@ use std::fmt;
 /// A rule on the fields of a response that the server broke. Names and values are shown by their front.
 #[derive(Drop)]
 pub enum FieldViolation {
-    /// A field has no name.
-    NoName,
-    /// A name has an upper-case letter.
-    UpperCase(String),
-    /// A name has another byte that it may not have.
-    NameByte(String, u8),
-    /// The value of the field with this name has a byte that ends the line or the text.
-    ValueByte(String, u8),
-    /// The value of the field with this name begins or ends with a blank.
-    ValueBlank(String),
-    /// The field speaks of one connection.
-    ConnectionSpecific(String),
+    /// A rule that requests have too, broken by the field with this name.
+    Field(FieldRule, String),
     /// A pseudo-header that no response has.
     PseudoHeader(String),
-    /// A pseudo-header in trailers.
-    TrailingPseudoHeader(String),
-    /// A pseudo-header behind another field.
-    LatePseudoHeader(String),
     /// `:status` stands so often.
     Statuses(usize),
     /// `:status` has this value.
@@ -56,7 +40,7 @@ pub fn head_violation(alloc: Global, fields: &[Field]) -> Result<FieldViolation,
             return Ok(FieldViolation::PseudoHeader(name_of(alloc, field)?));
         }
         if behind && is_pseudo_header(field) {
-            return Ok(FieldViolation::LatePseudoHeader(name_of(alloc, field)?));
+            return broken(alloc, FieldRule::Late, field);
         }
         behind = behind || !is_pseudo_header(field);
     }
@@ -80,115 +64,44 @@ pub fn trailers_violation(alloc: Global, fields: &[Field]) -> Result<FieldViolat
         return Ok(violation);
     }
     match fields.iter().find(|field| is_pseudo_header(field)) {
-        Some(field) => Ok(FieldViolation::TrailingPseudoHeader(name_of(alloc, field)?)),
+        Some(field) => broken(alloc, FieldRule::InTrailers, field),
         None => Ok(FieldViolation::Malformed),
     }
 }
 
-/// The rule that the first field breaks that breaks one by itself.
+/// The rule that the first field breaks that breaks one by itself. `te` speaks of one connection in a response.
 fn field_violation(alloc: Global, fields: &[Field]) -> Result<Option<FieldViolation>, AllocError> {
     for field in fields {
-        if let Some(violation) = name_violation(alloc, field)? {
-            return Ok(Some(violation));
-        }
-        if let Some(violation) = value_violation(alloc, field)? {
-            return Ok(Some(violation));
-        }
-        if is_connection_specific(field) {
-            return Ok(Some(FieldViolation::ConnectionSpecific(name_of(alloc, field)?)));
+        let rule = match field_rule(field) {
+            None if is_named(field, b"te") => Some(FieldRule::OneConnection),
+            rule => rule,
+        };
+        if let Some(rule) = rule {
+            return Ok(Some(broken(alloc, rule, field)?));
         }
     }
     Ok(None)
+}
+
+fn broken(alloc: Global, rule: FieldRule, field: &Field) -> Result<FieldViolation, AllocError> {
+    Ok(FieldViolation::Field(rule, name_of(alloc, field)?))
 }
 
 fn name_of(alloc: Global, field: &Field) -> Result<String, AllocError> {
     shown(alloc, field.name.as_slice())
 }
 
-/// No upper-case letter, no byte 00 to 20 or 7F to FF, and no colon but the first byte.
-fn name_violation(alloc: Global, field: &Field) -> Result<Option<FieldViolation>, AllocError> {
-    let name = field.name.as_slice();
-    if name.is_empty() {
-        return Ok(Some(FieldViolation::NoName));
-    }
-    for byte in name {
-        if byte.is_ascii_uppercase() {
-            return Ok(Some(FieldViolation::UpperCase(name_of(alloc, field)?)));
-        }
-        if is_forbidden_in_names(*byte) {
-            return Ok(Some(FieldViolation::NameByte(name_of(alloc, field)?, *byte)));
-        }
-    }
-    if has_inner_colon(name) {
-        return Ok(Some(FieldViolation::NameByte(name_of(alloc, field)?, b':')));
-    }
-    Ok(None)
-}
-
-/// No byte that ends the line or the text, and no blank at an end.
-fn value_violation(alloc: Global, field: &Field) -> Result<Option<FieldViolation>, AllocError> {
-    let value = field.value.as_slice();
-    for byte in value {
-        if is_forbidden_in_values(*byte) {
-            return Ok(Some(FieldViolation::ValueByte(name_of(alloc, field)?, *byte)));
-        }
-    }
-    if is_blank(value.first()) || is_blank(value.last()) {
-        return Ok(Some(FieldViolation::ValueBlank(name_of(alloc, field)?)));
-    }
-    Ok(None)
-}
-
 impl fmt::Display for FieldViolation {
     fn fmt<W: fmt::Write>(&self, f: &mut fmt::Formatter<W>) -> fmt::Result {
         match self {
-            FieldViolation::NoName => write!(f, "a field has no name (RFC 9113, 8.2.1)"),
-            FieldViolation::UpperCase(name) => {
-                write!(
-                    f,
-                    "the name {name:?} has an upper-case letter (RFC 9113, 8.2.1)"
-                )
-            }
-            FieldViolation::NameByte(name, byte) => {
-                write!(
-                    f,
-                    "the name {name:?} has the byte {byte:02x} (RFC 9113, 8.2.1)"
-                )
-            }
-            FieldViolation::ValueByte(name, byte) => {
-                write!(
-                    f,
-                    "the value of {name:?} has the byte {byte:02x} (RFC 9113, 8.2.1)"
-                )
-            }
-            FieldViolation::ValueBlank(name) => {
-                write!(
-                    f,
-                    "the value of {name:?} begins or ends with a blank (RFC 9113, 8.2.1)"
-                )
-            }
-            FieldViolation::ConnectionSpecific(name) => {
-                write!(
-                    f,
-                    "the field {name:?} speaks of one connection (RFC 9113, 8.2.2)"
-                )
+            FieldViolation::Field(rule, name) => {
+                let broken = BrokenRule(*rule, name.as_str());
+                write!(f, "{broken}")
             }
             FieldViolation::PseudoHeader(name) => {
                 write!(
                     f,
                     "the pseudo-header {name:?}, wanted :status alone (RFC 9113, 8.3.2)"
-                )
-            }
-            FieldViolation::TrailingPseudoHeader(name) => {
-                write!(
-                    f,
-                    "the pseudo-header {name:?} in trailers, wanted none (RFC 9113, 8.1)"
-                )
-            }
-            FieldViolation::LatePseudoHeader(name) => {
-                write!(
-                    f,
-                    "the pseudo-header {name:?} came behind another field (RFC 9113, 8.3)"
                 )
             }
             FieldViolation::Statuses(count) => {

@@ -1,18 +1,22 @@
 //! The fields of responses (RFC 9113, sections 8.2 and 8.3; gRPC over HTTP/2, "Responses").
 //!
-//! Names, values and the fields of one connection are judged as the server judges those of a request. `:status` is the
-//! one pseudo-header of a response, and trailers have none.
+//! Names, values and the fields of one connection are judged as the server judges those of a request (the crate
+//! `callhead`). `:status` is the one pseudo-header of a response, and trailers have none.
 
-ghost use Rattle.std.specs.Prelude.{◌≡◌, ◌==◌, ◌↔◌, Some, false, codes, drop, count_by, option_copied, IsTrue, OnOk, IfOk};
+ghost use Rattle.std.specs.Prelude.{◌≡◌, ◌↔◌, Some, false, codes, IsTrue, OnOk, IfOk};
 ghost use Rattle.std.specs.List.{list_any};
-ghost use Rattle.callhead.specs.Fields.{is_named, first_of};
+ghost use Rattle.callhead.specs.Fields.{first_of};
 ghost use Rattle.callhead.specs.Heads.{IsGrpc};
-ghost use Rattle.callhead.specs.MalformedHeads.{is_forbidden_in_names, is_forbidden_in_values, is_blank, has_bad_name, has_bad_value, is_pseudo_header, has_late_pseudo_header};
+ghost use Rattle.callhead.specs.MalformedHeads.{is_pseudo_header};
 ghost use Rattle.cases.specs.ResponseFields.{is_specific, is_malformed_field, is_unknown, has_one_status, is_malformed_head, are_malformed_trailers, IsGrpcHead};
 ghost use Rattle.cases.specs.declared.fields.ResponseHead.TheVariants.{Final};
 
 use crate::field_rules::{
     FieldViolation, content_type_violation, head_violation, trailers_violation,
+};
+use callhead::{
+    count_named, first_value, has_bad_name, has_bad_value, has_late_pseudo_header,
+    is_connection_specific, is_named, is_pseudo_header,
 };
 use figures::shown;
 use lists::Field;
@@ -158,80 +162,14 @@ fn has_pseudo_header(fields: &[Field]) -> bool
 fn is_malformed_field(field: &Field) -> bool
     ensures { result ≡ is_malformed_field field.now }
 {
-    has_bad_name(field) || has_bad_value(field) || is_connection_specific(field)
-}
-
-/// Whether the name is empty, has a forbidden byte, or a colon that isn't its first byte.
-fn has_bad_name(field: &Field) -> bool
-    ensures { result ≡ has_bad_name field.now }
-{
-    let name = field.name.as_slice();
-    name.is_empty() || has_forbidden_byte(name) || has_inner_colon(name)
-}
-
-fn has_forbidden_byte(name: &[u8]) -> bool
-    ensures { result ≡ list_any is_forbidden_in_names name.now }
-{
-    name.iter().any(|byte| is_forbidden_in_names(*byte))
-}
-
-pub fn has_inner_colon(name: &[u8]) -> bool
-    ensures { result ≡ list_any (λ byte. byte == 0x3A) (drop 1 name.now) }
-{
-    name.iter().skip(1).any(|byte| *byte == b':')
-}
-
-pub fn is_forbidden_in_names(byte: u8) -> bool
-    ensures { result ≡ is_forbidden_in_names byte }
-{
-    byte <= b' ' || (b'A' <= byte && byte <= b'Z') || 0x7f <= byte
-}
-
-/// Whether the value has a byte that ends the line or the text, or a blank at an end.
-fn has_bad_value(field: &Field) -> bool
-    ensures { result ≡ has_bad_value field.now }
-{
-    let value = field.value.as_slice();
-    ends_the_line(value) || is_blank(value.first()) || is_blank(value.last())
-}
-
-fn ends_the_line(value: &[u8]) -> bool
-    ensures { result ≡ list_any is_forbidden_in_values value.now }
-{
-    value.iter().any(|byte| is_forbidden_in_values(*byte))
-}
-
-pub fn is_forbidden_in_values(byte: u8) -> bool
-    ensures { result ≡ is_forbidden_in_values byte }
-{
-    byte == 0 || byte == b'\n' || byte == b'\r'
-}
-
-pub fn is_blank(byte: Option<&u8>) -> bool
-    ensures { result ≡ is_blank (option_copied byte.entry) }
-{
-    match byte {
-        Some(byte) => *byte == b' ' || *byte == b'\t',
-        None => false,
-    }
+    has_bad_name(field) || has_bad_value(field) || is_specific(field)
 }
 
 /// Whether the field speaks of one connection alone. `te` does too, and a request alone may have it.
-pub fn is_connection_specific(field: &Field) -> bool
+fn is_specific(field: &Field) -> bool
     ensures { result ≡ is_specific field.now }
 {
-    is_named(field, b"connection")
-        || is_named(field, b"proxy-connection")
-        || is_named(field, b"keep-alive")
-        || is_named(field, b"transfer-encoding")
-        || is_named(field, b"upgrade")
-        || is_named(field, b"te")
-}
-
-pub fn is_pseudo_header(field: &Field) -> bool
-    ensures { result ≡ is_pseudo_header field.now }
-{
-    field.name.as_slice().first() == Some(&b':')
+    is_connection_specific(field) || is_named(field, b"te")
 }
 
 /// Whether it is a pseudo-header that no response has.
@@ -239,34 +177,4 @@ pub fn is_unknown(field: &Field) -> bool
     ensures { result ≡ is_unknown field.now }
 {
     is_pseudo_header(field) && !is_named(field, STATUS)
-}
-
-/// Whether a pseudo-header stands behind another field.
-fn has_late_pseudo_header(fields: &[Field]) -> bool
-    ensures { result ≡ has_late_pseudo_header fields.now }
-{
-    fields
-        .iter()
-        .skip_while(|field| is_pseudo_header(field))
-        .any(|field| is_pseudo_header(field))
-}
-
-fn is_named(field: &Field, name: &[u8]) -> bool
-    ensures { result ≡ is_named name.now field.now }
-{
-    field.name.as_slice() == name
-}
-
-pub fn count_named(fields: &[Field], name: &[u8]) -> usize
-    ensures { result ≡ count_by (is_named name.now) fields.now }
-{
-    fields.iter().filter(|field| is_named(field, name)).count()
-}
-
-/// The value of the first field with this name.
-pub fn first_value<'a>(fields: &'a [Field], name: &[u8]) -> Option<&'a [u8]>
-    ensures { option_copied result ≡ first_of name.now fields.now }
-{
-    let field = fields.iter().find(|field| is_named(field, name))?;
-    Some(field.value.as_slice())
 }

@@ -4,9 +4,8 @@ ghost use Rattle.std.specs.Prelude.{◌≡◌, take, drop, codes, IfSome};
 ghost use Rattle.connlog.specs.Methods.{name_of};
 
 use crate::cause::{CallCause, Cause, HeadCause};
-use crate::fields::first_value;
 use crate::messages::Messages;
-use callhead::read_timeout;
+use callhead::{first_value, read_timeout};
 use figures::shown;
 use lists::Field;
 use std::alloc::{AllocError, Global};

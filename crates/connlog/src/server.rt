@@ -1,12 +1,11 @@
 //! What the server's frames say.
 
 use crate::client::number;
-use crate::fields::first_value;
 use crate::line::Status;
 use crate::seen::Seen;
 use crate::tables::keeps_tables;
 use crate::walk::Part;
-use callhead::read_status;
+use callhead::{first_value, read_status};
 use figures::shown;
 use flow::{HalfVerdict, MAX_WINDOW};
 use h2frame::{ErrorCode, Flags, FrameHead, FrameKind};

@@ -2,14 +2,16 @@
 //! those of the log, and in what is told of a misbehaviour.
 //!
 //! Read `numbers` for counts and lengths, `names` for frames and error codes (RFC 9113, sections 6 and 7), `rules` for what is wanted of
-//! a frame by itself, and `text` for bytes of which a front is shown.
+//! a frame by itself, `fields` for which rule a field breaks, and `text` for bytes of which a front is shown.
 #![tactic(auto)]
 
+mod fields;
 mod names;
 mod numbers;
 mod rules;
 mod text;
 
+pub use fields::{BrokenRule, FieldRule, field_rule};
 pub use names::{ErrorName, FrameName, KindName, error_name};
 pub use numbers::{ByteCount, Grouped, byte_count};
 pub use rules::{section_of, wanted_length};

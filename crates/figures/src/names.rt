@@ -1,6 +1,7 @@
 //! The names of frames and of error codes.
 
-ghost use Rattle.std.specs.Prelude.{◌≡◌, is_some, nat_lt};
+ghost use Rattle.std.specs.Prelude.{◌≡◌, option_copied};
+ghost use Rattle.figures.specs.ErrorNames.{name_of};
 
 use h2frame::{FrameHead, FrameKind};
 use std::fmt;
@@ -74,7 +75,7 @@ impl fmt::Display for ErrorName {
 
 /// The name of an error code, if it has one: RFC 9113 names those below 14.
 pub fn error_name(code: u32) -> Option<&'static str>
-    ensures known { is_some result ≡ nat_lt code 14 }
+    ensures { option_copied result ≡ name_of code }
 {
     ERRORS.get(code as usize).copied()
 }
