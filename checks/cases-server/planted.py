@@ -5,7 +5,6 @@ A connection has one call at a time. The faults are those of checks/planted-faul
 import base64
 import socket
 import struct
-import threading
 import time
 
 import hpack
@@ -286,12 +285,4 @@ def serve(device, fault):
 
 def listen(fault):
     """Starts a server that does this wrong, and answers its port."""
-    listener = socket.create_server(("127.0.0.1", 0))
-
-    def accept():
-        while True:
-            device, _ = listener.accept()
-            threading.Thread(target=serve, args=(device, fault), daemon=True).start()
-
-    threading.Thread(target=accept, daemon=True).start()
-    return listener.getsockname()[1]
+    return wire.listen(lambda device: serve(device, fault))

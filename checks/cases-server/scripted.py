@@ -6,7 +6,6 @@ reply as the windows let it through, or as the script has them. The scripts are 
 """
 import socket
 import struct
-import threading
 from dataclasses import dataclass
 
 import wire
@@ -162,12 +161,4 @@ def serve(device, script):
 
 def listen(script):
     """Starts a server that goes by this script, and answers its port."""
-    listener = socket.create_server(("127.0.0.1", 0))
-
-    def accept():
-        while True:
-            device, _ = listener.accept()
-            threading.Thread(target=serve, args=(device, script), daemon=True).start()
-
-    threading.Thread(target=accept, daemon=True).start()
-    return listener.getsockname()[1]
+    return wire.listen(lambda device: serve(device, script))

@@ -3,61 +3,23 @@
 
 FAULT is something that it does wrong: sum, trailing, initial, text, size, one-more, empty, implemented.
 """
+import os
 import sys
 import time
 from concurrent import futures
 
 import grpc
 
+sys.dont_write_bytecode = True
+sys.path.insert(0, os.path.join(os.path.dirname(os.path.abspath(__file__)), "..", "lib"))
+import wire
+
 FAULT = sys.argv[2] if len(sys.argv) > 2 else ""
-
-
-def fields(data):
-    """The fields of a message: number to its values, an int or bytes each."""
-    at, found = 0, {}
-
-    def varint():
-        nonlocal at
-        value = shift = 0
-        while True:
-            byte = data[at]
-            at += 1
-            value |= (byte & 127) << shift
-            shift += 7
-            if byte < 128:
-                return value
-
-    while at < len(data):
-        tag = varint()
-        if tag & 7 == 2:
-            length = varint()
-            value, at = data[at:at + length], at + length
-        else:
-            value = varint()
-        found.setdefault(tag >> 3, []).append(value)
-    return found
-
-
-def varint(value):
-    text = bytearray()
-    while value > 127:
-        text.append(value & 127 | 128)
-        value >>= 7
-    return bytes(text) + bytes([value])
-
-
-def block(number, content):
-    return varint(number << 3 | 2) + varint(len(content)) + content
 
 
 def reply(size):
     """A response with a payload of so many zero bytes."""
-    return block(1, block(2, bytes(size + (FAULT == "size"))))
-
-
-def body_length(data):
-    payload = fields(data).get(1, [b""])[0]
-    return len(fields(payload).get(2, [b""])[0])
+    return wire.response(size + (FAULT == "size"))
 
 
 def echo(context):
@@ -71,9 +33,9 @@ def echo(context):
 
 def judge(data, context):
     """Ends the call with the status that a request asks for."""
-    status = fields(data).get(7)
+    status = wire.fields_of(data).get(7)
     if status:
-        asked = fields(status[0])
+        asked = wire.fields_of(status[0])
         code = {value.value[0]: value for value in grpc.StatusCode}[asked[1][0]]
         context.abort(code, asked[2][0].decode() + ("!" if FAULT == "text" else ""))
 
@@ -85,17 +47,17 @@ def empty(request, context):
 def unary(request, context):
     echo(context)
     judge(request, context)
-    return reply(fields(request).get(2, [0])[0])
+    return reply(wire.fields_of(request).get(2, [0])[0])
 
 
 def sum_up(requests, context):
-    return b"\x08" + varint(sum(body_length(request) for request in requests) + (FAULT == "sum"))
+    return wire.number_field(1, sum(wire.body_length(request, 1) for request in requests) + (FAULT == "sum"))
 
 
 def replies(request, context):
     judge(request, context)
-    for parameters in fields(request).get(2, []):
-        yield reply(fields(parameters).get(1, [0])[0])
+    for parameters in wire.fields_of(request).get(2, []):
+        yield reply(wire.fields_of(parameters).get(1, [0])[0])
 
 
 def stream(request, context):

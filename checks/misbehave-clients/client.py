@@ -3,28 +3,21 @@
 
 A call of UnaryCall as in large_unary, then as many more at once (one, if nothing is said). Prints the status of each.
 """
+import os
 import sys
 import time
 
 import grpc
 
+sys.dont_write_bytecode = True
+sys.path.insert(0, os.path.join(os.path.dirname(os.path.abspath(__file__)), "..", "lib"))
+import wire
+
 LIMIT = 25
 
 
-def varint(value):
-    text = bytearray()
-    while value > 127:
-        text.append(value & 127 | 128)
-        value >>= 7
-    return bytes(text) + bytes([value])
-
-
-def block(field, content):
-    return varint(field << 3 | 2) + varint(len(content)) + content
-
-
-REQUEST = varint(2 << 3) + varint(314159) + block(3, block(2, bytes(271828)))
-REPLY = block(1, block(2, bytes(314159)))
+REQUEST = wire.number_field(2, 314159) + wire.bytes_field(3, wire.bytes_field(2, bytes(271828)))
+REPLY = wire.response(314159)
 
 
 def main():

@@ -3,54 +3,37 @@
 
 Prints `case NAME ok`, or `case NAME failed` and why. Exits with 1 where a case failed.
 """
+import os
 import queue
 import sys
 import time
 
 import grpc
 
+sys.dont_write_bytecode = True
+sys.path.insert(0, os.path.join(os.path.dirname(os.path.abspath(__file__)), "..", "lib"))
+import wire
+
 LIMIT = 30
-SERVICE = "/grpc.testing.TestService/"
 INITIAL = ("x-grpc-test-echo-initial", "test_initial_metadata_value")
 TRAILING = ("x-grpc-test-echo-trailing-bin", b"\xab\xab\xab")
 SPECIAL = "\t\ntest with whitespace\r\nand Unicode BMP \u263a and non-BMP \U0001f608\t\n"
 
 
-def varint(value):
-    text = bytearray()
-    while value > 127:
-        text.append(value & 127 | 128)
-        value >>= 7
-    return bytes(text) + bytes([value])
-
-
-def number(field, value):
-    return varint(field << 3) + varint(value) if value else b""
-
-
-def block(field, content):
-    return varint(field << 3 | 2) + varint(len(content)) + content
-
-
 def payload(field, size):
-    return block(field, block(2, bytes(size)))
+    return wire.bytes_field(field, wire.bytes_field(2, bytes(size)))
 
 
 def status(code, text):
-    return block(7, number(1, code) + block(2, text.encode()))
+    return wire.bytes_field(7, wire.number_field(1, code) + wire.bytes_field(2, text.encode()))
 
 
 def simple_request(size, body):
-    return number(2, size) + payload(3, body)
+    return wire.number_field(2, size) + payload(3, body)
 
 
 def output_request(sizes, body):
-    return b"".join(block(2, number(1, size)) for size in sizes) + payload(3, body)
-
-
-def response(size):
-    """The bytes of a response with a body of so many zeros: the server's canonical spelling."""
-    return payload(1, size) if size else block(1, b"")
+    return wire.output_request(*sizes) + payload(3, body)
 
 
 def need(holds, why):
@@ -63,7 +46,7 @@ def need_equal(what, got, wanted):
 
 
 def need_response(got, size):
-    need(got == response(size), f"a response of {len(got)} bytes, and not one with a body of {size} zeros")
+    need(got == wire.response(size), f"a response of {len(got)} bytes, and not one with a body of {size} zeros")
 
 
 def need_end(call, code=grpc.StatusCode.OK, text=""):
@@ -108,7 +91,7 @@ class Stub:
     def __init__(self, channel):
         self.channel = channel
 
-    def unary(self, method, request, service=SERVICE, metadata=None):
+    def unary(self, method, request, service=wire.SERVICE, metadata=None):
         """The response, or None where the status isn't OK; and the call."""
         try:
             return self.channel.unary_unary(service + method).with_call(request, timeout=LIMIT, metadata=metadata)
@@ -116,7 +99,7 @@ class Stub:
             return None, error
 
     def duplex(self, requests, limit=LIMIT, metadata=None):
-        return self.channel.stream_stream(SERVICE + "FullDuplexCall")(requests, timeout=limit, metadata=metadata)
+        return self.channel.stream_stream(wire.SERVICE + "FullDuplexCall")(requests, timeout=limit, metadata=metadata)
 
 
 def empty_unary(stub):
@@ -133,14 +116,14 @@ def large_unary(stub):
 
 def client_streaming(stub):
     sizes = [27182, 8, 1828, 45904]
-    method = stub.channel.stream_unary(SERVICE + "StreamingInputCall")
+    method = stub.channel.stream_unary(wire.SERVICE + "StreamingInputCall")
     got = method(iter([payload(1, size) for size in sizes]), timeout=LIMIT)
-    need_equal("response", got, number(1, sum(sizes)))
+    need_equal("response", got, wire.number_field(1, sum(sizes)))
 
 
 def server_streaming(stub):
     sizes = [31415, 9, 2653, 58979]
-    call = stub.channel.unary_stream(SERVICE + "StreamingOutputCall")(output_request(sizes, 0), timeout=LIMIT)
+    call = stub.channel.unary_stream(wire.SERVICE + "StreamingOutputCall")(output_request(sizes, 0), timeout=LIMIT)
     got = rest_of(call)
     need_end(call)
     need_equal("responses", len(got), len(sizes))
@@ -210,7 +193,7 @@ def unimplemented_service(stub):
 
 def cancel_after_begin(stub):
     requests = Requests()
-    call = stub.channel.stream_unary(SERVICE + "StreamingInputCall").future(requests, timeout=LIMIT)
+    call = stub.channel.stream_unary(wire.SERVICE + "StreamingInputCall").future(requests, timeout=LIMIT)
     time.sleep(0.02)
     call.cancel()
     requests.end()
