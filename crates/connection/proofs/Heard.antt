@@ -41,7 +41,7 @@ use Rattle.connection.specs.Heard.{Acts, CutsSome, HasPut, HasRead, IsEndedBy, K
 use Rattle.connection.specs.Limits.{AreGoing, Covers, IsJustified, Tally}
 use Rattle.connection.specs.Sent.{Lined, LinedTo}
 use Rattle.connection.proofs.Lines.{new-append, new-parts}
-use Rattle.connection.proofs.Tallies.{going-more, covers-as, covers-more, covers-none, cuts-justified}
+use Rattle.connection.proofs.Tallies.{going-more, covers-more, covers-none, cuts-justified}
 use Rattle.connection.specs.Puts.{IsSame, Ordered, Puts, PutsAll, order_in, put_of, put_orders}
 
 -- what a core answered to the bytes before
@@ -352,12 +352,10 @@ module _ {H : Type 0} {hand : Hands H} {A B C N : Type 0} {route : Ghosts N} {na
       let all = reads told kept in
       (all.0, all.1, covers-more tally all.0 told covers)
 
-  -- with what was counted by other names
-  pub with-tally : (tally tally_new other : Tally) (given : List InEvent) (end : Option Ending) (one two : Reading H hand) (old new : Orders A B C N route) → other.calls ≡ tally_new.calls
-      → other.came ≡ tally_new.came → ReadsWith names tally tally_new given end one old two new → ReadsWith names tally other given end one old two new
-  with-tally tally tally_new other given end one two old new calls came reads told kept covers =
-      let all = reads told kept covers in
-      (all.0, all.1, covers-as (all.0 ++ told) tally_new other calls came all.2)
+  -- with what was counted by another name
+  pub with-tally : (tally tally_new other : Tally) (given : List InEvent) (end : Option Ending) (one two : Reading H hand) (old new : Orders A B C N route) → other ≡ tally_new
+      → ReadsWith names tally tally_new given end one old two new → ReadsWith names tally other given end one old two new
+  with-tally tally tally_new other given end one two old new is reads = subst (λ (counted : Tally). ReadsWith names tally counted given end one old two new) (sym is) reads
 
   -- one that leads to no order
   pub to-silent : (event : InEvent) (fate : Fate) (one two : Reading H hand) (old new : Orders A B C N route) → ((told : List Step) → orders_at told (Told event fate) ≡ []) → ends_at (Told event fate) ≡ None

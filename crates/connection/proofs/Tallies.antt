@@ -70,13 +70,6 @@ covers-bytes event fate told old new receipt flow calls came is covers = record 
     counted CallWindow = omega arith
     counted Overrun = omega arith
 
--- the same by other numbers
-pub covers-as : (told : List Step) (tally other : Tally) → other.calls ≡ tally.calls → other.came ≡ tally.came → Covers told tally → Covers told other
-covers-as told tally other calls came covers = record {
-  calls = subst (λ (n : ℕ). n ≤ length (reported told)) (sym calls) covers.calls;
-  came = subst (λ (n : ℕ). n ≤ counted_told (events_of told)) (sym came) covers.came;
-}
-
 -- ---- what may be refused
 
 not-nil : (given : List InEvent) (event : InEvent) → given ++ event ∷ [] ≡ [] → ⊥

@@ -12,7 +12,6 @@ use Rattle.session.specs.declared.event.InEvent.TheVariants as events
 use Rattle.session.specs.FlowBytes.{counted_by, counted_told}
 use Rattle.slots.specs.Orders.{IsDue}
 use Rattle.slots.specs.Steps.{Received, Missed, TurnedAway, AtEnd, NotLive, Step, Told, CutOff, Drains, Lacks, events_of, is_draining, reported}
-use Rattle.connection.specs.declared.intake.Intake.{Intake}
 
 -- A call isn't admitted behind 64 or more that were, where the server drains, for want of memory, or since its number doesn't rise.
 abbrev pub MayTurnAway : ℕ → Bool → AdmitFault → Type 0
@@ -76,9 +75,6 @@ pub record WasCutLast (id : ℕ) (told : List Step) : Type 0 where
 pub record Tally : Type 0 where
   pub calls : ℕ
   pub came : ℕ
-
-abbrev pub tally_of : {A B C : Type 0} → Intake A B C → Tally
-tally_of intake = record { calls = intake.calls.amount; came = intake.came.amount }
 
 abbrev pub one_more : Tally → Tally
 one_more tally = record tally { calls = tally.calls + 1 }

@@ -1,7 +1,7 @@
 //! The reader's hold on the credit book.
 
 ghost use Rattle.std.specs.Prelude.{◌≡◌, ◌+◌, ◌<◌, ◌≤◌, true, IfErr, OnErr, OnOk};
-ghost use Rattle.connection.specs.Limits.{MayRefuse, MayTurnAway};
+ghost use Rattle.connection.specs.Limits.{MayRefuse, MayTurnAway, one_more};
 ghost use Rattle.connbook.specs.Receipts.{counted_of};
 
 use callworker::Shared;
@@ -11,12 +11,23 @@ use std::sync::ledger::{Ledger, Share};
 use std::sync::{Arc, Wait};
 
 /// The credit book, and the shares of the one who counts what comes and admits calls: all parts of their ledgers, so that
-/// they are what the book counts.
+/// they are what the book counts. Its value is the tally of both.
 #[derive(Drop)]
 pub(crate) struct Intake<A: Ledger, B: Ledger, C: Ledger> {
     shared: Arc<Shared<A, B, C>>,
-    pub(crate) came: Share<A>,
-    pub(crate) calls: Share<B>,
+    came: Share<A>,
+    calls: Share<B>,
+}
+
+impl<A: Ledger, B: Ledger, C: Ledger> Model for Intake<A, B, C> {
+    ghost use Rattle.connection.specs.Limits.{Tally};
+
+    ghost Value = { Tally };
+
+    ghost view = { λ i. record { calls = i.calls.amount; came = i.came.amount } };
+
+    ghost invariant = { λ i. (i.came.parts ≡ A.parts) × (0 < A.parts) × (i.calls.parts ≡ B.parts)
+        × (0 < B.parts) };
 }
 
 impl<A: Ledger, B: Ledger, C: Ledger> Intake<A, B, C> {
@@ -25,7 +36,10 @@ impl<A: Ledger, B: Ledger, C: Ledger> Intake<A, B, C> {
         came: Share<A>,
         calls: Share<B>,
     ) -> Intake<A, B, C>
-        ensures { (result.came ≡ came) × (result.calls ≡ calls) }
+        requires came { (came.parts ≡ A.parts) × (0 < A.parts) }
+        requires calls { (calls.parts ≡ B.parts) × (0 < B.parts) }
+        ensures came { result.came ≡ came.amount }
+        ensures calls { result.calls ≡ calls.amount }
     {
         Intake {
             shared,
@@ -36,12 +50,9 @@ impl<A: Ledger, B: Ledger, C: Ledger> Intake<A, B, C> {
 
     /// Admits a call.
     pub(crate) fn admit(&mut self, rt: &impl Wait, id: StreamId) -> Result<(), AdmitFault>
-        requires calls { (self.old.calls.parts ≡ B.parts) × (0 < B.parts) }
-        ensures calls { self.new.calls.parts ≡ self.old.calls.parts }
-        ensures came { self.new.came ≡ self.old.came }
-        ensures counted { OnOk result (self.new.calls.amount ≡ self.old.calls.amount + 1) }
-        ensures uncounted { OnErr result (self.new.calls.amount ≡ self.old.calls.amount) }
-        ensures justified { IfErr result (λ fault. MayTurnAway self.old.calls.amount true fault) }
+        ensures counted { OnOk result (self.new ≡ one_more self.old) }
+        ensures uncounted { OnErr result (self.new ≡ self.old) }
+        ensures justified { IfErr result (λ fault. MayTurnAway self.old.calls true fault) }
     {
         let Intake { shared, calls, .. } = self;
         shared.book.lock(rt).admit(id, calls)
@@ -56,12 +67,9 @@ impl<A: Ledger, B: Ledger, C: Ledger> Intake<A, B, C> {
         padding: u32,
     ) -> Receipt
         requires padding { padding ≤ flow }
-        requires came { (self.old.came.parts ≡ A.parts) × (0 < A.parts) }
-        ensures came { self.new.came.parts ≡ self.old.came.parts }
         ensures calls { self.new.calls ≡ self.old.calls }
-        ensures counted { self.new.came.amount
-            ≡ self.old.came.amount + counted_of flow result }
-        ensures justified { MayRefuse (self.old.came.amount + flow) result }
+        ensures counted { self.new.came ≡ self.old.came + counted_of flow result }
+        ensures justified { MayRefuse (self.old.came + flow) result }
     {
         let Intake { shared, came, .. } = self;
         shared.book.lock(rt).receive(id, flow, padding, came)
@@ -69,10 +77,8 @@ impl<A: Ledger, B: Ledger, C: Ledger> Intake<A, B, C> {
 
     /// Where the reader meets the writer, which hands in its share: no more was announced on the connection than came.
     pub(crate) fn audit(&mut self, rt: &impl Wait, told: Share<C>)
-        requires came { self.old.came.parts ≡ A.parts }
-        requires calls { self.old.calls.parts ≡ B.parts }
         requires told { told.parts ≡ C.parts }
-        ensures within { told.amount ≤ self.old.came.amount }
+        ensures within { told.amount ≤ self.old.came }
     {
         let mut told = told;
         let Intake {

@@ -18,7 +18,7 @@ ghost use Rattle.slots.specs.Steps.{Admitted, AreAbandoned, Lacks, Step, Told, e
 ghost use Rattle.callslot.specs.declared.slot.Job.{Job as Called};
 ghost use Rattle.std.specs.Io.KnownBytes.{Consumes};
 ghost use Rattle.connection.specs.Heard.{Acts, CutsSome, EndsOrders, HasEnded, HasRead, KeptFor, ReadsTo, ReadsWith};
-ghost use Rattle.connection.specs.Limits.{MayTurnAway, Tally, one_more, tally_of};
+ghost use Rattle.connection.specs.Limits.{MayTurnAway, Tally, one_more};
 ghost use Rattle.connection.specs.Puts.{IsSame, put_of};
 ghost use Rattle.connection.specs.Sent.{Lined, LinedTo};
 
@@ -134,16 +134,12 @@ where
         requires named { AreNames
             (IsFirstWith (λ m. (⟦<dyn Method as Method>⟧ m.vtable).name m.value)
             (listed methods.now.value)) M.names }
-        requires came { (intake.old.came.parts ≡ A.parts) × (0 < A.parts) }
-        requires calls { (intake.old.calls.parts ≡ B.parts) × (0 < B.parts) }
-        requires uncounted { (intake.old.calls.amount ≡ 0) × (intake.old.came.amount ≡ 0) }
-        ensures came { (intake.new.came.parts ≡ A.parts) × (0 < A.parts) }
-        ensures calls { (intake.new.calls.parts ≡ B.parts) × (0 < B.parts) }
+        requires uncounted { (intake.old.calls ≡ 0) × (intake.old.came ≡ 0) }
         ensures heard { KeptFor M.names [] self.old.reading self.old.orders → (came : List ℕ)
             × Consumes (I.remaining input.old) (I.remaining input.new) came
             × ((told : List Step) × HasRead M.names result came told self.new.reading
             self.new.orders
-            × (intake.new.came.amount ≤ counted_told (events_of told))) }
+            × (intake.new.came ≤ counted_told (events_of told))) }
         ensures failed { KeptFor M.names [] self.old.reading self.old.orders
             → result ≡ ending.ReadFailed
             → I.failed input.new ≡ true }
@@ -293,14 +289,10 @@ where
         requires named { AreNames
             (IsFirstWith (λ m. (⟦<dyn Method as Method>⟧ m.vtable).name m.value)
             (listed methods.now.value)) M.names }
-        requires came { (intake.old.came.parts ≡ A.parts) × (0 < A.parts) }
-        requires calls { (intake.old.calls.parts ≡ B.parts) × (0 < B.parts) }
-        ensures came { (intake.new.came.parts ≡ A.parts) × (0 < A.parts) }
-        ensures calls { (intake.new.calls.parts ≡ B.parts) × (0 < B.parts) }
         ensures on { IfOk result (λ end. (bytes : List ℕ) (before : List Event)
             → Reached bytes before core.old
             → (given : List Event) × Reached (bytes ++ piece.now) (before ++ given) core.new
-            × ReadsWith M.names (tally_of intake.old) (tally_of intake.new) given end
+            × ReadsWith M.names intake.old intake.new given end
             self.old.reading self.old.orders self.new.reading self.new.orders) }
         ensures uncounted { OnErr result (intake.new.came ≡ intake.old.came) }
         ensures same { OnErr result ((self.new.reading ≡ self.old.reading)
@@ -338,12 +330,7 @@ where
         requires named { AreNames
             (IsFirstWith (λ m. (⟦<dyn Method as Method>⟧ m.vtable).name m.value)
             (listed methods.now.value)) M.names }
-        requires came { (intake.old.came.parts ≡ A.parts) × (0 < A.parts) }
-        requires calls { (intake.old.calls.parts ≡ B.parts) × (0 < B.parts) }
-        ensures came { (intake.new.came.parts ≡ A.parts) × (0 < A.parts) }
-        ensures calls { (intake.new.calls.parts ≡ B.parts) × (0 < B.parts) }
-        ensures reads { ReadsWith M.names (tally_of intake.old) (tally_of intake.new)
-            events.items result
+        ensures reads { ReadsWith M.names intake.old intake.new events.items result
             self.old.reading self.old.orders self.new.reading self.new.orders }
     {
         'events: for event in events {
@@ -367,12 +354,7 @@ where
         requires named { AreNames
             (IsFirstWith (λ m. (⟦<dyn Method as Method>⟧ m.vtable).name m.value)
             (listed methods.now.value)) M.names }
-        requires came { (intake.old.came.parts ≡ A.parts) × (0 < A.parts) }
-        requires calls { (intake.old.calls.parts ≡ B.parts) × (0 < B.parts) }
-        ensures came { (intake.new.came.parts ≡ A.parts) × (0 < A.parts) }
-        ensures calls { (intake.new.calls.parts ≡ B.parts) × (0 < B.parts) }
-        ensures reads { ReadsWith M.names (tally_of intake.old) (tally_of intake.new)
-            (event ∷ []) result
+        ensures reads { ReadsWith M.names intake.old intake.new (event ∷ []) result
             self.old.reading self.old.orders self.new.reading self.new.orders }
     {
         match event {
@@ -481,12 +463,7 @@ where
         requires named { AreNames
             (IsFirstWith (λ m. (⟦<dyn Method as Method>⟧ m.vtable).name m.value)
             (listed methods.now.value)) M.names }
-        requires came { (intake.old.came.parts ≡ A.parts) × (0 < A.parts) }
-        requires calls { (intake.old.calls.parts ≡ B.parts) × (0 < B.parts) }
-        ensures came { (intake.new.came.parts ≡ A.parts) × (0 < A.parts) }
-        ensures calls { (intake.new.calls.parts ≡ B.parts) × (0 < B.parts) }
-        ensures reads { ReadsWith M.names (tally_of intake.old) (tally_of intake.new)
-            (events.Open id head ∷ []) result
+        ensures reads { ReadsWith M.names intake.old intake.new (events.Open id head ∷ []) result
             self.old.reading self.old.orders self.new.reading self.new.orders }
     {
         let rt = self.rt;
@@ -512,11 +489,7 @@ where
             (listed methods.now.value) }
         requires named { M.names job.head.path job.index }
         requires next { IsNext job.id self.old.reading.slots }
-        requires came { (intake.old.came.parts ≡ A.parts) × (0 < A.parts) }
-        requires calls { (intake.old.calls.parts ≡ B.parts) × (0 < B.parts) }
-        ensures came { (intake.new.came.parts ≡ A.parts) × (0 < A.parts) }
-        ensures calls { (intake.new.calls.parts ≡ B.parts) × (0 < B.parts) }
-        ensures reads { ReadsWith M.names (tally_of intake.old) (tally_of intake.new)
+        ensures reads { ReadsWith M.names intake.old intake.new
             (events.Open job.id job.head ∷ []) result
             self.old.reading self.old.orders self.new.reading self.new.orders }
     {
@@ -703,11 +676,7 @@ where
         bytes: Bytes,
         flow: u32,
     ) -> Option<Ending>
-        requires came { (intake.old.came.parts ≡ A.parts) × (0 < A.parts) }
-        requires calls { (intake.old.calls.parts ≡ B.parts) × (0 < B.parts) }
-        ensures came { (intake.new.came.parts ≡ A.parts) × (0 < A.parts) }
-        ensures calls { (intake.new.calls.parts ≡ B.parts) × (0 < B.parts) }
-        ensures reads { ReadsWith M.names (tally_of intake.old) (tally_of intake.new)
+        ensures reads { ReadsWith M.names intake.old intake.new
             (events.Data id bytes flow ∷ []) result
             self.old.reading self.old.orders self.new.reading self.new.orders }
     {
@@ -721,12 +690,7 @@ where
 
     /// Bytes came that count on the connection alone.
     fn loose(&mut self, intake: &mut Intake<A, B, C>, flow: u32) -> Option<Ending>
-        requires came { (intake.old.came.parts ≡ A.parts) × (0 < A.parts) }
-        requires calls { (intake.old.calls.parts ≡ B.parts) × (0 < B.parts) }
-        ensures came { (intake.new.came.parts ≡ A.parts) × (0 < A.parts) }
-        ensures calls { (intake.new.calls.parts ≡ B.parts) × (0 < B.parts) }
-        ensures reads { ReadsWith M.names (tally_of intake.old) (tally_of intake.new)
-            (events.Loose flow ∷ []) result
+        ensures reads { ReadsWith M.names intake.old intake.new (events.Loose flow ∷ []) result
             self.old.reading self.old.orders self.new.reading self.new.orders }
     {
         let receipt = intake.receive(&self.rt, 0, flow, 0);

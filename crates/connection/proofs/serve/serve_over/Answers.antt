@@ -49,7 +49,7 @@ returns g c =
     let has = heard.2.1 in
     let end = c.end-ended.ensures heard.2.0 has.reads in
     let within : c.join-written.result.told.amount ≤ counted_told (events_of heard.2.0) =
-    omega (arith, c.audit-2.ensures.within, heard.2.2, ap (λ share. share.amount) c.new-intake.ensures.0, c.requires.came.2) in
+    omega (arith, c.audit-2.ensures.within, heard.2.2, c.new-intake.ensures.came, c.requires.came.2) in
     let written = c.join-written.result.written in
     let amount = c.join-written.result.told.amount in
     let is = c.meet-2.ensures in
@@ -101,7 +101,7 @@ returns-in-Err g c =
         served-by g.M.Answering.known g.M.Answering.names (λ rows. rows.items) contents failed _ _ _ _ _ _ _ is.output
             (none-served g.M.Answering.known g.M.Answering.names (λ rows. rows.items) contents failed (contents c.args.output) _ _ c.meet.result.ending _
             c.meet.result.calls written.device (is.lacked refl) (is.met.noted ∙ ap (λ rows. map is.met.note rows) c.new-in-Err.ensures.items) ordered
-            (omega (arith, c.audit.ensures.within, ap (λ share. share.amount) c.new-intake.ensures.0, c.requires.came.2)) put),
+            (omega (arith, c.audit.ensures.within, c.new-intake.ensures.came, c.requires.came.2)) put),
       );
     }
 

@@ -1,4 +1,4 @@
-use Rattle.std.proofs.Common.{ap, arith, refl}
+use Rattle.std.proofs.Common.{arith, refl}
 use Rattle.session.specs.declared.event.InEvent.TheVariants as events
 use Rattle.slots.specs.Readings.{fate_of}
 use Rattle.connection.proofs.Heard.{with-one, with-quiet}
@@ -15,5 +15,5 @@ returns-clause-reads g c =
     (c.data-decided.ensures.missed told reads))
     (λ told covers.
     covers-bytes (events.Data c.args.id c.args.bytes c.args.flow) (fate_of c.receive-receipt.result c.data-decided.result.second) told _ _ c.receive-receipt.result c.args.flow
-    (ap (λ share. share.amount) c.receive-receipt.ensures.calls) c.receive-receipt.ensures.counted refl covers)
+    c.receive-receipt.ensures.calls c.receive-receipt.ensures.counted refl covers)
     c.act.ensures.ends (c.data-decided.ensures.decides c.args.flow) c.data-decided.ensures.aligns c.act.ensures.acts)

@@ -1,4 +1,4 @@
-use Rattle.std.proofs.Common.{ap, arith, refl}
+use Rattle.std.proofs.Common.{arith, refl}
 use Rattle.session.specs.declared.event.InEvent.TheVariants as events
 use Rattle.slots.specs.Steps.{Received}
 use Rattle.connection.proofs.Heard.{with-one, with-quiet}
@@ -12,5 +12,5 @@ returns-clause-reads g c =
     (λ told reads covers. may-refuse c.receive-receipt.result _ _ c.receive-receipt.ensures.justified (omega (arith, covers.came)))
     (λ told covers.
     covers-bytes (events.Loose c.args.flow) (Received c.receive-receipt.result) told _ _ c.receive-receipt.result c.args.flow
-    (ap (λ share. share.amount) c.receive-receipt.ensures.calls) c.receive-receipt.ensures.counted refl covers)
+    c.receive-receipt.ensures.calls c.receive-receipt.ensures.counted refl covers)
     c.act.ensures.ends (c.loose-decided.ensures.decides c.args.flow) c.loose-decided.ensures.aligns c.act.ensures.acts)

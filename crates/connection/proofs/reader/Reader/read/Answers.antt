@@ -17,17 +17,17 @@ all-told told more before given is all = events-append more told ∙ (ap (λ (es
 
 pub returns-in_default-clause-heard : goal.returns-in_default-clause-heard
 returns-in_default-clause-heard g c = λ none.
-    let h = c.pieces.invariant.4 none in
+    let h = c.pieces.invariant none in
     (h.0 ++ [], consumes-then _ _ _ h.0 [] h.3 (read-failed _ _ _ _ c.in_default.not-Ok c.read.ensures.bytes), (h.2, failed-read h.1 h.2 h.0 (h.0 ++ []) _ _ _ (append-nil h.0) h.4 h.5 h.6 h.7, h.8.came))
 
 pub returns-then-has_stopped-clause-heard : goal.returns-then-has_stopped-clause-heard
 returns-then-has_stopped-clause-heard g c = λ none.
-    let h = c.pieces.invariant.4 none in
+    let h = c.pieces.invariant none in
     (h.0, h.3, (h.2, input-read _ h.1 h.2 h.0 h.0 _ _ _ refl h.4 h.5 h.6 h.7 c.ending.ensures.input c.ending.ensures.goaway c.ending.ensures.drained, h.8.came))
 
 pub returns-then-count-eq0-clause-heard : goal.returns-then-count-eq0-clause-heard
 returns-then-count-eq0-clause-heard g c = λ none.
-    let h = c.pieces.invariant.4 none in
+    let h = c.pieces.invariant none in
     let came = h.0 ++ take c.in-Ok.count c.read.new.buf in
     let b = kept-behind _ h.2 _ _ _ _ c.heed_drain.ensures.cuts h.7 h.8 h.6 in
     let ending = c.ending-then-count-eq0.ensures in (
@@ -42,7 +42,7 @@ returns-then-count-eq0-clause-heard g c = λ none.
 
 pub returns-then-heed_drain-clause-heard : goal.returns-then-heed_drain-clause-heard
 returns-then-heed_drain-clause-heard g c = λ none.
-    let h = c.pieces.invariant.4 none in
+    let h = c.pieces.invariant none in
     let on = c.in-Ok-None.ensures.on h.0 h.1 h.4 in
     let more = on.2 h.2 h.7 h.8 in
     let b = kept-behind _ (more.0 ++ h.2) _ _ _ _ c.heed_drain-in-pieces.ensures.cuts more.1.kept more.2 (calm-more more.0 h.2 (more.1.calm c.in-Ok-None.field-0-is) h.6) in
@@ -58,31 +58,25 @@ returns-then-heed_drain-clause-heard g c = λ none.
     )
 
 pub pieces-preserved : goal.pieces-preserved
-pieces-preserved g c = (
-  c.take.ensures.came.0,
-  c.take.ensures.came.1,
-  c.take.ensures.calls.0,
-  c.take.ensures.calls.1,
-  λ none.
-      let h = c.pieces.invariant.4 none in
-      let on = c.in-Ok-None.ensures.on h.0 h.1 h.4 in
-      let more = on.2 h.2 h.7 h.8 in
-      let b = kept-behind _ (more.0 ++ h.2) _ _ _ _ c.heed_drain-in-pieces.ensures.cuts more.1.kept more.2 (calm-more more.0 h.2 (more.1.calm c.in-Ok-None.field-0-is) h.6) in (
-        h.0 ++ take c.in-Ok.count c.read.new.buf,
-        h.1 ++ on.0,
-        b.0 ++ (more.0 ++ h.2),
-        consumes-then _ _ _ h.0 _ h.3 c.in-Ok.ensures.bytes.0,
-        on.1,
-        b.1 ∙ all-told h.2 more.0 h.1 on.0 h.5 (more.1.all c.in-Ok-None.field-0-is),
-        b.2,
-        b.3,
-        b.4,
-      ),
-)
+pieces-preserved g c = λ none.
+    let h = c.pieces.invariant none in
+    let on = c.in-Ok-None.ensures.on h.0 h.1 h.4 in
+    let more = on.2 h.2 h.7 h.8 in
+    let b = kept-behind _ (more.0 ++ h.2) _ _ _ _ c.heed_drain-in-pieces.ensures.cuts more.1.kept more.2 (calm-more more.0 h.2 (more.1.calm c.in-Ok-None.field-0-is) h.6) in (
+      h.0 ++ take c.in-Ok.count c.read.new.buf,
+      h.1 ++ on.0,
+      b.0 ++ (more.0 ++ h.2),
+      consumes-then _ _ _ h.0 _ h.3 c.in-Ok.ensures.bytes.0,
+      on.1,
+      b.1 ∙ all-told h.2 more.0 h.1 on.0 h.5 (more.1.all c.in-Ok-None.field-0-is),
+      b.2,
+      b.3,
+      b.4,
+    )
 
 pub returns-in-Ok-Some-clause-heard : goal.returns-in-Ok-Some-clause-heard
 returns-in-Ok-Some-clause-heard g c = λ none.
-    let h = c.pieces.invariant.4 none in
+    let h = c.pieces.invariant none in
     let on = c.in-Ok-Some.ensures.on h.0 h.1 h.4 in (
       h.0 ++ take c.in-Ok.count c.read.new.buf,
       consumes-then _ _ _ h.0 _ h.3 c.in-Ok.ensures.bytes.0,
@@ -91,13 +85,13 @@ returns-in-Ok-Some-clause-heard g c = λ none.
 
 pub returns-in-Err-clause-heard : goal.returns-in-Err-clause-heard
 returns-in-Err-clause-heard g c = λ none.
-    let h = c.pieces.invariant.4 none in (
+    let h = c.pieces.invariant none in (
       h.0 ++ take c.in-Ok.count c.read.new.buf,
       consumes-then _ _ _ h.0 _ h.3 c.in-Ok.ensures.bytes.0,
       (
         Lacks ∷ h.2,
         none-read h.1 h.2 h.0 _ _ _ _ h.4 h.5 (c.lack.ensures h.2 (kept-as h.2 _ _ _ _ c.in-Err.ensures.same.0 c.in-Err.ensures.same.1 h.7)),
-        subst (λ (n : ℕ). n ≤ counted_told (events_of h.2)) (sym (ap (λ share. share.amount) c.in-Err.ensures.uncounted)) h.8.came,
+        subst (λ (n : ℕ). n ≤ counted_told (events_of h.2)) (sym c.in-Err.ensures.uncounted) h.8.came,
       ),
     )
 
@@ -115,6 +109,6 @@ returns-then-heed_drain-clause-failed g c = λ none failed. absurd (not-by-fault
 
 pub returns-in-Ok-Some-clause-failed : goal.returns-in-Ok-Some-clause-failed
 returns-in-Ok-Some-clause-failed g c = λ none failed.
-    let h = c.pieces.invariant.4 none in
+    let h = c.pieces.invariant none in
     let on = c.in-Ok-Some.ensures.on h.0 h.1 h.4 in
     absurd (some-sound _ _ c.in-Ok-Some.ending on.0 h.2 _ _ _ _ (with-end _ _ _ _ _ _ _ _ _ c.in-Ok-Some.field-0-is on.2) h.7 h.8 failed)
